@@ -1,0 +1,80 @@
+// The types of variables, of fields and of blocks.
+
+ghost use Rattle.std.specs.Prelude.{◌≡◌, ◌∷◌, [], ◌++◌, IfOk, OnOk, OnErr};
+
+use crate::no_memory::NoMemory;
+use std::alloc::Global;
+use std::marker::Model;
+
+/// The type of a variable or of a plain field. A number is that of a struct, in text order from 0.
+#[derive(Clone, Copy, PartialEq, Eq, Debug)]
+pub enum Kind {
+    /// `int`
+    Int,
+    /// `struct S *`
+    Ptr(u32),
+    /// `mod int *`
+    ModInt,
+    /// `mod struct S *`
+    ModPtr(u32),
+}
+
+/// The type of a field: a plain one, or an embedded modifiable that holds an `int` or a `struct S *`.
+#[derive(Clone, Copy, PartialEq, Eq, Debug)]
+pub enum FieldKind {
+    Plain(Kind),
+    CellInt,
+    CellPtr(u32),
+}
+
+/// The shape of a block: that of a struct, or one modifiable.
+#[derive(Clone, Copy, PartialEq, Eq, Debug)]
+pub enum Shape {
+    Struct(u32),
+    ModInt,
+    ModPtr(u32),
+}
+
+/// Kinds, which contracts see as their list.
+#[derive(Debug, Drop)]
+pub struct Kinds {
+    items: Vec<Kind>,
+}
+
+impl Model for Kinds {
+    ghost use Rattle.std.specs.Prelude.{List};
+    ghost use Rattle.ceal_base.specs.declared.kind.Kind.{Kind};
+
+    ghost Value = { List Kind };
+
+    ghost view = { λ k. k.items.items };
+}
+
+impl Kinds {
+    pub fn new(items: Vec<Kind>) -> Kinds
+        ensures value { result ≡ items.items }
+    {
+        Kinds { items }
+    }
+
+    pub fn push(&mut self, item: Kind) -> Result<(), NoMemory>
+        ensures ok { OnOk result (self.new ≡ self.old ++ item ∷ []) }
+        ensures err { OnErr result (self.new ≡ self.old) }
+    {
+        self.items.push(item)?;
+        Ok(())
+    }
+
+    pub fn items(&self) -> &[Kind]
+        ensures value { result.now ≡ self.now }
+    {
+        self.items.as_slice()
+    }
+
+    pub fn copy(&self) -> Result<Kinds, NoMemory>
+        ensures equal { IfOk result (λ k. k ≡ self.now) }
+    {
+        let items = self.items.clone()?;
+        Ok(Kinds { items })
+    }
+}

@@ -1,0 +1,106 @@
+// The operators of the language, which are total. Numbers have 64 bits and wrap, as C's unsigned arithmetic does.
+
+ghost use Rattle.std.specs.Prelude.{◌≡◌};
+ghost use Rattle.ceal_base.specs.Operators.{number_of, truth, unary_value, binary_value};
+
+use crate::word::Word;
+
+/// An operator on one word. Both take a word that is no number as 0.
+#[derive(Clone, Copy, PartialEq, Eq, Debug)]
+pub enum Unary {
+    /// `-`
+    Neg,
+    /// `!`
+    Not,
+}
+
+/// An operator on two words. Every one but `Same` and `Differ` takes a word that is no number as 0.
+#[derive(Clone, Copy, PartialEq, Eq, Debug)]
+pub enum Binary {
+    Add,
+    Sub,
+    Mul,
+    /// truncates towards zero; `x / 0` is 0
+    Div,
+    /// has the dividend's sign; `x % 0` is `x`
+    Rem,
+    Less,
+    LessEq,
+    More,
+    MoreEq,
+    /// `==`
+    Same,
+    /// `!=`
+    Differ,
+    And,
+    Or,
+}
+
+/// The number in a word, and 0 of any other word.
+pub fn number(word: Word) -> i64
+    ensures { result ≡ number_of word }
+{
+    match word {
+        Word::Num(n) => n,
+        _ => 0,
+    }
+}
+
+fn truth_word(holds: bool) -> Word
+    ensures { result ≡ truth holds }
+{
+    if holds { Word::Num(1) } else { Word::Num(0) }
+}
+
+pub fn apply_unary(op: Unary, a: Word) -> Word
+    ensures { result ≡ unary_value op a }
+{
+    match op {
+        Unary::Neg => Word::Num(number(a).wrapping_neg()),
+        Unary::Not => truth_word(number(a) == 0),
+    }
+}
+
+pub fn apply_binary(op: Binary, a: Word, b: Word) -> Word
+    ensures { result ≡ binary_value op a b }
+{
+    let x = number(a);
+    let y = number(b);
+    match op {
+        Binary::Add => Word::Num(x.wrapping_add(y)),
+        Binary::Sub => Word::Num(x.wrapping_sub(y)),
+        Binary::Mul => Word::Num(x.wrapping_mul(y)),
+        Binary::Div => Word::Num(if y == 0 { 0 } else { x.wrapping_div(y) }),
+        Binary::Rem => Word::Num(if y == 0 { x } else { x.wrapping_rem(y) }),
+        Binary::Less => truth_word(x < y),
+        Binary::LessEq => truth_word(x <= y),
+        Binary::More => truth_word(x > y),
+        Binary::MoreEq => truth_word(x >= y),
+        Binary::Same => truth_word(a == b),
+        Binary::Differ => truth_word(a != b),
+        Binary::And => truth_word(x != 0 && y != 0),
+        Binary::Or => truth_word(x != 0 || y != 0),
+    }
+}
+
+#[cfg(test)]
+mod tests {
+    use super::*;
+
+    #[test]
+    fn operators_on_rows(rt: HostRuntime) {
+        assert_eq!(rt;
+            apply_binary(Binary::Div, Word::Num(i64::MIN), Word::Num(-1)),
+            Word::Num(i64::MIN)
+        );
+        assert_eq!(rt;
+            apply_binary(Binary::Rem, Word::Num(-7), Word::Num(4)),
+            Word::Num(-3)
+        );
+        assert_eq!(rt;
+            apply_binary(Binary::Add, Word::Num(i64::MAX), Word::Num(1)),
+            Word::Num(i64::MIN)
+        );
+        assert_eq!(rt; apply_unary(Unary::Not, Word::Null), Word::Num(1));
+    }
+}

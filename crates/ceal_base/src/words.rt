@@ -1,0 +1,99 @@
+// A list of words, of which a few stand in the value itself.
+
+ghost use Rattle.std.specs.Prelude.{◌≡◌, ◌∷◌, [], ◌++◌, IfOk, OnOk, OnErr};
+ghost use Rattle.std.specs.Cmp.Lexicographic.{pointwise, lists_per, lists_equiv};
+ghost use Rattle.std.specs.Hash as fed;
+ghost use Rattle.ceal_base.specs.contracts.word.WordPartialEq.TheImpl.Laws as word_eq;
+ghost use Rattle.ceal_base.specs.contracts.word.WordEq.TheImpl.Laws as word_equal;
+ghost use Rattle.ceal_base.specs.contracts.word.WordHash.TheImpl.Laws as word_hash;
+ghost use Rattle.std.specs.Hash.{items_Alike};
+
+use crate::no_memory::NoMemory;
+use crate::word::Word;
+use smallvec::SmallVec;
+use std::alloc::Global;
+use std::hash::{Hash, Hasher};
+use std::marker::Model;
+
+/// Words, which contracts see as their list.
+#[derive(Drop)]
+pub struct Words {
+    items: SmallVec<Word, 6>,
+}
+
+impl Model for Words {
+    ghost use Rattle.std.specs.Prelude.{List};
+    ghost use Rattle.ceal_base.specs.declared.word.Word.{Word};
+
+    ghost Value = { List Word };
+
+    ghost view = { λ w. w.items.items };
+}
+
+impl Words {
+    pub fn new(items: SmallVec<Word, 6>) -> Words
+        ensures { result ≡ items.items }
+    {
+        Words { items }
+    }
+
+    pub fn empty(alloc: Global) -> Words
+        ensures { result ≡ [] }
+    {
+        Words {
+            items: SmallVec::new(alloc),
+        }
+    }
+
+    pub fn from_slice(alloc: Global, items: &[Word]) -> Result<Words, NoMemory>
+        ensures { IfOk result (λ w. w ≡ items.now) }
+    {
+        let items = SmallVec::from_slice(alloc, items)?;
+        Ok(Words { items })
+    }
+
+    pub fn push(&mut self, item: Word) -> Result<(), NoMemory>
+        ensures ok { OnOk result (self.new ≡ self.old ++ item ∷ []) }
+        ensures err { OnErr result (self.new ≡ self.old) }
+    {
+        self.items.push(item)?;
+        Ok(())
+    }
+
+    pub fn items(&self) -> &[Word]
+        ensures { result.now ≡ self.now }
+    {
+        self.items.as_slice()
+    }
+
+    pub fn copy(&self) -> Result<Words, NoMemory>
+        ensures { IfOk result (λ w. w ≡ self.now) }
+    {
+        let alloc = *self.items.allocator();
+        Words::from_slice(alloc, self.items())
+    }
+}
+
+impl PartialEq for Words {
+    ghost eq = { λ v w. pointwise ⟦<Word as PartialEq>⟧.eq v w };
+
+    ghost laws = { lists_per word_eq.laws-law };
+
+    fn eq(&self, other: &Words) -> bool {
+        self.items() == other.items()
+    }
+}
+
+impl Eq for Words {
+    ghost laws = { lists_equiv word_equal.laws-law };
+}
+
+impl Hash for Words {
+    ghost hash_input = { λ v. fed.slice ⟦<Word as Hash>⟧.hash_input v };
+
+    ghost respects_eq = { (items_Alike (record { fed = word_hash.respects_eq-law })).fed };
+
+    fn hash<H: Hasher>(&self, state: &mut H) {
+        self.items().hash(state);
+    }
+}
