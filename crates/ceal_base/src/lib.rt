@@ -7,6 +7,7 @@
 #![tactic(auto)]
 
 pub mod boxed;
+pub mod copies;
 pub mod fault;
 pub mod forest;
 pub mod items;

@@ -1,0 +1,212 @@
+// Copies of the trees of a program, each equal to what it copies. The recursion is as deep as the tree.
+
+ghost use Rattle.std.specs.Prelude.{◌≡◌, IfOk};
+
+use crate::boxed::Boxed;
+use crate::items::Items;
+use crate::no_memory::NoMemory;
+use crate::syntax::Ident;
+use crate::typed::{FieldInfo, StructInfo, TypedExpr, TypedForm, TypedFunction, TypedStmt, TypedValue};
+use std::alloc::Global;
+
+/// An equal expression.
+#[cycle(copied)]
+pub fn copied_expr(alloc: Global, e: &TypedExpr) -> Result<TypedExpr, NoMemory>
+    ensures equal { IfOk result (λ copy. copy ≡ e.now) }
+{
+    match &e.form {
+        TypedForm::Num(n) => Ok(with_form(e, TypedForm::Num(*n))),
+        TypedForm::Null => Ok(with_form(e, TypedForm::Null)),
+        TypedForm::Var(n) => Ok(with_form(e, TypedForm::Var(*n))),
+        TypedForm::Own => Ok(with_form(e, TypedForm::Own)),
+        TypedForm::Unary(op, a) => {
+            let a = boxed_copy(alloc, a.get())?;
+            Ok(with_form(e, TypedForm::Unary(*op, a)))
+        }
+        TypedForm::Binary(op, at, a, b) => {
+            let a = boxed_copy(alloc, a.get())?;
+            let b = boxed_copy(alloc, b.get())?;
+            Ok(with_form(e, TypedForm::Binary(*op, *at, a, b)))
+        }
+        TypedForm::Field(a, shape, field) => {
+            let a = boxed_copy(alloc, a.get())?;
+            Ok(with_form(e, TypedForm::Field(a, *shape, *field)))
+        }
+        TypedForm::Address(a, shape, field) => {
+            let a = boxed_copy(alloc, a.get())?;
+            Ok(with_form(e, TypedForm::Address(a, *shape, *field)))
+        }
+    }
+}
+
+#[cycle(copied)]
+fn boxed_copy(alloc: Global, e: &TypedExpr) -> Result<Boxed<TypedExpr>, NoMemory>
+    ensures equal { IfOk result (λ copy. copy ≡ e.now) }
+{
+    let copy = copied_expr(alloc, e)?;
+    Boxed::new(alloc, copy)
+}
+
+fn with_form(e: &TypedExpr, form: TypedForm) -> TypedExpr
+    ensures { result ≡ record { span = e.now.span; kind = e.now.kind; form = form } }
+{
+    TypedExpr {
+        span: e.span,
+        kind: e.kind,
+        form,
+    }
+}
+
+/// Equal expressions.
+pub fn copied_exprs(alloc: Global, es: &[TypedExpr]) -> Result<Items<TypedExpr>, NoMemory>
+    ensures equal { IfOk result (λ copy. copy ≡ es.now) }
+{
+    let mut copies = Vec::new(alloc);
+    for e in es {
+        copies.push(copied_expr(alloc, e)?)?;
+    }
+    Ok(Items::new(copies))
+}
+
+fn copied_value(alloc: Global, value: &TypedValue) -> Result<TypedValue, NoMemory>
+    ensures equal { IfOk result (λ copy. copy ≡ value.now) }
+{
+    match value {
+        TypedValue::Plain(e) => {
+            let e = copied_expr(alloc, e)?;
+            Ok(TypedValue::Plain(e))
+        }
+        TypedValue::Read(at, e) => {
+            let e = copied_expr(alloc, e)?;
+            Ok(TypedValue::Read(*at, e))
+        }
+        TypedValue::Alloc {
+            span,
+            shape,
+            function,
+            name,
+            args,
+        } => {
+            let args = copied_exprs(alloc, args.items())?;
+            Ok(TypedValue::Alloc {
+                span: *span,
+                shape: *shape,
+                function: *function,
+                name: *name,
+                args,
+            })
+        }
+        TypedValue::ModrefInt(at) => Ok(TypedValue::ModrefInt(*at)),
+        TypedValue::Modref(at, shape) => Ok(TypedValue::Modref(*at, *shape)),
+    }
+}
+
+/// An equal statement.
+#[cycle(copied_stmts)]
+pub fn copied_stmt(alloc: Global, s: &TypedStmt) -> Result<TypedStmt, NoMemory>
+    ensures equal { IfOk result (λ copy. copy ≡ s.now) }
+{
+    match s {
+        TypedStmt::Declare(at, n, kind, value) => {
+            let value = copied_value(alloc, value)?;
+            Ok(TypedStmt::Declare(*at, *n, *kind, value))
+        }
+        TypedStmt::Assign(at, n, value) => {
+            let value = copied_value(alloc, value)?;
+            Ok(TypedStmt::Assign(*at, *n, value))
+        }
+        TypedStmt::SetField(at, left, shape, field, right) => {
+            let left = copied_expr(alloc, left)?;
+            let right = copied_expr(alloc, right)?;
+            Ok(TypedStmt::SetField(*at, left, *shape, *field, right))
+        }
+        TypedStmt::Write(at, place, value) => {
+            let place = copied_expr(alloc, place)?;
+            let value = copied_expr(alloc, value)?;
+            Ok(TypedStmt::Write(*at, place, value))
+        }
+        TypedStmt::Call(at, n, args) => {
+            let args = copied_exprs(alloc, args.items())?;
+            Ok(TypedStmt::Call(*at, *n, args))
+        }
+        TypedStmt::If(at, test, first, second) => {
+            let test = copied_expr(alloc, test)?;
+            let first = copied_stmts(alloc, first.items())?;
+            let second = copied_stmts(alloc, second.items())?;
+            Ok(TypedStmt::If(*at, test, first, second))
+        }
+        TypedStmt::While(at, test, body) => {
+            let test = copied_expr(alloc, test)?;
+            let body = copied_stmts(alloc, body.items())?;
+            Ok(TypedStmt::While(*at, test, body))
+        }
+        TypedStmt::Return(at) => Ok(TypedStmt::Return(*at)),
+    }
+}
+
+/// Equal statements.
+#[cycle(copied_stmts)]
+pub fn copied_stmts(alloc: Global, stmts: &[TypedStmt]) -> Result<Items<TypedStmt>, NoMemory>
+    ensures equal { IfOk result (λ copy. copy ≡ stmts.now) }
+{
+    let mut copies = Vec::new(alloc);
+    for s in stmts {
+        copies.push(copied_stmt(alloc, s)?)?;
+    }
+    Ok(Items::new(copies))
+}
+
+/// An equal name.
+pub fn copied_ident(name: &Ident) -> Result<Ident, NoMemory>
+    ensures equal { IfOk result (λ copy. copy ≡ name.now) }
+{
+    let text = name.text.copy()?;
+    Ok(Ident {
+        text,
+        span: name.span,
+    })
+}
+
+/// An equal function.
+pub fn copied_function(alloc: Global, function: &TypedFunction) -> Result<TypedFunction, NoMemory>
+    ensures equal { IfOk result (λ copy. copy ≡ function.now) }
+{
+    let name = copied_ident(&function.name)?;
+    let kinds = function.kinds.copy()?;
+    let body = copied_stmts(alloc, function.body.items())?;
+    Ok(TypedFunction {
+        initialiser: function.initialiser,
+        name,
+        params: function.params,
+        kinds,
+        body,
+        close: function.close,
+    })
+}
+
+/// Equal structs.
+pub fn copied_structs(alloc: Global, structs: &[StructInfo]) -> Result<Items<StructInfo>, NoMemory>
+    ensures equal { IfOk result (λ copy. copy ≡ structs.now) }
+{
+    let mut copies = Vec::new(alloc);
+    for info in structs {
+        let name = info.name.copy()?;
+        let fields = copied_fields(alloc, info.fields.items())?;
+        copies.push(StructInfo { name, fields })?;
+    }
+    Ok(Items::new(copies))
+}
+
+fn copied_fields(alloc: Global, fields: &[FieldInfo]) -> Result<Items<FieldInfo>, NoMemory>
+    ensures equal { IfOk result (λ copy. copy ≡ fields.now) }
+{
+    let mut copies = Vec::new(alloc);
+    for field in fields {
+        let name = field.name.copy()?;
+        copies.push(FieldInfo {
+            name,
+            kind: field.kind,
+        })?;
+    }
+    Ok(Items::new(copies))
+}
