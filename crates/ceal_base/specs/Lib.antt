@@ -3,5 +3,7 @@ pub mod Operators
 pub mod Block
 pub mod Shapes
 pub mod Access
+pub mod WellTyped
+pub mod Usage
 pub mod Same
 pub mod Trace

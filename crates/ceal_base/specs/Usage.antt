@@ -1,0 +1,81 @@
+-- A program that keeps the rules of usage: fields are written by initialisers alone, on `self` alone, and an
+-- initialiser does nothing else.
+use Rattle.std.specs.Prelude.{◌≡◌, ℕ, Option, Some, None, IsSome, IsNone, IsSomeAnd, List, [], ◌∷◌, slice_get, All}
+use Rattle.ceal_base.specs.declared.typed.Typed.{Typed}
+use Rattle.ceal_base.specs.declared.typed.TypedExpr.{TypedExpr}
+use Rattle.ceal_base.specs.declared.typed.TypedForm.TheBlock.{Row_of-TypedExpr, end_of-TypedExpr, more_of-TypedExpr}
+use Rattle.ceal_base.specs.declared.typed.TypedForm.{TypedForm, Num, Null, Var, Own, Unary', Binary', Field', Address'}
+use Rattle.ceal_base.specs.declared.typed.TypedFunction.{TypedFunction}
+use Rattle.ceal_base.specs.declared.typed.TypedStmt.{TypedStmt, Declare, Assign, SetField, Write, Call, If', While', Return}
+use Rattle.ceal_base.specs.declared.typed.TypedStmt.{Row_of-TypedStmt, end_of-TypedStmt, more_of-TypedStmt}
+use Rattle.ceal_base.specs.declared.typed.TypedValue.{TypedValue}
+use Rattle.ceal_base.specs.declared.typed.TypedValue.TheVariants.{Plain, Read, Alloc, ModrefInt, Modref}
+
+-- an expression that does not mention `self`
+unfoldable mutual
+  pub WithoutOwn : TypedForm → Type 0
+  WithoutOwn (Num n) = Unit {0}
+  WithoutOwn Null = Unit {0}
+  WithoutOwn (Var n) = Unit {0}
+  WithoutOwn Own = ⊥
+  WithoutOwn (Unary' op _ a) = OperandWithoutOwn a
+  WithoutOwn (Binary' op at _ a _ b) = OperandWithoutOwn a × OperandWithoutOwn b
+  WithoutOwn (Field' _ a s field) = OperandWithoutOwn a
+  WithoutOwn (Address' _ a s field) = OperandWithoutOwn a
+
+  pub OperandWithoutOwn : {n : _} → Row_of-TypedExpr n → Type 0
+  OperandWithoutOwn end_of-TypedExpr = Unit {0}
+  OperandWithoutOwn (more_of-TypedExpr span kind form rest) = WithoutOwn form
+
+-- the function is a core function, or an initialiser
+abbrev pub IsCore : Option TypedFunction → Type 0
+IsCore f = IsSomeAnd f (λ g. IsNone g.initialiser)
+
+abbrev pub IsInitialiser : Option TypedFunction → Type 0
+IsInitialiser f = IsSomeAnd f (λ g. IsSome g.initialiser)
+
+-- what a core function gives a variable: an `alloc` names an initialiser
+abbrev pub ValueUsage : List TypedFunction → TypedValue → Type 0
+ValueUsage fs (Plain e) = Unit {0}
+ValueUsage fs (Read at e) = Unit {0}
+ValueUsage fs (Alloc at shape f name args) = IsInitialiser (slice_get fs f)
+ValueUsage fs (ModrefInt at) = Unit {0}
+ValueUsage fs (Modref at s) = Unit {0}
+
+-- a statement of a core function: no field is written, and only core functions are called
+unfoldable mutual
+  pub CoreUsage : List TypedFunction → TypedStmt → Type 0
+  CoreUsage fs (Declare at n kind value) = ValueUsage fs value
+  CoreUsage fs (Assign at n value) = ValueUsage fs value
+  CoreUsage fs (SetField at left s field e) = ⊥
+  CoreUsage fs (Write at place e) = Unit {0}
+  CoreUsage fs (Call at f args) = IsCore (slice_get fs f)
+  CoreUsage fs (If' at test _ first _ second) = RowCoreUsage fs first × RowCoreUsage fs second
+  CoreUsage fs (While' at test _ body) = RowCoreUsage fs body
+  CoreUsage fs (Return at) = Unit {0}
+
+  pub RowCoreUsage : List TypedFunction → {n : _} → Row_of-TypedStmt n → Type 0
+  RowCoreUsage fs end_of-TypedStmt = Unit {0}
+  RowCoreUsage fs (more_of-TypedStmt s rest) = CoreUsage fs s × RowCoreUsage fs rest
+
+-- a statement of an initialiser: `self->f = E`, or an `if`, with `self` nowhere else
+unfoldable mutual
+  pub InitUsage : TypedStmt → Type 0
+  InitUsage (Declare at n kind value) = ⊥
+  InitUsage (Assign at n value) = ⊥
+  InitUsage (SetField at left s field e) = (left.form ≡ Own) × WithoutOwn e.form
+  InitUsage (Write at place e) = ⊥
+  InitUsage (Call at f args) = ⊥
+  InitUsage (If' at test _ first _ second) = WithoutOwn test.form × RowInitUsage first × RowInitUsage second
+  InitUsage (While' at test _ body) = ⊥
+  InitUsage (Return at) = ⊥
+
+  pub RowInitUsage : {n : _} → Row_of-TypedStmt n → Type 0
+  RowInitUsage end_of-TypedStmt = Unit {0}
+  RowInitUsage (more_of-TypedStmt s rest) = InitUsage s × RowInitUsage rest
+
+abbrev pub FunctionUsage : List TypedFunction → TypedFunction → Type 0
+FunctionUsage fs f = elim f.initialiser [ None ↦ All (CoreUsage fs) f.body | Some s ↦ All InitUsage f.body ]
+
+abbrev pub KeepsUsage : Typed → Type 0
+KeepsUsage program = All (FunctionUsage program.functions) program.functions
