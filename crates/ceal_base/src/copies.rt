@@ -6,7 +6,9 @@ use crate::boxed::Boxed;
 use crate::items::Items;
 use crate::no_memory::NoMemory;
 use crate::syntax::Ident;
-use crate::typed::{FieldInfo, StructInfo, TypedExpr, TypedForm, TypedFunction, TypedStmt, TypedValue};
+use crate::typed::{
+    FieldInfo, StructInfo, TypedExpr, TypedForm, TypedFunction, TypedStmt, TypedValue,
+};
 use std::alloc::Global;
 
 /// An equal expression.
@@ -48,7 +50,7 @@ fn boxed_copy(alloc: Global, e: &TypedExpr) -> Result<Boxed<TypedExpr>, NoMemory
 }
 
 fn with_form(e: &TypedExpr, form: TypedForm) -> TypedExpr
-    ensures { result ≡ record { span = e.now.span; kind = e.now.kind; form = form } }
+    ensures value { result ≡ record { span = e.now.span; kind = e.now.kind; form = form } }
 {
     TypedExpr {
         span: e.span,

@@ -1,6 +1,6 @@
 // The items of a trace, flat: the items up to the `End` that closes a `Read` are inside it.
 
-ghost use Rattle.std.specs.Prelude.{◌≡◌, ◌∷◌, [], ◌++◌, IfOk, OnOk, OnErr};
+ghost use Rattle.std.specs.Prelude.{◌≡◌, ◌∷◌, [], ◌++◌, ◌↔◌, IsTrue, IfOk, OnOk, OnErr};
 
 use crate::no_memory::NoMemory;
 use crate::word::{BlockId, Place, Word};
@@ -22,8 +22,15 @@ pub enum Key {
 }
 
 impl Key {
+    /// Whether both are the same key.
+    pub fn same_as(&self, other: &Key) -> bool
+        ensures same { IsTrue result ↔ (self.now ≡ other.now) }
+    {
+        self == other
+    }
+
     pub fn copy(&self) -> Result<Key, NoMemory>
-        ensures { IfOk result (λ k. k ≡ self.now) }
+        ensures equal { IfOk result (λ k. k ≡ self.now) }
     {
         match self {
             Key::Init { function, args } => {
@@ -66,7 +73,7 @@ pub enum Item {
 
 impl Item {
     pub fn copy(&self) -> Result<Item, NoMemory>
-        ensures { IfOk result (λ i. i ≡ self.now) }
+        ensures equal { IfOk result (λ i. i ≡ self.now) }
     {
         match self {
             Item::Step => Ok(Item::Step),
@@ -116,7 +123,7 @@ impl Model for Forest {
 
 impl Forest {
     pub fn new(items: Vec<Item>) -> Forest
-        ensures { result ≡ items.items }
+        ensures value { result ≡ items.items }
     {
         Forest { items }
     }
@@ -130,13 +137,13 @@ impl Forest {
     }
 
     pub fn items(&self) -> &[Item]
-        ensures { result.now ≡ self.now }
+        ensures value { result.now ≡ self.now }
     {
         self.items.as_slice()
     }
 
     pub fn copy(&self) -> Result<Forest, NoMemory>
-        ensures { IfOk result (λ f. f ≡ self.now) }
+        ensures equal { IfOk result (λ f. f ≡ self.now) }
     {
         let alloc = *self.items.allocator();
         let items = copied_items(alloc, self.items())?;
@@ -145,7 +152,7 @@ impl Forest {
 }
 
 fn copied_items(alloc: Global, items: &[Item]) -> Result<Vec<Item>, NoMemory>
-    ensures { IfOk result (λ v. v.items ≡ items.now) }
+    ensures equal { IfOk result (λ v. v.items ≡ items.now) }
 {
     let mut copied = Vec::new(alloc);
     for item in items {

@@ -16,6 +16,8 @@ pub mod memory;
 pub mod no_memory;
 pub mod operators;
 pub mod syntax;
+#[cfg(test)]
+mod tests;
 pub mod text;
 pub mod typed;
 pub mod word;

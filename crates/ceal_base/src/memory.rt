@@ -26,7 +26,7 @@ impl Model for BlockWords {
 
 impl BlockWords {
     pub fn new(shape: Shape, words: Vec<Word>) -> BlockWords
-        ensures { result ≡ record { shape = shape; words = words.items } }
+        ensures value { result ≡ record { shape = shape; words = words.items } }
     {
         BlockWords { shape, words }
     }
@@ -40,20 +40,20 @@ impl BlockWords {
     }
 
     pub fn items(&self) -> &[Word]
-        ensures { result.now ≡ self.now.words }
+        ensures value { result.now ≡ self.now.words }
     {
         self.words.as_slice()
     }
 
     /// Sets the word of a field, if there is that field.
     pub fn set(&mut self, field: u32, word: Word)
-        ensures { self.new ≡ record self.old { words = slice_set self.old.words field word } }
+        ensures value { self.new ≡ record self.old { words = slice_set self.old.words field word } }
     {
         set_item(&mut self.words, field as usize, word);
     }
 
     pub fn copy(&self) -> Result<BlockWords, NoMemory>
-        ensures { IfOk result (λ b. b ≡ self.now) }
+        ensures equal { IfOk result (λ b. b ≡ self.now) }
     {
         let words = self.words.clone()?;
         Ok(BlockWords {
@@ -80,7 +80,7 @@ impl Model for Inputs {
 
 impl Inputs {
     pub fn new(blocks: Vec<BlockWords>) -> Inputs
-        ensures { result ≡ blocks.items }
+        ensures value { result ≡ blocks.items }
     {
         Inputs { blocks }
     }
@@ -94,20 +94,20 @@ impl Inputs {
     }
 
     pub fn items(&self) -> &[BlockWords]
-        ensures { result.now ≡ self.now }
+        ensures value { result.now ≡ self.now }
     {
         self.blocks.as_slice()
     }
 
     /// Sets the word of a block's field, if there is that field.
     pub fn set(&mut self, at: u32, field: u32, word: Word)
-        ensures { self.new ≡ with_word self.old at field word }
+        ensures value { self.new ≡ with_word self.old at field word }
     {
         set_word(&mut self.blocks, at as usize, field, word);
     }
 
     pub fn copy(&self) -> Result<Inputs, NoMemory>
-        ensures { IfOk result (λ i. i ≡ self.now) }
+        ensures equal { IfOk result (λ i. i ≡ self.now) }
     {
         let alloc = *self.blocks.allocator();
         let blocks = copied_blocks(alloc, self.items())?;
@@ -132,7 +132,7 @@ impl Model for Memory {
 
 impl Memory {
     pub fn new(inputs: Inputs, made: Vec<BlockWords>) -> Memory
-        ensures { result ≡ record { inputs = inputs; made = made.items } }
+        ensures value { result ≡ record { inputs = inputs; made = made.items } }
     {
         Memory { inputs, made }
     }
@@ -146,14 +146,14 @@ impl Memory {
     }
 
     pub fn items(&self) -> &[BlockWords]
-        ensures { result.now ≡ self.now.made }
+        ensures value { result.now ≡ self.now.made }
     {
         self.made.as_slice()
     }
 
     /// Sets the word of a place, if it is in the memory.
     pub fn set(&mut self, place: Place, word: Word)
-        ensures { self.new ≡ written_at self.old place.block place.field word }
+        ensures value { self.new ≡ written_at self.old place.block place.field word }
     {
         match place.block {
             BlockId::Input(n) => self.inputs.set(n, place.field, word),
@@ -162,7 +162,7 @@ impl Memory {
     }
 
     pub fn copy(&self) -> Result<Memory, NoMemory>
-        ensures { IfOk result (λ m. m ≡ self.now) }
+        ensures equal { IfOk result (λ m. m ≡ self.now) }
     {
         let alloc = *self.made.allocator();
         let inputs = self.inputs.copy()?;
@@ -172,7 +172,7 @@ impl Memory {
 }
 
 fn set_item(words: &mut Vec<Word>, at: usize, word: Word)
-    ensures { words.new.items ≡ slice_set words.old.items at word }
+    ensures value { words.new.items ≡ slice_set words.old.items at word }
 {
     if at < words.len() {
         words[at] = word;
@@ -180,7 +180,7 @@ fn set_item(words: &mut Vec<Word>, at: usize, word: Word)
 }
 
 fn set_word(blocks: &mut Vec<BlockWords>, at: usize, field: u32, word: Word)
-    ensures { blocks.new.items ≡ with_word blocks.old.items at field word }
+    ensures value { blocks.new.items ≡ with_word blocks.old.items at field word }
 {
     if at < blocks.len() {
         let block = &mut blocks[at];
@@ -189,7 +189,7 @@ fn set_word(blocks: &mut Vec<BlockWords>, at: usize, field: u32, word: Word)
 }
 
 fn copied_blocks(alloc: Global, blocks: &[BlockWords]) -> Result<Vec<BlockWords>, NoMemory>
-    ensures { IfOk result (λ v. v.items ≡ blocks.now) }
+    ensures equal { IfOk result (λ v. v.items ≡ blocks.now) }
 {
     let mut copied = Vec::new(alloc);
     for block in blocks {

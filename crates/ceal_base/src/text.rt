@@ -22,7 +22,7 @@ impl Model for Text {
 
 impl Text {
     pub fn new(bytes: Vec<u8>) -> Text
-        ensures { result ≡ bytes.items }
+        ensures value { result ≡ bytes.items }
     {
         Text { bytes }
     }
@@ -36,13 +36,13 @@ impl Text {
     }
 
     pub fn items(&self) -> &[u8]
-        ensures { result.now ≡ self.now }
+        ensures value { result.now ≡ self.now }
     {
         self.bytes.as_slice()
     }
 
     pub fn copy(&self) -> Result<Text, NoMemory>
-        ensures { IfOk result (λ t. t ≡ self.now) }
+        ensures equal { IfOk result (λ t. t ≡ self.now) }
     {
         let bytes = self.bytes.clone()?;
         Ok(Text { bytes })

@@ -1,5 +1,7 @@
 // The values of the language, which are words.
 
+ghost use Rattle.std.specs.Prelude.{◌≡◌, ◌↔◌, IsTrue};
+
 /// A block of memory: the n-th input block, or the n-th core block in the order of allocation.
 #[derive(Clone, Copy, PartialEq, Eq, PartialOrd, Ord, Hash, Debug)]
 pub enum BlockId {
@@ -24,4 +26,13 @@ pub enum Word {
     Null,
     Block(BlockId),
     At(Place),
+}
+
+impl Word {
+    /// Whether both are the same word; pointers are the same where they name one block, or one place.
+    pub fn same_as(self, other: Word) -> bool
+        ensures same { IsTrue result ↔ (self ≡ other) }
+    {
+        self == other
+    }
 }

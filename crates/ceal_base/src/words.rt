@@ -1,6 +1,6 @@
 // A list of words, of which a few stand in the value itself.
 
-ghost use Rattle.std.specs.Prelude.{◌≡◌, ◌∷◌, [], ◌++◌, IfOk, OnOk, OnErr};
+ghost use Rattle.std.specs.Prelude.{◌≡◌, ◌∷◌, [], ◌++◌, ◌↔◌, IsTrue, IfOk, OnOk, OnErr};
 ghost use Rattle.std.specs.Cmp.Lexicographic.{pointwise, lists_per, lists_equiv};
 ghost use Rattle.std.specs.Hash as fed;
 ghost use Rattle.ceal_base.specs.contracts.word.WordPartialEq.TheImpl.Laws as word_eq;
@@ -32,13 +32,13 @@ impl Model for Words {
 
 impl Words {
     pub fn new(items: SmallVec<Word, 6>) -> Words
-        ensures { result ≡ items.items }
+        ensures value { result ≡ items.items }
     {
         Words { items }
     }
 
     pub fn empty(alloc: Global) -> Words
-        ensures { result ≡ [] }
+        ensures value { result ≡ [] }
     {
         Words {
             items: SmallVec::new(alloc),
@@ -46,7 +46,7 @@ impl Words {
     }
 
     pub fn from_slice(alloc: Global, items: &[Word]) -> Result<Words, NoMemory>
-        ensures { IfOk result (λ w. w ≡ items.now) }
+        ensures equal { IfOk result (λ w. w ≡ items.now) }
     {
         let items = SmallVec::from_slice(alloc, items)?;
         Ok(Words { items })
@@ -61,16 +61,25 @@ impl Words {
     }
 
     pub fn items(&self) -> &[Word]
-        ensures { result.now ≡ self.now }
+        ensures value { result.now ≡ self.now }
     {
         self.items.as_slice()
     }
 
     pub fn copy(&self) -> Result<Words, NoMemory>
-        ensures { IfOk result (λ w. w ≡ self.now) }
+        ensures equal { IfOk result (λ w. w ≡ self.now) }
     {
         let alloc = *self.items.allocator();
         Words::from_slice(alloc, self.items())
+    }
+}
+
+impl Words {
+    /// Whether both are the same list.
+    pub fn same_as(&self, other: &Words) -> bool
+        ensures same { IsTrue result ↔ (self.now ≡ other.now) }
+    {
+        self.items() == other.items()
     }
 }
 
