@@ -39,6 +39,13 @@ impl<T> Items<T> {
         }
     }
 
+    pub fn into_vec(self) -> Vec<T>
+        ensures value { result.items ≡ self }
+    {
+        let Items { items } = self;
+        items
+    }
+
     pub fn items(&self) -> &[T]
         ensures value { result.now ≡ self.now }
     {

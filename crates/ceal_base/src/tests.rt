@@ -64,8 +64,9 @@ fn operators_at_their_edges(rt: HostRuntime) {
 }
 
 fn name(alloc: Global, byte: u8) -> Result<Text, NoMemory> {
-    let mut text = Text::new(Vec::new(alloc));
-    text.push(byte)?;
+    let mut text = Text::from_slice(alloc, &[byte])?;
+    text.append(&[48])?;
+    text.push(49)?;
     text.copy()
 }
 
@@ -201,7 +202,7 @@ fn cell(alloc: Global) -> Result<Items<StructInfo>, NoMemory> {
 fn structs_are_copied(rt: HostRuntime) {
     let copy = cell(rt.alloc()).expect(&rt, "memory");
     match copy.items() {
-        [info] => assert_eq!(rt; info.name.items().first().copied(), Some(99)),
+        [info] => assert_eq!(rt; info.name.items(), [99, 48, 49].as_slice()),
         _ => panic!(rt; "other structs"),
     }
 }
