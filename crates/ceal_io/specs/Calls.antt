@@ -10,7 +10,7 @@ pub record Calls : Type 0 where
   pub faults : ℕ
 
 -- a stream in memory: what is left of a source or was written to a sink, and its calls
-pub record Stream : Type 0 where
+pub record MemStream : Type 0 where
   pub bytes : List ℕ
   pub calls : Calls
 

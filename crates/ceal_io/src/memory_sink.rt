@@ -19,9 +19,9 @@ pub struct MemSink {
 }
 
 impl Model for MemSink {
-    ghost use Rattle.ceal_io.specs.Calls.{Stream};
+    ghost use Rattle.ceal_io.specs.Calls.{MemStream};
 
-    ghost Value = { Stream };
+    ghost Value = { MemStream };
 
     ghost view = { λ s. record { bytes = s.sink; calls = s.calls } };
 }

@@ -18,9 +18,9 @@ pub struct MemSource {
 }
 
 impl Model for MemSource {
-    ghost use Rattle.ceal_io.specs.Calls.{Stream};
+    ghost use Rattle.ceal_io.specs.Calls.{MemStream};
 
-    ghost Value = { Stream };
+    ghost Value = { MemStream };
 
     ghost view = { λ s. record { bytes = s.source; calls = s.calls } };
 }
