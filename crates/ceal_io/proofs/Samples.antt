@@ -1,4 +1,4 @@
-use Rattle.std.proofs.Common.{◌≡◌, ◌-◌, ◌^◌, true, false, List, [], ◌∷◌, Some, rules, refl}
+use Rattle.std.proofs.Common.{◌≡◌, ◌-◌, ◌^◌, true, false, [], ◌∷◌, Some, rules, refl}
 use Rattle.ceal_io.specs.Calls.{has_number, Calls, next_fails, after_call}
 use Rattle.ceal_io.specs.Streams.{one_more_fault, LosesCount, GrowsByPrefix}
 
