@@ -1,12 +1,12 @@
 use Rattle.std.proofs.Common.{◌≡◌, ◌<◌, ℕ, zero, suc, pos, arith, rules, slice_index, slice_get, Option, Some, None, List, [], ◌∷◌, refl}
 use Rattle.std.specs.Option.{option_map}
 use Rattle.std.specs.List.{IsDistinct}
-use Rattle.ceal_base.specs.Block.{Block, Blocks}
+use Rattle.ceal_base.specs.Block.{Block}
 use Rattle.ceal_base.specs.Operators.{binary_value}
 use Rattle.ceal_base.specs.Same.{Same, renamed_block}
 use Rattle.ceal_base.specs.Trace.{trace_of, Nothing, Stepped, Was_read, Wrote}
 use Rattle.ceal_base.specs.declared.forest.Item.TheVariants.{Step, Write, Read, End}
-use Rattle.ceal_base.specs.declared.operators.Binary.TheVariants.{Add, Div, Rem, Mul}
+use Rattle.ceal_base.specs.declared.operators.Binary.TheVariants.{Add, Div, Rem}
 use Rattle.ceal_base.specs.declared.word.BlockId.TheVariants.{Input, Core}
 use Rattle.ceal_base.specs.declared.word.Place.{Place}
 use Rattle.ceal_base.specs.declared.kind.Shape.TheVariants.{Struct}

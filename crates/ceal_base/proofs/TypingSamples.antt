@@ -1,7 +1,6 @@
 -- The program `ceal inc(mod int *a, mod int *b) { int x = read(a); write(b, x + 1); }` is well typed.
-use Rattle.std.proofs.Common.{◌≡◌, ℕ, pos, arith, rules, Option, Some, None, List, [], ◌∷◌, refl}
+use Rattle.std.proofs.Common.{ℕ, pos, arith, Some, None, [], ◌∷◌, refl}
 use Rattle.ceal_base.specs.WellTyped.{StmtsTyped, StmtTyped, FormTyped, context_of, numbers_below}
-use Rattle.ceal_base.specs.Usage.{CoreUsage}
 use Rattle.ceal_base.specs.declared.fault.Span.{Span}
 use Rattle.ceal_base.specs.declared.kind.Kind.TheVariants.{Int, ModInt}
 use Rattle.ceal_base.specs.declared.operators.Binary.TheVariants.{Add}
@@ -10,7 +9,6 @@ use Rattle.ceal_base.specs.declared.typed.TypedForm.{Num as NumForm, Var}
 use Rattle.ceal_base.specs.declared.typed.TypedForm.TheBlock.{hidden-the_row-TypedExpr-0, shape-the_row-TypedExpr-0}
 use Rattle.ceal_base.specs.declared.typed.TypedForm.TheViews.{Binary}
 use Rattle.ceal_base.specs.declared.typed.TypedFunction.{TypedFunction}
-use Rattle.ceal_base.specs.declared.typed.TypedStmt.{TypedStmt}
 use Rattle.ceal_base.specs.declared.typed.TypedStmt.TheVariants.{Declare, Write}
 use Rattle.ceal_base.specs.declared.typed.TypedValue.TheVariants.{Read}
 

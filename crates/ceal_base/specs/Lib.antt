@@ -3,6 +3,7 @@ pub mod Operators
 pub mod Block
 pub mod Shapes
 pub mod Access
+pub mod Fitting
 pub mod WellTyped
 pub mod Usage
 pub mod Same

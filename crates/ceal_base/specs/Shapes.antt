@@ -1,5 +1,5 @@
 -- What a block of a shape has: the types of its fields, and their defaults.
-use Rattle.std.specs.Prelude.{ℕ, pos, Option, Some, None, List, [], ◌∷◌, map, slice_get}
+use Rattle.std.specs.Prelude.{pos, Option, Some, None, List, [], ◌∷◌, map, slice_get}
 use Rattle.ceal_base.specs.Block.{Block}
 use Rattle.ceal_base.specs.declared.kind.FieldKind.{FieldKind}
 use Rattle.ceal_base.specs.declared.kind.FieldKind.TheVariants.{Plain, CellInt, CellPtr}

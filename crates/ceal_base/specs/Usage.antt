@@ -1,8 +1,7 @@
 -- A program that keeps the rules of usage: fields are written by initialisers alone, on `self` alone, and an
 -- initialiser does nothing else.
-use Rattle.std.specs.Prelude.{◌≡◌, ℕ, Option, Some, None, IsSome, IsNone, IsSomeAnd, List, [], ◌∷◌, slice_get, All}
+use Rattle.std.specs.Prelude.{◌≡◌, Option, Some, None, IsSome, IsNone, IsSomeAnd, List, slice_get, All}
 use Rattle.ceal_base.specs.declared.typed.Typed.{Typed}
-use Rattle.ceal_base.specs.declared.typed.TypedExpr.{TypedExpr}
 use Rattle.ceal_base.specs.declared.typed.TypedForm.TheBlock.{Row_of-TypedExpr, end_of-TypedExpr, more_of-TypedExpr}
 use Rattle.ceal_base.specs.declared.typed.TypedForm.{TypedForm, Num, Null, Var, Own, Unary', Binary', Field', Address'}
 use Rattle.ceal_base.specs.declared.typed.TypedFunction.{TypedFunction}
