@@ -1,0 +1,4 @@
+pub mod ValueSteps
+pub mod InitSteps
+pub mod TodoLemmas
+pub mod FrameLemmas

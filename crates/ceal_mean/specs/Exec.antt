@@ -1,0 +1,114 @@
+-- What each statement does, and the steps of a run.
+use Rattle.std.specs.Prelude.{ℕ, pos, ◌-◌, Bool, true, false, Option, Some, None, List, [], ◌∷◌, ◌++◌, length, slice_get, slice_set, replicate, if◌then◌else◌}
+use Rattle.ceal_base.specs.Access.{content_of, written, holds}
+use Rattle.ceal_base.specs.Block.{Block, Blocks}
+use Rattle.ceal_base.specs.Shapes.{default_block}
+use Rattle.ceal_base.specs.declared.kind.Kind.{Kind}
+use Rattle.ceal_base.specs.declared.kind.Kind.TheVariants.{Int, Ptr, ModInt, ModPtr}
+use Rattle.ceal_base.specs.declared.kind.Shape.TheVariants.{ModInt as OneInt, ModPtr as OnePtr}
+use Rattle.ceal_base.specs.declared.typed.Typed.{Typed}
+use Rattle.ceal_base.specs.declared.typed.TypedFunction.{TypedFunction}
+use Rattle.ceal_base.specs.declared.typed.TypedStmt.{TypedStmt, out-TypedStmt}
+use Rattle.ceal_base.specs.declared.typed.TypedStmt.TheOpen.{TypedStmt-F, Declare, Assign, SetField, Write, Call, If, While, Return}
+use Rattle.ceal_base.specs.declared.typed.TypedValue.{TypedValue}
+use Rattle.ceal_base.specs.declared.typed.TypedValue.TheVariants.{Plain, Read, Alloc, ModrefInt, Modref}
+use Rattle.ceal_base.specs.declared.word.BlockId.TheVariants.{Core}
+use Rattle.ceal_base.specs.declared.word.Word.{Word}
+use Rattle.ceal_base.specs.declared.word.Word.TheVariants.{Num, Null, Block as BlockWord, At}
+use Rattle.ceal_mean.specs.Frame.{Frame, State}
+use Rattle.ceal_mean.specs.Init.{init_block}
+use Rattle.ceal_mean.specs.Value.{value_of, values_of}
+
+-- the default of what a modifiable holds, by the type of the pointer to it
+abbrev pub content_default : Option Kind → Word
+content_default (Some ModInt) = Num (pos 0)
+content_default _ = Null
+
+-- the memory after a value is taken, and the value
+pub record Taken : Type 0 where
+  pub memory : Blocks
+  pub word : Word
+
+-- the memory with one core block more, which has the next number
+abbrev pub with_block : Blocks → Block → Blocks
+with_block m block = record m { made = m.made ++ block ∷ [] }
+
+-- a new block, and a pointer to it
+abbrev pub new_block : Blocks → Block → Taken
+new_block m block = record { memory = with_block m block; word = BlockWord (Core (length m.made)) }
+
+-- a new block with one modifiable, and a pointer to that modifiable
+abbrev pub new_modifiable : Blocks → Block → Taken
+new_modifiable m block = record { memory = with_block m block; word = At (record { block = Core (length m.made); field = 0 }) }
+
+-- what a variable is given
+abbrev pub taken : Typed → List Word → Blocks → TypedValue → Taken
+taken p env m (Plain e) = record { memory = m; word = value_of env m e }
+taken p env m (Read at e) = record { memory = m; word = content_of m (value_of env m e) (content_default e.kind) }
+taken p env m (Alloc at shape function name args) = new_block m (init_block p function (values_of env m args) m)
+taken p env m (ModrefInt at) = new_modifiable m (default_block p.structs OneInt)
+taken p env m (Modref at s) = new_modifiable m (default_block p.structs (OnePtr s))
+
+-- the words of a function's variables at its start: the arguments, and null of every other
+abbrev pub first_env : TypedFunction → List Word → List Word
+first_env f args = args ++ replicate (length f.kinds - length args) Null
+
+-- the frame of a function that is called, none of a number without a function
+abbrev pub frame_of : Option TypedFunction → List Word → List Frame
+frame_of None args = []
+frame_of (Some f) args = record { todo = f.body; env = first_env f args } ∷ []
+
+abbrev pub entered : Typed → ℕ → List Word → List Frame
+entered p function args = frame_of (slice_get p.functions function) args
+
+-- the state after the variable got what was taken
+abbrev pub given : Taken → ℕ → List TypedStmt → List Word → List Frame → State
+given t n rest env below = record {
+  memory = t.memory;
+  frames = record { todo = rest; env = slice_set env n t.word } ∷ below;
+}
+
+-- the state after one statement, `rest` being what the frame has to do after it and `below` the frames under it
+abbrev pub effect : Typed → Blocks → List Word → List TypedStmt → List Frame → TypedStmt → TypedStmt-F TypedStmt → State
+effect p m env rest below s (Declare at n kind value) = given (taken p env m value) n rest env below
+effect p m env rest below s (Assign at n value) = given (taken p env m value) n rest env below
+effect p m env rest below s (SetField at left shape field value) = record {
+  memory = m;
+  frames = record { todo = rest; env = env } ∷ below;
+}
+effect p m env rest below s (Write at place value) = record {
+  memory = written m (value_of env m place) (value_of env m value);
+  frames = record { todo = rest; env = env } ∷ below;
+}
+effect p m env rest below s (Call at function args) = record {
+  memory = m;
+  frames = entered p function (values_of env m args) ++ record { todo = rest; env = env } ∷ below;
+}
+effect p m env rest below s (If at test first second) = record {
+  memory = m;
+  frames = record { todo = (if holds (value_of env m test) then first else second) ++ rest; env = env } ∷ below;
+}
+effect p m env rest below s (While at test body) = record {
+  memory = m;
+  frames = record { todo = (if holds (value_of env m test) then body ++ s ∷ rest else rest); env = env } ∷ below;
+}
+effect p m env rest below s (Return at) = record { memory = m; frames = record { todo = []; env = env } ∷ below }
+
+abbrev pub is_return : TypedStmt-F TypedStmt → Bool
+is_return (Return at) = true
+is_return _ = false
+
+-- a frame is over where it has nothing left to do, or a `return` first
+abbrev pub is_over : List TypedStmt → Bool
+is_over [] = true
+is_over (s ∷ rest) = is_return (out-TypedStmt s)
+
+-- the frames without those in front that are over; this takes no step
+abbrev pub settled : List Frame → List Frame
+settled [] = []
+settled (f ∷ below) = if is_over f.todo then settled below else f ∷ below
+
+-- the state after the first statement of the first frame
+abbrev pub stepped : Typed → Blocks → Frame → List TypedStmt → List Frame → State
+stepped p m f [] below = record { memory = m; frames = below }
+stepped p m f (s ∷ rest) below = effect p m f.env rest below s (out-TypedStmt s)

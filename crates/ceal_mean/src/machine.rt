@@ -1,0 +1,238 @@
+// What each statement does.
+
+ghost use Rattle.std.specs.Prelude.{◌≡◌, ◌<◌, ◌≤◌, ◌+◌, ◌^◌, ⊤, List, Some, None, false, if◌then◌else◌, [], ◌∷◌, ◌++◌, length, map, slice_set, IfOk, OnOk};
+ghost use Rattle.std.specs.Option.{option_to_list};
+ghost use Rattle.ceal_base.specs.Access.{holds};
+ghost use Rattle.ceal_base.specs.Shapes.{default_block};
+ghost use Rattle.ceal_base.specs.declared.typed.TypedStmt.{out-TypedStmt};
+ghost use Rattle.ceal_mean.specs.Exec.{content_default, new_block, new_modifiable, taken, entered, effect, is_return};
+ghost use Rattle.ceal_mean.specs.Frame.{Frame};
+ghost use Rattle.ceal_mean.specs.Init.{init_block};
+ghost use Rattle.ceal_mean.specs.Value.{value_of, values_of};
+
+use crate::access::{content, is_true, write};
+use crate::activation::{Activation, enter};
+use crate::eval::eval;
+use crate::init::init;
+use ceal_base::kind::{Kind, Shape};
+use ceal_base::memory::{BlockWords, Memory};
+use ceal_base::no_memory::NoMemory;
+use ceal_base::typed::{Typed, TypedExpr, TypedStmt, TypedValue};
+use ceal_base::word::{BlockId, Place, Word};
+use std::alloc::Global;
+use std::slice;
+
+fn default_content(kind: Option<Kind>) -> Word
+    ensures { result ≡ content_default kind }
+{
+    match kind {
+        Some(Kind::ModInt) => Word::Num(0),
+        _ => Word::Null,
+    }
+}
+
+/// Adds a core block, and gives its number.
+fn add_block(memory: &mut Memory, block: BlockWords) -> Result<BlockId, NoMemory>
+    requires { length memory.old.made < 2 ^ 32 }
+    ensures grows { length memory.new.made ≤ length memory.old.made + 1 }
+    ensures made { IfOk result (λ id. new_block memory.old block ≡ record { memory = memory.new; word = Word.Block id }) }
+    ensures place { IfOk result (λ id. new_modifiable memory.old block ≡ record { memory = memory.new; word = Word.At (record { block = id; field = 0 }) }) }
+{
+    let at = memory.items().len() as u32;
+    memory.push(block)?;
+    Ok(BlockId::Core(at))
+}
+
+fn make_modifiable(
+    alloc: Global,
+    memory: &mut Memory,
+    shape: Shape,
+    default: Word,
+) -> Result<Word, NoMemory>
+    requires { length memory.old.made < 2 ^ 32 }
+    ensures grows { length memory.new.made ≤ length memory.old.made + 1 }
+    ensures made { IfOk result (λ word. new_modifiable memory.old (record { shape = shape; words = default ∷ [] }) ≡ record { memory = memory.new; word = word }) }
+{
+    let mut words = Vec::new(alloc);
+    words.push(default)?;
+    let block = add_block(memory, BlockWords::new(shape, words))?;
+    Ok(Word::At(Place { block, field: 0 }))
+}
+
+fn allocate(
+    alloc: Global,
+    memory: &mut Memory,
+    program: &Typed,
+    env: &[Word],
+    function: u32,
+    args: &[TypedExpr],
+) -> Result<Word, NoMemory>
+    requires { length memory.old.made < 2 ^ 32 }
+    ensures grows { length memory.new.made ≤ length memory.old.made + 1 }
+    ensures made { IfOk result (λ word. new_block memory.old (init_block program.now function (values_of env.now memory.old args.now) memory.old) ≡ record { memory = memory.new; word = word }) }
+{
+    let words = values(alloc, memory, env, args)?;
+    let block = init(alloc, program, function, words.as_slice(), memory)?;
+    let id = add_block(memory, block)?;
+    Ok(Word::Block(id))
+}
+
+fn take_value(
+    alloc: Global,
+    memory: &mut Memory,
+    program: &Typed,
+    env: &[Word],
+    value: &TypedValue,
+) -> Result<Word, NoMemory>
+    requires { length memory.old.made < 2 ^ 32 }
+    ensures grows { length memory.new.made ≤ length memory.old.made + 1 }
+    ensures taken { IfOk result (λ word. taken program.now env.now memory.old value.now ≡ record { memory = memory.new; word = word }) }
+{
+    match value {
+        TypedValue::Plain(e) => Ok(eval(env, memory, e)),
+        TypedValue::Read(_, e) => Ok(content(
+            memory,
+            eval(env, memory, e),
+            default_content(e.kind),
+        )),
+        TypedValue::Alloc { function, args, .. } => {
+            let word = allocate(alloc, memory, program, env, *function, args.items())?;
+            Ok(word)
+        }
+        TypedValue::ModrefInt(_) => make_modifiable(alloc, memory, Shape::ModInt, Word::Num(0)),
+        TypedValue::Modref(_, s) => make_modifiable(alloc, memory, Shape::ModPtr(*s), Word::Null),
+    }
+}
+
+#[tactic(auto, unfolding(crate::specs::Value::values_of))]
+fn values(
+    alloc: Global,
+    memory: &Memory,
+    env: &[Word],
+    args: &[TypedExpr],
+) -> Result<Vec<Word>, NoMemory>
+    ensures { IfOk result (λ words. words.items ≡ values_of env.now memory.now args.now) }
+{
+    let mut words = Vec::new(alloc);
+    for arg in args {
+        words.push(eval(env, memory, arg))?;
+    }
+    Ok(words)
+}
+
+fn give(
+    alloc: Global,
+    memory: &mut Memory,
+    program: &Typed,
+    frame: &mut Activation<'_>,
+    n: u32,
+    value: &TypedValue,
+) -> Result<(), NoMemory>
+    requires { length memory.old.made < 2 ^ 32 }
+    ensures grows { length memory.new.made ≤ length memory.old.made + 1 }
+    ensures memory { OnOk result ((taken program.now frame.old.env memory.old value.now).memory ≡ memory.new) }
+    ensures frame { OnOk result (frame.new ≡ record frame.old { env = slice_set frame.old.env n (taken program.now frame.old.env memory.old value.now).word }) }
+{
+    let word = take_value(alloc, memory, program, frame.variables(), value)?;
+    frame.set(n, word);
+    Ok(())
+}
+
+fn choose<'a>(
+    memory: &Memory,
+    frame: &mut Activation<'a>,
+    test: &TypedExpr,
+    first: &'a [TypedStmt],
+    second: &'a [TypedStmt],
+) -> Result<(), NoMemory>
+    ensures { OnOk result (frame.new ≡ record frame.old { todo = (if holds (value_of frame.old.env memory.now test.now) then first.now else second.now) ++ frame.old.todo }) }
+{
+    if is_true(eval(frame.variables(), memory, test)) {
+        frame.put_before(first)
+    } else {
+        frame.put_before(second)
+    }
+}
+
+fn turn<'a>(
+    memory: &Memory,
+    frame: &mut Activation<'a>,
+    test: &TypedExpr,
+    body: &'a [TypedStmt],
+    s: &'a TypedStmt,
+) -> Result<(), NoMemory>
+    ensures { OnOk result (frame.new ≡ record frame.old { todo = (if holds (value_of frame.old.env memory.now test.now) then body.now ++ s.now ∷ frame.old.todo else frame.old.todo) }) }
+{
+    if is_true(eval(frame.variables(), memory, test)) {
+        frame.put_before(slice::from_ref(s))?;
+        frame.put_before(body)
+    } else {
+        Ok(())
+    }
+}
+
+fn call<'a>(
+    alloc: Global,
+    memory: &Memory,
+    program: &'a Typed,
+    frame: &Activation<'_>,
+    function: u32,
+    args: &[TypedExpr],
+) -> Result<Option<Activation<'a>>, NoMemory>
+    ensures { IfOk result (λ called. entered program.now function (values_of frame.now.env memory.now args.now) ≡ option_to_list called) }
+{
+    let words = values(alloc, memory, frame.variables(), args)?;
+    let called = enter(alloc, program, function, words)?;
+    Ok(called)
+}
+
+pub fn is_return_statement(s: &TypedStmt) -> bool
+    ensures { result ≡ is_return (out-TypedStmt s.now) }
+{
+    matches!(s, TypedStmt::Return(_))
+}
+
+/// Does a statement that was taken from this activation; a call gives the activation that goes before it.
+pub fn act<'a>(
+    alloc: Global,
+    memory: &mut Memory,
+    program: &'a Typed,
+    frame: &mut Activation<'a>,
+    s: &'a TypedStmt,
+) -> Result<Option<Activation<'a>>, NoMemory>
+    requires room { length memory.old.made < 2 ^ 32 }
+    requires runs { is_return (out-TypedStmt s.now) ≡ false }
+    ensures grows { length memory.new.made ≤ length memory.old.made + 1 }
+    ensures done { IfOk result (λ called. (below : List Frame) → effect program.now memory.old frame.old.env frame.old.todo below s.now (out-TypedStmt s.now) ≡ record { memory = memory.new; frames = option_to_list called ++ frame.new ∷ below }) }
+{
+    match s {
+        TypedStmt::Declare(_, n, _, value) => {
+            give(alloc, memory, program, frame, *n, value)?;
+            Ok(None)
+        }
+        TypedStmt::Assign(_, n, value) => {
+            give(alloc, memory, program, frame, *n, value)?;
+            Ok(None)
+        }
+        TypedStmt::SetField(..) => Ok(None),
+        TypedStmt::Write(_, place, value) => {
+            let at = eval(frame.variables(), memory, place);
+            let word = eval(frame.variables(), memory, value);
+            write(memory, at, word);
+            Ok(None)
+        }
+        TypedStmt::Call(_, function, args) => {
+            let called = call(alloc, memory, program, frame, *function, args.items())?;
+            Ok(called)
+        }
+        TypedStmt::If(_, test, first, second) => {
+            choose(memory, frame, test, first.items(), second.items())?;
+            Ok(None)
+        }
+        TypedStmt::While(_, test, body) => {
+            turn(memory, frame, test, body.items(), s)?;
+            Ok(None)
+        }
+        TypedStmt::Return(_) => unreachable!(),
+    }
+}
