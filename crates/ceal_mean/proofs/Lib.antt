@@ -2,3 +2,4 @@ pub mod ValueSteps
 pub mod InitSteps
 pub mod TodoLemmas
 pub mod FrameLemmas
+pub mod RunLemmas

@@ -1,0 +1,42 @@
+-- A run, step by step.
+use Rattle.std.proofs.Common.{◌≡◌, ℕ, zero, suc, ◌+◌, ◌-◌, ◌<◌, Option, Some, None, List, [], ◌∷◌, length, refl, ap, arith}
+use Rattle.ceal_base.specs.Block.{Blocks}
+use Rattle.ceal_base.specs.declared.typed.Typed.{Typed}
+use Rattle.ceal_base.specs.declared.typed.TypedStmt.{TypedStmt}
+use Rattle.ceal_mean.specs.Exec.{settled, stepped}
+use Rattle.ceal_mean.specs.Frame.{Frame, State}
+use Rattle.ceal_mean.specs.Fresh.{Finished, run, run_settled}
+use Rattle.ceal_mean.specs.Steps.{advanced, with_first}
+
+module _ (p : Typed) where
+  -- where a step was made
+  step-made : (fuel steps : ℕ) (m : Blocks) (frames : List Frame) (s : State) → advanced p m frames ≡ Some s
+      → run_settled p (suc fuel) steps m frames ≡ run p fuel (steps + 1) s
+  unfolding run_settled
+  step-made fuel steps m [] s h = cc
+  step-made fuel steps m (f ∷ below) s h = let e : stepped p m f f.todo below ≡ s = cc in ap (λ s. run p fuel (steps + 1) s) e
+
+  pub run-more : (fuel steps : ℕ) (m : Blocks) (frames : List Frame) (s : State) → steps < fuel → advanced p m (settled frames) ≡ Some s
+      → run p (fuel - steps) steps (record { memory = m; frames = frames }) ≡ run p (fuel - (steps + 1)) (steps + 1) s
+  run-more fuel steps m frames s l h =
+      let e : fuel - steps ≡ suc (fuel - (steps + 1)) = omega arith in rw e (step-made _ steps m (settled frames) s h)
+
+  -- where none is left
+  pub run-over : (fuel steps : ℕ) (m : Blocks) (frames : List Frame) → advanced p m frames ≡ None
+      → run_settled p fuel steps m frames ≡ Some (record { memory = m; steps = steps; blocks = length m.made })
+  unfolding run_settled
+  run-over fuel steps m [] h = refl
+  run-over fuel steps m (f ∷ below) h = cc
+
+  pub run-empty : (fuel steps : ℕ) (m : Blocks) (frames : List Frame) → frames ≡ []
+      → run_settled p fuel steps m frames ≡ Some (record { memory = m; steps = steps; blocks = length m.made })
+  unfolding run_settled
+  run-empty fuel steps m [] h = refl
+  run-empty fuel steps m (f ∷ below) h = cc
+
+  -- out of fuel
+  pub run-short : (fuel steps : ℕ) (m : Blocks) (frames after : List Frame) (s : TypedStmt) → fuel ≡ 0 → 0 < length after
+      → frames ≡ with_first s after → run_settled p fuel steps m frames ≡ None
+  unfolding run_settled
+  run-short fuel steps m frames [] s z l h = absurd (omega arith)
+  run-short fuel steps m frames (f ∷ below) s z l h = rw (h, z)
