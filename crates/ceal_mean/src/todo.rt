@@ -7,14 +7,17 @@ use ceal_base::no_memory::NoMemory;
 use ceal_base::typed::TypedStmt;
 use std::alloc::Global;
 
+/// Puts a part before all that waits. An empty one takes no room, so that a loop may turn for ever.
 #[tactic(auto, using(crate::proofs::TodoLemmas::joined_steps))]
-/// Puts a part before all that waits.
 pub fn put_first<'a>(
     parts: &mut Vec<&'a [TypedStmt]>,
     part: &'a [TypedStmt],
 ) -> Result<(), NoMemory>
     ensures ok { OnOk result (joined parts.new.items ≡ part.now ++ joined parts.old.items) }
 {
+    if part.is_empty() {
+        return Ok(());
+    }
     parts.push(part)?;
     Ok(())
 }
@@ -27,7 +30,7 @@ pub fn take_first<'a>(parts: &mut Vec<&'a [TypedStmt]>) -> Result<Option<&'a Typ
     while let Some(part) = parts.pop() {
         match part.split_first() {
             Some((first, rest)) => {
-                parts.push(rest)?;
+                put_first(parts, rest)?;
                 return Ok(Some(first));
             }
             None => {}
