@@ -10,6 +10,7 @@ pub mod access;
 pub mod activation;
 pub mod eval;
 pub mod init;
+pub mod laws;
 pub mod machine;
 pub mod run;
 pub mod todo;
