@@ -70,7 +70,7 @@ abbrev loop : Typed
 loop = program (function (ModInt ∷ ModInt ∷ Int ∷ [])
     (Declare at 2 Int (Read at (typed ModInt (Var 0)))
     ∷ While at (typed Int (Binary Differ at (typed Int (Var 2)) (number 0)))
-      (Assign at 2 (Plain (typed Int (Binary Sub at (typed Int (Var 2)) (number 1)))) ∷ [])
+    (Assign at 2 (Plain (typed Int (Binary Sub at (typed Int (Var 2)) (number 1)))) ∷ [])
     ∷ Write at (typed ModInt (Var 1)) (number 7)
     ∷ []))
 

@@ -34,7 +34,11 @@ fn default_words(alloc: Global, fields: &[FieldInfo]) -> Result<Vec<Word>, NoMem
     Ok(words)
 }
 
-fn words_of_struct(alloc: Global, structs: &[StructInfo], number: u32) -> Result<Vec<Word>, NoMemory>
+fn words_of_struct(
+    alloc: Global,
+    structs: &[StructInfo],
+    number: u32,
+) -> Result<Vec<Word>, NoMemory>
     ensures { IfOk result (λ words. words.items ≡ map default_of_field (field_kinds (slice_get structs.now number))) }
 {
     match structs.get(number as usize) {

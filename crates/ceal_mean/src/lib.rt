@@ -12,5 +12,9 @@ pub mod eval;
 pub mod init;
 pub mod laws;
 pub mod machine;
+#[cfg(test)]
+mod programs;
 pub mod run;
+#[cfg(test)]
+mod tests;
 pub mod todo;

@@ -17,7 +17,7 @@ loop-steps-preserved c =
 pub returns-then-not-more : goal.returns-then-not-more
 returns-then-not-more c =
     let last : Some (record { memory = c.step.new.memory; steps = c.loop-steps.steps; blocks = length c.step.new.memory.made })
-        ≡ fresh c.args.program.now c.args.function c.args.args.now c.args.inputs.now c.args.fuel =
+    ≡ fresh c.args.program.now c.args.function c.args.args.now c.args.inputs.now c.args.fuel =
     rw (c.in_ok-more.ensures.over c.if-not-more.true)
     (sym (run-over c.args.program.now (c.args.fuel - c.loop-steps.steps) c.loop-steps.steps c.loop-steps.memory (settled (reverse c.loop-steps.frames.items))
     (rw c.if-not-more.true at c.in_ok-more.ensures.advanced)) ∙ c.loop-steps.invariant.same) in
