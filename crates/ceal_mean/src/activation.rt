@@ -39,7 +39,7 @@ impl<'a> Activation<'a> {
         body: &'a [TypedStmt],
         env: Vec<Word>,
     ) -> Result<Activation<'a>, NoMemory>
-        ensures { IfOk result (λ a. a ≡ record { todo = body.now; env = env.items }) }
+        ensures value { IfOk result (λ a. a ≡ record { todo = body.now; env = env.items }) }
     {
         let mut parts = Vec::new(alloc);
         put_first(&mut parts, body)?;
@@ -47,28 +47,28 @@ impl<'a> Activation<'a> {
     }
 
     pub fn variables(&self) -> &[Word]
-        ensures { result.now ≡ self.now.env }
+        ensures value { result.now ≡ self.now.env }
     {
         self.env.as_slice()
     }
 
     /// Gives a variable a word.
     pub fn set(&mut self, n: u32, word: Word)
-        ensures { self.new ≡ record self.old { env = slice_set self.old.env n word } }
+        ensures state { self.new ≡ record self.old { env = slice_set self.old.env n word } }
     {
         set_at(&mut self.env, n as usize, word);
     }
 
     /// Puts statements before all that it has to do.
     pub fn put_before(&mut self, part: &'a [TypedStmt]) -> Result<(), NoMemory>
-        ensures { OnOk result (self.new ≡ record self.old { todo = part.now ++ self.old.todo }) }
+        ensures state { OnOk result (self.new ≡ record self.old { todo = part.now ++ self.old.todo }) }
     {
         put_first(&mut self.parts, part)
     }
 
     /// Takes the next statement.
     pub fn take(&mut self) -> Result<Option<&'a TypedStmt>, NoMemory>
-        ensures { IfOk result (λ found. MatchOption found (self.old.todo ≡ []) (λ s. self.old ≡ record self.new { todo = s.now ∷ self.new.todo })) }
+        ensures taken { IfOk result (λ found. MatchOption found (self.old.todo ≡ []) (λ s. self.old ≡ record self.new { todo = s.now ∷ self.new.todo })) }
     {
         take_first(&mut self.parts)
     }
@@ -89,7 +89,7 @@ pub fn enter<'a>(
     function: u32,
     args: Vec<Word>,
 ) -> Result<Option<Activation<'a>>, NoMemory>
-    ensures { IfOk result (λ called. entered program.now function args.items ≡ option_to_list called) }
+    ensures value { IfOk result (λ called. entered program.now function args.items ≡ option_to_list called) }
 {
     match program.functions.items().get(function as usize) {
         Some(found) => {

@@ -7,14 +7,14 @@
 #![tactic(auto)]
 
 pub mod access;
-pub mod activation;
+mod activation;
 pub mod eval;
 pub mod init;
 pub mod laws;
-pub mod machine;
+mod machine;
 #[cfg(test)]
 mod programs;
 pub mod run;
 #[cfg(test)]
 mod tests;
-pub mod todo;
+mod todo;

@@ -187,7 +187,7 @@ fn call<'a>(
 }
 
 pub fn is_return_statement(s: &TypedStmt) -> bool
-    ensures { result ≡ is_return (out-TypedStmt s.now) }
+    ensures value { result ≡ is_return (out-TypedStmt s.now) }
 {
     matches!(s, TypedStmt::Return(_))
 }

@@ -13,7 +13,7 @@ pub fn put_first<'a>(
     parts: &mut Vec<&'a [TypedStmt]>,
     part: &'a [TypedStmt],
 ) -> Result<(), NoMemory>
-    ensures ok { OnOk result (joined parts.new.items ≡ part.now ++ joined parts.old.items) }
+    ensures state { OnOk result (joined parts.new.items ≡ part.now ++ joined parts.old.items) }
 {
     if part.is_empty() {
         return Ok(());
@@ -25,7 +25,7 @@ pub fn put_first<'a>(
 /// Takes the first statement.
 #[tactic(auto, using(crate::proofs::TodoLemmas::joined_steps))]
 pub fn take_first<'a>(parts: &mut Vec<&'a [TypedStmt]>) -> Result<Option<&'a TypedStmt>, NoMemory>
-    ensures { IfOk result (λ found. MatchOption found (joined parts.old.items ≡ []) (λ s. joined parts.old.items ≡ s.now ∷ joined parts.new.items)) }
+    ensures taken { IfOk result (λ found. MatchOption found (joined parts.old.items ≡ []) (λ s. joined parts.old.items ≡ s.now ∷ joined parts.new.items)) }
 {
     while let Some(part) = parts.pop() {
         match part.split_first() {
