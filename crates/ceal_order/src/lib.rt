@@ -1,0 +1,14 @@
+//! Order maintenance: a list of stamps, any two of which are compared in one step.
+//!
+//! A new stamp is put directly after one that is there. Contracts see the stamps as a list of distinct numbers,
+//! the first stamp first, and beside it how many may be inserted without taking memory. The order of two stamps is
+//! the order of their places in that list.
+//!
+//! `stamp` is what callers hold, `order` the list and its calls. Inside, `link` is one link of a doubly linked list
+//! whose labels rise along it, and `labels` finds a label for a new link and gives labels anew where none is free.
+#![tactic(auto)]
+
+mod labels;
+mod link;
+pub mod order;
+pub mod stamp;

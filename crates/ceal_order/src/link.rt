@@ -1,0 +1,104 @@
+// The links that stamps stand for: a doubly linked list in a slice, and its spare links in a list of their own.
+
+ghost use Rattle.std.specs.Prelude.{◌≡◌, ◌≢◌, ◌⊎◌, ◌<◌, length};
+ghost use Rattle.ceal_order.specs.Links.{next_of, prev_of, label_of, no_link, Spliced, Unlinked};
+
+/// The index that stands for no link.
+pub const NO_LINK: u32 = u32::MAX;
+
+/// One link: its label, which rises along the list, and its neighbours.
+#[derive(Clone, Copy)]
+pub struct Link {
+    pub label: u64,
+    pub prev: u32,
+    pub next: u32,
+}
+
+pub fn label_at(links: &[Link], at: u32) -> u64
+    requires { at < length links.now }
+    ensures { result ≡ label_of links.now at }
+{
+    links[at as usize].label
+}
+
+pub fn next_at(links: &[Link], at: u32) -> u32
+    requires { at < length links.now }
+    ensures { result ≡ next_of links.now at }
+{
+    links[at as usize].next
+}
+
+pub fn prev_at(links: &[Link], at: u32) -> u32
+    requires { at < length links.now }
+    ensures { result ≡ prev_of links.now at }
+{
+    links[at as usize].prev
+}
+
+// Puts a new link behind another.
+fn splice_slice(links: &mut [Link], at: u32, new: u32, label: u64)
+    requires at { at < length links.old }
+    requires new { new < length links.old }
+    requires apart { at ≢ new }
+    requires next { next_of links.old at ≡ no_link ⊎ next_of links.old at < length links.old }
+    requires next_apart { next_of links.old at ≢ new }
+    ensures { Spliced links.old links.new at new label }
+{
+    let next = next_at(links, at);
+    if next != NO_LINK {
+        let behind = &mut links[next as usize];
+        behind.prev = new;
+    }
+    let before = &mut links[at as usize];
+    before.next = new;
+    links[new as usize] = Link {
+        label,
+        prev: at,
+        next,
+    };
+}
+
+// Takes a link out that stands behind another, and puts it before a spare one.
+fn unlink_slice(links: &mut [Link], at: u32, free: u32)
+    requires at { at < length links.old }
+    requires prev { prev_of links.old at < length links.old }
+    requires apart { prev_of links.old at ≢ at }
+    requires next { next_of links.old at ≡ no_link ⊎ next_of links.old at < length links.old }
+    requires next_apart { next_of links.old at ≢ at }
+    ensures { Unlinked links.old links.new at free }
+{
+    let next = next_at(links, at);
+    let prev = prev_at(links, at);
+    if next != NO_LINK {
+        let behind = &mut links[next as usize];
+        behind.prev = prev;
+    }
+    let before = &mut links[prev as usize];
+    before.next = next;
+    let gone = &mut links[at as usize];
+    gone.next = free;
+}
+
+/// Puts a new link with this label behind another.
+pub fn splice(links: &mut Vec<Link>, at: u32, new: u32, label: u64)
+    requires at { at < length links.old.items }
+    requires new { new < length links.old.items }
+    requires apart { at ≢ new }
+    requires next { next_of links.old.items at ≡ no_link ⊎ next_of links.old.items at < length links.old.items }
+    requires next_apart { next_of links.old.items at ≢ new }
+    ensures { Spliced links.old.items links.new.items at new label }
+{
+    splice_slice(links, at, new, label);
+}
+
+/// Takes a link out that stands behind another, and puts it before a spare one.
+pub fn unlink(links: &mut Vec<Link>, at: u32, free: u32)
+    requires at { at < length links.old.items }
+    requires prev { prev_of links.old.items at < length links.old.items }
+    requires apart { prev_of links.old.items at ≢ at }
+    requires next { next_of links.old.items at ≡ no_link ⊎ next_of links.old.items at < length links.old.items }
+    requires next_apart { next_of links.old.items at ≢ at }
+    ensures { Unlinked links.old.items links.new.items at free }
+{
+    unlink_slice(links, at, free);
+}
