@@ -1,0 +1,5 @@
+pub mod Places
+pub mod Chains
+pub mod Inserting
+pub mod Removing
+pub mod Growing
