@@ -88,8 +88,7 @@ successor_place s y (x ∷ z ∷ zs) distinct h = elim (eqb_tells x s) [
       let at : place z (x ∷ z ∷ zs) ≡ 1 = elim (eqb_tells x z) [ inl q ↦ absurd (distinct.0.0 q.1) | inr q ↦ rw (q.0, eq-eqb z z refl) refl ] in
       subst (λ (k : ℕ). (is_in k (x ∷ z ∷ zs) ≡ true) × (place k (x ∷ z ∷ zs) ≡ place s (x ∷ z ∷ zs) + 1)) is (here, rw (p.0, at) refl)
   | inr p ↦
-      let rest = successor_place s y (z ∷ zs) distinct.1 (rw p.0 at h) in
-      (
+      let rest = successor_place s y (z ∷ zs) distinct.1 (rw p.0 at h) in (
         in_tail y x (z ∷ zs) rest.0,
         elim (eqb_tells x y) [
           | inl q ↦ absurd (apart y x (z ∷ zs) distinct.0 rest.0 (sym q.1))
@@ -285,7 +284,7 @@ module _ (s : ℕ) where
       let none = not_in s (without s xs) (gone xs distinct) in
       let whole : (a : ℕ) → is_in a (without s xs) ≡ true → is_in a xs ≡ true = λ a h. left_in a xs h in
       let other : (a : ℕ) → is_in a (without s xs) ≡ true → place a xs ≢ place s xs =
-          λ a h same. apart_of a s (without s xs) none h (place_tells a s xs (left_in a xs h) found same) in
+      λ a h same. apart_of a s (without s xs) none h (place_tells a s xs (left_in a xs h) found same) in
       record {
         absent = none;
         there = found;

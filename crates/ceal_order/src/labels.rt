@@ -1,10 +1,15 @@
 // Labels for new links.
 
-ghost use Rattle.std.specs.Prelude.{◌<◌, length, IsTrue};
-ghost use Rattle.ceal_order.specs.Stamps.{is_in};
+ghost use Rattle.std.specs.Prelude.{◌≡◌, ◌+◌, ◌*◌, ◌^◌, ◌<◌, ◌≤◌, length, IfSome, IsTrue};
+ghost use Rattle.ceal_order.specs.Stamps.{is_in, place};
 ghost use Rattle.ceal_order.specs.Links.{stamps_of, prev_of, label_of, IsLine, Rising, SameLinks, Between};
+ghost use Rattle.ceal_order.specs.Runs.{Labelled, Spread};
 
-use crate::link::Link;
+use crate::link::{Link, NO_LINK, label_at, next_at};
+use crate::run::sparse_run;
+
+/// How many labels there are.
+const LABELS: u64 = 1 << 62;
 
 /// A label that is free directly after a link; where there is none, labels are given anew round it first.
 pub fn fresh_label(links: &mut Vec<Link>, at: u32) -> u64
@@ -14,5 +19,85 @@ pub fn fresh_label(links: &mut Vec<Link>, at: u32) -> u64
     ensures rising { Rising (prev_of links.new.items) (label_of links.new.items) (stamps_of links.old.items) }
     ensures between { Between links.new.items at result }
 {
-    links[at as usize].label + 1
+    fresh_label_in(links, at)
+}
+
+// The same in a slice.
+fn fresh_label_in(links: &mut [Link], at: u32) -> u64
+    requires line { IsLine links.old (stamps_of links.old) }
+    requires here { IsTrue (is_in at (stamps_of links.old)) }
+    ensures same { SameLinks links.old links.new }
+    ensures rising { Rising (prev_of links.new) (label_of links.new) (stamps_of links.old) }
+    ensures between { Between links.new at result }
+{
+    match free_label(links, at) {
+        Some(label) => label,
+        None => relabel(links, at),
+    }
+}
+
+// A label that is free directly after a link: between two links the middle one, and behind the last link as far on
+// as the rest allows to each of the links.
+fn free_label(links: &[Link], at: u32) -> Option<u64>
+    requires line { IsLine links.now (stamps_of links.now) }
+    requires here { IsTrue (is_in at (stamps_of links.now)) }
+    ensures { IfSome result (Between links.now at) }
+{
+    let low = label_at(links, at);
+    let next = next_at(links, at);
+    if next == NO_LINK {
+        let step = free_step(LABELS - low, links.len() as u64)?;
+        return Some(low + step);
+    }
+    let step = free_step(label_at(links, next) - low, 2)?;
+    Some(low + step)
+}
+
+// A step into a room, which is shared so often; None where nothing lies inside.
+fn free_step(room: u64, shares: u64) -> Option<u64>
+    requires { 0 < shares }
+    ensures { IfSome result (λ step. (0 < step) × (step < room)) }
+{
+    if room < 2 {
+        return None;
+    }
+    Some((room / shares).min(room - 1).max(1))
+}
+
+// Gives labels anew round a link, and a label that is then free directly after it.
+fn relabel(links: &mut [Link], at: u32) -> u64
+    requires line { IsLine links.old (stamps_of links.old) }
+    requires here { IsTrue (is_in at (stamps_of links.old)) }
+    ensures same { SameLinks links.old links.new }
+    ensures rising { Rising (prev_of links.new) (label_of links.new) (stamps_of links.old) }
+    ensures between { Between links.new at result }
+{
+    let run = sparse_run(links, at);
+    let gap = (1 << run.bits) / u64::from(run.count);
+    spread(links, run.first, run.count, run.low, gap);
+    label_at(links, at) + gap / 2
+}
+
+// Gives links one after another labels from low on, this far apart.
+fn spread(links: &mut [Link], first: u32, count: u32, low: u64, gap: u64)
+    requires line { IsLine links.old (stamps_of links.old) }
+    requires first { IsTrue (is_in first (stamps_of links.old)) }
+    requires there { place first (stamps_of links.old) + count ≤ length (stamps_of links.old) }
+    requires room { low + count * gap ≤ 2 ^ 62 }
+    ensures { Spread links.old links.new first count low gap }
+{
+    let mut at = first;
+    for place in 0..count {
+        set_label(links, at, low + u64::from(place) * gap);
+        at = next_at(links, at);
+    }
+}
+
+// Gives a link this label.
+fn set_label(links: &mut [Link], at: u32, label: u64)
+    requires { at < length links.old }
+    ensures { Labelled links.old links.new at label }
+{
+    let link = &mut links[at as usize];
+    link.label = label;
 }

@@ -11,4 +11,5 @@
 mod labels;
 mod link;
 pub mod order;
+mod run;
 pub mod stamp;

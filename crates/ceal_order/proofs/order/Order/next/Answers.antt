@@ -15,7 +15,7 @@ returns-then-next c =
     let here = rw (← c.self.view_is) at c.requires in
     let next = rw c.deref.ensures.value at c.next_at-next.ensures in
     let none : successor c.args.stamp.0 (stamps_of c.self.inside.links.items) ≡ None =
-        successor_at_end _ _ _ _ _ c.self.invariant.few (AllBelow-front _ _ _ c.self.invariant.within) c.self.invariant.live here (sym next ∙ c.if-next.true) in
+    successor_at_end _ _ _ _ _ c.self.invariant.few (AllBelow-front _ _ _ c.self.invariant.within) c.self.invariant.live here (sym next ∙ c.if-next.true) in
     rw (← c.self.view_is) (record { next = tt; next_in = tt; after = tt; last = none; at_end = last_place _ _ here none })
 
 pub returns-else-next : goal.returns-else-next
@@ -24,6 +24,6 @@ returns-else-next c =
     let next = rw c.deref.ensures.value at c.next_at-next.ensures in
     let inside : next_of c.self.inside.links.items c.args.stamp.0 ≢ no_link = λ e. c.if-next.false (next ∙ e) in
     let some : successor c.args.stamp.0 (stamps_of c.self.inside.links.items) ≡ Some c.next_at-next.result =
-        rw next (successor_inside _ _ _ _ _ c.self.invariant.few (AllBelow-front _ _ _ c.self.invariant.within) c.self.invariant.live here inside) in
+    rw next (successor_inside _ _ _ _ _ c.self.invariant.few (AllBelow-front _ _ _ c.self.invariant.within) c.self.invariant.live here inside) in
     let there = successor_place _ _ _ (Distinct-front _ _ c.self.invariant.distinct) some in
     rw (← c.self.view_is) (record { next = some; next_in = there.0; after = there.1; last = tt; at_end = tt })
