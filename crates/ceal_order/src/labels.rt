@@ -73,9 +73,21 @@ fn relabel(links: &mut [Link], at: u32) -> u64
     ensures between { Between links.new at result }
 {
     let run = sparse_run(links, at);
-    let gap = (1 << run.bits) / u64::from(run.count);
+    let gap = gap_in(run.count, run.bits);
     spread(links, run.first, run.count, run.low, gap);
     label_at(links, at) + gap / 2
+}
+
+// How far apart so many labels may lie in a range of 2^bits.
+fn gap_in(count: u32, bits: u32) -> u64
+    requires some { 0 < count }
+    requires fewest { 3 ≤ bits }
+    requires most { bits ≤ 62 }
+    requires sparse { count * 2 ^ bits ≤ 3 ^ bits }
+    ensures wide { 2 ≤ result }
+    ensures fits { count * result ≤ 2 ^ bits }
+{
+    (1 << bits) / u64::from(count)
 }
 
 // Gives links one after another labels from low on, this far apart.
