@@ -4,9 +4,9 @@ use Rattle.std.specs.Bool.{◌==◌, if◌then◌else◌}
 use Rattle.std.proofs.lemmas.Bool.Decides.{eqb_tells}
 use Rattle.std.proofs.lemmas.Bool.{eq-eqb}
 use Rattle.ceal_order.specs.declared.link.Link.{Link}
-use Rattle.ceal_order.specs.Stamps.{NotIn, Distinct, AllBelow, is_in, place, successor, head_of}
+use Rattle.ceal_order.specs.Stamps.{Listing, IsOrder, NotIn, Distinct, AllBelow, is_in, place, successor, head_of}
 use Rattle.ceal_order.specs.Links.{no_link, chain, Chained, Ahead, Rising, Sound, IsLine, SameLinks, next_of, prev_of, label_of, stamps_of, spares_of}
-use Rattle.ceal_order.proofs.Places.{in_head, in_tail, below_of}
+use Rattle.ceal_order.proofs.Places.{in_head, in_tail, place_head, AllBelow-more}
 
 pub is_link : (n k : ℕ) → n < 2 ^ 32 → k < n → k ≢ no_link
 is_link n k few low same = absurd (omega arith)
@@ -64,6 +64,20 @@ module _ (links : List Link) (free spare : ℕ) (S F : List ℕ) (sound : Sound 
     few = sound.few;
     all = omega (arith, sound.all);
   }
+
+  -- what callers may know
+  pub order_is : IsOrder (record { stamps = S; spare = spare })
+  order_is =
+      let most : length links ≤ 2 ^ 32 = omega (arith, sound.few) in
+      record {
+        distinct = Distinct-front S F sound.distinct;
+        below = AllBelow-more (length links) (2 ^ 32) S most (AllBelow-front (length links) S F sound.within);
+        few = let whole = sound.all in let room = sound.room in let few = sound.few in omega (arith, whole, room, few);
+      }
+
+pub first_there : (next : ℕ → ℕ) (xs : List ℕ) → Chained next 0 xs → (is_in 0 xs ≡ true) × (place 0 xs ≡ 0)
+first_there next [] h = absurd (omega (arith, h))
+first_there next (x ∷ xs) h = subst (λ (k : ℕ). (is_in k (x ∷ xs) ≡ true) × (place k (x ∷ xs) ≡ 0)) (sym h.0) (in_head x xs, place_head x xs)
 
 -- ---- the same links
 

@@ -2,7 +2,7 @@
 use Rattle.std.proofs.Common.{◌≡◌, ◌≢◌, ℕ, zero, suc, inl, inr, ◌⊎◌, ◌+◌, ◌-◌, ◌<◌, ◌≤◌, ◌^◌, List, [], ◌∷◌, ◌++◌, length, get_or, refl, sym, ap, subst, ◌∙◌, arith, length-append}
 use Rattle.std.proofs.lemmas.Grind.{common_steps}
 use Rattle.ceal_order.specs.Stamps.{NotIn, Distinct, AllBelow}
-use Rattle.ceal_order.specs.Links.{no_link, blank, Chained, Ahead, Rising, Sound, next_of, prev_of, label_of, stamps_of, spares_of}
+use Rattle.ceal_order.specs.Links.{no_link, blank, Chained, Ahead, Rising, Sound, Grown, next_of, prev_of, label_of, stamps_of, spares_of}
 use Rattle.ceal_order.specs.declared.link.Link.{Link}
 use Rattle.ceal_order.proofs.Places.{AllBelow-more}
 use Rattle.ceal_order.proofs.Chains.{AllBelow-front, AllBelow-back, stamps_are, seen}
@@ -53,3 +53,23 @@ spare_view old new free spare S F sound to_free room =
       room = let one = sound.room in omega (arith, one);
     } in
     (stamps_are all n (spare + 1) S (n ∷ F) whole, seen all n (spare + 1) S (n ∷ F) whole)
+
+pub grown_none : (old : List Link) (free : ℕ) → Grown old old free free 0
+grown_none old free = record {
+  long = omega arith;
+  stamps = λ spare sound. refl;
+  sound = λ spare sound. let same : spare ≡ spare + 0 = omega arith in subst (λ (k : ℕ). Sound old free k (stamps_of old) (spares_of old free)) same sound;
+}
+
+pub grown_one : (old mid : List Link) (new : Link) (free first k : ℕ) → Grown old mid free first k → new.next ≡ first → length mid + 1 < 2 ^ 32
+    → Grown old (mid ++ new ∷ []) free (length mid) (k + 1)
+grown_one old mid new free first k grown to_first room =
+    let all = mid ++ new ∷ [] in
+    record {
+      long = let was = grown.long in omega (arith, length-append mid (new ∷ []), was);
+      stamps = λ spare sound. (spare_view mid new first (spare + k) (stamps_of mid) (spares_of mid first) (grown.sound spare sound) to_first room).0 ∙ grown.stamps spare sound;
+      sound = λ spare sound.
+          let done = (spare_view mid new first (spare + k) (stamps_of mid) (spares_of mid first) (grown.sound spare sound) to_first room).1 in
+          let same : spare + k + 1 ≡ spare + (k + 1) = omega arith in
+          subst (λ (n : ℕ). Sound all (length mid) n (stamps_of all) (spares_of all (length mid))) same done;
+    }

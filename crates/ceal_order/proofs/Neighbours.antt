@@ -7,17 +7,8 @@ use Rattle.ceal_order.specs.declared.link.Link.{Link}
 use Rattle.ceal_order.specs.Stamps.{NotIn, Distinct, AllBelow, is_in, place, successor}
 use Rattle.ceal_order.specs.Links.{no_link, Chained, Rising, IsLine, next_of, prev_of, label_of, stamps_of}
 use Rattle.ceal_order.specs.Runs.{LowBefore, HighAfter}
-use Rattle.ceal_order.proofs.Places.{apart, in_head, in_tail, below_of, place_below, place_tells, successor_place, last_place}
+use Rattle.ceal_order.proofs.Places.{in_head, below_of, place_head, place_tail, place_tells, successor_place, last_place}
 use Rattle.ceal_order.proofs.Chains.{prev_where, successor_inside, successor_at_end, label_place, label_low}
-
-pub place_tail : (a x : ℕ) (xs : List ℕ) → NotIn x xs → is_in a xs ≡ true → place a (x ∷ xs) ≡ 1 + place a xs
-place_tail a x xs none found = elim (eqb_tells x a) [
-  | inl p ↦ absurd (apart a x xs none found (sym p.1))
-  | inr p ↦ rw p.0 refl
-]
-
-pub place_head : (x : ℕ) (xs : List ℕ) → place x (x ∷ xs) ≡ 0
-place_head x xs = rw (eq-eqb x x refl) refl
 
 prev_place : (prev label : ℕ → ℕ) (s x : ℕ) (xs : List ℕ) → Rising prev label (x ∷ xs) → Distinct (x ∷ xs) → is_in s xs ≡ true → place (prev s) (x ∷ xs) + 1 ≡ place s (x ∷ xs)
 prev_place prev label s x [] rising distinct found = absurd (cc)
@@ -35,11 +26,6 @@ prev_place prev label s x (y ∷ ys) rising distinct found = elim (eqb_tells y s
       let at : place s (x ∷ y ∷ ys) ≡ 1 + place s (y ∷ ys) = place_tail s x (y ∷ ys) distinct.0 found in
       omega arith
 ]
-
--- the link 0 is the first
-pub none_before : (next : ℕ → ℕ) (xs : List ℕ) → Chained next 0 xs → place 0 xs ≡ 0
-none_before next [] h = absurd (omega (arith, h))
-none_before next (x ∷ xs) h = subst (λ (k : ℕ). place k (x ∷ xs) ≡ 0) (sym h.0) (place_head x xs)
 
 -- any other one has one before it
 pub one_before : (next prev label : ℕ → ℕ) (s : ℕ) (xs : List ℕ) → Chained next 0 xs → Rising prev label xs → Distinct xs → is_in s xs ≡ true → s ≢ 0

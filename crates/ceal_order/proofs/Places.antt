@@ -56,6 +56,15 @@ place_below s (x ∷ xs) found = elim (eqb_tells x s) [
   | inr p ↦ rw p.0 (let rest : place s xs < length xs = place_below s xs (rw p.0 at found) in omega arith)
 ]
 
+pub place_head : (x : ℕ) (xs : List ℕ) → place x (x ∷ xs) ≡ 0
+place_head x xs = rw (eq-eqb x x refl) refl
+
+pub place_tail : (a x : ℕ) (xs : List ℕ) → NotIn x xs → is_in a xs ≡ true → place a (x ∷ xs) ≡ 1 + place a xs
+place_tail a x xs none found = elim (eqb_tells x a) [
+  | inl p ↦ absurd (apart a x xs none found (sym p.1))
+  | inr p ↦ rw p.0 refl
+]
+
 -- two stamps at one place are one
 pub place_tells : (a b : ℕ) (xs : List ℕ) → is_in a xs ≡ true → is_in b xs ≡ true → place a xs ≡ place b xs → a ≡ b
 place_tells a b [] found also same = absurd (cc)

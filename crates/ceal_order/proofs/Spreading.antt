@@ -7,8 +7,8 @@ use Rattle.ceal_order.specs.declared.link.Link.{Link}
 use Rattle.ceal_order.specs.Stamps.{NotIn, Distinct, is_in, place}
 use Rattle.ceal_order.specs.Links.{no_link, Rising, IsLine, SameLinks, Between, next_of, prev_of, label_of, stamps_of}
 use Rattle.ceal_order.specs.Runs.{LowBefore, HighAfter, IsRun, Labelled, Spread}
-use Rattle.ceal_order.proofs.Places.{apart, in_head, in_tail, place_tells}
-use Rattle.ceal_order.proofs.Neighbours.{place_tail, place_head, label_in, rises, after_is}
+use Rattle.ceal_order.proofs.Places.{in_head, in_tail, place_head, place_tail, place_tells}
+use Rattle.ceal_order.proofs.Neighbours.{label_in, rises, after_is}
 
 -- labels that rise from each place to the next
 rising_by_places : (prev label prev' label' : ℕ → ℕ) (xs : List ℕ) → Distinct xs → Rising prev label xs → ((k : ℕ) → prev' k ≡ prev k)
@@ -23,12 +23,11 @@ rising_by_places prev label prev' label' (x ∷ y ∷ ys) distinct rising same l
     let at_y : place y (x ∷ y ∷ ys) ≡ 1 = at y (in_head y ys) ∙ ap (λ (k : ℕ). 1 + k) (place_head y ys) in
     let one : place y (x ∷ y ∷ ys) ≡ place x (x ∷ y ∷ ys) + 1 = omega arith in
     let rest : Rising prev' label' (y ∷ ys) = rising_by_places prev label prev' label' (y ∷ ys) distinct.1 rising.2 same
-        (λ s h. low s (tail_in s h))
-        (λ a b a_in b_in next_to.
-            let pa = at a a_in in let pb = at b b_in in
-            let both : place b (x ∷ y ∷ ys) ≡ place a (x ∷ y ∷ ys) + 1 = omega (arith, pa, pb, next_to) in
-            step a b (tail_in a a_in) (tail_in b b_in) both) in
-    (
+    (λ s h. low s (tail_in s h))
+    (λ a b a_in b_in next_to.
+    let pa = at a a_in in let pb = at b b_in in
+    let both : place b (x ∷ y ∷ ys) ≡ place a (x ∷ y ∷ ys) + 1 = omega (arith, pa, pb, next_to) in
+    step a b (tail_in a a_in) (tail_in b b_in) both) in (
       low x (in_head x (y ∷ ys)),
       (same y ∙ rising.1.0, step x y (in_head x (y ∷ ys)) (tail_in y (in_head y ys)) one),
       rest,

@@ -100,3 +100,10 @@ pub record Unlinked (old new : List Link) (at free : ℕ) : Type 0 where
   pub prev_next : next_of old at ≢ no_link → prev_of new (next_of old at) ≡ prev_of old at
   pub prev_other : (k : ℕ) → k ≢ next_of old at → prev_of new k ≡ prev_of old k
   pub label_other : (k : ℕ) → label_of new k ≡ label_of old k
+
+-- so many spare links were added, and the first of them leads to those from free on
+pub record Grown (old new : List Link) (free first more : ℕ) : Type 0 where
+  pub long : length new ≡ length old + more
+  pub stamps : (spare : ℕ) → Sound old free spare (stamps_of old) (spares_of old free) → stamps_of new ≡ stamps_of old
+  pub sound : (spare : ℕ) → Sound old free spare (stamps_of old) (spares_of old free)
+      → Sound new first (spare + more) (stamps_of new) (spares_of new first)

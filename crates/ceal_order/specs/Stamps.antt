@@ -1,5 +1,5 @@
 -- A list of distinct stamps, and what is asked of it.
-use Rattle.std.specs.Prelude.{◌≡◌, ◌≢◌, ◌↔◌, ◌<◌, ℕ, ◌+◌, List, [], ◌∷◌, Option, None, Some, Bool, true, false, ◌==◌, if◌then◌else◌}
+use Rattle.std.specs.Prelude.{◌≡◌, ◌≢◌, ◌↔◌, ◌<◌, ℕ, ◌+◌, ◌^◌, List, [], ◌∷◌, length, Option, None, Some, Bool, true, false, ◌==◌, if◌then◌else◌}
 
 -- what a caller sees of an order: its stamps, the first one first, and how many may be inserted without taking memory
 pub record Listing : Type 0 where
@@ -25,6 +25,12 @@ AllBelow n (x ∷ xs) = (x < n) × AllBelow n xs
 abbrev pub is_in : ℕ → List ℕ → Bool
 is_in s [] = false
 is_in s (x ∷ xs) = if x == s then true else is_in s xs
+
+-- what is true of every order: stamps are distinct numbers of 32 bits, and those that may be inserted have one too
+pub record IsOrder (order : Listing) : Type 0 where
+  pub distinct : Distinct order.stamps
+  pub below : AllBelow (2 ^ 32) order.stamps
+  pub few : length order.stamps + order.spare < 2 ^ 32
 
 -- how many stand before a stamp; one stamp is before another where its place is the lower one
 abbrev pub place : ℕ → List ℕ → ℕ

@@ -5,7 +5,7 @@ ghost use Rattle.ceal_order.specs.Stamps.{is_in, place};
 ghost use Rattle.ceal_order.specs.Links.{stamps_of, prev_of, label_of, IsLine, Rising, SameLinks, Between};
 ghost use Rattle.ceal_order.specs.Runs.{Labelled, Spread};
 
-use crate::link::{Link, NO_LINK, label_at, next_at};
+use crate::link::{FIRST, Link, NO_LINK, label_at, next_at};
 use crate::run::sparse_run;
 
 /// How many labels there are.
@@ -36,8 +36,8 @@ fn fresh_label_in(links: &mut [Link], at: u32) -> u64
     }
 }
 
-// A label that is free directly after a link: between two links the middle one, and behind the last link as far on
-// as the rest allows to each of the links.
+// A label that is free directly after a link, where there is one: between two links the middle one. Behind the last
+// link, and between the first and the second, the room is shared among all links, so that many can follow there.
 fn free_label(links: &[Link], at: u32) -> Option<u64>
     requires line { IsLine links.now (stamps_of links.now) }
     requires here { IsTrue (is_in at (stamps_of links.now)) }
@@ -45,15 +45,22 @@ fn free_label(links: &[Link], at: u32) -> Option<u64>
 {
     let low = label_at(links, at);
     let next = next_at(links, at);
+    let links_there = links.len() as u64;
     if next == NO_LINK {
-        let step = free_step(LABELS - low, links.len() as u64)?;
+        let step = free_step(LABELS - low, links_there)?;
         return Some(low + step);
     }
-    let step = free_step(label_at(links, next) - low, 2)?;
+    let high = label_at(links, next);
+    let room = high - low;
+    if at == FIRST {
+        let step = free_step(room, links_there)?;
+        return Some(high - step);
+    }
+    let step = free_step(room, 2)?;
     Some(low + step)
 }
 
-// A step into a room, which is shared so often; None where nothing lies inside.
+// A step into a room: a share of it, but at least 1 and less than the room. None where there is no such step.
 fn free_step(room: u64, shares: u64) -> Option<u64>
     requires { 0 < shares }
     ensures { IfSome result (λ step. (0 < step) × (step < room)) }

@@ -1,10 +1,15 @@
 // The links that stamps stand for: a doubly linked list in a slice, and its spare links in a list of their own.
 
-ghost use Rattle.std.specs.Prelude.{◌≡◌, ◌≢◌, ◌⊎◌, ◌<◌, length};
-ghost use Rattle.ceal_order.specs.Links.{next_of, prev_of, label_of, no_link, Spliced, Unlinked};
+ghost use Rattle.std.specs.Prelude.{◌≡◌, ◌≢◌, ◌⊎◌, ◌+◌, ◌^◌, ◌<◌, length, IfOk, OnErr};
+ghost use Rattle.ceal_order.specs.Links.{next_of, prev_of, label_of, no_link, Spliced, Unlinked, Grown};
+
+use ceal_base::no_memory::NoMemory;
 
 /// The index that stands for no link.
 pub const NO_LINK: u32 = u32::MAX;
+
+/// The link of the first stamp.
+pub const FIRST: u32 = 0;
 
 /// One link: its label, which rises along the list, and its neighbours.
 #[derive(Clone, Copy)]
@@ -101,4 +106,25 @@ pub fn unlink(links: &mut Vec<Link>, at: u32, free: u32)
     ensures { Unlinked links.old.items links.new.items at free }
 {
     unlink_slice(links, at, free);
+}
+
+/// Adds so many spare links, and gives the first of them, which leads to those that were there from `free` on. Where
+/// there is no memory for all of them, none is added.
+pub fn add_spares(links: &mut Vec<Link>, free: u32, more: usize) -> Result<u32, NoMemory>
+    requires { length links.old.items + more < 2 ^ 32 }
+    ensures ok { IfOk result (λ first. Grown links.old.items links.new.items free first more) }
+    ensures err { OnErr result (links.new.items ≡ links.old.items) }
+{
+    links.reserve(more)?;
+    let mut first = free;
+    for added in 0..more {
+        let at = links.len();
+        links.push(Link {
+            label: 0,
+            prev: NO_LINK,
+            next: first,
+        })?;
+        first = at as u32;
+    }
+    Ok(first)
 }

@@ -1,10 +1,10 @@
 // Stamps in an order.
 
-ghost use Rattle.std.specs.Prelude.{◌≡◌, ◌≢◌, ◌+◌, ◌^◌, ◌<◌, ◌≤◌, ◌↔◌, [], ◌∷◌, length, false, Some, None, IfSome, IfNone, IfOk, OnOk, OnErr, IsTrue};
-ghost use Rattle.ceal_order.specs.Stamps.{is_in, head_of, Distinct, AllBelow, place, successor, with_after, without, OneMore};
+ghost use Rattle.std.specs.Prelude.{◌≡◌, ◌≢◌, ◌+◌, ◌<◌, ◌≤◌, ◌↔◌, [], ◌∷◌, length, false, Some, None, IfSome, IfNone, IfOk, OnOk, OnErr, IsTrue};
+ghost use Rattle.ceal_order.specs.Stamps.{is_in, head_of, IsOrder, place, successor, with_after, without, OneMore};
 
 use crate::labels::fresh_label;
-use crate::link::{Link, NO_LINK, label_at, next_at, splice, unlink};
+use crate::link::{FIRST, Link, NO_LINK, add_spares, label_at, next_at, splice, unlink};
 use crate::stamp::Stamp;
 use ceal_base::no_memory::NoMemory;
 use std::alloc::Global;
@@ -35,6 +35,7 @@ impl Order {
     pub fn new(alloc: Global) -> Result<Order, NoMemory>
         ensures stamps { IfOk result (λ order. order.stamps ≡ 0 ∷ []) }
         ensures spare { IfOk result (λ order. order.spare ≡ 0) }
+        ensures whole { IfOk result IsOrder }
     {
         let mut links = Vec::new(alloc);
         links.push(Link {
@@ -49,15 +50,15 @@ impl Order {
         })
     }
 
-    /// The first stamp. Its contract also tells what is true of the stamps of every order.
+    /// The first stamp. Its contract also tells what is true of every order.
     pub fn first(&self) -> Stamp
         ensures first { head_of self.now.stamps ≡ Some result.0 }
-        ensures distinct { Distinct self.now.stamps }
-        ensures below { AllBelow (2 ^ 32) self.now.stamps }
-        ensures few { length self.now.stamps + self.now.spare < 2 ^ 32 }
+        ensures first_in { IsTrue (is_in result.0 self.now.stamps) }
+        ensures at_start { place result.0 self.now.stamps ≡ 0 }
+        ensures whole { IsOrder self.now }
     {
         let _links = &self.links;
-        Stamp(0)
+        Stamp(FIRST)
     }
 
     /// Makes room for `n` insertions without taking memory. `NoMemory` also comes where there would be 2^32 - 1
@@ -66,10 +67,15 @@ impl Order {
         ensures stamps { self.new.stamps ≡ self.old.stamps }
         ensures room { OnOk result (n ≤ self.new.spare) }
         ensures kept { self.old.spare ≤ self.new.spare }
+        ensures err { OnErr result (self.new ≡ self.old) }
+        ensures whole { IsOrder self.new }
     {
-        while self.spare < n {
-            self.add_spare()?;
+        let more = n.saturating_sub(self.spare);
+        if more as usize > NO_LINK as usize - self.links.len() {
+            return Err(NoMemory);
         }
+        self.free = add_spares(&mut self.links, self.free, more as usize)?;
+        self.spare += more;
         Ok(())
     }
 
@@ -82,6 +88,7 @@ impl Order {
         ensures spare { self.new.spare + 1 ≡ self.old.spare }
         ensures others { OneMore result.0 self.old.stamps self.new.stamps }
         ensures after { place result.0 self.new.stamps ≡ place stamp.0 self.new.stamps + 1 }
+        ensures whole { IsOrder self.new }
     {
         let at = stamp.0;
         let label = fresh_label(&mut self.links, at);
@@ -99,6 +106,7 @@ impl Order {
         ensures stamps { self.new.stamps ≡ without stamp.0 self.old.stamps }
         ensures spare { self.new.spare ≡ self.old.spare + 1 }
         ensures others { OneMore stamp.0 self.new.stamps self.old.stamps }
+        ensures whole { IsOrder self.new }
     {
         let free = self.free;
         unlink(&mut self.links, stamp.0, free);
@@ -110,7 +118,8 @@ impl Order {
     pub fn before(&self, a: Stamp, b: Stamp) -> bool
         requires a_in { IsTrue (is_in a.0 self.now.stamps) }
         requires b_in { IsTrue (is_in b.0 self.now.stamps) }
-        ensures { IsTrue result ↔ (place a.0 self.now.stamps < place b.0 self.now.stamps) }
+        ensures one_place { place a.0 self.now.stamps ≡ place b.0 self.now.stamps → a.0 ≡ b.0 }
+        ensures before { IsTrue result ↔ (place a.0 self.now.stamps < place b.0 self.now.stamps) }
     {
         label_at(&self.links, a.0) < label_at(&self.links, b.0)
     }
@@ -130,25 +139,5 @@ impl Order {
         } else {
             Some(Stamp(next))
         }
-    }
-
-    // Makes room for one stamp more.
-    fn add_spare(&mut self) -> Result<(), NoMemory>
-        ensures stamps { self.new.stamps ≡ self.old.stamps }
-        ensures ok { OnOk result (self.new.spare ≡ self.old.spare + 1) }
-        ensures err { OnErr result (self.new ≡ self.old) }
-    {
-        let at = self.links.len();
-        if at >= NO_LINK as usize {
-            return Err(NoMemory);
-        }
-        self.links.push(Link {
-            label: 0,
-            prev: NO_LINK,
-            next: self.free,
-        })?;
-        self.free = at as u32;
-        self.spare += 1;
-        Ok(())
     }
 }

@@ -5,10 +5,7 @@ ghost use Rattle.ceal_order.specs.Stamps.{is_in, place};
 ghost use Rattle.ceal_order.specs.Links.{stamps_of, label_of, IsLine};
 ghost use Rattle.ceal_order.specs.Runs.{LowBefore, HighAfter, IsRun, Fills};
 
-use crate::link::{Link, NO_LINK, label_at, next_at, prev_at};
-
-/// The link of the first stamp.
-const FIRST: u32 = 0;
+use crate::link::{FIRST, Link, NO_LINK, label_at, next_at, prev_at};
 
 /// The smallest range that is looked at has 2^3 labels.
 const FEWEST_BITS: u32 = 3;

@@ -33,4 +33,4 @@ returns-clause-between c =
     let wide = c.gap_in-gap.ensures.wide in
     rw c.label_at.ensures
     (new_between _ _ _ _ _ _ _ _ _ c.requires.line c.spread.ensures run.is_run run.before run.after wide c.gap_in-gap.ensures.fits run.within
-        (gap / 2) (omega (arith, wide)) (omega (arith, wide)))
+    (gap / 2) (omega (arith, wide)) (omega (arith, wide)))

@@ -22,14 +22,14 @@ loop-place-preserved c =
     let S = stamps_of old in
     let here = c.loop-place.invariant.here c.loop-place-test.true in
     let done = spread_one old c.loop-place.links c.set_label.new.links c.args.first c.loop-place.place c.args.low c.args.gap c.loop-place.at
-        c.loop-place.invariant.done (rw c.from.ensures at c.set_label.ensures) here.0 here.1 in
+    c.loop-place.invariant.done (rw c.from.ensures at c.set_label.ensures) here.0 here.1 in
     let next : c.next_at-at.result ≡ next_of old c.loop-place.at = c.next_at-at.ensures ∙ done.same.next c.loop-place.at in
     record {
       done = done;
       here = λ more.
           let inside : next_of old c.loop-place.at ≢ no_link = λ e.
-              let end = after_none old S c.requires.line c.loop-place.at here.0 e in
-              absurd (omega (arith, end, here.1, more, c.requires.there)) in
+          let end = after_none old S c.requires.line c.loop-place.at here.0 e in
+          absurd (omega (arith, end, here.1, more, c.requires.there)) in
           let after = after_is old S c.requires.line c.loop-place.at here.0 inside in
           (rw next after.0, rw next (omega (arith, after.1, here.1)));
     }

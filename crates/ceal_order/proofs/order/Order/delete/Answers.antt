@@ -1,6 +1,6 @@
 use Rattle.std.proofs.Common.{arith}
 use Rattle.ceal_order.proofs.Places.{deleted}
-use Rattle.ceal_order.proofs.Chains.{Distinct-front}
+use Rattle.ceal_order.proofs.Chains.{Distinct-front, order_is}
 use Rattle.ceal_order.proofs.Removing.{removable, delete_view}
 use Rattle.ceal_order.proofs.order.Order.delete.Goals as goal
 
@@ -36,3 +36,9 @@ returns-clause-others c =
     let other = rw (← c.self.view_is) at c.requires.not_first in
     let left = (delete_view _ _ _ _ _ _ _ c.self.invariant here other c.unlink.ensures).0 in
     rw (← c.self.view_is, left) (deleted c.args.stamp.0 _ here (Distinct-front _ _ c.self.invariant.distinct))
+
+pub returns-clause-whole : goal.returns-clause-whole
+returns-clause-whole c =
+    let here = rw (← c.self.view_is) at c.requires.here in
+    let other = rw (← c.self.view_is) at c.requires.not_first in
+    order_is _ _ _ _ _ (delete_view _ _ _ _ _ _ _ c.self.invariant here other c.unlink.ensures).1

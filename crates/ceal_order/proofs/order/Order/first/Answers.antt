@@ -1,12 +1,11 @@
-use Rattle.std.proofs.Common.{arith, length, ◌<◌, ◌≤◌, ◌^◌}
-use Rattle.ceal_order.proofs.Places.{AllBelow-more}
-use Rattle.ceal_order.proofs.Chains.{Distinct-front, AllBelow-front}
+use Rattle.ceal_order.proofs.Chains.{order_is, first_there}
 use Rattle.ceal_order.proofs.order.Order.first.Goals as goal
 
-pub returns-clause-distinct : goal.returns-clause-distinct
-returns-clause-distinct c = rw (← c.self.view_is) (Distinct-front _ _ c.self.invariant.distinct)
+pub returns-clause-first_in : goal.returns-clause-first_in
+returns-clause-first_in c = rw (← c.self.view_is) (first_there _ _ c.self.invariant.live).0
 
-pub returns-clause-below : goal.returns-clause-below
-returns-clause-below c =
-    let few : length c.self.inside.links.items ≤ 2 ^ 32 = omega (arith, c.self.invariant.few) in
-    rw (← c.self.view_is) (AllBelow-more _ _ _ few (AllBelow-front _ _ _ c.self.invariant.within))
+pub returns-clause-at_start : goal.returns-clause-at_start
+returns-clause-at_start c = rw (← c.self.view_is) (first_there _ _ c.self.invariant.live).1
+
+pub returns-clause-whole : goal.returns-clause-whole
+returns-clause-whole c = rw (← c.self.view_is) (order_is _ _ _ _ _ c.self.invariant)

@@ -1,7 +1,7 @@
 use Rattle.std.proofs.Common.{arith, ◌≡◌, List, ℕ, subst, ap, sym, length, ◌<◌}
 use Rattle.ceal_order.specs.Links.{Sound, stamps_of, spares_of}
 use Rattle.ceal_order.proofs.Places.{inserted, place_new}
-use Rattle.ceal_order.proofs.Chains.{line}
+use Rattle.ceal_order.proofs.Chains.{line, order_is}
 use Rattle.ceal_order.proofs.Inserting.{relabelled, Ready, ready, insert_view}
 use Rattle.ceal_order.proofs.order.Order.insert_after.Goals as goal
 
@@ -61,3 +61,10 @@ returns-clause-after c =
     let now = (insert_view _ _ _ _ _ _ _ _ mid some here c.splice.ensures c.fresh_label-label.ensures.between).0 in
     let fresh = (ready _ _ _ _ _ _ c.self.invariant some here).fresh in
     rw now (place_new c.args.stamp.0 c.self.inside.free (stamps_of c.self.inside.links.items) here fresh)
+
+pub returns-clause-whole : goal.returns-clause-whole
+returns-clause-whole c =
+    let here = rw (← c.self.view_is) at c.requires.here in
+    let some = rw (← c.self.view_is) at c.requires.room in
+    let mid = relabelled _ _ _ _ _ _ c.self.invariant c.fresh_label-label.ensures.same c.fresh_label-label.ensures.rising in
+    order_is _ _ _ _ _ (insert_view _ _ _ _ _ _ _ _ mid some here c.splice.ensures c.fresh_label-label.ensures.between).1
