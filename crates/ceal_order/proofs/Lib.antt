@@ -1,3 +1,4 @@
+pub mod Samples
 pub mod Places
 pub mod Chains
 pub mod Inserting

@@ -13,3 +13,5 @@ mod link;
 pub mod order;
 mod run;
 pub mod stamp;
+#[cfg(test)]
+mod tests;

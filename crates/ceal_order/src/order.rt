@@ -130,6 +130,7 @@ impl Order {
         ensures next { IfSome result (λ next. successor stamp.0 self.now.stamps ≡ Some next.0) }
         ensures next_in { IfSome result (λ next. IsTrue (is_in next.0 self.now.stamps)) }
         ensures after { IfSome result (λ next. place next.0 self.now.stamps ≡ place stamp.0 self.now.stamps + 1) }
+        ensures inside { IfSome result (λ next. place next.0 self.now.stamps < length self.now.stamps) }
         ensures last { IfNone result (successor stamp.0 self.now.stamps ≡ None) }
         ensures at_end { IfNone result (place stamp.0 self.now.stamps + 1 ≡ length self.now.stamps) }
     {
