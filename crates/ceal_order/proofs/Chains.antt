@@ -68,10 +68,10 @@ module _ (links : List Link) (free spare : ℕ) (S F : List ℕ) (sound : Sound 
   -- what callers may know
   pub order_is : IsOrder (record { stamps = S; spare = spare })
   order_is =
-      let most : length links ≤ 2 ^ 32 = omega (arith, sound.few) in
+      let most : length links ≤ length S + spare = let whole = sound.all in let room = sound.room in omega (arith, whole, room) in
       record {
         distinct = Distinct-front S F sound.distinct;
-        below = AllBelow-more (length links) (2 ^ 32) S most (AllBelow-front (length links) S F sound.within);
+        below = AllBelow-more (length links) (length S + spare) S most (AllBelow-front (length links) S F sound.within);
         few = let whole = sound.all in let room = sound.room in let few = sound.few in omega (arith, whole, room, few);
       }
 

@@ -26,10 +26,11 @@ abbrev pub is_in : ℕ → List ℕ → Bool
 is_in s [] = false
 is_in s (x ∷ xs) = if x == s then true else is_in s xs
 
--- what is true of every order: stamps are distinct numbers of 32 bits, and those that may be inserted have one too
+-- what is true of every order: its stamps are distinct, each number is below that of all stamps and spare places
+-- together, and those are fewer than 2^32
 pub record IsOrder (order : Listing) : Type 0 where
   pub distinct : Distinct order.stamps
-  pub below : AllBelow (2 ^ 32) order.stamps
+  pub below : AllBelow (length order.stamps + order.spare) order.stamps
   pub few : length order.stamps + order.spare < 2 ^ 32
 
 -- how many stand before a stamp; one stamp is before another where its place is the lower one

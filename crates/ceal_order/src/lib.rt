@@ -4,8 +4,9 @@
 //! the first stamp first, and beside it how many may be inserted without taking memory. The order of two stamps is
 //! the order of their places in that list.
 //!
-//! `stamp` is what callers hold, `order` the list and its calls. Inside, `link` is one link of a doubly linked list
-//! whose labels rise along it, and `labels` finds a label for a new link and gives labels anew where none is free.
+//! `stamp` is what callers hold, `order` the list and its calls. Inside, `link` has the links of a doubly linked list
+//! whose labels rise along it, `labels` finds a label for a new link and gives labels anew where none is free, and
+//! `run` finds the links that get new labels then.
 #![tactic(auto)]
 
 mod labels;

@@ -1,6 +1,6 @@
 // Stamps in an order.
 
-ghost use Rattle.std.specs.Prelude.{◌≡◌, ◌≢◌, ◌+◌, ◌<◌, ◌≤◌, ◌↔◌, [], ◌∷◌, length, false, Some, None, IfSome, IfNone, IfOk, OnOk, OnErr, IsTrue};
+ghost use Rattle.std.specs.Prelude.{◌≡◌, ◌≢◌, ◌+◌, ◌<◌, ◌≤◌, ◌↔◌, [], ◌∷◌, length, max, false, Some, None, IfSome, IfNone, IfOk, OnOk, OnErr, IsTrue};
 ghost use Rattle.ceal_order.specs.Stamps.{is_in, head_of, IsOrder, place, successor, with_after, without, OneMore};
 
 use crate::labels::fresh_label;
@@ -66,6 +66,7 @@ impl Order {
     pub fn reserve(&mut self, n: u32) -> Result<(), NoMemory>
         ensures stamps { self.new.stamps ≡ self.old.stamps }
         ensures room { OnOk result (n ≤ self.new.spare) }
+        ensures exact { OnOk result (self.new.spare ≡ max self.old.spare n) }
         ensures kept { self.old.spare ≤ self.new.spare }
         ensures err { OnErr result (self.new ≡ self.old) }
         ensures whole { IsOrder self.new }
@@ -84,6 +85,7 @@ impl Order {
         requires here { IsTrue (is_in stamp.0 self.old.stamps) }
         requires room { 0 < self.old.spare }
         ensures new { is_in result.0 self.old.stamps ≡ false }
+        ensures below { result.0 < length self.new.stamps + self.new.spare }
         ensures stamps { self.new.stamps ≡ with_after stamp.0 result.0 self.old.stamps }
         ensures spare { self.new.spare + 1 ≡ self.old.spare }
         ensures others { OneMore result.0 self.old.stamps self.new.stamps }

@@ -1,6 +1,7 @@
-use Rattle.std.proofs.Common.{arith, ◌≡◌, List, ℕ, subst, ap, sym, length, ◌<◌}
+use Rattle.std.proofs.Common.{arith, true, ◌≡◌, List, ℕ, subst, ap, sym, length, ◌<◌}
+use Rattle.ceal_order.specs.Stamps.{is_in}
 use Rattle.ceal_order.specs.Links.{Sound, stamps_of, spares_of}
-use Rattle.ceal_order.proofs.Places.{inserted, place_new}
+use Rattle.ceal_order.proofs.Places.{inserted, place_new, new_in, below_of}
 use Rattle.ceal_order.proofs.Chains.{line, order_is}
 use Rattle.ceal_order.proofs.Inserting.{relabelled, Ready, ready, insert_view}
 use Rattle.ceal_order.proofs.order.Order.insert_after.Goals as goal
@@ -68,3 +69,13 @@ returns-clause-whole c =
     let some = rw (← c.self.view_is) at c.requires.room in
     let mid = relabelled _ _ _ _ _ _ c.self.invariant c.fresh_label-label.ensures.same c.fresh_label-label.ensures.rising in
     order_is _ _ _ _ _ (insert_view _ _ _ _ _ _ _ _ mid some here c.splice.ensures c.fresh_label-label.ensures.between).1
+
+pub returns-clause-below : goal.returns-clause-below
+returns-clause-below c =
+    let here = rw (← c.self.view_is) at c.requires.here in
+    let some = rw (← c.self.view_is) at c.requires.room in
+    let mid = relabelled _ _ _ _ _ _ c.self.invariant c.fresh_label-label.ensures.same c.fresh_label-label.ensures.rising in
+    let done = insert_view _ _ _ _ _ _ _ _ mid some here c.splice.ensures c.fresh_label-label.ensures.between in
+    let order = order_is _ _ _ _ _ done.1 in
+    let there : is_in c.self.inside.free (stamps_of c.splice.new.links.items) ≡ true = rw done.0 (new_in c.args.stamp.0 c.self.inside.free (stamps_of c.self.inside.links.items) here) in
+    below_of _ _ _ there order.below
