@@ -27,7 +27,8 @@ impl Model for Order {
 
     ghost view = { λ a. record { stamps = stamps_of a.links.items; spare = a.spare } };
 
-    ghost invariant = { λ a. Sound a.links.items a.free a.spare (stamps_of a.links.items) (spares_of a.links.items a.free) };
+    ghost invariant = { λ a.
+        Sound a.links.items a.free a.spare (stamps_of a.links.items) (spares_of a.links.items a.free) };
 }
 
 impl Order {
@@ -131,7 +132,8 @@ impl Order {
         requires { IsTrue (is_in stamp.0 self.now.stamps) }
         ensures next { IfSome result (λ next. successor stamp.0 self.now.stamps ≡ Some next.0) }
         ensures next_in { IfSome result (λ next. IsTrue (is_in next.0 self.now.stamps)) }
-        ensures after { IfSome result (λ next. place next.0 self.now.stamps ≡ place stamp.0 self.now.stamps + 1) }
+        ensures after { IfSome result (λ next.
+            place next.0 self.now.stamps ≡ place stamp.0 self.now.stamps + 1) }
         ensures inside { IfSome result (λ next. place next.0 self.now.stamps < length self.now.stamps) }
         ensures last { IfNone result (successor stamp.0 self.now.stamps ≡ None) }
         ensures at_end { IfNone result (place stamp.0 self.now.stamps + 1 ≡ length self.now.stamps) }

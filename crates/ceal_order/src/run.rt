@@ -25,7 +25,8 @@ fn link_before(links: &[Link], at: u32, low: u64) -> Option<u32>
     requires line { IsLine links.now (stamps_of links.now) }
     requires here { IsTrue (is_in at (stamps_of links.now)) }
     ensures some_in { IfSome result (λ before. IsTrue (is_in before (stamps_of links.now))) }
-    ensures some { IfSome result (λ before. place before (stamps_of links.now) + 1 ≡ place at (stamps_of links.now)) }
+    ensures some { IfSome result (λ before.
+        place before (stamps_of links.now) + 1 ≡ place at (stamps_of links.now)) }
     ensures none { IfNone result (LowBefore links.now at low) }
 {
     if at == FIRST {
@@ -43,7 +44,8 @@ fn link_after(links: &[Link], at: u32, high: u64) -> Option<u32>
     requires line { IsLine links.now (stamps_of links.now) }
     requires here { IsTrue (is_in at (stamps_of links.now)) }
     ensures some_in { IfSome result (λ after. IsTrue (is_in after (stamps_of links.now))) }
-    ensures some { IfSome result (λ after. place after (stamps_of links.now) ≡ place at (stamps_of links.now) + 1) }
+    ensures some { IfSome result (λ after.
+        place after (stamps_of links.now) ≡ place at (stamps_of links.now) + 1) }
     ensures none { IfNone result (HighAfter links.now at high) }
 {
     let after = next_at(links, at);
