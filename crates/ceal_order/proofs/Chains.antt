@@ -1,11 +1,11 @@
 -- Links that lie one after another.
-use Rattle.std.proofs.Common.{◌≡◌, ◌≢◌, ℕ, zero, suc, inl, inr, ◌⊎◌, ◌+◌, ◌<◌, ◌≤◌, ◌^◌, Bool, true, false, List, [], ◌∷◌, ◌++◌, length, cond, refl, sym, ap, subst, ◌∙◌, arith, Option, Some, None}
+use Rattle.std.proofs.Common.{◌≡◌, ◌≢◌, ℕ, zero, suc, inl, inr, ◌⊎◌, ◌+◌, ◌<◌, ◌≤◌, ◌^◌, true, false, List, [], ◌∷◌, ◌++◌, length, refl, sym, ap, subst, ◌∙◌, arith, Some, None}
 use Rattle.std.specs.Bool.{◌==◌, if◌then◌else◌}
 use Rattle.std.proofs.lemmas.Bool.Decides.{eqb_tells}
 use Rattle.std.proofs.lemmas.Bool.{eq-eqb}
 use Rattle.ceal_order.specs.declared.link.Link.{Link}
-use Rattle.ceal_order.specs.Stamps.{Listing, IsOrder, NotIn, Distinct, AllBelow, is_in, place, successor, head_of}
-use Rattle.ceal_order.specs.Links.{no_link, chain, Chained, Ahead, Rising, Sound, IsLine, SameLinks, next_of, prev_of, label_of, stamps_of, spares_of}
+use Rattle.ceal_order.specs.Stamps.{IsOrder, NotIn, Distinct, AllBelow, is_in, place, successor, head_of}
+use Rattle.ceal_order.specs.Links.{no_link, chain, Chained, Ahead, Rising, Sound, IsLine, next_of, stamps_of, spares_of}
 use Rattle.ceal_order.proofs.Places.{in_head, in_tail, place_head, AllBelow-more}
 
 pub is_link : (n k : ℕ) → n < 2 ^ 32 → k < n → k ≢ no_link

@@ -1,8 +1,8 @@
 -- One spare link more.
-use Rattle.std.proofs.Common.{◌≡◌, ◌≢◌, ℕ, zero, suc, inl, inr, ◌⊎◌, ◌+◌, ◌-◌, ◌<◌, ◌≤◌, ◌^◌, List, [], ◌∷◌, ◌++◌, length, get_or, refl, sym, ap, subst, ◌∙◌, arith, length-append}
+use Rattle.std.proofs.Common.{◌≡◌, ℕ, ◌+◌, ◌<◌, ◌^◌, List, [], ◌∷◌, ◌++◌, length, get_or, refl, ap, subst, ◌∙◌, arith, length-append}
 use Rattle.std.proofs.lemmas.Grind.{common_steps}
-use Rattle.ceal_order.specs.Stamps.{NotIn, Distinct, AllBelow}
-use Rattle.ceal_order.specs.Links.{no_link, blank, Chained, Ahead, Rising, Sound, Grown, next_of, prev_of, label_of, stamps_of, spares_of}
+use Rattle.ceal_order.specs.Stamps.{NotIn, AllBelow}
+use Rattle.ceal_order.specs.Links.{blank, Chained, Rising, Sound, Grown, next_of, prev_of, label_of, stamps_of, spares_of}
 use Rattle.ceal_order.specs.declared.link.Link.{Link}
 use Rattle.ceal_order.proofs.Places.{AllBelow-more}
 use Rattle.ceal_order.proofs.Chains.{AllBelow-front, AllBelow-back, stamps_are, seen}

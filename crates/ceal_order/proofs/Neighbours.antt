@@ -1,12 +1,10 @@
 -- The links before and after one, and the labels beyond them.
-use Rattle.std.proofs.Common.{◌≡◌, ◌≢◌, ℕ, zero, suc, inl, inr, ◌⊎◌, ◌+◌, ◌<◌, ◌≤◌, ◌^◌, Bool, true, false, List, [], ◌∷◌, length, refl, sym, ap, subst, ◌∙◌, arith, Option, Some, None}
-use Rattle.std.specs.Bool.{◌==◌, if◌then◌else◌}
+use Rattle.std.proofs.Common.{◌≡◌, ◌≢◌, ℕ, inl, inr, ◌+◌, ◌<◌, ◌≤◌, ◌^◌, true, List, [], ◌∷◌, length, sym, ap, subst, ◌∙◌, arith}
 use Rattle.std.proofs.lemmas.Bool.Decides.{eqb_tells}
-use Rattle.std.proofs.lemmas.Bool.{eq-eqb, cases_lt}
+use Rattle.std.proofs.lemmas.Bool.{cases_lt}
 use Rattle.ceal_order.specs.declared.link.Link.{Link}
-use Rattle.ceal_order.specs.Stamps.{NotIn, Distinct, AllBelow, is_in, place, successor}
-use Rattle.ceal_order.specs.Links.{no_link, Chained, Rising, IsLine, next_of, prev_of, label_of, stamps_of}
-use Rattle.ceal_order.specs.Runs.{LowBefore, HighAfter}
+use Rattle.ceal_order.specs.Stamps.{Distinct, is_in, place}
+use Rattle.ceal_order.specs.Links.{no_link, Chained, Rising, IsLine, next_of, prev_of, label_of}
 use Rattle.ceal_order.proofs.Places.{in_head, below_of, place_head, place_tail, place_tells, successor_place, last_place}
 use Rattle.ceal_order.proofs.Chains.{prev_where, successor_inside, successor_at_end, label_place, label_low}
 

@@ -1,5 +1,5 @@
 -- Powers of two and three: ranges of labels, and how many links are few in them.
-use Rattle.std.proofs.Common.{◌≡◌, ℕ, zero, suc, inl, inr, ◌+◌, ◌*◌, ◌<◌, ◌≤◌, ◌^◌, ◌/◌, ◌%◌, refl, sym, ap, ◌∙◌, subst, arith, lit≤, add-suc, ◌-◌}
+use Rattle.std.proofs.Common.{◌≡◌, ℕ, zero, suc, inl, inr, ◌+◌, ◌*◌, ◌<◌, ◌≤◌, ◌^◌, ◌/◌, sym, ap, ◌∙◌, subst, arith, lit≤, add-suc, ◌-◌}
 use Rattle.std.proofs.Math.Nat.{pow-suc, pow-le-pow_right, le_of_mul-le-mul_right, mul-le-mul_left, mul-le-mul_right, mul-div-le, div-lt_iff_lt-mul}
 use Rattle.std.proofs.lemmas.Nat.{pow-add, pow_pos}
 use Rattle.std.proofs.lemmas.Bool.{cases_lt}

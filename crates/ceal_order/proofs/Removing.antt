@@ -1,9 +1,8 @@
 -- A link is taken out, and becomes spare.
-use Rattle.std.proofs.Common.{◌≡◌, ◌≢◌, ℕ, zero, suc, inl, inr, ◌⊎◌, ◌+◌, ◌-◌, ◌<◌, ◌≤◌, ◌^◌, Bool, true, false, List, [], ◌∷◌, ◌++◌, length, cond, refl, sym, ap, subst, ◌∙◌, arith, Some}
-use Rattle.std.specs.Bool.{◌==◌, if◌then◌else◌}
+use Rattle.std.proofs.Common.{◌≡◌, ◌≢◌, ℕ, inl, inr, ◌⊎◌, ◌+◌, ◌<◌, ◌^◌, true, false, List, [], ◌∷◌, ◌++◌, length, refl, sym, ap, subst, ◌∙◌, arith, Some}
 use Rattle.std.proofs.lemmas.Bool.Decides.{eqb_tells}
 use Rattle.ceal_order.specs.Stamps.{NotIn, Distinct, AllBelow, is_in, without, head_of}
-use Rattle.ceal_order.specs.Links.{no_link, Chained, Ahead, Rising, Sound, Unlinked, next_of, prev_of, label_of, stamps_of, spares_of}
+use Rattle.ceal_order.specs.Links.{no_link, Chained, Rising, Sound, Unlinked, next_of, prev_of, label_of, stamps_of, spares_of}
 use Rattle.ceal_order.specs.declared.link.Link.{Link}
 use Rattle.ceal_order.proofs.Places.{apart, below_of, in_tail, length-without}
 use Rattle.ceal_order.proofs.Chains.{is_link, Distinct-front, AllBelow-front, prev_where, next_where, prev_next, stamps_are, seen}

@@ -1,5 +1,5 @@
 -- The words for stamps on small lists.
-use Rattle.std.proofs.Common.{◌≡◌, List, ℕ, [], ◌∷◌, Some, None, true, false, refl}
+use Rattle.std.proofs.Common.{◌≡◌, List, ℕ, [], ◌∷◌, Some, None, false, refl}
 use Rattle.ceal_order.specs.Stamps.{is_in, place, successor, with_after, without}
 
 abbrev three : List ℕ

@@ -1,11 +1,11 @@
 -- Labels given anew to links one after another.
-use Rattle.std.proofs.Common.{◌≡◌, ◌≢◌, ℕ, zero, suc, inl, inr, ◌⊎◌, ◌+◌, ◌-◌, ◌*◌, ◌/◌, ◌<◌, ◌≤◌, ◌^◌, true, List, [], ◌∷◌, length, refl, sym, ap, subst, ◌∙◌, arith}
+use Rattle.std.proofs.Common.{◌≡◌, ◌≢◌, ℕ, suc, inl, inr, ◌+◌, ◌-◌, ◌*◌, ◌<◌, ◌≤◌, ◌^◌, true, List, [], ◌∷◌, refl, ap, ◌∙◌, arith}
 use Rattle.std.proofs.Math.Nat.{mul-le-mul_right}
 use Rattle.std.proofs.lemmas.Bool.{cases_lt}
 use Rattle.std.proofs.lemmas.Bool.Decides.{eqb_tells}
 use Rattle.ceal_order.specs.declared.link.Link.{Link}
-use Rattle.ceal_order.specs.Stamps.{NotIn, Distinct, is_in, place}
-use Rattle.ceal_order.specs.Links.{no_link, Rising, IsLine, SameLinks, Between, next_of, prev_of, label_of, stamps_of}
+use Rattle.ceal_order.specs.Stamps.{Distinct, is_in, place}
+use Rattle.ceal_order.specs.Links.{no_link, Rising, IsLine, Between, next_of, prev_of, label_of, stamps_of}
 use Rattle.ceal_order.specs.Runs.{LowBefore, HighAfter, IsRun, Labelled, Spread}
 use Rattle.ceal_order.proofs.Places.{in_head, in_tail, place_head, place_tail, place_tells}
 use Rattle.ceal_order.proofs.Neighbours.{label_in, rises, after_is}

@@ -1,7 +1,7 @@
 -- Stamps as a list of links.
-use Rattle.std.specs.Prelude.{◌≡◌, ◌≢◌, ◌⊎◌, true, ◌<◌, ◌≤◌, ◌^◌, ◌+◌, ◌*◌, ◌/◌, ℕ, List, [], ◌∷◌, ◌++◌, length, slice_index_or, suc, zero, ◌==◌, if◌then◌else◌}
+use Rattle.std.specs.Prelude.{◌≡◌, ◌≢◌, ◌<◌, ◌≤◌, ◌^◌, ◌+◌, ℕ, List, [], ◌∷◌, ◌++◌, length, slice_index_or, suc, zero, ◌==◌, if◌then◌else◌}
 use Rattle.ceal_order.specs.declared.link.Link.{Link}
-use Rattle.ceal_order.specs.Stamps.{NotIn, Distinct, AllBelow, is_in, place}
+use Rattle.ceal_order.specs.Stamps.{Distinct, AllBelow}
 
 -- the index that stands for no link
 abbrev pub no_link : ℕ

@@ -1,5 +1,5 @@
 -- Links one after another whose labels lie in one range, and the labels that they are given.
-use Rattle.std.specs.Prelude.{◌≡◌, ◌≢◌, true, ◌<◌, ◌≤◌, ◌^◌, ◌+◌, ◌*◌, ℕ, List, length}
+use Rattle.std.specs.Prelude.{◌≡◌, ◌≢◌, true, ◌<◌, ◌≤◌, ◌^◌, ◌+◌, ◌*◌, ℕ, List}
 use Rattle.ceal_order.specs.declared.link.Link.{Link}
 use Rattle.ceal_order.specs.declared.run.Run.{Run}
 use Rattle.ceal_order.specs.Stamps.{is_in, place}

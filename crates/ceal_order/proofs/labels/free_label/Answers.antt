@@ -1,4 +1,4 @@
-use Rattle.std.proofs.Common.{◌≡◌, ◌≢◌, ◌+◌, ◌<◌, ◌^◌, arith, ◌∙◌}
+use Rattle.std.proofs.Common.{◌≢◌, ◌<◌, ◌^◌, arith, ◌∙◌}
 use Rattle.ceal_order.specs.Links.{stamps_of, label_of, next_of, no_link}
 use Rattle.ceal_order.proofs.Neighbours.{link_in, label_in, after_is, rises}
 use Rattle.ceal_order.proofs.labels.free_label.Goals as goal

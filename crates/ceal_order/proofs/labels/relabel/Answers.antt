@@ -1,5 +1,5 @@
-use Rattle.std.proofs.Common.{◌≡◌, ◌+◌, ◌<◌, ◌/◌, ◌^◌, arith, length, subst, ℕ, sym}
-use Rattle.ceal_order.specs.Links.{stamps_of, Between}
+use Rattle.std.proofs.Common.{◌/◌, arith}
+use Rattle.ceal_order.specs.Links.{stamps_of}
 use Rattle.ceal_order.proofs.Places.{place_below}
 use Rattle.ceal_order.proofs.Neighbours.{link_in}
 use Rattle.ceal_order.proofs.Spreading.{new_rising, new_room, new_between}

@@ -1,7 +1,5 @@
-use Rattle.std.proofs.Common.{◌≡◌, ◌≢◌, ◌+◌, ◌*◌, ◌<◌, arith, length, ℕ, true, sym, ◌∙◌}
-use Rattle.ceal_order.specs.Stamps.{is_in, place}
+use Rattle.std.proofs.Common.{◌≡◌, ◌≢◌, arith, ◌∙◌}
 use Rattle.ceal_order.specs.Links.{stamps_of, next_of, no_link}
-use Rattle.ceal_order.proofs.Places.{place_below}
 use Rattle.ceal_order.proofs.Neighbours.{link_in, after_is, after_none}
 use Rattle.ceal_order.proofs.Spreading.{spread_one}
 use Rattle.ceal_order.proofs.labels.spread.Goals as goal

@@ -1,5 +1,4 @@
-use Rattle.std.proofs.Common.{◌≡◌, ◌+◌, ◌<◌, ◌≤◌, ◌^◌, arith, length, refl, sym, ◌∙◌}
-use Rattle.std.specs.Vec.{vec_len, vec_capacity}
+use Rattle.std.proofs.Common.{◌≡◌, ◌+◌, ◌<◌, ◌^◌, arith, length, refl, ◌∙◌}
 use Rattle.ceal_order.proofs.Growing.{grown_none, grown_one}
 use Rattle.ceal_order.proofs.link.add_spares.Goals as goal
 

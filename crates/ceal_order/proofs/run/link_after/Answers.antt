@@ -1,6 +1,5 @@
-use Rattle.std.proofs.Common.{◌≡◌, ◌≢◌, ◌+◌, ◌<◌, ℕ, true, sym, arith, ◌∙◌}
-use Rattle.ceal_order.specs.Stamps.{is_in, place}
-use Rattle.ceal_order.specs.Links.{stamps_of, label_of, next_of, no_link}
+use Rattle.std.proofs.Common.{◌≢◌, sym, arith, ◌∙◌}
+use Rattle.ceal_order.specs.Links.{stamps_of, next_of, no_link}
 use Rattle.ceal_order.proofs.Places.{place_below}
 use Rattle.ceal_order.proofs.Neighbours.{after_is, after_none, link_in, high_after}
 use Rattle.ceal_order.proofs.run.link_after.Goals as goal

@@ -1,6 +1,4 @@
-use Rattle.std.proofs.Common.{◌≡◌, ◌≢◌, ◌+◌, true, sym}
-use Rattle.ceal_order.specs.Stamps.{is_in, place}
-use Rattle.ceal_order.specs.Links.{stamps_of, label_of}
+use Rattle.ceal_order.specs.Links.{stamps_of}
 use Rattle.ceal_order.proofs.Neighbours.{before_is, link_in, low_before}
 use Rattle.ceal_order.proofs.run.link_before.Goals as goal
 

@@ -1,4 +1,4 @@
-use Rattle.std.proofs.Common.{◌≡◌, ◌<◌, ◌*◌, ◌/◌, ◌^◌, ◌%◌, arith}
+use Rattle.std.proofs.Common.{◌<◌, ◌*◌, ◌/◌, ◌^◌, arith}
 use Rattle.std.proofs.Math.Nat.{mod-eq_of_lt}
 use Rattle.ceal_order.proofs.Powers.{aligned}
 use Rattle.ceal_order.proofs.run.range_start.Goals as goal

@@ -1,9 +1,9 @@
-use Rattle.std.proofs.Common.{arith, true, ◌≡◌, List, ℕ, subst, ap, sym, length, ◌<◌}
+use Rattle.std.proofs.Common.{true, ◌≡◌}
 use Rattle.ceal_order.specs.Stamps.{is_in}
-use Rattle.ceal_order.specs.Links.{Sound, stamps_of, spares_of}
+use Rattle.ceal_order.specs.Links.{stamps_of}
 use Rattle.ceal_order.proofs.Places.{inserted, place_new, new_in, below_of}
 use Rattle.ceal_order.proofs.Chains.{line, order_is}
-use Rattle.ceal_order.proofs.Inserting.{relabelled, Ready, ready, insert_view}
+use Rattle.ceal_order.proofs.Inserting.{relabelled, ready, insert_view}
 use Rattle.ceal_order.proofs.order.Order.insert_after.Goals as goal
 
 pub fresh_label-label-requires-clause-line : goal.fresh_label-label-requires-clause-line

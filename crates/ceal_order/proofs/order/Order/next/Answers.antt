@@ -1,4 +1,4 @@
-use Rattle.std.proofs.Common.{sym, ◌∙◌, ◌≢◌, ◌≡◌, Some, None, subst, ℕ}
+use Rattle.std.proofs.Common.{sym, ◌∙◌, ◌≢◌, ◌≡◌, Some, None}
 use Rattle.ceal_order.specs.Stamps.{successor}
 use Rattle.ceal_order.specs.Links.{next_of, no_link, stamps_of}
 use Rattle.ceal_order.proofs.Places.{below_of, place_below, successor_place, last_place}
