@@ -1,0 +1,4 @@
+pub mod VerdictSteps
+pub mod UsageSteps
+pub mod NoFaults
+pub mod Samples

@@ -1,0 +1,23 @@
+use Rattle.std.proofs.Common.{◌<◌, ◌≤◌, length, arith}
+use Rattle.std.proofs.lemmas.Result.{err_from_is_err_and}
+use Rattle.ceal_usage.specs.Faults.{init_faults}
+use Rattle.ceal_usage.proofs.VerdictSteps.{each-passed, each-failed, each-over}
+use Rattle.ceal_usage.proofs.bodies.+init.Goals as goal
+
+pub check_init_body-returns-in_err-check_init_stmt : goal.check_init_body-returns-in_err-check_init_stmt
+check_init_body-returns-in_err-check_init_stmt t c =
+    let stmts = c.args.stmts.now in
+    let within : c.loop-s.s-index < length c.args.stmts.now = omega arith in
+    let p = err_from_is_err_and c.from_residual.result c.from_residual.ensures.1 in
+    record { first = rw (p.1, p.2) (each-failed init_faults stmts _ c.s-item.result _ _ c.s-item.is within c.loop-s.invariant c.in_err-check_init_stmt.ensures.first) }
+
+pub check_init_body-loop-s-preserved : goal.check_init_body-loop-s-preserved
+check_init_body-loop-s-preserved t c =
+    let stmts = c.args.stmts.now in
+    let within : c.loop-s.s-index < length c.args.stmts.now = omega arith in
+    each-passed init_faults stmts _ c.s-item.result _ _ c.s-item.is within c.loop-s.invariant c.in_ok-check_init_stmt.ensures.first
+
+pub check_init_body-returns : goal.check_init_body-returns
+check_init_body-returns t c =
+    let over : length c.args.stmts.now ≤ c.loop-s.s-index = omega arith in
+    record { first = each-over init_faults c.args.stmts.now _ _ over c.loop-s.invariant }

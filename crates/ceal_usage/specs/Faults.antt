@@ -1,0 +1,111 @@
+-- The faults of usage of a program, in the order of the walk of its bodies: a statement's own fault first, then those
+-- of its expressions, then those of the statements in it.
+use Rattle.std.specs.Prelude.{Bool, false, Option, Some, None, is_some, is_none, List, [], ◌∷◌, ◌++◌, slice_get, if◌then◌else◌}
+use Rattle.ceal_base.specs.declared.fault.Fault.{Fault}
+use Rattle.ceal_base.specs.declared.fault.FaultCode.{FaultCode}
+use Rattle.ceal_base.specs.declared.fault.FaultCode.TheVariants.{U1, U2, U3, U4, U5}
+use Rattle.ceal_base.specs.declared.fault.Span.{Span}
+use Rattle.ceal_base.specs.declared.typed.Typed.{Typed}
+use Rattle.ceal_base.specs.declared.typed.TypedExpr.{TypedExpr}
+use Rattle.ceal_base.specs.declared.typed.TypedForm.TheBlock.{Row_of-TypedExpr, end_of-TypedExpr, more_of-TypedExpr}
+use Rattle.ceal_base.specs.declared.typed.TypedForm.{TypedForm, Num, Null, Var, Own, Unary', Binary', Field', Address'}
+use Rattle.ceal_base.specs.declared.typed.TypedFunction.{TypedFunction}
+use Rattle.ceal_base.specs.declared.typed.TypedStmt.{TypedStmt, Declare, Assign, SetField, Write, Call, If', While', Return}
+use Rattle.ceal_base.specs.declared.typed.TypedStmt.{Row_of-TypedStmt, end_of-TypedStmt, more_of-TypedStmt}
+use Rattle.ceal_base.specs.declared.typed.TypedValue.{TypedValue}
+use Rattle.ceal_base.specs.declared.typed.TypedValue.TheVariants.{Plain, Read, Alloc, ModrefInt, Modref}
+use Rattle.ceal_usage.specs.Verdict.{faults_of_each}
+
+-- this one fault
+abbrev pub one : FaultCode → Span → List Fault
+one code at = record { code = code; span = at } ∷ []
+
+-- U3 at each `self` in an expression of this form, from left to right
+unfoldable mutual
+  pub form_mentions : Span → TypedForm → List Fault
+  form_mentions at (Num n) = []
+  form_mentions at Null = []
+  form_mentions at (Var n) = []
+  form_mentions at Own = one U3 at
+  form_mentions at (Unary' op _ a) = operand_mentions a
+  form_mentions at (Binary' op sign _ a _ b) = operand_mentions a ++ operand_mentions b
+  form_mentions at (Field' _ a s field) = operand_mentions a
+  form_mentions at (Address' _ a s field) = operand_mentions a
+
+  pub operand_mentions : {n : _} → Row_of-TypedExpr n → List Fault
+  operand_mentions end_of-TypedExpr = []
+  operand_mentions (more_of-TypedExpr span kind form rest) = form_mentions span form
+
+abbrev pub mentions : TypedExpr → List Fault
+mentions e = form_mentions e.span e.form
+
+abbrev pub value_mentions : TypedValue → List Fault
+value_mentions (Plain e) = mentions e
+value_mentions (Read at e) = mentions e
+value_mentions (Alloc at shape f name args) = faults_of_each mentions args
+value_mentions (ModrefInt at) = []
+value_mentions (Modref at s) = []
+
+-- the function is a core function, or an initialiser
+abbrev pub is_core : Option TypedFunction → Bool
+is_core None = false
+is_core (Some f) = is_none f.initialiser
+
+abbrev pub is_initialiser : Option TypedFunction → Bool
+is_initialiser None = false
+is_initialiser (Some f) = is_some f.initialiser
+
+-- U5 at the function's name, where a core function's `alloc` names no initialiser
+abbrev pub value_faults : List TypedFunction → TypedValue → List Fault
+value_faults fs (Plain e) = []
+value_faults fs (Read at e) = []
+value_faults fs (Alloc at shape f name args) = if is_initialiser (slice_get fs f) then [] else one U5 name
+value_faults fs (ModrefInt at) = []
+value_faults fs (Modref at s) = []
+
+-- a statement of a core function: it writes no field, and calls core functions alone
+unfoldable mutual
+  pub core_faults : List TypedFunction → TypedStmt → List Fault
+  core_faults fs (Declare at n kind value) = value_faults fs value
+  core_faults fs (Assign at n value) = value_faults fs value
+  core_faults fs (SetField at left s field e) = one U1 at
+  core_faults fs (Write at place e) = []
+  core_faults fs (Call at f args) = if is_core (slice_get fs f) then [] else one U4 at
+  core_faults fs (If' at test _ first _ second) = row_core_faults fs first ++ row_core_faults fs second
+  core_faults fs (While' at test _ body) = row_core_faults fs body
+  core_faults fs (Return at) = []
+
+  pub row_core_faults : List TypedFunction → {n : _} → Row_of-TypedStmt n → List Fault
+  row_core_faults fs end_of-TypedStmt = []
+  row_core_faults fs (more_of-TypedStmt s rest) = core_faults fs s ++ row_core_faults fs rest
+
+-- none where the expression is `self`
+abbrev pub faults_unless_own : List Fault → TypedForm → List Fault
+faults_unless_own faults Own = []
+faults_unless_own faults _ = faults
+
+-- what stands left of the last `->` of a field assignment: `self` alone
+abbrev pub target_faults : Span → TypedExpr → List Fault
+target_faults at left = faults_unless_own (one U1 at ++ mentions left) left.form
+
+-- a statement of an initialiser: `self->f = E` or an `if`, with `self` nowhere else
+unfoldable mutual
+  pub init_faults : TypedStmt → List Fault
+  init_faults (Declare at n kind value) = one U2 at ++ value_mentions value
+  init_faults (Assign at n value) = one U2 at ++ value_mentions value
+  init_faults (SetField at left s field e) = target_faults at left ++ mentions e
+  init_faults (Write at place e) = one U2 at ++ mentions place ++ mentions e
+  init_faults (Call at f args) = one U2 at ++ faults_of_each mentions args
+  init_faults (If' at test _ first _ second) = mentions test ++ row_init_faults first ++ row_init_faults second
+  init_faults (While' at test _ body) = one U2 at ++ mentions test ++ row_init_faults body
+  init_faults (Return at) = one U2 at
+
+  pub row_init_faults : {n : _} → Row_of-TypedStmt n → List Fault
+  row_init_faults end_of-TypedStmt = []
+  row_init_faults (more_of-TypedStmt s rest) = init_faults s ++ row_init_faults rest
+
+abbrev pub function_faults : List TypedFunction → TypedFunction → List Fault
+function_faults fs f = elim f.initialiser [ None ↦ faults_of_each (core_faults fs) f.body | Some s ↦ faults_of_each init_faults f.body ]
+
+abbrev pub usage_faults : Typed → List Fault
+usage_faults program = faults_of_each (function_faults program.functions) program.functions
