@@ -1,11 +1,11 @@
 -- A run, step by step.
-use Rattle.std.proofs.Common.{◌≡◌, ℕ, zero, suc, ◌+◌, ◌-◌, ◌<◌, Option, Some, None, List, [], ◌∷◌, length, refl, ap, arith}
+use Rattle.std.proofs.Common.{◌≡◌, ℕ, suc, ◌+◌, ◌-◌, ◌<◌, Some, None, List, [], ◌∷◌, length, refl, ap, arith}
 use Rattle.ceal_base.specs.Block.{Blocks}
 use Rattle.ceal_base.specs.declared.typed.Typed.{Typed}
 use Rattle.ceal_base.specs.declared.typed.TypedStmt.{TypedStmt}
 use Rattle.ceal_mean.specs.Exec.{settled, stepped}
 use Rattle.ceal_mean.specs.Frame.{Frame, State}
-use Rattle.ceal_mean.specs.Fresh.{Finished, run, run_settled}
+use Rattle.ceal_mean.specs.Fresh.{run, run_settled}
 use Rattle.ceal_mean.specs.Steps.{advanced, with_first}
 
 module _ (p : Typed) where

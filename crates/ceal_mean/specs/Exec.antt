@@ -4,7 +4,7 @@ use Rattle.ceal_base.specs.Access.{content_of, written, holds}
 use Rattle.ceal_base.specs.Block.{Block, Blocks}
 use Rattle.ceal_base.specs.Shapes.{default_block}
 use Rattle.ceal_base.specs.declared.kind.Kind.{Kind}
-use Rattle.ceal_base.specs.declared.kind.Kind.TheVariants.{Int, Ptr, ModInt, ModPtr}
+use Rattle.ceal_base.specs.declared.kind.Kind.TheVariants.{ModInt}
 use Rattle.ceal_base.specs.declared.kind.Shape.TheVariants.{ModInt as OneInt, ModPtr as OnePtr}
 use Rattle.ceal_base.specs.declared.typed.Typed.{Typed}
 use Rattle.ceal_base.specs.declared.typed.TypedFunction.{TypedFunction}

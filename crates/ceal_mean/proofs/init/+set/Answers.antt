@@ -1,4 +1,4 @@
-use Rattle.std.proofs.Common.{◌≡◌, ◌<◌, length, arith}
+use Rattle.std.proofs.Common.{◌<◌, length, arith}
 use Rattle.ceal_mean.proofs.InitSteps.{set-take}
 use Rattle.ceal_mean.proofs.init.+set.Goals as goal
 

@@ -1,4 +1,4 @@
-use Rattle.std.proofs.Common.{◌≤◌, arith}
+use Rattle.std.proofs.Common.{arith}
 use Rattle.ceal_mean.proofs.FuelLemmas.{fresh-at-most, fresh-enough}
 use Rattle.ceal_mean.proofs.laws.more_fuel.Goals as goal
 
