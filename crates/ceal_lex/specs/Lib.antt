@@ -1,0 +1,7 @@
+pub mod Characters
+pub mod Spelling
+pub mod Pieces
+pub mod Parts
+pub mod Tokens
+pub mod Faults
+pub mod Answers

@@ -1,0 +1,11 @@
+//! The parts of an input, and the tokens of its source part.
+//!
+//! `split` finds the line `%%` between the source part and the script. `lex` reads the source part as white space,
+//! comments and tokens, or finds the first fault in it. The definitions stand in `specs/`: which bytes spell which
+//! token, which pieces a source is made of, and which faults stand where none goes on.
+#![tactic(auto)]
+
+pub mod lex;
+pub mod parts;
+pub mod split;
+pub mod token;
