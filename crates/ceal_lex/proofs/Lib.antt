@@ -1,3 +1,5 @@
 mod Spellings
 mod Fronts
 mod Readings
+mod Closing
+mod Values

@@ -4,4 +4,5 @@ pub mod Pieces
 pub mod Parts
 pub mod Tokens
 pub mod Faults
+pub mod Front
 pub mod Answers

@@ -1,5 +1,5 @@
 -- The tokens of a source, with their places.
-use Rattle.std.specs.Prelude.{ℕ, ◌+◌, ◌<◌, ◌≤◌, ◌≡◌, ◌⊎◌, Bool, true, false, List, [], ◌∷◌, ◌++◌, length, if◌then◌else◌}
+use Rattle.std.specs.Prelude.{ℕ, ◌+◌, ◌≤◌, ◌≡◌, ◌⊎◌, Bool, true, false, List, [], ◌∷◌, ◌++◌, length, if◌then◌else◌}
 use Rattle.ceal_base.specs.declared.fault.Span.{Span}
 use Rattle.ceal_lex.specs.declared.token.Token.{Token}
 use Rattle.ceal_lex.specs.declared.token.TokenKind.{TokenKind}
@@ -35,8 +35,7 @@ pub record IsEnded (tokens : List Token) : Type 0 where
   pub whole : tokens ≡ before ++ last ∷ []
   pub kind : (last.kind ≡ End) ⊎ (last.kind ≡ Cut)
 
--- The spans are between `from` and `to`, one behind the other. They are not empty, but for that of the last token.
+-- The spans are between `from` and `to`, one behind the other.
 abbrev pub InOrder : ℕ → ℕ → List Token → Type 0
 InOrder from to [] = from ≤ to
-InOrder from to (t ∷ []) = (from ≤ t.span.from) × (t.span.from ≤ t.span.to) × (t.span.to ≤ to)
-InOrder from to (t ∷ u ∷ ts) = (from ≤ t.span.from) × (t.span.from < t.span.to) × InOrder t.span.to to (u ∷ ts)
+InOrder from to (t ∷ ts) = (from ≤ t.span.from) × (t.span.from ≤ t.span.to) × InOrder t.span.to to ts

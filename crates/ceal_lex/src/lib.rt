@@ -5,7 +5,13 @@
 //! token, which pieces a source is made of, and which faults stand where none goes on.
 #![tactic(auto)]
 
+mod characters;
+mod comments;
+mod front;
 pub mod lex;
+mod number;
 pub mod parts;
+mod signs;
 pub mod split;
 pub mod token;
+mod words;
