@@ -1,5 +1,6 @@
 -- Where a comment ends.
-use Rattle.std.proofs.Common.{◌≡◌, ◌≢◌, ℕ, ◌+◌, ◌≤◌, ◌<◌, List, [], ◌∷◌, ◌++◌, length, take, drop, get_or, refl, sym, ap, ◌∙◌, arith, rules}
+use Rattle.std.proofs.Common.{◌≡◌, ◌≢◌, ℕ, ◌+◌, ◌≤◌, ◌<◌, List, [], ◌∷◌, ◌++◌, length, take, drop, get_or, refl, sym, ap, ◌∙◌, arith, rules, inl, inr}
+use Rattle.std.proofs.lemmas.Bool.{cases_eq}
 use Rattle.std.proofs.lemmas.List.{length-append, length-take-le, take-append-drop, drop_more, get_or_at, get_or-append-add}
 use Rattle.ceal_lex.specs.Characters.{SLASH, STAR}
 use Rattle.ceal_lex.specs.Front.{IsNeverClosed, ClosesAt}
@@ -11,7 +12,7 @@ NoneBefore n text = (a b : List ℕ) → text ≡ a ++ STAR ∷ SLASH ∷ b → 
 module _ (text : List ℕ) (n : ℕ) (none : NoneBefore n text) where
   -- two bytes that are no `*/`
   pub none_more : (get_or text n 0 ≡ STAR → get_or text (n + 1) 0 ≡ SLASH → ⊥) → NoneBefore (n + 1) text
-  none_more other a b h = elim (Rattle.std.proofs.lemmas.Bool.cases_eq n (length a)) [
+  none_more other a b h = elim (cases_eq n (length a)) [
     | inl e ↦ absurd (other (ap (λ (x : List ℕ). get_or x n 0) h ∙ get_or_at a STAR (SLASH ∷ b) 0 n (sym e))
         (ap (λ (x : List ℕ). get_or x (n + 1) 0) h ∙ ap (λ (k : ℕ). get_or (a ++ STAR ∷ SLASH ∷ b) (k + 1) 0) e ∙ get_or-append-add a (STAR ∷ SLASH ∷ b) 1 0))
     | inr e ↦ let p = none a b h in omega (arith, p, e)

@@ -3,3 +3,4 @@ mod Fronts
 mod Readings
 mod Closing
 mod Values
+mod Runs

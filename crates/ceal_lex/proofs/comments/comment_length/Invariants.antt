@@ -3,7 +3,10 @@ use Rattle.ceal_lex.proofs.Closing.{NoneBefore}
 use Rattle.ceal_lex.proofs.comments.comment_length.Given as goal
 
 abbrev pub invariant-loop-at : goal.invariant-loop-at
-invariant-loop-at l = NoneBefore l.at l.text
+invariant-loop-at l = record {
+  within : l.at ≤ length l.text;
+  none : NoneBefore l.at l.text;
+}
 
 abbrev pub decreases-loop-at : goal.decreases-loop-at
 decreases-loop-at l = length l.text - l.at
