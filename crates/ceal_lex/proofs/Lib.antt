@@ -4,3 +4,5 @@ mod Readings
 mod Closing
 mod Values
 mod Runs
+mod SignTexts
+mod Begins

@@ -5,4 +5,5 @@ pub mod Parts
 pub mod Tokens
 pub mod Faults
 pub mod Front
+pub mod Reading
 pub mod Answers

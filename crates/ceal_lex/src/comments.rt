@@ -1,6 +1,6 @@
 // Where comments end.
 
-ghost use Rattle.std.specs.Prelude.{◌≡◌, ◌==◌, MatchOption, position};
+ghost use Rattle.std.specs.Prelude.{◌≡◌, ◌≤◌, length, ◌==◌, MatchOption, position};
 ghost use Rattle.std.specs.List.{position_or_len};
 ghost use Rattle.ceal_lex.specs.Characters.{LINE_FEED};
 ghost use Rattle.ceal_lex.specs.Front.{IsNeverClosed, ClosesAt};
@@ -14,7 +14,8 @@ fn line_end(text: &[u8]) -> Option<usize>
 
 /// How many bytes stand before the end of the line.
 pub fn line_length(text: &[u8]) -> usize
-    ensures { result ≡ position_or_len (λ b. b == LINE_FEED) text.now }
+    ensures within { result ≤ length text.now }
+    ensures first { result ≡ position_or_len (λ b. b == LINE_FEED) text.now }
 {
     line_end(text).unwrap_or(text.len())
 }

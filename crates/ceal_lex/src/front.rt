@@ -2,6 +2,7 @@
 
 ghost use Rattle.std.specs.Prelude.{◌<◌, length, IfOk};
 ghost use Rattle.ceal_lex.specs.Characters as class;
+ghost use Rattle.ceal_lex.specs.Pieces.{BeginsComment};
 ghost use Rattle.ceal_lex.specs.Front.{BeginsWith, is_other, IsFront, IsTaken};
 
 use crate::characters::{digits_length, is_digit, is_letter, is_space, word_length};
@@ -80,9 +81,18 @@ fn comment_or_sign(bytes: &[u8]) -> Front
             Some(inside) => Front::Blank(4 + inside),
             None => Front::Broken(FaultCode::S1, 1),
         },
-        _ => match longest_sign(bytes) {
-            Some((sign, length)) => Front::Found(TokenKind::Sign(sign), length),
-            None => Front::Broken(FaultCode::S1, 1),
-        },
+        _ => sign(bytes),
+    }
+}
+
+/// A sign.
+fn sign(bytes: &[u8]) -> Front
+    requires other { BeginsWith is_other bytes.now }
+    requires no_comment { BeginsComment bytes.now → ⊥ }
+    ensures { IsFront result bytes.now }
+{
+    match longest_sign(bytes) {
+        Some((sign, length)) => Front::Found(TokenKind::Sign(sign), length),
+        None => Front::Broken(FaultCode::S1, 1),
     }
 }

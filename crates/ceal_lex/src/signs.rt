@@ -57,10 +57,10 @@ pub fn longest_sign(bytes: &[u8]) -> Option<(Sign, usize)>
 {
     match bytes {
         [] => None,
-        [first] => short_sign(*first).map(|sign| (sign, 1)),
+        [first] => Some((short_sign(*first)?, 1)),
         [first, second, ..] => match long_sign(*first, *second) {
             Some(sign) => Some((sign, 2)),
-            None => short_sign(*first).map(|sign| (sign, 1)),
+            None => Some((short_sign(*first)?, 1)),
         },
     }
 }

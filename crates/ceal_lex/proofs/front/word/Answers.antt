@@ -1,0 +1,13 @@
+use Rattle.std.proofs.Common.{refl, rules}
+use Rattle.ceal_lex.specs.declared.token.TokenKind.TheVariants as kinds
+use Rattle.ceal_lex.proofs.Begins.{word_found}
+use Rattle.ceal_lex.proofs.front.word.Goals as goal
+
+pub returns-in-Some : goal.returns-in-Some
+returns-in-Some c =
+    word_found (kinds.Reserved c.in-Some.word) c.args.bytes.now c.word_length-length.result c.requires c.word_length-length.ensures (λ w. c.in-Some.ensures.spelled)
+
+pub returns-in_ok-from_slice-in-None : goal.returns-in_ok-from_slice-in-None
+returns-in_ok-from_slice-in-None c =
+    word_found (kinds.Name c.new-name.result) c.args.bytes.now c.word_length-length.result c.requires c.word_length-length.ensures
+      (λ w. (search rules, w, c.in-None.ensures.none))
