@@ -6,3 +6,5 @@ mod Values
 mod Runs
 mod SignTexts
 mod Begins
+mod Going
+mod Outcomes

@@ -23,7 +23,7 @@ pub record HasMark (input before after : List ℕ) : Type 0 where
   pub mark : IsMark text
   pub is_line : IsLine text line after
   pub starts : IsBeforeLine before
-  pub whole : input ≡ before ++ line ++ after
+  pub whole : input ≡ before ++ (line ++ after)
 
 -- It has none earlier.
 pub record HasFirstMark (input before after : List ℕ) : Type 0 where
