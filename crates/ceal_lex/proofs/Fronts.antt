@@ -40,7 +40,7 @@ line_goes_on b t r n (inl e) h = absurd (cc)
 line_goes_on b t r n (inr (more, e)) h = n (cc)
 
 -- the end of a line
-same_line : (t u r s : List ℕ) → t ++ r ≡ u ++ s → AllByRecursion (λ b. b ≢ LINE_FEED) t → AllByRecursion (λ b. b ≢ LINE_FEED) u → EndsLine r → EndsLine s → (t ≡ u) × (r ≡ s)
+pub same_line : (t u r s : List ℕ) → t ++ r ≡ u ++ s → AllByRecursion (λ b. b ≢ LINE_FEED) t → AllByRecursion (λ b. b ≢ LINE_FEED) u → EndsLine r → EndsLine s → (t ≡ u) × (r ≡ s)
 same_line [] [] r s h a b e f = (refl, h)
 same_line [] (c ∷ u) r s h a b e f = absurd (line_goes_on c (u ++ s) r b.0 e h)
 same_line (c ∷ t) [] r s h a b e f = absurd (line_goes_on c (t ++ r) s a.0 f (sym h))

@@ -8,3 +8,4 @@ mod SignTexts
 mod Begins
 mod Going
 mod Outcomes
+mod Marks
