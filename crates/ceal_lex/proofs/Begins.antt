@@ -251,13 +251,16 @@ sign_found bytes s n h c l = record {
 
 pub nothing_found : (bytes : List ℕ) → BeginsWith is_other bytes → ((s : Sign) (more : List ℕ) → bytes ≢ sign_text s ++ more) → FaultStands S1 bytes 1
 nothing_found [] h none = absurd h
-nothing_found (b ∷ bs) h none = (inr (record {
-  byte = b;
-  more = bs;
-  begins = refl;
-  no_space = (other_parts b h).0;
-  no_lexeme = λ a r e x. let s = other_sign (b ∷ bs) h a r e x in none s.0 r (e ∙ ap (λ (y : List ℕ). y ++ r) s.1);
-}), refl)
+nothing_found (b ∷ bs) h none = (
+  inr (record {
+    byte = b;
+    more = bs;
+    begins = refl;
+    no_space = (other_parts b h).0;
+    no_lexeme = λ a r e x. let s = other_sign (b ∷ bs) h a r e x in none s.0 r (e ∙ ap (λ (y : List ℕ). y ++ r) s.1);
+  }),
+  refl,
+)
 
 -- How many bytes are taken.
 followed_longer : (p : Piece) (rest : List ℕ) → Stands p rest → length rest < length (followed p rest)

@@ -28,10 +28,10 @@ module _ (text : List ℕ) (n : ℕ) (none : NoneBefore n text) where
   pub closes : n + 1 < length text → get_or text n 0 ≡ STAR → get_or text (n + 1) 0 ≡ SLASH → ClosesAt n text
   closes room star slash =
       let e : take n text ++ STAR ∷ SLASH ∷ drop (n + 1 + 1) text ≡ text =
-          ap (λ (x : List ℕ). take n text ++ x)
-            (ap (λ (k : ℕ). k ∷ SLASH ∷ drop (n + 1 + 1) text) (sym star) ∙ ap (λ (k : ℕ). get_or text n 0 ∷ k ∷ drop (n + 1 + 1) text) (sym slash)
-              ∙ ap (λ (x : List ℕ). get_or text n 0 ∷ x) (sym (drop_more text (n + 1) 0 room)) ∙ sym (drop_more text n 0 (omega arith)))
-          ∙ take-append-drop n text in
+      ap (λ (x : List ℕ). take n text ++ x)
+      (ap (λ (k : ℕ). k ∷ SLASH ∷ drop (n + 1 + 1) text) (sym star) ∙ ap (λ (k : ℕ). get_or text n 0 ∷ k ∷ drop (n + 1 + 1) text) (sym slash)
+      ∙ ap (λ (x : List ℕ). get_or text n 0 ∷ x) (sym (drop_more text (n + 1) 0 room)) ∙ sym (drop_more text n 0 (omega arith)))
+      ∙ take-append-drop n text in
       let l : length (take n text) ≡ n = length-take-le n text (omega arith) in
       record {
         inside = take n text;

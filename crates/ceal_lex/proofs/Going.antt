@@ -63,7 +63,7 @@ module _ (source : List ℕ) (at : ℕ) (tokens : List Token) (so_far : Continue
       let l = ap length f.begins in
       let m = length-append f.text f.rest in
       let left : f.rest ≡ drop (at + n) source =
-          followed_rest (token k f.text) f.rest n (drop at source) f.begins (omega (arith, l, m, f.counted)) ∙ drop-drop n at source in
+      followed_rest (token k f.text) f.rest n (drop at source) f.begins (omega (arith, l, m, f.counted)) ∙ drop-drop n at source in
       let next : spelled ps end ≡ f.rest = sp ∙ sym left in
       let stands : Stands (token k f.text) (spelled ps end) = subst (Stands (token k f.text)) (sym next) f.stands in
       let r = so_far (token k f.text ∷ ps) end (stands, st) (ap (followed (token k f.text)) next ∙ f.begins) in

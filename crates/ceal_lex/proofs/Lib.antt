@@ -9,3 +9,4 @@ mod Begins
 mod Going
 mod Outcomes
 mod Marks
+mod Samples

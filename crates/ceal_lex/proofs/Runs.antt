@@ -46,9 +46,9 @@ pub position_default : (test : ℕ → Bool) (bs : List ℕ) → unwrap_or (posi
 position_default test bs = elim (cases_Bool (nat_lt (position_or_len test bs) (length bs))) [
   | inl e ↦ rw e refl
   | inr e ↦
-    let p = run_within (λ b. not (test b)) bs in
-    let q = ltb-false (position_or_len test bs) (length bs) e in
-    rw e (omega (arith, p, q))
+      let p = run_within (λ b. not (test b)) bs in
+      let q = ltb-false (position_or_len test bs) (length bs) e in
+      rw e (omega (arith, p, q))
 ]
 
 -- what stands before the end of a line, and what stands behind it

@@ -70,8 +70,8 @@ module _ (bytes : List ℕ) (first : ℕ) where
   none_alone w none s more h = elim (shape s) [
     | inl p ↦ no_short more s [] w (none s) h p
     | inr p ↦
-      let l = ap length (sym w ∙ h ∙ ap (λ (x : List ℕ). x ++ more) p.2) in
-      absurd (omega (arith, l))
+        let l = ap length (sym w ∙ h ∙ ap (λ (x : List ℕ). x ++ more) p.2) in
+        absurd (omega (arith, l))
   ]
 
   module _ (second : ℕ) (rest : List ℕ) (w : bytes ≡ first ∷ second ∷ rest) where

@@ -52,7 +52,7 @@ fn word(alloc: Global, bytes: &[u8]) -> Result<Front, NoMemory>
     match reserved(text) {
         Some(word) => Ok(Front::Found(TokenKind::Reserved(word), length)),
         None => {
-            let name = Text::new(Vec::from_slice(alloc, text)?);
+            let name = Text::from_slice(alloc, text)?;
             Ok(Front::Found(TokenKind::Name(name), length))
         }
     }

@@ -103,5 +103,4 @@ pub fn one_reading()
     ensures list { (source : List ℕ) (marked : Bool) (ts us : List TokenRecord) → AreTokens source marked ts → AreTokens source marked us → ts ≡ us }
     ensures fault { (source : List ℕ) (f g : FaultRecord) → IsFirstFault source f → IsFirstFault source g → f ≡ g }
     ensures not_both { (source : List ℕ) (marked : Bool) (ts : List TokenRecord) (f : FaultRecord) → AreTokens source marked ts → IsFirstFault source f → ⊥ }
-{
-}
+{}

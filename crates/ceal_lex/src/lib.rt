@@ -13,5 +13,7 @@ mod number;
 pub mod parts;
 mod signs;
 pub mod split;
+#[cfg(test)]
+mod tests;
 pub mod token;
 mod words;

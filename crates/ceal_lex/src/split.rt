@@ -1,7 +1,8 @@
 // Where an input is split.
 
-ghost use Rattle.std.specs.Prelude.{length, ◌<◌, ◌^◌, ◌↔◌, IsTrue};
+ghost use Rattle.std.specs.Prelude.{◌≡◌, length, ◌<◌, ◌^◌, ◌↔◌, IsTrue, List, ℕ};
 ghost use Rattle.ceal_lex.specs.Parts.{IsMark, IsSplit};
+ghost use Rattle.ceal_lex.specs.declared.parts.Split.{Split as SplitRecord};
 
 use crate::comments::line_length;
 use crate::parts::Split;
@@ -28,9 +29,15 @@ pub fn split(input: &[u8]) -> Split
         if is_mark(&rest[..length]) {
             let script = (start + length + 1).min(input.len());
             return Split {
-                source: Span { from: 0, to: start as u32 },
+                source: Span {
+                    from: 0,
+                    to: start as u32,
+                },
                 marked: true,
-                script: Span { from: script as u32, to: end },
+                script: Span {
+                    from: script as u32,
+                    to: end,
+                },
             };
         }
         start += length + 1;
@@ -41,3 +48,8 @@ pub fn split(input: &[u8]) -> Split
         script: Span { from: end, to: end },
     }
 }
+
+/// An input has one split.
+pub fn one_split()
+    ensures { (input : List ℕ) (p q : SplitRecord) → IsSplit input p → IsSplit input q → p ≡ q }
+{}

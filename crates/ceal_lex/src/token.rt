@@ -78,7 +78,7 @@ pub enum Sign {
 }
 
 /// What a token is. `End` stands at the line `%%`, and `Cut` at the end of an input that has no such line.
-#[derive(Debug, Drop)]
+#[derive(PartialEq, Eq, Debug, Drop)]
 pub enum TokenKind {
     Name(Text),
     Number(i64),
@@ -89,7 +89,7 @@ pub enum TokenKind {
 }
 
 /// A token, and where it stands. The span of `End` and of `Cut` is empty.
-#[derive(Debug, Drop)]
+#[derive(PartialEq, Eq, Debug, Drop)]
 pub struct Token {
     pub kind: TokenKind,
     pub span: Span,

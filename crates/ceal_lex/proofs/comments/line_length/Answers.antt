@@ -8,7 +8,7 @@ use Rattle.ceal_lex.proofs.comments.line_length.Goals as goal
 pub returns : goal.returns
 returns c =
     let first : c.unwrap_or.result ≡ position_or_len (λ b. b == LINE_FEED) c.args.text.now =
-        c.unwrap_or.ensures ∙ ap (λ (o : Option ℕ). unwrap_or o (length c.args.text.now)) c.line_end.ensures
-        ∙ position_default (λ b. b == LINE_FEED) c.args.text.now in
+    c.unwrap_or.ensures ∙ ap (λ (o : Option ℕ). unwrap_or o (length c.args.text.now)) c.line_end.ensures
+    ∙ position_default (λ b. b == LINE_FEED) c.args.text.now in
     let few = run_within (λ b. not (b == LINE_FEED)) c.args.text.now in
     record { within = omega (arith, first, few); first = first }

@@ -7,7 +7,7 @@ pub returns-in-Some : goal.returns-in-Some
 returns-in-Some c =
     word_found (kinds.Reserved c.in-Some.word) c.args.bytes.now c.word_length-length.result c.requires c.word_length-length.ensures (λ w. c.in-Some.ensures.spelled)
 
-pub returns-in_ok-from_slice-in-None : goal.returns-in_ok-from_slice-in-None
-returns-in_ok-from_slice-in-None c =
-    word_found (kinds.Name c.new-name.result) c.args.bytes.now c.word_length-length.result c.requires c.word_length-length.ensures
-      (λ w. (search rules, w, c.in-None.ensures.none))
+pub returns-in_ok-name-in-None : goal.returns-in_ok-name-in-None
+returns-in_ok-name-in-None c =
+    word_found (kinds.Name c.in_ok-name-in-None.name) c.args.bytes.now c.word_length-length.result c.requires c.word_length-length.ensures
+    (λ w. (c.in_ok-name-in-None.ensures.equal, w, c.in-None.ensures.none))

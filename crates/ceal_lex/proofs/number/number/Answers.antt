@@ -7,7 +7,7 @@ use Rattle.ceal_lex.proofs.number.number.Goals as goal
 pub loop-byte-preserved : goal.loop-byte-preserved
 loop-byte-preserved c =
     let e : c.loop-byte.value * 10 + c.from-digit.result ≡ 10 * c.loop-byte.value + (get_or c.args.digits.now c.loop-byte.byte-index 0 - 48) =
-        omega (arith, c.from-digit.ensures, c.saturating_sub.ensures) in
+    omega (arith, c.from-digit.ensures, c.saturating_sub.ensures) in
     record {
       small = omega (arith, c.if-value-digit.false);
       same = ap (λ (v : ℕ). continued v (drop (c.loop-byte.byte-index + 1) c.args.digits.now)) e
@@ -17,7 +17,7 @@ loop-byte-preserved c =
 pub returns-then-value-digit : goal.returns-then-value-digit
 returns-then-value-digit c =
     let h : LARGEST < 10 * c.loop-byte.value + (get_or c.args.digits.now c.loop-byte.byte-index 0 - 48) =
-        omega (arith, c.if-value-digit.true, c.from-digit.ensures, c.saturating_sub.ensures) in
+    omega (arith, c.if-value-digit.true, c.from-digit.ensures, c.saturating_sub.ensures) in
     value_large c.loop-byte.value c.loop-byte.byte-index c.args.digits.now c.loop-byte.invariant.same (omega arith) h
 
 pub returns : goal.returns

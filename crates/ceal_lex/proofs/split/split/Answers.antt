@@ -14,9 +14,9 @@ returns-then-is_mark c =
     let start = c.loop-start.start in
     let n = c.line_length-length.result in
     let length_is : n ≡ position_or_len (λ b. b == LINE_FEED) (drop start input) =
-        subst (λ (x : List ℕ). n ≡ position_or_len (λ b. b == LINE_FEED) x) (take_rest input start) c.line_length-length.ensures.first in
+    subst (λ (x : List ℕ). n ≡ position_or_len (λ b. b == LINE_FEED) x) (take_rest input start) c.line_length-length.ensures.first in
     let mark : IsMark (take n (drop start input)) =
-        subst (λ (x : List ℕ). IsMark (take n x)) (take_rest input start) (c.is_mark.ensures.0 c.if-is_mark.true) in
+    subst (λ (x : List ℕ). IsMark (take n x)) (take_rest input start) (c.is_mark.ensures.0 c.if-is_mark.true) in
     let parts = marked input start n c.loop-start-test.true c.loop-start.invariant.none (c.loop-start.invariant.before (omega (arith, c.loop-start-test.true))) length_is mark in
     record { parts = record { small = c.requires; parts = rw c.min-script.ensures parts } }
 
@@ -26,9 +26,9 @@ loop-start-preserved c =
     let start = c.loop-start.start in
     let n = c.line_length-length.result in
     let length_is : n ≡ position_or_len (λ b. b == LINE_FEED) (drop start input) =
-        subst (λ (x : List ℕ). n ≡ position_or_len (λ b. b == LINE_FEED) x) (take_rest input start) c.line_length-length.ensures.first in
+    subst (λ (x : List ℕ). n ≡ position_or_len (λ b. b == LINE_FEED) x) (take_rest input start) c.line_length-length.ensures.first in
     let other : IsMark (take n (drop start input)) → ⊥ =
-        λ m. false≢true (sym c.if-is_mark.false ∙ c.is_mark.ensures.1 (subst (λ (x : List ℕ). IsMark (take n x)) (sym (take_rest input start)) m)) in
+    λ m. false≢true (sym c.if-is_mark.false ∙ c.is_mark.ensures.1 (subst (λ (x : List ℕ). IsMark (take n x)) (sym (take_rest input start)) m)) in
     let before = c.loop-start.invariant.before (omega (arith, c.loop-start-test.true)) in
     let place : start + n + 1 ≡ start + (n + 1) = omega arith in
     record {
