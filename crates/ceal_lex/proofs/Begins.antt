@@ -1,8 +1,8 @@
 -- What stands at the front of bytes, by the class of the first.
-use Rattle.std.proofs.Common.{◌≡◌, ◌≢◌, ◌⊎◌, ℕ, suc, ◌+◌, ◌-◌, ◌≤◌, ◌<◌, Bool, true, false, not, ◌||◌, List, [], ◌∷◌, ◌++◌, length, take, drop, get_or, refl, sym, ap, ◌∙◌, subst, arith, rules, inl, inr}
-use Rattle.std.specs.Prelude.{IsTrue, ◌==◌}
-use Rattle.std.specs.List.{AllByRecursion, prefix_len, position_or_len}
-use Rattle.std.proofs.lemmas.Bool.{true≢false, false≢true, or_left, or_right, or_parts, not-true}
+use Rattle.std.proofs.Common.{◌≡◌, ◌≢◌, ℕ, ◌+◌, ◌-◌, ◌≤◌, ◌<◌, Bool, true, false, not, ◌||◌, List, [], ◌∷◌, ◌++◌, length, take, drop, get_or, refl, sym, ap, ◌∙◌, subst, arith, inl, inr}
+use Rattle.std.specs.Prelude.{◌==◌, ℤ, pos}
+use Rattle.std.specs.List.{prefix_len, position_or_len}
+use Rattle.std.proofs.lemmas.Bool.{false≢true, or_left, or_right, or_parts, not-true}
 use Rattle.std.proofs.lemmas.Bool.Decides.{nat_tests}
 use Rattle.std.proofs.lemmas.List.{length-append, length-take-le, length-drop, take-append-drop, take_rest}
 use Rattle.std.proofs.Math.Numerals.{one-add}
@@ -18,8 +18,8 @@ use Rattle.ceal_lex.specs.Characters.{LINE_FEED, SLASH, STAR, is_digit, is_lette
 use Rattle.ceal_lex.specs.Spelling.{AreDigits, IsLexeme, IsWord, LARGEST, number_of, sign_text, Spells}
 use Rattle.ceal_lex.specs.Pieces.{Piece, space, line_comment, block_comment, token, followed, BeginsComment, IsLongest, Stands}
 use Rattle.ceal_lex.specs.Tokens.{tokens_from}
-use Rattle.ceal_lex.specs.Faults.{BeginsNothing, BeginsTooLarge, FaultStands, IsOpen}
-use Rattle.ceal_lex.specs.Front.{BeginsWith, is_other, ClosesAt, IsBlank, IsFound, IsFront, IsLongestSign, IsNeverClosed, IsTaken, taken}
+use Rattle.ceal_lex.specs.Faults.{FaultStands}
+use Rattle.ceal_lex.specs.Front.{BeginsWith, is_other, ClosesAt, IsBlank, IsFound, IsFront, IsLongestSign, IsNeverClosed, IsTaken}
 use Rattle.ceal_lex.proofs.Runs.{run_within, run_passes, run_longest, line_passes, line_ends}
 use Rattle.ceal_lex.proofs.Spellings.{lexeme_of, lexeme_not_empty, letter_no_digit}
 use Rattle.ceal_lex.proofs.Fronts.{fault_not_empty}
@@ -202,7 +202,7 @@ module _ (bytes : List ℕ) (n : ℕ) (h : BeginsWith is_digit bytes) (e : n ≡
       none [] h = absurd h
       none (b ∷ bs) h = no_comment b bs (digit_in_word b h)
 
-  pub number_found : (v : Rattle.std.specs.Prelude.ℤ) → v ≡ Rattle.std.specs.Prelude.pos (number_of (take n bytes)) → number_of (take n bytes) ≤ LARGEST → IsFound (kinds.Number v) n bytes
+  pub number_found : (v : ℤ) → v ≡ pos (number_of (take n bytes)) → number_of (take n bytes) ≤ LARGEST → IsFound (kinds.Number v) n bytes
   number_found v same small = front_found bytes n (kinds.Number v) digits_fit (same, all_digits, small) digits_longest digits_no_comment
 
   pub number_too_large : LARGEST < number_of (take n bytes) → FaultStands S2 bytes n

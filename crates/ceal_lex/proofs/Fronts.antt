@@ -1,15 +1,14 @@
 -- One piece at most stands at the front of bytes, and none where a fault stands.
-use Rattle.std.proofs.Common.{◌≡◌, ◌≢◌, ◌⊎◌, inl, inr, ℕ, suc, ◌+◌, ◌≤◌, ◌<◌, Bool, true, false, List, [], ◌∷◌, ◌++◌, length, take, drop, refl, sym, ap, ◌∙◌, arith, rules, subst}
+use Rattle.std.proofs.Common.{◌≡◌, ◌≢◌, ◌⊎◌, inl, inr, ℕ, true, List, [], ◌∷◌, ◌++◌, length, take, refl, sym, ap, ◌∙◌, arith, subst}
 use Rattle.std.specs.List.{AllByRecursion}
 use Rattle.std.proofs.lemmas.Bool.{true≢false, false≢true}
-use Rattle.std.proofs.lemmas.List.{append_cancel_left, take_at, length-append}
+use Rattle.std.proofs.lemmas.List.{append_cancel_left, take_at}
 use Rattle.ceal_base.specs.declared.fault.FaultCode.{FaultCode}
 use Rattle.ceal_base.specs.declared.fault.FaultCode.TheVariants.{S1, S2}
-use Rattle.ceal_lex.specs.declared.token.TokenKind.{TokenKind}
 use Rattle.ceal_lex.specs.declared.token.Sign.TheVariants as signs
 use Rattle.ceal_lex.specs.Characters.{LINE_FEED, SLASH, STAR, is_digit, is_space}
-use Rattle.ceal_lex.specs.Spelling.{AreDigits, IsLexeme, LARGEST, number_of, Spells, sign_text}
-use Rattle.ceal_lex.specs.Pieces.{Piece, space, line_comment, block_comment, token, followed, BeginsComment, EndsLine, IsLongest, IsClosedFirst, Stands}
+use Rattle.ceal_lex.specs.Spelling.{AreDigits, IsLexeme, Spells}
+use Rattle.ceal_lex.specs.Pieces.{Piece, space, line_comment, block_comment, token, followed, EndsLine, IsLongest, IsClosedFirst, Stands}
 use Rattle.ceal_lex.specs.Faults.{IsOpen, BeginsNothing, BeginsTooLarge, FaultStands}
 use Rattle.ceal_lex.proofs.Spellings.{same_kind, lexeme_of, not_too_large, lexeme_not_empty, space_no_lexeme}
 

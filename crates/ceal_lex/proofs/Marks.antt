@@ -1,13 +1,13 @@
 -- The first line `%%`.
-use Rattle.std.proofs.Common.{◌≡◌, ◌≢◌, ◌⊎◌, ℕ, suc, ◌+◌, ◌-◌, ◌≤◌, ◌<◌, ◌^◌, min, Bool, true, false, List, [], ◌∷◌, ◌++◌, length, take, drop, get_or, refl, sym, ap, ◌∙◌, subst, arith, rules, inl, inr}
-use Rattle.std.specs.Prelude.{◌==◌}
+use Rattle.std.proofs.Common.{◌≡◌, ◌≢◌, ℕ, suc, ◌+◌, ◌-◌, ◌≤◌, ◌<◌, min, Bool, true, false, List, [], ◌∷◌, ◌++◌, length, take, drop, get_or, refl, sym, ap, ◌∙◌, subst, arith, inl, inr, zero}
+use Rattle.std.specs.Prelude.{◌==◌, not}
 use Rattle.std.specs.List.{AllByRecursion, position_or_len}
-use Rattle.std.proofs.lemmas.Bool.{cases_order}
-use Rattle.std.proofs.lemmas.List.{append_assoc, append-nil, length-append, length-drop, length-take-le, drop-drop, drop_at, drop_all, take-append-drop, take_more, get_or-drop, get_or-take, get_or_at}
+use Rattle.std.proofs.lemmas.Bool.{cases_order, cases_lt}
+use Rattle.std.proofs.lemmas.List.{append_assoc, length-append, length-drop, length-take-le, drop_at, take-append-drop, take_more, get_or-drop, get_or-take, get_or_at}
 use Rattle.ceal_base.specs.declared.fault.Span.{Span}
 use Rattle.ceal_lex.specs.declared.parts.Split.{Split}
 use Rattle.ceal_lex.specs.Characters.{CARRIAGE_RETURN, LINE_FEED, PERCENT}
-use Rattle.ceal_lex.specs.Parts.{HasFirstMark, HasMark, IsBeforeLine, IsLine, IsMark, IsMarked, IsSplit, IsUnmarked, PartsAre}
+use Rattle.ceal_lex.specs.Parts.{HasFirstMark, HasMark, IsBeforeLine, IsLine, IsMark, IsMarked, IsSplit, PartsAre}
 use Rattle.ceal_lex.specs.Pieces.{EndsLine}
 use Rattle.ceal_lex.specs.Tokens.{span}
 use Rattle.ceal_lex.proofs.Fronts.{same_line, same_parts}
@@ -43,7 +43,7 @@ line_some text line after m (inr e) =
 
 passes_at : (bs : List ℕ) (k : ℕ) → AllByRecursion (λ b. b ≢ LINE_FEED) bs → k < length bs → get_or bs k 0 ≢ LINE_FEED
 passes_at [] k h l = absurd (omega (arith, l))
-passes_at (b ∷ bs) Prim.Native.Nat.zero h l = h.0
+passes_at (b ∷ bs) zero h l = h.0
 passes_at (b ∷ bs) (suc k) h l = passes_at bs k h.1 (omega (arith, l))
 
 ends_in_feed : (text line after : List ℕ) → line ≡ text ++ LINE_FEED ∷ [] → line ++ after ≡ text ++ LINE_FEED ∷ after
@@ -79,7 +79,7 @@ module _ (input : List ℕ) (start n : ℕ) (under : start < length input) (none
   tail = drop n (drop start input)
 
   fits : n ≤ length (drop start input)
-  fits = let p = run_within (λ b. Rattle.std.specs.Prelude.not (b == LINE_FEED)) (drop start input) in omega (arith, length_is, p)
+  fits = let p = run_within (λ b. not (b == LINE_FEED)) (drop start input) in omega (arith, length_is, p)
 
   passes : AllByRecursion (λ b. b ≢ LINE_FEED) text
   passes = rw length_is (line_passes (drop start input))
@@ -113,9 +113,9 @@ module _ (input : List ℕ) (start n : ℕ) (under : start < length input) (none
       let g : text ++ tail ≡ m.line ++ a = parts ∙ ap (drop start) m.whole ∙ drop_at b (m.line ++ a) start l in
       subst IsMark (sym (same_text text tail m.text m.line a g passes ends m.mark m.is_line)) m.mark
 
-  feed_later : (b e rest : List ℕ) → input ≡ b ++ rest → b ≡ e ++ LINE_FEED ∷ [] → start < length b → start + n + 1 ≤ length b
-  feed_later b e rest w i l =
-      elim (Rattle.std.proofs.lemmas.Bool.cases_lt (length e) (start + n)) [
+  line_feed_later : (b e rest : List ℕ) → input ≡ b ++ rest → b ≡ e ++ LINE_FEED ∷ [] → start < length b → start + n + 1 ≤ length b
+  line_feed_later b e rest w i l =
+      elim (cases_lt (length e) (start + n)) [
         | inl less ↦
             let size = ap length i ∙ length-append e (LINE_FEED ∷ []) in
             let k : start + (length e - start) ≡ length e = omega (arith, l, size) in
@@ -137,7 +137,7 @@ module _ (input : List ℕ) (start n : ℕ) (under : start < length input) (none
     where
       later : IsBeforeLine b → start + n + 1 ≤ length b
       later (inl e) = let size = ap length e in absurd (omega (arith, l, size))
-      later (inr (e, i)) = feed_later b e (m.line ++ a) m.whole i l
+      later (inr (e, i)) = line_feed_later b e (m.line ++ a) m.whole i l
 
   pub none_more : (IsMark text → ⊥) → NoneBefore (start + n + 1) input
   none_more other b a m = elim (cases_order start (length b)) [

@@ -1,5 +1,7 @@
 -- From what was read to what `lex` promises.
-use Rattle.std.proofs.Common.{◌≡◌, ℕ, ◌+◌, ◌≤◌, ◌<◌, Bool, true, false, Result, Ok, Err, IfOk, List, [], ◌∷◌, ◌++◌, length, take, drop, refl, sym, ap, ◌∙◌, arith, rules, inl, inr}
+use Rattle.ceal_lex.specs.Characters.{STAR, SLASH}
+use Rattle.ceal_base.specs.declared.fault.Span.{Span}
+use Rattle.std.proofs.Common.{◌≡◌, ℕ, ◌+◌, ◌≤◌, Bool, true, false, Result, Ok, Err, IfOk, List, [], ◌∷◌, ◌++◌, length, refl, ap, ◌∙◌, arith, inl, inr}
 use Rattle.std.proofs.lemmas.List.{length-append, length-take-le}
 use Rattle.ceal_base.specs.declared.fault.Fault.{Fault}
 use Rattle.ceal_base.specs.declared.fault.FrontError.{FrontError}
@@ -8,20 +10,20 @@ use Rattle.ceal_lex.specs.declared.parts.Split.{Split}
 use Rattle.ceal_lex.specs.declared.token.Token.{Token}
 use Rattle.ceal_lex.specs.Answers.{Gives, IfFault}
 use Rattle.ceal_lex.specs.Faults.{IsFirstFault}
-use Rattle.ceal_lex.specs.Parts.{IsMarked, IsSplit, IsUnmarked, PartsAre, source_of}
-use Rattle.ceal_lex.specs.Pieces.{Piece, space, line_comment, block_comment, token, followed, spelled, Stand}
+use Rattle.ceal_lex.specs.Parts.{IsSplit, PartsAre, source_of}
+use Rattle.ceal_lex.specs.Pieces.{Piece, space, line_comment, block_comment, token, spelled}
 use Rattle.ceal_lex.specs.Reading.{Reads}
-use Rattle.ceal_lex.specs.Tokens.{AreTokens, ending, InOrder, IsEnded, span, tokens_from}
+use Rattle.ceal_lex.specs.Tokens.{AreTokens, ending, InOrder, IsEnded, tokens_from}
 use Rattle.ceal_lex.proofs.Readings.{one_list, one_fault, not_both}
 
 parts_within : (marked : Bool) (input : List ℕ) (part : Split) → PartsAre marked input part → part.source.to ≤ length input
 parts_within true input part h =
-    let e = ap (λ (s : Rattle.ceal_base.specs.declared.fault.Span.Span). s.to) h.source in
+    let e = ap (λ (s : Span). s.to) h.source in
     let m = h.first.mark in
     let l = ap length m.whole ∙ length-append h.before (m.line ++ h.after) in
     omega (arith, e, l)
 parts_within false input part h =
-    let e = ap (λ (s : Rattle.ceal_base.specs.declared.fault.Span.Span). s.to) h.source in
+    let e = ap (λ (s : Span). s.to) h.source in
     omega (arith, e)
 
 pub source_within : (input : List ℕ) (part : Split) → IsSplit input part → part.source.to ≤ length input
@@ -64,7 +66,7 @@ in_order (line_comment t ∷ ps) from at to marked h e =
     let l = length-append t (spelled ps []) in
     in_order ps from (at + (2 + length t)) to marked (omega (arith, h)) (omega (arith, e, l))
 in_order (block_comment t ∷ ps) from at to marked h e =
-    let l = length-append t (Rattle.ceal_lex.specs.Characters.STAR ∷ Rattle.ceal_lex.specs.Characters.SLASH ∷ spelled ps []) in
+    let l = length-append t (STAR ∷ SLASH ∷ spelled ps []) in
     in_order ps from (at + (4 + length t)) to marked (omega (arith, h)) (omega (arith, e, l))
 in_order (token k t ∷ ps) from at to marked h e =
     let l = length-append t (spelled ps []) in

@@ -1,10 +1,10 @@
 -- A source has one list of tokens at most, or one first fault, and not both.
-use Rattle.std.proofs.Common.{◌≡◌, ℕ, ◌+◌, Bool, List, [], ◌∷◌, ◌++◌, length, refl, sym, ap, ◌∙◌, arith, subst}
+use Rattle.std.proofs.Common.{◌≡◌, ℕ, ◌+◌, Bool, List, [], ◌∷◌, ◌++◌, length, refl, sym, ap, ◌∙◌, arith}
 use Rattle.ceal_base.specs.declared.fault.Fault.{Fault}
 use Rattle.ceal_base.specs.declared.fault.FaultCode.{FaultCode}
 use Rattle.ceal_base.specs.declared.fault.Span.{Span}
 use Rattle.ceal_lex.specs.declared.token.Token.{Token}
-use Rattle.ceal_lex.specs.Pieces.{Piece, followed, Stands, spelled, Stand}
+use Rattle.ceal_lex.specs.Pieces.{Piece, spelled, Stand}
 use Rattle.ceal_lex.specs.Tokens.{AreTokens, ending, span, tokens_from}
 use Rattle.ceal_lex.specs.Faults.{IsFirstFault}
 use Rattle.ceal_lex.proofs.Fronts.{same_front, Stops, stops_at_end, stops_at_fault, same_fault, fault_not_empty}

@@ -1,7 +1,6 @@
 -- Computed samples of the definitions.
-use Rattle.std.proofs.Common.{◌≡◌, ℕ, ◌≤◌, Bool, true, false, List, [], ◌∷◌, ◌++◌, pos, refl, arith}
+use Rattle.std.proofs.Common.{◌≡◌, true, false, List, [], ◌∷◌, ◌++◌, pos, refl}
 use Rattle.std.specs.Prelude.{codes}
-use Rattle.ceal_lex.specs.declared.token.Token.{Token}
 use Rattle.ceal_lex.specs.declared.token.TokenKind.TheVariants.{Name, Number, Sign, End}
 use Rattle.ceal_lex.specs.declared.token.Sign.TheVariants.{Arrow}
 use Rattle.ceal_lex.specs.Characters.{is_space, is_word_byte}

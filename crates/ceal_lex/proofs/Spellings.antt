@@ -1,8 +1,7 @@
 -- Bytes spell one kind of token at most.
-use Rattle.std.proofs.Common.{◌≡◌, ◌≢◌, ◌⊎◌, inl, inr, ℕ, ◌≤◌, ◌<◌, Bool, true, false, List, [], ◌∷◌, ◌++◌, pos, refl, sym, ap, ◌∙◌, arith, rules, subst}
-use Rattle.std.specs.Prelude.{codes, bytes_eq, IsTrue, if◌then◌else◌}
-use Rattle.std.specs.List.{AllByRecursion}
-use Rattle.std.proofs.lemmas.Bool.{true≢false, false≢true}
+use Rattle.std.proofs.Common.{◌≡◌, inl, inr, ℕ, ◌<◌, true, List, [], ◌∷◌, refl, sym, ap, ◌∙◌, arith, rules, subst}
+use Rattle.std.specs.Prelude.{codes, bytes_eq, if◌then◌else◌}
+use Rattle.std.proofs.lemmas.Bool.{false≢true}
 use Rattle.std.proofs.lemmas.Bool.Decides.{nat_tests}
 use Rattle.ceal_lex.specs.declared.token.Reserved.{Reserved}
 use Rattle.ceal_lex.specs.declared.token.Reserved.TheVariants as words
@@ -10,7 +9,7 @@ use Rattle.ceal_lex.specs.declared.token.Sign.{Sign}
 use Rattle.ceal_lex.specs.declared.token.Sign.TheVariants as signs
 use Rattle.ceal_lex.specs.declared.token.TokenKind.{TokenKind}
 use Rattle.ceal_lex.specs.declared.token.TokenKind.TheVariants as kinds
-use Rattle.ceal_lex.specs.Characters.{is_digit, is_letter, is_space, is_word_byte}
+use Rattle.ceal_lex.specs.Characters.{is_digit, is_letter, is_space}
 use Rattle.ceal_lex.specs.Spelling.{reserved_text, sign_text, IsWord, AreDigits, number_of, IsLexeme, LARGEST, Spells}
 
 pub letter_no_digit : (b : ℕ) → is_letter b ≡ true → is_digit b ≡ true → ⊥

@@ -1,5 +1,5 @@
 -- What was read of a source so far.
-use Rattle.std.specs.Prelude.{ℕ, ◌≡◌, List, [], ◌++◌}
+use Rattle.std.specs.Prelude.{ℕ, ◌≡◌, List}
 use Rattle.ceal_lex.specs.declared.token.Token.{Token}
 use Rattle.ceal_lex.specs.Pieces.{Piece, spelled, Stand}
 use Rattle.ceal_lex.specs.Tokens.{tokens_from}

@@ -2,7 +2,8 @@
 //!
 //! `split` finds the line `%%` between the source part and the script. `lex` reads the source part as white space,
 //! comments and tokens, or finds the first fault in it. The definitions stand in `specs/`: which bytes spell which
-//! token, which pieces a source is made of, and which faults stand where none goes on.
+//! token, which pieces a source is made of, and which faults stand where none goes on. The form of an input and of
+//! its tokens is this project's own.
 #![tactic(auto)]
 
 mod characters;

@@ -1,5 +1,5 @@
-use Rattle.std.proofs.Common.{◌+◌, arith, rules, get_or}
-use Rattle.ceal_lex.proofs.Closing.{none_more, none_left, closes}
+use Rattle.std.proofs.Common.{arith, rules}
+use Rattle.ceal_lex.proofs.Closing.{closes}
 use Rattle.ceal_lex.proofs.comments.comment_length.Goals as goal
 
 pub returns-then-text-at-eq47 : goal.returns-then-text-at-eq47

@@ -1,4 +1,4 @@
-use Rattle.std.proofs.Common.{◌≡◌, ◌≤◌, ◌-◌, ℕ, List, length}
+use Rattle.std.proofs.Common.{◌≤◌, ◌-◌, length}
 use Rattle.ceal_lex.proofs.Closing.{NoneBefore}
 use Rattle.ceal_lex.proofs.comments.comment_length.Given as goal
 

@@ -1,4 +1,4 @@
-use Rattle.std.proofs.Common.{◌≡◌, ◌≤◌, ◌∙◌, ap, arith, length}
+use Rattle.std.proofs.Common.{◌≡◌, ◌∙◌, ap, arith, length}
 use Rattle.std.specs.Prelude.{ℕ, Option, not, ◌==◌, unwrap_or}
 use Rattle.std.specs.List.{position_or_len}
 use Rattle.ceal_lex.specs.Characters.{LINE_FEED}

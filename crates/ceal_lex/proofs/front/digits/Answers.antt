@@ -1,4 +1,4 @@
-use Rattle.std.proofs.Common.{◌≡◌, ◌∙◌, rules, take}
+use Rattle.std.proofs.Common.{rules}
 use Rattle.ceal_lex.proofs.Begins.{number_found, number_too_large}
 use Rattle.ceal_lex.proofs.front.digits.Goals as goal
 

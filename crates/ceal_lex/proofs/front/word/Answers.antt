@@ -1,4 +1,3 @@
-use Rattle.std.proofs.Common.{refl, rules}
 use Rattle.ceal_lex.specs.declared.token.TokenKind.TheVariants as kinds
 use Rattle.ceal_lex.proofs.Begins.{word_found}
 use Rattle.ceal_lex.proofs.front.word.Goals as goal

@@ -1,9 +1,8 @@
-use Rattle.std.proofs.Common.{◌≡◌, ◌≤◌, ◌+◌, ◌∷◌, ◌++◌, ◌∙◌, [], List, arith, rules, drop, length, subst, sym, ap}
+use Rattle.std.proofs.Common.{◌≡◌, ◌+◌, ◌∷◌, ◌++◌, ◌∙◌, [], List, arith, rules, drop, subst, sym, ap}
 use Rattle.std.specs.Prelude.{ℕ}
-use Rattle.std.proofs.lemmas.List.{take_rest, length-drop}
+use Rattle.std.proofs.lemmas.List.{take_rest}
 use Rattle.ceal_base.specs.declared.fault.Span.{Span}
-use Rattle.ceal_lex.specs.declared.token.Token.{Token}
-use Rattle.ceal_lex.specs.Faults.{FaultStands, IsFirstFault}
+use Rattle.ceal_lex.specs.Faults.{FaultStands}
 use Rattle.ceal_lex.specs.Front.{IsBlank, IsFound}
 use Rattle.ceal_lex.proofs.Going.{Continues, after_blank, after_token, at_end, at_fault}
 use Rattle.ceal_lex.proofs.lex.read.Goals as goal

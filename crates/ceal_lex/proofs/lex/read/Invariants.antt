@@ -1,4 +1,4 @@
-use Rattle.std.proofs.Common.{◌≡◌, ◌≤◌, ◌-◌, length, drop}
+use Rattle.std.proofs.Common.{◌≤◌, ◌-◌, length, drop}
 use Rattle.ceal_lex.proofs.Going.{Continues}
 use Rattle.ceal_lex.proofs.lex.read.Given as goal
 

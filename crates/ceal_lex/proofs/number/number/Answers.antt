@@ -1,6 +1,6 @@
-use Rattle.std.proofs.Common.{◌≡◌, ◌≤◌, ◌<◌, ◌+◌, ◌-◌, ◌*◌, length, get_or, drop, arith, rules, sym, ap, ◌∙◌}
-use Rattle.std.specs.Prelude.{ℕ, pos}
-use Rattle.ceal_lex.specs.Spelling.{LARGEST, continued, number_of}
+use Rattle.std.proofs.Common.{◌≡◌, ◌<◌, ◌+◌, ◌-◌, ◌*◌, get_or, drop, arith, rules, ap, ◌∙◌}
+use Rattle.std.specs.Prelude.{ℕ}
+use Rattle.ceal_lex.specs.Spelling.{LARGEST, continued}
 use Rattle.ceal_lex.proofs.Values.{value_more, value_large, value_all}
 use Rattle.ceal_lex.proofs.number.number.Goals as goal
 
