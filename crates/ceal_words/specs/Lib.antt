@@ -1,0 +1,4 @@
+pub mod Lengths
+pub mod SizeClass
+pub mod Layout
+pub mod Region

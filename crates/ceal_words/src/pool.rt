@@ -1,0 +1,139 @@
+// One size class: its chunk, its pieces and its free list.
+
+ghost use Rattle.std.specs.Prelude.{◌≡◌, ◌<◌, ◌≤◌, ℕ, ◌+◌, ◌-◌, List, [], Some, None, length, replicate, slice_get, IsSome, IfOk, OnOk, OnErr};
+ghost use Rattle.ceal_words.specs.Lengths.{RoundsTo};
+ghost use Rattle.ceal_words.specs.SizeClass.{words_at, word_in, taken, given, with_word, grown};
+
+use crate::chunk::Chunk;
+use crate::marks::Marks;
+use ceal_base::no_memory::NoMemory;
+use std::alloc::Global;
+use std::marker::Model;
+
+/// A size class: pieces of `size` words each, one after the other in a chunk.
+#[derive(Drop)]
+pub(crate) struct Pool {
+    chunk: Chunk,
+    marks: Marks,
+    size: u32,
+    made: u32,
+    head: u64,
+    spare: u32,
+}
+
+impl Model for Pool {
+    ghost use Rattle.ceal_words.specs.SizeClass.{SizeClass};
+    ghost use Rattle.ceal_words.specs.Layout.{pieces_from, IsLaidOut};
+
+    ghost Value = { SizeClass };
+
+    ghost view = { λ p. record { size = p.size; pieces = pieces_from p.size 0 p.marks p.chunk; spare = p.spare } };
+
+    ghost invariant = { λ p. IsLaidOut p.size p.chunk p.marks p.made p.head p.spare };
+}
+
+impl Pool {
+    pub(crate) fn new(alloc: Global, size: u32) -> Result<Pool, NoMemory>
+        requires { 0 < size }
+        ensures { IfOk result (λ p. p ≡ record { size = size; pieces = []; spare = 0 }) }
+    {
+        let chunk = Chunk::new(alloc)?;
+        Ok(Pool {
+            chunk,
+            marks: Marks::new(alloc),
+            size,
+            made: 0,
+            head: 0,
+            spare: 0,
+        })
+    }
+
+    // One more free piece.
+    fn add(&mut self) -> Result<(), NoMemory>
+        ensures ok { OnOk result (self.new ≡ grown 1 self.old) }
+        ensures err { OnErr result (self.new ≡ self.old) }
+    {
+        if self.made == u32::MAX {
+            return Err(NoMemory);
+        }
+        self.chunk.extend(self.size)?;
+        self.marks.add()?;
+        let at = self.made as usize * self.size as usize;
+        self.chunk.set(at, self.head);
+        self.head = self.made as u64;
+        self.made += 1;
+        self.spare += 1;
+        Ok(())
+    }
+
+    pub(crate) fn reserve(&mut self, n: u32) -> Result<(), NoMemory>
+        ensures kept { self.new ≡ grown (self.new.spare - self.old.spare) self.old }
+        ensures lowers_none { self.old.spare ≤ self.new.spare }
+        ensures ok { OnOk result (n ≤ self.new.spare) }
+    {
+        while self.spare() < n {
+            self.add()?;
+        }
+        Ok(())
+    }
+
+    fn spare(&self) -> u32
+        ensures { result ≡ self.now.spare }
+    {
+        self.spare
+    }
+
+    // Takes the first free piece, with what its words happen to be.
+    fn pop(&mut self, len: u32) -> u32
+        requires some { 0 < self.old.spare }
+        requires length { RoundsTo len self.old.size }
+        ensures was_free { slice_get self.old.pieces result ≡ Some None }
+        ensures taken { (words : List ℕ) × (length words ≡ len) × (self.new ≡ taken result words self.old) }
+    {
+        let at = self.head as u32;
+        self.head = self.chunk.get(at as usize * self.size as usize);
+        self.spare -= 1;
+        self.marks.mark(at, len);
+        at
+    }
+
+    pub(crate) fn take(&mut self, len: u32) -> u32
+        requires some { 0 < self.old.spare }
+        requires length { RoundsTo len self.old.size }
+        ensures was_free { slice_get self.old.pieces result ≡ Some None }
+        ensures taken { self.new ≡ taken result (replicate len 0) self.old }
+    {
+        let at = self.pop(len);
+        for index in 0..len {
+            self.set(at, index, 0);
+        }
+        at
+    }
+
+    pub(crate) fn give(&mut self, at: u32)
+        requires { IsSome (words_at self.old.pieces at) }
+        ensures { self.new ≡ given at self.old }
+    {
+        self.chunk
+            .set(at as usize * self.size as usize, self.head);
+        self.head = at as u64;
+        self.spare += 1;
+        self.marks.mark(at, 0);
+    }
+
+    pub(crate) fn get(&self, at: u32, index: u32) -> u64
+        requires { IsSome (word_in (words_at self.now.pieces at) index) }
+        ensures { word_in (words_at self.now.pieces at) index ≡ Some result }
+    {
+        self.chunk
+            .get(at as usize * self.size as usize + index as usize)
+    }
+
+    pub(crate) fn set(&mut self, at: u32, index: u32, value: u64)
+        requires { IsSome (word_in (words_at self.old.pieces at) index) }
+        ensures { self.new ≡ with_word at index value self.old }
+    {
+        self.chunk
+            .set(at as usize * self.size as usize + index as usize, value);
+    }
+}
