@@ -1,3 +1,4 @@
 pub mod PieceLemmas
 pub mod FreeLemmas
 pub mod PoolLemmas
+pub mod RegionLemmas

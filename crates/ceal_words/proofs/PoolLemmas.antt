@@ -1,5 +1,5 @@
 -- What each step of a size class does to its layout, and to what contracts see of it.
-use Rattle.std.proofs.Common.{◌≡◌, ◌≢◌, ℕ, zero, suc, ◌+◌, ◌-◌, ◌*◌, ◌<◌, ◌≤◌, List, [], ◌∷◌, ◌++◌, length, take, drop, get_or, set, replicate, Option, Some, None, IsSome, refl, sym, ap, ◌∙◌, subst, ⊎_elim, arith, slice_get, slice_index, slice_set}
+use Rattle.std.proofs.Common.{◌≡◌, ◌≢◌, ℕ, zero, suc, ◌+◌, ◌-◌, ◌*◌, ◌<◌, ◌≤◌, List, [], ◌∷◌, ◌++◌, length, take, drop, get_or, set, replicate, Option, Some, None, IsSome, IfSome, refl, sym, ap, ◌∙◌, subst, ⊎_elim, arith, slice_get, slice_index, slice_set}
 use Rattle.std.proofs.lemmas.List.{drop-set-add, get_or-drop, get_or-take, get_or-set_same, get_or-set_other, get_or_past, length-set, length-drop, length-take-le, length_push, length-replicate, set-get_or, get_or_push, get_or_append_left, set-set, set_at, drop_more, drop_all, append-nil, replicate_more}
 use Rattle.std.proofs.lemmas.Option.{slice_get-get_or, slice_get_past}
 use Rattle.std.proofs.lemmas.Nat.{mul-add-lt, row_fits}
@@ -78,6 +78,20 @@ module _ (size made head spare : ℕ) (words marks : List ℕ) (laid : IsLaidOut
 
   agree_at : (at index value : ℕ) → index < size → Agree size (length marks) at words (set words (at * size + index) value)
   agree_at at index value small = agree_set size (length marks) at index value words small
+
+  -- the words of a piece are as many as its mark says
+  length_of : (mark : ℕ) (xs : List ℕ) → mark ≤ length xs → (0 < mark → RoundsTo mark size) → IfSome (piece mark xs) (λ ws. RoundsTo (length ws) size)
+  length_of zero xs room rounds = tt
+  length_of (suc n) xs room rounds = subst (λ (k : ℕ). RoundsTo k size) (sym (length-take-le (suc n) xs room)) (rounds (omega arith))
+
+  pub taken_length : (at : ℕ) → IfSome (words_at (pieces_from size 0 marks words) at) (λ ws. RoundsTo (length ws) size)
+  taken_length at = subst (λ (p : Option (List ℕ)). IfSome p (λ ws. RoundsTo (length ws) size)) (sym (piece_of size at marks words))
+      (length_of (get_or marks at 0) (drop (at * size) words)
+        (⊎_elim (λ some. let below = stands marks at some in let counted = laid.counted in let room = laid.room in
+          let row = row_fits at size made size (omega (arith, below, counted)) (omega arith) in
+          omega (arith, length-drop (at * size) words, row, room, fits at))
+        (λ none. omega (arith, none)) (cases_lt 0 (get_or marks at 0)))
+      (laid.lengths at))
 
   -- a word of a taken piece is written
   pub laid_set : (at index value : ℕ) → 0 < get_or marks at 0 → index < size → IsLaidOut size (set words (at * size + index) value) marks made head spare

@@ -56,3 +56,7 @@ pub record IsEmpty (region : List SizeClass) : Type 0 where
 pub record IsInOrder (count : ℕ) (region : List SizeClass) : Type 0 where
   pub counted : length region ≡ count
   pub sizes : (k : ℕ) (class : SizeClass) → slice_get region k ≡ Some class → class.size ≡ 2 ^ k
+
+-- the size classes are new
+abbrev pub AreNew : List SizeClass → Type 0
+AreNew region = (k : ℕ) (class : SizeClass) → slice_get region k ≡ Some class → (class.pieces ≡ []) × (class.spare ≡ 0)

@@ -1,6 +1,6 @@
 // One size class: its chunk, its pieces and its free list.
 
-ghost use Rattle.std.specs.Prelude.{◌≡◌, ◌<◌, ◌≤◌, ℕ, ◌+◌, ◌-◌, List, [], Some, None, length, replicate, slice_get, IsSome, IfOk, OnOk, OnErr};
+ghost use Rattle.std.specs.Prelude.{◌≡◌, ◌<◌, ◌≤◌, ℕ, ◌+◌, ◌-◌, List, [], Some, None, length, replicate, slice_get, IsSome, IfSome, IfOk, OnOk, OnErr};
 ghost use Rattle.ceal_words.specs.Lengths.{RoundsTo};
 ghost use Rattle.ceal_words.specs.SizeClass.{words_at, word_in, taken, given, with_word, grown};
 
@@ -112,7 +112,8 @@ impl Pool {
 
     pub(crate) fn give(&mut self, at: u32)
         requires { IsSome (words_at self.old.pieces at) }
-        ensures { self.new ≡ given at self.old }
+        ensures length { IfSome (words_at self.old.pieces at) (λ words. RoundsTo (length words) self.old.size) }
+        ensures given { self.new ≡ given at self.old }
     {
         self.chunk
             .set(at as usize * self.size as usize, self.head);

@@ -37,11 +37,9 @@ impl Region {
         ensures { IfOk result (λ r. IsEmpty r) }
     {
         let mut pools = Vec::new(alloc);
-        let mut size = 1;
-        for _ in 0..CLASSES {
-            let pool = Pool::new(alloc, size)?;
+        for exponent in 0..CLASSES {
+            let pool = Pool::new(alloc, 1 << exponent)?;
             pools.push(pool)?;
-            size *= 2;
         }
         Ok(Region { pools })
     }
