@@ -85,3 +85,14 @@ pieces_push size marks before after fits agree =
             ∙ sym (piece_of size j marks before)
             ∙ sym (get_or_append_left (pieces_from size 0 marks before) (None ∷ []) None j (omega (arith, old_count, inside))))
         (cases_eq j (length marks)))
+
+-- the pieces are the same where their words are
+pub pieces_same : (size : ℕ) (marks before after : List ℕ) → ((j : ℕ) → get_or marks j 0 ≤ size)
+    → ((j n : ℕ) → j < length marks → n ≤ size → take n (drop (j * size) after) ≡ take n (drop (j * size) before))
+    → pieces_from size 0 marks after ≡ pieces_from size 0 marks before
+pieces_same size marks before after fits same =
+    let count = length-pieces size 0 marks after in
+    ext_get_or None (pieces_from size 0 marks after) (pieces_from size 0 marks before) (count ∙ sym (length-pieces size 0 marks before))
+    (λ j below. piece_of size j marks after
+      ∙ piece_same size (get_or marks j 0) (drop (j * size) before) (drop (j * size) after) (fits j) (λ n small. same j n (omega (arith, count, below)) small)
+      ∙ sym (piece_of size j marks before))

@@ -1,5 +1,5 @@
 -- What each step of a size class does to its layout, and to what contracts see of it.
-use Rattle.std.proofs.Common.{◌≡◌, ◌≢◌, ℕ, zero, suc, ◌+◌, ◌-◌, ◌*◌, ◌<◌, ◌≤◌, List, [], ◌∷◌, ◌++◌, length, take, drop, get_or, set, replicate, Option, Some, None, IsSome, IfSome, refl, sym, ap, ◌∙◌, subst, ⊎_elim, arith, slice_get, slice_index, slice_set}
+use Rattle.std.proofs.Common.{◌≡◌, ◌≢◌, ℕ, zero, suc, ◌+◌, ◌-◌, ◌*◌, ◌<◌, ◌≤◌, List, [], ◌∷◌, ◌++◌, length, take, drop, get_or, set, replicate, Option, Some, None, IsSome, IfSome, Result, Ok, Err, OnOk, OnErr, refl, sym, ap, ◌∙◌, subst, ⊎_elim, arith, slice_get, slice_index, slice_set}
 use Rattle.std.proofs.lemmas.List.{drop-set-add, get_or-drop, get_or-take, get_or-set_same, get_or-set_other, get_or_past, length-set, length-drop, length-take-le, length_push, length-replicate, set-get_or, get_or_push, get_or_append_left, set-set, set_at, drop_more, drop_all, append-nil, replicate_more}
 use Rattle.std.proofs.lemmas.Option.{slice_get-get_or, slice_get_past}
 use Rattle.std.proofs.lemmas.Nat.{mul-add-lt, row_fits}
@@ -9,7 +9,7 @@ use Rattle.std.proofs.Math.Nat.{add-mul}
 use Rattle.ceal_words.specs.Lengths.{RoundsTo}
 use Rattle.ceal_words.specs.SizeClass.{SizeClass, words_at, word_in, changed, taken, given, with_word, grown}
 use Rattle.ceal_words.specs.Layout.{piece, pieces_from, link, free_list, IsOutside, IsFreeList, free_count, IsLaidOut}
-use Rattle.ceal_words.proofs.PieceLemmas.{Agree, agree_then, agree_set, agree_append, piece_of, pieces_set, pieces_push, length-pieces}
+use Rattle.ceal_words.proofs.PieceLemmas.{Agree, agree_then, agree_set, agree_append, piece_of, pieces_set, pieces_push, pieces_same, length-pieces}
 use Rattle.ceal_words.proofs.FreeLemmas.{MarksAgree, free_same, list_same, outside, marks_set, marks_push, count_set, count_push, count_below}
 
 abbrev pub view : ℕ → List ℕ → List ℕ → ℕ → SizeClass
@@ -167,58 +167,74 @@ module _ (size made head spare : ℕ) (words marks : List ℕ) (laid : IsLaidOut
   pub view_given : (at : ℕ) → 0 < get_or marks at 0 → view size (set words (at * size) head) (set marks at 0) (spare + 1) ≡ given at (view size words marks spare)
   view_given at busy = subst (λ (k : ℕ). view size (set words k head) (set marks at 0) (spare + 1) ≡ given at (view size words marks spare)) {x = at * size + 0} (omega arith) (view_give at busy)
 
-  -- one more piece, which becomes the head
-  abbrev count : ℕ
-  count = length marks
-
-  abbrev more : List ℕ
-  more = words ++ replicate size 0
-
-  abbrev pushed : List ℕ
-  pushed = set more (count * size + 0) head
-
-  has_room : count * size ≤ length words
+  has_room : length marks * size ≤ length words
   has_room = let room = laid.room in subst (λ (n : ℕ). n * size ≤ length words) (sym laid.counted) room
 
-  length_more : length more ≡ length words + size
-  length_more = length-append words (replicate size 0) ∙ ap (λ (n : ℕ). length words + n) (length-replicate size 0)
-
-  agree_more : Agree size count count words pushed
-  agree_more = agree_then size count count words more pushed (agree_append size count count words (replicate size 0) has_room) (agree_set size count count 0 head more laid.some)
-
-  laid_more : IsLaidOut size pushed (marks ++ 0 ∷ []) (count + 1) count (spare + 1)
-  laid_more =
-      let out = outside size count words marks (λ below. absurd (omega (arith, below))) spare head laid.free in
-      let start : count * size + 0 < length more = let some = laid.some in omega (arith, has_room, length_more, some) in
+  -- more words, in no piece
+  pub laid_longer : (more : List ℕ) → IsLaidOut size (words ++ more) marks made head spare
+  laid_longer more =
+      let agree = agree_append size (length marks) (length marks) words more has_room in
+      let out = outside size (length marks) words marks (λ below. absurd (omega (arith, below))) spare head laid.free in
       record {
         some = laid.some;
-        counted = length_push marks 0;
-        room = let e = length-set more (count * size + 0) head in omega (arith, e, length_more, has_room, add-mul count 1 size);
-        lengths = λ i some. let inside = stands (marks ++ 0 ∷ []) i some in ⊎_elim
-          (λ same. let e = get_or_push marks 0 0 i (sym same) in absurd (omega (arith, e, some)))
-          (λ other. let e = get_or_append_left marks (0 ∷ []) 0 i (omega (arith, inside, length_push marks 0, other)) in
-            subst (λ (k : ℕ). RoundsTo k size) (sym e) (laid.lengths i (subst (λ (k : ℕ). 0 < k) e some)))
-          (cases_eq i count);
-        free = subst (λ (n : ℕ). IsFreeList size pushed (marks ++ 0 ∷ []) n count) {x = suc spare} (omega arith)
-          (free_given count spare pushed (marks ++ 0 ∷ []) (omega (arith, length_push marks 0)) (get_or_push marks 0 0 count refl)
-            (ap (λ (k : ℕ). get_or pushed k 0) {x = count * size} {y = count * size + 0} (omega arith) ∙ get_or-set_same more (count * size + 0) head 0 start)
-            (subst (IsOutside count) (sym (list_same size count words pushed marks laid.some agree_more spare head laid.free out)) out)
-            (free_same size count words pushed marks (marks ++ 0 ∷ []) laid.some agree_more (marks_push marks) spare head laid.free out));
-        every = count_push marks ∙ ap (λ (n : ℕ). n + 1) laid.every }
+        counted = laid.counted;
+        room = let e = length-append words more in let room = laid.room in omega (arith, e, room);
+        lengths = laid.lengths;
+        free = free_same size (length marks) words (words ++ more) marks marks laid.some agree (omega arith, λ j other below. refl) spare head laid.free out;
+        every = laid.every }
 
-  pub laid_pushed : IsLaidOut size (set more (made * size) head) (marks ++ 0 ∷ []) (made + 1) made (spare + 1)
-  laid_pushed = subst (λ (n : ℕ). IsLaidOut size (set more (n * size) head) (marks ++ 0 ∷ []) (n + 1) n (spare + 1)) laid.counted
-      (subst (λ (k : ℕ). IsLaidOut size (set more k head) (marks ++ 0 ∷ []) (count + 1) count (spare + 1)) {x = count * size + 0} (omega arith) laid_more)
+  pub view_longer : (more : List ℕ) → view size (words ++ more) marks spare ≡ view size words marks spare
+  view_longer more = ap (λ (ps : List (Option (List ℕ))). record { size = size; pieces = ps; spare = spare })
+      (pieces_same size marks words (words ++ more) fits (λ j n below small. agree_append size (length marks) (length marks) words more has_room j n (λ e. absurd (omega (arith, e, below))) below small))
 
-  view_more : view size pushed (marks ++ 0 ∷ []) (spare + 1) ≡ grown 1 (view size words marks spare)
-  view_more = ap (λ (ps : List (Option (List ℕ))). record { size = size; pieces = ps; spare = spare + 1 }) (pieces_push size marks words pushed fits agree_more)
+  -- one more piece, which becomes the head
+  module _ (enough : made * size + size ≤ length words) where
+    abbrev count : ℕ
+    count = length marks
 
-  pub view_pushed : view size (set more (made * size) head) (marks ++ 0 ∷ []) (spare + 1) ≡ grown 1 (view size words marks spare)
-  view_pushed = subst (λ (n : ℕ). view size (set more (n * size) head) (marks ++ 0 ∷ []) (spare + 1) ≡ grown 1 (view size words marks spare)) laid.counted
-      (subst (λ (k : ℕ). view size (set more k head) (marks ++ 0 ∷ []) (spare + 1) ≡ grown 1 (view size words marks spare)) {x = count * size + 0} (omega arith) view_more)
+    abbrev pushed : List ℕ
+    pushed = set words (count * size + 0) head
 
-  pub start_pushed : made * size < length more
-  start_pushed = let room = laid.room in let some = laid.some in omega (arith, room, some, length_more)
+    enough_ : count * size + size ≤ length words
+    enough_ = subst (λ (n : ℕ). n * size + size ≤ length words) (sym laid.counted) enough
+
+    agree_more : Agree size count count words pushed
+    agree_more = agree_set size count count 0 head words laid.some
+
+    laid_more : IsLaidOut size pushed (marks ++ 0 ∷ []) (count + 1) count (spare + 1)
+    laid_more =
+        let out = outside size count words marks (λ below. absurd (omega (arith, below))) spare head laid.free in
+        let start : count * size + 0 < length words = let some = laid.some in omega (arith, enough_, some) in
+        record {
+          some = laid.some;
+          counted = length_push marks 0;
+          room = let e = length-set words (count * size + 0) head in omega (arith, e, enough_, add-mul count 1 size);
+          lengths = λ i some. let inside = stands (marks ++ 0 ∷ []) i some in ⊎_elim
+            (λ same. let e = get_or_push marks 0 0 i (sym same) in absurd (omega (arith, e, some)))
+            (λ other. let e = get_or_append_left marks (0 ∷ []) 0 i (omega (arith, inside, length_push marks 0, other)) in
+              subst (λ (k : ℕ). RoundsTo k size) (sym e) (laid.lengths i (subst (λ (k : ℕ). 0 < k) e some)))
+            (cases_eq i count);
+          free = subst (λ (n : ℕ). IsFreeList size pushed (marks ++ 0 ∷ []) n count) {x = suc spare} (omega arith)
+            (free_given count spare pushed (marks ++ 0 ∷ []) (omega (arith, length_push marks 0)) (get_or_push marks 0 0 count refl)
+              (ap (λ (k : ℕ). get_or pushed k 0) {x = count * size} {y = count * size + 0} (omega arith) ∙ get_or-set_same words (count * size + 0) head 0 start)
+              (subst (IsOutside count) (sym (list_same size count words pushed marks laid.some agree_more spare head laid.free out)) out)
+              (free_same size count words pushed marks (marks ++ 0 ∷ []) laid.some agree_more (marks_push marks) spare head laid.free out));
+          every = count_push marks ∙ ap (λ (n : ℕ). n + 1) laid.every }
+
+    pub laid_pushed : IsLaidOut size (set words (made * size) head) (marks ++ 0 ∷ []) (made + 1) made (spare + 1)
+    laid_pushed = subst (λ (n : ℕ). IsLaidOut size (set words (n * size) head) (marks ++ 0 ∷ []) (n + 1) n (spare + 1)) laid.counted
+        (subst (λ (k : ℕ). IsLaidOut size (set words k head) (marks ++ 0 ∷ []) (count + 1) count (spare + 1)) {x = count * size + 0} (omega arith) laid_more)
+
+    view_more : view size pushed (marks ++ 0 ∷ []) (spare + 1) ≡ grown 1 (view size words marks spare)
+    view_more = ap (λ (ps : List (Option (List ℕ))). record { size = size; pieces = ps; spare = spare + 1 }) (pieces_push size marks words pushed fits agree_more)
+
+    pub view_pushed : view size (set words (made * size) head) (marks ++ 0 ∷ []) (spare + 1) ≡ grown 1 (view size words marks spare)
+    view_pushed = subst (λ (n : ℕ). view size (set words (n * size) head) (marks ++ 0 ∷ []) (spare + 1) ≡ grown 1 (view size words marks spare)) laid.counted
+        (subst (λ (k : ℕ). view size (set words k head) (marks ++ 0 ∷ []) (spare + 1) ≡ grown 1 (view size words marks spare)) {x = count * size + 0} (omega arith) view_more)
+
+  -- there are not more spare pieces than pieces
+  pub few : spare ≤ made
+  few = let all = laid.every in let counted = laid.counted in omega (arith, all, counted, count_below marks)
 
   -- the piece that is taken next
   pub head_is_free : 0 < spare → (head < length marks) × (get_or marks head 0 ≡ 0)
@@ -294,3 +310,12 @@ module _ (class : SizeClass) (at index : ℕ) (words : List ℕ) (inside : at < 
 pub zeroed_all : (class : SizeClass) (at len index : ℕ) (words : List ℕ) → length words ≡ len → index ≡ len → taken at (replicate index 0 ++ drop index words) class ≡ taken at (replicate len 0) class
 zeroed_all class at len index words e same = ap (λ (xs : List ℕ). taken at xs class)
     (ap (λ (xs : List ℕ). replicate index 0 ++ xs) (drop_all index words (omega (arith, e, same))) ∙ append-nil (replicate index 0) ∙ ap (λ (n : ℕ). replicate n 0) same)
+
+-- what holds anyhow holds also at an error
+pub on_err : {T E P : Type 0} (r : Result T E) → P → OnErr r P
+on_err (Ok x) p = tt
+on_err (Err e) p = p
+
+pub on_ok : {T E P : Type 0} (r : Result T E) → P → OnOk r P
+on_ok (Ok x) p = p
+on_ok (Err e) p = tt

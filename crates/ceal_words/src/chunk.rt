@@ -1,6 +1,6 @@
 // The memory of one size class.
 
-ghost use Rattle.std.specs.Prelude.{◌≡◌, ◌<◌, [], ◌++◌, length, replicate, slice_index, slice_set, IfOk, OnOk, OnErr};
+ghost use Rattle.std.specs.Prelude.{◌≡◌, ◌<◌, ◌≤◌, ℕ, List, [], ◌++◌, length, slice_index, slice_set, IfOk, OnOk};
 
 use ceal_base::no_memory::NoMemory;
 use std::alloc::Global;
@@ -29,12 +29,15 @@ impl Chunk {
         })
     }
 
-    pub(crate) fn extend(&mut self, count: u32) -> Result<(), NoMemory>
-        ensures ok { OnOk result (self.new ≡ self.old ++ replicate count 0) }
-        ensures err { OnErr result (self.new ≡ self.old) }
+    /// Makes room for `len` words. Where there was no memory, all is as before.
+    pub(crate) fn reserve(&mut self, len: usize) -> Result<(), NoMemory>
+        ensures kept { (more : List ℕ) × (self.new ≡ self.old ++ more) }
+        ensures ok { OnOk result (len ≤ length self.new) }
     {
-        let len = self.words.len();
-        self.words.resize(len + count as usize, 0)?;
+        let had = self.words.len();
+        if had < len {
+            self.words.resize(len.max(had.saturating_mul(2)), 0)?;
+        }
         Ok(())
     }
 

@@ -56,9 +56,9 @@ impl Pool {
         if self.made == u32::MAX {
             return Err(NoMemory);
         }
-        self.chunk.extend(self.size)?;
-        self.marks.add()?;
         let at = self.made as usize * self.size as usize;
+        self.chunk.reserve(at + self.size as usize)?;
+        self.marks.add()?;
         self.chunk.set(at, self.head);
         self.head = self.made as u64;
         self.made += 1;
