@@ -11,3 +11,6 @@ mod marks;
 mod pool;
 pub mod region;
 pub mod slot;
+
+#[cfg(test)]
+mod tests;
