@@ -2,3 +2,4 @@ pub mod PieceLemmas
 pub mod FreeLemmas
 pub mod PoolLemmas
 pub mod RegionLemmas
+pub mod MemoryLemmas

@@ -2,3 +2,4 @@ pub mod Lengths
 pub mod SizeClass
 pub mod Layout
 pub mod Region
+pub mod Memory

@@ -5,6 +5,7 @@
 //! how many slots of it can still be taken.
 #![tactic(auto)]
 
+mod block;
 mod chunk;
 mod lengths;
 mod marks;
