@@ -3,7 +3,10 @@ use mathlib.Core.Path.{◌≡◌, refl, sym, subst}
 use Prim.Native.Nat.{ℕ, zero, suc, ◌+◌, ◌*◌, ◌<◌}
 use native.Mathlib.Omega.{arith}
 use native.Mathlib.Nat.{not-suc-le-zero, le_of_suc-le-suc}
-use Rattle.std.specs.Prelude.{List, [], ◌∷◌, Option, Some, None, length, replicate}
+use Rattle.std.specs.Prelude.{List, [], ◌∷◌, Option, Some, None, IsSome, length, replicate, unwrap_or}
+use Rattle.std.proofs.Common.{⊎_elim}
+use Rattle.std.proofs.lemmas.Bool.{cases_lt, false≢true}
+use Rattle.std.proofs.lemmas.List.{get_or_past}
 use lib.ListN.{get_or, set}
 use seplogic.Ra.Ura.{Ura}
 use base.Fraction.{full_share}
@@ -76,3 +79,11 @@ module _ {M : Type 1} {𝓤 : Ura M} (𝓛 : Logic 𝓤) (b : ℕ) where
   seen κ [] i o l = absurd (not-suc-le-zero l)
   seen κ (c ∷ cs) zero o l = qed 𝓛 (‵ (cells_lent b o (c ∷ cs) κ) ∷ []) ∵ fsplit ! $ keep ! (0 ∷ []) $ done !
   seen κ (c ∷ cs) (suc i) o l = qed 𝓛 (‵ (cells_lent b o (c ∷ cs) κ) ∷ []) ∵ fsplit ! $ keep ! (1 ∷ []) $ by ! (seen κ cs i (o + 8) (le_of_suc-le-suc l))
+
+-- a cell that is there, and holds a word
+pub some_is : (c : Option ℕ) → IsSome c → c ≡ Some (unwrap_or c 0)
+some_is None none = absurd (false≢true none)
+some_is (Some x) some = refl
+
+pub is_there : (cs : List (Option ℕ)) (i : ℕ) → IsSome (get_or cs i None) → i < length cs
+is_there cs i some = ⊎_elim (λ within. within) (λ past. absurd (false≢true (subst IsSome (get_or_past cs i None past) some))) (cases_lt i (length cs))
