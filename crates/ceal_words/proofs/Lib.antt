@@ -3,3 +3,4 @@ pub mod FreeLemmas
 pub mod PoolLemmas
 pub mod RegionLemmas
 pub mod MemoryLemmas
+pub mod BlockWalks
