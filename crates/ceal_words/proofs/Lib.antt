@@ -4,3 +4,4 @@ pub mod PoolLemmas
 pub mod RegionLemmas
 pub mod MemoryLemmas
 pub mod BlockWalks
+pub mod ChunkLemmas

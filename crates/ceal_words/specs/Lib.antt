@@ -3,3 +3,4 @@ pub mod SizeClass
 pub mod Layout
 pub mod Region
 pub mod Memory
+pub mod Written

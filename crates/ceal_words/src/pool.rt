@@ -37,7 +37,7 @@ impl Pool {
         requires { 0 < size }
         ensures { IfOk result (λ p. p ≡ record { size = size; pieces = []; spare = 0 }) }
     {
-        let chunk = Chunk::new(alloc)?;
+        let chunk = Chunk::zeros(alloc, 1)?;
         Ok(Pool {
             chunk,
             marks: Marks::new(alloc),
