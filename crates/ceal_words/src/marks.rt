@@ -1,46 +1,35 @@
 // At what length each piece is taken.
 
-ghost use Rattle.std.specs.Prelude.{◌≡◌, ◌<◌, [], ◌∷◌, ◌++◌, length, slice_set, IfOk, OnOk, OnErr};
+ghost use Rattle.std.specs.Prelude.{◌≡◌, ◌<◌, ℕ, List, [], ◌∷◌, ◌++◌, length, slice_set};
+ghost use base.Fml.{ftrue};
 
-use ceal_base::no_memory::NoMemory;
-use std::alloc::Global;
 use std::marker::Model;
 
-/// The marks of the pieces of a chunk.
+/// The marks of the pieces of a chunk. They take no space: the proofs alone know them.
 #[derive(Drop)]
 pub(crate) struct Marks {
-    lens: Vec<u32>,
+    pub(crate) ghost lens: { List ℕ },
 }
 
 impl Model for Marks {
-    ghost use Rattle.std.specs.Prelude.{ℕ, List};
-
-    ghost Value = { List ℕ };
-
-    ghost view = { λ m. m.lens.items };
+    ghost also_owns = { λ _. ftrue };
 }
 
 impl Marks {
-    pub(crate) fn new(alloc: Global) -> Marks
-        ensures { result ≡ [] }
+    pub(crate) fn new() -> Marks
+        ensures { result.lens ≡ [] }
     {
-        Marks {
-            lens: Vec::new(alloc),
-        }
+        Marks {}
     }
 
-    pub(crate) fn add(&mut self) -> Result<(), NoMemory>
-        ensures ok { OnOk result (self.new ≡ self.old ++ 0 ∷ []) }
-        ensures err { OnErr result (self.new ≡ self.old) }
+    pub(crate) fn add(&mut self)
+        ensures { self.new.lens ≡ self.old.lens ++ 0 ∷ [] }
     {
-        self.lens.push(0)?;
-        Ok(())
     }
 
-    pub(crate) fn mark(&mut self, at: u32, len: u32)
-        requires { at < length self.old }
-        ensures { self.new ≡ slice_set self.old at len }
+    pub(crate) fn mark(&mut self, _at: u32, _len: u32)
+        requires { _at < length self.old.lens }
+        ensures { self.new.lens ≡ slice_set self.old.lens _at _len }
     {
-        self.lens[at as usize] = len;
     }
 }

@@ -27,9 +27,9 @@ impl Model for Pool {
 
     ghost Value = { SizeClass };
 
-    ghost view = { λ p. record { size = p.size; pieces = pieces_from p.size 0 p.marks p.chunk; spare = p.spare } };
+    ghost view = { λ p. record { size = p.size; pieces = pieces_from p.size 0 p.marks.lens p.chunk; spare = p.spare } };
 
-    ghost invariant = { λ p. IsLaidOut p.size p.chunk p.marks p.made p.head p.spare };
+    ghost invariant = { λ p. IsLaidOut p.size p.chunk p.marks.lens p.made p.head p.spare };
 }
 
 impl Pool {
@@ -40,7 +40,7 @@ impl Pool {
         let chunk = Chunk::zeros(alloc, 1)?;
         Ok(Pool {
             chunk,
-            marks: Marks::new(alloc),
+            marks: Marks::new(),
             size,
             made: 0,
             head: 0,
@@ -58,7 +58,7 @@ impl Pool {
         }
         let at = self.made as usize * self.size as usize;
         self.chunk.reserve(at + self.size as usize)?;
-        self.marks.add()?;
+        self.marks.add();
         self.chunk.set(at, self.head);
         self.head = self.made as u64;
         self.made += 1;

@@ -1,0 +1,45 @@
+-- `new` makes a value of no bytes. Assumes `Logic`.
+use Rattle.std.proofs.Common.{ℕ, List, [], ◌∷◌, refl}
+use Rattle.std.proofs.raw_atomic.Walks.{proved}
+use base.Logic.{ent, emp}
+use base.Fml.{Fml, ftrue}
+use seplogic.Ra.Ura.{Ura}
+use mir.Val.{Val, vstruct, vnil}
+use contract.Running.{tables}
+use types.Logic.{Logic, sem}
+use types.Kit.{‵, raw, ◌⊛◌, ◌$◌, ◌∵◌, !, qed, done, move, keep, drop, use0, join, fjoin, suffices}
+use types.Part.{agg}
+use types.Run.{enter, no_more, returns}
+use types.ByLocal.{alloc_all, pass_all, free_all, look_at, sets}
+use denote.Shadow.{makes_shadow}
+use denote.Steps.{nothing}
+use denote.Triple.Walked.{Stays, walk_of, says, ends_at}
+use Rattle.ceal_words.proofs.BlockWalks.{plainly}
+use Rattle.ceal_words.specs.contracts.marks.Marks.new as f
+use Rattle.ceal_words.proofs.marks.Marks.new.Statement.{statement}
+use Rattle.ceal_words.proofs.marks.Marks.new.Code as code
+use Rattle.ceal_words.specs.contracts.marks.Marks.{the_row as R}
+
+abbrev stayed : Stays f.ended.signature.params f.ended.kept
+stayed = tt
+
+abbrev marks_own : List Val → Fml
+marks_own = (plainly []).own_val tt
+
+marks_made : {M : Type 1} {𝓤 : Ura M} (𝓛 : Logic 𝓤) → ent 𝓤 (emp 𝓤) (sem 𝓛 (marks_own (vstruct vnil ∷ [])))
+marks_made 𝓛 = makes_shadow 𝓛 (marks_own (vstruct vnil ∷ [])) (λ _. (tt, tt)) (tt, (refl, tt))
+
+pub new_spec : {M : Type 1} → statement M
+new_spec 𝓤 𝓛 𝓜 𝓡 wired =
+    let c = f.clauses 𝓛 𝓜.mem 𝓡.returns in let W = walk_of 𝓛 f.ended stayed c in
+    proved 𝓛 f.ended stayed c 𝓜 𝓡 tt
+    f.Key.name code.function (code.unfolded 𝓤 𝓛.H 𝓜 𝓡 wired)
+    (λ κs. tt) (λ κs. tt) (λ κs qs bounds a g are.
+    let y : W.Ghost = ((κs, qs, bounds, a, tt), g) in
+    let made : R.Denot = record { lens = [] } in
+    qed 𝓛 ((‵ ftrue ⊛ ‵ ftrue) ∷ ‵ ftrue ∷ []) ∵ keep ! [] $
+    enter ! _ _ _ _ _ $ alloc_all ! (λ l. pass_all ! refl tt $
+    sets ! (agg ! (no_more !)) refl (tt, tt) $
+    returns ! (look_at ! 0 refl) $ free_all ! refl $
+    suffices ! _ (ends_at 𝓛 f.ended stayed c y (vstruct vnil) made tt tt) $ says ! refl $
+    nothing ! $ use0 𝓛 (‵ (marks_own (vstruct vnil ∷ []))) (marks_made 𝓛) $ fjoin ! $ nothing ! $ nothing ! $ done !))
