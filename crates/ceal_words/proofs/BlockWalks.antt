@@ -1,5 +1,5 @@
 -- What the making of a block and its way back share: the machine values of the two structs, and parts of a walk. Assumes `Logic`.
-use Rattle.std.proofs.Common.{◌≡◌, ℕ, zero, suc, List, [], ◌∷◌, ◌++◌, refl, ◌∙◌, lit<}
+use Rattle.std.proofs.Common.{◌≡◌, ℕ, zero, suc, List, [], ◌∷◌, ◌++◌, refl, ◌∙◌}
 use seplogic.Ra.Ura.{Ura}
 use mir.Syntax.{Body}
 use mir.Val.{Val, vstruct, vcons, vnil, of_list}

@@ -1,5 +1,5 @@
 -- Cells that are all written.
-use Rattle.std.proofs.Common.{◌≡◌, ℕ, zero, suc, ◌+◌, ◌-◌, ◌*◌, ◌^◌, ◌<◌, ◌≤◌, List, [], ◌∷◌, ◌++◌, length, map, take, drop, get_or, set, replicate, Option, Some, None, IsSome, refl, sym, ap, ◌∙◌, subst, arith}
+use Rattle.std.proofs.Common.{◌≡◌, ℕ, zero, suc, ◌*◌, ◌^◌, ◌<◌, List, [], ◌∷◌, length, map, get_or, set, replicate, Option, Some, None, refl, sym, ap, ◌∙◌, arith}
 use Rattle.std.proofs.lemmas.List.{length-map, length-set, length-replicate, map-set}
 use Rattle.ceal_words.specs.Written.{held, IsWritten}
 
@@ -29,7 +29,8 @@ module _ (cells : List (Option ℕ)) (count : ℕ) (written : IsWritten cells co
   written_set i x = record {
     all = set_map i x ∙ ap (map Some) (sym (held_set i x));
     counted = length-set cells i (Some x) ∙ written.counted;
-    fits = written.fits }
+    fits = written.fits;
+  }
 
 map_replicate : (n : ℕ) → map Some (replicate {A = ℕ} n 0) ≡ replicate n (Some 0)
 map_replicate zero = refl
@@ -42,4 +43,5 @@ pub written_zeros : (n : ℕ) → n * 8 < 2 ^ 63 → IsWritten (replicate n (Som
 written_zeros n small = record {
   all = sym (map_replicate n) ∙ ap (map Some) (sym (held_zeros n));
   counted = length-replicate n (Some 0);
-  fits = small }
+  fits = small;
+}

@@ -1,6 +1,6 @@
 -- The free list stays what it is under a write to a piece that is not in it.
-use Rattle.std.proofs.Common.{◌≡◌, ◌≢◌, ℕ, zero, suc, ◌+◌, ◌-◌, ◌*◌, ◌<◌, ◌≤◌, List, [], ◌∷◌, ◌++◌, length, take, drop, get_or, set, refl, sym, ap, ◌∙◌, subst, arith, slice_index}
-use Rattle.std.proofs.lemmas.List.{get_or-drop, get_or-take, get_or-set_same, get_or-set_other, length-set, get_or_append_left, length_push}
+use Rattle.std.proofs.Common.{◌≡◌, ◌≢◌, ℕ, zero, suc, ◌+◌, ◌*◌, ◌<◌, ◌≤◌, List, [], ◌∷◌, ◌++◌, length, drop, get_or, set, refl, sym, ap, ◌∙◌, subst, arith}
+use Rattle.std.proofs.lemmas.List.{get_or-drop, get_or-take, get_or-set_other, length-set, get_or_append_left, length_push}
 use Rattle.ceal_words.specs.Layout.{link, free_list, IsOutside, IsFreeList, free_count}
 use Rattle.ceal_words.proofs.PieceLemmas.{Agree}
 
@@ -26,18 +26,21 @@ pub free_same : (size i : ℕ) (before after marks marks' : List ℕ) → 0 < si
 free_same size i before after marks marks' some agree alike zero head free out = tt
 free_same size i before after marks marks' some agree alike (suc n) head free out =
     let next = link_same size (length marks) i head before after some agree out.0 free.0 in
-    let same = list_same size i before after marks some agree n (link size before head) free.3 out.1 in
-    (omega (arith, free.0, alike.0), alike.1 head out.0 free.0 ∙ free.1,
-    subst (λ (k : ℕ). IsOutside head (free_list size after n k)) (sym next) (subst (IsOutside head) (sym same) free.2),
-    subst (λ (k : ℕ). IsFreeList size after marks' n k) (sym next) (free_same size i before after marks marks' some agree alike n (link size before head) free.3 out.1))
+    let same = list_same size i before after marks some agree n (link size before head) free.3 out.1 in (
+      omega (arith, free.0, alike.0),
+      alike.1 head out.0 free.0 ∙ free.1,
+      subst (λ (k : ℕ). IsOutside head (free_list size after n k)) (sym next) (subst (IsOutside head) (sym same) free.2),
+      subst (λ (k : ℕ). IsFreeList size after marks' n k) (sym next) (free_same size i before after marks marks' some agree alike n (link size before head) free.3 out.1),
+    )
 
 -- a piece that is taken, or that is not there, is not in the free list
 pub outside : (size i : ℕ) (words marks : List ℕ) → (i < length marks → 0 < get_or marks i 0)
     → (n head : ℕ) → IsFreeList size words marks n head → IsOutside i (free_list size words n head)
 outside size i words marks taken zero head free = tt
-outside size i words marks taken (suc n) head free =
-    ((λ same. let busy = taken (subst (λ (k : ℕ). k < length marks) same free.0) in let idle = subst (λ (k : ℕ). get_or marks k 0 ≡ 0) same free.1 in omega (arith, busy, idle)),
-    outside size i words marks taken n (link size words head) free.3)
+outside size i words marks taken (suc n) head free = (
+  (λ same. let busy = taken (subst (λ (k : ℕ). k < length marks) same free.0) in let idle = subst (λ (k : ℕ). get_or marks k 0 ≡ 0) same free.1 in omega (arith, busy, idle)),
+  outside size i words marks taken n (link size words head) free.3,
+)
 
 pub marks_set : (i mark : ℕ) (marks : List ℕ) → MarksAgree i marks (set marks i mark)
 marks_set i mark marks = (let e = length-set marks i mark in omega (arith, e), λ j other below. get_or-set_other marks i j mark 0 other)

@@ -1,7 +1,6 @@
 -- One cell comes out of a block's cells and goes back. Assumes `Logic`.
 use mathlib.Core.Path.{◌≡◌, refl, sym, subst}
 use Prim.Native.Nat.{ℕ, zero, suc, ◌+◌, ◌*◌, ◌<◌}
-use native.Mathlib.Omega.{arith}
 use native.Mathlib.Nat.{not-suc-le-zero, le_of_suc-le-suc}
 use Rattle.std.specs.Prelude.{List, [], ◌∷◌, Option, Some, None, IsSome, length, replicate, unwrap_or}
 use Rattle.std.proofs.Common.{⊎_elim}
@@ -15,9 +14,9 @@ use base.Fml.{Fml, Lft, ftrue, fsep, fat, froom}
 use mir.Syntax.{w64, ty_int, ty_array}
 use mir.Val.{vint}
 use types.Logic.{Logic, sem}
-use types.Kit.{‵, ◌⊛◌, ◌$◌, ◌∵◌, !, qed, by, move, keep, drop, use1, use2, split, rewrite, fsplit, fjoin, frame, done}
+use types.Kit.{‵, ◌⊛◌, ◌$◌, ◌∵◌, !, qed, by, move, keep, use1, use2, split, rewrite, fsplit, frame, done}
 use denote.Builtin.{u64}
-use denote.Memory.{part_at, hidden_shr}
+use denote.Memory.{part_at}
 use denote.Plain.{uint_in, uint_out}
 use denote.Index.{place, place_is}
 use Rattle.ceal_words.specs.Memory.{cell, cells, cell_lent, cells_lent}

@@ -1,7 +1,7 @@
 -- The words of a piece are changed by no write outside it.
-use Rattle.std.proofs.Common.{◌≡◌, ◌≢◌, ℕ, zero, suc, ◌+◌, ◌-◌, ◌*◌, ◌<◌, ◌≤◌, List, [], ◌∷◌, ◌++◌, length, take, drop, get_or, set, replicate, Option, Some, None, refl, sym, ap, ◌∙◌, subst, inl, inr, ⊎_elim, arith, slice_index, slice_set}
-use Rattle.std.proofs.lemmas.List.{drop-set-lt, drop-set-add, take-set-le, get_or-drop, get_or-take, get_or-set_same, get_or-set_other, get_or_past, length-set, length-drop, ext_get_or, drop-append-le, take-append-le, get_or_append_left, get_or-append_right, length_push, get_or_push}
-use Rattle.std.proofs.lemmas.Nat.{mul-add-lt, row_fits}
+use Rattle.std.proofs.Common.{◌≡◌, ◌≢◌, ℕ, zero, suc, ◌+◌, ◌-◌, ◌*◌, ◌<◌, ◌≤◌, List, [], ◌∷◌, ◌++◌, length, take, drop, get_or, set, Some, None, refl, sym, ap, ◌∙◌, subst, ⊎_elim, arith}
+use Rattle.std.proofs.lemmas.List.{drop-set-lt, drop-set-add, take-set-le, get_or-set_same, get_or-set_other, length-set, length-drop, ext_get_or, drop-append-le, take-append-le, get_or_append_left, length_push, get_or_push}
+use Rattle.std.proofs.lemmas.Nat.{row_fits}
 use Rattle.std.proofs.lemmas.Bool.{cases_order, cases_eq}
 use Rattle.ceal_words.specs.Layout.{piece, pieces_from}
 
@@ -15,14 +15,14 @@ agree_then size made i a b c f g j n other below fits = g j n other below fits �
 pub agree_set : (size made i index value : ℕ) (words : List ℕ) → index < size → Agree size made i words (set words (i * size + index) value)
 agree_set size made i index value words within j n other below fits =
     ⊎_elim (λ same. absurd (other same)) (λ apart. ⊎_elim
-        (λ below_i. let row = row_fits j size i size below_i (omega arith) in
-            let past = i * size + index - j * size in
-            ap (λ (k : ℕ). take n (drop (j * size) (set words k value))) (omega arith)
-            ∙ ap (take n) (drop-set-add (j * size) words past value)
-            ∙ take-set-le n (drop (j * size) words) past value (omega arith))
-        (λ above_i. let row = row_fits i size j size above_i (omega arith) in
-            ap (take n) (drop-set-lt (j * size) words (i * size + index) value (omega arith)))
-        apart)
+    (λ below_i. let row = row_fits j size i size below_i (omega arith) in
+    let past = i * size + index - j * size in
+    ap (λ (k : ℕ). take n (drop (j * size) (set words k value))) (omega arith)
+    ∙ ap (take n) (drop-set-add (j * size) words past value)
+    ∙ take-set-le n (drop (j * size) words) past value (omega arith))
+    (λ above_i. let row = row_fits i size j size above_i (omega arith) in
+    ap (take n) (drop-set-lt (j * size) words (i * size + index) value (omega arith)))
+    apart)
     (cases_order j i)
 
 pub agree_append : (size made i : ℕ) (words more : List ℕ) → made * size ≤ length words → Agree size made i words (words ++ more)
@@ -59,14 +59,14 @@ pieces_set size i mark marks before after within fits agree =
     ext_get_or None (pieces_from size 0 (set marks i mark) after) (set (pieces_from size 0 marks before) i new)
     (count ∙ sym old_count ∙ sym (length-set (pieces_from size 0 marks before) i new))
     (λ j below. piece_of size j (set marks i mark) after ∙ ⊎_elim
-        (λ same. subst (λ (k : ℕ). piece (get_or (set marks i mark) k 0) (drop (k * size) after) ≡ get_or (set (pieces_from size 0 marks before) i new) k None) (sym same)
-            (ap (λ (m : ℕ). piece m (drop (i * size) after)) (get_or-set_same marks i mark 0 within)
-            ∙ sym (get_or-set_same (pieces_from size 0 marks before) i new None (omega (arith, old_count, within)))))
-        (λ other. ap (λ (m : ℕ). piece m (drop (j * size) after)) (get_or-set_other marks i j mark 0 other)
-            ∙ piece_same size (get_or marks j 0) (drop (j * size) before) (drop (j * size) after) (fits j) (λ n small. agree j n other (omega (arith, count, below)) small)
-            ∙ sym (piece_of size j marks before)
-            ∙ sym (get_or-set_other (pieces_from size 0 marks before) i j new None other))
-        (cases_eq j i))
+    (λ same. subst (λ (k : ℕ). piece (get_or (set marks i mark) k 0) (drop (k * size) after) ≡ get_or (set (pieces_from size 0 marks before) i new) k None) (sym same)
+    (ap (λ (m : ℕ). piece m (drop (i * size) after)) (get_or-set_same marks i mark 0 within)
+    ∙ sym (get_or-set_same (pieces_from size 0 marks before) i new None (omega (arith, old_count, within)))))
+    (λ other. ap (λ (m : ℕ). piece m (drop (j * size) after)) (get_or-set_other marks i j mark 0 other)
+    ∙ piece_same size (get_or marks j 0) (drop (j * size) before) (drop (j * size) after) (fits j) (λ n small. agree j n other (omega (arith, count, below)) small)
+    ∙ sym (piece_of size j marks before)
+    ∙ sym (get_or-set_other (pieces_from size 0 marks before) i j new None other))
+    (cases_eq j i))
 
 -- one more free piece
 pub pieces_push : (size : ℕ) (marks before after : List ℕ) → ((j : ℕ) → get_or marks j 0 ≤ size) → Agree size (length marks) (length marks) before after
@@ -77,14 +77,14 @@ pieces_push size marks before after fits agree =
     ext_get_or None (pieces_from size 0 (marks ++ 0 ∷ []) after) (pieces_from size 0 marks before ++ None ∷ [])
     (count ∙ sym (length_push (pieces_from size 0 marks before) None ∙ ap (λ (n : ℕ). n + 1) old_count))
     (λ j below. piece_of size j (marks ++ 0 ∷ []) after ∙ ⊎_elim
-        (λ same. ap (λ (m : ℕ). piece m (drop (j * size) after)) (get_or_push marks 0 0 j (sym same))
-            ∙ sym (get_or_push (pieces_from size 0 marks before) None None j (old_count ∙ sym same)))
-        (λ other. let inside : j < length marks = omega (arith, count, below, other) in
-            ap (λ (m : ℕ). piece m (drop (j * size) after)) (get_or_append_left marks (0 ∷ []) 0 j inside)
-            ∙ piece_same size (get_or marks j 0) (drop (j * size) before) (drop (j * size) after) (fits j) (λ n small. agree j n other inside small)
-            ∙ sym (piece_of size j marks before)
-            ∙ sym (get_or_append_left (pieces_from size 0 marks before) (None ∷ []) None j (omega (arith, old_count, inside))))
-        (cases_eq j (length marks)))
+    (λ same. ap (λ (m : ℕ). piece m (drop (j * size) after)) (get_or_push marks 0 0 j (sym same))
+    ∙ sym (get_or_push (pieces_from size 0 marks before) None None j (old_count ∙ sym same)))
+    (λ other. let inside : j < length marks = omega (arith, count, below, other) in
+    ap (λ (m : ℕ). piece m (drop (j * size) after)) (get_or_append_left marks (0 ∷ []) 0 j inside)
+    ∙ piece_same size (get_or marks j 0) (drop (j * size) before) (drop (j * size) after) (fits j) (λ n small. agree j n other inside small)
+    ∙ sym (piece_of size j marks before)
+    ∙ sym (get_or_append_left (pieces_from size 0 marks before) (None ∷ []) None j (omega (arith, old_count, inside))))
+    (cases_eq j (length marks)))
 
 -- the pieces are the same where their words are
 pub pieces_same : (size : ℕ) (marks before after : List ℕ) → ((j : ℕ) → get_or marks j 0 ≤ size)
@@ -94,5 +94,5 @@ pieces_same size marks before after fits same =
     let count = length-pieces size 0 marks after in
     ext_get_or None (pieces_from size 0 marks after) (pieces_from size 0 marks before) (count ∙ sym (length-pieces size 0 marks before))
     (λ j below. piece_of size j marks after
-      ∙ piece_same size (get_or marks j 0) (drop (j * size) before) (drop (j * size) after) (fits j) (λ n small. same j n (omega (arith, count, below)) small)
-      ∙ sym (piece_of size j marks before))
+    ∙ piece_same size (get_or marks j 0) (drop (j * size) before) (drop (j * size) after) (fits j) (λ n small. same j n (omega (arith, count, below)) small)
+    ∙ sym (piece_of size j marks before))

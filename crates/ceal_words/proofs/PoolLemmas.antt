@@ -1,5 +1,5 @@
 -- What each step of a size class does to its layout, and to what contracts see of it.
-use Rattle.std.proofs.Common.{◌≡◌, ◌≢◌, ℕ, zero, suc, ◌+◌, ◌-◌, ◌*◌, ◌<◌, ◌≤◌, List, [], ◌∷◌, ◌++◌, length, take, drop, get_or, set, replicate, Option, Some, None, IsSome, IfSome, Result, Ok, Err, OnOk, OnErr, refl, sym, ap, ◌∙◌, subst, ⊎_elim, arith, slice_get, slice_index, slice_set}
+use Rattle.std.proofs.Common.{◌≡◌, ℕ, zero, suc, ◌+◌, ◌-◌, ◌*◌, ◌<◌, ◌≤◌, List, [], ◌∷◌, ◌++◌, length, take, drop, get_or, set, replicate, Option, Some, None, IsSome, IfSome, Result, Ok, Err, OnOk, OnErr, refl, sym, ap, ◌∙◌, subst, ⊎_elim, arith, slice_get}
 use Rattle.std.proofs.lemmas.List.{drop-set-add, get_or-drop, get_or-take, get_or-set_same, get_or-set_other, get_or_past, length-set, length-drop, length-take-le, length_push, length-replicate, set-get_or, get_or_push, get_or_append_left, set-set, set_at, drop_more, drop_all, append-nil, replicate_more}
 use Rattle.std.proofs.lemmas.Option.{slice_get-get_or, slice_get_past}
 use Rattle.std.proofs.lemmas.Nat.{mul-add-lt, row_fits}
@@ -9,8 +9,8 @@ use Rattle.std.proofs.Math.Nat.{add-mul}
 use Rattle.ceal_words.specs.Lengths.{RoundsTo}
 use Rattle.ceal_words.specs.SizeClass.{SizeClass, words_at, word_in, changed, taken, given, with_word, grown}
 use Rattle.ceal_words.specs.Layout.{piece, pieces_from, link, free_list, IsOutside, IsFreeList, free_count, IsLaidOut}
-use Rattle.ceal_words.proofs.PieceLemmas.{Agree, agree_then, agree_set, agree_append, piece_of, pieces_set, pieces_push, pieces_same, length-pieces}
-use Rattle.ceal_words.proofs.FreeLemmas.{MarksAgree, free_same, list_same, outside, marks_set, marks_push, count_set, count_push, count_below}
+use Rattle.ceal_words.proofs.PieceLemmas.{Agree, agree_set, agree_append, piece_of, pieces_set, pieces_push, pieces_same, length-pieces}
+use Rattle.ceal_words.proofs.FreeLemmas.{free_same, list_same, outside, marks_set, marks_push, count_set, count_push, count_below}
 
 abbrev pub view : ℕ → List ℕ → List ℕ → ℕ → SizeClass
 view size words marks spare = record { size = size; pieces = pieces_from size 0 marks words; spare = spare }
@@ -87,10 +87,10 @@ module _ (size made head spare : ℕ) (words marks : List ℕ) (laid : IsLaidOut
   pub taken_length : (at : ℕ) → IfSome (words_at (pieces_from size 0 marks words) at) (λ ws. RoundsTo (length ws) size)
   taken_length at = subst (λ (p : Option (List ℕ)). IfSome p (λ ws. RoundsTo (length ws) size)) (sym (piece_of size at marks words))
       (length_of (get_or marks at 0) (drop (at * size) words)
-        (⊎_elim (λ some. let below = stands marks at some in let counted = laid.counted in let room = laid.room in
-          let row = row_fits at size made size (omega (arith, below, counted)) (omega arith) in
-          omega (arith, length-drop (at * size) words, row, room, fits at))
-        (λ none. omega (arith, none)) (cases_lt 0 (get_or marks at 0)))
+      (⊎_elim (λ some. let below = stands marks at some in let counted = laid.counted in let room = laid.room in
+      let row = row_fits at size made size (omega (arith, below, counted)) (omega arith) in
+      omega (arith, length-drop (at * size) words, row, room, fits at))
+      (λ none. omega (arith, none)) (cases_lt 0 (get_or marks at 0)))
       (laid.lengths at))
 
   -- a word of a taken piece is written
@@ -101,8 +101,9 @@ module _ (size made head spare : ℕ) (words marks : List ℕ) (laid : IsLaidOut
     room = let e = length-set words (at * size + index) value in let room = laid.room in omega (arith, e, room);
     lengths = laid.lengths;
     free = free_same size at words (set words (at * size + index) value) marks marks laid.some (agree_at at index value small) (omega arith, λ j other below. refl)
-      spare head laid.free (outside size at words marks (λ _. busy) spare head laid.free);
-    every = laid.every }
+        spare head laid.free (outside size at words marks (λ _. busy) spare head laid.free);
+    every = laid.every;
+  }
 
   pub view_set : (at index value : ℕ) → 0 < get_or marks at 0 → index < size
       → view size (set words (at * size + index) value) marks spare ≡ with_word at index value (view size words marks spare)
@@ -112,9 +113,9 @@ module _ (size made head spare : ℕ) (words marks : List ℕ) (laid : IsLaidOut
       (ap (λ (ms : List ℕ). pieces_from size 0 ms new) (sym (set-get_or marks at 0))
       ∙ pieces_set size at mark marks words new (stands marks at busy) fits (agree_at at index value small)
       ∙ ap (λ (p : Option (List ℕ)). set pieces at p)
-        (ap (piece mark) (drop-set-add (at * size) words index value)
-        ∙ piece_changed mark index value (drop (at * size) words)
-        ∙ ap (λ (p : Option (List ℕ)). changed p index value) (sym (piece_of size at marks words))))
+      (ap (piece mark) (drop-set-add (at * size) words index value)
+      ∙ piece_changed mark index value (drop (at * size) words)
+      ∙ ap (λ (p : Option (List ℕ)). changed p index value) (sym (piece_of size at marks words))))
 
   -- the word of a free piece's link is the head again after a piece was put before it
   free_given : (at n : ℕ) (words' marks' : List ℕ) → at < length marks' → get_or marks' at 0 ≡ 0 → link size words' at ≡ head
@@ -129,7 +130,7 @@ module _ (size made head spare : ℕ) (words marks : List ℕ) (laid : IsLaidOut
   lengths_after : (at mark : ℕ) → at < length marks → (0 < mark → RoundsTo mark size) → (i : ℕ) → 0 < get_or (set marks at mark) i 0 → RoundsTo (get_or (set marks at mark) i 0) size
   lengths_after at mark inside rounds i some = ⊎_elim
       (λ same. let e = ap (λ (k : ℕ). get_or (set marks at mark) k 0) same ∙ get_or-set_same marks at mark 0 inside in
-          subst (λ (k : ℕ). RoundsTo k size) (sym e) (rounds (subst (λ (k : ℕ). 0 < k) e some)))
+      subst (λ (k : ℕ). RoundsTo k size) (sym e) (rounds (subst (λ (k : ℕ). 0 < k) e some)))
       (λ other. let e = get_or-set_other marks at i mark 0 other in subst (λ (k : ℕ). RoundsTo k size) (sym e) (laid.lengths i (subst (λ (k : ℕ). 0 < k) e some)))
       (cases_eq i at)
 
@@ -144,11 +145,12 @@ module _ (size made head spare : ℕ) (words marks : List ℕ) (laid : IsLaidOut
         room = let e = length-set words (at * size + 0) head in let room = laid.room in omega (arith, e, room);
         lengths = lengths_after at 0 inside (λ none. absurd (omega (arith, none)));
         free = subst (λ (n : ℕ). IsFreeList size new (set marks at 0) n at) {x = suc spare} (omega arith)
-          (free_given at spare new (set marks at 0) (omega (arith, length-set marks at 0, inside)) (get_or-set_same marks at 0 0 inside)
+            (free_given at spare new (set marks at 0) (omega (arith, length-set marks at 0, inside)) (get_or-set_same marks at 0 0 inside)
             (start_is at head (omega (arith, inside, laid.counted)))
             (subst (IsOutside at) (sym (list_same size at words new marks laid.some agree spare head laid.free out)) out)
             (free_same size at words new marks (set marks at 0) laid.some agree (marks_set at 0 marks) spare head laid.free out));
-        every = let e = count_set at 0 marks inside in let all = laid.every in omega (arith, e, all, not_free (get_or marks at 0) busy) }
+        every = let e = count_set at 0 marks inside in let all = laid.every in omega (arith, e, all, not_free (get_or marks at 0) busy);
+      }
 
   pub laid_given : (at : ℕ) → 0 < get_or marks at 0 → IsLaidOut size (set words (at * size) head) (set marks at 0) made at (spare + 1)
   laid_given at busy = subst (λ (k : ℕ). IsLaidOut size (set words k head) (set marks at 0) made at (spare + 1)) {x = at * size + 0} (omega arith) (laid_give at busy)
@@ -181,7 +183,8 @@ module _ (size made head spare : ℕ) (words marks : List ℕ) (laid : IsLaidOut
         room = let e = length-append words more in let room = laid.room in omega (arith, e, room);
         lengths = laid.lengths;
         free = free_same size (length marks) words (words ++ more) marks marks laid.some agree (omega arith, λ j other below. refl) spare head laid.free out;
-        every = laid.every }
+        every = laid.every;
+      }
 
   pub view_longer : (more : List ℕ) → view size (words ++ more) marks spare ≡ view size words marks spare
   view_longer more = ap (λ (ps : List (Option (List ℕ))). record { size = size; pieces = ps; spare = spare })
@@ -210,16 +213,17 @@ module _ (size made head spare : ℕ) (words marks : List ℕ) (laid : IsLaidOut
           counted = length_push marks 0;
           room = let e = length-set words (count * size + 0) head in omega (arith, e, enough_, add-mul count 1 size);
           lengths = λ i some. let inside = stands (marks ++ 0 ∷ []) i some in ⊎_elim
-            (λ same. let e = get_or_push marks 0 0 i (sym same) in absurd (omega (arith, e, some)))
-            (λ other. let e = get_or_append_left marks (0 ∷ []) 0 i (omega (arith, inside, length_push marks 0, other)) in
+              (λ same. let e = get_or_push marks 0 0 i (sym same) in absurd (omega (arith, e, some)))
+              (λ other. let e = get_or_append_left marks (0 ∷ []) 0 i (omega (arith, inside, length_push marks 0, other)) in
               subst (λ (k : ℕ). RoundsTo k size) (sym e) (laid.lengths i (subst (λ (k : ℕ). 0 < k) e some)))
-            (cases_eq i count);
+              (cases_eq i count);
           free = subst (λ (n : ℕ). IsFreeList size pushed (marks ++ 0 ∷ []) n count) {x = suc spare} (omega arith)
-            (free_given count spare pushed (marks ++ 0 ∷ []) (omega (arith, length_push marks 0)) (get_or_push marks 0 0 count refl)
+              (free_given count spare pushed (marks ++ 0 ∷ []) (omega (arith, length_push marks 0)) (get_or_push marks 0 0 count refl)
               (ap (λ (k : ℕ). get_or pushed k 0) {x = count * size} {y = count * size + 0} (omega arith) ∙ get_or-set_same words (count * size + 0) head 0 start)
               (subst (IsOutside count) (sym (list_same size count words pushed marks laid.some agree_more spare head laid.free out)) out)
               (free_same size count words pushed marks (marks ++ 0 ∷ []) laid.some agree_more (marks_push marks) spare head laid.free out));
-          every = count_push marks ∙ ap (λ (n : ℕ). n + 1) laid.every }
+          every = count_push marks ∙ ap (λ (n : ℕ). n + 1) laid.every;
+        }
 
     pub laid_pushed : IsLaidOut size (set words (made * size) head) (marks ++ 0 ∷ []) (made + 1) made (spare + 1)
     laid_pushed = subst (λ (n : ℕ). IsLaidOut size (set words (n * size) head) (marks ++ 0 ∷ []) (n + 1) n (spare + 1)) laid.counted
@@ -251,7 +255,8 @@ module _ (size made head spare : ℕ) (words marks : List ℕ) (laid : IsLaidOut
         lengths = lengths_after head len free.0 (λ _. rounds);
         free = free_same size head words words marks (set marks head len) laid.some (λ j n other below small. refl) (marks_set head len marks) (spare - 1) (link size words head) free.3 free.2;
         every = let e = count_set head len marks free.0 in let all = laid.every in
-          omega (arith, e, all, not_free len filled, ap (λ (k : ℕ). free_count (k ∷ [])) free.1) }
+            omega (arith, e, all, not_free len filled, ap (λ (k : ℕ). free_count (k ∷ [])) free.1);
+      }
 
   pub was_free : 0 < spare → slice_get (pieces_from size 0 marks words) head ≡ Some None
   was_free some =

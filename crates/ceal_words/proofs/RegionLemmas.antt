@@ -1,12 +1,12 @@
 -- A change of one size class is a change of its slots alone.
-use Rattle.std.proofs.Common.{◌≡◌, ◌≢◌, ℕ, zero, suc, ◌+◌, ◌-◌, ◌*◌, ◌^◌, ◌<◌, ◌≤◌, ◌==◌, List, [], ◌∷◌, ◌++◌, length, get_or, set, replicate, Bool, true, false, cond, Option, Some, None, IsSome, IfSome, refl, sym, ap, ◌∙◌, subst, inl, inr, ◌⊎◌, ⊎_elim, arith, slice_get, is_some}
+use Rattle.std.proofs.Common.{◌≡◌, ◌≢◌, ℕ, zero, suc, ◌+◌, ◌-◌, ◌^◌, ◌<◌, List, [], ◌∷◌, ◌++◌, length, get_or, set, replicate, Bool, cond, Option, Some, None, IsSome, IfSome, refl, sym, ap, ◌∙◌, subst, inl, inr, ◌⊎◌, ⊎_elim, arith, slice_get, is_some}
 use Rattle.std.proofs.lemmas.List.{get_or-set_same, get_or-set_other, get_or_past, length-set, get_or_append_left, get_or-append_right, get_or-replicate, length-replicate, length_push}
 use Rattle.std.proofs.lemmas.Option.{slice_get-get_or, slice_get_past, slice_get_within, slice_get_read}
 use Rattle.std.specs.Int.Count.{leading_unique}
 use Rattle.std.proofs.lemmas.Bool.{cases_lt, cases_eq, eq-eqb, ne_eqb, false≢true}
 use Rattle.ceal_words.specs.Lengths.{size_class, RoundsTo}
-use Rattle.ceal_words.specs.SizeClass.{SizeClass, words_at, word_in, changed, taken, given, with_word, grown}
-use Rattle.ceal_words.specs.Region.{of_length, words_in, words_of, word_of, spare_in, spare, slot_len, KeepsOthers, KeepsAll, KeepsOtherSpares, KeepsSpares, IsInOrder, IsEmpty, AreNew}
+use Rattle.ceal_words.specs.SizeClass.{SizeClass, words_at, word_in, changed, given, with_word, grown}
+use Rattle.ceal_words.specs.Region.{of_length, words_in, words_of, word_of, spare_in, spare, KeepsOthers, KeepsAll, KeepsOtherSpares, KeepsSpares, IsInOrder, IsEmpty, AreNew}
 use Rattle.ceal_words.specs.declared.slot.Slot.{Slot}
 
 get_set_same : {X : Type 0} (xs : List X) (i : ℕ) (x : X) → i < length xs → slice_get (set xs i x) i ≡ Some x
@@ -48,8 +48,8 @@ piece_kept : (pieces : List (Option (List ℕ))) (at len : ℕ) (q : Option (Lis
     → (at' len' : ℕ) → ((at' ≡ at) × (len' ≡ len) → ⊥) → of_length len' (words_at (set pieces at q) at') ≡ of_length len' (words_at pieces at')
 piece_kept pieces at len q before after inside at' len' apart = ⊎_elim
     (λ same. subst (λ (n : ℕ). of_length len' (words_at (set pieces at q) n) ≡ of_length len' (words_at pieces n)) (sym same)
-      (let longer : len' ≢ len = λ e. apart (same, e) in
-      ap (of_length len') (get_or-set_same pieces at q None inside) ∙ no_other len q after len' longer ∙ sym (no_other len (words_at pieces at) before len' longer)))
+    (let longer : len' ≢ len = λ e. apart (same, e) in
+    ap (of_length len') (get_or-set_same pieces at q None inside) ∙ no_other len q after len' longer ∙ sym (no_other len (words_at pieces at) before len' longer)))
     (λ other. ap (of_length len') (get_or-set_other pieces at at' q None other))
     (cases_eq at' at)
 
@@ -73,7 +73,7 @@ module _ (region : List SizeClass) (k : ℕ) (old new : SizeClass) (here : slice
       → (slot other : Slot) → slot.chunk ≡ k → slot.at ≡ at → slot.len ≡ len → other ≢ slot → words_of after other ≡ words_of region other
   keeps at len same slot other ek ea el apart = ⊎_elim
       (λ e. subst (λ (n : ℕ). words_in (slice_get after n) other.at other.len ≡ words_in (slice_get region n) other.at other.len) (sym e)
-        (same_words other.at other.len (same other.at other.len (λ both. apart (λ i. record { chunk = (e ∙ sym ek) i; at = (both.0 ∙ sym ea) i; len = (both.1 ∙ sym el) i })))))
+      (same_words other.at other.len (same other.at other.len (λ both. apart (λ i. record { chunk = (e ∙ sym ek) i; at = (both.0 ∙ sym ea) i; len = (both.1 ∙ sym el) i })))))
       (λ elsewhere. ap (λ (c : Option SizeClass). words_in c other.at other.len) (get_set_other region k other.chunk new elsewhere))
       (cases_eq other.chunk k)
 
@@ -91,7 +91,6 @@ module _ (region : List SizeClass) (k : ℕ) (old new : SizeClass) (here : slice
       (λ e. subst (λ (n : ℕ). spare_in (slice_get after n) ≡ spare_in (slice_get region n)) (sym e) (ap spare_in new_here ∙ same ∙ ap spare_in (sym here)))
       (λ elsewhere. ap spare_in (get_set_other region k (size_class len) new elsewhere))
       (cases_eq (size_class len) k)
-
 
 -- the class of a slot is changed at the slot's piece
 module _ (region : List SizeClass) (slot : Slot) (old new : SizeClass) (q : Option (List ℕ)) (here : slice_get region slot.chunk ≡ Some old)
@@ -157,7 +156,7 @@ module _ (region : List SizeClass) (slot : Slot) (some : IsSome (words_of region
   pub class_of_slot : IsInOrder 17 region → IfSome (words_at old.pieces slot.at) (λ ws. RoundsTo (length ws) old.size) → size_class slot.len ≡ slot.chunk
   class_of_slot order rounds = class_is slot.len slot.chunk (let below = has_class region slot some in let counted = order.counted in omega (arith, below, counted))
       (subst (RoundsTo slot.len) (order.sizes slot.chunk old here)
-        (rounds_of (words_at old.pieces slot.at) (subst IsSome ((of_found slot.len (words_at old.pieces slot.at) sees).1) sees) only rounds))
+      (rounds_of (words_at old.pieces slot.at) (subst IsSome ((of_found slot.len (words_at old.pieces slot.at) sees).1) sees) only rounds))
 
   pub given_raises : size_class slot.len ≡ slot.chunk → spare (set region slot.chunk (given slot.at old)) slot.len ≡ spare region slot.len + 1
   given_raises e = ap (λ (k : ℕ). spare_in (slice_get (set region slot.chunk (given slot.at old)) k)) e
@@ -202,10 +201,10 @@ words_grown : (n : ℕ) (pieces : List (Option (List ℕ))) (at : ℕ) → words
 words_grown n pieces at = ⊎_elim
     (λ inside. get_or_append_left pieces (replicate n None) None at inside)
     (λ past. get_or-append_right pieces (replicate n None) (length pieces) at None refl past
-      ∙ ⊎_elim (λ few. get_or-replicate n (at - length pieces) None None few)
-        (λ many. get_or_past (replicate n None) (at - length pieces) None (let e = length-replicate {A = Option (List ℕ)} n None in omega (arith, e, many)))
-        (cases_lt (at - length pieces) n)
-      ∙ sym (get_or_past pieces at None past))
+    ∙ ⊎_elim (λ few. get_or-replicate n (at - length pieces) None None few)
+    (λ many. get_or_past (replicate n None) (at - length pieces) None (let e = length-replicate {A = Option (List ℕ)} n None in omega (arith, e, many)))
+    (cases_lt (at - length pieces) n)
+    ∙ sym (get_or_past pieces at None past))
     (cases_lt at (length pieces))
 
 module _ (region : List SizeClass) (k n : ℕ) (old : SizeClass) (inside_ : k < length region) (read : old ≡ get_or region k old) where
@@ -233,8 +232,8 @@ get_push (z ∷ xs) x y (suc j) e = ⊎_elim (λ found. inl found) (λ last. inr
 pub no_classes : IsInOrder 0 [] × AreNew []
 no_classes = (record { counted = refl; sizes = λ k class e. absurd (none_there k class e) }, λ k class e. absurd (none_there k class e))
   where
-  none_there : (k : ℕ) (class : SizeClass) → slice_get [] k ≡ Some class → ⊥
-  none_there k class e = false≢true (ap is_some e)
+    none_there : (k : ℕ) (class : SizeClass) → slice_get [] k ≡ Some class → ⊥
+    none_there k class e = false≢true (ap is_some e)
 
 abbrev size_of : Option SizeClass → ℕ
 size_of None = 0
@@ -246,12 +245,15 @@ pieces_of (Some class) = class.pieces
 
 pub one_more_class : (n : ℕ) (region : List SizeClass) (class : SizeClass) → class ≡ record { size = 2 ^ n; pieces = []; spare = 0 } → IsInOrder n region × AreNew region
     → IsInOrder (n + 1) (region ++ class ∷ []) × AreNew (region ++ class ∷ [])
-one_more_class n region class e now = (record {
-      counted = length_push region class ∙ ap (λ (m : ℕ). m + 1) (now.0).counted;
-      sizes = λ k other found. ⊎_elim (λ before. (now.0).sizes k other before)
-        (λ last. sym (ap size_of last.1) ∙ ap (λ (c : SizeClass). c.size) e ∙ ap (λ (m : ℕ). 2 ^ m) (sym (last.0 ∙ (now.0).counted))) (get_push region class other k found) },
-    λ k other found. ⊎_elim (λ before. now.1 k other before)
-      (λ last. (sym (ap pieces_of last.1) ∙ ap (λ (c : SizeClass). c.pieces) e, sym (ap spare_in last.1) ∙ ap (λ (c : SizeClass). c.spare) e)) (get_push region class other k found))
+one_more_class n region class e now = (
+  record {
+    counted = length_push region class ∙ ap (λ (m : ℕ). m + 1) (now.0).counted;
+    sizes = λ k other found. ⊎_elim (λ before. (now.0).sizes k other before)
+        (λ last. sym (ap size_of last.1) ∙ ap (λ (c : SizeClass). c.size) e ∙ ap (λ (m : ℕ). 2 ^ m) (sym (last.0 ∙ (now.0).counted))) (get_push region class other k found);
+  },
+  λ k other found. ⊎_elim (λ before. now.1 k other before)
+      (λ last. (sym (ap pieces_of last.1) ∙ ap (λ (c : SizeClass). c.pieces) e, sym (ap spare_in last.1) ∙ ap (λ (c : SizeClass). c.spare) e)) (get_push region class other k found),
+)
 
 no_words : (o : Option SizeClass) (at len : ℕ) → ((class : SizeClass) → o ≡ Some class → class.pieces ≡ []) → words_in o at len ≡ None
 no_words None at len bare = refl
@@ -264,7 +266,8 @@ no_spare_in (Some class) bare = bare class refl
 pub all_new : (region : List SizeClass) → AreNew region → IsEmpty region
 all_new region new = record {
   no_slot = λ slot. no_words (slice_get region slot.chunk) slot.at slot.len (λ class found. (new slot.chunk class found).0);
-  no_spare = λ len. no_spare_in (slice_get region (size_class len)) (λ class found. (new (size_class len) class found).1) }
+  no_spare = λ len. no_spare_in (slice_get region (size_class len)) (λ class found. (new (size_class len) class found).1);
+}
 
 -- a slot that is there is not one that is not
 pub apart : (region : List SizeClass) (slot new : Slot) (words : List ℕ) → words_of region slot ≡ Some words → words_of region new ≡ None → slot ≢ new
@@ -273,8 +276,8 @@ apart region slot new words there missing e = false≢true (ap is_some (sym miss
 same_slot : (a b : Slot) → (a ≡ b) ⊎ (a ≢ b)
 same_slot a b = ⊎_elim
     (λ e. ⊎_elim
-      (λ f. ⊎_elim (λ g. inl (λ i. record { chunk = e i; at = f i; len = g i })) (λ no. inr (λ same. no (ap (λ (s : Slot). s.len) same))) (cases_eq a.len b.len))
-      (λ no. inr (λ same. no (ap (λ (s : Slot). s.at) same))) (cases_eq a.at b.at))
+    (λ f. ⊎_elim (λ g. inl (λ i. record { chunk = e i; at = f i; len = g i })) (λ no. inr (λ same. no (ap (λ (s : Slot). s.len) same))) (cases_eq a.len b.len))
+    (λ no. inr (λ same. no (ap (λ (s : Slot). s.at) same))) (cases_eq a.at b.at))
     (λ no. inr (λ same. no (ap (λ (s : Slot). s.chunk) same))) (cases_eq a.chunk b.chunk)
 
 -- a slot that is taken, written and given back, with nothing changed in between, leaves all as it was

@@ -1,5 +1,5 @@
 -- A region is a finite map from slots to lists of words, with a number of spare slots for each length.
-use Rattle.std.specs.Prelude.{◌≡◌, ◌≢◌, ℕ, ◌+◌, ◌^◌, ◌==◌, ◌<◌, if◌then◌else◌, List, [], ◌∷◌, ◌++◌, length, Option, Some, None, slice_get}
+use Rattle.std.specs.Prelude.{◌≡◌, ◌≢◌, ℕ, ◌^◌, ◌==◌, if◌then◌else◌, List, [], length, Option, Some, None, slice_get}
 use Rattle.ceal_words.specs.Lengths.{size_class}
 use Rattle.ceal_words.specs.SizeClass.{SizeClass, words_at, word_in}
 use Rattle.ceal_words.specs.declared.slot.Slot.{Slot}

@@ -12,6 +12,5 @@ mod marks;
 mod pool;
 pub mod region;
 pub mod slot;
-
 #[cfg(test)]
 mod tests;

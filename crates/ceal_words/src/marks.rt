@@ -24,12 +24,10 @@ impl Marks {
 
     pub(crate) fn add(&mut self)
         ensures { self.new.lens ≡ self.old.lens ++ 0 ∷ [] }
-    {
-    }
+    {}
 
     pub(crate) fn mark(&mut self, _at: u32, _len: u32)
         requires { _at < length self.old.lens }
         ensures { self.new.lens ≡ slice_set self.old.lens _at _len }
-    {
-    }
+    {}
 }

@@ -115,8 +115,7 @@ impl Pool {
         ensures length { IfSome (words_at self.old.pieces at) (λ words. RoundsTo (length words) self.old.size) }
         ensures given { self.new ≡ given at self.old }
     {
-        self.chunk
-            .set(at as usize * self.size as usize, self.head);
+        self.chunk.set(at as usize * self.size as usize, self.head);
         self.head = at as u64;
         self.spare += 1;
         self.marks.mark(at, 0);

@@ -1,4 +1,3 @@
-use Rattle.std.proofs.Common.{ℕ}
 use Rattle.ceal_words.proofs.tests.+nested.Given as goal
 
 abbrev pub decreases-nested : goal.decreases-nested

@@ -1,5 +1,5 @@
 -- `free` gives the allocator its memory and the right to it. Assumes `Logic`.
-use Rattle.std.proofs.Common.{◌≡◌, ℕ, ◌*◌, ◌^◌, ◌<◌, List, [], ◌∷◌, ◌++◌, Option, length, refl, sym, ap, subst, ◌∙◌, arith, lit<, w64}
+use Rattle.std.proofs.Common.{◌≡◌, ℕ, ◌*◌, ◌^◌, ◌<◌, List, [], ◌∷◌, ◌++◌, length, refl, ap, ◌∙◌, arith, lit<, w64}
 use mir.Syntax.{Ty, Fn, Args, a_type, dcons, dnil, place, ty_int, ty_array}
 use mir.Val.{Val, vptr, vint, vunit}
 use mir.MapTy.{inst_fn}
@@ -14,9 +14,9 @@ use types.Kit.{‵, raw, ◌⊛◌, given, later, prop, settles, at_ret, ◌$◌
 use types.Part.{whole, sub}
 use types.Run.{stop, fld, lit, unit_lit, of_opd, bin, no_more, and_then, first, blocks, exec, returns, enter}
 use types.ByLocal.{alloc_all, pass_all, free_all, look_at, get, get_in, sets, lands_last, env}
-use denote.RattleType.{RattleType, owns}
+use denote.RattleType.{owns}
 use denote.RawPtr.{Ptr, block_ptr, in_a_block}
-use denote.Param.{param, bounded}
+use denote.Param.{bounded}
 use denote.Signature.{types_at}
 use denote.Steps.{nothing, heard}
 use denote.Triple.Entry.{alive}
@@ -26,7 +26,7 @@ use denote.Triple.Walked.{Stays, stay_dropped, walk_of, Goes-dropped}
 use Rattle.std.proofs.alloc.Calls.{Al, seen, Goes-blank, Gives, at_gives, Gives-goes, Gives-Gives}
 use Rattle.std.proofs.alloc.Shapes.{after}
 use Rattle.std.proofs.raw_atomic.Walks.{proved_at, leaves}
-use Rattle.ceal_words.specs.Memory.{cells, block_owns, words_type}
+use Rattle.ceal_words.specs.Memory.{block_owns, words_type}
 use Rattle.ceal_words.proofs.BlockWalks.{slot_at, then_runs, out_of_block, block_val, block_told, deed_val, deed_told}
 use Rattle.ceal_words.proofs.MemoryLemmas.{to_room}
 use Rattle.ceal_words.specs.contracts.block.Block.free.{ended, clauses}

@@ -1,7 +1,7 @@
 -- `new` asks the allocator for words, and keeps what comes back. Assumes `Logic`.
-use Rattle.std.proofs.Common.{◌≡◌, ℕ, ◌*◌, ◌^◌, ◌<◌, List, [], ◌∷◌, ◌++◌, length, replicate, refl, sym, subst, ◌∙◌, arith, lit<, w64, Some, None}
+use Rattle.std.proofs.Common.{◌≡◌, ℕ, ◌*◌, ◌^◌, ◌<◌, List, [], ◌∷◌, ◌++◌, length, replicate, refl, sym, subst, arith, lit<, w64, Some, None}
 use Rattle.std.proofs.lemmas.List.{length-replicate}
-use mir.Syntax.{Ty, Fn, Args, a_type, dcons, dnil, ty_int, ty_array}
+use mir.Syntax.{Ty, Fn, Args, a_type, dcons, dnil}
 use mir.Val.{Val, vint, vptr, vcons, vnil}
 use mir.MapTy.{inst_fn}
 use base.Logic.{SProp, emp, id⊢}

@@ -1,10 +1,9 @@
 -- `read` sees a word through a `&`. Assumes `Logic`.
-use Rattle.std.proofs.Common.{◌≡◌, ℕ, ◌+◌, ◌*◌, ◌^◌, ◌<◌, List, [], ◌∷◌, Option, Some, None, IsSome, length, get_or, sym, refl, ap, ◌∙◌, subst, arith, w64, unwrap_or}
+use Rattle.std.proofs.Common.{ℕ, ◌+◌, ◌*◌, ◌^◌, ◌<◌, List, [], ◌∷◌, Option, None, IsSome, get_or, sym, refl, ap, ◌∙◌, arith, w64, unwrap_or}
 use Rattle.std.proofs.raw_atomic.Walks.{proved}
-use base.Fraction.{full_share}
 use base.Logic.{id⊢, never}
-use base.Fml.{ftrue, fat, flft}
-use mir.Syntax.{named, ty_int, ty_ptr}
+use base.Fml.{ftrue, flft}
+use mir.Syntax.{named, ty_ptr}
 use mir.Val.{Val, vint, vptr}
 use contract.Running.{tables}
 use contract.Monad.{fact}
@@ -15,7 +14,7 @@ use denote.Exit.{yes}
 use denote.Builtin.{u64, usize, RefOf}
 use denote.Copied.{plain_Copied, uint_Copied}
 use denote.Index.{place, place_is}
-use denote.Memory.{cell_at, hidden_shr}
+use denote.Memory.{cell_at}
 use denote.Opens.{unhide, hide}
 use denote.Plain.{uint_vals, uint_Tells, uint_Makes}
 use denote.RattleType.{owns}

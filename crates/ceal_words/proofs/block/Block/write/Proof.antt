@@ -1,13 +1,13 @@
 -- `write` puts a word into one cell. Assumes `Logic`.
-use Rattle.std.proofs.Common.{◌≡◌, ℕ, ◌+◌, ◌*◌, ◌^◌, ◌<◌, List, [], ◌∷◌, Option, Some, length, set, sym, refl, ap, ◌∙◌, subst, arith, length-set, w64, lit<}
+use Rattle.std.proofs.Common.{ℕ, ◌+◌, ◌*◌, ◌^◌, ◌<◌, List, [], ◌∷◌, Some, length, set, sym, refl, ap, ◌∙◌, subst, arith, length-set, w64}
 use Rattle.std.proofs.raw_atomic.Walks.{proved}
 use base.Fraction.{full_share}
 use base.Logic.{id⊢}
-use base.Fml.{ftrue, fat, flft, froom}
+use base.Fml.{ftrue, flft, froom}
 use mir.Syntax.{named, ty_int}
 use mir.Val.{Val, vunit, vint}
 use contract.Running.{tables}
-use types.Kit.{‵, raw, ◌⊛◌, at_ret, ◌$◌, ◌∵◌, !, qed, done, move, keep, drop, use1, use2, split, join, rewrite, fsplit, fsplit3, fjoin, fjoin3, feq_i, flt_l, flt_i, suffices, frame, group}
+use types.Kit.{‵, raw, ◌⊛◌, at_ret, ◌$◌, ◌∵◌, !, qed, done, move, keep, use1, use2, split, join, rewrite, fsplit, fsplit3, fjoin, feq_i, flt_l, flt_i, suffices, frame, group}
 use types.Part.{sub, whole, look_in}
 use types.Run.{enter, of_opd, lit, unit_lit, bin, load, init, stop, fld, first, blocks, assigns_last, exec, returns}
 use types.ByLocal.{alloc_all, pass_all, free_all, look_at, get, through, sets, env}
@@ -18,8 +18,8 @@ use denote.Laws.{shows}
 use denote.Memory.{cell_at}
 use denote.Plain.{uint_vals, uint_Tells}
 use denote.RattleType.{owns}
-use denote.RawPtr.{Ptr, block_ptr, in_a_block}
-use denote.Ref.{MutRef, mut_vals, mut_Tells}
+use denote.RawPtr.{Ptr, in_a_block}
+use denote.Ref.{mut_vals, mut_Tells}
 use denote.Signature.{plain, types_at}
 use denote.Steps.{nothing, heard, opens, closes, peeks}
 use denote.Triple.Walked.{Stays, walk_of, stay_dropped, Goes-dropped, stay_ref, Goes-ref, says, ends_at}

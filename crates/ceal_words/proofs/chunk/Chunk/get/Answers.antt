@@ -1,4 +1,4 @@
-use Rattle.std.proofs.Common.{◌≡◌, ◌<◌, ℕ, List, Option, Some, IsSome, length, sym, subst, refl}
+use Rattle.std.proofs.Common.{◌<◌, ℕ, List, IsSome, length, sym, subst, refl}
 use Rattle.ceal_words.proofs.ChunkLemmas.{get_held}
 use Rattle.ceal_words.proofs.chunk.Chunk.get.Goals as goal
 

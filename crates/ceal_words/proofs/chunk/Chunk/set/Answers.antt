@@ -1,4 +1,4 @@
-use Rattle.std.proofs.Common.{◌≡◌, ◌∙◌, ℕ, List, set, ap, sym}
+use Rattle.std.proofs.Common.{◌∙◌, ℕ, List, set, ap, sym}
 use Rattle.ceal_words.proofs.ChunkLemmas.{held_set, written_set}
 use Rattle.ceal_words.proofs.chunk.Chunk.set.Goals as goal
 

@@ -1,11 +1,10 @@
 -- `mark` changes what the proofs know, and no memory. Assumes `Logic`.
-use Rattle.std.proofs.Common.{◌≡◌, ℕ, ◌<◌, List, [], ◌∷◌, length, set, refl, w32}
+use Rattle.std.proofs.Common.{ℕ, ◌<◌, [], ◌∷◌, length, set, refl, w32}
 use Rattle.std.proofs.raw_atomic.Walks.{proved}
 use base.Fml.{ftrue, flft}
 use mir.Syntax.{named}
-use mir.Val.{Val, vunit, vint}
+use mir.Val.{vunit, vint}
 use contract.Monad.{fact}
-use contract.Running.{tables}
 use types.Kit.{‵, raw, ◌⊛◌, ◌$◌, ◌∵◌, !, qed, done, move, keep, split, join, fsplit, fsplit3, feq_i, suffices, frame, group}
 use types.Run.{enter, of_opd, unit_lit, returns}
 use types.ByLocal.{alloc_all, pass_all, free_all, look_at, sets}

@@ -1,13 +1,12 @@
 -- `new` makes a value of no bytes. Assumes `Logic`.
-use Rattle.std.proofs.Common.{ℕ, List, [], ◌∷◌, refl}
+use Rattle.std.proofs.Common.{List, [], ◌∷◌, refl}
 use Rattle.std.proofs.raw_atomic.Walks.{proved}
 use base.Logic.{ent, emp}
 use base.Fml.{Fml, ftrue}
 use seplogic.Ra.Ura.{Ura}
 use mir.Val.{Val, vstruct, vnil}
-use contract.Running.{tables}
 use types.Logic.{Logic, sem}
-use types.Kit.{‵, raw, ◌⊛◌, ◌$◌, ◌∵◌, !, qed, done, move, keep, drop, use0, join, fjoin, suffices}
+use types.Kit.{‵, ◌⊛◌, ◌$◌, ◌∵◌, !, qed, done, keep, use0, fjoin, suffices}
 use types.Part.{agg}
 use types.Run.{enter, no_more, returns}
 use types.ByLocal.{alloc_all, pass_all, free_all, look_at, sets}

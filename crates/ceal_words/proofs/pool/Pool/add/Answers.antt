@@ -1,7 +1,6 @@
-use Rattle.std.proofs.Common.{◌≡◌, ◌∙◌, ◌++◌, ◌∷◌, [], List, ℕ, ◌*◌, ◌+◌, ◌≤◌, length, set, ap, sym, subst, arith}
+use Rattle.std.proofs.Common.{◌∙◌, ◌++◌, List, ℕ, ◌*◌, ◌+◌, ◌≤◌, length, ap, subst, arith}
 use Rattle.ceal_words.specs.SizeClass.{grown}
-use Rattle.ceal_words.specs.Layout.{IsLaidOut}
-use Rattle.ceal_words.proofs.PoolLemmas.{view, laid_longer, view_longer, laid_pushed, view_pushed, few, on_err}
+use Rattle.ceal_words.proofs.PoolLemmas.{laid_longer, view_longer, laid_pushed, view_pushed, few, on_err}
 use Rattle.ceal_words.proofs.pool.Pool.add.Goals as goal
 
 pub invariant_of-self : goal.invariant_of-self

@@ -1,4 +1,4 @@
-use Rattle.std.proofs.Common.{◌≡◌, ap, sym, ◌∙◌, subst, IsSome, IfSome, length, arith}
+use Rattle.std.proofs.Common.{ap, sym, ◌∙◌, subst, IsSome, IfSome, length, arith}
 use Rattle.ceal_words.specs.Lengths.{RoundsTo}
 use Rattle.ceal_words.specs.SizeClass.{SizeClass, words_at, given}
 use Rattle.ceal_words.proofs.PoolLemmas.{marked, stands, place, has_taken, laid_given, view_given, taken_length}

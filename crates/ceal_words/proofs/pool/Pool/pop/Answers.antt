@@ -31,6 +31,8 @@ pub returns-clause-taken : goal.returns-clause-taken
 returns-clause-taken c =
     let p = c.self.inside in let some = subst (λ (s : SizeClass). 0 < s.spare) (sym c.self.view_is) c.requires.some in
     let rounds = subst (λ (s : SizeClass). RoundsTo c.args.len s.size) (sym c.self.view_is) c.requires.length in
-    let words = found p.size p.made p.head p.spare p.chunk p.marks.lens c.self.invariant c.args.len in
-    (words, length_found p.size p.made p.head p.spare p.chunk p.marks.lens c.self.invariant some c.args.len rounds,
-    rw c.mark.ensures (view_popped p.size p.made p.head p.spare p.chunk p.marks.lens c.self.invariant some c.args.len rounds) ∙ ap (taken p.head words) c.self.view_is)
+    let words = found p.size p.made p.head p.spare p.chunk p.marks.lens c.self.invariant c.args.len in (
+      words,
+      length_found p.size p.made p.head p.spare p.chunk p.marks.lens c.self.invariant some c.args.len rounds,
+      rw c.mark.ensures (view_popped p.size p.made p.head p.spare p.chunk p.marks.lens c.self.invariant some c.args.len rounds) ∙ ap (taken p.head words) c.self.view_is,
+    )

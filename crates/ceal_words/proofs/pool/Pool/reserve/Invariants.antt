@@ -1,4 +1,4 @@
-use Rattle.std.proofs.Common.{◌≡◌, ℕ, ◌≤◌, ◌-◌}
+use Rattle.std.proofs.Common.{◌≡◌, ◌≤◌, ◌-◌}
 use Rattle.ceal_words.specs.SizeClass.{grown}
 use Rattle.ceal_words.proofs.pool.Pool.reserve.Given as goal
 

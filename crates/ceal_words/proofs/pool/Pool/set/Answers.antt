@@ -1,4 +1,4 @@
-use Rattle.std.proofs.Common.{◌≡◌, ap, sym, ◌∙◌, subst, IsSome, arith}
+use Rattle.std.proofs.Common.{ap, sym, ◌∙◌, subst, IsSome, arith}
 use Rattle.ceal_words.specs.SizeClass.{SizeClass, words_at, word_in, with_word}
 use Rattle.ceal_words.proofs.PoolLemmas.{word_of, stands, fits, place, laid_set, view_set}
 use Rattle.ceal_words.proofs.pool.Pool.set.Goals as goal

@@ -1,6 +1,6 @@
-use Rattle.std.proofs.Common.{◌≡◌, ◌<◌, ℕ, List, ◌++◌, ap, sym, ◌∙◌, subst, Some, None, IsSome, slice_get, arith, drop, replicate, length, refl}
+use Rattle.std.proofs.Common.{ap, sym, ◌∙◌, subst, None, IsSome, arith}
 use Rattle.std.proofs.lemmas.Option.{slice_get_within}
-use Rattle.ceal_words.specs.SizeClass.{SizeClass, taken, words_at, word_in, with_word}
+use Rattle.ceal_words.specs.SizeClass.{SizeClass, words_at, word_in, with_word}
 use Rattle.ceal_words.proofs.PoolLemmas.{zeroed_more, zeroed_all, zeroed_within}
 use Rattle.ceal_words.proofs.pool.Pool.take.Goals as goal
 
@@ -17,9 +17,13 @@ set-requires c =
 
 pub loop-index-preserved : goal.loop-index-preserved
 loop-index-preserved c =
-    let now = c.loop-index.invariant in
-    (now.0, now.1, now.2, c.set.ensures ∙ ap (with_word c.pop-at.result c.loop-index.index 0) now.3
-    ∙ zeroed_more c.args.self.now c.pop-at.result c.loop-index.index now.0 now.2 (omega (arith, now.1, c.loop-index-test.true)))
+    let now = c.loop-index.invariant in (
+      now.0,
+      now.1,
+      now.2,
+      c.set.ensures ∙ ap (with_word c.pop-at.result c.loop-index.index 0) now.3
+          ∙ zeroed_more c.args.self.now c.pop-at.result c.loop-index.index now.0 now.2 (omega (arith, now.1, c.loop-index-test.true)),
+    )
 
 pub returns-clause-taken : goal.returns-clause-taken
 returns-clause-taken c =

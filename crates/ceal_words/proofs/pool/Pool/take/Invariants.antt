@@ -1,5 +1,5 @@
-use Rattle.std.proofs.Common.{◌≡◌, ℕ, ◌<◌, List, length, drop, replicate, ◌++◌, ◌-◌}
-use Rattle.ceal_words.specs.SizeClass.{SizeClass, taken}
+use Rattle.std.proofs.Common.{◌≡◌, ℕ, ◌<◌, List, length, drop, replicate, ◌++◌}
+use Rattle.ceal_words.specs.SizeClass.{taken}
 use Rattle.ceal_words.proofs.pool.Pool.take.Given as goal
 
 abbrev pub invariant-loop-index : goal.invariant-loop-index

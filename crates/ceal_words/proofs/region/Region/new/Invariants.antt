@@ -1,4 +1,3 @@
-use Rattle.std.proofs.Common.{◌≡◌, ℕ}
 use Rattle.ceal_words.specs.Region.{IsInOrder, AreNew}
 use Rattle.ceal_words.proofs.region.Region.new.Given as goal
 

@@ -1,4 +1,4 @@
-use Rattle.std.proofs.Common.{◌≡◌, ◌-◌, ◌≤◌, List, set, sym, ap, subst, arith}
+use Rattle.std.proofs.Common.{◌-◌, ◌≤◌, List, set, sym, subst, arith}
 use Rattle.ceal_words.specs.SizeClass.{SizeClass, grown}
 use Rattle.ceal_words.specs.Region.{spare, KeepsAll, KeepsOtherSpares}
 use Rattle.ceal_words.proofs.RegionLemmas.{grown_words, grown_spare, grown_others}
