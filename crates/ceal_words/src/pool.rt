@@ -91,7 +91,8 @@ impl Pool {
         ensures taken { (words : List ℕ) × (length words ≡ len) × (self.new ≡ taken result words self.old) }
     {
         let at = self.head as u32;
-        self.head = self.chunk.get(at as usize * self.size as usize);
+        let next = self.chunk.get(at as usize * self.size as usize);
+        self.head = next;
         self.spare -= 1;
         self.marks.mark(at, len);
         at

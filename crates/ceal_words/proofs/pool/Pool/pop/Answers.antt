@@ -4,8 +4,8 @@ use Rattle.ceal_words.specs.Lengths.{RoundsTo}
 use Rattle.ceal_words.proofs.PoolLemmas.{place, head_is_free, laid_popped, was_free, found, length_found, view_popped}
 use Rattle.ceal_words.proofs.pool.Pool.pop.Goals as goal
 
-pub get-self-inside-requires : goal.get-self-inside-requires
-get-self-inside-requires c =
+pub get-next-requires : goal.get-next-requires
+get-next-requires c =
     let p = c.self.inside in let laid = c.self.invariant in
     let some = subst (λ (s : SizeClass). 0 < s.spare) (sym c.self.view_is) c.requires.some in
     let free = head_is_free p.size p.made p.head p.spare p.chunk p.marks.lens laid some in
@@ -20,7 +20,7 @@ pub invariant_of-self : goal.invariant_of-self
 invariant_of-self c =
     let p = c.self.inside in let some = subst (λ (s : SizeClass). 0 < s.spare) (sym c.self.view_is) c.requires.some in
     let rounds = subst (λ (s : SizeClass). RoundsTo c.args.len s.size) (sym c.self.view_is) c.requires.length in
-    rw (c.mark.ensures, c.get-self-inside.ensures) (laid_popped p.size p.made p.head p.spare p.chunk p.marks.lens c.self.invariant some c.args.len rounds)
+    rw (c.mark.ensures, c.get-next.ensures) (laid_popped p.size p.made p.head p.spare p.chunk p.marks.lens c.self.invariant some c.args.len rounds)
 
 pub returns-clause-was_free : goal.returns-clause-was_free
 returns-clause-was_free c =
