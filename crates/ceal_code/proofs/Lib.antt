@@ -1,0 +1,11 @@
+pub mod Samples
+pub mod TypeSteps
+pub mod CheckSteps
+pub mod PathSteps
+pub mod TreeSteps
+pub mod StmtSteps
+pub mod ListSteps
+pub mod TextSteps
+pub mod BranchSteps
+pub mod ListingSteps
+pub mod Local

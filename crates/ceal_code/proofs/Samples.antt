@@ -1,0 +1,75 @@
+-- INC: unit 0 reads its first parameter, and unit 1 writes one more than the value to the second.
+use Rattle.std.proofs.Common.{◌≡◌, ℕ, pos, true, false, negsuc, Option, Some, None, List, [], ◌∷◌, refl}
+use Rattle.ceal_base.specs.Block.{Block}
+use Rattle.ceal_base.specs.Trace.{Trace, Nothing, Stepped, Allocated, Wrote, Was_read}
+use Rattle.ceal_base.specs.declared.kind.Kind.{Kind}
+use Rattle.ceal_base.specs.declared.kind.Kind.TheVariants.{Int, ModInt as ModIntKind}
+use Rattle.ceal_base.specs.declared.kind.Shape.TheVariants.{ModInt}
+use Rattle.ceal_base.specs.declared.operators.Binary.TheVariants.{Add}
+use Rattle.ceal_base.specs.declared.word.BlockId.TheVariants.{Input, Core}
+use Rattle.ceal_base.specs.declared.word.Place.{Place}
+use Rattle.ceal_base.specs.declared.word.Word.{Word}
+use Rattle.ceal_base.specs.declared.word.Word.TheVariants.{Num, Null, At}
+use Rattle.ceal_code.specs.Fresh.{fresh, run}
+use Rattle.ceal_code.specs.Program.{Code}
+use Rattle.ceal_code.specs.Replay.{Yields, Honest, plain_of, input_plain, bases, stored}
+use Rattle.ceal_code.specs.Step.{started, settled, next, chosen, bound, woven}
+use Rattle.ceal_code.specs.Valid.{valid, structs_ok, functions_ok, units_ok, unit_ok, is_prefix, kinds_ok, below, is_tree, reached, all_followers, all_true, paths_ok, with_params, type_of, params_fit, others}
+use Rattle.ceal_code.specs.Value.{expr_value, values, set, unset}
+use Rattle.ceal_code.specs.declared.command.Cmd.TheVariants.{Read, Write, Done}
+use Rattle.ceal_code.specs.declared.expr.CodeExpr.TheBlock.{hidden-the_row-CodeExpr-0, shape-the_row-CodeExpr-0}
+use Rattle.ceal_code.specs.declared.expr.CodeExpr.TheVariants.{Var, Num as NumExpr}
+use Rattle.ceal_code.specs.declared.expr.CodeExpr.TheViews.{Binary}
+use Rattle.ceal_code.specs.declared.expr.VarId.{VarId}
+use Rattle.ceal_code.specs.declared.function.FunctionCode.TheVariants.{Core as CoreFunction}
+
+abbrev var : ℕ → VarId
+var n = record { 0 = n }
+
+abbrev inc : Code
+inc = record {
+  structs = [];
+  functions = CoreFunction (105 ∷ 110 ∷ 99 ∷ []) (record { 0 = 0 }) (ModIntKind ∷ ModIntKind ∷ []) ∷ [];
+  units =
+      record { function = 0; params = var 0 ∷ var 1 ∷ []; body = Read (var 2) (Var (var 0)) (record { 0 = 1 }) (Var (var 1) ∷ []) ∷ [] }
+      ∷ record { function = 0; params = var 1 ∷ var 2 ∷ []; body = Write (Var (var 1)) (Binary Add (Var (var 2)) (NumExpr (pos 1))) ∷ Done ∷ [] }
+      ∷ [];
+  kinds = (ModIntKind ∷ ModIntKind ∷ Int ∷ []) ∷ [];
+}
+
+abbrev place : ℕ → Place
+place n = record { block = Input n; field = 0 }
+
+abbrev cell : Word → Block
+cell word = record { shape = ModInt; words = word ∷ [] }
+
+abbrev inputs : ℕ → List Block
+inputs n = cell (Num (pos n)) ∷ cell (Num (pos 0)) ∷ []
+
+abbrev args : List Word
+args = At (place 0) ∷ At (place 1) ∷ []
+
+inc-fresh : fresh inc 0 args (inputs 4) 2
+    ≡ Some (record { memory = record { inputs = cell (Num (pos 4)) ∷ cell (Num (pos 5)) ∷ []; made = [] }; steps = 2; blocks = 0 })
+unfolding fresh run next settled chosen bound woven set unset expr_value values hidden-the_row-CodeExpr-0 shape-the_row-CodeExpr-0 denote.Hole.Carrier.hidden
+inc-fresh = refl
+
+inc-short : fresh inc 0 args (inputs 4) 1 ≡ None
+unfolding fresh run next settled chosen bound woven set unset expr_value values hidden-the_row-CodeExpr-0 shape-the_row-CodeExpr-0 denote.Hole.Carrier.hidden
+inc-short = refl
+
+-- what a run on 4 leaves
+abbrev items : Trace
+items = Stepped (Was_read (place 0) (Num (pos 4)) (record { 0 = 1 }) 2 (At (place 1) ∷ []) (Stepped (Wrote (place 1) (Num (pos 5)) Nothing)) Nothing)
+
+inc-yields : Yields inc (plain_of inc (inputs 4) items) (started inc 0 args) items
+unfolding next settled chosen bound woven set unset expr_value values hidden-the_row-CodeExpr-0 shape-the_row-CodeExpr-0 denote.Hole.Carrier.hidden
+inc-yields = Yields.reads refl (Yields.writes refl (Yields.over refl)) (Yields.over refl)
+
+inc-honest : Honest inc (bases inc (inputs 4)) items (stored (bases inc (inputs 4)) (place 1) (Num (pos 5)))
+unfolding bases
+inc-honest = Honest.step (Honest.read refl (Honest.step (Honest.write Honest.end)) Honest.end)
+
+inc-valid : valid inc ≡ true
+unfolding valid structs_ok functions_ok units_ok unit_ok is_prefix kinds_ok below is_tree reached all_followers all_true paths_ok with_params type_of params_fit others hidden-the_row-CodeExpr-0 shape-the_row-CodeExpr-0 denote.Hole.Carrier.hidden
+inc-valid = refl

@@ -1,0 +1,12 @@
+pub mod Program
+pub mod Value
+pub mod Init
+pub mod Step
+pub mod Fresh
+pub mod Replay
+pub mod Valid
+pub mod Parts
+pub mod Listing
+pub mod Branches
+pub mod Known
+pub mod Laws

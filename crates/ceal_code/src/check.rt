@@ -1,0 +1,309 @@
+// What is asked of a command of a valid unit.
+
+ghost use Rattle.std.specs.Prelude.{◌≡◌, ℕ, Bool, List, Option, false, true, slice_get, length};
+ghost use Rattle.ceal_code.specs.Step.{kinds_of};
+ghost use Rattle.ceal_code.specs.Valid.{all_fit, params_fit, others, unit_fits, read_fits, entry_fits, call_fits, alloc_fits, modref_fits, place_fits, write_fits, command_ok};
+
+use crate::code::Code;
+use crate::command::Cmd;
+use crate::expr::{CodeExpr, VarId};
+use crate::function::FunctionCode;
+use crate::typing::{is_fit, is_fit_maybe, kind_at, type_of_expr};
+use ceal_base::forest::UnitId;
+use ceal_base::kind::{Kind, Shape};
+use ceal_base::typed::StructInfo;
+
+/// Whether there is one argument of the right type for each kind.
+#[tactic(auto, using(crate::proofs::CheckSteps::check_steps))]
+pub fn do_all_fit(
+    structs: &[StructInfo],
+    kinds: &[Kind],
+    known: &[bool],
+    asked: &[Kind],
+    args: &[CodeExpr],
+) -> bool
+    ensures { result ≡ all_fit structs.now kinds.now known.now asked.now args.now }
+{
+    let mut asked = asked;
+    let mut args = args;
+    while let Some((kind, more)) = asked.split_first() {
+        match args.split_first() {
+            None => return false,
+            Some((e, rest)) => {
+                if !is_fit(*kind, type_of_expr(structs, kinds, known, e)) {
+                    return false;
+                }
+                asked = more;
+                args = rest;
+            }
+        }
+    }
+    args.is_empty()
+}
+
+/// Whether there is one argument of the right type for each parameter, where `theirs` are the kinds of the
+/// variables that the parameters are among.
+#[tactic(auto, using(crate::proofs::CheckSteps::param_steps))]
+fn do_params_fit(
+    structs: &[StructInfo],
+    kinds: &[Kind],
+    known: &[bool],
+    theirs: &[Kind],
+    params: &[VarId],
+    args: &[CodeExpr],
+) -> bool
+    ensures { result ≡ params_fit structs.now kinds.now known.now theirs.now params.now args.now }
+{
+    let mut params = params;
+    let mut args = args;
+    while let Some((p, more)) = params.split_first() {
+        match args.split_first() {
+            None => return false,
+            Some((e, rest)) => {
+                if !is_fit_maybe(kind_at(theirs, *p), type_of_expr(structs, kinds, known, e)) {
+                    return false;
+                }
+                params = more;
+                args = rest;
+            }
+        }
+    }
+    args.is_empty()
+}
+
+/// The same for the parameters but the variable that a read sets.
+#[tactic(auto, using(crate::proofs::CheckSteps::other_steps))]
+fn do_others_fit(
+    structs: &[StructInfo],
+    kinds: &[Kind],
+    known: &[bool],
+    v: VarId,
+    params: &[VarId],
+    args: &[CodeExpr],
+) -> bool
+    ensures { result ≡ params_fit structs.now kinds.now known.now kinds.now (others v.0 params.now) args.now }
+{
+    let mut params = params;
+    let mut args = args;
+    while let Some((p, more)) = params.split_first() {
+        if p.0 == v.0 {
+            params = more;
+            continue;
+        }
+        match args.split_first() {
+            None => return false,
+            Some((e, rest)) => {
+                if !is_fit_maybe(kind_at(kinds, *p), type_of_expr(structs, kinds, known, e)) {
+                    return false;
+                }
+                params = more;
+                args = rest;
+            }
+        }
+    }
+    args.is_empty()
+}
+
+fn does_unit_fit(code: &Code, f: u32, known: &[bool], unit: UnitId, args: &[CodeExpr]) -> bool
+    ensures { result ≡ unit_fits code.now f known.now (slice_get code.now.units unit.0) args.now }
+{
+    match code.units().get(unit.0 as usize) {
+        None => false,
+        Some(unit) => {
+            let kinds = code.kinds_of(f);
+            unit.function == f
+                && do_params_fit(
+                    code.structs.items(),
+                    kinds,
+                    known,
+                    kinds,
+                    unit.params(),
+                    args,
+                )
+        }
+    }
+}
+
+fn does_read_fit(
+    code: &Code,
+    f: u32,
+    known: &[bool],
+    v: VarId,
+    unit: UnitId,
+    args: &[CodeExpr],
+) -> bool
+    ensures { result ≡ read_fits code.now f known.now v.0 (slice_get code.now.units unit.0) args.now }
+{
+    match code.units().get(unit.0 as usize) {
+        None => false,
+        Some(unit) => {
+            unit.function == f
+                && do_others_fit(
+                    code.structs.items(),
+                    code.kinds_of(f),
+                    known,
+                    v,
+                    unit.params(),
+                    args,
+                )
+        }
+    }
+}
+
+fn does_entry_fit(
+    code: &Code,
+    f: u32,
+    known: &[bool],
+    g: u32,
+    unit: UnitId,
+    args: &[CodeExpr],
+) -> bool
+    ensures { result ≡ entry_fits code.now f known.now g (slice_get code.now.units unit.0) args.now }
+{
+    match code.units().get(unit.0 as usize) {
+        None => false,
+        Some(unit) => do_params_fit(
+            code.structs.items(),
+            code.kinds_of(f),
+            known,
+            code.kinds_of(g),
+            unit.params(),
+            args,
+        ),
+    }
+}
+
+fn does_call_fit(code: &Code, f: u32, known: &[bool], g: u32, args: &[CodeExpr]) -> bool
+    ensures { result ≡ call_fits code.now f known.now g (slice_get code.now.functions g) args.now }
+{
+    match code.functions().get(g as usize) {
+        Some(FunctionCode::Core { entry, .. }) => {
+            does_entry_fit(code, f, known, g, *entry, args)
+        }
+        Some(FunctionCode::Init { .. }) => false,
+        None => false,
+    }
+}
+
+fn does_alloc_fit(
+    code: &Code,
+    f: u32,
+    known: &[bool],
+    kind: Option<Kind>,
+    function: u32,
+    args: &[CodeExpr],
+) -> bool
+    ensures { result ≡ alloc_fits code.now f known.now kind (slice_get code.now.functions function) args.now }
+{
+    match code.functions().get(function as usize) {
+        Some(FunctionCode::Init { shape, params, .. }) => {
+            is_fit_maybe(kind, Some(Some(Kind::Ptr(*shape))))
+                && do_all_fit(
+                    code.structs.items(),
+                    code.kinds_of(f),
+                    known,
+                    params.items(),
+                    args,
+                )
+        }
+        Some(FunctionCode::Core { .. }) => false,
+        None => false,
+    }
+}
+
+fn does_modref_fit(kind: Option<Kind>, shape: Shape) -> bool
+    ensures { result ≡ modref_fits kind shape }
+{
+    match shape {
+        Shape::ModInt => is_fit_maybe(kind, Some(Some(Kind::ModInt))),
+        Shape::ModPtr(s) => is_fit_maybe(kind, Some(Some(Kind::ModPtr(s)))),
+        Shape::Struct(_) => false,
+    }
+}
+
+fn does_place_fit(kind: Option<Kind>, t: Option<Option<Kind>>) -> bool
+    ensures { result ≡ place_fits kind t }
+{
+    match kind {
+        Some(Kind::Int) => is_fit(Kind::ModInt, t),
+        Some(Kind::Ptr(s)) => is_fit(Kind::ModPtr(s), t),
+        Some(Kind::ModInt) => false,
+        Some(Kind::ModPtr(_)) => false,
+        None => false,
+    }
+}
+
+fn does_write_fit(place: Option<Option<Kind>>, t: Option<Option<Kind>>) -> bool
+    ensures { result ≡ write_fits place t }
+{
+    match place {
+        Some(Some(Kind::ModInt)) => is_fit(Kind::Int, t),
+        Some(Some(Kind::ModPtr(s))) => is_fit(Kind::Ptr(s), t),
+        Some(None) => match t {
+            Some(None) => true,
+            Some(Some(kind)) => does_place_fit(Some(kind), Some(None)),
+            None => false,
+        },
+        Some(Some(Kind::Int)) => false,
+        Some(Some(Kind::Ptr(_))) => false,
+        None => false,
+    }
+}
+
+/// Whether a command may stand in a unit of the function, where these variables are known; `stepped` says that a
+/// command before it takes a step.
+pub fn is_command_ok(code: &Code, f: u32, known: &[bool], stepped: bool, command: &Cmd) -> bool
+    ensures { result ≡ command_ok code.now f known.now stepped command.now }
+{
+    let structs = code.structs.items();
+    let kinds = code.kinds_of(f);
+    match command {
+        Cmd::Move { var, value } => is_fit_maybe(
+            kind_at(kinds, *var),
+            type_of_expr(structs, kinds, known, value),
+        ),
+        Cmd::Tick => true,
+        Cmd::Alloc {
+            var,
+            function,
+            args,
+        } => does_alloc_fit(
+            code,
+            f,
+            known,
+            kind_at(kinds, *var),
+            *function,
+            args.items(),
+        ),
+        Cmd::Modref { var, shape } => does_modref_fit(kind_at(kinds, *var), *shape),
+        Cmd::Write { place, value } => does_write_fit(
+            type_of_expr(structs, kinds, known, place),
+            type_of_expr(structs, kinds, known, value),
+        ),
+        Cmd::If { test, .. } => is_fit(Kind::Int, type_of_expr(structs, kinds, known, test)),
+        Cmd::Done => true,
+        Cmd::Tail { unit, args } => {
+            stepped && does_unit_fit(code, f, known, *unit, args.items())
+        }
+        Cmd::Read {
+            var,
+            place,
+            unit,
+            args,
+        } => {
+            does_place_fit(
+                kind_at(kinds, *var),
+                type_of_expr(structs, kinds, known, place),
+            ) && does_read_fit(code, f, known, *var, *unit, args.items())
+        }
+        Cmd::Call {
+            function,
+            args,
+            unit,
+            rest,
+        } => {
+            does_call_fit(code, f, known, *function, args.items())
+                && does_unit_fit(code, f, known, *unit, rest.items())
+        }
+    }
+}

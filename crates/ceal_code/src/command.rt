@@ -1,0 +1,57 @@
+// The commands of trace code.
+
+use crate::expr::{CodeExpr, CodeExprs, VarId};
+use ceal_base::forest::UnitId;
+use ceal_base::kind::Shape;
+
+/// A command. `Move`, `Tick`, `Alloc`, `Modref` and `Write` are followed by the next index of the unit's body;
+/// `Done`, `Tail`, `Read` and `Call` end a path.
+#[derive(Drop)]
+pub enum Cmd {
+    Move {
+        var: VarId,
+        value: CodeExpr,
+    },
+    /// a step that does nothing
+    Tick,
+    /// a new block, made by the initialiser of this number
+    Alloc {
+        var: VarId,
+        function: u32,
+        args: CodeExprs,
+    },
+    /// a new block with one modifiable
+    Modref {
+        var: VarId,
+        shape: Shape,
+    },
+    Write {
+        place: CodeExpr,
+        value: CodeExpr,
+    },
+    /// the two indices in the body at which the run goes on
+    If {
+        test: CodeExpr,
+        yes: u32,
+        no: u32,
+    },
+    Done,
+    Tail {
+        unit: UnitId,
+        args: CodeExprs,
+    },
+    /// the unit gets the content as the value of `var`, and the arguments as those of its other parameters
+    Read {
+        var: VarId,
+        place: CodeExpr,
+        unit: UnitId,
+        args: CodeExprs,
+    },
+    /// the function's entry unit runs on the arguments, and then the unit on those of `rest`
+    Call {
+        function: u32,
+        args: CodeExprs,
+        unit: UnitId,
+        rest: CodeExprs,
+    },
+}

@@ -1,0 +1,9 @@
+// Laws of trace code, each the contract of a function that does nothing.
+
+ghost use Rattle.ceal_code.specs.Laws.{Step_law};
+
+/// A step of trace code depends on the plain words of the blocks that its stack can reach, and on nothing else
+/// (our own).
+pub fn step_law()
+    ensures law { Step_law }
+{}

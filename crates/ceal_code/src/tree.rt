@@ -1,0 +1,113 @@
+// Whether a unit's body is a tree.
+
+ghost use Rattle.std.specs.Prelude.{◌≡◌, ◌<◌, ◌^◌, ◌∷◌, [], ℕ, Bool, List, true, false, Some, None, if◌then◌else◌, slice_get, unwrap_or, IfOk};
+ghost use Rattle.ceal_code.specs.Valid.{reached, followers, all_followers, all_true, all_but_first, is_tree};
+
+use crate::command::Cmd;
+use crate::paths::{no_flags, set_flag};
+use ceal_base::no_memory::NoMemory;
+use std::alloc::Global;
+
+fn is_marked(marks: &[bool], at: usize) -> bool
+    ensures { result ≡ unwrap_or (slice_get marks.now at) true }
+{
+    marks.get(at).copied().unwrap_or(true)
+}
+
+/// Marks an index, and says whether it is there and was not marked.
+#[tactic(auto, using(crate::proofs::TreeSteps::mark_steps))]
+fn mark(marks: &mut Vec<bool>, at: usize) -> bool
+    ensures { reached marks.old.items (at ∷ []) ≡ (if result then Some marks.new.items else None) }
+{
+    if is_marked(marks, at) {
+        return false;
+    }
+    set_flag(marks, at);
+    true
+}
+
+/// Marks both, and says whether both were there and not marked.
+#[tactic(auto, using(crate::proofs::TreeSteps::mark_steps))]
+fn mark_both(marks: &mut Vec<bool>, first: usize, second: usize) -> bool
+    ensures { reached marks.old.items (first ∷ second ∷ []) ≡ (if result then Some marks.new.items else None) }
+{
+    if mark(marks, first) {
+        mark(marks, second)
+    } else {
+        false
+    }
+}
+
+/// Marks the indices at which a run may go on after a command.
+#[tactic(auto, using(crate::proofs::TreeSteps::mark_steps))]
+fn mark_followers(marks: &mut Vec<bool>, command: &Cmd, index: usize) -> bool
+    requires room { index < 2 ^ 63 }
+    ensures { reached marks.old.items (followers command.now index) ≡ (if result then Some marks.new.items else None) }
+{
+    match command {
+        Cmd::Move { .. } => mark(marks, index + 1),
+        Cmd::Tick => mark(marks, index + 1),
+        Cmd::Alloc { .. } => mark(marks, index + 1),
+        Cmd::Modref { .. } => mark(marks, index + 1),
+        Cmd::Write { .. } => mark(marks, index + 1),
+        Cmd::If { yes, no, .. } => mark_both(marks, *yes as usize, *no as usize),
+        Cmd::Done => true,
+        Cmd::Tail { .. } => true,
+        Cmd::Read { .. } => true,
+        Cmd::Call { .. } => true,
+    }
+}
+
+#[tactic(auto, using(crate::proofs::TreeSteps::all_steps))]
+fn are_all(flags: &[bool]) -> bool
+    ensures { result ≡ all_true flags.now }
+{
+    let mut flags = flags;
+    while let Some((flag, more)) = flags.split_first() {
+        if !*flag {
+            return false;
+        }
+        flags = more;
+    }
+    true
+}
+
+fn are_all_but_first(flags: &[bool]) -> bool
+    ensures { result ≡ all_but_first (Some flags.now) }
+{
+    match flags {
+        [] => false,
+        [first, rest @ ..] => !*first && are_all(rest),
+    }
+}
+
+/// Marks what is reached from the commands of a body, and says whether each index was there and not marked.
+#[tactic(auto, using(crate::proofs::TreeSteps::walk_steps))]
+fn mark_all(marks: &mut Vec<bool>, body: &[Cmd]) -> bool
+    ensures { reached marks.old.items (all_followers body.now 0) ≡ (if result then Some marks.new.items else None) }
+{
+    let mut rest = body;
+    let mut index = 0;
+    while let Some((command, more)) = rest.split_first() {
+        if !mark_followers(marks, command, index) {
+            return false;
+        }
+        index += 1;
+        rest = more;
+    }
+    true
+}
+
+/// Whether each index but 0 is reached from exactly one command.
+#[tactic(auto, using(crate::proofs::TreeSteps::tree_steps))]
+pub fn is_body_tree(alloc: Global, body: &[Cmd]) -> Result<bool, NoMemory>
+    ensures exact { IfOk result (λ ok. ok ≡ is_tree body.now) }
+{
+    let mut marks = no_flags(alloc, body.len())?;
+    if mark_all(&mut marks, body) {
+        let ok = are_all_but_first(&marks);
+        Ok(ok)
+    } else {
+        Ok(false)
+    }
+}
