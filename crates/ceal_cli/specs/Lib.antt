@@ -1,0 +1,5 @@
+pub mod Bytes
+pub mod Tokens
+pub mod Lexer
+pub mod Grammar
+pub mod Reader
