@@ -3,3 +3,5 @@ pub mod Tokens
 pub mod Lexer
 pub mod Grammar
 pub mod Reader
+pub mod Names
+pub mod Source

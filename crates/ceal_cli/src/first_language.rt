@@ -7,5 +7,7 @@
 pub mod bytes;
 pub mod grammar;
 pub mod lexer;
+pub mod names;
 pub mod reader;
+pub mod source;
 pub mod token;

@@ -54,6 +54,13 @@ pub fn is(text: &[u8], word: &str) -> bool
     text == word.as_bytes()
 }
 
+/// Whether two texts are the same.
+pub fn same(a: &[u8], b: &[u8]) -> bool
+    ensures { result ≡ bytes_eq a.now b.now }
+{
+    a == b
+}
+
 /// The value of decimal digits, and the largest number of the type where it is larger.
 #[tactic(auto, using(crate::proofs::Decimals::value_capped))]
 pub fn decimal(digits: &[u8]) -> u64
