@@ -1,5 +1,6 @@
 -- How bytes spell tokens: as pieces, one after another, each word and number taken as long as it goes.
 use Rattle.std.specs.Prelude.{ℕ, ◌≡◌, ◌<◌, ◌^◌, pos, Bool, true, false, ◌&&◌, ◌||◌, nat_eq, bytes_eq, codes, Option, Some, None, List, [], ◌∷◌, ◌++◌, if◌then◌else◌}
+use Rattle.std.specs.List.{list_all}
 use Rattle.ceal_cli.specs.Bytes.{is_blank, is_letter, is_digit, is_name_byte, is_sign as is_sign_byte, value_of}
 use Rattle.ceal_cli.specs.declared.first_language.token.Token.{Token}
 use Rattle.ceal_cli.specs.declared.first_language.token.Token.TheVariants.{Name, Number, Reserved, Sign}
@@ -20,19 +21,15 @@ pub data Piece : Type 0 where
   number : (digits : List ℕ) → Piece
   sign : (b : ℕ) → Piece
 
-abbrev pub all_bytes : (ℕ → Bool) → List ℕ → Bool
-all_bytes p [] = true
-all_bytes p (b ∷ bs) = p b && all_bytes p bs
-
 -- a letter or `_`, then letters, digits and `_`
 abbrev pub is_word_text : List ℕ → Bool
 is_word_text [] = false
-is_word_text (b ∷ bs) = is_letter b && all_bytes is_name_byte bs
+is_word_text (b ∷ bs) = is_letter b && list_all is_name_byte bs
 
 -- decimal digits
 abbrev pub is_number_text : List ℕ → Bool
 is_number_text [] = false
-is_number_text (b ∷ bs) = is_digit b && all_bytes is_digit bs
+is_number_text (b ∷ bs) = is_digit b && list_all is_digit bs
 
 -- the first byte is of this sort
 abbrev pub begins_with : (ℕ → Bool) → List ℕ → Bool

@@ -92,7 +92,7 @@ fn add_params(scope: Scope, params: &[Text]) -> Result<Option<Scope>, NoMemory>
 fn add_param(scope: Scope, name: &Text) -> Result<Option<Scope>, NoMemory>
     ensures { IfOk result (λ scope'. scope' ≡ param_in scope name.now) }
 {
-    if knows(&scope, name.items()) {
+    if knows(&scope.names, name.items()) {
         return Ok(None);
     }
     let name = name.copy()?;
@@ -164,7 +164,7 @@ fn declare(scope: Scope, name: &Text, value: TypedValue) -> Result<Option<Scope>
     requires { length scope.names < 2 ^ 31 }
     ensures { IfOk result (λ scope'. scope' ≡ declared_in scope name.now value) }
 {
-    if knows(&scope, name.items()) {
+    if knows(&scope.names, name.items()) {
         return Ok(None);
     }
     let number = scope.names.items().len() as u32;
@@ -291,8 +291,8 @@ fn modifiable(scope: &Scope, params: u32, name: &[u8]) -> Option<TypedExpr>
     })
 }
 
-// The number of the name.
-fn place(names: &[Text], wanted: &[u8]) -> Option<u32>
+/// The number of the name among these.
+pub fn place(names: &[Text], wanted: &[u8]) -> Option<u32>
     requires { length names.now < 2 ^ 31 }
     ensures { result ≡ place_of wanted.now names.now }
 {
@@ -309,8 +309,9 @@ fn find(names: &[Text], wanted: &[u8]) -> Option<usize>
     names.iter().position(|name| same(name.items(), wanted))
 }
 
-fn knows(scope: &Scope, wanted: &[u8]) -> bool
-    ensures { result ≡ is_known wanted.now scope.now.names }
+/// Whether the name is one of these.
+pub fn knows(names: &Items<Text>, wanted: &[u8]) -> bool
+    ensures { result ≡ is_known wanted.now names.now }
 {
-    scope.names.items().iter().any(|name| same(name.items(), wanted))
+    names.items().iter().any(|name| same(name.items(), wanted))
 }

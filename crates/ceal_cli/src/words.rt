@@ -1,0 +1,14 @@
+// The words of the command line.
+
+ghost use Rattle.std.specs.Prelude.{◌↔◌, IsTrue};
+ghost use Rattle.ceal_cli.specs.Words.{texts, AreDefined};
+
+/// Whether the words ask for something: they are the one word `run`.
+pub fn are_defined(words: &Vec<String>) -> bool
+    ensures { IsTrue result ↔ AreDefined (texts words.now) }
+{
+    match words.as_slice() {
+        [word] => word.as_str() == "run",
+        _ => false,
+    }
+}
