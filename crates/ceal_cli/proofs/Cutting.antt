@@ -1,25 +1,16 @@
 -- The words of a line, byte by byte.
-use Rattle.std.proofs.Common.{◌≡◌, ℕ, Option, Some, None, List, [], ◌∷◌, refl, ap}
+use Rattle.std.proofs.Common.{◌≡◌, ℕ, ◌+◌, ◌<◌, ◌≤◌, List, [], ◌∷◌, length, get_or, drop, sym, ap, ◌∙◌, add-one, drop-cons, drop_of_length-le}
 use Rattle.ceal_cli.specs.declared.first_script.words.Cut.{Cut}
 use Rattle.ceal_cli.specs.Commands.{words_from, cut_at, ended_word}
-use Rattle.ceal_cli.proofs.Walks.{IsWalk}
 
-abbrev pub cut_next : Cut → ℕ → Option Cut
-cut_next cut b = Some (cut_at cut b)
+module _ (cut : Cut) (line : List ℕ) (i : ℕ) (J : List (List ℕ)) (so_far : words_from cut (drop i line) ≡ J) where
+  ahead : i < length line → words_from cut (get_or line i 0 ∷ drop (i + 1) line) ≡ J
+  ahead within = rw add-one (rw (drop-cons line i 0 within) at so_far)
 
-abbrev pub cut_over : Cut → Option (List (List ℕ))
-cut_over cut = Some (ended_word cut.words cut.word)
+  pub cuts_on : (next : Cut) → i < length line → next ≡ cut_at cut (get_or line i 0) → words_from next (drop (i + 1) line) ≡ J
+  unfolding words_from
+  cuts_on next within e = ap (λ (c : Cut). words_from c (drop (i + 1) line)) e ∙ ahead within
 
-abbrev pub cut_walk : Cut → List ℕ → Option (List (List ℕ))
-cut_walk cut bs = Some (words_from cut bs)
-
-pub cuts_walk : IsWalk cut_next cut_over cut_walk
-unfolding words_from
-cuts_walk = record {
-  ends = λ s. refl;
-  goes = λ s next x xs e. goes s next x xs e;
-  stops = λ s x xs e. absurd (cc);
-}
-  where
-    goes : (s next : Cut) (x : ℕ) (xs : List ℕ) → Some (cut_at s x) ≡ Some next → Some (words_from (cut_at s x) xs) ≡ Some (words_from next xs)
-    goes s next x xs e = let same : cut_at s x ≡ next = cc in ap (λ (c : Cut). Some (words_from c xs)) same
+  pub cuts_to_end : length line ≤ i → ended_word cut.words cut.word ≡ J
+  unfolding words_from
+  cuts_to_end past = sym (ap (words_from cut) (drop_of_length-le line past)) ∙ so_far

@@ -4,7 +4,7 @@ use Rattle.ceal_cli.specs.declared.first_language.token.Token.{Token}
 use Rattle.ceal_cli.specs.declared.first_language.lexer.Lexer.{Lexer}
 use Rattle.ceal_cli.specs.Lexer.{lexed, stepped, closed}
 
-continued : List ℕ → Option Lexer → Option (List Token)
+unfoldable pub continued : List ℕ → Option Lexer → Option (List Token)
 continued bs o = elim o [ None ↦ None | Some next ↦ lexed next bs ]
 
 pub lexed_on : (l next : Lexer) (b : ℕ) (bs : List ℕ) → stepped l b ≡ Some next → lexed l (b ∷ bs) ≡ lexed next bs

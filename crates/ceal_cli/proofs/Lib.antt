@@ -1,7 +1,15 @@
+pub mod Arguments
+pub mod ByteLaws
+pub mod Cutting
 pub mod Decimals
+pub mod Growing
+pub mod LexerLaws
 pub mod LexerSteps
 pub mod LineEnds
 pub mod NamesSteps
+pub mod OutputLaws
 pub mod PartsLaws
+pub mod ReaderLaws
 pub mod ReaderSteps
+pub mod ScriptLines
 pub mod Walks

@@ -5,7 +5,7 @@ use Rattle.ceal_cli.specs.declared.first_language.grammar.Core.{Core}
 use Rattle.ceal_cli.specs.declared.first_language.reader.State.{State}
 use Rattle.ceal_cli.specs.Reader.{read_from, stepped, ended}
 
-continued : List Token → Option State → Option Core
+unfoldable pub continued : List Token → Option State → Option Core
 continued ts o = elim o [ None ↦ None | Some next ↦ read_from next ts ]
 
 pub read_on : (s next : State) (t : Token) (ts : List Token) → stepped s t ≡ Some next → read_from s (t ∷ ts) ≡ read_from next ts

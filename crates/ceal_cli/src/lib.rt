@@ -7,8 +7,10 @@
 mod answer;
 mod first_language;
 mod first_script;
+mod laws;
 mod replies;
 mod top;
 mod words;
 
+pub use laws::one_program;
 pub use top::{INPUT_LIMIT, Status, ceal_main, status_line};

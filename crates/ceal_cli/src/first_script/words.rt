@@ -2,7 +2,7 @@
 
 ghost use Rattle.std.specs.Prelude.{◌≡◌, ◌≤◌, ◌^◌, IfOk};
 ghost use Rattle.std.specs.List.{list_all};
-ghost use Rattle.ceal_cli.specs.Bytes.{is_name_byte as name_byte};
+ghost use Rattle.ceal_cli.specs.Bytes.{is_digit as digit_byte, is_name_byte as name_byte};
 ghost use Rattle.ceal_cli.specs.Commands.{is_gap as gap_byte, cut_at, ended_word, words_of, is_comment as comment_word, is_name as name_word, is_digits, opposite, number_of, positive_of, negative_of};
 
 use crate::first_language::bytes::{decimal, is, is_digit, is_letter, is_name_byte};
@@ -96,7 +96,13 @@ fn are_name_bytes(bytes: &[u8]) -> bool
 fn are_digits(bytes: &[u8]) -> bool
     ensures { result ≡ is_digits bytes.now }
 {
-    !bytes.is_empty() && bytes.iter().all(|byte| is_digit(*byte))
+    !bytes.is_empty() && all_digits(bytes)
+}
+
+fn all_digits(bytes: &[u8]) -> bool
+    ensures { result ≡ list_all digit_byte bytes.now }
+{
+    bytes.iter().all(|byte| is_digit(*byte))
 }
 
 /// The number of a word: an optional `-`, and digits whose value lies in the range of an `int`.
