@@ -11,5 +11,6 @@ pub mod OutputLaws
 pub mod PartsLaws
 pub mod ReaderLaws
 pub mod ReaderSteps
+pub mod RepliesLaws
 pub mod ScriptLines
 pub mod Walks
