@@ -1,5 +1,6 @@
 pub mod Arguments
 pub mod ByteLaws
+pub mod CommandWords
 pub mod Cutting
 pub mod Decimals
 pub mod Growing
@@ -13,4 +14,5 @@ pub mod ReaderLaws
 pub mod ReaderSteps
 pub mod RepliesLaws
 pub mod ScriptLines
+pub mod TopLaws
 pub mod Walks

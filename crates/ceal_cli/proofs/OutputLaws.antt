@@ -1,5 +1,9 @@
 -- What the readings come to is what the definitions ask for.
-use Rattle.std.proofs.Common.{◌≡◌, ℕ, Bool, true, false, is_some, Option, Some, None, List, [], ◌∷◌, inl, inr, if◌then◌else◌, refl, sym, ap, ◌∙◌, subst}
+use Rattle.std.proofs.Common.{◌≡◌, ◌↔◌, ℕ, IsTrue, IfOk, OnOk, Result, Ok, Err, Bool, true, false, is_some, Option, Some, None, List, [], ◌∷◌, inl, inr, if◌then◌else◌, refl, sym, ap, ◌∙◌, subst}
+use Rattle.std.specs.Io.KnownBytes.{Appends}
+use Rattle.ceal_io.specs.Streams.{GrowsByPrefix}
+use Rattle.ceal_io.specs.declared.streams.Stopped.{Stopped}
+use Rattle.ceal_cli.specs.Growth.{WritesOutput, WritesPrefix}
 use Rattle.ceal_base.specs.declared.typed.Typed.{Typed}
 use Rattle.ceal_cli.specs.FirstLanguage.{IsProgram, IsAccepted}
 use Rattle.ceal_cli.specs.Lexer.{lexed, at_start}
@@ -12,6 +16,7 @@ use Rattle.ceal_cli.specs.Source.{Parts, split, lines_of, lines_left}
 use Rattle.ceal_cli.specs.declared.first_language.grammar.Core.{Core}
 use Rattle.ceal_cli.specs.declared.first_language.reader.State.TheVariants.{Start}
 use Rattle.ceal_cli.specs.declared.first_language.token.Token.{Token}
+use Rattle.ceal_cli.proofs.Growing.{grows_by_none}
 use Rattle.ceal_cli.proofs.LexerLaws.{has_tokens, tokens_read}
 use Rattle.ceal_cli.proofs.ReaderLaws.{core_found, core_read}
 
@@ -72,3 +77,19 @@ module _ (input : List ℕ) where
 
   pub output_is : IsOutput input (output_of input)
   output_is = output_parts (split input) refl
+
+-- from what is computed to what it means
+module _ (input : List ℕ) where
+  pub accepted_told : (r : Result Bool Stopped) → IfOk r (λ a. a ≡ is_accepted input) → IfOk r (λ a. IsTrue a ↔ IsAccepted input)
+  accepted_told (Ok a) e = ((λ t. accepts input (sym e ∙ t)), (λ h. e ∙ accepted input h))
+  accepted_told (Err x) e = tt
+
+  pub output_told : (old new : Option (List ℕ)) (r : Result Bool Stopped) → OnOk r (Appends old new (output_of input)) → OnOk r (WritesOutput old new input)
+  output_told old new (Ok a) e = record { out = output_of input; output = output_is input; appends = e }
+  output_told old new (Err x) e = tt
+
+  pub prefix_told : (old new : Option (List ℕ)) → GrowsByPrefix old new (output_of input) → WritesPrefix old new input
+  prefix_told old new e = record { out = output_of input; output = output_is input; grows = e }
+
+  pub nothing_written : (a : Option (List ℕ)) → WritesPrefix a a input
+  nothing_written a = prefix_told a a (grows_by_none a (output_of input))

@@ -1,5 +1,5 @@
 -- The parts of an input, line by line.
-use Rattle.std.proofs.Common.{◌≡◌, ℕ, ◌+◌, ◌-◌, ◌<◌, Bool, true, false, cond, List, [], ◌∷◌, ◌++◌, length, take, Some, None, Option, refl, sym, ap, ◌∙◌, arith, subst, length-append, append_assoc}
+use Rattle.std.proofs.Common.{◌≡◌, ℕ, ◌+◌, ◌-◌, ◌<◌, ◌≤◌, Bor, IfSome, Bool, true, false, cond, List, [], ◌∷◌, ◌++◌, length, take, Some, None, Option, refl, sym, ap, ◌∙◌, arith, subst, length-append, append_assoc}
 use Rattle.std.proofs.Math.Seq.{take-append_seam}
 use Rattle.ceal_cli.specs.Source.{Parts, lines_of, parted, split, is_mark}
 
@@ -18,6 +18,13 @@ front : (before rest input : List ℕ) → before ++ rest ≡ input → before �
 front before rest input e =
     let count : length input - length rest ≡ length before = omega (arith, ap length e, length-append before rest) in
     rw count (rw (← e) (sym (take-append_seam before rest)))
+
+-- what stands behind a line is shorter than the input
+pub behind_line : (before rest input line : List ℕ) (after : Option (Bor (List ℕ))) → before ++ rest ≡ input → IfSome after (λ next. rest ≡ line ++ 10 ∷ next.now)
+    → IfSome after (λ next. length next.now ≤ length input)
+behind_line before rest input line None whole cut = tt
+behind_line before rest input line (Some next) whole cut =
+    omega (arith, ap length whole, length-append before rest, ap length cut, length-append line (10 ∷ next.now))
 
 module _ (before rest input line : List ℕ) (lines : List (List ℕ)) (cut : lines_of rest ≡ line ∷ lines) (whole : before ++ rest ≡ input)
     (so_far : parted before (lines_of rest) ≡ split input) where

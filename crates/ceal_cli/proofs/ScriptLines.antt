@@ -1,5 +1,7 @@
 -- The lines of a script, piece by piece.
 use Rattle.std.proofs.Common.{◌≡◌, ℕ, ◌+◌, Bool, true, false, is_some, Option, Some, None, List, [], ◌∷◌, ◌++◌, if◌then◌else◌, eqb, position, take, drop, refl, sym, ap, ◌∙◌, subst}
+use Rattle.std.proofs.KnownBytes.{Appends-nil}
+use Rattle.std.specs.Io.KnownBytes.{Appends}
 use Rattle.ceal_base.specs.declared.typed.Typed.{Typed}
 use Rattle.ceal_cli.specs.Output.{script_lines, without_return, replies, step_of, answer_text}
 use Rattle.ceal_cli.specs.Source.{lines_of, lines_left}
@@ -36,3 +38,7 @@ replies_next program s line lines = refl
 pub replies_none : (program : Typed) (s : Session) → replies program s (script_lines []) ≡ []
 unfolding replies script_lines
 replies_none program s = refl
+
+-- where no script stands behind the mark, there is nothing to write
+pub replied_none : (a : Option (List ℕ)) (program : Typed) (s : Session) → Appends a a (replies program s (script_lines []))
+replied_none a program s = rw (replies_none program s) (Appends-nil a)

@@ -37,6 +37,7 @@ pub const INPUT_LIMIT: usize = 4_194_304;
 
 /// Does all that the program does. `words` are those after the program's name. The source is read whole before
 /// anything is written, and each reply is written as it is made.
+#[tactic(auto, using(crate::proofs::OutputLaws::nothing_written))]
 pub fn ceal_main<S: Source, K: Sink>(
     alloc: Global,
     words: &Vec<String>,

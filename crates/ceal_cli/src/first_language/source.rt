@@ -1,6 +1,6 @@
 // The two parts of an input, and its lines.
 
-ghost use Rattle.std.specs.Prelude.{◌≡◌, ◌<◌, ◌∷◌, ◌++◌, ◌==◌, [], Some, None, length, position, IfSome, MatchOption};
+ghost use Rattle.std.specs.Prelude.{◌≡◌, ◌≤◌, ◌∷◌, ◌++◌, ◌==◌, [], Some, None, length, position, IfSome, MatchOption};
 ghost use Rattle.std.specs.Option.{option_copied};
 ghost use Rattle.ceal_cli.specs.Source.{lines_of, lines_left, is_mark as mark_line, parted, split as split_input};
 
@@ -9,8 +9,9 @@ use crate::first_language::bytes::is;
 /// The source part of an input, and what stands behind the line `%%`, if anything does; nothing where there is no
 /// such line.
 pub fn split(input: &[u8]) -> Option<(&[u8], Option<&[u8]>)>
-    ensures { MatchOption result (split_input input.now ≡ None)
+    ensures parts { MatchOption result (split_input input.now ≡ None)
         (λ parts. split_input input.now ≡ Some (record { source = parts.0.now; script = lines_left (option_copied parts.1) })) }
+    ensures within { IfSome result (λ parts. IfSome parts.1 (λ script. length script.now ≤ length input.now)) }
 {
     let mut rest = input;
     loop {
