@@ -458,11 +458,14 @@ module _ (t : Token) (next : State) where
       let here : Body (with_statement core s) StatementStart ≡ next = cc in
       let one : statement_spelled s [] ≡ place_behind place ++ t ∷ [] = statement_behind t (Done s) place h in
       let head : List Token = (joined core.params ++ Sign 41 ∷ []) ++ Sign 123 ∷ [] in
-      subst Went-at here (has, ap (prefix core.name) (
-        append-nil (head ++ body_front (core.body ++ s ∷ []))
-        ∙ ap (λ (l : List Token). head ++ l) (front_push core.body s ∙ ap (λ (l : List Token). body_front core.body ++ l) one)
-        ∙ sym (append_assoc head (body_front core.body) (place_behind place ++ t ∷ []))
-        ∙ sym (append_assoc (head ++ body_front core.body) (place_behind place) (t ∷ []))))
+      subst Went-at here (
+        has,
+        ap (prefix core.name) (
+            append-nil (head ++ body_front (core.body ++ s ∷ []))
+            ∙ ap (λ (l : List Token). head ++ l) (front_push core.body s ∙ ap (λ (l : List Token). body_front core.body ++ l) one)
+            ∙ sym (append_assoc head (body_front core.body) (place_behind place ++ t ∷ []))
+            ∙ sym (append_assoc (head ++ body_front core.body) (place_behind place) (t ∷ []))),
+      )
     where
       Went-at : State → Type 0
       Went-at k = HasParams k × (behind k ≡ behind (Body core place) ++ t ∷ [])

@@ -25,7 +25,7 @@ pub replies_cut : (program : Typed) (s : Session) (rest piece line : List ℕ) (
     ≡ answer_text (step_of program s line).answer ++ replies program (step_of program s line).session (script_lines (lines_left after))
 replies_cut program s rest piece line after ended cut e is =
     let here : (if is_some after then without_return piece else piece) ≡ line =
-        ap (λ (b : Bool). if b then without_return piece else piece) (sym e) ∙ sym is in
+    ap (λ (b : Bool). if b then without_return piece else piece) (sym e) ∙ sym is in
     ap (λ (l : List (List ℕ)). replies program s (script_lines l)) cut
     ∙ ap (replies program s) (script_next piece after)
     ∙ ap (λ (l : List ℕ). replies program s (l ∷ script_lines (lines_left after))) here

@@ -20,11 +20,7 @@ use ceal_io::{Sink, Stopped, write_all};
 use std::alloc::Global;
 
 /// Writes the output for an input, and says whether the input is accepted.
-pub fn write_answer<K: Sink>(
-    alloc: Global,
-    input: &[u8],
-    sink: &mut K,
-) -> Result<bool, Stopped>
+pub fn write_answer<K: Sink>(alloc: Global, input: &[u8], sink: &mut K) -> Result<bool, Stopped>
     requires { length input.now < 2 ^ 31 }
     ensures accepted { IfOk result (λ accepted. IsTrue accepted ↔ IsAccepted input.now) }
     ensures all { OnOk result (WritesOutput (K.written sink.old) (K.written sink.new) input.now) }

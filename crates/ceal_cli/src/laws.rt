@@ -7,5 +7,4 @@ ghost use Rattle.ceal_cli.specs.FirstLanguage.{IsProgram};
 /// A source is at most one program, so an input has one output.
 pub fn one_program()
     ensures { (source : List ℕ) → (p : Program) → (q : Program) → IsProgram source p → IsProgram source q → p ≡ q }
-{
-}
+{}

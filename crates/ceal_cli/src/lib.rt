@@ -14,3 +14,6 @@ mod words;
 
 pub use laws::one_program;
 pub use top::{INPUT_LIMIT, Status, ceal_main, status_line};
+
+#[cfg(test)]
+mod tests;

@@ -13,7 +13,9 @@ use ceal_base::no_memory::NoMemory;
 use ceal_base::operators::Binary;
 use ceal_base::syntax::Ident;
 use ceal_base::text::Text;
-use ceal_base::typed::{Typed, TypedExpr, TypedForm, TypedFunction, TypedStmt, TypedStmts, TypedValue};
+use ceal_base::typed::{
+    Typed, TypedExpr, TypedForm, TypedFunction, TypedStmt, TypedStmts, TypedValue,
+};
 use std::alloc::Global;
 
 /// The most parameters of a core, and the most signs of a sum.

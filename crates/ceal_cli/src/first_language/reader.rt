@@ -223,11 +223,7 @@ fn is_start(place: &Place) -> bool
     }
 }
 
-fn in_statement(
-    alloc: Global,
-    place: Place,
-    token: &Token,
-) -> Result<Option<Next>, NoMemory>
+fn in_statement(alloc: Global, place: Place, token: &Token) -> Result<Option<Next>, NoMemory>
     ensures { IfOk result (λ next. next ≡ statement_stepped place token.now) }
 {
     match place {
@@ -303,11 +299,7 @@ fn value(alloc: Global, name: Text, token: &Token) -> Result<Option<Next>, NoMem
     first_operand(alloc, Target::Declare(name), token)
 }
 
-fn first_operand(
-    alloc: Global,
-    target: Target,
-    token: &Token,
-) -> Result<Option<Next>, NoMemory>
+fn first_operand(alloc: Global, target: Target, token: &Token) -> Result<Option<Next>, NoMemory>
     ensures { IfOk result (λ next. next ≡ sum_begun target (operand_of token.now)) }
 {
     match operand(token)? {

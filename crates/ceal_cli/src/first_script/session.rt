@@ -290,12 +290,7 @@ fn propagate(alloc: Global, program: &Typed, session: Session) -> Result<Step, N
 }
 
 // `get`: what an input's modifiable has at the end of the run on the present inputs.
-fn get(
-    alloc: Global,
-    program: &Typed,
-    session: Session,
-    name: &[u8],
-) -> Result<Step, NoMemory>
+fn get(alloc: Global, program: &Typed, session: Session, name: &[u8]) -> Result<Step, NoMemory>
     requires { length session.names < 2 ^ 31 }
     ensures { IfOk result (λ step. step ≡ got program.now session session.call (place_of name.now session.names)) }
 {

@@ -9,7 +9,7 @@ use Rattle.ceal_cli.proofs.replies.reply_all.Given as goal
 abbrev pub invariant-loop-session : goal.invariant-loop-session
 invariant-loop-session g l = record {
   written : Written (g.K.Sink.written l.fn.sink) (g.K.Sink.written l.sink) (replies l.program initial (script_lines (lines_of l.script)))
-    (replies l.program l.session (script_lines (lines_of l.rest)));
+      (replies l.program l.session (script_lines (lines_of l.rest)));
   later : g.K.Sink.faults l.fn.sink ≤ g.K.Sink.faults l.sink;
   room : length l.session.names + length l.rest < 2 ^ 31;
 }

@@ -12,4 +12,4 @@ pub loop-digit-preserved : goal.loop-digit-preserved
 loop-digit-preserved c =
     rw (take_more c.args.digits.now c.loop-digit.digit-index 0 c.loop-digit-test.true)
     (rw (c.saturating_add-value.ensures, c.saturating_mul.ensures, c.from-digit.ensures, c.saturating_sub.ensures)
-      (value_capped (take c.loop-digit.digit-index c.args.digits.now) (get_or c.args.digits.now c.loop-digit.digit-index 0) c.loop-digit.value c.loop-digit.invariant))
+    (value_capped (take c.loop-digit.digit-index c.args.digits.now) (get_or c.args.digits.now c.loop-digit.digit-index 0) c.loop-digit.value c.loop-digit.invariant))
