@@ -1,5 +1,5 @@
 -- The arguments of a run, one after another.
-use Rattle.std.proofs.Common.{◌≡◌, ℕ, Option, Some, None, List, [], ◌∷◌, refl, ap}
+use Rattle.std.proofs.Common.{ℕ, Option, Some, None, List, refl, ap}
 use Rattle.ceal_base.specs.declared.word.Word.{Word}
 use Rattle.ceal_cli.specs.Session.{args_from, arg_in}
 use Rattle.ceal_cli.proofs.Walks.{IsWalk}

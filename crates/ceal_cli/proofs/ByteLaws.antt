@@ -1,6 +1,6 @@
 -- The classes of bytes do not overlap.
-use Rattle.std.proofs.Common.{◌≡◌, ℕ, ◌≤◌, Bool, true, false, ◌&&◌, ◌||◌, nat_eq, ◌⊎◌, inl, inr, refl, sym, ap, ◌∙◌, arith, subst}
-use Rattle.ceal_cli.specs.Bytes.{is_blank, is_letter, is_digit, is_name_byte, is_sign}
+use Rattle.std.proofs.Common.{◌≡◌, ℕ, Bool, true, false, ◌||◌, ◌⊎◌, inl, inr, refl, arith}
+use Rattle.ceal_cli.specs.Bytes.{is_blank, is_letter, is_digit, is_sign}
 
 pub either : (a b : Bool) → (a || b) ≡ true → (a ≡ true) ⊎ (b ≡ true)
 either true b e = inl refl

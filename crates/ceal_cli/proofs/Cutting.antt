@@ -1,5 +1,5 @@
 -- The words of a line, byte by byte.
-use Rattle.std.proofs.Common.{◌≡◌, ℕ, ◌+◌, ◌<◌, ◌≤◌, List, [], ◌∷◌, length, get_or, drop, sym, ap, ◌∙◌, add-one, drop-cons, drop_of_length-le}
+use Rattle.std.proofs.Common.{◌≡◌, ℕ, ◌+◌, ◌<◌, ◌≤◌, List, ◌∷◌, length, get_or, drop, sym, ap, ◌∙◌, add-one, drop-cons, drop_of_length-le}
 use Rattle.ceal_cli.specs.declared.first_script.words.Cut.{Cut}
 use Rattle.ceal_cli.specs.Commands.{words_from, cut_at, ended_word}
 

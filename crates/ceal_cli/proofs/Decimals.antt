@@ -1,5 +1,5 @@
 -- The value of decimal digits.
-use Rattle.std.proofs.Common.{◌≡◌, ℕ, ◌+◌, ◌*◌, ◌-◌, ◌^◌, ◌≤◌, min, List, [], ◌∷◌, ◌++◌, refl, arith}
+use Rattle.std.proofs.Common.{◌≡◌, ℕ, ◌+◌, ◌*◌, ◌-◌, ◌^◌, min, List, [], ◌∷◌, ◌++◌, refl, arith}
 use Rattle.ceal_cli.specs.Bytes.{value_from, value_of}
 
 pub value_push : (n : ℕ) (digits : List ℕ) (d : ℕ) → value_from n (digits ++ d ∷ []) ≡ value_from n digits * 10 + (d - 48)

@@ -1,9 +1,9 @@
 -- A reading of bytes gives exactly the tokens that they spell.
-use Rattle.std.proofs.Common.{◌≡◌, ℕ, ◌+◌, ◌-◌, ◌<◌, ◌≤◌, ◌^◌, pos, Bool, true, false, ◌&&◌, cond, nat_le, Option, Some, None, List, [], ◌∷◌, ◌++◌, if◌then◌else◌, refl, sym, ap, ◌∙◌, arith, subst, append_assoc, append-nil}
+use Rattle.std.proofs.Common.{◌≡◌, ℕ, ◌-◌, ◌<◌, ◌^◌, pos, Bool, true, false, ◌&&◌, nat_le, Option, Some, None, List, [], ◌∷◌, ◌++◌, if◌then◌else◌, refl, sym, ap, ◌∙◌, arith, subst, append_assoc, append-nil}
 use Rattle.std.specs.List.{list_all}
 use Rattle.ceal_cli.specs.Bytes.{is_blank, is_letter, is_digit, is_name_byte, is_sign, value_of}
 use Rattle.ceal_cli.specs.Tokens.{Piece, blank, word, number, sign, spelled, tokens_of, ArePieces, HasTokens, begins_with, is_word_text, is_number_text, word_token}
-use Rattle.ceal_cli.specs.Lexer.{lexed, stepped, begun, begun_after, signed, closed, goes_on, grown, at_start}
+use Rattle.ceal_cli.specs.Lexer.{lexed, begun, begun_after, signed, closed, goes_on, grown, at_start}
 use Rattle.ceal_cli.specs.declared.first_language.token.Token.{Token}
 use Rattle.ceal_cli.specs.declared.first_language.token.Token.TheVariants.{Number as NumberToken, Sign}
 use Rattle.ceal_cli.specs.declared.first_language.lexer.Run.{Run}

@@ -1,5 +1,5 @@
 -- What the readings come to is what the definitions ask for.
-use Rattle.std.proofs.Common.{◌≡◌, ◌↔◌, ℕ, IsTrue, IfOk, OnOk, Result, Ok, Err, Bool, true, false, is_some, Option, Some, None, List, [], ◌∷◌, inl, inr, if◌then◌else◌, refl, sym, ap, ◌∙◌, subst}
+use Rattle.std.proofs.Common.{◌≡◌, ◌↔◌, ℕ, IsTrue, IfOk, OnOk, Result, Ok, Err, Bool, true, false, is_some, Option, Some, None, List, inl, inr, refl, sym, ap, ◌∙◌}
 use Rattle.std.specs.Io.KnownBytes.{Appends}
 use Rattle.ceal_io.specs.Streams.{GrowsByPrefix}
 use Rattle.ceal_io.specs.declared.streams.Stopped.{Stopped}
@@ -7,12 +7,10 @@ use Rattle.ceal_cli.specs.Growth.{WritesOutput, WritesPrefix}
 use Rattle.ceal_base.specs.declared.typed.Typed.{Typed}
 use Rattle.ceal_cli.specs.FirstLanguage.{IsProgram, IsAccepted}
 use Rattle.ceal_cli.specs.Lexer.{lexed, at_start}
-use Rattle.ceal_cli.specs.Names.{program_of}
-use Rattle.ceal_cli.specs.Output.{IsOutput, IsReplies, IsFault, replies, script_lines, without_return, fault_text}
+use Rattle.ceal_cli.specs.Output.{IsOutput}
 use Rattle.ceal_cli.specs.Reader.{read_from}
 use Rattle.ceal_cli.specs.Reading.{named, read, program_read, program_in, is_accepted, output_for, output_by, output_of}
-use Rattle.ceal_cli.specs.Session.{initial}
-use Rattle.ceal_cli.specs.Source.{Parts, split, lines_of, lines_left}
+use Rattle.ceal_cli.specs.Source.{Parts, split}
 use Rattle.ceal_cli.specs.declared.first_language.grammar.Core.{Core}
 use Rattle.ceal_cli.specs.declared.first_language.reader.State.TheVariants.{Start}
 use Rattle.ceal_cli.specs.declared.first_language.token.Token.{Token}

@@ -1,9 +1,9 @@
 -- A reading of tokens gives exactly the core that they spell.
-use Rattle.std.proofs.Common.{◌≡◌, ℕ, ◌<◌, Bool, true, false, ◌&&◌, bytes_eq, nat_eq, codes, Option, Some, None, List, [], ◌∷◌, ◌++◌, if◌then◌else◌, refl, sym, ap, ◌∙◌, arith, subst, append_assoc, append-nil}
+use Rattle.std.proofs.Common.{◌≡◌, ℕ, Bool, true, false, ◌&&◌, nat_eq, codes, Option, Some, None, List, [], ◌∷◌, ◌++◌, if◌then◌else◌, refl, sym, ap, ◌∙◌, arith, subst, append_assoc, append-nil}
 use Rattle.std.proofs.lemmas.Slice.Eq.{bytes_eq-Decides}
 use Rattle.ceal_cli.specs.Tokens.{is_sign, is_word, name_of}
-use Rattle.ceal_cli.specs.Grammar.{operand_token, term_sign, terms_spelled, sum_spelled, statement_spelled, body_spelled, param_spelled, params_spelled, IsParamList, IsCore}
-use Rattle.ceal_cli.specs.Reader.{wants, goes, done, operand_of, sum_begun, termed, summed, sum_ended, statement_begun, valued, declared_name, read_name, written_name, statement_stepped, at_statement, moved, body_stepped, param_named, head_stepped, core_named, stepped, ended, read_from}
+use Rattle.ceal_cli.specs.Grammar.{operand_token, term_sign, terms_spelled, statement_spelled, body_spelled, param_spelled, params_spelled, IsParamList, IsCore}
+use Rattle.ceal_cli.specs.Reader.{wants, goes, done, operand_of, sum_begun, termed, sum_ended, declared_name, read_name, written_name, statement_stepped, at_statement, moved, param_named, head_stepped, core_named, stepped, ended, read_from}
 use Rattle.ceal_cli.specs.declared.first_language.token.Token.{Token}
 use Rattle.ceal_cli.specs.declared.first_language.token.Token.TheVariants.{Name, Number, Reserved, Sign}
 use Rattle.ceal_cli.specs.declared.first_language.grammar.Operand.{Operand}

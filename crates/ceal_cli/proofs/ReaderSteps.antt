@@ -1,5 +1,5 @@
 -- A reading of tokens, step by step.
-use Rattle.std.proofs.Common.{◌≡◌, ℕ, ◌+◌, ◌<◌, ◌≤◌, Option, Some, None, List, [], ◌∷◌, length, get_or, drop, refl, sym, ap, ◌∙◌, add-one, drop-cons, drop_of_length-le}
+use Rattle.std.proofs.Common.{◌≡◌, ℕ, ◌+◌, ◌<◌, ◌≤◌, Option, Some, None, List, ◌∷◌, length, get_or, drop, sym, ap, ◌∙◌, add-one, drop-cons, drop_of_length-le}
 use Rattle.ceal_cli.specs.declared.first_language.token.Token.{Token}
 use Rattle.ceal_cli.specs.declared.first_language.grammar.Core.{Core}
 use Rattle.ceal_cli.specs.declared.first_language.reader.State.{State}

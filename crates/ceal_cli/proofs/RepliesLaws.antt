@@ -1,10 +1,10 @@
 -- The replies to the lines of a script, one after another.
-use Rattle.std.proofs.Common.{◌≡◌, ℕ, ◌+◌, ◌≤◌, Bool, true, false, ◌||◌, not, is_some, Option, Some, None, List, [], ◌∷◌, ◌++◌, length, if◌then◌else◌, refl, sym, ap, ◌∙◌, arith, subst, length-append, ℤ, Bor}
+use Rattle.std.proofs.Common.{◌≡◌, ℕ, ◌+◌, ◌≤◌, Bool, true, false, ◌||◌, not, is_some, Option, Some, None, List, [], ◌∷◌, ◌++◌, length, if◌then◌else◌, refl, sym, ap, ◌∙◌, arith, length-append, ℤ, Bor}
 use Rattle.ceal_base.specs.declared.typed.Typed.{Typed}
 use Rattle.ceal_base.specs.declared.word.Word.{Word}
 use Rattle.ceal_cli.specs.Names.{is_known, place_of}
 use Rattle.ceal_cli.specs.Output.{script_lines, without_return, replies, step_of, answer_text}
-use Rattle.ceal_cli.specs.Session.{made, edited, is_core, args_from, called, ran, propagated, value_at, told, got_at, got_of, got, answered, answered_line, outcome}
+use Rattle.ceal_cli.specs.Session.{made, edited, is_core, args_from, called, ran, value_at, told, got_at, got_of, got, answered, answered_line, outcome}
 use Rattle.ceal_cli.specs.Commands.{read_line}
 use Rattle.ceal_cli.specs.Source.{lines_of, lines_left}
 use Rattle.std.specs.Option.{option_copied}

@@ -1,5 +1,5 @@
 -- The lines of a script, piece by piece.
-use Rattle.std.proofs.Common.{◌≡◌, ℕ, ◌+◌, Bool, true, false, is_some, Option, Some, None, List, [], ◌∷◌, ◌++◌, if◌then◌else◌, eqb, position, take, drop, refl, sym, ap, ◌∙◌, subst}
+use Rattle.std.proofs.Common.{◌≡◌, ℕ, ◌+◌, is_some, Option, Some, None, List, [], ◌∷◌, ◌++◌, if◌then◌else◌, eqb, position, take, drop, refl, sym, subst}
 use Rattle.std.proofs.KnownBytes.{Appends-nil}
 use Rattle.std.specs.Io.KnownBytes.{Appends}
 use Rattle.ceal_base.specs.declared.typed.Typed.{Typed}

@@ -1,5 +1,5 @@
 -- From the bytes that were read to the input that the source told.
-use Rattle.std.proofs.Common.{◌≡◌, ◌≤◌, ◌⊎◌, inl, inr, ℕ, Option, Some, None, List, [], ◌++◌, length, IfSome, refl, sym, ap, ◌∙◌, subst, append-nil}
+use Rattle.std.proofs.Common.{◌≡◌, ◌≤◌, ◌⊎◌, inl, ℕ, Option, Some, None, List, ◌++◌, length, IfSome, refl, sym, ap, ◌∙◌, subst, append-nil}
 use Rattle.std.specs.Io.KnownBytes.{Consumes, IsAtEnd}
 use Rattle.ceal_cli.specs.FirstLanguage.{IsAccepted}
 use Rattle.ceal_cli.specs.Growth.{WritesOutput, WritesPrefix}

@@ -1,5 +1,5 @@
 -- The lines of the first script, and the commands that they are.
-use Rattle.std.specs.Prelude.{ℕ, ℤ, pos, negsuc, zero, suc, Bool, true, false, not, ◌&&◌, ◌||◌, ◌==◌, ◌^◌, ◌-◌, nat_eq, nat_le, bytes_eq, codes, Option, Some, None, List, [], ◌∷◌, ◌++◌, length, if◌then◌else◌}
+use Rattle.std.specs.Prelude.{ℕ, ℤ, pos, negsuc, zero, suc, Bool, false, not, ◌&&◌, ◌||◌, ◌==◌, ◌^◌, ◌-◌, nat_eq, nat_le, bytes_eq, codes, Option, Some, None, List, [], ◌∷◌, ◌++◌, length, if◌then◌else◌}
 use Rattle.std.specs.List.{list_all}
 use Rattle.ceal_cli.specs.Bytes.{is_letter, is_digit, is_name_byte, value_of}
 use Rattle.ceal_cli.specs.declared.first_script.words.Cut.{Cut}

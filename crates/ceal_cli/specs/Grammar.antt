@@ -1,5 +1,5 @@
 -- The grammar of the first language: the tokens of each tree, and then what follows them.
-use Rattle.std.specs.Prelude.{ℕ, ◌≡◌, ◌<◌, Bool, true, false, codes, List, [], ◌∷◌, length, if◌then◌else◌}
+use Rattle.std.specs.Prelude.{ℕ, ◌≡◌, Bool, codes, List, [], ◌∷◌, if◌then◌else◌}
 use Rattle.ceal_cli.specs.declared.first_language.token.Token.{Token}
 use Rattle.ceal_cli.specs.declared.first_language.token.Token.TheVariants.{Name, Number, Reserved, Sign}
 use Rattle.ceal_cli.specs.declared.first_language.grammar.Operand.{Operand}

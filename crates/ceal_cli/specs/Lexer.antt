@@ -1,5 +1,5 @@
 -- A reading of bytes, one at a time.
-use Rattle.std.specs.Prelude.{ℕ, ◌^◌, pos, Bool, false, nat_lt, Option, Some, None, List, [], ◌∷◌, ◌++◌, if◌then◌else◌, ◌-◌, nat_le}
+use Rattle.std.specs.Prelude.{ℕ, ◌^◌, pos, Bool, false, Option, Some, None, List, [], ◌∷◌, ◌++◌, if◌then◌else◌, ◌-◌, nat_le}
 use Rattle.ceal_cli.specs.Bytes.{is_blank, is_letter, is_digit, is_name_byte, is_sign, value_of}
 use Rattle.ceal_cli.specs.Tokens.{word_token}
 use Rattle.ceal_cli.specs.declared.first_language.token.Token.{Token}

@@ -5,7 +5,6 @@ use Rattle.ceal_cli.specs.declared.first_language.token.Token.{Token}
 use Rattle.ceal_cli.specs.declared.first_language.token.Token.TheVariants.{Name, Number}
 use Rattle.ceal_cli.specs.declared.first_language.grammar.Operand.{Operand}
 use Rattle.ceal_cli.specs.declared.first_language.grammar.Operand.TheVariants.{Number as NumberOperand, Name as NameOperand}
-use Rattle.ceal_cli.specs.declared.first_language.grammar.Term.{Term}
 use Rattle.ceal_cli.specs.declared.first_language.grammar.Sum.{Sum}
 use Rattle.ceal_cli.specs.declared.first_language.grammar.Statement.{Statement}
 use Rattle.ceal_cli.specs.declared.first_language.grammar.Statement.TheVariants.{Declare as DeclareSum, Read as DeclareRead, Write as WriteSum}

@@ -1,4 +1,4 @@
-use Rattle.std.proofs.Common.{◌≡◌, ◌∙◌, ◌+◌, ◌++◌, sym, ap, rules, arith, length, length-append, ◌∷◌}
+use Rattle.std.proofs.Common.{◌∙◌, ap, rules, arith, length, length-append, ◌∷◌}
 use Rattle.std.specs.Option.{option_copied}
 use Rattle.ceal_cli.proofs.Growing.{Written-more, Written-all, Written-prefix, grows_by_all}
 use Rattle.ceal_cli.proofs.RepliesLaws.{replies_cut, copied_some, step_few}

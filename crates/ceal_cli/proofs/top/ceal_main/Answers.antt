@@ -1,4 +1,4 @@
-use Rattle.std.proofs.Common.{◌≡◌, ◌∙◌, sym, ap, arith, length}
+use Rattle.std.proofs.Common.{arith}
 use Rattle.ceal_cli.proofs.TopLaws.{output_for, prefix_for, short_for, accepted_for, done_for, not_refused_for, not_done_for}
 use Rattle.ceal_cli.proofs.top.ceal_main.Goals as goal
 

@@ -1,4 +1,4 @@
-use Rattle.std.proofs.Common.{◌≡◌, refl, take, get_or}
+use Rattle.std.proofs.Common.{refl, take, get_or}
 use Rattle.std.proofs.lemmas.List.{take_more}
 use Rattle.ceal_cli.specs.Bytes.{value_from}
 use Rattle.ceal_cli.proofs.Decimals.{value_capped}

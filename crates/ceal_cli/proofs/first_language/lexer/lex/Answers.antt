@@ -1,4 +1,4 @@
-use Rattle.std.proofs.Common.{◌≡◌, ◌∙◌, sym, rules}
+use Rattle.std.proofs.Common.{◌∙◌, sym}
 use Rattle.ceal_cli.proofs.LexerSteps.{lexes_on, lexes_off, lexes_to_end}
 use Rattle.ceal_cli.proofs.first_language.lexer.lex.Goals as goal
 

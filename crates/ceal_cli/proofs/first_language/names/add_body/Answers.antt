@@ -1,4 +1,4 @@
-use Rattle.std.proofs.Common.{◌≡◌, ◌∙◌, sym, rules, arith, length, length-append}
+use Rattle.std.proofs.Common.{◌∙◌, sym, arith}
 use Rattle.ceal_cli.proofs.Walks.{walk_on, walk_off, walk_over}
 use Rattle.ceal_cli.proofs.NamesSteps.{body_walk, statement_count}
 use Rattle.ceal_cli.proofs.first_language.names.add_body.Goals as goal

@@ -1,4 +1,4 @@
-use Rattle.std.proofs.Common.{◌≡◌, ◌∙◌, sym, rules, arith, length, length-append}
+use Rattle.std.proofs.Common.{◌∙◌, sym}
 use Rattle.ceal_cli.proofs.Walks.{walk_on, walk_off, walk_over}
 use Rattle.ceal_cli.proofs.NamesSteps.{params_walk}
 use Rattle.ceal_cli.proofs.first_language.names.add_params.Goals as goal

@@ -1,4 +1,4 @@
-use Rattle.std.proofs.Common.{◌≡◌, ◌∙◌, sym, ap, arith, length}
+use Rattle.std.proofs.Common.{◌∙◌, sym, ap, arith, length}
 use Rattle.ceal_cli.proofs.NamesSteps.{params_count}
 use Rattle.ceal_cli.proofs.first_language.names.resolve.Goals as goal
 

@@ -1,4 +1,4 @@
-use Rattle.std.proofs.Common.{◌≡◌, ◌∙◌, sym, rules}
+use Rattle.std.proofs.Common.{◌∙◌, sym}
 use Rattle.ceal_cli.proofs.ReaderSteps.{reads_on, reads_off, reads_to_end}
 use Rattle.ceal_cli.proofs.first_language.reader.read.Goals as goal
 

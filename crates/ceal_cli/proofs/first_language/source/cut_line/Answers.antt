@@ -1,4 +1,4 @@
-use Rattle.std.proofs.Common.{◌≡◌, ◌+◌, ◌-◌, ◌<◌, arith, length, length-drop, eqb, sym, ◌∙◌}
+use Rattle.std.proofs.Common.{eqb, sym, ◌∙◌}
 use Rattle.std.proofs.lemmas.List.{take_rest}
 use Rattle.ceal_cli.proofs.LineEnds.{cut_some, cut_none, whole_text}
 use Rattle.ceal_cli.proofs.first_language.source.cut_line.Goals as goal

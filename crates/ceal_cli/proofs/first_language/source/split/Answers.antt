@@ -1,4 +1,4 @@
-use Rattle.std.proofs.Common.{◌≡◌, ◌++◌, ◌∷◌, [], ◌∙◌, sym, ap}
+use Rattle.std.proofs.Common.{◌++◌, ◌∷◌, [], ◌∙◌, sym, ap}
 use Rattle.std.specs.Option.{option_copied}
 use Rattle.ceal_cli.specs.Source.{lines_left}
 use Rattle.ceal_cli.proofs.PartsLaws.{behind_line, marked, passed, unmarked, goes_on}

@@ -1,4 +1,4 @@
-use Rattle.std.proofs.Common.{◌≡◌, ◌∙◌, sym}
+use Rattle.std.proofs.Common.{◌∙◌, sym}
 use Rattle.ceal_cli.proofs.Walks.{walk_on, walk_off, walk_over}
 use Rattle.ceal_cli.proofs.Arguments.{args_walk}
 use Rattle.ceal_cli.proofs.first_script.session.arguments.Goals as goal

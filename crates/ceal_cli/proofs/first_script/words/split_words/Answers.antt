@@ -1,4 +1,3 @@
-use Rattle.std.proofs.Common.{◌≡◌}
 use Rattle.ceal_cli.proofs.Cutting.{cuts_on, cuts_to_end}
 use Rattle.ceal_cli.proofs.first_script.words.split_words.Goals as goal
 
