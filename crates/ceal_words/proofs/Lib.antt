@@ -5,3 +5,4 @@ pub mod RegionLemmas
 pub mod MemoryLemmas
 pub mod BlockWalks
 pub mod ChunkLemmas
+pub mod Samples
