@@ -9,3 +9,4 @@ pub mod TextSteps
 pub mod BranchSteps
 pub mod ListingSteps
 pub mod Local
+pub mod LocalInit

@@ -57,7 +57,7 @@ module _ (inputs : ℕ) (bs : List ℕ) where
   truth-known true = tt
   truth-known false = tt
 
-  default-known : (k : Kind) → Known_word inputs bs (default_of_kind k)
+  pub default-known : (k : Kind) → Known_word inputs bs (default_of_kind k)
   default-known Int = tt
   default-known (Ptr s) = tt
   default-known ModIntKind = tt

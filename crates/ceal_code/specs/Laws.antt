@@ -1,7 +1,10 @@
 -- Laws of trace code.
 use Rattle.std.specs.Prelude.{◌≡◌, ℕ, List}
+use Rattle.ceal_base.specs.declared.forest.Key.{Key}
+use Rattle.ceal_code.specs.Init.{made}
 use Rattle.ceal_code.specs.Known.{Agree, Holds, Known_stack, Known_act}
 use Rattle.ceal_code.specs.Program.{Code}
+use Rattle.ceal_code.specs.Replay.{Known_words, Known_key}
 use Rattle.ceal_code.specs.Step.{Stack, next}
 use Rattle.ceal_code.specs.Value.{Plain}
 
@@ -10,3 +13,8 @@ use Rattle.ceal_code.specs.Value.{Plain}
 abbrev pub Step_law : Type 0
 Step_law = (code : Code) (inputs : ℕ) (bs : List ℕ) (x y : Plain) → Holds inputs bs x → Agree inputs bs x y
     → (st : Stack) → Known_stack inputs bs st → Known_act inputs bs (next code x st) × (next code x st ≡ next code y st)
+
+-- so is what a new block holds, where its key names known blocks alone
+abbrev pub Block_law : Type 0
+Block_law = (code : Code) (inputs : ℕ) (bs : List ℕ) (x y : Plain) → Holds inputs bs x → Agree inputs bs x y
+    → (key : Key) → Known_key inputs bs key → Known_words inputs bs (made code x key).words × (made code x key ≡ made code y key)
