@@ -10,3 +10,4 @@ pub mod BranchSteps
 pub mod ListingSteps
 pub mod Local
 pub mod LocalInit
+pub mod Over

@@ -3,6 +3,7 @@ use Rattle.std.specs.Prelude.{◌≡◌, ℕ, List}
 use Rattle.ceal_base.specs.declared.forest.Key.{Key}
 use Rattle.ceal_code.specs.Init.{made}
 use Rattle.ceal_code.specs.Known.{Agree, Holds, Known_stack, Known_act}
+use Rattle.ceal_code.specs.Over.{on, act_on}
 use Rattle.ceal_code.specs.Program.{Code}
 use Rattle.ceal_code.specs.Replay.{Known_words, Known_key}
 use Rattle.ceal_code.specs.Step.{Stack, next}
@@ -18,3 +19,7 @@ Step_law = (code : Code) (inputs : ℕ) (bs : List ℕ) (x y : Plain) → Holds 
 abbrev pub Block_law : Type 0
 Block_law = (code : Code) (inputs : ℕ) (bs : List ℕ) (x y : Plain) → Holds inputs bs x → Agree inputs bs x y
     → (key : Key) → Known_key inputs bs key → Known_words inputs bs (made code x key).words × (made code x key ≡ made code y key)
+
+-- a stack over another one takes its own step, and the other one's where nothing of it is left
+abbrev pub Over_law : Type 0
+Over_law = (code : Code) (x : Plain) (st below : Stack) → next code x (on st below) ≡ act_on (next code x st) below (next code x below)

@@ -10,3 +10,4 @@ pub mod Listing
 pub mod Branches
 pub mod Known
 pub mod Laws
+pub mod Over
