@@ -1,5 +1,5 @@
 -- Lists of kinds, fields, structs, parameters and units, item by item.
-use Rattle.std.proofs.Common.{◌≡◌, ℕ, zero, suc, ◌+◌, Bool, true, false, ◌&&◌, List, [], ◌∷◌, refl, length, arith, nat_lt, nat_le, ◌==◌}
+use Rattle.std.proofs.Common.{◌≡◌, ℕ, ◌+◌, true, false, ◌&&◌, List, [], ◌∷◌, refl, length, arith, nat_lt, nat_le, ◌==◌}
 use Rattle.ceal_base.specs.declared.kind.Kind.{Kind}
 use Rattle.ceal_base.specs.declared.typed.FieldInfo.{FieldInfo}
 use Rattle.ceal_base.specs.declared.typed.StructInfo.{StructInfo}

@@ -1,17 +1,17 @@
 -- What a new block holds depends on the plain words of known blocks alone, and names known blocks alone.
 use Rattle.std.proofs.Common.{◌≡◌, ℕ, zero, suc, Bool, true, false, Option, Some, None, List, [], ◌∷◌, if◌then◌else◌, refl, ap, ap₂, ◌∙◌, slice_get, slice_set, map}
 use Rattle.ceal_base.specs.Access.{holds}
-use Rattle.ceal_base.specs.Shapes.{default_of_field, default_of_kind, default_block, kinds_of_shape}
+use Rattle.ceal_base.specs.Shapes.{default_of_field, default_block, kinds_of_shape}
 use Rattle.ceal_base.specs.declared.forest.Key.{Key}
 use Rattle.ceal_base.specs.declared.forest.Key.TheVariants.{Init, ModInt as IntKey, ModPtr as PtrKey}
 use Rattle.ceal_base.specs.declared.kind.FieldKind.{FieldKind}
 use Rattle.ceal_base.specs.declared.kind.FieldKind.TheVariants.{Plain as PlainField, CellInt, CellPtr}
-use Rattle.ceal_base.specs.declared.kind.Shape.TheVariants.{Struct, ModInt}
+use Rattle.ceal_base.specs.declared.kind.Shape.TheVariants.{Struct}
 use Rattle.ceal_base.specs.declared.typed.StructInfo.{StructInfo}
 use Rattle.ceal_base.specs.declared.word.Word.{Word}
 use Rattle.ceal_base.specs.declared.word.Word.TheVariants.{Null}
 use Rattle.ceal_code.proofs.Local.{get-known, default-known, value-known, value-same}
-use Rattle.ceal_code.specs.Init.{set_plain, set_by, set_by_row, set_by_all, arguments, initialised, made_by, made}
+use Rattle.ceal_code.specs.Init.{set_plain, set_by, set_by_row, set_by_all, arguments, made_by, made}
 use Rattle.ceal_code.specs.Known.{Agree, Holds, Known_variables}
 use Rattle.ceal_code.specs.Program.{Code}
 use Rattle.ceal_code.specs.Replay.{Known_word, Known_words, Known_key}

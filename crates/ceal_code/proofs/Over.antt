@@ -1,11 +1,11 @@
 -- A step of a stack over another one.
-use Rattle.std.proofs.Common.{◌≡◌, ℕ, ◌+◌, List, refl, ap, ◌∙◌, subst, sym}
+use Rattle.std.proofs.Common.{◌≡◌, ℕ, ◌+◌, List, refl, subst, sym}
 use Rattle.ceal_base.specs.declared.forest.UnitId.{UnitId}
 use Rattle.ceal_base.specs.declared.word.Word.{Word}
 use Rattle.ceal_base.specs.declared.word.Word.TheVariants.{Num, Null, Block as BlockWord, At}
 use Rattle.ceal_code.specs.Over.{on, act_on}
 use Rattle.ceal_code.specs.Program.{Code}
-use Rattle.ceal_code.specs.Step.{Stack, Empty, Run, Act, command_at, entered, place_of, writes_at, reads_at, act, landed, settled_at, settled, acted, next}
+use Rattle.ceal_code.specs.Step.{Stack, Empty, Run, Act, command_at, place_of, writes_at, reads_at, act, landed, settled_at, settled, acted, next}
 use Rattle.ceal_code.specs.Value.{Plain, Variables, expr_value, values}
 use Rattle.ceal_code.specs.declared.command.Cmd.{Cmd}
 use Rattle.ceal_code.specs.declared.command.Cmd.TheVariants.{Move, Tick, Alloc, Modref, Write, If, Done, Tail, Read, Call}

@@ -1,5 +1,5 @@
 -- The walk of a body, path by path.
-use Rattle.std.proofs.Common.{◌≡◌, ℕ, zero, suc, ◌+◌, ◌-◌, ◌<◌, ◌≤◌, Bool, true, false, ◌&&◌, Option, Some, None, List, [], ◌∷◌, ◌++◌, refl, length, arith, slice_get, slice_set, ap, ◌∙◌}
+use Rattle.std.proofs.Common.{◌≡◌, ℕ, zero, suc, ◌+◌, ◌-◌, ◌<◌, ◌≤◌, Bool, true, false, ◌&&◌, List, [], ◌∷◌, ◌++◌, refl, length, arith, slice_get, slice_set}
 use Rattle.ceal_code.specs.Parts.{parts_ok, weight, weights}
 use Rattle.ceal_code.specs.Program.{Code}
 use Rattle.ceal_code.specs.Valid.{paths_ok, path_ok, with_params}

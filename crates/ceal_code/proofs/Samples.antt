@@ -1,18 +1,17 @@
 -- INC: unit 0 reads its first parameter, and unit 1 writes one more than the value to the second.
-use Rattle.std.proofs.Common.{◌≡◌, ℕ, pos, true, false, negsuc, Option, Some, None, List, [], ◌∷◌, refl}
+use Rattle.std.proofs.Common.{◌≡◌, ℕ, pos, true, Some, None, List, [], ◌∷◌, refl}
 use Rattle.ceal_base.specs.Block.{Block}
-use Rattle.ceal_base.specs.Trace.{Trace, Nothing, Stepped, Allocated, Wrote, Was_read}
-use Rattle.ceal_base.specs.declared.kind.Kind.{Kind}
+use Rattle.ceal_base.specs.Trace.{Trace, Nothing, Stepped, Wrote, Was_read}
 use Rattle.ceal_base.specs.declared.kind.Kind.TheVariants.{Int, ModInt as ModIntKind}
 use Rattle.ceal_base.specs.declared.kind.Shape.TheVariants.{ModInt}
 use Rattle.ceal_base.specs.declared.operators.Binary.TheVariants.{Add}
-use Rattle.ceal_base.specs.declared.word.BlockId.TheVariants.{Input, Core}
+use Rattle.ceal_base.specs.declared.word.BlockId.TheVariants.{Input}
 use Rattle.ceal_base.specs.declared.word.Place.{Place}
 use Rattle.ceal_base.specs.declared.word.Word.{Word}
-use Rattle.ceal_base.specs.declared.word.Word.TheVariants.{Num, Null, At}
+use Rattle.ceal_base.specs.declared.word.Word.TheVariants.{Num, At}
 use Rattle.ceal_code.specs.Fresh.{fresh, run}
 use Rattle.ceal_code.specs.Program.{Code}
-use Rattle.ceal_code.specs.Replay.{Yields, Honest, plain_of, input_plain, bases, stored}
+use Rattle.ceal_code.specs.Replay.{Yields, Honest, plain_of, bases, stored}
 use Rattle.ceal_code.specs.Step.{started, settled, next, chosen, bound, woven}
 use Rattle.ceal_code.specs.Valid.{valid, structs_ok, functions_ok, units_ok, unit_ok, is_prefix, kinds_ok, below, is_tree, reached, all_followers, all_true, paths_ok, with_params, type_of, params_fit, others}
 use Rattle.ceal_code.specs.Value.{expr_value, values, set, unset}

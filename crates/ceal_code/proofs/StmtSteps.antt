@@ -1,5 +1,5 @@
 -- The statements of an initialiser, one by one.
-use Rattle.std.proofs.Common.{◌≡◌, ℕ, zero, suc, ◌+◌, ◌<◌, Bool, true, false, ◌&&◌, List, [], ◌∷◌, ◌++◌, refl, length, arith, take, get_or, ap, sym, ◌∙◌}
+use Rattle.std.proofs.Common.{◌≡◌, ℕ, zero, suc, ◌+◌, ◌<◌, Bool, true, false, ◌&&◌, List, [], ◌∷◌, ◌++◌, refl, length, arith, take, get_or, ap, ◌∙◌}
 use Rattle.std.proofs.lemmas.List.{take_more}
 use Rattle.ceal_base.specs.declared.kind.Kind.{Kind}
 use Rattle.ceal_base.specs.declared.kind.Kind.TheVariants.{Int}

@@ -1,5 +1,5 @@
 -- Which indices of a body are reached, command by command.
-use Rattle.std.proofs.Common.{◌≡◌, ℕ, zero, suc, ◌+◌, ◌<◌, Bool, true, false, ◌&&◌, Option, Some, None, List, [], ◌∷◌, ◌++◌, refl, length, arith, slice_get, slice_set, unwrap_or, if◌then◌else◌, ap, ◌∙◌, replicate}
+use Rattle.std.proofs.Common.{◌≡◌, ℕ, ◌+◌, Bool, true, false, ◌&&◌, Option, Some, None, List, [], ◌∷◌, ◌++◌, refl, length, arith, slice_get, slice_set, unwrap_or, if◌then◌else◌, ap, ◌∙◌, replicate}
 use Rattle.ceal_code.specs.Valid.{reached, followers, all_followers, all_true, all_but_first, is_tree}
 use Rattle.ceal_code.specs.declared.command.Cmd.{Cmd}
 

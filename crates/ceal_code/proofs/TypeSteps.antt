@@ -1,5 +1,5 @@
 -- The type of an expression, at each form that has operands.
-use Rattle.std.proofs.Common.{◌≡◌, ℕ, ℤ, Bool, false, Option, Some, None, List, refl, slice_get, unwrap_or, if◌then◌else◌}
+use Rattle.std.proofs.Common.{◌≡◌, ℕ, ℤ, Bool, false, Some, None, List, refl, slice_get, unwrap_or, if◌then◌else◌}
 use Rattle.ceal_base.specs.declared.kind.Kind.{Kind}
 use Rattle.ceal_base.specs.declared.kind.Kind.TheVariants.{Int}
 use Rattle.ceal_base.specs.declared.kind.Shape.TheVariants.{Struct}

@@ -1,9 +1,9 @@
 -- What a trace of a call is: what a stack yields, when items replay a call, and when they are honest.
-use Rattle.std.specs.Prelude.{◌≡◌, ℕ, zero, ◌+◌, ◌<◌, ◌≤◌, ◌==◌, ◌&&◌, pos, Bool, true, false, if◌then◌else◌, Option, Some, None, List, [], ◌∷◌, ◌++◌, length, slice_get, unwrap_or, ⊤}
+use Rattle.std.specs.Prelude.{◌≡◌, ℕ, ◌+◌, ◌<◌, ◌≤◌, ◌==◌, pos, if◌then◌else◌, Option, Some, None, List, [], ◌∷◌, length, slice_get, unwrap_or, ⊤}
 use Rattle.std.specs.Option.{option_map}
 use Rattle.ceal_base.specs.Block.{Block}
 use Rattle.ceal_base.specs.Operators.{same_block, same_place}
-use Rattle.ceal_base.specs.Shapes.{default_of_field, default_block, kinds_of_shape}
+use Rattle.ceal_base.specs.Shapes.{default_of_field, kinds_of_shape}
 use Rattle.ceal_base.specs.Trace.{Trace, Nothing, Stepped, Allocated, Wrote, Was_read, blocks_of}
 use Rattle.ceal_base.specs.declared.forest.Key.{Key}
 use Rattle.ceal_base.specs.declared.forest.Key.TheVariants.{Init, ModInt as IntKey, ModPtr as PtrKey}

@@ -5,20 +5,20 @@
 //! where code is valid, and `listing` is its text.
 #![tactic(auto)]
 
-pub mod branches;
-pub mod check;
+mod branches;
+mod check;
 pub mod code;
 pub mod command;
 pub mod expr;
 pub mod function;
-pub mod initialiser;
+mod initialiser;
 pub mod laws;
 pub mod listing;
-pub mod paths;
+mod paths;
 #[cfg(test)]
 mod tests;
-pub mod text;
-pub mod tree;
-pub mod typing;
+mod text;
+mod tree;
+mod typing;
 pub mod unit;
 pub mod validate;
