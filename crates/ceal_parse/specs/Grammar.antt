@@ -1,0 +1,214 @@
+-- The grammar: a type for each of its symbols, with a constructor for each of its rules. What stands in these types
+-- are derivations: they have the parentheses and the span of every token.
+use Rattle.std.specs.Prelude.{ℕ, ℤ, ◌≤◌, ◌<◌, ◌≡◌, Bool, true, false, List, [], ◌∷◌}
+use Rattle.ceal_base.specs.declared.fault.Span.{Span}
+use Rattle.ceal_base.specs.declared.operators.Unary.{Unary as UnaryOp}
+use Rattle.ceal_base.specs.declared.operators.Binary.{Binary as BinaryOp}
+use Rattle.ceal_base.specs.declared.operators.Binary.TheVariants.{Add, Sub, Mul, Div, Rem, Less, LessEq, More, MoreEq, Same, Differ, And, Or}
+use Rattle.ceal_base.specs.declared.syntax.Ident.{Ident}
+
+-- An expression. `prefix` is `-` or `!`.
+pub data Phrase : Type 0 where
+  number : (value : ℤ) (at : Span) → Phrase
+  null : (at : Span) → Phrase
+  variable : (x : Ident) → Phrase
+  own : (at : Span) → Phrase
+  parens : (left : Span) (a : Phrase) (right : Span) → Phrase
+  arrow : (a : Phrase) (at : Span) (field : Ident) → Phrase
+  prefix : (op : UnaryOp) (at : Span) (a : Phrase) → Phrase
+  address : (at : Span) (a : Phrase) → Phrase
+  binary : (op : BinaryOp) (a : Phrase) (at : Span) (b : Phrase) → Phrase
+
+-- The levels of expressions, each a rule of its own: `or` 1, `and` 2, `eq` 3, `rel` 4, `add` 5, `mul` 6, `unary` 7,
+-- `post` 8, `prim` 9.
+abbrev pub level : BinaryOp → ℕ
+level Or = 1
+level And = 2
+level Same = 3
+level Differ = 3
+level Less = 4
+level LessEq = 4
+level More = 4
+level MoreEq = 4
+level Add = 5
+level Sub = 5
+level Mul = 6
+level Div = 6
+level Rem = 6
+
+abbrev pub level_of : Phrase → ℕ
+level_of (number v s) = 9
+level_of (null s) = 9
+level_of (variable x) = 9
+level_of (own s) = 9
+level_of (parens l a r) = 9
+level_of (arrow a s x) = 8
+level_of (prefix op s a) = 7
+level_of (address s a) = 7
+level_of (binary op a s b) = level op
+
+-- Each operand stands at the level that its rule asks: `add = add "+" mul`, `unary = "-" unary`, and so on. The
+-- right operand of a binary operator is of a higher level, so that operators group to the left.
+unfoldable pub Grouped : Phrase → Type 0
+Grouped (number v s) = Unit {0}
+Grouped (null s) = Unit {0}
+Grouped (variable x) = Unit {0}
+Grouped (own s) = Unit {0}
+Grouped (parens l a r) = Grouped a
+Grouped (arrow a s x) = (8 ≤ level_of a) × Grouped a
+Grouped (prefix op s a) = (7 ≤ level_of a) × Grouped a
+Grouped (address s a) = (8 ≤ level_of a) × Grouped a
+Grouped (binary op a s b) = (level op ≤ level_of a) × (level op < level_of b) × Grouped a × Grouped b
+
+-- A name or `self`, and arrows: what may stand left of the last `->` of a field assignment.
+abbrev pub IsPath : Phrase → Type 0
+IsPath (variable x) = Unit {0}
+IsPath (own s) = Unit {0}
+IsPath (arrow a s x) = IsPath a
+IsPath _ = ⊥
+
+-- A type. The last two are modifiables within a struct: `mod int` and `mod struct S` without a star.
+pub data Written : Type 0 where
+  int : (at : Span) → Written
+  pointer : (at : Span) (x : Ident) (star : Span) → Written
+  mod_int : (at inner star : Span) → Written
+  mod_pointer : (at inner : Span) (x : Ident) (star : Span) → Written
+  cell_int : (at inner : Span) → Written
+  cell_pointer : (at inner : Span) (x : Ident) → Written
+
+-- Modifiables within a struct are types of fields alone.
+abbrev pub Allowed : Bool → Written → Type 0
+Allowed cells (int s) = Unit {0}
+Allowed cells (pointer s x t) = Unit {0}
+Allowed cells (mod_int s k t) = Unit {0}
+Allowed cells (mod_pointer s k x t) = Unit {0}
+Allowed cells (cell_int s k) = cells ≡ true
+Allowed cells (cell_pointer s k x) = cells ≡ true
+
+-- args = expr { "," expr }, or nothing
+pub data Arguments : Type 0 where
+  no_arguments : Arguments
+  arguments : (e : Phrase) (more : List (Span × Phrase)) → Arguments
+
+-- What a variable is given.
+pub data Given : Type 0 where
+  plainly : (e : Phrase) → Given
+  reading : (at left : Span) (e : Phrase) (right : Span) → Given
+  allocation : (at : Span) (shape x : Ident) (left : Span) (args : Arguments) (right : Span) → Given
+  modref_int : (at inner left right : Span) → Given
+  modref : (at : Span) (shape : Ident) (left right : Span) → Given
+
+mutual
+  pub data Statement : Type 0 where
+    declare : (type : Written) (x : Ident) (equals : Span) (g : Given) (semi : Span) → Statement
+    assign : (x : Ident) (equals : Span) (g : Given) (semi : Span) → Statement
+    set : (p : Phrase) (at : Span) (field : Ident) (equals : Span) (e : Phrase) (semi : Span) → Statement
+    store : (at left : Span) (a : Phrase) (comma : Span) (e : Phrase) (right semi : Span) → Statement
+    call : (x : Ident) (left : Span) (args : Arguments) (right semi : Span) → Statement
+    branch : Branch → Statement
+    loop : (at left : Span) (e : Phrase) (right : Span) (body : Block) → Statement
+    exit : (at semi : Span) → Statement
+
+  pub data Branch : Type 0 where
+    when : (at left : Span) (e : Phrase) (right : Span) (body : Block) (other : Otherwise) → Branch
+
+  pub data Otherwise : Type 0 where
+    nothing : Otherwise
+    otherwise : (at : Span) (body : Block) → Otherwise
+    chained : (at : Span) (other : Branch) → Otherwise
+
+  pub data Block : Type 0 where
+    block : (left : Span) (body : Statements) (right : Span) → Block
+
+  pub data Statements : Type 0 where
+    ended : Statements
+    followed : Statement → Statements → Statements
+
+pub record Parameter : Type 0 where
+  pub type : Written
+  pub x : Ident
+
+pub data Parameters : Type 0 where
+  no_parameters : Parameters
+  parameters : (p : Parameter) (more : List (Span × Parameter)) → Parameters
+
+-- The head of a core function or of an initialiser; `shape` is the struct of `self`.
+pub data Signature : Type 0 where
+  core : (at : Span) (x : Ident) (left : Span) (params : Parameters) (right : Span) → Signature
+  init : (at : Span) (x : Ident) (left inner : Span) (shape : Ident) (star own : Span) (more : List (Span × Parameter)) (right : Span) → Signature
+
+pub record Member : Type 0 where
+  pub type : Written
+  pub x : Ident
+  pub semi : Span
+
+pub data Part : Type 0 where
+  structure : (at : Span) (x : Ident) (left : Span) (members : List Member) (right semi : Span) → Part
+  function : (head : Signature) (body : Block) → Part
+
+pub record Program : Type 0 where
+  pub parts : List Part
+  pub last : Span
+
+-- Every expression is grouped, every type is one that may stand there, and the left side of every field assignment
+-- is a path.
+unfoldable pub AllGrouped : List (Span × Phrase) → Type 0
+AllGrouped [] = Unit {0}
+AllGrouped (a ∷ more) = Grouped a.1 × AllGrouped more
+
+abbrev pub ArgumentsGrouped : Arguments → Type 0
+ArgumentsGrouped no_arguments = Unit {0}
+ArgumentsGrouped (arguments e more) = Grouped e × AllGrouped more
+
+abbrev pub GivenGrouped : Given → Type 0
+GivenGrouped (plainly e) = Grouped e
+GivenGrouped (reading s l e r) = Grouped e
+GivenGrouped (allocation s y x l args r) = ArgumentsGrouped args
+GivenGrouped (modref_int s k l r) = Unit {0}
+GivenGrouped (modref s y l r) = Unit {0}
+
+unfoldable mutual
+  pub StatementProper : Statement → Type 0
+  StatementProper (declare w x q g semi) = Allowed false w × GivenGrouped g
+  StatementProper (assign x q g semi) = GivenGrouped g
+  StatementProper (set p s x q e semi) = IsPath p × Grouped e
+  StatementProper (store s l a c e r semi) = Grouped a × Grouped e
+  StatementProper (call x l args r semi) = ArgumentsGrouped args
+  StatementProper (branch b) = BranchProper b
+  StatementProper (loop s l e r b) = Grouped e × BlockProper b
+  StatementProper (exit s semi) = Unit {0}
+
+  pub BranchProper : Branch → Type 0
+  BranchProper (when s l e r b other) = Grouped e × BlockProper b × OtherwiseProper other
+
+  pub OtherwiseProper : Otherwise → Type 0
+  OtherwiseProper nothing = Unit {0}
+  OtherwiseProper (otherwise s b) = BlockProper b
+  OtherwiseProper (chained s b) = BranchProper b
+
+  pub BlockProper : Block → Type 0
+  BlockProper (block l ss r) = StatementsProper ss
+
+  pub StatementsProper : Statements → Type 0
+  StatementsProper ended = Unit {0}
+  StatementsProper (followed s ss) = StatementProper s × StatementsProper ss
+
+unfoldable pub MoreProper : List (Span × Parameter) → Type 0
+MoreProper [] = Unit {0}
+MoreProper (p ∷ more) = Allowed false p.1.type × MoreProper more
+
+abbrev pub ParametersProper : Parameters → Type 0
+ParametersProper no_parameters = Unit {0}
+ParametersProper (parameters p more) = Allowed false p.type × MoreProper more
+
+abbrev pub SignatureProper : Signature → Type 0
+SignatureProper (core s x l ps r) = ParametersProper ps
+SignatureProper (init s x l k y t o more r) = MoreProper more
+
+abbrev pub PartProper : Part → Type 0
+PartProper (structure s x l ms r semi) = Unit {0}
+PartProper (function h b) = SignatureProper h × BlockProper b
+
+unfoldable pub PartsProper : List Part → Type 0
+PartsProper [] = Unit {0}
+PartsProper (p ∷ ps) = PartProper p × PartsProper ps
