@@ -38,7 +38,7 @@ use Rattle.ceal_parse.specs.Trees.{first, expression, type_form, type_first, exp
 use Rattle.ceal_parse.specs.Machine.{same_sign, same_word, is_sign, is_word, operator_of, Reduced, reduced, begun, begins, at_operand, at_body, at_type, typed, type_begin, given, called, wrapped, with_statement, received, closes, owned, opened_by, moved, step, nesting_of, item_of, operators_of}
 use Rattle.ceal_parse.specs.Follows.{Follows}
 use Rattle.ceal_parse.proofs.CompletePhrase.{having, whole, complete, reduced_pending}
-use Rattle.ceal_parse.proofs.Tests.{sign_tells, word_tells}
+use Rattle.ceal_parse.proofs.Telling.{sign_tells, word_tells}
 
 -- the token after a whole expression
 pub received_at : (i : Inside) (d : ℕ) (c : Phrase) (n : ℕ) (r : Receiver) (k : SignOf) (s : Span) → same_sign k Signs.Arrow ≡ false → operator_of k ≡ None → Grouped c

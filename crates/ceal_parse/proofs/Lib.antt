@@ -1,5 +1,5 @@
 pub mod Stacks
-pub mod Tests
+pub mod Telling
 pub mod CompletePhrase
 pub mod CompleteStatement
 pub mod CompleteProgram

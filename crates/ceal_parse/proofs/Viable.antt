@@ -58,7 +58,7 @@ use Rattle.ceal_base.specs.declared.syntax.ExprForm.{Null, Own}
 use Rattle.ceal_base.specs.declared.syntax.TypeForm.TheVariants as Forms
 use Rattle.ceal_base.specs.declared.syntax.Value.TheVariants as Values
 use Rattle.ceal_parse.specs.Machine.{same_sign, same_word, is_sign, is_word, wants, operator_of, at_name, single, prefixed, addressed, joined, picked, reduced, within, begun, begins, operated, at_prim, at_operand, with_statement, given, called, received, closes, at_sign_after, picks, at_after, at_place, type_begin, type_starts, star_or, at_type, owned, block_closed, opened_by, at_statement, at_word, at_body, typed, path_of, at_value, at_modref, at_making, moved, begun_type, at_struct, with_parameter, at_head, at_part, at_top, step}
-use Rattle.ceal_parse.proofs.Tests.{sign_true, word_true, sign_is, word_is}
+use Rattle.ceal_parse.proofs.Telling.{sign_true, word_true, sign_is, word_is}
 use Rattle.ceal_parse.proofs.Future.{AfterSign, AfterWord, AfterName, TopFuture, StarOr, TypeFuture, BodyFuture, OtherFuture, OwnedFuture, CloseFuture, In_body, SemiFuture, ClosedFuture, BlockFuture, ReceiverFuture, FramesFuture, WantFuture, PostFuture, HaveFuture, PlaceFuture, ArgumentsFuture, ValueFuture, hops, ReachedFuture, PathFuture, MakingFuture, NamedFuture, ModeFuture, MembersFuture, StructFuture, OthersFuture, ParametersFuture, OwnFuture, ShapeFuture, HeadFuture, Future}
 
 pub wanted : {A : Type 0} (b : Bool) (x y : A) → wants b x ≡ Some y → (b ≡ true) × (x ≡ y)
