@@ -3,8 +3,10 @@ pub mod Operators
 pub mod Block
 pub mod Shapes
 pub mod Access
+pub mod Answers
 pub mod Fitting
 pub mod WellTyped
 pub mod Usage
 pub mod Same
 pub mod Trace
+pub mod Finished

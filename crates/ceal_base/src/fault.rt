@@ -1,5 +1,8 @@
 // The faults of a source text.
 
+ghost use Rattle.std.specs.Prelude.{◌≡◌};
+ghost use Rattle.ceal_base.specs.declared.fault.FrontError.TheVariants.{Memory};
+
 use crate::no_memory::NoMemory;
 
 /// A part of the input: the byte offsets of its first byte and of the byte after its last.
@@ -64,4 +67,12 @@ pub struct Fault {
 pub enum FrontError {
     Memory,
     Fault(Fault),
+}
+
+impl From<NoMemory> for FrontError {
+    fn from(_error: NoMemory) -> FrontError
+        ensures value { result ≡ Memory }
+    {
+        FrontError::Memory
+    }
 }

@@ -6,12 +6,14 @@
 //! memories that are one up to the numbers of their core blocks.
 #![tactic(auto)]
 
+pub mod access;
 pub mod boxed;
 pub mod copies;
 pub mod fault;
 pub mod forest;
 pub mod items;
 pub mod kind;
+pub mod laws;
 pub mod memory;
 pub mod no_memory;
 pub mod operators;

@@ -1,7 +1,8 @@
 -- A run of trace code from scratch.
-use Rattle.std.specs.Prelude.{ℕ, zero, suc, ◌+◌, Option, Some, None, List, [], ◌∷◌, ◌++◌, length}
+use Rattle.std.specs.Prelude.{ℕ, zero, suc, ◌+◌, Option, Some, None, List, [], ◌∷◌, length}
 use Rattle.ceal_base.specs.Access.{content_of}
 use Rattle.ceal_base.specs.Block.{Block, Blocks, block_at, written_at}
+use Rattle.ceal_base.specs.Finished.{Finished, with_block}
 use Rattle.ceal_base.specs.declared.word.BlockId.TheVariants.{Core}
 use Rattle.ceal_base.specs.declared.word.Word.{Word}
 use Rattle.ceal_base.specs.declared.word.Word.TheVariants.{At}
@@ -9,16 +10,6 @@ use Rattle.ceal_code.specs.Init.{made, pointer}
 use Rattle.ceal_code.specs.Program.{Code}
 use Rattle.ceal_code.specs.Step.{Stack, Run, Act, Over, Quiet, Makes, Writes, Reads, variable_default, entered, started, given, next}
 use Rattle.ceal_code.specs.Value.{set}
-
--- a run that came to its end: the final memory, and how many steps it took and blocks it made
-pub record Finished : Type 0 where
-  pub memory : Blocks
-  pub steps : ℕ
-  pub blocks : ℕ
-
--- with one more core block
-abbrev pub with_block : Blocks → Block → Blocks
-with_block m block = record m { made = m.made ++ block ∷ [] }
 
 -- after a step of this sort, where `again` is the run from there
 abbrev pub ran : Code → (Blocks → Stack → Option Finished) → ℕ → Blocks → Act → Option Finished

@@ -8,7 +8,7 @@ use Rattle.ceal_base.specs.declared.fault.FrontError.{FrontError}
 use Rattle.ceal_base.specs.declared.fault.FrontError.TheVariants.{Memory, Fault as FaultError}
 use Rattle.ceal_lex.specs.declared.parts.Split.{Split}
 use Rattle.ceal_lex.specs.declared.token.Token.{Token}
-use Rattle.ceal_lex.specs.Answers.{Gives, IfFault}
+use Rattle.ceal_base.specs.Answers.{Gives, IfFault}
 use Rattle.ceal_lex.specs.Faults.{IsFirstFault}
 use Rattle.ceal_lex.specs.Parts.{IsSplit, PartsAre, source_of}
 use Rattle.ceal_lex.specs.Pieces.{Piece, space, line_comment, block_comment, token, spelled}

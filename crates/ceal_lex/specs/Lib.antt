@@ -6,4 +6,3 @@ pub mod Tokens
 pub mod Faults
 pub mod Front
 pub mod Reading
-pub mod Answers

@@ -3,7 +3,7 @@
 ghost use Rattle.std.specs.Prelude.{◌≡◌, ◌+◌, ◌<◌, ◌^◌, [], length, List, ℕ, Bool, IfOk, Ok, Err};
 ghost use Rattle.ceal_base.specs.declared.fault.Fault.{Fault as FaultRecord};
 ghost use Rattle.ceal_lex.specs.declared.token.Token.{Token as TokenRecord};
-ghost use Rattle.ceal_lex.specs.Answers.{Gives, IfFault};
+ghost use Rattle.ceal_base.specs.Answers.{Gives, IfFault};
 ghost use Rattle.ceal_lex.specs.Parts.{IsSplit, source_of};
 ghost use Rattle.ceal_lex.specs.Reading.{Reads};
 ghost use Rattle.ceal_lex.specs.Tokens.{AreTokens, IsEnded, InOrder};

@@ -5,7 +5,8 @@ use Rattle.ceal_base.specs.declared.typed.Typed.{Typed}
 use Rattle.ceal_base.specs.declared.word.Word.{Word}
 use Rattle.ceal_mean.specs.Exec.{settled, stepped}
 use Rattle.ceal_mean.specs.Frame.{Frame, State}
-use Rattle.ceal_mean.specs.Fresh.{Finished, run_settled, start, fresh}
+use Rattle.ceal_base.specs.Finished.{Finished}
+use Rattle.ceal_mean.specs.Fresh.{run_settled, start, fresh}
 
 abbrev steps_or : ℕ → Option Finished → ℕ
 steps_or n None = n

@@ -2,6 +2,7 @@
 use Rattle.std.specs.Prelude.{ℕ, pos, ◌-◌, Bool, true, false, Option, Some, None, List, [], ◌∷◌, ◌++◌, length, slice_get, slice_set, replicate, if◌then◌else◌}
 use Rattle.ceal_base.specs.Access.{content_of, written, holds}
 use Rattle.ceal_base.specs.Block.{Block, Blocks}
+use Rattle.ceal_base.specs.Finished.{with_block}
 use Rattle.ceal_base.specs.Shapes.{default_block}
 use Rattle.ceal_base.specs.declared.kind.Kind.{Kind}
 use Rattle.ceal_base.specs.declared.kind.Kind.TheVariants.{ModInt}
@@ -28,10 +29,6 @@ content_default _ = Null
 pub record Taken : Type 0 where
   pub memory : Blocks
   pub word : Word
-
--- the memory with one core block more, which has the next number
-abbrev pub with_block : Blocks → Block → Blocks
-with_block m block = record m { made = m.made ++ block ∷ [] }
 
 -- a new block, and a pointer to it
 abbrev pub new_block : Blocks → Block → Taken

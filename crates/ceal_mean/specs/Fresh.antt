@@ -1,18 +1,13 @@
 -- The run from scratch.
 use Rattle.std.specs.Prelude.{ℕ, zero, suc, ◌+◌, Option, Some, None, List, [], ◌∷◌, length}
 use Rattle.ceal_base.specs.Block.{Block, Blocks}
+use Rattle.ceal_base.specs.Finished.{Finished}
 use Rattle.ceal_base.specs.declared.typed.Typed.{Typed}
 use Rattle.ceal_base.specs.declared.word.Word.{Word}
 use Rattle.ceal_mean.specs.Exec.{entered, settled, stepped}
 use Rattle.ceal_mean.specs.Frame.{Frame, State}
 use Rattle.ceal_mean.specs.declared.run.Outcome.{Outcome}
 use Rattle.ceal_mean.specs.declared.run.Outcome.TheVariants.{Done, OutOfFuel}
-
--- what a finished run comes to: its memory, its number of steps, and its number of core blocks
-pub record Finished : Type 0 where
-  pub memory : Blocks
-  pub steps : ℕ
-  pub blocks : ℕ
 
 -- a run from frames of which the first is not over, with fuel for so many more steps, after so many
 unfoldable pub run_settled : Typed → ℕ → ℕ → Blocks → List Frame → Option Finished

@@ -4,7 +4,7 @@ ghost use Rattle.std.specs.Prelude.{◌≡◌, slice_get, unwrap_or};
 ghost use Rattle.ceal_base.specs.Shapes.{default_of_kind};
 ghost use Rattle.ceal_mean.specs.Value.{default_of, variable_of, value_of, values_of};
 
-use crate::access::{address, field};
+use ceal_base::access::{address, field};
 use ceal_base::kind::Kind;
 use ceal_base::memory::Memory;
 use ceal_base::operators::{apply_binary, apply_unary};

@@ -5,8 +5,8 @@ ghost use Rattle.std.specs.Option.{option_map};
 ghost use Rattle.ceal_base.specs.Shapes.{default_of_field, kind_of_field, field_kinds, default_block};
 ghost use Rattle.ceal_mean.specs.Init.{set_by, set_by_all, made_by, init_block};
 
-use crate::access::is_true;
 use crate::eval::eval;
+use ceal_base::access::is_true;
 use ceal_base::kind::{FieldKind, Kind, Shape};
 use ceal_base::memory::{BlockWords, Memory};
 use ceal_base::no_memory::NoMemory;

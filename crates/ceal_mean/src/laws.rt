@@ -4,7 +4,8 @@ ghost use Rattle.std.specs.Prelude.{◌≡◌, ◌≤◌, ◌↔◌, ℕ, List, 
 ghost use Rattle.ceal_base.specs.Block.{Block};
 ghost use Rattle.ceal_base.specs.declared.typed.Typed.{Typed};
 ghost use Rattle.ceal_base.specs.declared.word.Word.{Word};
-ghost use Rattle.ceal_mean.specs.Fresh.{Finished, fresh};
+ghost use Rattle.ceal_base.specs.Finished.{Finished};
+ghost use Rattle.ceal_mean.specs.Fresh.{fresh};
 
 /// A law: more fuel changes no finished run.
 pub fn more_fuel()

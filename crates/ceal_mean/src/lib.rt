@@ -6,7 +6,6 @@
 //! `interpret` equals `fresh`, and the laws of `fresh` stand in `laws`.
 #![tactic(auto)]
 
-pub mod access;
 mod activation;
 pub mod eval;
 pub mod init;

@@ -10,10 +10,10 @@ ghost use Rattle.ceal_mean.specs.Frame.{Frame};
 ghost use Rattle.ceal_mean.specs.Init.{init_block};
 ghost use Rattle.ceal_mean.specs.Value.{value_of, values_of};
 
-use crate::access::{content, is_true, write};
 use crate::activation::{Activation, enter};
 use crate::eval::eval;
 use crate::init::init;
+use ceal_base::access::{content, is_true, write};
 use ceal_base::kind::{Kind, Shape};
 use ceal_base::memory::{BlockWords, Memory};
 use ceal_base::no_memory::NoMemory;

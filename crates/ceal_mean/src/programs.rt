@@ -137,7 +137,7 @@ fn program(
 }
 
 /// `ceal inc(mod int *a, mod int *b) { int x = read(a); write(b, x + 1); }`
-pub fn inc(alloc: Global) -> Result<Typed, NoMemory> {
+pub(crate) fn inc(alloc: Global) -> Result<Typed, NoMemory> {
     let more = binary(alloc, Binary::Add, integer(2), number(1))?;
     let body = stmts(
         alloc,
@@ -152,7 +152,7 @@ pub fn inc(alloc: Global) -> Result<Typed, NoMemory> {
 }
 
 /// `ceal loop(mod int *a, mod int *o) { int n = read(a); while (n != 0) { n = n - 1; } write(o, 7); }`
-pub fn looping(alloc: Global) -> Result<Typed, NoMemory> {
+pub(crate) fn looping(alloc: Global) -> Result<Typed, NoMemory> {
     let less = binary(alloc, Binary::Sub, integer(2), number(1))?;
     let turn = stmts(alloc, [TypedStmt::Assign(AT, 2, TypedValue::Plain(less))])?;
     let test = binary(alloc, Binary::Differ, integer(2), number(0))?;
@@ -170,7 +170,7 @@ pub fn looping(alloc: Global) -> Result<Typed, NoMemory> {
 }
 
 /// `ceal d(int n, mod int *o) { if (n > 0) { d(n - 1, o); } write(o, n); }`
-pub fn deep(alloc: Global) -> Result<Typed, NoMemory> {
+pub(crate) fn deep(alloc: Global) -> Result<Typed, NoMemory> {
     let less = binary(alloc, Binary::Sub, integer(0), number(1))?;
     let deeper = call(alloc, 0, less, variable(Kind::ModInt, 1))?;
     let test = binary(alloc, Binary::More, integer(0), number(0))?;
@@ -220,7 +220,7 @@ fn map_cell(alloc: Global) -> Result<TypedStmts, NoMemory> {
 
 /// `struct cell { int head; mod struct cell tail; };`, `mk`, and the function that maps a list of cells:
 /// `struct cell *c = read(from); if (c != null) { map_cell } else { write(to, null); }`
-pub fn map(alloc: Global) -> Result<Typed, NoMemory> {
+pub(crate) fn map(alloc: Global) -> Result<Typed, NoMemory> {
     let list = Kind::ModPtr(0);
     let test = binary(alloc, Binary::Differ, pointer(2), null())?;
     let last = stmts(alloc, [write(variable(list, 1), null())])?;
@@ -323,7 +323,7 @@ fn eval_body(alloc: Global) -> Result<TypedStmts, NoMemory> {
 
 /// `struct node { int op; mod int leaf; mod struct node left; mod struct node right; };` and
 /// `ceal eval(mod struct node *root, mod int *res)`, which evaluates a tree of operators
-pub fn evaluator(alloc: Global) -> Result<Typed, NoMemory> {
+pub(crate) fn evaluator(alloc: Global) -> Result<Typed, NoMemory> {
     let body = eval_body(alloc)?;
     let int = Kind::Int;
     let place = Kind::ModInt;

@@ -1,8 +1,8 @@
 // Whole programs, with the numbers that the language's description gives for them.
 
-use crate::access::content;
 use crate::programs::{deep, evaluator, inc, looping, map};
 use crate::run::{Outcome, interpret};
+use ceal_base::access::content;
 use ceal_base::kind::Shape;
 use ceal_base::memory::{BlockWords, Inputs};
 use ceal_base::no_memory::NoMemory;

@@ -8,6 +8,7 @@ ghost use Rattle.ceal_cli.specs.Session.{initial, modifiable, made, edited, is_c
 use crate::first_language::bytes::same;
 use crate::first_language::names::{knows, place};
 use crate::first_script::command::{Command, read_line};
+use ceal_base::access::content;
 use ceal_base::items::Items;
 use ceal_base::kind::Shape;
 use ceal_base::memory::{BlockWords, Inputs};
@@ -17,7 +18,6 @@ use ceal_base::text::Text;
 use ceal_base::typed::Typed;
 use ceal_base::word::{BlockId, Place, Word};
 use ceal_base::words::Words;
-use ceal_mean::access::content;
 use ceal_mean::run::{Outcome, interpret};
 use std::alloc::Global;
 

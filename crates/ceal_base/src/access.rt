@@ -5,10 +5,10 @@ ghost use Rattle.std.specs.Option.{option_map};
 ghost use Rattle.ceal_base.specs.Block.{block_at};
 ghost use Rattle.ceal_base.specs.Access.{pointed, of_struct, is_struct, word_in, field_of, address_of, content_of, written, holds};
 
-use ceal_base::kind::Shape;
-use ceal_base::memory::{BlockWords, Memory};
-use ceal_base::operators::number;
-use ceal_base::word::{BlockId, Place, Word};
+use crate::kind::Shape;
+use crate::memory::{BlockWords, Memory};
+use crate::operators::number;
+use crate::word::{BlockId, Place, Word};
 
 /// A condition: a number is true where it is not 0, and no other word is.
 pub fn is_true(word: Word) -> bool

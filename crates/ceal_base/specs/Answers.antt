@@ -1,4 +1,4 @@
--- What a function of the front answers, want of memory aside.
+-- What a phase of the compiler answers, want of memory aside.
 use Rattle.std.specs.Prelude.{◌≡◌, Result, Ok, Err}
 use Rattle.ceal_base.specs.declared.fault.Fault.{Fault}
 use Rattle.ceal_base.specs.declared.fault.FrontError.{FrontError}
