@@ -1,0 +1,5 @@
+//! Names and types.
+#![tactic(auto)]
+
+pub mod names;
+pub mod table;

@@ -1,0 +1,81 @@
+// What stands under a name.
+
+ghost use Rattle.std.specs.Prelude.{◌≡◌, ◌++◌, ◌∷◌, [], Bool, ℕ, Option, List, length, take, is_some, OnOk, false};
+ghost use Rattle.std.specs.Option.{option_map};
+ghost use Rattle.ceal_types.specs.Tables.{has, find};
+
+use ceal_base::no_memory::NoMemory;
+use ceal_base::text::Text;
+use indexmap::IndexMap;
+use std::alloc::Global;
+use std::marker::Model;
+
+/// Values by their names, in the order in which they were added. A name's number is its place, from 0.
+#[derive(Drop)]
+pub struct Table<V> {
+    entries: IndexMap<Text, V>,
+}
+
+impl<V> Model for Table<V> {
+    ghost use Rattle.std.specs.Prelude.{List, ℕ, length, ◌<◌, ◌^◌};
+    ghost use Rattle.std.specs.Coded.{coded_list, coded×, coded_ℕ};
+
+    ghost Value = { List (List ℕ × V) };
+
+    ghost coded = { coded_list (coded× (coded_list coded_ℕ) V.code) };
+
+    ghost view = { λ t. t.entries.entries };
+
+    ghost invariant = { λ t. length t.entries.entries < 2 ^ 32 };
+}
+
+impl<V> Table<V> {
+    pub fn new(alloc: Global) -> Table<V>
+        ensures empty { result ≡ [] }
+    {
+        Table {
+            entries: IndexMap::new(alloc),
+        }
+    }
+
+    pub fn len(&self) -> usize
+        ensures count { result ≡ length self.now }
+    {
+        self.entries.len()
+    }
+
+    pub fn has(&self, name: &Text) -> bool
+        ensures there { result ≡ has self.now name.now }
+    {
+        self.entries.contains_key(name)
+    }
+
+    /// The name's number, and what stands under it.
+    pub fn find(&self, name: &Text) -> Option<(u32, &V)>
+        ensures found { option_map (λ p. (p.0, p.1.now)) result ≡ find self.now name.now }
+    {
+        let (number, _, value) = self.entries.get_full(name)?;
+        Some((number as u32, value))
+    }
+}
+
+impl<V: Drop> Table<V> {
+    /// Puts a value under a new name.
+    pub fn add(&mut self, name: &Text, value: V) -> Result<(), NoMemory>
+        requires { has self.old name.now ≡ false }
+        ensures ok { OnOk result (self.new ≡ self.old ++ (name.now, value) ∷ []) }
+    {
+        if self.entries.len() >= 4294967295 {
+            return Err(NoMemory);
+        }
+        self.entries.insert(name.copy()?, value)?;
+        Ok(())
+    }
+
+    /// Leaves the first `len` names.
+    pub fn truncate(&mut self, len: usize)
+        ensures kept { self.new ≡ take len self.old }
+    {
+        self.entries.truncate(len);
+    }
+}
