@@ -1,1 +1,7 @@
 pub mod Tables
+pub mod Walk
+pub mod Kinds
+pub mod Heads
+pub mod Expressions
+pub mod Statements
+pub mod Checked

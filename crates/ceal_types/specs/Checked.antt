@@ -1,0 +1,56 @@
+-- The names and types of a program: its tree with names resolved, or the first fault of the walk. The walk goes through
+-- the entries in text order twice, first their heads and then the bodies of the functions.
+use Rattle.std.specs.Prelude.{Result, Ok, List, [], ◌∷◌, ◌++◌, length, map}
+use Rattle.ceal_base.specs.declared.fault.Fault.{Fault}
+use Rattle.ceal_base.specs.declared.kind.FieldKind.{FieldKind}
+use Rattle.ceal_base.specs.declared.syntax.Entry.{Entry}
+use Rattle.ceal_base.specs.declared.syntax.Entry.TheVariants.{Struct, Function}
+use Rattle.ceal_base.specs.declared.syntax.FunctionDecl.{FunctionDecl}
+use Rattle.ceal_base.specs.declared.syntax.Tree.{Tree}
+use Rattle.ceal_base.specs.declared.typed.FieldInfo.{FieldInfo}
+use Rattle.ceal_base.specs.declared.typed.StructInfo.{StructInfo}
+use Rattle.ceal_base.specs.declared.typed.Typed.{Typed}
+use Rattle.ceal_base.specs.declared.typed.TypedFunction.{TypedFunction}
+use Rattle.ceal_types.specs.Expressions.{Fields}
+use Rattle.ceal_types.specs.Heads.{head_of, heads}
+use Rattle.ceal_types.specs.Statements.{Block, opened, typed_stmts}
+use Rattle.ceal_types.specs.Tables.{Name}
+use Rattle.ceal_types.specs.Walk.{after, mapped, in_turn, at_end}
+use Rattle.ceal_types.specs.declared.program.Head.{Head}
+use Rattle.ceal_types.specs.declared.program.Program.{Program}
+
+abbrev pub function_of : FunctionDecl → Head → Block → TypedFunction
+function_of f head block = record {
+  initialiser = head.own;
+  name = f.name;
+  params = length head.parameters.kinds;
+  kinds = block.variables.kinds;
+  body = block.stmts;
+  close = f.close;
+}
+
+abbrev pub function_body : Program → FunctionDecl → Head → Result TypedFunction Fault
+function_body p f head = mapped (function_of f head) (typed_stmts p head.own f.body (opened head.parameters))
+
+-- a function: its body, where its parameters are in scope
+unfoldable pub typed_function : Program → FunctionDecl → Result TypedFunction Fault
+typed_function p f = after (function_body p f) (head_of p.names f)
+
+unfoldable pub with_body : Program → Entry → List TypedFunction → Result (List TypedFunction) Fault
+with_body p (Struct s) fs = Ok fs
+with_body p (Function f) fs = mapped (at_end fs) (typed_function p f)
+
+abbrev pub field_info : Name × FieldKind → FieldInfo
+field_info f = record { name = f.0; kind = f.1 }
+
+abbrev pub struct_info : Name × Fields → StructInfo
+struct_info s = record { name = s.0; fields = map field_info s.1 }
+
+abbrev pub program_of : Program → List TypedFunction → Typed
+program_of p fs = record { structs = map struct_info p.structs; functions = fs }
+
+abbrev pub bodies : List Entry → Program → Result Typed Fault
+bodies entries p = mapped (program_of p) (in_turn (with_body p) entries [])
+
+unfoldable pub checked : Tree → Result Typed Fault
+checked tree = after (bodies tree.entries) (heads tree.entries)

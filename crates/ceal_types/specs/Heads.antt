@@ -1,0 +1,120 @@
+-- The heads of a program's entries: the names of its structs and functions, their fields and their parameters.
+use Rattle.std.specs.Prelude.{ℕ, Option, Some, None, Result, Ok, List, [], ◌∷◌, ◌++◌, length, position, if◌then◌else◌}
+use Rattle.std.specs.Str.{bytes_eq}
+use Rattle.ceal_base.specs.declared.fault.Fault.{Fault}
+use Rattle.ceal_base.specs.declared.fault.FaultCode.TheVariants.{N1, N2}
+use Rattle.ceal_base.specs.declared.kind.FieldKind.{FieldKind}
+use Rattle.ceal_base.specs.declared.kind.FieldKind.TheVariants.{Plain, CellInt, CellPtr}
+use Rattle.ceal_base.specs.declared.kind.Kind.{Kind}
+use Rattle.ceal_base.specs.declared.kind.Kind.TheVariants as kinds
+use Rattle.ceal_base.specs.declared.syntax.Entry.{Entry}
+use Rattle.ceal_base.specs.declared.syntax.Entry.TheVariants.{Struct, Function}
+use Rattle.ceal_base.specs.declared.syntax.FieldDecl.{FieldDecl}
+use Rattle.ceal_base.specs.declared.syntax.FunctionDecl.{FunctionDecl}
+use Rattle.ceal_base.specs.declared.syntax.Ident.{Ident}
+use Rattle.ceal_base.specs.declared.syntax.TypeForm.{TypeForm}
+use Rattle.ceal_base.specs.declared.syntax.TypeForm.TheVariants as forms
+use Rattle.ceal_types.specs.Tables.{Name, has, with_name}
+use Rattle.ceal_types.specs.Walk.{fault, after, mapped, in_turn}
+use Rattle.ceal_types.specs.declared.program.Head.{Head}
+use Rattle.ceal_types.specs.declared.program.Program.{Program}
+use Rattle.ceal_types.specs.declared.program.Variables.{Variables}
+
+-- the number of the struct of this name
+abbrev pub numbered : Ident → Option ℕ → Result ℕ Fault
+numbered name None = fault N1 name.span
+numbered name (Some n) = Ok n
+
+abbrev pub struct_number : List Name → Ident → Result ℕ Fault
+struct_number names name = numbered name (position (bytes_eq name.text) names)
+
+-- the type of a variable or parameter; a source text gives embedded modifiables to fields alone, and in a tree with
+-- one elsewhere it is a pointer to that modifiable
+abbrev pub kind_of : List Name → TypeForm → Result Kind Fault
+kind_of names forms.Int = Ok kinds.Int
+kind_of names (forms.Ptr name) = mapped kinds.Ptr (struct_number names name)
+kind_of names forms.ModInt = Ok kinds.ModInt
+kind_of names (forms.ModPtr name) = mapped kinds.ModPtr (struct_number names name)
+kind_of names forms.CellInt = Ok kinds.ModInt
+kind_of names (forms.CellPtr name) = mapped kinds.ModPtr (struct_number names name)
+
+abbrev pub plain_pointer : ℕ → FieldKind
+plain_pointer s = Plain (kinds.Ptr s)
+
+abbrev pub plain_place : ℕ → FieldKind
+plain_place s = Plain (kinds.ModPtr s)
+
+abbrev pub field_kind_of : List Name → TypeForm → Result FieldKind Fault
+field_kind_of names forms.Int = Ok (Plain kinds.Int)
+field_kind_of names (forms.Ptr name) = mapped plain_pointer (struct_number names name)
+field_kind_of names forms.ModInt = Ok (Plain kinds.ModInt)
+field_kind_of names (forms.ModPtr name) = mapped plain_place (struct_number names name)
+field_kind_of names forms.CellInt = Ok CellInt
+field_kind_of names (forms.CellPtr name) = mapped CellPtr (struct_number names name)
+
+-- one more field: the struct's name in its type, and then its own name
+abbrev pub new_field : Ident → List (Name × FieldKind) → FieldKind → Result (List (Name × FieldKind)) Fault
+new_field name fields kind = if has fields name.text then fault N2 name.span else Ok (fields ++ (name.text, kind) ∷ [])
+
+unfoldable pub with_field : List Name → FieldDecl → List (Name × FieldKind) → Result (List (Name × FieldKind)) Fault
+with_field names d fields = after (new_field d.name fields) (field_kind_of names d.form)
+
+-- the variables with one more, which is in scope and has the next number
+abbrev pub with_variable : Variables → Name → Kind → Variables
+with_variable v name kind = record {
+  scope = v.scope ++ (name, record { number = length v.kinds; kind = kind }) ∷ [];
+  kinds = v.kinds ++ kind ∷ [];
+}
+
+-- one more parameter: the struct's name in its type, and then its own name
+abbrev pub new_parameter : Ident → Variables → Kind → Result Variables Fault
+new_parameter name v kind = if has v.scope name.text then fault N2 name.span else Ok (with_variable v name.text kind)
+
+unfoldable pub with_parameter : List Name → FieldDecl → Variables → Result Variables Fault
+with_parameter names d v = after (new_parameter d.name v) (kind_of names d.form)
+
+-- the struct of `self`, of an initialiser alone
+abbrev pub own_of : List Name → Option Ident → Result (Option ℕ) Fault
+own_of names None = Ok None
+own_of names (Some name) = mapped Some (struct_number names name)
+
+abbrev pub no_variables : Variables
+no_variables = record { scope = []; kinds = [] }
+
+abbrev pub head : Option ℕ → Variables → Head
+head own v = record { own = own; parameters = v }
+
+abbrev pub with_parameters : List Name → List FieldDecl → Option ℕ → Result Head Fault
+with_parameters names params own = mapped (head own) (in_turn (with_parameter names) params no_variables)
+
+-- a function's head: the struct of `self`, and then the parameters
+unfoldable pub head_of : List Name → FunctionDecl → Result Head Fault
+head_of names f = after (with_parameters names f.params) (own_of names f.initialiser)
+
+abbrev pub with_struct : Program → Name → List (Name × FieldKind) → Program
+with_struct p name fields = record p { structs = p.structs ++ (name, fields) ∷ [] }
+
+abbrev pub with_function : Program → Name → Head → Program
+with_function p name f = record p { functions = p.functions ++ (name, f) ∷ [] }
+
+-- one more entry: its name, which no earlier one of its sort has, and then its fields or its head
+unfoldable pub with_entry : Entry → Program → Result Program Fault
+with_entry (Struct s) p =
+    if has p.structs s.name.text then fault N2 s.name.span
+    else mapped (with_struct p s.name.text) (in_turn (with_field p.names) s.fields [])
+with_entry (Function f) p =
+    if has p.functions f.name.text then fault N2 f.name.span
+    else mapped (with_function p f.name.text) (head_of p.names f)
+
+-- the names of all structs, which may be used before they are defined
+unfoldable pub struct_names : List Entry → List Name → List Name
+struct_names [] names = names
+struct_names (Struct s ∷ rest) names = struct_names rest (with_name names s.name.text)
+struct_names (Function f ∷ rest) names = struct_names rest names
+
+abbrev pub no_entries : List Name → Program
+no_entries names = record { names = names; structs = []; functions = [] }
+
+-- the heads of all entries
+unfoldable pub heads : List Entry → Result Program Fault
+heads entries = in_turn with_entry entries (no_entries (struct_names entries []))

@@ -1,0 +1,42 @@
+// What the walk knows of a program.
+
+use crate::names::Names;
+use crate::table::Table;
+use ceal_base::kind::{FieldKind, Kind, Kinds};
+
+/// A variable in scope: its number in its function, and its type.
+#[derive(Clone, Copy)]
+pub struct Variable {
+    pub number: u32,
+    pub kind: Kind,
+}
+
+/// The variables of a function so far: those in scope, in the order of their declarations, and the types of all.
+#[derive(Drop)]
+pub struct Variables {
+    pub scope: Table<Variable>,
+    pub kinds: Kinds,
+}
+
+/// A function's head: the struct of `self`, of an initialiser alone, and the parameters.
+#[derive(Drop)]
+pub struct Head {
+    pub own: Option<u32>,
+    pub parameters: Variables,
+}
+
+/// The heads of a program's entries: the names of all structs, and the structs and functions so far.
+#[derive(Drop)]
+pub struct Program {
+    pub names: Names,
+    pub structs: Table<Table<FieldKind>>,
+    pub functions: Table<Head>,
+}
+
+/// A field: the numbers of its struct and of itself in that struct, and its type.
+#[derive(Clone, Copy)]
+pub struct Member {
+    pub shape: u32,
+    pub field: u32,
+    pub kind: FieldKind,
+}
