@@ -21,7 +21,7 @@ use Rattle.ceal_base.specs.declared.typed.TypedForm.{TypedForm}
 use Rattle.ceal_base.specs.declared.typed.TypedForm.{Num as NumForm, Null as NullForm, Var as VarForm, Own as OwnForm}
 use Rattle.ceal_base.specs.declared.typed.TypedForm.TheViews as typed
 use Rattle.ceal_types.specs.Kinds.{suits, comparable}
-use Rattle.ceal_types.specs.Tables.{Name, find}
+use Rattle.ceal_types.specs.Tables.{Name, find, value_at}
 use Rattle.ceal_types.specs.Walk.{fault, after, mapped, both, in_turn, at_end}
 use Rattle.ceal_types.specs.declared.program.Program.{Program}
 use Rattle.ceal_types.specs.declared.program.Variable.{Variable}
@@ -79,12 +79,12 @@ abbrev pub field_named : Ident → ℕ → Option (ℕ × FieldKind) → Result 
 field_named name s None = fault T5 name.span
 field_named name s (Some f) = Ok (record { shape = s; field = f.0; kind = f.1 })
 
-abbrev pub field_of_struct : Ident → ℕ → Option (Name × Fields) → Result Member Fault
+abbrev pub field_of_struct : Ident → ℕ → Option Fields → Result Member Fault
 field_of_struct name s None = fault T5 name.span
-field_of_struct name s (Some t) = field_named name s (find t.1 name.text)
+field_of_struct name s (Some fields) = field_named name s (find fields name.text)
 
 abbrev pub member_of : List (Name × Fields) → Span → Ident → Option Kind → Result Member Fault
-member_of structs at name (Some (Ptr s)) = field_of_struct name s (slice_get structs s)
+member_of structs at name (Some (Ptr s)) = field_of_struct name s (value_at structs s)
 member_of structs at name _ = fault T4 at
 
 -- what `e->name` is: `e` a pointer to a struct, which has the field

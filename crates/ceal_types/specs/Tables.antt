@@ -1,7 +1,8 @@
 -- Names, and what stands under a name.
-use Rattle.std.specs.Prelude.{ℕ, Bool, Option, Some, None, List, ◌∷◌, [], ◌++◌, is_some, position, if◌then◌else◌}
+use Rattle.std.specs.Prelude.{ℕ, Bool, Option, Some, None, List, ◌∷◌, [], ◌++◌, is_some, position, slice_get, if◌then◌else◌}
 use Rattle.std.specs.List.{list_any}
 use Rattle.std.specs.Map.{keys_of, lookup}
+use Rattle.std.specs.Option.{option_map}
 use Rattle.std.specs.Str.{bytes_eq}
 
 -- a name: its bytes
@@ -19,6 +20,13 @@ has table name = is_some (lookup (bytes_eq name) table)
 -- the name's number, which is its place in the table from 0, and what stands there
 unfoldable pub find : {A : Type 0} → List (Name × A) → Name → Option (ℕ × A)
 find table name = both_some (position (bytes_eq name) (keys_of table)) (lookup (bytes_eq name) table)
+
+-- what stands at this number
+abbrev pub second : {A : Type 0} → Name × A → A
+second e = e.1
+
+abbrev pub value_at : {A : Type 0} → List (Name × A) → ℕ → Option A
+value_at table n = option_map second (slice_get table n)
 
 -- the names with this one, each of them once
 abbrev pub with_name : List Name → Name → List Name

@@ -1,8 +1,10 @@
 // What stands under a name.
 
 ghost use Rattle.std.specs.Prelude.{◌≡◌, ◌++◌, ◌∷◌, [], Bool, ℕ, Option, List, length, take, is_some, OnOk, false};
+ghost use Rattle.std.specs.Map.{lookup};
 ghost use Rattle.std.specs.Option.{option_map};
-ghost use Rattle.ceal_types.specs.Tables.{has, find};
+ghost use Rattle.std.specs.Str.{bytes_eq};
+ghost use Rattle.ceal_types.specs.Tables.{has, find, value_at};
 
 use ceal_base::no_memory::NoMemory;
 use ceal_base::text::Text;
@@ -56,6 +58,21 @@ impl<V> Table<V> {
     {
         let (number, _, value) = self.entries.get_full(name)?;
         Some((number as u32, value))
+    }
+
+    /// What stands under the name.
+    pub fn get(&self, name: &Text) -> Option<&V>
+        ensures value { option_map (λ v. v.now) result ≡ lookup (bytes_eq name.now) self.now }
+    {
+        self.entries.get(name)
+    }
+
+    /// What stands at a number.
+    pub fn at(&self, number: u32) -> Option<&V>
+        ensures value { option_map (λ v. v.now) result ≡ value_at self.now number }
+    {
+        let (_, value) = self.entries.get_index(number as usize)?;
+        Some(value)
     }
 }
 

@@ -1,0 +1,78 @@
+-- The type of each form of expression.
+use Rattle.std.proofs.Common.{◌≡◌, ℕ, ℤ, Option, Some, None, Result, Ok, Err, List, [], ◌∷◌, ◌++◌, refl}
+use Rattle.std.specs.Map.{lookup}
+use Rattle.std.specs.Str.{bytes_eq}
+use Rattle.ceal_base.specs.declared.fault.Fault.{Fault}
+use Rattle.ceal_base.specs.declared.fault.Span.{Span}
+use Rattle.ceal_base.specs.declared.kind.Kind.TheVariants.{Int}
+use Rattle.ceal_base.specs.declared.operators.Binary.{Binary as BinaryOp}
+use Rattle.ceal_base.specs.declared.operators.Unary.{Unary as UnaryOp}
+use Rattle.ceal_base.specs.declared.syntax.Expr.{Expr}
+use Rattle.ceal_base.specs.declared.syntax.ExprForm.{ExprForm, Num, Null, Var, Own, Unary', Binary', Field', Address', out-ExprForm}
+use Rattle.ceal_base.specs.declared.syntax.ExprForm.TheBlock.{hidden-the_row-Expr-0, shape-the_row-Expr-0, Row_of-Expr, end_of-Expr, more_of-Expr}
+use Rattle.ceal_base.specs.declared.syntax.ExprForm.TheViews.{Unary, Binary, Field, Address}
+use Rattle.ceal_base.specs.declared.syntax.Ident.{Ident}
+use Rattle.ceal_base.specs.declared.typed.TypedExpr.{TypedExpr}
+use Rattle.ceal_base.specs.declared.typed.TypedForm.{Num as NumForm, Null as NullForm}
+use Rattle.ceal_types.specs.Expressions.{Scope, typed_form, typed_expr, expression, variable_at, own_at, unary_at, binary_at, field_at, address_at, no_address}
+use Rattle.ceal_types.specs.Views.{access_of}
+use Rattle.ceal_types.specs.Walk.{after, both}
+use Rattle.ceal_types.specs.declared.program.Program.{Program}
+
+-- `&` of a field access, or of what is none
+abbrev pub addressed : Program → Option ℕ → Scope → Span → Expr → Option (Expr × Ident) → Result TypedExpr Fault
+addressed p own scope at e (Some f) = after (address_at p.structs at f.1) (typed_expr p own scope f.0)
+addressed p own scope at e None = after no_address (typed_expr p own scope e)
+
+module _ (p : Program) (own : Option ℕ) (scope : Scope) (at : Span) where
+  pub type-num : (n : ℤ) → typed_form p own scope at (Num n) ≡ Ok (expression at (Some Int) (NumForm n))
+  unfolding typed_form
+  type-num n = refl
+
+  pub type-null : typed_form p own scope at Null ≡ Ok (expression at None NullForm)
+  unfolding typed_form
+  type-null = refl
+
+  pub type-var : (name : Ident) → typed_form p own scope at (Var name) ≡ variable_at at name (lookup (bytes_eq name.text) scope)
+  unfolding typed_form
+  type-var name = refl
+
+  pub type-own : typed_form p own scope at Own ≡ own_at at own
+  unfolding typed_form
+  type-own = refl
+
+  pub type-unary : (op : UnaryOp) (a : Expr) → typed_form p own scope at (Unary op a) ≡ after (unary_at at op) (typed_expr p own scope a)
+  unfolding typed_form hidden-the_row-Expr-0 shape-the_row-Expr-0 denote.Hole.Carrier.hidden
+  type-unary op a = refl
+
+  pub type-binary : (op : BinaryOp) (sign : Span) (a b : Expr)
+      → typed_form p own scope at (Binary op sign a b) ≡ both (binary_at at op sign) (typed_expr p own scope a) (typed_expr p own scope b)
+  unfolding typed_form hidden-the_row-Expr-0 shape-the_row-Expr-0 denote.Hole.Carrier.hidden
+  type-binary op sign a b = refl
+
+  pub type-field : (a : Expr) (name : Ident) → typed_form p own scope at (Field a name) ≡ after (field_at p.structs at name) (typed_expr p own scope a)
+  unfolding typed_form hidden-the_row-Expr-0 shape-the_row-Expr-0 denote.Hole.Carrier.hidden
+  type-field a name = refl
+
+  type-address-form : (span : Span) (form : ExprForm) → typed_form p own scope at (Address (record { span = span; form = form }))
+      ≡ addressed p own scope at (record { span = span; form = form }) (access_of (out-ExprForm form))
+  unfolding typed_form hidden-the_row-Expr-0 shape-the_row-Expr-0 denote.Hole.Carrier.hidden denote.Hole.Carrier.out out-ExprForm
+  type-address-form span (Num n) = refl
+  type-address-form span Null = refl
+  type-address-form span (Var name) = refl
+  type-address-form span Own = refl
+  type-address-form span (Unary' op _ a) = refl
+  type-address-form span (Binary' op sign _ a _ b) = refl
+  type-address-form span (Field' _ (more_of-Expr s form rest) name) = refl
+  type-address-form span (Address' _ a) = refl
+
+  pub type-address : (a : Expr) → typed_form p own scope at (Address a) ≡ addressed p own scope at a (access_of (out-ExprForm a.form))
+  unfolding typed_form hidden-the_row-Expr-0 shape-the_row-Expr-0 denote.Hole.Carrier.hidden
+  type-address a = type-address-form a.span a.form
+
+  pub type-place : (e : Expr) (a : Expr) (name : Ident) → e.form ≡ Field a name
+      → typed_form p own scope at (Address e) ≡ after (address_at p.structs at name) (typed_expr p own scope a)
+  unfolding typed_form hidden-the_row-Expr-0 shape-the_row-Expr-0 denote.Hole.Carrier.hidden denote.Hole.Carrier.out out-ExprForm
+  type-place e a name is = rw is refl
+
+pub ruleset expression_steps = (type-num, type-null, type-var, type-own, type-unary, type-binary, type-field, type-address)

@@ -1,0 +1,193 @@
+// The types of expressions.
+
+ghost use Rattle.std.specs.Prelude.{◌≡◌, Option, IfOk};
+ghost use Rattle.std.specs.Map.{lookup};
+ghost use Rattle.std.specs.Str.{bytes_eq};
+ghost use Rattle.ceal_base.specs.Answers.{Gives};
+ghost use Rattle.ceal_types.specs.Expressions.{expression, variable_at, own_at, unary_at, unary_of, binary_at, binary_of, compared, computed, typed_expr, typed_exprs, condition};
+
+use crate::kinds::{comparable, suits};
+use crate::members::{fault, type_address, type_field};
+use crate::program::{Program, Variable};
+use crate::table::Table;
+use ceal_base::boxed::Boxed;
+use ceal_base::fault::{FaultCode, FrontError, Span};
+use ceal_base::items::Items;
+use ceal_base::kind::Kind;
+use ceal_base::no_memory::NoMemory;
+use ceal_base::operators::{Binary, Unary};
+use ceal_base::syntax::{Expr, ExprForm, Ident};
+use ceal_base::typed::{TypedExpr, TypedExprs, TypedForm};
+use std::alloc::Global;
+
+fn expression(span: Span, kind: Option<Kind>, form: TypedForm) -> TypedExpr
+    ensures { result ≡ expression span kind form }
+{
+    TypedExpr { span, kind, form }
+}
+
+fn type_variable(
+    scope: &Table<Variable>,
+    at: Span,
+    name: &Ident,
+) -> Result<TypedExpr, FrontError>
+    ensures { Gives result (variable_at at name.now (lookup (bytes_eq name.now.text) scope.now)) }
+{
+    match scope.get(&name.text) {
+        Some(v) => Ok(expression(at, Some(v.kind), TypedForm::Var(v.number))),
+        None => Err(fault(FaultCode::N1, name.span)),
+    }
+}
+
+fn type_own(at: Span, own: Option<u32>) -> Result<TypedExpr, FrontError>
+    ensures { Gives result (own_at at own) }
+{
+    match own {
+        Some(s) => Ok(expression(at, Some(Kind::Ptr(s)), TypedForm::Own)),
+        None => Err(fault(FaultCode::N1, at)),
+    }
+}
+
+fn unary(alloc: Global, at: Span, op: Unary, a: TypedExpr) -> Result<TypedExpr, NoMemory>
+    ensures { IfOk result (λ e. e ≡ unary_of at op a) }
+{
+    let a = Boxed::new(alloc, a)?;
+    Ok(expression(at, Some(Kind::Int), TypedForm::Unary(op, a)))
+}
+
+fn type_unary(alloc: Global, at: Span, op: Unary, a: TypedExpr) -> Result<TypedExpr, FrontError>
+    ensures { Gives result (unary_at at op a) }
+{
+    if suits(Kind::Int, a.kind) {
+        let e = unary(alloc, at, op, a)?;
+        Ok(e)
+    } else {
+        Err(fault(FaultCode::T1, a.span))
+    }
+}
+
+fn binary(
+    alloc: Global,
+    at: Span,
+    op: Binary,
+    sign: Span,
+    a: TypedExpr,
+    b: TypedExpr,
+) -> Result<TypedExpr, NoMemory>
+    ensures { IfOk result (λ e. e ≡ binary_of at op sign a b) }
+{
+    let a = Boxed::new(alloc, a)?;
+    let b = Boxed::new(alloc, b)?;
+    Ok(expression(
+        at,
+        Some(Kind::Int),
+        TypedForm::Binary(op, sign, a, b),
+    ))
+}
+
+fn type_compared(
+    alloc: Global,
+    at: Span,
+    op: Binary,
+    sign: Span,
+    a: TypedExpr,
+    b: TypedExpr,
+) -> Result<TypedExpr, FrontError>
+    ensures { Gives result (compared at op sign a b) }
+{
+    if comparable(a.kind, b.kind) {
+        let e = binary(alloc, at, op, sign, a, b)?;
+        Ok(e)
+    } else {
+        Err(fault(FaultCode::T1, sign))
+    }
+}
+
+fn type_computed(
+    alloc: Global,
+    at: Span,
+    op: Binary,
+    sign: Span,
+    a: TypedExpr,
+    b: TypedExpr,
+) -> Result<TypedExpr, FrontError>
+    ensures { Gives result (computed at op sign a b) }
+{
+    if !suits(Kind::Int, a.kind) {
+        return Err(fault(FaultCode::T1, a.span));
+    }
+    if !suits(Kind::Int, b.kind) {
+        return Err(fault(FaultCode::T1, b.span));
+    }
+    let e = binary(alloc, at, op, sign, a, b)?;
+    Ok(e)
+}
+
+fn type_binary(
+    alloc: Global,
+    at: Span,
+    op: Binary,
+    sign: Span,
+    a: TypedExpr,
+    b: TypedExpr,
+) -> Result<TypedExpr, FrontError>
+    ensures { Gives result (binary_at at op sign a b) }
+{
+    match op {
+        Binary::Same => type_compared(alloc, at, op, sign, a, b),
+        Binary::Differ => type_compared(alloc, at, op, sign, a, b),
+        Binary::Add => type_computed(alloc, at, op, sign, a, b),
+        Binary::Sub => type_computed(alloc, at, op, sign, a, b),
+        Binary::Mul => type_computed(alloc, at, op, sign, a, b),
+        Binary::Div => type_computed(alloc, at, op, sign, a, b),
+        Binary::Rem => type_computed(alloc, at, op, sign, a, b),
+        Binary::Less => type_computed(alloc, at, op, sign, a, b),
+        Binary::LessEq => type_computed(alloc, at, op, sign, a, b),
+        Binary::More => type_computed(alloc, at, op, sign, a, b),
+        Binary::MoreEq => type_computed(alloc, at, op, sign, a, b),
+        Binary::And => type_computed(alloc, at, op, sign, a, b),
+        Binary::Or => type_computed(alloc, at, op, sign, a, b),
+    }
+}
+
+/// The type of an expression, where these variables are in scope. It recurses as deep as the expression.
+#[tactic(auto, using(crate::proofs::ExpressionSteps::expression_steps))]
+pub fn type_expr(
+    alloc: Global,
+    program: &Program,
+    own: Option<u32>,
+    scope: &Table<Variable>,
+    e: &Expr,
+) -> Result<TypedExpr, FrontError>
+    ensures value { Gives result (typed_expr program.now own scope.now e.now) }
+{
+    match &e.form {
+        ExprForm::Num(n) => Ok(expression(e.span, Some(Kind::Int), TypedForm::Num(*n))),
+        ExprForm::Null => Ok(expression(e.span, None, TypedForm::Null)),
+        ExprForm::Var(name) => type_variable(scope, e.span, name),
+        ExprForm::Own => type_own(e.span, own),
+        ExprForm::Unary(op, a) => {
+            let a = type_expr(alloc, program, own, scope, a.get())?;
+            type_unary(alloc, e.span, *op, a)
+        }
+        ExprForm::Binary(op, sign, a, b) => {
+            let a = type_expr(alloc, program, own, scope, a.get())?;
+            let b = type_expr(alloc, program, own, scope, b.get())?;
+            type_binary(alloc, e.span, *op, *sign, a, b)
+        }
+        ExprForm::Field(a, name) => {
+            let a = type_expr(alloc, program, own, scope, a.get())?;
+            type_field(alloc, &program.structs, e.span, name, a)
+        }
+        ExprForm::Address(operand) => match &operand.get().form {
+            ExprForm::Field(a, name) => {
+                let a = type_expr(alloc, program, own, scope, a.get())?;
+                type_address(alloc, &program.structs, e.span, name, a)
+            }
+            _ => {
+                let a = type_expr(alloc, program, own, scope, operand.get())?;
+                Err(fault(FaultCode::T3, a.span))
+            }
+        },
+    }
+}
