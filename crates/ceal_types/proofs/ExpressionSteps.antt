@@ -9,7 +9,7 @@ use Rattle.ceal_base.specs.declared.operators.Binary.{Binary as BinaryOp}
 use Rattle.ceal_base.specs.declared.operators.Unary.{Unary as UnaryOp}
 use Rattle.ceal_base.specs.declared.syntax.Expr.{Expr}
 use Rattle.ceal_base.specs.declared.syntax.ExprForm.{ExprForm, Num, Null, Var, Own, Unary', Binary', Field', Address', out-ExprForm}
-use Rattle.ceal_base.specs.declared.syntax.ExprForm.TheBlock.{hidden-the_row-Expr-0, shape-the_row-Expr-0, Row_of-Expr, end_of-Expr, more_of-Expr}
+use Rattle.ceal_base.specs.declared.syntax.ExprForm.TheBlock.{hidden-the_row-Expr-0, shape-the_row-Expr-0, shown-the_row-Expr-0, Row_of-Expr, end_of-Expr, more_of-Expr}
 use Rattle.ceal_base.specs.declared.syntax.ExprForm.TheViews.{Unary, Binary, Field, Address}
 use Rattle.ceal_base.specs.declared.syntax.Ident.{Ident}
 use Rattle.ceal_base.specs.declared.typed.TypedExpr.{TypedExpr}
@@ -56,7 +56,7 @@ module _ (p : Program) (own : Option ℕ) (scope : Scope) (at : Span) where
 
   type-address-form : (span : Span) (form : ExprForm) → typed_form p own scope at (Address (record { span = span; form = form }))
       ≡ addressed p own scope at (record { span = span; form = form }) (access_of (out-ExprForm form))
-  unfolding typed_form hidden-the_row-Expr-0 shape-the_row-Expr-0 denote.Hole.Carrier.hidden denote.Hole.Carrier.out out-ExprForm
+  unfolding typed_form hidden-the_row-Expr-0 shape-the_row-Expr-0 denote.Hole.Carrier.hidden denote.Hole.Carrier.out out-ExprForm shown-the_row-Expr-0 denote.Hole.Carrier.shown
   type-address-form span (Num n) = refl
   type-address-form span Null = refl
   type-address-form span (Var name) = refl

@@ -4,10 +4,10 @@ use Rattle.ceal_types.proofs.expressions.+type_expr.Goals as goal
 
 pub returns-in_err-a-in-Field-form : goal.returns-in_err-a-in-Field-form
 returns-in_err-a-in-Field-form t c =
-    let e = type-place c.args.program.now c.args.own c.args.scope.now c.args.e.now.span c.in-Address.operand c.in-Field-form.a c.in-Field-form.name c.in-Field-form.is in
+    let e = type-place c.args.program.now c.args.own c.args.scope.now c.args.e.now.span c.in-Address.operand c.in-Field-form.a c.in-Field-form.name (rw c.get-in-Address.ensures.value at c.in-Field-form.is) in
     grind arith
 
 pub returns-in_ok-a-in-Field-form : goal.returns-in_ok-a-in-Field-form
 returns-in_ok-a-in-Field-form t c =
-    let e = type-place c.args.program.now c.args.own c.args.scope.now c.args.e.now.span c.in-Address.operand c.in-Field-form.a c.in-Field-form.name c.in-Field-form.is in
+    let e = type-place c.args.program.now c.args.own c.args.scope.now c.args.e.now.span c.in-Address.operand c.in-Field-form.a c.in-Field-form.name (rw c.get-in-Address.ensures.value at c.in-Field-form.is) in
     grind arith
