@@ -13,7 +13,7 @@ use Rattle.ceal_base.specs.declared.typed.Typed.{Typed}
 use Rattle.ceal_base.specs.declared.typed.TypedFunction.{TypedFunction}
 use Rattle.ceal_types.specs.Expressions.{Fields}
 use Rattle.ceal_types.specs.Heads.{head_of, heads}
-use Rattle.ceal_types.specs.Statements.{Block, opened, typed_stmts}
+use Rattle.ceal_types.specs.Statements.{Block, nested, typed_stmts}
 use Rattle.ceal_types.specs.Tables.{Name}
 use Rattle.ceal_types.specs.Walk.{after, mapped, in_turn, at_end}
 use Rattle.ceal_types.specs.declared.program.Head.{Head}
@@ -30,7 +30,7 @@ function_of f head block = record {
 }
 
 abbrev pub function_body : Program → FunctionDecl → Head → Result TypedFunction Fault
-function_body p f head = mapped (function_of f head) (typed_stmts p head.own f.body (opened head.parameters))
+function_body p f head = mapped (function_of f head) (nested (typed_stmts p head.own f.body) head.parameters)
 
 -- a function: its body, where its parameters are in scope
 unfoldable pub typed_function : Program → FunctionDecl → Result TypedFunction Fault

@@ -106,11 +106,15 @@ with_entry (Function f) p =
     if has p.functions f.name.text then fault N2 f.name.span
     else mapped (with_function p f.name.text) (head_of p.names f)
 
+-- the names of structs with this one, each of them once
+abbrev pub with_struct_name : Entry → List Name → List Name
+with_struct_name (Struct s) names = with_name names s.name.text
+with_struct_name (Function f) names = names
+
 -- the names of all structs, which may be used before they are defined
 unfoldable pub struct_names : List Entry → List Name → List Name
 struct_names [] names = names
-struct_names (Struct s ∷ rest) names = struct_names rest (with_name names s.name.text)
-struct_names (Function f ∷ rest) names = struct_names rest names
+struct_names (e ∷ rest) names = struct_names rest (with_struct_name e names)
 
 abbrev pub no_entries : List Name → Program
 no_entries names = record { names = names; structs = []; functions = [] }

@@ -1,5 +1,6 @@
 pub mod Tables
 pub mod Walk
+pub mod States
 pub mod Kinds
 pub mod Heads
 pub mod Expressions

@@ -112,8 +112,11 @@ pub record Block : Type 0 where
 abbrev pub step : TypedStmt → Variables → Step
 step s v = record { stmt = s; variables = v }
 
+abbrev pub block : List TypedStmt → Variables → Block
+block stmts v = record { stmts = stmts; variables = v }
+
 abbrev pub opened : Variables → Block
-opened v = record { stmts = []; variables = v }
+opened v = block [] v
 
 abbrev pub with_step : Block → Step → Block
 with_step b s = record { stmts = b.stmts ++ s.stmt ∷ []; variables = s.variables }
@@ -135,46 +138,66 @@ declare p own at name value v kind =
     if has v.scope name.text then fault N2 name.span
     else mapped (declaration at name kind v) (typed_value p own v.scope kind value)
 
-abbrev pub assignment : Ident → Variables → ℕ → TypedValue → Step
-assignment name v n value = step (AssignTyped name.span n value) v
+abbrev pub assignment : Ident → ℕ → TypedValue → TypedStmt
+assignment name n value = AssignTyped name.span n value
 
-abbrev pub assign : Program → Option ℕ → Ident → Value → Variables → Option Variable → Result Step Fault
-assign p own name value v None = fault N1 name.span
-assign p own name value v (Some x) = mapped (assignment name v x.number) (typed_value p own v.scope x.kind value)
+abbrev pub assigned : Program → Option ℕ → Ident → Value → Scope → Option Variable → Result TypedStmt Fault
+assigned p own name value scope None = fault N1 name.span
+assigned p own name value scope (Some x) = mapped (assignment name x.number) (typed_value p own scope x.kind value)
+
+abbrev pub assign : Program → Option ℕ → Scope → Ident → Value → Result TypedStmt Fault
+assign p own scope name value = assigned p own name value scope (lookup (bytes_eq name.text) scope)
+
+-- the type of a field that may be assigned, a plain one
+abbrev pub plain_kind : Ident → FieldKind → Result Kind Fault
+plain_kind name (PlainField kind) = Ok kind
+plain_kind name CellInt = fault T1 name.span
+plain_kind name (CellPtr t) = fault T1 name.span
 
 -- a field assignment: what stands left of the last `->`, the field, and the value
-abbrev pub set_value : Span → Variables → TypedExpr → ℕ → ℕ → Kind → TypedExpr → Result Step Fault
-set_value at v left s field kind e = if suits kind e.kind then Ok (step (SetTyped at left s field e) v) else fault T1 e.span
+abbrev pub set_suited : Span → TypedExpr → Member → Kind → TypedExpr → Result TypedStmt Fault
+set_suited at left m kind e = if suits kind e.kind then Ok (SetTyped at left m.shape m.field e) else fault T1 e.span
 
-abbrev pub set_kind : Program → Option ℕ → Span → Ident → Expr → Variables → TypedExpr → ℕ → ℕ → FieldKind → Result Step Fault
-set_kind p own at name e v left s field (PlainField kind) = after (set_value at v left s field kind) (typed_expr p own v.scope e)
-set_kind p own at name e v left s field CellInt = fault T1 name.span
-set_kind p own at name e v left s field (CellPtr t) = fault T1 name.span
+abbrev pub set_value : Program → Option ℕ → Scope → Span → Expr → TypedExpr → Member → Kind → Result TypedStmt Fault
+set_value p own scope at e left m kind = after (set_suited at left m kind) (typed_expr p own scope e)
 
-abbrev pub set_member : Program → Option ℕ → Span → Ident → Expr → Variables → TypedExpr → Member → Result Step Fault
-set_member p own at name e v left m = set_kind p own at name e v left m.shape m.field m.kind
+abbrev pub set_member : Program → Option ℕ → Scope → Span → Ident → Expr → TypedExpr → Member → Result TypedStmt Fault
+set_member p own scope at name e left m = after (set_value p own scope at e left m) (plain_kind name m.kind)
 
-abbrev pub set_field : Program → Option ℕ → Span → Ident → Expr → Variables → TypedExpr → Result Step Fault
-set_field p own at name e v left = after (set_member p own at name e v left) (member p.structs name left)
+abbrev pub set_left : Program → Option ℕ → Scope → Span → Ident → Expr → TypedExpr → Result TypedStmt Fault
+set_left p own scope at name e left = after (set_member p own scope at name e left) (member p.structs name left)
+
+abbrev pub set_field : Program → Option ℕ → Scope → Span → Expr → Ident → Expr → Result TypedStmt Fault
+set_field p own scope at left name e = after (set_left p own scope at name e) (typed_expr p own scope left)
 
 -- a `write`: both operands, and then their types
-abbrev pub write_held : Span → Variables → TypedExpr → TypedExpr → Option Kind → Result Step Fault
-write_held at v place e None = fault T3 place.span
-write_held at v place e (Some kind) = if suits kind e.kind then Ok (step (WriteTyped at place e) v) else fault T1 e.span
+abbrev pub write_held : Span → TypedExpr → TypedExpr → Option Kind → Result TypedStmt Fault
+write_held at place e None = fault T3 place.span
+write_held at place e (Some kind) = if suits kind e.kind then Ok (WriteTyped at place e) else fault T1 e.span
 
-abbrev pub write : Span → Variables → TypedExpr → TypedExpr → Result Step Fault
-write at v place e = write_held at v place e (kind_held place.kind)
+abbrev pub written : Span → TypedExpr → TypedExpr → Result TypedStmt Fault
+written at place e = write_held at place e (kind_held place.kind)
+
+abbrev pub write : Program → Option ℕ → Scope → Span → Expr → Expr → Result TypedStmt Fault
+write p own scope at place e = both (written at) (typed_expr p own scope place) (typed_expr p own scope e)
 
 -- a call: the name, the arguments, and then their number and types
-abbrev pub called : Ident → Variables → ℕ → List TypedExpr → Unit {0} → Step
-called name v n es u = step (CallTyped name.span n es) v
+abbrev pub call_of : Ident → ℕ → List TypedExpr → Unit {0} → TypedStmt
+call_of name n es u = CallTyped name.span n es
 
-abbrev pub call_of : Ident → Variables → ℕ × Head → List TypedExpr → Result Step Fault
-call_of name v f es = mapped (called name v f.0 es) (call_suits name f.1 es)
+abbrev pub call_checked : Ident → ℕ × Head → List TypedExpr → Result TypedStmt Fault
+call_checked name f es = mapped (call_of name f.0 es) (call_suits name f.1 es)
 
-abbrev pub call : Program → Option ℕ → Ident → List Expr → Variables → Option (ℕ × Head) → Result Step Fault
-call p own name args v None = fault N1 name.span
-call p own name args v (Some f) = after (call_of name v f) (typed_exprs p own v.scope args)
+abbrev pub called : Program → Option ℕ → Scope → Ident → List Expr → Option (ℕ × Head) → Result TypedStmt Fault
+called p own scope name args None = fault N1 name.span
+called p own scope name args (Some f) = after (call_checked name f) (typed_exprs p own scope args)
+
+abbrev pub call : Program → Option ℕ → Scope → Ident → List Expr → Result TypedStmt Fault
+call p own scope name args = called p own scope name args (find p.functions name.text)
+
+-- a statement that declares nothing leaves the variables as they are
+abbrev pub still : Variables → TypedStmt → Step
+still v s = step s v
 
 -- an `if`: the condition, and then both parts
 abbrev pub chosen : Span → TypedExpr → Block → Block → Step
@@ -197,10 +220,10 @@ loop at body v test = mapped (looped at test) (body v)
 unfoldable mutual
   pub typed_stmt : Program → Option ℕ → Stmt → Variables → Result Step Fault
   typed_stmt p own (Declare at form name value) v = after (declare p own at name value v) (kind_of p.names form)
-  typed_stmt p own (Assign name value) v = assign p own name value v (lookup (bytes_eq name.text) v.scope)
-  typed_stmt p own (SetField at left name e) v = after (set_field p own at name e v) (typed_expr p own v.scope left)
-  typed_stmt p own (Write at place e) v = both (write at v) (typed_expr p own v.scope place) (typed_expr p own v.scope e)
-  typed_stmt p own (Call name args) v = call p own name args v (find p.functions name.text)
+  typed_stmt p own (Assign name value) v = mapped (still v) (assign p own v.scope name value)
+  typed_stmt p own (SetField at left name e) v = mapped (still v) (set_field p own v.scope at left name e)
+  typed_stmt p own (Write at place e) v = mapped (still v) (write p own v.scope at place e)
+  typed_stmt p own (Call name args) v = mapped (still v) (call p own v.scope name args)
   typed_stmt p own (If' at test _ first _ second) v =
       after (branch at (nested (typed_row p own first)) (nested (typed_row p own second)) v) (condition p own v.scope test)
   typed_stmt p own (While' at test _ body) v = after (loop at (nested (typed_row p own body)) v) (condition p own v.scope test)

@@ -2,8 +2,11 @@
 #![tactic(auto)]
 
 mod expressions;
+mod heads;
 mod kinds;
 mod members;
 pub mod names;
 pub mod program;
+mod statements;
 pub mod table;
+mod values;

@@ -1,0 +1,252 @@
+// The heads of entries.
+
+ghost use Rattle.std.specs.Prelude.{◌≡◌, ◌∷◌, [], ℕ, Ok, length, false, IfOk, OnOk};
+ghost use Rattle.ceal_base.specs.Answers.{Gives};
+ghost use Rattle.ceal_types.specs.States.{Leads};
+ghost use Rattle.ceal_types.specs.Tables.{has};
+ghost use Rattle.ceal_types.specs.Walk.{in_turn, mapped, fault as refused};
+ghost use Rattle.ceal_types.specs.Heads as rules;
+
+use crate::members::fault;
+use crate::names::Names;
+use crate::program::{Head, Program, Variable, Variables};
+use crate::table::Table;
+use ceal_base::fault::{FaultCode, FrontError};
+use ceal_base::kind::{FieldKind, Kind, Kinds};
+use ceal_base::no_memory::NoMemory;
+use ceal_base::syntax::{Entry, FieldDecl, FunctionDecl, Ident, StructDecl, TypeForm};
+use ceal_base::text::Text;
+use std::alloc::Global;
+
+/// The number of the struct of this name.
+pub fn struct_number(names: &Names, name: &Ident) -> Result<u32, FrontError>
+    ensures value { Gives result (rules.struct_number names.now name.now) }
+{
+    match names.number(&name.text) {
+        Some(number) => Ok(number),
+        None => Err(fault(FaultCode::N1, name.span)),
+    }
+}
+
+/// The type of a variable.
+pub fn kind_of(names: &Names, form: &TypeForm) -> Result<Kind, FrontError>
+    ensures value { Gives result (rules.kind_of names.now form.now) }
+{
+    match form {
+        TypeForm::Int => Ok(Kind::Int),
+        TypeForm::Ptr(name) => Ok(Kind::Ptr(struct_number(names, name)?)),
+        TypeForm::ModInt => Ok(Kind::ModInt),
+        TypeForm::ModPtr(name) => Ok(Kind::ModPtr(struct_number(names, name)?)),
+        TypeForm::CellInt => Ok(Kind::ModInt),
+        TypeForm::CellPtr(name) => Ok(Kind::ModPtr(struct_number(names, name)?)),
+    }
+}
+
+fn field_kind_of(names: &Names, form: &TypeForm) -> Result<FieldKind, FrontError>
+    ensures { Gives result (rules.field_kind_of names.now form.now) }
+{
+    match form {
+        TypeForm::Int => Ok(FieldKind::Plain(Kind::Int)),
+        TypeForm::Ptr(name) => Ok(FieldKind::Plain(Kind::Ptr(struct_number(names, name)?))),
+        TypeForm::ModInt => Ok(FieldKind::Plain(Kind::ModInt)),
+        TypeForm::ModPtr(name) => Ok(FieldKind::Plain(Kind::ModPtr(struct_number(names, name)?))),
+        TypeForm::CellInt => Ok(FieldKind::CellInt),
+        TypeForm::CellPtr(name) => Ok(FieldKind::CellPtr(struct_number(names, name)?)),
+    }
+}
+
+fn new_field(
+    fields: &mut Table<FieldKind>,
+    name: &Ident,
+    kind: FieldKind,
+) -> Result<(), FrontError>
+    ensures { Leads result fields.new (rules.new_field name.now fields.old kind) }
+{
+    if fields.has(&name.text) {
+        return Err(fault(FaultCode::N2, name.span));
+    }
+    fields.add(&name.text, kind)?;
+    Ok(())
+}
+
+#[tactic(auto, unfolding(crate::specs::Heads::with_field))]
+fn add_field(
+    names: &Names,
+    fields: &mut Table<FieldKind>,
+    field: &FieldDecl,
+) -> Result<(), FrontError>
+    ensures { Leads result fields.new (rules.with_field names.now field.now fields.old) }
+{
+    let kind = field_kind_of(names, &field.form)?;
+    new_field(fields, &field.name, kind)
+}
+
+fn fields_of(
+    alloc: Global,
+    names: &Names,
+    fields: &[FieldDecl],
+) -> Result<Table<FieldKind>, FrontError>
+    ensures { Gives result (in_turn (rules.with_field names.now) fields.now []) }
+{
+    let mut table = Table::new(alloc);
+    for field in fields {
+        add_field(names, &mut table, field)?;
+    }
+    Ok(table)
+}
+
+/// Brings a new variable into scope, and gives its number. There may be fewer than 2^32 variables.
+pub fn add_variable(variables: &mut Variables, name: &Text, kind: Kind) -> Result<u32, NoMemory>
+    requires { has variables.old.scope name.now ≡ false }
+    ensures state { OnOk result (variables.new ≡ rules.with_variable variables.old name.now kind) }
+    ensures number { IfOk result (λ n. n ≡ length variables.old.kinds) }
+{
+    let count = variables.kinds.items().len();
+    if count > 4294967295 {
+        return Err(NoMemory);
+    }
+    let number = count as u32;
+    variables.scope.add(name, Variable { number, kind })?;
+    variables.kinds.push(kind)?;
+    Ok(number)
+}
+
+fn new_parameter(variables: &mut Variables, name: &Ident, kind: Kind) -> Result<(), FrontError>
+    ensures { Leads result variables.new (rules.new_parameter name.now variables.old kind) }
+{
+    if variables.scope.has(&name.text) {
+        return Err(fault(FaultCode::N2, name.span));
+    }
+    add_variable(variables, &name.text, kind)?;
+    Ok(())
+}
+
+#[tactic(auto, unfolding(crate::specs::Heads::with_parameter))]
+fn add_parameter(
+    names: &Names,
+    variables: &mut Variables,
+    parameter: &FieldDecl,
+) -> Result<(), FrontError>
+    ensures { Leads result variables.new (rules.with_parameter names.now parameter.now variables.old) }
+{
+    let kind = kind_of(names, &parameter.form)?;
+    new_parameter(variables, &parameter.name, kind)
+}
+
+fn parameters_of(
+    alloc: Global,
+    names: &Names,
+    parameters: &[FieldDecl],
+) -> Result<Variables, FrontError>
+    ensures { Gives result (in_turn (rules.with_parameter names.now) parameters.now rules.no_variables) }
+{
+    let mut variables = Variables {
+        scope: Table::new(alloc),
+        kinds: Kinds::new(Vec::new(alloc)),
+    };
+    for parameter in parameters {
+        add_parameter(names, &mut variables, parameter)?;
+    }
+    Ok(variables)
+}
+
+fn own_of(names: &Names, initialiser: &Option<Ident>) -> Result<Option<u32>, FrontError>
+    ensures { Gives result (rules.own_of names.now initialiser.now) }
+{
+    match initialiser {
+        None => Ok(None),
+        Some(name) => Ok(Some(struct_number(names, name)?)),
+    }
+}
+
+/// A function's head.
+#[tactic(auto, unfolding(crate::specs::Heads::head_of))]
+pub fn head_of(
+    alloc: Global,
+    names: &Names,
+    function: &FunctionDecl,
+) -> Result<Head, FrontError>
+    ensures value { Gives result (rules.head_of names.now function.now) }
+{
+    let own = own_of(names, &function.initialiser)?;
+    let parameters = parameters_of(alloc, names, function.params.items())?;
+    Ok(Head { own, parameters })
+}
+
+#[tactic(auto, unfolding(crate::specs::Heads::with_entry))]
+fn add_struct(
+    alloc: Global,
+    program: &mut Program,
+    structure: &StructDecl,
+) -> Result<(), FrontError>
+    ensures { Leads result program.new (rules.with_entry (Entry.Struct structure.now) program.old) }
+{
+    let name = &structure.name;
+    if program.structs.has(&name.text) {
+        return Err(fault(FaultCode::N2, name.span));
+    }
+    let fields = fields_of(alloc, &program.names, structure.fields.items())?;
+    program.structs.add(&name.text, fields)?;
+    Ok(())
+}
+
+#[tactic(auto, unfolding(crate::specs::Heads::with_entry))]
+fn add_function(
+    alloc: Global,
+    program: &mut Program,
+    function: &FunctionDecl,
+) -> Result<(), FrontError>
+    ensures { Leads result program.new (rules.with_entry (Entry.Function function.now) program.old) }
+{
+    let name = &function.name;
+    if program.functions.has(&name.text) {
+        return Err(fault(FaultCode::N2, name.span));
+    }
+    let head = head_of(alloc, &program.names, function)?;
+    program.functions.add(&name.text, head)?;
+    Ok(())
+}
+
+fn add_entry(alloc: Global, program: &mut Program, entry: &Entry) -> Result<(), FrontError>
+    ensures { Leads result program.new (rules.with_entry entry.now program.old) }
+{
+    match entry {
+        Entry::Struct(structure) => add_struct(alloc, program, structure),
+        Entry::Function(function) => add_function(alloc, program, function),
+    }
+}
+
+fn add_name(names: &mut Names, entry: &Entry) -> Result<(), NoMemory>
+    ensures { OnOk result (names.new ≡ rules.with_struct_name entry.now names.old) }
+{
+    match entry {
+        Entry::Struct(structure) => names.add(&structure.name.text),
+        Entry::Function(_) => Ok(()),
+    }
+}
+
+fn struct_names(alloc: Global, entries: &[Entry]) -> Result<Names, NoMemory>
+    ensures { IfOk result (λ names. names ≡ rules.struct_names entries.now []) }
+{
+    let mut names = Names::new(alloc);
+    for entry in entries {
+        add_name(&mut names, entry)?;
+    }
+    Ok(names)
+}
+
+/// The heads of all entries, or the first fault in them.
+#[tactic(auto, unfolding(crate::specs::Heads::heads))]
+pub fn heads(alloc: Global, entries: &[Entry]) -> Result<Program, FrontError>
+    ensures value { Gives result (rules.heads entries.now) }
+{
+    let mut program = Program {
+        names: struct_names(alloc, entries)?,
+        structs: Table::new(alloc),
+        functions: Table::new(alloc),
+    };
+    for entry in entries {
+        add_entry(alloc, &mut program, entry)?;
+    }
+    Ok(program)
+}
