@@ -1,6 +1,7 @@
 pub mod TableLemmas
 pub mod ExpressionSteps
 pub mod TurnLemmas
+pub mod TakeLemmas
 pub mod StatementSteps
 pub mod ArgumentLemmas
 pub mod NameLemmas

@@ -23,7 +23,7 @@ module _ (p : Program) (own : Option ℕ) where
   pub row-list : (xs : List Stmt) (b : Block) → typed_row p own (hidden-the_row-Stmt-0 xs) b ≡ typed_stmts p own xs b
   unfolding typed_stmt in_turn hidden-the_row-Stmt-0 shape-the_row-Stmt-0 denote.Hole.Carrier.hidden
   row-list [] b = refl
-  row-list (s ∷ xs) b = ?
+  row-list (s ∷ xs) b = λ i. after (λ rest. row-list xs rest i) (mapped (with_step b) (typed_stmt p own s b.variables))
 
 module _ (p : Program) (own : Option ℕ) (v : Variables) where
   pub stmt-declare : (at : Span) (form : TypeForm) (name : Ident) (value : Value)
@@ -52,12 +52,13 @@ module _ (p : Program) (own : Option ℕ) (v : Variables) where
       → typed_stmt p own (If at test first second) v
       ≡ after (branch at (nested (typed_stmts p own first)) (nested (typed_stmts p own second)) v) (condition p own v.scope test)
   unfolding typed_stmt
-  stmt-if at test first second = ?
+  stmt-if at test first second = λ i. after
+      (branch at (nested (λ b. row-list p own first b i)) (nested (λ b. row-list p own second b i)) v) (condition p own v.scope test)
 
   pub stmt-while : (at : Span) (test : Expr) (body : List Stmt)
       → typed_stmt p own (While at test body) v ≡ after (loop at (nested (typed_stmts p own body)) v) (condition p own v.scope test)
   unfolding typed_stmt
-  stmt-while at test body = ?
+  stmt-while at test body = λ i. after (loop at (nested (λ b. row-list p own body b i)) v) (condition p own v.scope test)
 
   pub stmt-return : (at : Span) → typed_stmt p own (Return at) v ≡ Ok (step (ReturnTyped at) v)
   unfolding typed_stmt

@@ -1,6 +1,7 @@
 //! Names and types.
 #![tactic(auto)]
 
+pub mod check;
 mod expressions;
 mod heads;
 mod kinds;

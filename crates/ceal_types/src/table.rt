@@ -1,6 +1,6 @@
 // What stands under a name.
 
-ghost use Rattle.std.specs.Prelude.{◌≡◌, ◌++◌, ◌∷◌, [], Bool, ℕ, Option, List, length, take, is_some, OnOk, false};
+ghost use Rattle.std.specs.Prelude.{◌≡◌, ◌<◌, ◌++◌, Some, ◌∷◌, [], Bool, ℕ, Option, List, length, take, slice_get, is_some, OnOk, false};
 ghost use Rattle.std.specs.Map.{lookup};
 ghost use Rattle.std.specs.Option.{option_map};
 ghost use Rattle.std.specs.Str.{bytes_eq};
@@ -65,6 +65,14 @@ impl<V> Table<V> {
         ensures value { option_map (λ v. v.now) result ≡ lookup (bytes_eq name.now) self.now }
     {
         self.entries.get(name)
+    }
+
+    /// The name of this number, and what stands under it.
+    pub fn entry(&self, number: usize) -> (&Text, &V)
+        requires { number < length self.now }
+        ensures entry { slice_get self.now number ≡ Some (result.0.now, result.1.now) }
+    {
+        self.entries.get_index(number).unwrap()
     }
 
     /// What stands at a number.

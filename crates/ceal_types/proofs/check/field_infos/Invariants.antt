@@ -1,0 +1,6 @@
+use Rattle.std.proofs.Common.{◌≡◌, take, map}
+use Rattle.ceal_types.specs.Checked.{field_info}
+use Rattle.ceal_types.proofs.check.field_infos.Given as goal
+
+abbrev pub invariant-loop-i : goal.invariant-loop-i
+invariant-loop-i l = l.infos ≡ map field_info (take l.i l.fields)

@@ -1,0 +1,137 @@
+// The check of a whole program.
+
+ghost use Rattle.std.specs.Prelude.{◌≡◌, [], Ok, length, map, IfOk};
+ghost use Rattle.ceal_base.specs.Answers.{Gives};
+ghost use Rattle.ceal_types.specs.Checked.{checked, field_info, struct_info, typed_function, with_body};
+ghost use Rattle.ceal_types.specs.States.{Leads};
+ghost use Rattle.ceal_types.specs.Walk.{in_turn};
+
+use crate::heads::{head_of, heads};
+use crate::program::Program;
+use crate::statements::type_block;
+use crate::table::Table;
+use ceal_base::fault::FrontError;
+use ceal_base::items::Items;
+use ceal_base::kind::FieldKind;
+use ceal_base::no_memory::NoMemory;
+use ceal_base::syntax::{Entry, FunctionDecl, Ident, Tree};
+use ceal_base::typed::{FieldInfo, StructInfo, Typed, TypedFunction};
+use std::alloc::Global;
+
+/// A number of variables, as there may be fewer than 2^32.
+fn count(n: usize) -> Result<u32, NoMemory>
+    ensures { IfOk result (λ c. c ≡ n) }
+{
+    if n > 4294967295 {
+        return Err(NoMemory);
+    }
+    Ok(n as u32)
+}
+
+fn copied_name(name: &Ident) -> Result<Ident, NoMemory>
+    ensures { IfOk result (λ n. n ≡ name.now) }
+{
+    let text = name.text.copy()?;
+    Ok(Ident {
+        text,
+        span: name.span,
+    })
+}
+
+/// A function: its head, and then its body.
+#[tactic(auto, unfolding(crate::specs::Checked::typed_function))]
+fn type_function(
+    alloc: Global,
+    program: &Program,
+    function: &FunctionDecl,
+) -> Result<TypedFunction, FrontError>
+    ensures { Gives result (typed_function program.now function.now) }
+{
+    let head = head_of(alloc, &program.names, function)?;
+    let own = head.own;
+    let mut variables = head.parameters;
+    let params = count(variables.kinds.items().len())?;
+    let body = type_block(alloc, program, own, &mut variables, function.body.items())?;
+    Ok(TypedFunction {
+        initialiser: own,
+        name: copied_name(&function.name)?,
+        params,
+        kinds: variables.kinds,
+        body,
+        close: function.close,
+    })
+}
+
+#[tactic(auto, unfolding(crate::specs::Checked::with_body))]
+fn add_body(
+    alloc: Global,
+    program: &Program,
+    functions: &mut Items<TypedFunction>,
+    entry: &Entry,
+) -> Result<(), FrontError>
+    ensures { Leads result functions.new (with_body program.now entry.now functions.old) }
+{
+    match entry {
+        Entry::Struct(_) => Ok(()),
+        Entry::Function(function) => {
+            let function = type_function(alloc, program, function)?;
+            functions.push(function)?;
+            Ok(())
+        }
+    }
+}
+
+fn type_bodies(
+    alloc: Global,
+    program: &Program,
+    entries: &[Entry],
+) -> Result<Items<TypedFunction>, FrontError>
+    ensures { Gives result (in_turn (with_body program.now) entries.now []) }
+{
+    let mut functions = Items::empty(alloc);
+    for entry in entries {
+        add_body(alloc, program, &mut functions, entry)?;
+    }
+    Ok(functions)
+}
+
+fn field_infos(alloc: Global, fields: &Table<FieldKind>) -> Result<Items<FieldInfo>, NoMemory>
+    ensures { IfOk result (λ infos. infos ≡ map field_info fields.now) }
+{
+    let mut infos = Items::empty(alloc);
+    for i in 0..fields.len() {
+        let (name, kind) = fields.entry(i);
+        let name = name.copy()?;
+        infos.push(FieldInfo { name, kind: *kind })?;
+    }
+    Ok(infos)
+}
+
+fn struct_infos(
+    alloc: Global,
+    structs: &Table<Table<FieldKind>>,
+) -> Result<Items<StructInfo>, NoMemory>
+    ensures { IfOk result (λ infos. infos ≡ map struct_info structs.now) }
+{
+    let mut infos = Items::empty(alloc);
+    for i in 0..structs.len() {
+        let (name, fields) = structs.entry(i);
+        let name = name.copy()?;
+        let fields = field_infos(alloc, fields)?;
+        infos.push(StructInfo { name, fields })?;
+    }
+    Ok(infos)
+}
+
+/// The program's tree with names resolved, or the first of the faults N1, N2 and T1 to T5 in the order of the walk: the
+/// heads of all entries, and then the bodies of the functions.
+#[tactic(auto, unfolding(crate::specs::Checked::checked))]
+pub fn check(alloc: Global, tree: &Tree) -> Result<Typed, FrontError>
+    ensures value { Gives result (checked tree.now) }
+{
+    let entries = tree.entries.items();
+    let program = heads(alloc, entries)?;
+    let functions = type_bodies(alloc, &program, entries)?;
+    let structs = struct_infos(alloc, &program.structs)?;
+    Ok(Typed { structs, functions })
+}
