@@ -1,6 +1,9 @@
 pub mod TableLemmas
 pub mod ExpressionSteps
 pub mod TurnLemmas
+pub mod KeepLemmas
+pub mod KindLemmas
+pub mod GrowLemmas
 pub mod TakeLemmas
 pub mod StatementSteps
 pub mod ArgumentLemmas
