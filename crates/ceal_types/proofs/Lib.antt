@@ -4,6 +4,8 @@ pub mod TurnLemmas
 pub mod KeepLemmas
 pub mod KindLemmas
 pub mod GrowLemmas
+pub mod PlaceLemmas
+pub mod ExpressionTyped
 pub mod TakeLemmas
 pub mod StatementSteps
 pub mod ArgumentLemmas
