@@ -6,6 +6,8 @@ pub mod KindLemmas
 pub mod GrowLemmas
 pub mod PlaceLemmas
 pub mod ExpressionTyped
+pub mod ValueTyped
+pub mod StatementTyped
 pub mod TakeLemmas
 pub mod StatementSteps
 pub mod ArgumentLemmas

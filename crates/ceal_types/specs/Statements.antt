@@ -40,21 +40,23 @@ arguments_suit (kind ∷ kinds) (e ∷ es) = if suits kind e.kind then arguments
 arguments_suit _ _ = Ok tt
 
 -- the arguments of a call; those of an initialiser are not looked at, since the call is a fault of usage
+abbrev pub call_by_own : Option ℕ → List Kind → Ident → List TypedExpr → Result (Unit {0}) Fault
+call_by_own None kinds name es = if length es == length kinds then arguments_suit kinds es else fault T2 name.span
+call_by_own (Some s) kinds name es = Ok tt
+
 abbrev pub call_suits : Ident → Head → List TypedExpr → Result (Unit {0}) Fault
-call_suits name f es = elim f.own [
-    None ↦ if length es == length f.parameters.kinds then arguments_suit f.parameters.kinds es else fault T2 name.span
-  | Some s ↦ Ok tt
-]
+call_suits name f es = call_by_own f.own f.parameters.kinds name es
 
 -- struct and arguments of an `alloc`; those of a core function are not looked at, since that is a fault of usage
-abbrev pub alloc_suits : Ident → Ident → ℕ → Head → List TypedExpr → Result (Unit {0}) Fault
-alloc_suits structure name shape f es = elim f.own [
-    None ↦ Ok tt
-  | Some s ↦
-    if length es == length f.parameters.kinds
-    then (if s == shape then arguments_suit f.parameters.kinds es else fault T1 structure.span)
+abbrev pub alloc_by_own : Option ℕ → List Kind → Ident → Ident → ℕ → List TypedExpr → Result (Unit {0}) Fault
+alloc_by_own None kinds structure name shape es = Ok tt
+alloc_by_own (Some s) kinds structure name shape es =
+    if length es == length kinds
+    then (if s == shape then arguments_suit kinds es else fault T1 structure.span)
     else fault T2 name.span
-]
+
+abbrev pub alloc_suits : Ident → Ident → ℕ → Head → List TypedExpr → Result (Unit {0}) Fault
+alloc_suits structure name shape f es = alloc_by_own f.own f.parameters.kinds structure name shape es
 
 -- a value of this type where that type is asked, else T1 at its first token
 abbrev pub asked_for : {A : Type 0} → Kind → Kind → Span → A → Result A Fault
