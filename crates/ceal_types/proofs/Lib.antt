@@ -8,6 +8,9 @@ pub mod PlaceLemmas
 pub mod ExpressionTyped
 pub mod ValueTyped
 pub mod StatementTyped
+pub mod KindsGrow
+pub mod HeadTyped
+pub mod ProgramTyped
 pub mod TakeLemmas
 pub mod StatementSteps
 pub mod ArgumentLemmas

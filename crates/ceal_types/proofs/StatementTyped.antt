@@ -32,7 +32,7 @@ use Rattle.ceal_types.specs.Checked.{struct_info}
 use Rattle.ceal_types.specs.Expressions.{Scope, typed_expr, typed_exprs, condition, member}
 use Rattle.ceal_types.specs.Heads.{kind_of, with_variable}
 use Rattle.ceal_types.specs.Kinds.{suits}
-use Rattle.ceal_types.specs.Statements.{Step, Block, step, still, block, opened, closed, nested, with_step, declaration, declare, assignment, assigned, assign, plain_kind, set_suited, set_value, set_member, set_left, set_field, write_held, written, write, call_of, call_checked, called, call, call_suits, chosen, choose, branch, looped, loop, typed_value, typed_stmt, typed_row}
+use Rattle.ceal_types.specs.Statements.{Step, Block, step, still, block, opened, closed, nested, with_step, declaration, declare, assignment, assigned, assign, plain_kind, set_suited, set_value, set_member, set_left, set_field, write_held, written, write, call_of, call_checked, called, call, call_suits, chosen, choose, branch, looped, loop, typed_value, typed_stmt, typed_row, typed_stmts, with_stmt}
 use Rattle.ceal_types.specs.Tables.{Name, has, find, value_at}
 use Rattle.ceal_types.specs.Walk.{fault, after, mapped, both}
 use Rattle.ceal_types.specs.declared.program.Head.{Head}
@@ -42,10 +42,10 @@ use Rattle.ceal_types.specs.declared.program.Variable.{Variable}
 use Rattle.ceal_types.specs.declared.program.Variables.{Variables}
 use Rattle.ceal_types.proofs.ExpressionTyped.{around, VariableGood, ScopeGood, MemberGood, member-good, Good, expr-typed, exprs-typed, condition-typed}
 use Rattle.ceal_types.proofs.GrowLemmas.{Grows, grows-same, grows-more, grows-on, grows-get, get-last, grows-take}
-use Rattle.ceal_types.proofs.KeepLemmas.{after-keeps, mapped-keeps, both-keeps, if-keeps}
+use Rattle.ceal_types.proofs.KeepLemmas.{after-keeps, mapped-keeps, both-keeps, if-keeps, turn-keeps}
 use Rattle.ceal_types.proofs.KindLemmas.{suited}
 use Rattle.ceal_types.proofs.PlaceLemmas.{find-place}
-use Rattle.ceal_types.proofs.ValueTyped.{HeadsMatch, call-good, value-good, kind-known, weaker}
+use Rattle.ceal_types.proofs.ValueTyped.{HeadsMatch, call-good, value-good, kind-known}
 use Rattle.ceal_base.specs.WellTyped.{CallSuits, plain_kind as kind_of_plain, field_kind}
 
 -- what holds for each K of what is given, where it does
@@ -247,7 +247,7 @@ module _ (p : Program) (fs : List TypedFunction) (own : Option ℕ) (heads : Hea
     typed = h.typed;
   }
 
-  nested-good : (v : Variables) (seen : List ℕ) (walk : Block → Result Block Fault) → All (KindKnown structs) v.kinds → ScopeGood v.scope seen v.kinds
+  pub nested-good : (v : Variables) (seen : List ℕ) (walk : Block → Result Block Fault) → All (KindKnown structs) v.kinds → ScopeGood v.scope seen v.kinds
       → ((b : Block) → BlockGood v seen b → IfOk (walk b) (BlockGood v seen)) → IfOk (nested walk v) (NestedGood v seen)
   nested-good v seen walk known good keep =
       mapped-keeps (BlockGood v seen) (NestedGood v seen) (closed (length v.scope)) (walk (opened v)) (keep (opened v) (open-good v seen known good))
@@ -344,7 +344,7 @@ module _ (p : Program) (fs : List TypedFunction) (own : Option ℕ) (heads : Hea
   mutual
     unfolding typed_stmt
 
-    stmt-good : (s : Stmt) (v : Variables) (seen : List ℕ) → All (KindKnown structs) v.kinds → ScopeGood v.scope seen v.kinds
+    pub stmt-good : (s : Stmt) (v : Variables) (seen : List ℕ) → All (KindKnown structs) v.kinds → ScopeGood v.scope seen v.kinds
         → IfOk (typed_stmt p own s v) (StepGood v seen)
     stmt-good (Declare at form name value) v seen known good =
         after-keeps (KindKnown structs) (StepGood v seen) (declare p own at name value v) (kind_of p.names form) (kind-known p.names structs all form)
@@ -383,3 +383,10 @@ module _ (p : Program) (fs : List TypedFunction) (own : Option ℕ) (heads : Hea
         (mapped-keeps (StepGood b.variables (seen_through seen b.stmts)) (BlockGood v seen) (with_step b) (typed_stmt p own s b.variables)
           (stmt-good s b.variables (seen_through seen b.stmts) h.known h.good) (λ st k. push-good v seen b st h k))
         (row-good rest v seen)
+
+  -- the statements of a block one after another
+  pub stmts-good : (xs : List Stmt) (v : Variables) (seen : List ℕ) (b : Block) → BlockGood v seen b → IfOk (typed_stmts p own xs b) (BlockGood v seen)
+  stmts-good xs v seen = turn-keeps (with_stmt p own) (BlockGood v seen)
+      (λ s b h. mapped-keeps (StepGood b.variables (seen_through seen b.stmts)) (BlockGood v seen) (with_step b) (typed_stmt p own s b.variables)
+        (stmt-good s b.variables (seen_through seen b.stmts) h.known h.good) (λ st k. push-good v seen b st h k))
+      xs

@@ -31,13 +31,9 @@ use Rattle.ceal_types.specs.Walk.{fault, after, mapped}
 use Rattle.ceal_types.specs.declared.program.Head.{Head}
 use Rattle.ceal_types.specs.declared.program.Program.{Program}
 use Rattle.ceal_types.proofs.ExpressionTyped.{around, ScopeGood, Good, expr-typed, exprs-typed}
-use Rattle.ceal_types.proofs.KeepLemmas.{after-keeps, mapped-keeps, if-keeps}
+use Rattle.ceal_types.proofs.KeepLemmas.{after-keeps, mapped-keeps, if-keeps, weaken}
 use Rattle.ceal_types.proofs.KindLemmas.{suited, same-kind}
 use Rattle.ceal_types.proofs.PlaceLemmas.{find-place}
-
-pub weaker : {A : Type 0} (P Q : A → Type 0) (r : Result A Fault) → ((x : A) → P x → Q x) → IfOk r P → IfOk r Q
-weaker P Q (Ok x) keep h = keep x h
-weaker P Q (Err f) keep h = tt
 
 -- the number of a struct is that of one
 within-position : (test : Name → Bool) (names : List Name) (o : Option ℕ) → position test names ≡ o → IfSome o (λ n. n < length names)
@@ -55,7 +51,7 @@ struct-within names name =
 
 module _ (names : List Name) (structs : List StructInfo) (all : length names ≤ length structs) where
   pub struct-known : (name : Ident) → IfOk (struct_number names name) (λ n. n < length structs)
-  struct-known name = weaker (λ n. n < length names) (λ n. n < length structs) (struct_number names name) (λ n h. omega (arith, h, all)) (struct-within names name)
+  struct-known name = weaken (λ n. n < length names) (λ n. n < length structs) (struct_number names name) (λ n h. omega (arith, h, all)) (struct-within names name)
 
   -- the type that a declaration names is known
   pub kind-known : (form : TypeForm) → IfOk (kind_of names form) (KindKnown structs)
@@ -73,7 +69,7 @@ args-suit [] (e ∷ es) h = absurd (omega (arith, h))
 args-suit (kind ∷ kinds) [] h = absurd (omega (arith, h))
 args-suit (kind ∷ kinds) (e ∷ es) h =
     if-keeps (λ u. ArgsSuit (kind ∷ kinds) (e ∷ es)) (suits kind e.kind) (arguments_suit kinds es) (fault T1 e.span)
-    (λ b. weaker (λ u. ArgsSuit kinds es) (λ u. ArgsSuit (kind ∷ kinds) (e ∷ es)) (arguments_suit kinds es) (λ u r. (suited kind e.kind b, r)) (args-suit kinds es (omega (arith, h))))
+    (λ b. weaken (λ u. ArgsSuit kinds es) (λ u. ArgsSuit (kind ∷ kinds) (e ∷ es)) (arguments_suit kinds es) (λ u r. (suited kind e.kind b, r)) (args-suit kinds es (omega (arith, h))))
     (λ n. tt)
 
 -- the functions of the typed program have the heads that the walk of the heads gave
@@ -111,7 +107,7 @@ alloc-own structure name shape (Some s) kinds es =
     let P : Unit {0} → Type 0 = λ u. (s ≡ shape) × ArgsSuit kinds es in
     counted kinds es P name (if s == shape then arguments_suit kinds es else fault T1 structure.span)
     (λ same. if-keeps P (s == shape) (arguments_suit kinds es) (fault T1 structure.span)
-      (λ b. weaker (λ u. ArgsSuit kinds es) P (arguments_suit kinds es) (λ u r. ((Decides-eqb s shape).0 b, r)) (args-suit kinds es same))
+      (λ b. weaken (λ u. ArgsSuit kinds es) P (arguments_suit kinds es) (λ u r. ((Decides-eqb s shape).0 b, r)) (args-suit kinds es same))
       (λ n. tt))
 
 call-elim : (o : Option ℕ) (kinds : List Kind) (es : List TypedExpr) → CallOwn o kinds es → elim o as (λ _. Type 0) [ None ↦ ArgsSuit kinds es | Some s ↦ Unit {0} ]
@@ -138,13 +134,13 @@ module _ (fs : List TypedFunction) (n : ℕ) (f : Head) (has : HasHead fs n f) w
 
   pub call-good : (name : Ident) (es : List TypedExpr) → IfOk (call_suits name f es) (λ u. CallSuits (slice_get fs n) es)
   call-good name es =
-      weaker (λ u. CallOwn f.own f.parameters.kinds es) (λ u. CallSuits (slice_get fs n) es) (call_suits name f es)
+      weaken (λ u. CallOwn f.own f.parameters.kinds es) (λ u. CallSuits (slice_get fs n) es) (call_suits name f es)
       (λ u r. call-suits es r) (call-own name f.own f.parameters.kinds es)
 
   pub alloc-good : (structure name : Ident) (shape : ℕ) (es : List TypedExpr)
       → IfOk (alloc_suits structure name shape f es) (λ u. AllocSuits (slice_get fs n) shape es)
   alloc-good structure name shape es =
-      weaker (λ u. AllocOwn f.own f.parameters.kinds shape es) (λ u. AllocSuits (slice_get fs n) shape es)
+      weaken (λ u. AllocOwn f.own f.parameters.kinds shape es) (λ u. AllocSuits (slice_get fs n) shape es)
       (alloc_suits structure name shape f es) (λ u r. alloc-suits shape es r) (alloc-own structure name shape f.own f.parameters.kinds es)
 
 pub asked-good : {A : Type 0} (P : A → Type 0) (asked given : Kind) (at : Span) (x : A) → (asked ≡ given → P x) → IfOk (asked_for asked given at x) P

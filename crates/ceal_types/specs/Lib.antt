@@ -7,3 +7,4 @@ pub mod Expressions
 pub mod Views
 pub mod Statements
 pub mod Checked
+pub mod Limits

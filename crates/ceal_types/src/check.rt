@@ -2,6 +2,8 @@
 
 ghost use Rattle.std.specs.Prelude.{◌≡◌, [], Ok, length, map, IfOk};
 ghost use Rattle.ceal_base.specs.Answers.{Gives};
+ghost use Rattle.ceal_base.specs.WellTyped.{WellTyped};
+ghost use Rattle.ceal_types.specs.Limits.{HasShortLists};
 ghost use Rattle.ceal_types.specs.Checked.{checked, field_info, struct_info, typed_function, with_body};
 ghost use Rattle.ceal_types.specs.States.{Leads};
 ghost use Rattle.ceal_types.specs.Walk.{in_turn};
@@ -128,6 +130,7 @@ fn struct_infos(
 #[tactic(auto, unfolding(crate::specs::Checked::checked))]
 pub fn check(alloc: Global, tree: &Tree) -> Result<Typed, FrontError>
     ensures value { Gives result (checked tree.now) }
+    ensures well_typed { HasShortLists tree.now → IfOk result WellTyped }
 {
     let entries = tree.entries.items();
     let program = heads(alloc, entries)?;
