@@ -1,5 +1,5 @@
 -- The type of each form of expression.
-use Rattle.std.proofs.Common.{◌≡◌, ℕ, ℤ, Option, Some, None, Result, Ok, Err, List, [], ◌∷◌, ◌++◌, refl}
+use Rattle.std.proofs.Common.{◌≡◌, ℕ, ℤ, Option, Some, None, Result, Ok, refl}
 use Rattle.std.specs.Map.{lookup}
 use Rattle.std.specs.Str.{bytes_eq}
 use Rattle.ceal_base.specs.declared.fault.Fault.{Fault}
@@ -9,7 +9,7 @@ use Rattle.ceal_base.specs.declared.operators.Binary.{Binary as BinaryOp}
 use Rattle.ceal_base.specs.declared.operators.Unary.{Unary as UnaryOp}
 use Rattle.ceal_base.specs.declared.syntax.Expr.{Expr}
 use Rattle.ceal_base.specs.declared.syntax.ExprForm.{ExprForm, Num, Null, Var, Own, Unary', Binary', Field', Address', out-ExprForm}
-use Rattle.ceal_base.specs.declared.syntax.ExprForm.TheBlock.{hidden-the_row-Expr-0, shape-the_row-Expr-0, shown-the_row-Expr-0, Row_of-Expr, end_of-Expr, more_of-Expr}
+use Rattle.ceal_base.specs.declared.syntax.ExprForm.TheBlock.{hidden-the_row-Expr-0, shape-the_row-Expr-0, shown-the_row-Expr-0, more_of-Expr}
 use Rattle.ceal_base.specs.declared.syntax.ExprForm.TheViews.{Unary, Binary, Field, Address}
 use Rattle.ceal_base.specs.declared.syntax.Ident.{Ident}
 use Rattle.ceal_base.specs.declared.typed.TypedExpr.{TypedExpr}

@@ -1,12 +1,12 @@
 -- An expression that the walk gives is well typed.
-use Rattle.std.proofs.Common.{◌≡◌, ℕ, ◌<◌, arith, Bool, true, false, Option, Some, None, Result, Ok, Err, List, [], ◌∷◌, All, Contains, map, slice_get, length, refl, sym, ap, ◌∙◌, if◌then◌else◌}
-use Rattle.std.specs.Prelude.{IfOk, IfSome, IsSome}
+use Rattle.std.proofs.Common.{◌≡◌, ℕ, arith, true, Option, Some, None, Result, Ok, List, [], All, Contains, map, slice_get, refl, if◌then◌else◌}
+use Rattle.std.specs.Prelude.{IfOk, IfSome}
 use Rattle.std.specs.Map.{lookup}
 use Rattle.std.specs.Str.{bytes_eq}
 use Rattle.std.proofs.lemmas.Map.Entries.{All-lookup}
-use Rattle.ceal_base.specs.WellTyped.{Context, FormTyped, ExprTyped, field_kind, plain_kind, address_kind}
+use Rattle.ceal_base.specs.WellTyped.{Context, FormTyped, ExprTyped, field_kind}
 use Rattle.ceal_base.specs.declared.fault.Fault.{Fault}
-use Rattle.ceal_base.specs.declared.fault.FaultCode.TheVariants.{T1, T3, T4, T5}
+use Rattle.ceal_base.specs.declared.fault.FaultCode.TheVariants.{T1}
 use Rattle.ceal_base.specs.declared.fault.Span.{Span}
 use Rattle.ceal_base.specs.declared.kind.FieldKind.{FieldKind}
 use Rattle.ceal_base.specs.declared.kind.FieldKind.TheVariants.{Plain, CellInt, CellPtr}
@@ -25,8 +25,8 @@ use Rattle.ceal_base.specs.declared.typed.TypedFunction.{TypedFunction}
 use Rattle.ceal_types.specs.Checked.{struct_info}
 use Rattle.ceal_types.specs.Expressions.{Scope, Fields, typed_form, typed_operand, typed_expr, typed_exprs, with_expr, condition, variable_at, own_at, int_asked, unary_at, unary_of, binary_at, binary_of, compared, computed, field_named, field_of_struct, member_of, member, value_of_field, field_of, field_at, place_of_field, address_of, address_at, no_address}
 use Rattle.ceal_types.specs.Kinds.{suits, comparable}
-use Rattle.ceal_types.specs.Tables.{Name, find, second, value_at}
-use Rattle.ceal_types.specs.Walk.{fault, after, mapped, both, in_turn, at_end}
+use Rattle.ceal_types.specs.Tables.{Name, find, value_at}
+use Rattle.ceal_types.specs.Walk.{fault, after, at_end}
 use Rattle.ceal_types.specs.declared.program.Member.{Member}
 use Rattle.ceal_types.specs.declared.program.Program.{Program}
 use Rattle.ceal_types.specs.declared.program.Variable.{Variable}

@@ -1,6 +1,5 @@
 -- A list that is another one with more behind it.
-use Rattle.std.proofs.Common.{◌≡◌, ℕ, zero, suc, ◌+◌, ◌<◌, Option, Some, None, List, [], ◌∷◌, ◌++◌, length, take, slice_get, refl, sym, ap, ◌∙◌, append_assoc, arith}
-use Rattle.std.proofs.lemmas.List.{length_push}
+use Rattle.std.proofs.Common.{◌≡◌, ℕ, zero, suc, ◌+◌, Some, List, [], ◌∷◌, ◌++◌, length, take, slice_get, refl, ap, ◌∙◌, append_assoc, arith}
 
 pub record Grows {A : Type 0} (xs ys : List A) : Type 0 where
   pub more : List A

@@ -1,8 +1,8 @@
 -- The heads that the walk gives are well typed.
-use Rattle.std.proofs.Common.{◌≡◌, ℕ, suc, ◌+◌, ◌<◌, ◌≤◌, arith, Bool, true, false, Option, Some, None, Result, Ok, Err, List, [], ◌∷◌, ◌++◌, All, map, length, refl, sym, subst, ap, ◌∙◌, if◌then◌else◌}
+use Rattle.std.proofs.Common.{◌≡◌, ℕ, suc, ◌+◌, ◌<◌, ◌≤◌, arith, false, Option, Some, None, Result, Ok, Err, List, [], ◌∷◌, ◌++◌, All, map, length, refl, sym, subst, ap, ◌∙◌}
 use Rattle.std.specs.Prelude.{IfOk, IfSome}
-use Rattle.std.specs.List.{IsDistinct, list_any}
-use Rattle.std.specs.Map.{keys_of, lookup}
+use Rattle.std.specs.List.{IsDistinct}
+use Rattle.std.specs.Map.{keys_of}
 use Rattle.std.specs.Str.{bytes_eq}
 use Rattle.std.proofs.lemmas.Cmp.{nat_list_eq_equiv}
 use Rattle.std.proofs.lemmas.List.{length_push, map-append}
@@ -13,7 +13,7 @@ use Rattle.ceal_base.specs.WellTyped.{KindKnown, FieldKnown, StructTyped, name_o
 use Rattle.ceal_base.specs.declared.fault.Fault.{Fault}
 use Rattle.ceal_base.specs.declared.fault.FaultCode.TheVariants.{N2}
 use Rattle.ceal_base.specs.declared.kind.FieldKind.{FieldKind}
-use Rattle.ceal_base.specs.declared.kind.FieldKind.TheVariants.{Plain, CellInt, CellPtr}
+use Rattle.ceal_base.specs.declared.kind.FieldKind.TheVariants.{CellPtr}
 use Rattle.ceal_base.specs.declared.kind.Kind.{Kind}
 use Rattle.ceal_base.specs.declared.syntax.Entry.{Entry}
 use Rattle.ceal_base.specs.declared.syntax.Entry.TheVariants.{Struct, Function}
@@ -28,7 +28,7 @@ use Rattle.ceal_types.specs.Expressions.{Fields}
 use Rattle.ceal_types.specs.Heads.{struct_number, kind_of, plain_pointer, plain_place, field_kind_of, new_field, with_field, with_variable, new_parameter, with_parameter, own_of, no_variables, head, with_parameters, head_of, with_struct, with_function, with_entry, with_struct_name, struct_names}
 use Rattle.ceal_types.specs.Limits.{IsShort}
 use Rattle.ceal_types.specs.Tables.{Name, has, with_name}
-use Rattle.ceal_types.specs.Walk.{fault, after, mapped, in_turn}
+use Rattle.ceal_types.specs.Walk.{fault, mapped, in_turn}
 use Rattle.ceal_types.specs.declared.program.Head.{Head}
 use Rattle.ceal_types.specs.declared.program.Program.{Program}
 use Rattle.ceal_types.specs.declared.program.Variables.{Variables}
@@ -92,9 +92,9 @@ module _ (names : List Name) (structs : List StructInfo) (all : length names ≤
   fields-count decls =
       weaken (λ fields. length fields ≡ 0 + length decls) (λ fields. length fields ≡ length decls) (in_turn (with_field names) decls []) (λ fields h. omega (arith, h))
       (turn-counts (with_field names) length
-        (λ d fields. after-keeps (λ kind. Unit {0}) (λ more. length more ≡ length fields + 1) (new_field d.name fields) (field_kind_of names d.form)
-          (any-ok (field_kind_of names d.form)) (λ kind u. new-field-counts d.name fields kind))
-        decls [])
+      (λ d fields. after-keeps (λ kind. Unit {0}) (λ more. length more ≡ length fields + 1) (new_field d.name fields) (field_kind_of names d.form)
+      (any-ok (field_kind_of names d.form)) (λ kind u. new-field-counts d.name fields kind))
+      decls [])
 
   struct-typed : (name : Name) (fields : Fields) → FieldsGood fields → length fields ≤ 255 → StructTyped structs (struct_info (name, fields))
   struct-typed name fields h few = record {
@@ -121,8 +121,8 @@ module _ (names : List Name) (structs : List StructInfo) (all : length names ≤
   unfolding with_parameter
   parameters-good decls = turn-keeps (with_parameter names) ParametersGood
       (λ d v h. after-keeps (KindKnown structs) ParametersGood (new_parameter d.name v) (kind_of names d.form) (kind-known names structs all d.form)
-        (λ kind k. if-keeps ParametersGood (has v.scope d.name.text) (fault N2 d.name.span) (Ok (with_variable v d.name.text kind)) (λ b. tt)
-          (λ none. with-variable-good v d.name.text kind h k)))
+      (λ kind k. if-keeps ParametersGood (has v.scope d.name.text) (fault N2 d.name.span) (Ok (with_variable v d.name.text kind)) (λ b. tt)
+      (λ none. with-variable-good v d.name.text kind h k)))
       decls no_variables (record { known = λ k d l. absurd (omega arith); good = λ k d l. absurd (omega arith) })
 
   parameters-count : (decls : List FieldDecl) → IfOk (in_turn (with_parameter names) decls no_variables) (λ v. length v.kinds ≡ length decls)
@@ -130,10 +130,10 @@ module _ (names : List Name) (structs : List StructInfo) (all : length names ≤
   parameters-count decls =
       weaken (λ v. length v.kinds ≡ 0 + length decls) (λ v. length v.kinds ≡ length decls) (in_turn (with_parameter names) decls no_variables) (λ v h. omega (arith, h))
       (turn-counts (with_parameter names) (λ v. length v.kinds)
-        (λ d v. after-keeps (λ kind. Unit {0}) (λ more. length more.kinds ≡ length v.kinds + 1) (new_parameter d.name v) (kind_of names d.form) (any-ok (kind_of names d.form))
-          (λ kind u. if-keeps (λ more. length more.kinds ≡ length v.kinds + 1) (has v.scope d.name.text) (fault N2 d.name.span) (Ok (with_variable v d.name.text kind)) (λ b. tt)
-            (λ none. omega (arith, length_push v.kinds kind))))
-        decls no_variables)
+      (λ d v. after-keeps (λ kind. Unit {0}) (λ more. length more.kinds ≡ length v.kinds + 1) (new_parameter d.name v) (kind_of names d.form) (any-ok (kind_of names d.form))
+      (λ kind u. if-keeps (λ more. length more.kinds ≡ length v.kinds + 1) (has v.scope d.name.text) (fault N2 d.name.span) (Ok (with_variable v d.name.text kind)) (λ b. tt)
+      (λ none. omega (arith, length_push v.kinds kind))))
+      decls no_variables)
 
   -- a function's head
   pub record HeadGood (h : Head) : Type 0 where
@@ -154,8 +154,8 @@ module _ (names : List Name) (structs : List StructInfo) (all : length names ≤
   head-good f few =
       after-keeps (λ s. IfSome s Within) HeadGood (with_parameters names f.params) (own_of names f.initialiser) (own-good f.initialiser)
       (λ own o. mapped-keeps (λ v. ParametersGood v × (length v.kinds ≡ length f.params)) HeadGood (head own) (in_turn (with_parameter names) f.params no_variables)
-        (both-ok (in_turn (with_parameter names) f.params no_variables) ParametersGood (λ v. length v.kinds ≡ length f.params) (parameters-good f.params) (parameters-count f.params))
-        (λ v h. record { own = o; parameters = h.0; few = omega (arith, h.1, few) }))
+      (both-ok (in_turn (with_parameter names) f.params no_variables) ParametersGood (λ v. length v.kinds ≡ length f.params) (parameters-good f.params) (parameters-count f.params))
+      (λ v h. record { own = o; parameters = h.0; few = omega (arith, h.1, few) }))
 
   -- the entries so far
   pub record ProgramGood (p : Program) : Type 0 where
@@ -173,24 +173,24 @@ module _ (names : List Name) (structs : List StructInfo) (all : length names ≤
   entry-good (Struct s) p few h =
       let fields : IfOk (in_turn (with_field p.names) s.fields []) (λ v. FieldsGood v × (length v ≡ length s.fields)) =
       subst (λ (l : List Name). IfOk (in_turn (with_field l) s.fields []) (λ v. FieldsGood v × (length v ≡ length s.fields))) (sym h.same_names)
-        (fields-both (in_turn (with_field names) s.fields []) FieldsGood (λ v. length v ≡ length s.fields) (fields-good s.fields) (fields-count s.fields)) in
+      (fields-both (in_turn (with_field names) s.fields []) FieldsGood (λ v. length v ≡ length s.fields) (fields-good s.fields) (fields-count s.fields)) in
       if-keeps ProgramGood (has p.structs s.name.text) (fault N2 s.name.span) (mapped (with_struct p s.name.text) (in_turn (with_field p.names) s.fields [])) (λ b. tt)
       (λ none. mapped-keeps (λ v. FieldsGood v × (length v ≡ length s.fields)) ProgramGood (with_struct p s.name.text) (in_turn (with_field p.names) s.fields []) fields
-        (λ v k. record {
-          same_names = h.same_names;
-          struct_names = distinct-more p.structs s.name.text v h.struct_names none;
-          function_names = h.function_names;
-          typed = All-push (λ t. StructTyped structs (struct_info t)) p.structs (s.name.text, v) h.typed (struct-typed s.name.text v k.0 (omega (arith, k.1, few)));
-        }))
+      (λ v k. record {
+        same_names = h.same_names;
+        struct_names = distinct-more p.structs s.name.text v h.struct_names none;
+        function_names = h.function_names;
+        typed = All-push (λ t. StructTyped structs (struct_info t)) p.structs (s.name.text, v) h.typed (struct-typed s.name.text v k.0 (omega (arith, k.1, few)));
+      }))
   entry-good (Function f) p few h =
       if-keeps ProgramGood (has p.functions f.name.text) (fault N2 f.name.span) (mapped (with_function p f.name.text) (head_of p.names f)) (λ b. tt)
       (λ none. mapped-keeps (λ g. Unit {0}) ProgramGood (with_function p f.name.text) (head_of p.names f) (any-ok (head_of p.names f))
-        (λ g u. record {
-          same_names = h.same_names;
-          struct_names = h.struct_names;
-          function_names = distinct-more p.functions f.name.text g h.function_names none;
-          typed = h.typed;
-        }))
+      (λ g u. record {
+        same_names = h.same_names;
+        struct_names = h.struct_names;
+        function_names = distinct-more p.functions f.name.text g h.function_names none;
+        typed = h.typed;
+      }))
 
   pub entries-good : (entries : List Entry) → All IsShort entries → (p : Program) → ProgramGood p → IfOk (in_turn with_entry entries p) ProgramGood
   entries-good entries short = turn-keeps-each with_entry IsShort ProgramGood entry-good entries short
@@ -202,8 +202,8 @@ entry-names (Struct s) p =
     if-keeps (λ q. keys_of q.structs ≡ with_name (keys_of p.structs) s.name.text) (has p.structs s.name.text) (fault N2 s.name.span)
     (mapped (with_struct p s.name.text) (in_turn (with_field p.names) s.fields [])) (λ b. tt)
     (λ none. mapped-keeps (λ v. Unit {0}) (λ q. keys_of q.structs ≡ with_name (keys_of p.structs) s.name.text) (with_struct p s.name.text) (in_turn (with_field p.names) s.fields [])
-      (any-ok (in_turn (with_field p.names) s.fields []))
-      (λ v u. rw (map-append (λ e. e.0) p.structs ((s.name.text, v) ∷ []), ← is_some-lookup (bytes_eq s.name.text) p.structs, none) refl))
+    (any-ok (in_turn (with_field p.names) s.fields []))
+    (λ v u. rw (map-append (λ e. e.0) p.structs ((s.name.text, v) ∷ []), ← is_some-lookup (bytes_eq s.name.text) p.structs, none) refl))
 entry-names (Function f) p =
     if-keeps (λ q. keys_of q.structs ≡ keys_of p.structs) (has p.functions f.name.text) (fault N2 f.name.span) (mapped (with_function p f.name.text) (head_of p.names f)) (λ b. tt)
     (λ none. mapped-keeps (λ g. Unit {0}) (λ q. keys_of q.structs ≡ keys_of p.structs) (with_function p f.name.text) (head_of p.names f) (any-ok (head_of p.names f)) (λ g u. refl))

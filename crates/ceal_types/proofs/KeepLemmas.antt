@@ -1,5 +1,5 @@
 -- What holds of what a walk gives, where it gives no fault.
-use Rattle.std.proofs.Common.{◌≡◌, ℕ, suc, ◌+◌, ◌<◌, arith, Bool, true, false, Result, Ok, Err, List, [], ◌∷◌, All, length, refl, subst, if◌then◌else◌}
+use Rattle.std.proofs.Common.{◌≡◌, ℕ, suc, ◌+◌, arith, Bool, true, false, Result, Ok, Err, List, [], ◌∷◌, All, length, refl, subst, if◌then◌else◌}
 use Rattle.std.specs.Prelude.{IfOk}
 use Rattle.ceal_base.specs.declared.fault.Fault.{Fault}
 use Rattle.ceal_types.specs.Walk.{after, mapped, both, in_turn}

@@ -1,19 +1,16 @@
 -- A walk of statements only adds variables.
-use Rattle.std.proofs.Common.{◌≡◌, ℕ, Bool, Option, Result, Ok, Err, List, [], ◌∷◌, ◌++◌, length, refl}
+use Rattle.std.proofs.Common.{ℕ, Option, Result, List, length}
 use Rattle.std.specs.Prelude.{IfOk}
-use Rattle.std.specs.Map.{lookup}
-use Rattle.std.specs.Str.{bytes_eq}
 use Rattle.ceal_base.specs.declared.fault.Fault.{Fault}
 use Rattle.ceal_base.specs.declared.fault.FaultCode.TheVariants.{N2}
-use Rattle.ceal_base.specs.declared.kind.Kind.{Kind}
 use Rattle.ceal_base.specs.declared.syntax.Stmt.{Stmt, Declare, Assign, SetField, Write, Call, If', While', Return}
 use Rattle.ceal_base.specs.declared.syntax.Stmt.{Row_of-Stmt, end_of-Stmt, more_of-Stmt}
 use Rattle.ceal_base.specs.declared.typed.TypedStmt.{TypedStmt}
 use Rattle.ceal_types.specs.Expressions.{condition}
-use Rattle.ceal_types.specs.Heads.{kind_of, with_variable}
+use Rattle.ceal_types.specs.Heads.{kind_of}
 use Rattle.ceal_types.specs.Statements.{Step, Block, still, opened, closed, nested, with_step, with_stmt, declaration, declare, assign, set_field, write, call, chosen, choose, branch, looped, loop, typed_value, typed_stmt, typed_row, typed_stmts}
 use Rattle.ceal_types.specs.Tables.{has}
-use Rattle.ceal_types.specs.Walk.{fault, after, mapped}
+use Rattle.ceal_types.specs.Walk.{fault, mapped}
 use Rattle.ceal_types.specs.declared.program.Program.{Program}
 use Rattle.ceal_types.specs.declared.program.Variables.{Variables}
 use Rattle.ceal_types.proofs.GrowLemmas.{Grows, grows-same, grows-more, grows-on}
@@ -44,8 +41,8 @@ module _ (p : Program) (own : Option ℕ) where
     stmt-grows (Declare at form name value) v =
         after-keeps Any (StepGrows v) (declare p own at name value v) (kind_of p.names form) (any-ok (kind_of p.names form))
         (λ kind u. if-keeps (StepGrows v) (has v.scope name.text) (fault N2 name.span) (mapped (declaration at name kind v) (typed_value p own v.scope kind value)) (λ b. tt)
-          (λ b. mapped-keeps Any (StepGrows v) (declaration at name kind v) (typed_value p own v.scope kind value) (any-ok (typed_value p own v.scope kind value))
-            (λ t w. grows-more v.kinds v.kinds kind (grows-same v.kinds))))
+        (λ b. mapped-keeps Any (StepGrows v) (declaration at name kind v) (typed_value p own v.scope kind value) (any-ok (typed_value p own v.scope kind value))
+        (λ t w. grows-more v.kinds v.kinds kind (grows-same v.kinds))))
     stmt-grows (Assign name value) v = still-grows v (assign p own v.scope name value)
     stmt-grows (SetField at left name e) v = still-grows v (set_field p own v.scope at left name e)
     stmt-grows (Write at place e) v = still-grows v (write p own v.scope at place e)
@@ -53,14 +50,14 @@ module _ (p : Program) (own : Option ℕ) where
     stmt-grows (If' at test _ first _ second) v =
         after-keeps Any (StepGrows v) (branch at (nested (typed_row p own first)) (nested (typed_row p own second)) v) (condition p own v.scope test) (any-ok (condition p own v.scope test))
         (λ t u. after-keeps (BlockGrows v) (StepGrows v) (choose at t (nested (typed_row p own second))) (nested (typed_row p own first) v)
-          (nested-grows v (typed_row p own first) (row-grows first v))
-          (λ a h. mapped-keeps (BlockGrows a.variables) (StepGrows v) (chosen at t a) (nested (typed_row p own second) a.variables)
-            (nested-grows a.variables (typed_row p own second) (row-grows second a.variables))
-            (λ b k. grows-on v.kinds a.variables.kinds b.variables.kinds h k)))
+        (nested-grows v (typed_row p own first) (row-grows first v))
+        (λ a h. mapped-keeps (BlockGrows a.variables) (StepGrows v) (chosen at t a) (nested (typed_row p own second) a.variables)
+        (nested-grows a.variables (typed_row p own second) (row-grows second a.variables))
+        (λ b k. grows-on v.kinds a.variables.kinds b.variables.kinds h k)))
     stmt-grows (While' at test _ body) v =
         after-keeps Any (StepGrows v) (loop at (nested (typed_row p own body)) v) (condition p own v.scope test) (any-ok (condition p own v.scope test))
         (λ t u. mapped-keeps (BlockGrows v) (StepGrows v) (looped at t) (nested (typed_row p own body) v)
-          (nested-grows v (typed_row p own body) (row-grows body v)) (λ b h. h))
+        (nested-grows v (typed_row p own body) (row-grows body v)) (λ b h. h))
     stmt-grows (Return at) v = grows-same v.kinds
 
     row-grows : {n : _} → (row : Row_of-Stmt n) (v : Variables) (b : Block) → BlockGrows v b → IfOk (typed_row p own row b) (BlockGrows v)
@@ -68,12 +65,12 @@ module _ (p : Program) (own : Option ℕ) where
     row-grows (more_of-Stmt s rest) v b h =
         after-keeps (BlockGrows v) (BlockGrows v) (typed_row p own rest) (mapped (with_step b) (typed_stmt p own s b.variables))
         (mapped-keeps (StepGrows b.variables) (BlockGrows v) (with_step b) (typed_stmt p own s b.variables) (stmt-grows s b.variables)
-          (λ st k. grows-on v.kinds b.variables.kinds st.variables.kinds h k))
+        (λ st k. grows-on v.kinds b.variables.kinds st.variables.kinds h k))
         (row-grows rest v)
 
   -- the body of a function
   pub body-grows : (xs : List Stmt) (v : Variables) → IfOk (nested (typed_stmts p own xs) v) (BlockGrows v)
   body-grows xs v = nested-grows v (typed_stmts p own xs) (turn-keeps (with_stmt p own) (BlockGrows v)
       (λ s b h. mapped-keeps (StepGrows b.variables) (BlockGrows v) (with_step b) (typed_stmt p own s b.variables) (stmt-grows s b.variables)
-        (λ st k. grows-on v.kinds b.variables.kinds st.variables.kinds h k))
+      (λ st k. grows-on v.kinds b.variables.kinds st.variables.kinds h k))
       xs)

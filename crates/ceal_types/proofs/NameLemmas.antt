@@ -1,5 +1,5 @@
 -- The names of the structs from one entry on.
-use Rattle.std.proofs.Common.{◌≡◌, ℕ, suc, ◌+◌, ◌<◌, ◌≤◌, List, [], ◌∷◌, length, drop, drop-cons, drop_of_length-le, get_or, refl, sym, ◌∙◌, add-one}
+use Rattle.std.proofs.Common.{◌≡◌, ℕ, ◌+◌, ◌<◌, ◌≤◌, List, length, drop, drop-cons, drop_of_length-le, get_or, refl, sym, ◌∙◌, add-one}
 use Rattle.ceal_base.specs.declared.syntax.Entry.{Entry}
 use Rattle.ceal_types.specs.Heads.{struct_names, with_struct_name}
 use Rattle.ceal_types.specs.Tables.{Name}

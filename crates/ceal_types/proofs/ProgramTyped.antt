@@ -1,14 +1,13 @@
 -- A program that the walk gives is well typed.
-use Rattle.std.proofs.Common.{◌≡◌, ℕ, suc, ◌+◌, ◌<◌, ◌≤◌, arith, Bool, true, false, Option, Some, None, Result, Ok, Err, List, [], ◌∷◌, ◌++◌, All, map, take, slice_get, length, refl, sym, subst, ap, ◌∙◌}
-use Rattle.std.specs.Prelude.{IfOk, IfSome}
+use Rattle.std.proofs.Common.{◌≡◌, ℕ, ◌≤◌, arith, Option, Some, None, Result, Ok, List, [], ◌∷◌, ◌++◌, All, map, slice_get, length, refl, sym, subst, ap, ◌∙◌}
+use Rattle.std.specs.Prelude.{IfOk}
 use Rattle.std.specs.List.{IsDistinct}
 use Rattle.std.specs.Map.{keys_of}
 use Rattle.std.specs.Option.{option_map}
-use Rattle.std.specs.Str.{bytes_eq}
 use Rattle.std.proofs.lemmas.List.{map-append}
 use Rattle.std.proofs.lemmas.List.Elements.{All-push, All-map}
 use Rattle.std.proofs.lemmas.Option.{slice_get-map}
-use Rattle.ceal_base.specs.WellTyped.{KindKnown, FunctionTyped, StructTyped, WellTyped, param_kinds, numbers_below, struct_name, function_name}
+use Rattle.ceal_base.specs.WellTyped.{FunctionTyped, StructTyped, WellTyped, param_kinds, numbers_below, struct_name, function_name}
 use Rattle.ceal_base.specs.declared.fault.Fault.{Fault}
 use Rattle.ceal_base.specs.declared.fault.FaultCode.TheVariants.{N2}
 use Rattle.ceal_base.specs.declared.kind.Kind.{Kind}
@@ -24,14 +23,14 @@ use Rattle.ceal_types.specs.Checked.{struct_info, function_of, function_body, ty
 use Rattle.ceal_types.specs.Expressions.{Fields}
 use Rattle.ceal_types.specs.Heads.{with_field, head_of, with_struct, with_function, with_entry, struct_names, no_entries, heads}
 use Rattle.ceal_types.specs.Limits.{IsShort, HasShortLists}
-use Rattle.ceal_types.specs.Statements.{Block, closed, nested, typed_stmts}
-use Rattle.ceal_types.specs.Tables.{Name, has, second, value_at}
-use Rattle.ceal_types.specs.Walk.{fault, after, mapped, in_turn, at_end}
+use Rattle.ceal_types.specs.Statements.{nested, typed_stmts}
+use Rattle.ceal_types.specs.Tables.{Name, has, second}
+use Rattle.ceal_types.specs.Walk.{fault, mapped, in_turn, at_end}
 use Rattle.ceal_types.specs.declared.program.Head.{Head}
 use Rattle.ceal_types.specs.declared.program.Program.{Program}
-use Rattle.ceal_types.proofs.GrowLemmas.{Grows, grows-same, grows-take}
+use Rattle.ceal_types.proofs.GrowLemmas.{grows-same, grows-take}
 use Rattle.ceal_types.proofs.HeadTyped.{HeadGood, head-good, ProgramGood, entries-good, entries-names}
-use Rattle.ceal_types.proofs.KeepLemmas.{after-keeps, mapped-keeps, if-keeps, weaken, any-ok, ok-self, ok-at, after-ok, turn-keeps-each}
+use Rattle.ceal_types.proofs.KeepLemmas.{after-keeps, mapped-keeps, if-keeps, any-ok, ok-self, ok-at, after-ok, turn-keeps-each}
 use Rattle.ceal_types.proofs.KindsGrow.{BlockGrows, body-grows}
 use Rattle.ceal_types.proofs.StatementTyped.{NestedGood, nested-good, stmts-good}
 use Rattle.ceal_types.proofs.ValueTyped.{HasHead, HeadsMatch}
@@ -62,12 +61,12 @@ unfolding typed_function view head_view
 function-headed p f =
     after-keeps (λ h. head_of p.names f ≡ Ok h) (Headed p.names f) (function_body p f) (head_of p.names f) (ok-self (head_of p.names f))
     (λ h is. mapped-keeps (BlockGrows h.parameters) (Headed p.names f) (function_of f h) (nested (typed_stmts p h.own f.body) h.parameters)
-      (body-grows p h.own f.body h.parameters)
-      (λ b grows. record {
-        head = h;
-        is = is;
-        same = ap (λ (kinds : List Kind). record { name = f.name.text; own = h.own; kinds = kinds }) (grows-take h.parameters.kinds b.variables.kinds grows);
-      }))
+    (body-grows p h.own f.body h.parameters)
+    (λ b grows. record {
+      head = h;
+      is = is;
+      same = ap (λ (kinds : List Kind). record { name = f.name.text; own = h.own; kinds = kinds }) (grows-take h.parameters.kinds b.variables.kinds grows);
+    }))
 
 -- one more function of the heads, and of the bodies
 record HeadAdded (f : FunctionDecl) (q r : Program) : Type 0 where
@@ -81,7 +80,7 @@ unfolding with_entry
 head-added f q =
     if-keeps (HeadAdded f q) (has q.functions f.name.text) (fault N2 f.name.span) (mapped (with_function q f.name.text) (head_of q.names f)) (λ b. tt)
     (λ none. mapped-keeps (λ h. head_of q.names f ≡ Ok h) (HeadAdded f q) (with_function q f.name.text) (head_of q.names f) (ok-self (head_of q.names f))
-      (λ h is. record { head = h; is = is; names = refl; functions = refl }))
+    (λ h is. record { head = h; is = is; names = refl; functions = refl }))
 
 record BodyAdded (p : Program) (f : FunctionDecl) (gs hs : List TypedFunction) : Type 0 where
   function : TypedFunction
@@ -100,7 +99,7 @@ struct-added s q =
     if-keeps (λ r. (r.names ≡ q.names) × (r.functions ≡ q.functions)) (has q.structs s.name.text) (fault N2 s.name.span)
     (mapped (with_struct q s.name.text) (in_turn (with_field q.names) s.fields [])) (λ b. tt)
     (λ none. mapped-keeps (λ v. Unit {0}) (λ r. (r.names ≡ q.names) × (r.functions ≡ q.functions)) (with_struct q s.name.text) (in_turn (with_field q.names) s.fields [])
-      (any-ok (in_turn (with_field q.names) s.fields [])) (λ v u. (refl, refl)))
+    (any-ok (in_turn (with_field q.names) s.fields [])) (λ v u. (refl, refl)))
 
 same-ok : {A : Type 0} (x y : A) → ◌≡◌ {A = Result A Fault} (Ok x) (Ok y) → x ≡ y
 same-ok x y h = cc
@@ -194,17 +193,17 @@ module _ (p : Program) (fs : List TypedFunction) (matching : HeadsMatch p.functi
       after-keeps (HeadGood p.names (map struct_info p.structs) all) (FunctionTyped (map struct_info p.structs) fs) (function_body p f) (head_of p.names f)
       (head-good p.names (map struct_info p.structs) all f few)
       (λ h good. let seen = numbers_below (length h.parameters.kinds) in
-        mapped-keeps (NestedGood p fs h.own matching all h.parameters seen) (FunctionTyped (map struct_info p.structs) fs) (function_of f h)
-        (nested (typed_stmts p h.own f.body) h.parameters)
-        (nested-good p fs h.own matching all h.parameters seen (typed_stmts p h.own f.body) good.parameters.known good.parameters.good
-          (stmts-good p fs h.own matching all f.body h.parameters seen))
-        (λ b k. record {
-          own = good.own;
-          kinds = k.known;
-          few = good.few;
-          numbered = sym k.count;
-          body = k.typed b.variables.kinds (grows-same b.variables.kinds);
-        }))
+      mapped-keeps (NestedGood p fs h.own matching all h.parameters seen) (FunctionTyped (map struct_info p.structs) fs) (function_of f h)
+      (nested (typed_stmts p h.own f.body) h.parameters)
+      (nested-good p fs h.own matching all h.parameters seen (typed_stmts p h.own f.body) good.parameters.known good.parameters.good
+      (stmts-good p fs h.own matching all f.body h.parameters seen))
+      (λ b k. record {
+        own = good.own;
+        kinds = k.known;
+        few = good.few;
+        numbered = sym k.count;
+        body = k.typed b.variables.kinds (grows-same b.variables.kinds);
+      }))
 
   body-typed : (e : Entry) (gs : List TypedFunction) → IsShort e → All (FunctionTyped (map struct_info p.structs) fs) gs
       → IfOk (with_body p e gs) (All (FunctionTyped (map struct_info p.structs) fs))
@@ -230,11 +229,11 @@ program-typed entries p fs short heads here =
     let structs = map struct_info p.structs in
     let keys : struct_names entries [] ≡ keys_of p.structs =
     ok-at (λ (q : Program). struct_names entries [] ≡ keys_of q.structs) (in_turn with_entry entries (no_entries (struct_names entries []))) p heads
-        (entries-names entries (no_entries (struct_names entries []))) in
+    (entries-names entries (no_entries (struct_names entries []))) in
     let count : length (struct_names entries []) ≤ length (map struct_info p.structs) =
     omega (arith, ap length keys, length-map struct_info p.structs, length-map (λ (e : Name × Fields). e.0) p.structs) in
     let good = ok-at (ProgramGood names structs count) (in_turn with_entry entries (no_entries names)) p heads
-        (entries-good names structs count entries short (no_entries names) (first-good names structs count)) in
+    (entries-good names structs count entries short (no_entries names) (first-good names structs count)) in
     let all : length p.names ≤ length (map struct_info p.structs) = omega (arith, ap length good.same_names, count) in
     let shown = shown-all p entries (no_entries names) p [] fs (record { names = sym good.same_names; views = refl }) heads here in
     let matching = heads-match p.functions fs shown.views in
@@ -251,7 +250,7 @@ checked-typed tree short =
     after-keeps (λ p. in_turn with_entry tree.entries (no_entries (struct_names tree.entries [])) ≡ Ok p) WellTyped (bodies tree.entries)
     (in_turn with_entry tree.entries (no_entries (struct_names tree.entries []))) (ok-self _)
     (λ p heads. mapped-keeps (λ fs. in_turn (with_body p) tree.entries [] ≡ Ok fs) WellTyped (program_of p) (in_turn (with_body p) tree.entries []) (ok-self _)
-      (λ fs here. program-typed tree.entries p fs short heads here))
+    (λ fs here. program-typed tree.entries p fs short heads here))
 
 -- and so is what was answered
 pub answered-typed : (tree : Tree) (program : Typed) → HasShortLists tree → checked tree ≡ Ok program → WellTyped program

@@ -1,8 +1,7 @@
 -- Small programs with their typed trees, or their faults.
 use Rattle.std.proofs.Common.{◌≡◌, ℕ, pos, Ok, Some, None, List, [], ◌∷◌, refl}
 use Rattle.std.specs.Prelude.{codes}
-use Rattle.ceal_base.specs.declared.fault.FaultCode.{FaultCode}
-use Rattle.ceal_base.specs.declared.fault.FaultCode.TheVariants.{N1, N2, T1, T2, T3}
+use Rattle.ceal_base.specs.declared.fault.FaultCode.TheVariants.{N1, N2, T2}
 use Rattle.ceal_base.specs.declared.fault.Span.{Span}
 use Rattle.ceal_base.specs.declared.kind.Kind.TheVariants.{Int, ModInt}
 use Rattle.ceal_base.specs.declared.operators.Binary.TheVariants.{Add, Same}
@@ -10,10 +9,10 @@ use Rattle.ceal_base.specs.declared.syntax.Entry.TheVariants.{Function}
 use Rattle.ceal_base.specs.declared.syntax.Expr.{Expr}
 use Rattle.ceal_base.specs.declared.syntax.ExprForm.{Num, Null, Var}
 use Rattle.ceal_base.specs.declared.syntax.ExprForm.TheBlock.{hidden-the_row-Expr-0, shape-the_row-Expr-0}
-use Rattle.ceal_base.specs.declared.syntax.ExprForm.TheViews.{Binary, Address, Field}
+use Rattle.ceal_base.specs.declared.syntax.ExprForm.TheViews.{Binary}
 use Rattle.ceal_base.specs.declared.syntax.Ident.{Ident}
 use Rattle.ceal_base.specs.declared.syntax.Stmt.TheBlock.{hidden-the_row-Stmt-0, shape-the_row-Stmt-0}
-use Rattle.ceal_base.specs.declared.syntax.Stmt.TheVariants.{Declare, Assign, Write, Call, Return}
+use Rattle.ceal_base.specs.declared.syntax.Stmt.TheVariants.{Declare, Assign, Write, Call}
 use Rattle.ceal_base.specs.declared.syntax.Stmt.TheViews.{If}
 use Rattle.ceal_base.specs.declared.syntax.Stmt.{Stmt}
 use Rattle.ceal_base.specs.declared.syntax.Tree.{Tree}
@@ -26,8 +25,8 @@ use Rattle.ceal_base.specs.declared.typed.TypedForm.TheViews as typed
 use Rattle.ceal_base.specs.declared.typed.TypedStmt.TheVariants.{Declare as TypedDeclare, Write as TypedWrite}
 use Rattle.ceal_base.specs.declared.typed.TypedValue.TheVariants.{Read as TypedRead}
 use Rattle.ceal_types.specs.Checked.{checked, with_body, typed_function}
-use Rattle.ceal_types.specs.Expressions.{typed_form, member, field_at, address_at}
-use Rattle.ceal_types.specs.Heads.{with_field, with_parameter, head_of, with_entry, struct_names, heads}
+use Rattle.ceal_types.specs.Expressions.{typed_form}
+use Rattle.ceal_types.specs.Heads.{with_parameter, head_of, with_entry, struct_names, heads}
 use Rattle.ceal_types.specs.Statements.{typed_value, typed_stmt}
 use Rattle.ceal_types.specs.Tables.{find}
 use Rattle.ceal_types.specs.Walk.{in_turn, fault}
@@ -83,26 +82,26 @@ typed_inc = record {
 
 -- `int x = read(a); write(b, x + 1);`
 inc : checked (program (
-  Declare (at 4) forms.Int (named (codes "x") 5) (Read (at 6) (variable (codes "a") 7))
-  ∷ Write (at 8) (variable (codes "b") 9) (record { span = at 10; form = Binary Add (at 11) (variable (codes "x") 10) (number 1 12) })
-  ∷ [])) ≡ Ok typed_inc
+    Declare (at 4) forms.Int (named (codes "x") 5) (Read (at 6) (variable (codes "a") 7))
+    ∷ Write (at 8) (variable (codes "b") 9) (record { span = at 10; form = Binary Add (at 11) (variable (codes "x") 10) (number 1 12) })
+    ∷ [])) ≡ Ok typed_inc
 unfolding checked heads struct_names in_turn with_entry head_of with_parameter with_body typed_function typed_stmt typed_value typed_form hidden-the_row-Expr-0 shape-the_row-Expr-0 hidden-the_row-Stmt-0 shape-the_row-Stmt-0 find denote.Hole.Carrier.hidden
 inc = refl
 
 -- `if (null == null) { int x = 1; } x = 2;`: the comparison is allowed, and `x` is out of scope behind the block
 out_of_scope : checked (program (
-  If (at 4) (record { span = at 5; form = Binary Same (at 6) (null 5) (null 7) })
+    If (at 4) (record { span = at 5; form = Binary Same (at 6) (null 5) (null 7) })
     (Declare (at 8) forms.Int (named (codes "x") 9) (Plain (number 1 10)) ∷ []) []
-  ∷ Assign (named (codes "x") 11) (Plain (number 2 12))
-  ∷ [])) ≡ fault N1 (at 11)
+    ∷ Assign (named (codes "x") 11) (Plain (number 2 12))
+    ∷ [])) ≡ fault N1 (at 11)
 unfolding checked heads struct_names in_turn with_entry head_of with_parameter with_body typed_function typed_stmt typed_value typed_form hidden-the_row-Expr-0 shape-the_row-Expr-0 hidden-the_row-Stmt-0 shape-the_row-Stmt-0 find denote.Hole.Carrier.hidden
 out_of_scope = refl
 
 -- `int x = 1; if (x) { int x = 2; }`: the outer `x` is still in scope
 defined_twice : checked (program (
-  Declare (at 4) forms.Int (named (codes "x") 5) (Plain (number 1 6))
-  ∷ If (at 7) (variable (codes "x") 8) (Declare (at 9) forms.Int (named (codes "x") 10) (Plain (number 2 11)) ∷ []) []
-  ∷ [])) ≡ fault N2 (at 10)
+    Declare (at 4) forms.Int (named (codes "x") 5) (Plain (number 1 6))
+    ∷ If (at 7) (variable (codes "x") 8) (Declare (at 9) forms.Int (named (codes "x") 10) (Plain (number 2 11)) ∷ []) []
+    ∷ [])) ≡ fault N2 (at 10)
 unfolding checked heads struct_names in_turn with_entry head_of with_parameter with_body typed_function typed_stmt typed_value typed_form hidden-the_row-Expr-0 shape-the_row-Expr-0 hidden-the_row-Stmt-0 shape-the_row-Stmt-0 find denote.Hole.Carrier.hidden
 defined_twice = refl
 

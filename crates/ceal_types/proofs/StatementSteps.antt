@@ -1,6 +1,5 @@
 -- The type of each form of statement.
-use Rattle.std.proofs.Common.{◌≡◌, ℕ, Option, Result, Ok, List, [], ◌∷◌, refl}
-use Rattle.ceal_base.specs.declared.fault.Fault.{Fault}
+use Rattle.std.proofs.Common.{◌≡◌, ℕ, Option, Ok, List, [], ◌∷◌, refl}
 use Rattle.ceal_base.specs.declared.fault.Span.{Span}
 use Rattle.ceal_base.specs.declared.syntax.Expr.{Expr}
 use Rattle.ceal_base.specs.declared.syntax.Ident.{Ident}
@@ -13,7 +12,7 @@ use Rattle.ceal_base.specs.declared.syntax.Value.{Value}
 use Rattle.ceal_base.specs.declared.typed.TypedStmt.{Return as ReturnTyped}
 use Rattle.ceal_types.specs.Expressions.{condition}
 use Rattle.ceal_types.specs.Heads.{kind_of}
-use Rattle.ceal_types.specs.Statements.{Step, Block, step, still, opened, nested, closed, declare, assign, set_field, write, call, branch, loop, typed_stmt, typed_row, typed_stmts, with_stmt, with_step}
+use Rattle.ceal_types.specs.Statements.{Block, step, still, nested, declare, assign, set_field, write, call, branch, loop, typed_stmt, typed_row, typed_stmts, with_step}
 use Rattle.ceal_types.specs.Walk.{after, mapped, in_turn}
 use Rattle.ceal_types.specs.declared.program.Program.{Program}
 use Rattle.ceal_types.specs.declared.program.Variables.{Variables}

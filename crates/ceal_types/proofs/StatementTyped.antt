@@ -1,24 +1,23 @@
 -- A statement that the walk gives is well typed.
-use Rattle.std.proofs.Common.{◌≡◌, ℕ, zero, suc, ◌+◌, ◌<◌, ◌≤◌, arith, Bool, true, false, Option, Some, None, Result, Ok, Err, List, [], ◌∷◌, ◌++◌, All, Contains, map, take, slice_get, length, refl, sym, subst, ap, ◌∙◌, add_assoc, if◌then◌else◌}
+use Rattle.std.proofs.Common.{◌≡◌, ℕ, suc, ◌+◌, ◌≤◌, arith, Option, Some, None, Result, Ok, Err, List, [], ◌∷◌, ◌++◌, All, Contains, map, slice_get, length, refl, sym, subst, ap}
 use Rattle.std.specs.Prelude.{IfOk, IfSome}
 use Rattle.std.specs.Map.{lookup}
 use Rattle.std.specs.Str.{bytes_eq}
 use Rattle.std.proofs.lemmas.List.{length_push}
 use Rattle.std.proofs.lemmas.List.Elements.{All-push}
 use Rattle.std.proofs.lemmas.Map.Entries.{All-lookup}
-use Rattle.ceal_base.specs.WellTyped.{Context, KindKnown, ExprTyped, Suits, StmtTyped, RowTyped, StmtsTyped, ValueTyped, kind_held, declarations, row_declarations, all_declarations, seen_after}
+use Rattle.ceal_base.specs.WellTyped.{Context, KindKnown, StmtTyped, RowTyped, StmtsTyped, ValueTyped, kind_held, declarations, row_declarations, all_declarations, seen_after}
 use Rattle.ceal_base.specs.declared.fault.Fault.{Fault}
-use Rattle.ceal_base.specs.declared.fault.FaultCode.TheVariants.{N1, N2, T1, T3}
+use Rattle.ceal_base.specs.declared.fault.FaultCode.TheVariants.{N2, T1}
 use Rattle.ceal_base.specs.declared.fault.Span.{Span}
 use Rattle.ceal_base.specs.declared.kind.FieldKind.{FieldKind}
 use Rattle.ceal_base.specs.declared.kind.FieldKind.TheVariants.{Plain as PlainField, CellInt, CellPtr}
 use Rattle.ceal_base.specs.declared.kind.Kind.{Kind}
-use Rattle.ceal_base.specs.declared.kind.Kind.TheVariants.{Int, Ptr}
+use Rattle.ceal_base.specs.declared.kind.Kind.TheVariants.{Int}
 use Rattle.ceal_base.specs.declared.syntax.Expr.{Expr}
 use Rattle.ceal_base.specs.declared.syntax.Ident.{Ident}
 use Rattle.ceal_base.specs.declared.syntax.Stmt.{Stmt, Declare, Assign, SetField, Write, Call, If', While', Return}
 use Rattle.ceal_base.specs.declared.syntax.Stmt.{Row_of-Stmt, end_of-Stmt, more_of-Stmt}
-use Rattle.ceal_base.specs.declared.syntax.TypeForm.{TypeForm}
 use Rattle.ceal_base.specs.declared.syntax.Value.{Value}
 use Rattle.ceal_base.specs.declared.typed.StructInfo.{StructInfo}
 use Rattle.ceal_base.specs.declared.typed.TypedExpr.{TypedExpr}
@@ -26,15 +25,14 @@ use Rattle.ceal_base.specs.declared.typed.TypedFunction.{TypedFunction}
 use Rattle.ceal_base.specs.declared.typed.TypedStmt.{TypedStmt}
 use Rattle.ceal_base.specs.declared.typed.TypedStmt.{SetField as SetTyped, Write as WriteTyped, Return as ReturnTyped}
 use Rattle.ceal_base.specs.declared.typed.TypedStmt.TheBlock.{hidden-the_row-TypedStmt-0, shape-the_row-TypedStmt-0}
-use Rattle.ceal_base.specs.declared.typed.TypedStmt.TheViews as typed
 use Rattle.ceal_base.specs.declared.typed.TypedValue.{TypedValue}
 use Rattle.ceal_types.specs.Checked.{struct_info}
 use Rattle.ceal_types.specs.Expressions.{Scope, typed_expr, typed_exprs, condition, member}
 use Rattle.ceal_types.specs.Heads.{kind_of, with_variable}
 use Rattle.ceal_types.specs.Kinds.{suits}
-use Rattle.ceal_types.specs.Statements.{Step, Block, step, still, block, opened, closed, nested, with_step, declaration, declare, assignment, assigned, assign, plain_kind, set_suited, set_value, set_member, set_left, set_field, write_held, written, write, call_of, call_checked, called, call, call_suits, chosen, choose, branch, looped, loop, typed_value, typed_stmt, typed_row, typed_stmts, with_stmt}
+use Rattle.ceal_types.specs.Statements.{Step, Block, step, still, opened, closed, nested, with_step, declaration, declare, assignment, assigned, assign, plain_kind, set_suited, set_value, set_member, set_left, set_field, write_held, written, write, call_of, call_checked, called, call, call_suits, chosen, choose, branch, looped, loop, typed_value, typed_stmt, typed_row, typed_stmts, with_stmt}
 use Rattle.ceal_types.specs.Tables.{Name, has, find, value_at}
-use Rattle.ceal_types.specs.Walk.{fault, after, mapped, both}
+use Rattle.ceal_types.specs.Walk.{fault, after, mapped}
 use Rattle.ceal_types.specs.declared.program.Head.{Head}
 use Rattle.ceal_types.specs.declared.program.Member.{Member}
 use Rattle.ceal_types.specs.declared.program.Program.{Program}
@@ -46,7 +44,7 @@ use Rattle.ceal_types.proofs.KeepLemmas.{after-keeps, mapped-keeps, both-keeps, 
 use Rattle.ceal_types.proofs.KindLemmas.{suited}
 use Rattle.ceal_types.proofs.PlaceLemmas.{find-place}
 use Rattle.ceal_types.proofs.ValueTyped.{HeadsMatch, call-good, value-good, kind-known}
-use Rattle.ceal_base.specs.WellTyped.{CallSuits, plain_kind as kind_of_plain, field_kind}
+use Rattle.ceal_base.specs.WellTyped.{CallSuits}
 
 -- what holds for each K of what is given, where it does
 all-keep : {A C : Type 0} (P : C → A → Type 0) (Q : C → Type 0) (r : Result A Fault) → ((c : C) → Q c → IfOk r (P c)) → IfOk r (λ x. (c : C) → Q c → P c x)
@@ -150,7 +148,7 @@ module _ (p : Program) (fs : List TypedFunction) (own : Option ℕ) (heads : Hea
     set-still at left name e =
         after-keeps GoodHere StillHere (set_left p own scope at name e) (typed_expr p own scope left) (expr-typed p fs own kinds seen scope good left)
         (λ l h. after-keeps (MemberGood p.structs l.kind) StillHere (set_member p own scope at name e l) (member p.structs name l) (member-good p.structs name l)
-          (λ m g. set-kind at name e l m h g m.kind refl))
+        (λ m g. set-kind at name e l m h g m.kind refl))
 
     held-still : (at : Span) (place e : TypedExpr) → GoodHere place → GoodHere e → (o : Option Kind) → kind_held place.kind ≡ o
         → IfOk (write_held at place e o) StillHere
@@ -173,7 +171,7 @@ module _ (p : Program) (fs : List TypedFunction) (own : Option ℕ) (heads : Hea
     called-still name args (Some f) h =
         after-keeps (All GoodHere) StillHere (call_checked name f) (typed_exprs p own scope args) (exprs-typed p fs own kinds seen scope good args)
         (λ es k. mapped-keeps (λ u. CallSuits (slice_get fs f.0) es) StillHere (call_of name f.0 es) (call_suits name f.1 es)
-          (call-good fs f.0 f.1 (heads f.0 f.1 h) name es) (λ u c. record { none = refl; same = refl; typed = (k, c) }))
+        (call-good fs f.0 f.1 (heads f.0 f.1 h) name es) (λ u c. record { none = refl; same = refl; typed = (k, c) }))
 
   -- what a statement leaves is good
   pub record StepGood (v : Variables) (seen : List ℕ) (s : Step) : Type 0 where
@@ -206,14 +204,14 @@ module _ (p : Program) (fs : List TypedFunction) (own : Option ℕ) (heads : Hea
       mapped-keeps (λ s. (more : List Kind) → Grows v.kinds more → Still seen (length v.kinds) more s) (StepGood v seen) (still v) r
       (all-keep (λ more s. Still seen (length v.kinds) more s) (Grows v.kinds) r h)
       (λ s k. let now = k v.kinds (grows-same v.kinds) in
-        record {
-          kinds = grows-same v.kinds;
-          count = omega (arith, now.none);
-          known = known;
-          scope = grows-same v.scope;
-          good = subst (λ (l : List ℕ). ScopeGood v.scope l v.kinds) (sym now.same) good;
-          typed = λ more g. (k more g).typed;
-        })
+      record {
+        kinds = grows-same v.kinds;
+        count = omega (arith, now.none);
+        known = known;
+        scope = grows-same v.scope;
+        good = subst (λ (l : List ℕ). ScopeGood v.scope l v.kinds) (sym now.same) good;
+        typed = λ more g. (k more g).typed;
+      })
 
   open-good : (v : Variables) (seen : List ℕ) → All (KindKnown structs) v.kinds → ScopeGood v.scope seen v.kinds → BlockGood v seen (opened v)
   unfolding StmtsTyped all_declarations
@@ -275,10 +273,10 @@ module _ (p : Program) (fs : List TypedFunction) (own : Option ℕ) (heads : Hea
   declare-good v seen at name value kind known good here =
       if-keeps (StepGood v seen) (has v.scope name.text) (fault N2 name.span) (mapped (declaration at name kind v) (typed_value p own v.scope kind value)) (λ b. tt)
       (λ n. mapped-keeps (λ t. (more : List Kind) → Grows v.kinds more → ValueTyped (around p fs own more) seen kind t) (StepGood v seen)
-        (declaration at name kind v) (typed_value p own v.scope kind value)
-        (all-keep (λ more t. ValueTyped (around p fs own more) seen kind t) (Grows v.kinds) (typed_value p own v.scope kind value)
-          (λ more g. value-good p fs own more seen v.scope (scope-grows v.scope seen v.kinds more g good) heads all kind value))
-        (λ t k. declared-good v seen at name kind t known good here k))
+      (declaration at name kind v) (typed_value p own v.scope kind value)
+      (all-keep (λ more t. ValueTyped (around p fs own more) seen kind t) (Grows v.kinds) (typed_value p own v.scope kind value)
+      (λ more g. value-good p fs own more seen v.scope (scope-grows v.scope seen v.kinds more g good) heads all kind value))
+      (λ t k. declared-good v seen at name kind t known good here k))
 
   -- an expression of this type, whatever is declared later
   abbrev Test : Variables → List ℕ → TypedExpr → Type 0
@@ -309,10 +307,13 @@ module _ (p : Program) (fs : List TypedFunction) (own : Option ℕ) (heads : Hea
     typed = λ more g.
         let mid = grows-on a.variables.kinds b.variables.kinds more k.kinds g in
         let test = t more (grows-on v.kinds a.variables.kinds more h.kinds mid) in
-        let next : length a.variables.kinds ≡ length v.kinds + row_declarations (hidden-the_row-TypedStmt-0 a.stmts) = omega (arith, h.count, row-declarations a.stmts) in
-        (test.0, test.1, row-typed (around p fs own more) a.stmts seen (length v.kinds) (h.typed more mid),
+        let next : length a.variables.kinds ≡ length v.kinds + row_declarations (hidden-the_row-TypedStmt-0 a.stmts) = omega (arith, h.count, row-declarations a.stmts) in (
+          test.0,
+          test.1,
+          row-typed (around p fs own more) a.stmts seen (length v.kinds) (h.typed more mid),
           subst (λ (n : ℕ). RowTyped (around p fs own more) seen n (hidden-the_row-TypedStmt-0 b.stmts)) next
-            (row-typed (around p fs own more) b.stmts seen (length a.variables.kinds) (k.typed more g)));
+              (row-typed (around p fs own more) b.stmts seen (length a.variables.kinds) (k.typed more g)),
+        );
   }
 
   while-good : (v : Variables) (seen : List ℕ) (at : Span) (test : TypedExpr) (b : Block) → ScopeGood v.scope seen v.kinds → Test v seen test
@@ -352,7 +353,7 @@ module _ (p : Program) (fs : List TypedFunction) (own : Option ℕ) (heads : Hea
     stmt-good (Assign name value) v seen known good =
         still-good v seen (assign p own v.scope name value) known good
         (λ more g. let here = scope-grows v.scope seen v.kinds more g good in
-          assigned-still more seen (length v.kinds) v.scope here name value (lookup (bytes_eq name.text) v.scope) (All-lookup (VariableGood seen more) (bytes_eq name.text) v.scope here))
+        assigned-still more seen (length v.kinds) v.scope here name value (lookup (bytes_eq name.text) v.scope) (All-lookup (VariableGood seen more) (bytes_eq name.text) v.scope here))
     stmt-good (SetField at left name e) v seen known good =
         still-good v seen (set_field p own v.scope at left name e) known good
         (λ more g. set-still more seen (length v.kinds) v.scope (scope-grows v.scope seen v.kinds more g good) at left name e)
@@ -365,15 +366,15 @@ module _ (p : Program) (fs : List TypedFunction) (own : Option ℕ) (heads : Hea
     stmt-good (If' at test _ first _ second) v seen known good =
         after-keeps (Test v seen) (StepGood v seen) (branch at (nested (typed_row p own first)) (nested (typed_row p own second)) v) (condition p own v.scope test) (test-good v seen test good)
         (λ t h. after-keeps (NestedGood v seen) (StepGood v seen) (choose at t (nested (typed_row p own second))) (nested (typed_row p own first) v)
-          (nested-good v seen (typed_row p own first) known good (row-good first v seen))
-          (λ a k. mapped-keeps (NestedGood a.variables seen) (StepGood v seen) (chosen at t a) (nested (typed_row p own second) a.variables)
-            (nested-good a.variables seen (typed_row p own second) k.known (back-good v seen a k good) (row-good second a.variables seen))
-            (λ b l. if-good v seen at t a b good h k l)))
+        (nested-good v seen (typed_row p own first) known good (row-good first v seen))
+        (λ a k. mapped-keeps (NestedGood a.variables seen) (StepGood v seen) (chosen at t a) (nested (typed_row p own second) a.variables)
+        (nested-good a.variables seen (typed_row p own second) k.known (back-good v seen a k good) (row-good second a.variables seen))
+        (λ b l. if-good v seen at t a b good h k l)))
     stmt-good (While' at test _ body) v seen known good =
         after-keeps (Test v seen) (StepGood v seen) (loop at (nested (typed_row p own body)) v) (condition p own v.scope test) (test-good v seen test good)
         (λ t h. mapped-keeps (NestedGood v seen) (StepGood v seen) (looped at t) (nested (typed_row p own body) v)
-          (nested-good v seen (typed_row p own body) known good (row-good body v seen))
-          (λ b k. while-good v seen at t b good h k))
+        (nested-good v seen (typed_row p own body) known good (row-good body v seen))
+        (λ b k. while-good v seen at t b good h k))
     stmt-good (Return at) v seen known good = return-good v seen at known good
 
     row-good : {n : _} → (row : Row_of-Stmt n) (v : Variables) (seen : List ℕ) (b : Block) → BlockGood v seen b → IfOk (typed_row p own row b) (BlockGood v seen)
@@ -381,12 +382,12 @@ module _ (p : Program) (fs : List TypedFunction) (own : Option ℕ) (heads : Hea
     row-good (more_of-Stmt s rest) v seen b h =
         after-keeps (BlockGood v seen) (BlockGood v seen) (typed_row p own rest) (mapped (with_step b) (typed_stmt p own s b.variables))
         (mapped-keeps (StepGood b.variables (seen_through seen b.stmts)) (BlockGood v seen) (with_step b) (typed_stmt p own s b.variables)
-          (stmt-good s b.variables (seen_through seen b.stmts) h.known h.good) (λ st k. push-good v seen b st h k))
+        (stmt-good s b.variables (seen_through seen b.stmts) h.known h.good) (λ st k. push-good v seen b st h k))
         (row-good rest v seen)
 
   -- the statements of a block one after another
   pub stmts-good : (xs : List Stmt) (v : Variables) (seen : List ℕ) (b : Block) → BlockGood v seen b → IfOk (typed_stmts p own xs b) (BlockGood v seen)
   stmts-good xs v seen = turn-keeps (with_stmt p own) (BlockGood v seen)
       (λ s b h. mapped-keeps (StepGood b.variables (seen_through seen b.stmts)) (BlockGood v seen) (with_step b) (typed_stmt p own s b.variables)
-        (stmt-good s b.variables (seen_through seen b.stmts) h.known h.good) (λ st k. push-good v seen b st h k))
+      (stmt-good s b.variables (seen_through seen b.stmts) h.known h.good) (λ st k. push-good v seen b st h k))
       xs

@@ -1,5 +1,5 @@
 -- A walk from one item on.
-use Rattle.std.proofs.Common.{◌≡◌, ℕ, suc, ◌+◌, ◌<◌, ◌≤◌, Result, Ok, Err, List, [], ◌∷◌, ◌++◌, length, drop, drop-cons, drop_of_length-le, get_or, refl, sym, ◌∙◌, ap, add-one}
+use Rattle.std.proofs.Common.{◌≡◌, ℕ, suc, ◌+◌, ◌<◌, ◌≤◌, Result, Ok, List, [], ◌∷◌, length, drop, drop-cons, drop_of_length-le, get_or, refl, sym, ◌∙◌, add-one}
 use Rattle.ceal_base.specs.Answers.{Fails}
 use Rattle.ceal_base.specs.declared.fault.Fault.{Fault}
 use Rattle.ceal_base.specs.declared.fault.FrontError.{FrontError}

@@ -1,15 +1,15 @@
 -- A value that the walk gives is well typed.
-use Rattle.std.proofs.Common.{◌≡◌, ℕ, ◌<◌, ◌≤◌, arith, Bool, true, false, Option, Some, None, Result, Ok, Err, List, [], ◌∷◌, All, map, position, slice_get, length, refl, sym, subst, ap, ◌∙◌, if◌then◌else◌}
+use Rattle.std.proofs.Common.{◌≡◌, ℕ, ◌<◌, ◌≤◌, arith, Bool, Option, Some, None, Result, Ok, List, [], ◌∷◌, All, map, position, slice_get, length, refl, sym, subst, ap, ◌∙◌, if◌then◌else◌}
 use Rattle.std.specs.Prelude.{IfOk, IfSome, ◌==◌}
 use Rattle.std.specs.Str.{bytes_eq}
 use Rattle.std.proofs.lemmas.Bool.Decides.{Decides-eqb}
 use Rattle.std.proofs.lemmas.List.Quantifiers.{position-Some}
-use Rattle.ceal_base.specs.WellTyped.{KindKnown, ExprTyped, ExprSuits, Suits, ArgsSuit, CallSuits, AllocSuits, ValueTyped, kind_held, param_kinds}
+use Rattle.ceal_base.specs.WellTyped.{KindKnown, ArgsSuit, CallSuits, AllocSuits, ValueTyped, kind_held, param_kinds}
 use Rattle.ceal_base.specs.declared.fault.Fault.{Fault}
-use Rattle.ceal_base.specs.declared.fault.FaultCode.TheVariants.{T1, T2, T3}
+use Rattle.ceal_base.specs.declared.fault.FaultCode.TheVariants.{T1, T2}
 use Rattle.ceal_base.specs.declared.fault.Span.{Span}
 use Rattle.ceal_base.specs.declared.kind.Kind.{Kind}
-use Rattle.ceal_base.specs.declared.kind.Kind.TheVariants.{Int, Ptr, ModInt, ModPtr}
+use Rattle.ceal_base.specs.declared.kind.Kind.TheVariants.{Ptr, ModInt, ModPtr}
 use Rattle.ceal_base.specs.declared.syntax.Expr.{Expr}
 use Rattle.ceal_base.specs.declared.syntax.Ident.{Ident}
 use Rattle.ceal_base.specs.declared.syntax.TypeForm.{TypeForm}
@@ -27,7 +27,7 @@ use Rattle.ceal_types.specs.Heads.{numbered, struct_number, kind_of}
 use Rattle.ceal_types.specs.Kinds.{suits, same_kind}
 use Rattle.ceal_types.specs.Statements.{arguments_suit, call_by_own, call_suits, alloc_by_own, alloc_suits, asked_for, plain_value, held_value, read_value, modref_value, allocated, alloc_value, alloc_by, alloc_of, typed_value}
 use Rattle.ceal_types.specs.Tables.{Name, find, value_at}
-use Rattle.ceal_types.specs.Walk.{fault, after, mapped}
+use Rattle.ceal_types.specs.Walk.{fault}
 use Rattle.ceal_types.specs.declared.program.Head.{Head}
 use Rattle.ceal_types.specs.declared.program.Program.{Program}
 use Rattle.ceal_types.proofs.ExpressionTyped.{around, ScopeGood, Good, expr-typed, exprs-typed}
@@ -107,8 +107,8 @@ alloc-own structure name shape (Some s) kinds es =
     let P : Unit {0} → Type 0 = λ u. (s ≡ shape) × ArgsSuit kinds es in
     counted kinds es P name (if s == shape then arguments_suit kinds es else fault T1 structure.span)
     (λ same. if-keeps P (s == shape) (arguments_suit kinds es) (fault T1 structure.span)
-      (λ b. weaken (λ u. ArgsSuit kinds es) P (arguments_suit kinds es) (λ u r. ((Decides-eqb s shape).0 b, r)) (args-suit kinds es same))
-      (λ n. tt))
+    (λ b. weaken (λ u. ArgsSuit kinds es) P (arguments_suit kinds es) (λ u r. ((Decides-eqb s shape).0 b, r)) (args-suit kinds es same))
+    (λ n. tt))
 
 call-elim : (o : Option ℕ) (kinds : List Kind) (es : List TypedExpr) → CallOwn o kinds es → elim o as (λ _. Type 0) [ None ↦ ArgsSuit kinds es | Some s ↦ Unit {0} ]
 call-elim None kinds es h = h
@@ -165,8 +165,8 @@ module _ (p : Program) (fs : List TypedFunction) (own : Option ℕ) (kinds : Lis
   by-typed asked at structure name args shape within (Some f) h =
       after-keeps (All GoodHere) (ValueGood asked) (alloc_value asked at structure name shape f) (typed_exprs p own scope args) (exprs-typed p fs own kinds seen scope good args)
       (λ es k. after-keeps (λ u. AllocSuits (slice_get fs f.0) shape es) (ValueGood asked) (allocated asked at name shape f.0 es) (alloc_suits structure name shape f.1 es)
-        (alloc-good fs f.0 f.1 (heads f.0 f.1 h) structure name shape es)
-        (λ u a. asked-good (ValueGood asked) asked (Ptr shape) at (AllocTyped at shape f.0 name.span es) (λ same. (within, same, k, a))))
+      (alloc-good fs f.0 f.1 (heads f.0 f.1 h) structure name shape es)
+      (λ u a. asked-good (ValueGood asked) asked (Ptr shape) at (AllocTyped at shape f.0 name.span es) (λ same. (within, same, k, a))))
 
   pub value-good : (asked : Kind) (v : Value) → IfOk (typed_value p own scope asked v) (ValueGood asked)
   unfolding typed_value

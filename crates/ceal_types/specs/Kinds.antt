@@ -1,7 +1,5 @@
 -- Which types go together.
-use Rattle.std.specs.Prelude.{ℕ, Bool, true, false, Option, Some, None, ◌==◌}
-use Rattle.ceal_base.specs.declared.kind.FieldKind.{FieldKind}
-use Rattle.ceal_base.specs.declared.kind.FieldKind.TheVariants.{Plain, CellInt, CellPtr}
+use Rattle.std.specs.Prelude.{Bool, true, false, Option, Some, None, ◌==◌}
 use Rattle.ceal_base.specs.declared.kind.Kind.{Kind}
 use Rattle.ceal_base.specs.declared.kind.Kind.TheVariants.{Int, Ptr, ModInt, ModPtr}
 

@@ -9,12 +9,11 @@ use Rattle.ceal_base.specs.declared.fault.Span.{Span}
 use Rattle.ceal_base.specs.declared.kind.FieldKind.{FieldKind}
 use Rattle.ceal_base.specs.declared.kind.FieldKind.TheVariants.{Plain as PlainField, CellInt, CellPtr}
 use Rattle.ceal_base.specs.declared.kind.Kind.{Kind}
-use Rattle.ceal_base.specs.declared.kind.Kind.TheVariants.{Int, Ptr, ModInt, ModPtr}
+use Rattle.ceal_base.specs.declared.kind.Kind.TheVariants.{Ptr, ModInt, ModPtr}
 use Rattle.ceal_base.specs.declared.syntax.Expr.{Expr}
 use Rattle.ceal_base.specs.declared.syntax.Ident.{Ident}
 use Rattle.ceal_base.specs.declared.syntax.Stmt.{Stmt, Declare, Assign, SetField, Write, Call, If', While', Return}
 use Rattle.ceal_base.specs.declared.syntax.Stmt.{Row_of-Stmt, end_of-Stmt, more_of-Stmt}
-use Rattle.ceal_base.specs.declared.syntax.TypeForm.{TypeForm}
 use Rattle.ceal_base.specs.declared.syntax.Value.{Value}
 use Rattle.ceal_base.specs.declared.syntax.Value.TheVariants.{Plain, Read, Alloc, ModrefInt, Modref}
 use Rattle.ceal_base.specs.declared.typed.TypedExpr.{TypedExpr}
@@ -26,7 +25,7 @@ use Rattle.ceal_base.specs.declared.typed.TypedValue.TheVariants.{Plain as Plain
 use Rattle.ceal_types.specs.Expressions.{Scope, typed_expr, typed_exprs, condition, member}
 use Rattle.ceal_types.specs.Heads.{kind_of, struct_number, with_variable}
 use Rattle.ceal_types.specs.Kinds.{suits, same_kind}
-use Rattle.ceal_types.specs.Tables.{Name, has, find}
+use Rattle.ceal_types.specs.Tables.{has, find}
 use Rattle.ceal_types.specs.Walk.{fault, after, mapped, both, in_turn}
 use Rattle.ceal_types.specs.declared.program.Head.{Head}
 use Rattle.ceal_types.specs.declared.program.Member.{Member}

@@ -26,11 +26,7 @@ fn expression(span: Span, kind: Option<Kind>, form: TypedForm) -> TypedExpr
     TypedExpr { span, kind, form }
 }
 
-fn type_variable(
-    scope: &Table<Variable>,
-    at: Span,
-    name: &Ident,
-) -> Result<TypedExpr, FrontError>
+fn type_variable(scope: &Table<Variable>, at: Span, name: &Ident) -> Result<TypedExpr, FrontError>
     ensures { Gives result (variable_at at name.now (lookup (bytes_eq name.now.text) scope.now)) }
 {
     match scope.get(&name.text) {
@@ -78,11 +74,7 @@ fn binary(
 {
     let a = Boxed::new(alloc, a)?;
     let b = Boxed::new(alloc, b)?;
-    Ok(expression(
-        at,
-        Some(Kind::Int),
-        TypedForm::Binary(op, sign, a, b),
-    ))
+    Ok(expression(at, Some(Kind::Int), TypedForm::Binary(op, sign, a, b)))
 }
 
 fn type_compared(

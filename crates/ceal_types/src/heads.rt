@@ -55,11 +55,7 @@ fn field_kind_of(names: &Names, form: &TypeForm) -> Result<FieldKind, FrontError
     }
 }
 
-fn new_field(
-    fields: &mut Table<FieldKind>,
-    name: &Ident,
-    kind: FieldKind,
-) -> Result<(), FrontError>
+fn new_field(fields: &mut Table<FieldKind>, name: &Ident, kind: FieldKind) -> Result<(), FrontError>
     ensures { Leads result fields.new (rules.new_field name.now fields.old kind) }
 {
     if fields.has(&name.text) {
@@ -161,11 +157,7 @@ fn own_of(names: &Names, initialiser: &Option<Ident>) -> Result<Option<u32>, Fro
 
 /// A function's head.
 #[tactic(auto, unfolding(crate::specs::Heads::head_of))]
-pub fn head_of(
-    alloc: Global,
-    names: &Names,
-    function: &FunctionDecl,
-) -> Result<Head, FrontError>
+pub fn head_of(alloc: Global, names: &Names, function: &FunctionDecl) -> Result<Head, FrontError>
     ensures value { Gives result (rules.head_of names.now function.now) }
 {
     let own = own_of(names, &function.initialiser)?;

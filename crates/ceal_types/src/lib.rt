@@ -1,4 +1,12 @@
-//! Names and types.
+//! Names and types: the tree of a source text becomes the program's tree with names resolved, or its first fault.
+//!
+//! `specs/` gives the typed tree of each form by one rule, with the fault that comes where the rule does not hold: `Heads`
+//! for structs and the heads of functions, `Expressions`, `Statements`, and `Checked` for the whole. The walk is part of the
+//! language: twice through the entries, heads and then bodies, and in text order within them. `check` answers what
+//! `checked` says, and a program that it answers is well typed (`WellTyped` in ceal_base).
+//!
+//! Names are looked up in tables (`table`), so that a program of many thousand names takes about linear time. Functions
+//! recurse as deep as expressions and blocks are nested, and not along statements or entries.
 #![tactic(auto)]
 
 pub mod check;
@@ -6,8 +14,10 @@ mod expressions;
 mod heads;
 mod kinds;
 mod members;
-pub mod names;
-pub mod program;
+mod names;
+mod program;
 mod statements;
-pub mod table;
+mod table;
+#[cfg(test)]
+mod tests;
 mod values;

@@ -22,11 +22,7 @@ pub fn fault(code: FaultCode, span: Span) -> FrontError
     FrontError::Fault(Fault { code, span })
 }
 
-fn find_field(
-    fields: &Table<FieldKind>,
-    shape: u32,
-    name: &Ident,
-) -> Result<Member, FrontError>
+fn find_field(fields: &Table<FieldKind>, shape: u32, name: &Ident) -> Result<Member, FrontError>
     ensures { Gives result (field_named name.now shape (find fields.now name.now.text)) }
 {
     match fields.find(&name.text) {

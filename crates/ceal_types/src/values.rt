@@ -178,9 +178,7 @@ pub fn type_value(
             };
             asked_for(asked, Kind::Ptr(shape), *at, typed)
         }
-        Value::ModrefInt(at) => {
-            asked_for(asked, Kind::ModInt, *at, TypedValue::ModrefInt(*at))
-        }
+        Value::ModrefInt(at) => { asked_for(asked, Kind::ModInt, *at, TypedValue::ModrefInt(*at)) }
         Value::Modref(at, structure) => {
             let shape = struct_number(&program.names, structure)?;
             asked_for(

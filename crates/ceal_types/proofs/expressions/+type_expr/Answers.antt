@@ -1,4 +1,4 @@
-use Rattle.std.proofs.Common.{rules, arith}
+use Rattle.std.proofs.Common.{arith}
 use Rattle.ceal_types.proofs.ExpressionSteps.{type-place}
 use Rattle.ceal_types.proofs.expressions.+type_expr.Goals as goal
 

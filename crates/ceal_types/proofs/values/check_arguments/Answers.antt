@@ -1,4 +1,4 @@
-use Rattle.std.proofs.Common.{◌<◌, ◌≤◌, length, arith}
+use Rattle.std.proofs.Common.{◌≤◌, length, arith}
 use Rattle.ceal_types.proofs.ArgumentLemmas.{arguments-over}
 use Rattle.ceal_types.proofs.values.check_arguments.Goals as goal
 

@@ -1,9 +1,7 @@
-use Rattle.std.proofs.Common.{◌≡◌, ◌<◌, ◌≤◌, ◌∷◌, ◌++◌, ◌∙◌, [], Ok, List, length, arith, refl}
-use Rattle.std.specs.Prelude.{Result}
+use Rattle.std.proofs.Common.{◌≡◌, ◌<◌, ◌≤◌, Ok, length, arith, refl}
 use Rattle.std.proofs.lemmas.Result.{err_from_is_err_and}
-use Rattle.ceal_base.specs.declared.typed.TypedExpr.{TypedExpr}
-use Rattle.ceal_types.specs.Expressions.{with_expr, typed_expr}
-use Rattle.ceal_types.specs.Walk.{mapped, at_end}
+use Rattle.ceal_types.specs.Expressions.{with_expr}
+use Rattle.ceal_types.specs.Walk.{at_end}
 use Rattle.ceal_types.proofs.TurnLemmas.{turn-passed, turn-failed, turn-over, fails-mapped}
 use Rattle.ceal_types.proofs.values.type_exprs.Goals as goal
 

@@ -1,4 +1,4 @@
-use Rattle.std.proofs.Common.{rules, arith}
+use Rattle.std.proofs.Common.{arith}
 use Rattle.std.proofs.lemmas.Grind.{common_steps}
 use Rattle.ceal_types.specs.Tables.{find}
 use Rattle.ceal_types.proofs.table.Table.find.Goals as goal
