@@ -8,6 +8,7 @@
 #![tactic(auto)]
 
 pub mod laws;
+pub mod print;
 pub mod stack;
 pub mod state;
 #[cfg(test)]
