@@ -11,4 +11,7 @@ pub mod Viable
 pub mod Exact
 pub mod Verdicts
 pub mod PrintSteps
+pub mod PrintMarks
+pub mod PrintPhrase
+pub mod PrintStatement
 mod Samples

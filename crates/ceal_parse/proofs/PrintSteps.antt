@@ -26,7 +26,7 @@ use Rattle.ceal_lex.specs.declared.token.TokenKind.TheVariants.{Name, Number, Re
 use Rattle.ceal_lex.specs.Spelling.{sign_text}
 use Rattle.ceal_parse.specs.Grammar.{level}
 use Rattle.ceal_parse.specs.Spelled.{sign_of, prefix_sign}
-use Rattle.ceal_parse.specs.PrintWords.{kind_text, gap, sign_gap, texts, form_level, raised, form_kinds, operand_kinds, expr_kinds, more_kinds, argument_kinds, type_kinds, value_kinds, is_branch, is_chain, braced, chained, stmt_kinds, row_kinds, else_kinds, stmts_kinds, second_kinds, field_kinds, other_kinds, parameter_kinds, member_kinds, head_kinds, entry_kinds, entries_kinds}
+use Rattle.ceal_parse.specs.PrintWords.{kind_text, gap, sign_gap, texts, form_level, raised, form_kinds, operand_kinds, expr_kinds, more_kinds, argument_kinds, type_kinds, value_kinds, is_branch, is_chain, braced, after_else, stmt_kinds, row_kinds, else_kinds, stmts_kinds, second_kinds, field_kinds, other_kinds, parameter_kinds, member_kinds, head_kinds, entry_kinds, entries_kinds}
 
 -- one list of tokens behind another
 pub texts-nil : texts [] ≡ []
@@ -191,7 +191,7 @@ else-all : (ss : List Stmt) → else_kinds (hidden-the_row-Stmt-0 ss) ≡ second
 unfolding stmt_kinds stmts_kinds hidden-the_row-Stmt-0 shape-the_row-Stmt-0 denote.Hole.Carrier.hidden
 else-all [] = refl
 else-all (s ∷ []) = refl
-else-all (s ∷ t ∷ ss) = ap (λ u. chained false (stmt_kinds s ++ (stmt_kinds t ++ u))) (row-all ss)
+else-all (s ∷ t ∷ ss) = ap (λ u. after_else false (stmt_kinds s ++ (stmt_kinds t ++ u))) (row-all ss)
 
 pub kinds-if : (at : Span) (e : Expr) (first second : List Stmt)
     → stmt_kinds (If at e first second)

@@ -132,8 +132,8 @@ abbrev pub braced : List TokenKind → List TokenKind
 braced ks = Sign Signs.LeftBrace ∷ ks ++ Sign Signs.RightBrace ∷ []
 
 -- An else part of one `if` alone stands without braces.
-abbrev pub chained : Bool → List TokenKind → List TokenKind
-chained alone ks = Reserved Words.Else ∷ (if alone then ks else braced ks)
+abbrev pub after_else : Bool → List TokenKind → List TokenKind
+after_else alone ks = Reserved Words.Else ∷ (if alone then ks else braced ks)
 
 unfoldable mutual
   pub stmt_kinds : Stmt → List TokenKind
@@ -157,7 +157,7 @@ unfoldable mutual
 
   pub else_kinds : {n : _} → Row_of-Stmt n → List TokenKind
   else_kinds end_of-Stmt = []
-  else_kinds (more_of-Stmt s rest) = chained (is_alone s rest) (stmt_kinds s ++ row_kinds rest)
+  else_kinds (more_of-Stmt s rest) = after_else (is_alone s rest) (stmt_kinds s ++ row_kinds rest)
 
 unfoldable pub stmts_kinds : List Stmt → List TokenKind
 stmts_kinds [] = []
@@ -170,7 +170,7 @@ is_chain (s ∷ t ∷ ss) = false
 
 abbrev pub second_kinds : List Stmt → List TokenKind
 second_kinds [] = []
-second_kinds (s ∷ ss) = chained (is_chain (s ∷ ss)) (stmts_kinds (s ∷ ss))
+second_kinds (s ∷ ss) = after_else (is_chain (s ∷ ss)) (stmts_kinds (s ∷ ss))
 
 unfoldable pub field_kinds : FieldDecl → List TokenKind
 field_kinds f = type_kinds f.form ++ Name f.name.text ∷ []
