@@ -14,4 +14,5 @@ pub mod PrintSteps
 pub mod PrintMarks
 pub mod PrintPhrase
 pub mod PrintStatement
+pub mod PrintProgram
 mod Samples
