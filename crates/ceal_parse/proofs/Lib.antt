@@ -15,4 +15,5 @@ pub mod PrintMarks
 pub mod PrintPhrase
 pub mod PrintStatement
 pub mod PrintProgram
+pub mod PrintLexemes
 mod Samples
