@@ -16,4 +16,7 @@ pub mod PrintPhrase
 pub mod PrintStatement
 pub mod PrintProgram
 pub mod PrintLexemes
+pub mod PrintText
+pub mod PrintSource
+pub mod PrintBack
 mod Samples

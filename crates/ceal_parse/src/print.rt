@@ -27,6 +27,7 @@ fn tree_text(alloc: Global, tree: &Tree) -> Result<Vec<u8>, NoMemory>
 /// field or a brace ends a line, and parentheses stand only where the levels of the operators ask for them. An else
 /// part of one `if` is printed as `else if`. The recursion is as deep as the nesting of the text and the operators of
 /// one expression, so at most 64 statements and 256 expressions deep.
+#[tactic(auto, using(crate::proofs::PrintBack::reads_back))]
 pub fn print_tree(alloc: Global, tree: &Tree) -> Result<Text, NoMemory>
     requires parsed { IsParsed tree.now }
     ensures back { IfOk result (λ text. ReadsBack text tree.now) }
