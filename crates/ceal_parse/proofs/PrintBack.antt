@@ -34,19 +34,19 @@ module _ (tree : Tree) (parsed : IsParsed tree) where
   spells =
       let P = printed_program σ parsed.accepted.program parsed.accepted.proper in
       let old : AreSpelled (tokens_of (spelled_program parsed.accepted.program)) =
-          subst AreSpelled (sym parsed.accepted.tokens) (source_spelled parsed.source parsed.tokens parsed.lexed) in
+      subst AreSpelled (sym parsed.accepted.tokens) (source_spelled parsed.source parsed.marked parsed.tokens parsed.lexed) in
       subst AreSpelled P.words (P.thinner.spelled old)
 
   short : length (texts kinds) + 3 < 2 ^ 32
   short =
       let P = printed_program σ parsed.accepted.program parsed.accepted.proper in
       let old : total (tokens_of (spelled_program parsed.accepted.program)) ≤ 21 * length parsed.source =
-          subst (λ (us : List Token). total us ≤ 21 * length parsed.source) (sym parsed.accepted.tokens) (source_total parsed.source parsed.tokens parsed.lexed) in
+      subst (λ (us : List Token). total us ≤ 21 * length parsed.source) (sym parsed.accepted.tokens) (source_total parsed.source parsed.marked parsed.tokens parsed.lexed) in
       let new : total (tokens_of (spelled_program P.made)) ≡ length (texts (kinds ++ End ∷ [])) = ap total P.words ∙ total_texts σ (kinds ++ End ∷ []) in
       let thin = P.thinner.short in
       let small = parsed.small in
       let all : length (texts kinds) ≤ length (texts (kinds ++ End ∷ [])) =
-          let a = ap length (texts-append kinds (End ∷ [])) ∙ length-append (texts kinds) (texts (End ∷ [])) in omega (arith, a) in
+      let a = ap length (texts-append kinds (End ∷ [])) ∙ length-append (texts kinds) (texts (End ∷ [])) in omega (arith, a) in
       omega (arith, old, new, thin, small, all)
 
   pub reads_back : (text : List ℕ) → text ≡ texts (tree_kinds tree) → ReadsBack text tree

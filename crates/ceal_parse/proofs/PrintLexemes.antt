@@ -218,7 +218,7 @@ module _ (b : ℕ) (more : List ℕ) (blank : is_space b ≡ true) where
   longest text x y e lexeme = elim (cases_lt (length text) (length x)) [
     | inl l ↦
         let here : get_or x (length text) 0 ≡ b =
-            sym (get_or_append_left x y 0 (length text) l) ∙ ap (λ (z : List ℕ). get_or z (length text) 0) (sym e) ∙ get_or-append_seam text b more 0 in
+        sym (get_or_append_left x y 0 (length text) l) ∙ ap (λ (z : List ℕ). get_or z (length text) 0) (sym e) ∙ get_or-append_seam text b more 0 in
         absurd (false≢true (sym (at_place IsGraphic x (length text) (graphic x lexeme) l) ∙ ap is_space here ∙ blank))
     | inr l ↦ l
   ]
@@ -258,8 +258,8 @@ module _ (text : List ℕ) (lexeme : IsLexeme text) (b : ℕ) (blank : is_space 
       let here : i - length text ≡ suc j = omega (arith, l) in
       let next : i + 1 - length text ≡ suc (j + 1) = omega (arith, l) in
       c j (omega (arith, l, m))
-        (ap (λ (k : ℕ). get_or (b ∷ rest) k 0) (sym here) ∙ sym (get_or-append_right text (b ∷ rest) i 0 (omega (arith, l))) ∙ p)
-        (ap (λ (k : ℕ). get_or (b ∷ rest) k 0) (sym next) ∙ sym (get_or-append_right text (b ∷ rest) (i + 1) 0 (omega (arith, l))) ∙ q)
+      (ap (λ (k : ℕ). get_or (b ∷ rest) k 0) (sym here) ∙ sym (get_or-append_right text (b ∷ rest) i 0 (omega (arith, l))) ∙ p)
+      (ap (λ (k : ℕ). get_or (b ∷ rest) k 0) (sym next) ∙ sym (get_or-append_right text (b ∷ rest) (i + 1) 0 (omega (arith, l))) ∙ q)
 
   pub clear_front : (n : ℕ) → IsClear n rest → IsClear (length text + 1 + n) (text ++ b ∷ rest)
   clear_front n c i m p q = elim (cases_lt i (length text)) [

@@ -17,14 +17,14 @@ unfoldable pub total : List Token → ℕ
 total [] = 0
 total (t ∷ ts) = length (kind_text t.kind ++ gap t.kind) + total ts
 
--- The last token is the end; what each other is printed as spells it.
+-- The last token is an end; what each other is printed as spells it.
 abbrev pub SpellsBefore : TokenKind → List Token → Type 0 → Type 0
 SpellsBefore (Name text) ts rest = Spells (Name text) text × rest
 SpellsBefore (Number n) ts rest = Spells (Number n) (kind_text (Number n)) × rest
 SpellsBefore (Reserved w) ts rest = rest
 SpellsBefore (Sign s) ts rest = rest
 SpellsBefore End ts rest = ts ≡ []
-SpellsBefore Cut ts rest = ⊥
+SpellsBefore Cut ts rest = ts ≡ []
 
 unfoldable pub AreSpelled : List Token → Type 0
 AreSpelled [] = ⊥

@@ -89,7 +89,7 @@ module _ (σ : List TokenKind → Span) where
     made = parens (open_at old ks) P.made (σ (Sign Signs.RightParenthesis ∷ ks));
     words = ap (λ u. word (Sign Signs.LeftParenthesis) (open_at old ks) ∷ u)
         (P.words ∙ ap (spanned σ) (sym (append_assoc (expr_kinds (expression old)) (Sign Signs.RightParenthesis ∷ []) ks)))
-      ∙ ap (λ u. spanned σ (u ++ ks)) (sym e);
+        ∙ ap (λ u. spanned σ (u ++ ks)) (sym e);
     grouped = P.grouped;
     level = low;
     bare = P.bare;
@@ -162,7 +162,7 @@ module _ (σ : List TokenKind → Span) where
         dropped refl (P.lighter (max j c) d (suc e) i 0 n m ms _ (omega (arith, de)) (omega (arith, ij)) nm (dropped refl th));
     enclosed = λ less s t c d e i j n m ms ns de ij nm th.
         kept refl (omega (arith, de)) ij nm
-          (P.lighter 0 (suc d) (suc e) 0 0 n m _ _ (omega (arith, de)) (omega arith) nm (kept refl de (omega arith) (P.counted n m nm) th));
+        (P.lighter 0 (suc d) (suc e) 0 0 n m _ _ (omega (arith, de)) (omega arith) nm (kept refl de (omega arith) (P.counted n m nm) th));
   }
   printed (arrow a s x) g ks =
       let A = operand 8 a g.0 (omega arith) (printed a g.1) (Sign Signs.Arrow ∷ Name x.text ∷ ks) in record {
@@ -211,8 +211,8 @@ module _ (σ : List TokenKind → Span) where
       let A = operand (level op) a g.0 (omega (arith, low)) (printed a g.2) (right ++ ks) in record {
         made = binary op A.made (σ (right ++ ks)) B.made;
         words = ap (λ u. phrase A.made (word (Sign (sign_of op)) (σ (right ++ ks)) ∷ u)) B.words
-          ∙ A.words
-          ∙ ap (spanned σ) (sym (append_assoc (raised (level op) (tree_level a) (expr_kinds (expression a))) right ks));
+            ∙ A.words
+            ∙ ap (spanned σ) (sym (append_assoc (raised (level op) (tree_level a) (expr_kinds (expression a))) right ks));
         grouped = (A.level, let h = B.level in omega (arith, h), A.grouped, B.grouped);
         level = refl;
         bare = ap₂ (λ (x y : Expr). record { span = nowhere; form = Binary op nowhere x y }) A.bare B.bare;
@@ -221,7 +221,7 @@ module _ (σ : List TokenKind → Span) where
         lighter = λ c d e i j n m ms ns de ij nm th.
             let k = A.counted n m nm in
             A.lighter c d e i j n m _ _ de ij nm
-              (kept refl de (omega arith) (omega (arith, k))
-                (B.lighter 0 d e 0 0 (suc (after A.made n)) (suc (after a m)) _ _ de (omega arith) (omega (arith, k)) th));
+            (kept refl de (omega arith) (omega (arith, k))
+            (B.lighter 0 d e 0 0 (suc (after A.made n)) (suc (after a m)) _ _ de (omega arith) (omega (arith, k)) th));
         enclosed = λ less. absurd (omega (arith, less));
       }

@@ -114,7 +114,7 @@ module _ (σ : List TokenKind → Span) where
       let P = printed_parameter p (other_kinds (other_trees more) ++ ks) in record {
         made = parameters P.made O.made;
         words = ap (parameter_words P.made) O.words ∙ P.words
-          ∙ sym (ap (spanned σ) (append_assoc (field_kinds (parameter_tree p)) (other_kinds (other_trees more)) ks));
+            ∙ sym (ap (spanned σ) (append_assoc (field_kinds (parameter_tree p)) (other_kinds (other_trees more)) ks));
         proper = (P.allowed h.0, O.proper);
         bare = λ i. P.bare i ∷ O.bare i;
         thinner = λ ms ns th. P.thinner 1 _ _ (O.thinner 2 ms ns th);
@@ -162,7 +162,7 @@ module _ (σ : List TokenKind → Span) where
         made = function (core (σ (Reserved Words.Ceal ∷ Name x.text ∷ L)) (placed σ x L) (σ L) P.made (σ R)) B.made;
         words = next σ (Reserved Words.Ceal) (next σ (Name x.text) (next σ (Sign Signs.LeftParenthesis)
             (ap (parameters_words P.made) (next σ (Sign Signs.RightParenthesis) B.words) ∙ P.words)))
-          ∙ sym (ap (spanned σ) flat);
+            ∙ sym (ap (spanned σ) flat);
         proper = (P.proper, B.proper);
         bare = λ i. Function (record { initialiser = None; name = bare_name x; params = P.bare i; body = B.bare i; close = nowhere });
         thinner = λ ms ns th. same refl (same refl (same refl (P.thinner _ _ (same refl (B.thinner 0 ms ns th)))));
@@ -176,10 +176,10 @@ module _ (σ : List TokenKind → Span) where
       let L : List TokenKind = Sign Signs.LeftParenthesis ∷ Reserved Words.Struct ∷ Name y.text ∷ T in
       let flat : entry_kinds (part_tree (function (init s x l k y t o more r) b)) ++ ks ≡ Reserved Words.Init ∷ Name x.text ∷ L = simp append_assoc refl in record {
         made = function (init (σ (Reserved Words.Init ∷ Name x.text ∷ L)) (placed σ x L) (σ L) (σ (Reserved Words.Struct ∷ Name y.text ∷ T)) (placed σ y T)
-          (σ T) (σ O) P.made (σ R)) B.made;
+            (σ T) (σ O) P.made (σ R)) B.made;
         words = next σ (Reserved Words.Init) (next σ (Name x.text) (next σ (Sign Signs.LeftParenthesis) (next σ (Reserved Words.Struct) (next σ (Name y.text)
             (next σ (Sign Signs.Star) (next σ (Reserved Words.Own) (ap (others P.made) (next σ (Sign Signs.RightParenthesis) B.words) ∙ P.words)))))))
-          ∙ sym (ap (spanned σ) flat);
+            ∙ sym (ap (spanned σ) flat);
         proper = (P.proper, B.proper);
         bare = λ i. Function (record { initialiser = Some (bare_name y); name = bare_name x; params = P.bare i; body = B.bare i; close = nowhere });
         thinner = λ ms ns th.

@@ -1,5 +1,5 @@
 -- The tokens of a source are spelled by their own texts, which are not much longer than the source.
-use Rattle.std.proofs.Common.{◌≡◌, ℕ, ◌+◌, ◌*◌, ◌≤◌, Bool, true, List, [], ◌∷◌, ◌++◌, length, refl, sym, ◌∙◌, subst, arith}
+use Rattle.std.proofs.Common.{◌≡◌, ℕ, ◌+◌, ◌*◌, ◌≤◌, Bool, true, false, List, [], ◌∷◌, ◌++◌, length, refl, sym, ◌∙◌, subst, arith}
 use Rattle.std.proofs.lemmas.List.{length-append}
 use Rattle.ceal_lex.specs.declared.token.Token.{Token}
 use Rattle.ceal_lex.specs.declared.token.TokenKind.{TokenKind}
@@ -45,14 +45,24 @@ pieces_total (token j text ∷ ps) at rest us h =
     let m = length-append (kind_text j) (gap j) in
     let short = short_text j text h.0.0 in omega (arith, k, l, m, short)
 
-pub source_spelled : (source : List ℕ) (tokens : List Token) → AreTokens source true tokens → AreSpelled tokens
+ending_spelled : (marked : Bool) (n : ℕ) → AreSpelled (ending marked n ∷ [])
 unfolding AreSpelled
-source_spelled source tokens h = subst AreSpelled (sym h.same) (pieces_spelled h.pieces 0 [] (ending true (length source) ∷ []) h.stand refl)
+ending_spelled true n = refl
+ending_spelled false n = refl
 
-pub source_total : (source : List ℕ) (tokens : List Token) → AreTokens source true tokens → total tokens ≤ 21 * length source
+ending_total : (marked : Bool) (n : ℕ) → total (ending marked n ∷ []) ≡ 0
 unfolding total
-source_total source tokens h =
-    let k : total (tokens_from 0 h.pieces ++ ending true (length source) ∷ []) ≤ 21 * length (spelled h.pieces []) + 0 =
-        pieces_total h.pieces 0 [] (ending true (length source) ∷ []) h.stand in
-    let l : total tokens ≤ 21 * length (spelled h.pieces []) = subst (λ (us : List Token). total us ≤ 21 * length (spelled h.pieces [])) (sym h.same) (omega (arith, k)) in
-    subst (λ (bytes : List ℕ). total tokens ≤ 21 * length bytes) h.spelled l
+ending_total true n = omega arith
+ending_total false n = omega arith
+
+module _ (source : List ℕ) (marked : Bool) (tokens : List Token) (h : AreTokens source marked tokens) where
+  pub source_spelled : AreSpelled tokens
+  source_spelled =
+      subst AreSpelled (sym h.same) (pieces_spelled h.pieces 0 [] (ending marked (length source) ∷ []) h.stand (ending_spelled marked (length source)))
+
+  pub source_total : total tokens ≤ 21 * length source
+  source_total =
+      let k = pieces_total h.pieces 0 [] (ending marked (length source) ∷ []) h.stand in
+      let none = ending_total marked (length source) in
+      let l : total tokens ≤ 21 * length (spelled h.pieces []) = subst (λ (us : List Token). total us ≤ 21 * length (spelled h.pieces [])) (sym h.same) (omega (arith, k, none)) in
+      subst (λ (bytes : List ℕ). total tokens ≤ 21 * length bytes) h.spelled l

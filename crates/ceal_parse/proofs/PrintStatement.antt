@@ -172,7 +172,7 @@ module _ (σ : List TokenKind → Span) where
   }
   printed_type (mod_pointer s k x t) ks = record {
     made = mod_pointer (σ (Reserved Words.Mod ∷ Reserved Words.Struct ∷ Name x.text ∷ Sign Signs.Star ∷ ks))
-      (σ (Reserved Words.Struct ∷ Name x.text ∷ Sign Signs.Star ∷ ks)) (placed σ x (Sign Signs.Star ∷ ks)) (σ (Sign Signs.Star ∷ ks));
+        (σ (Reserved Words.Struct ∷ Name x.text ∷ Sign Signs.Star ∷ ks)) (placed σ x (Sign Signs.Star ∷ ks)) (σ (Sign Signs.Star ∷ ks));
     words = refl;
     allowed = λ cells h. h;
     bare = refl;
@@ -310,11 +310,11 @@ module _ (σ : List TokenKind → Span) where
       let whole : List TokenKind = stmts_kinds (statement_trees old) ++ ks in record {
         made = chained (σ (Reserved Words.Else ∷ whole)) found.0;
         words = next σ (Reserved Words.Else) (ap (λ (ss : Statements). statement_words ss (spanned σ ks)) (sym found.1) ∙ P.words)
-          ∙ ap (λ u. spanned σ (u ++ ks)) (sym e);
+            ∙ ap (λ u. spanned σ (u ++ ks)) (sym e);
         proper = (subst StatementsProper found.1 P.proper).0;
         bare = ap (λ (ss : Statements). bare_stmts (statement_trees ss)) (sym found.1) ∙ P.bare;
         thinner = λ d ms ns th. same refl (dropped refl
-          (subst (λ (ss : Statements). Thinner 0 (spelled_statements (suc d) ss ms) (spelled_statements (suc d) old (plain d (Sign Signs.RightBrace) r ∷ ns))) found.1
+            (subst (λ (ss : Statements). Thinner 0 (spelled_statements (suc d) ss ms) (spelled_statements (suc d) old (plain d (Sign Signs.RightBrace) r ∷ ns))) found.1
             (P.thinner (suc d) ms (plain d (Sign Signs.RightBrace) r ∷ ns) (dropped refl th))));
       }
 
@@ -337,10 +337,10 @@ module _ (σ : List TokenKind → Span) where
   other_branch s b ks P =
       let whole : List TokenKind = stmt_kinds (branch_tree b) ++ ks in
       let flat : after_else true (stmts_kinds (branch_tree b ∷ [])) ++ ks ≡ Reserved Words.Else ∷ whole =
-          ap (λ u. Reserved Words.Else ∷ u) (append_assoc (stmt_kinds (branch_tree b)) [] ks) in record {
+      ap (λ u. Reserved Words.Else ∷ u) (append_assoc (stmt_kinds (branch_tree b)) [] ks) in record {
         made = chained (σ (Reserved Words.Else ∷ whole)) P.made;
         words = next σ (Reserved Words.Else) P.words ∙ sym (ap (spanned σ) flat)
-          ∙ ap (λ c. spanned σ (after_else c (stmts_kinds (branch_tree b ∷ [])) ++ ks)) (sym (is_if b));
+            ∙ ap (λ c. spanned σ (after_else c (stmts_kinds (branch_tree b ∷ [])) ++ ks)) (sym (is_if b));
         proper = P.proper;
         bare = λ i. P.bare i ∷ [];
         thinner = λ d ms ns th. same refl (P.thinner (suc d) ms ns th);
@@ -387,7 +387,7 @@ module _ (σ : List TokenKind → Span) where
           thinner = λ d ms ns th.
               let k = P.counted 0 0 (omega arith) in
               alike p A P d (kept refl (omega arith) (omega arith) (omega (arith, k)) (kept refl (omega arith) (omega arith) (omega (arith, k))
-                (same refl (alike e S E d (same refl th)))));
+              (same refl (alike e S E d (same refl th)))));
         }
     printed_statement (store s l a c e r semi) h ks =
         let R : List TokenKind = Sign Signs.RightParenthesis ∷ Sign Signs.Semicolon ∷ ks in
@@ -398,7 +398,7 @@ module _ (σ : List TokenKind → Span) where
         let flat : stmt_kinds (statement_tree (store s l a c e r semi)) ++ ks ≡ Reserved Words.Write ∷ L = simp append_assoc refl in record {
           made = store (σ (Reserved Words.Write ∷ L)) (σ L) A.made (σ C) E.made (σ R) (σ (Sign Signs.Semicolon ∷ ks));
           words = next σ (Reserved Words.Write) (next σ (Sign Signs.LeftParenthesis) (ap (phrase A.made) (next σ (Sign Signs.Comma) E.words) ∙ A.words))
-            ∙ sym (ap (spanned σ) flat);
+              ∙ sym (ap (spanned σ) flat);
           proper = (A.grouped, E.grouped);
           bare = λ i. Write nowhere (A.bare i) (E.bare i);
           thinner = λ d ms ns th. same refl (same refl (alike a C A (suc d) (same refl (alike e R E (suc d) (same refl (same refl th))))));
@@ -428,14 +428,14 @@ module _ (σ : List TokenKind → Span) where
         let E = printed σ e h.0 R in
         let L : List TokenKind = Sign Signs.LeftParenthesis ∷ expr_kinds (expression e) ++ R in
         let flat : stmt_kinds (statement_tree (loop s l e r b)) ++ ks ≡ Reserved Words.While ∷ L =
-            ap (λ u. u ++ ks) (kinds-while s (expression e) (block_trees b)) ∙ simp append_assoc refl in record {
+        ap (λ u. u ++ ks) (kinds-while s (expression e) (block_trees b)) ∙ simp append_assoc refl in record {
           made = loop (σ (Reserved Words.While ∷ L)) (σ L) E.made (σ R) B.made;
           words = next σ (Reserved Words.While) (next σ (Sign Signs.LeftParenthesis) (ap (phrase E.made) (next σ (Sign Signs.RightParenthesis) B.words) ∙ E.words))
-            ∙ sym (ap (spanned σ) flat);
+              ∙ sym (ap (spanned σ) flat);
           proper = (E.grouped, B.proper);
           bare = bare-while (σ (Reserved Words.While ∷ L)) (expression E.made) (block_trees B.made)
-            ∙ (λ i. While nowhere (E.bare i) (B.bare i))
-            ∙ sym (bare-while s (expression e) (block_trees b));
+              ∙ (λ i. While nowhere (E.bare i) (B.bare i))
+              ∙ sym (bare-while s (expression e) (block_trees b));
           thinner = λ d ms ns th. same refl (same refl (alike e R E (suc d) (same refl (B.thinner d ms ns th))));
         }
     printed_statement (exit s semi) h ks = record {
@@ -454,15 +454,15 @@ module _ (σ : List TokenKind → Span) where
         let E = printed σ e h.0 R in
         let L : List TokenKind = Sign Signs.LeftParenthesis ∷ expr_kinds (expression e) ++ R in
         let flat : stmt_kinds (branch_tree (when s l e r b other)) ++ ks ≡ Reserved Words.If ∷ L =
-            ap (λ u. u ++ ks) (kinds-if s (expression e) (block_trees b) (otherwise_trees other)) ∙ simp append_assoc refl in record {
+        ap (λ u. u ++ ks) (kinds-if s (expression e) (block_trees b) (otherwise_trees other)) ∙ simp append_assoc refl in record {
           made = when (σ (Reserved Words.If ∷ L)) (σ L) E.made (σ R) B.made O.made;
           words = next σ (Reserved Words.If) (next σ (Sign Signs.LeftParenthesis)
               (ap (phrase E.made) (next σ (Sign Signs.RightParenthesis) (ap (block_words B.made) O.words ∙ B.words)) ∙ E.words))
-            ∙ sym (ap (spanned σ) flat);
+              ∙ sym (ap (spanned σ) flat);
           proper = (E.grouped, B.proper, O.proper);
           bare = bare-if (σ (Reserved Words.If ∷ L)) (expression E.made) (block_trees B.made) (otherwise_trees O.made)
-            ∙ (λ i. If nowhere (E.bare i) (B.bare i) (O.bare i))
-            ∙ sym (bare-if s (expression e) (block_trees b) (otherwise_trees other));
+              ∙ (λ i. If nowhere (E.bare i) (B.bare i) (O.bare i))
+              ∙ sym (bare-if s (expression e) (block_trees b) (otherwise_trees other));
           thinner = λ d ms ns th. same refl (same refl (alike e R E (suc d) (same refl (B.thinner d _ _ (O.thinner d ms ns th)))));
         }
 

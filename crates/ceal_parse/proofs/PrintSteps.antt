@@ -230,8 +230,8 @@ text-write at a e =
     let first : List TokenKind = expr_kinds a in
     let second : List TokenKind = expr_kinds e in
     ap (λ t. codes "write ( " ++ t)
-      (texts-append (first ++ Sign Signs.Comma ∷ second) (Sign Signs.RightParenthesis ∷ Sign Signs.Semicolon ∷ [])
-      ∙ ap (λ t. t ++ codes ") ;\n") (texts-append first (Sign Signs.Comma ∷ second)))
+    (texts-append (first ++ Sign Signs.Comma ∷ second) (Sign Signs.RightParenthesis ∷ Sign Signs.Semicolon ∷ [])
+    ∙ ap (λ t. t ++ codes ") ;\n") (texts-append first (Sign Signs.Comma ∷ second)))
     ∙ simp append_assoc refl
 
 pub text-call : (x : Ident) (args : List Expr)
@@ -247,8 +247,8 @@ text-if at e first second =
     let body : List TokenKind = braced (stmts_kinds first) in
     ap texts (kinds-if at e first second)
     ∙ ap (λ t. codes "if ( " ++ t)
-      (texts-append (expr_kinds e ++ Sign Signs.RightParenthesis ∷ body) (second_kinds second)
-      ∙ ap (λ t. t ++ texts (second_kinds second)) (texts-append (expr_kinds e) (Sign Signs.RightParenthesis ∷ body)))
+    (texts-append (expr_kinds e ++ Sign Signs.RightParenthesis ∷ body) (second_kinds second)
+    ∙ ap (λ t. t ++ texts (second_kinds second)) (texts-append (expr_kinds e) (Sign Signs.RightParenthesis ∷ body)))
 
 pub text-while : (at : Span) (e : Expr) (body : List Stmt)
     → texts (stmt_kinds (While at e body)) ≡ codes "while ( " ++ texts (expr_kinds e) ++ codes ") " ++ texts (braced (stmts_kinds body))

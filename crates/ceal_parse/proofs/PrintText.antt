@@ -45,7 +45,7 @@ module _ (σ : List TokenKind → Span) where
   all_spell (Reserved w ∷ ks) h = (refl, all_spell ks h)
   all_spell (Sign s ∷ ks) h = (refl, all_spell ks h)
   all_spell (End ∷ ks) h = absurd (not_alone ks End h)
-  all_spell (Cut ∷ ks) h = absurd h
+  all_spell (Cut ∷ ks) h = absurd (not_alone ks End h)
 
   pub total_texts : (ks : List TokenKind) → total (spanned σ ks) ≡ length (texts ks)
   unfolding spanned total texts
@@ -133,12 +133,12 @@ unfolding texts AllSpell
 texts_clear [] rest h = λ i l p q. omega (arith, l)
 texts_clear (k ∷ ks) rest h =
     let front : texts (k ∷ ks) ++ rest ≡ kind_text k ++ gap_byte k ∷ (texts ks ++ rest) =
-        ap (λ (g : List ℕ). (kind_text k ++ (g ++ texts ks)) ++ rest) (gap_is k (kind_text k) h.0)
-        ∙ append_assoc (kind_text k) (gap_byte k ∷ texts ks) rest in
+    ap (λ (g : List ℕ). (kind_text k ++ (g ++ texts ks)) ++ rest) (gap_is k (kind_text k) h.0)
+    ∙ append_assoc (kind_text k) (gap_byte k ∷ texts ks) rest in
     let many : length (texts (k ∷ ks)) ≡ length (kind_text k) + 1 + length (texts ks) =
-        let g = ap length (gap_is k (kind_text k) h.0) in
-        let a = length-append (kind_text k) (gap k ++ texts ks) in
-        let b = length-append (gap k) (texts ks) in omega (arith, a, b, g) in
+    let g = ap length (gap_is k (kind_text k) h.0) in
+    let a = length-append (kind_text k) (gap k ++ texts ks) in
+    let b = length-append (gap k) (texts ks) in omega (arith, a, b, g) in
     let clear = clear_front (kind_text k) (is_lexeme k (kind_text k) h.0) (gap_byte k) (gap_blank k) (texts ks ++ rest) (length (texts ks)) (texts_clear ks rest h.1) in
     rw (many, front) clear
 
@@ -159,9 +159,9 @@ none_before n input clear b a h = elim (cases_lt (length b) n) [
       let longer : input ≡ (b ++ PERCENT ∷ []) ++ PERCENT ∷ begins.0 = whole ∙ sym (append_assoc b (PERCENT ∷ []) (PERCENT ∷ begins.0)) in
       let one : length (b ++ PERCENT ∷ []) ≡ length b + 1 = length-append b (PERCENT ∷ []) in
       absurd (clear (length b) l
-        (ap (λ (x : List ℕ). get_or x (length b) 0) whole ∙ get_or-append_seam b PERCENT (PERCENT ∷ begins.0) 0)
-        (ap (λ (x : List ℕ). get_or x (length b + 1) 0) longer ∙ ap (λ (k : ℕ). get_or ((b ++ PERCENT ∷ []) ++ PERCENT ∷ begins.0) k 0) (sym one)
-          ∙ get_or-append_seam (b ++ PERCENT ∷ []) PERCENT begins.0 0))
+      (ap (λ (x : List ℕ). get_or x (length b) 0) whole ∙ get_or-append_seam b PERCENT (PERCENT ∷ begins.0) 0)
+      (ap (λ (x : List ℕ). get_or x (length b + 1) 0) longer ∙ ap (λ (k : ℕ). get_or ((b ++ PERCENT ∷ []) ++ PERCENT ∷ begins.0) k 0) (sym one)
+      ∙ get_or-append_seam (b ++ PERCENT ∷ []) PERCENT begins.0 0))
   | inr l ↦ l
 ]
 
@@ -171,8 +171,8 @@ unfolding texts
 line_after ks s e = inr (
   texts ks ++ sign_text s,
   texts-append ks (Sign s ∷ [])
-  ∙ ap (λ (b : ℕ). texts ks ++ (sign_text s ++ b ∷ [])) e
-  ∙ sym (append_assoc (texts ks) (sign_text s) (LINE_FEED ∷ [])),
+      ∙ ap (λ (b : ℕ). texts ks ++ (sign_text s ++ b ∷ [])) e
+      ∙ sym (append_assoc (texts ks) (sign_text s) (LINE_FEED ∷ [])),
 )
 
 entry_end : (e : Entry) → IsBeforeLine (texts (entry_kinds e))
@@ -191,7 +191,7 @@ unfolding texts entries_kinds
 entries_end [] = inl refl
 entries_end (e ∷ es) =
     subst IsBeforeLine (sym (texts-append (entry_kinds e) (entries_kinds es)))
-      (line_joined (texts (entry_kinds e)) (texts (entries_kinds es)) (entry_end e) (entries_end es))
+    (line_joined (texts (entry_kinds e)) (texts (entries_kinds es)) (entry_end e) (entries_end es))
 
 -- The text, and the line `%%` after it.
 pub text_split : (ks : List TokenKind) → AllSpell ks → IsBeforeLine (texts ks) → length (texts ks) + 3 < 2 ^ 32 → (part : Split) × IsSplit (texts ks ++ mark_line) part

@@ -1,5 +1,5 @@
 -- What a printed text is: that it reads back as the tree, apart from spans.
-use Rattle.std.specs.Prelude.{ℕ, ◌≤◌, ◌≡◌, true, Option, Some, None, List, [], ◌∷◌, ◌++◌, length, codes}
+use Rattle.std.specs.Prelude.{ℕ, ◌≤◌, ◌≡◌, Bool, Option, Some, None, List, [], ◌∷◌, ◌++◌, length, codes}
 use Rattle.ceal_base.specs.declared.fault.Span.{Span}
 use Rattle.ceal_base.specs.declared.syntax.Entry.{Entry}
 use Rattle.ceal_base.specs.declared.syntax.Entry.TheVariants.{Struct, Function}
@@ -126,12 +126,13 @@ mark_line = codes "%%\n"
 abbrev pub INPUT_LIMIT : ℕ
 INPUT_LIMIT = 4194304
 
--- The tree is that of the source part of an input.
+-- The tree is that of a source of at most so many bytes.
 pub record IsParsed (tree : Tree) : Type 0 where
   pub source : List ℕ
+  pub marked : Bool
   pub tokens : List Token
   pub small : length source ≤ INPUT_LIMIT
-  pub lexed : AreTokens source true tokens
+  pub lexed : AreTokens source marked tokens
   pub accepted : Accepts tokens tree
 
 -- The text and a line `%%` after it are an input whose tokens are those of a program with the same tree, apart from

@@ -7,6 +7,8 @@ ghost use Rattle.ceal_parse.specs.PrintWords.{texts, tree_kinds};
 mod entries;
 mod expressions;
 mod statements;
+#[cfg(test)]
+mod tests;
 mod text;
 
 use ceal_base::no_memory::NoMemory;
