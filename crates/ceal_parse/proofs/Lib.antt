@@ -20,3 +20,4 @@ pub mod PrintText
 pub mod PrintSource
 pub mod PrintBack
 mod Samples
+mod PrintSamples
