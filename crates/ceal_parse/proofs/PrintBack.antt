@@ -1,15 +1,12 @@
 -- The printed text reads back.
-use Rattle.std.proofs.Common.{◌≡◌, ℕ, ◌+◌, ◌*◌, ◌≤◌, ◌<◌, ◌^◌, true, List, [], ◌∷◌, ◌++◌, length, refl, ap, sym, ◌∙◌, subst, arith}
+use Rattle.std.proofs.Common.{◌≡◌, ℕ, ◌+◌, ◌*◌, ◌≤◌, ◌<◌, ◌^◌, List, [], ◌∷◌, ◌++◌, length, refl, ap, sym, ◌∙◌, subst, arith}
 use Rattle.std.proofs.lemmas.List.{length-append}
 use Rattle.ceal_base.specs.declared.fault.Span.{Span}
 use Rattle.ceal_base.specs.declared.syntax.Tree.{Tree}
 use Rattle.ceal_lex.specs.declared.token.Token.{Token}
 use Rattle.ceal_lex.specs.declared.token.TokenKind.{TokenKind}
 use Rattle.ceal_lex.specs.declared.token.TokenKind.TheVariants.{End}
-use Rattle.ceal_lex.specs.Parts.{source_of}
-use Rattle.ceal_lex.specs.Tokens.{AreTokens}
-use Rattle.ceal_parse.specs.Faults.{Accepts}
-use Rattle.ceal_parse.specs.Print.{bare_tree, mark_line, IsParsed, ReadsBack}
+use Rattle.ceal_parse.specs.Print.{bare_tree, IsParsed, ReadsBack}
 use Rattle.ceal_parse.specs.PrintWords.{texts, tree_kinds}
 use Rattle.ceal_parse.specs.Spelled.{spelled_program, tokens_of}
 use Rattle.ceal_parse.specs.Trees.{program_tree}

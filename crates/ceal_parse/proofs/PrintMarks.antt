@@ -1,16 +1,14 @@
 -- Marks of which some are left out, the others with no larger counts.
-use Rattle.std.proofs.Common.{◌≡◌, ℕ, suc, ◌+◌, ◌≤◌, ◌<◌, max, Bool, true, false, List, [], ◌∷◌, ◌++◌, length, refl, arith}
+use Rattle.std.proofs.Common.{◌≡◌, ℕ, ◌+◌, ◌≤◌, max, Bool, true, false, List, [], ◌∷◌, ◌++◌, length, arith}
 use Rattle.std.proofs.lemmas.Bool.{false≢true}
 use Rattle.ceal_base.specs.declared.fault.Span.{Span}
 use Rattle.ceal_lex.specs.Spelling.{Spells}
-use Rattle.ceal_lex.specs.declared.token.Sign.TheVariants as Signs
 use Rattle.ceal_lex.specs.declared.token.Token.{Token}
 use Rattle.ceal_lex.specs.declared.token.TokenKind.{TokenKind}
 use Rattle.ceal_lex.specs.declared.token.TokenKind.TheVariants.{Name, Number, Reserved, Sign, End, Cut}
-use Rattle.ceal_parse.specs.Faults.{IsWithin, AllWithin}
-use Rattle.ceal_parse.specs.PrintWords.{kind_text, gap, texts}
+use Rattle.ceal_parse.specs.Faults.{AllWithin}
+use Rattle.ceal_parse.specs.PrintWords.{kind_text, gap}
 use Rattle.ceal_parse.specs.Spelled.{Mark, mark, plain, tokens_of}
-use Rattle.ceal_parse.proofs.Words.{word}
 
 -- how many bytes tokens are printed as
 unfoldable pub total : List Token → ℕ

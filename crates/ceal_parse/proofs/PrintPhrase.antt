@@ -1,9 +1,7 @@
 -- Each expression is printed as a derivation of its own, with no more parentheses than it had.
-use Rattle.std.proofs.Common.{◌≡◌, ℕ, suc, ◌+◌, ◌≤◌, ◌<◌, max, Bool, true, false, List, [], ◌∷◌, ◌++◌, refl, ap, ap₂, sym, ◌∙◌, arith, inl, inr, append_assoc}
+use Rattle.std.proofs.Common.{◌≡◌, ℕ, suc, ◌+◌, ◌≤◌, ◌<◌, max, List, [], ◌∷◌, ◌++◌, refl, ap, ap₂, sym, ◌∙◌, arith, inl, inr, append_assoc}
 use Rattle.std.proofs.lemmas.Bool.Decides.{leb_tells}
 use Rattle.ceal_base.specs.declared.fault.Span.{Span}
-use Rattle.ceal_base.specs.declared.operators.Unary.{Unary as UnaryOp}
-use Rattle.ceal_base.specs.declared.operators.Binary.{Binary as BinaryOp}
 use Rattle.ceal_base.specs.declared.syntax.Expr.{Expr}
 use Rattle.ceal_base.specs.declared.syntax.ExprForm.TheBlock.{hidden-the_row-Expr-0, shape-the_row-Expr-0}
 use Rattle.ceal_base.specs.declared.syntax.ExprForm.TheViews.{Unary, Binary, Field, Address}
@@ -16,11 +14,11 @@ use Rattle.ceal_lex.specs.declared.token.TokenKind.TheVariants.{Name, Number, Re
 use Rattle.ceal_parse.specs.Grammar.{Phrase, number, null, variable, own, parens, arrow, prefix, address, binary, level, level_of, Grouped, IsPath}
 use Rattle.ceal_parse.specs.Print.{nowhere, bare_name, bare_form, bare_expr}
 use Rattle.ceal_parse.specs.PrintWords.{form_level, raised, form_kinds, expr_kinds}
-use Rattle.ceal_parse.specs.Spelled.{Mark, mark, sign_of, prefix_sign, after, spelled}
+use Rattle.ceal_parse.specs.Spelled.{Mark, sign_of, prefix_sign, after, spelled}
 use Rattle.ceal_parse.specs.Trees.{expression, first}
 use Rattle.ceal_parse.proofs.CompletePhrase.{level_low}
-use Rattle.ceal_parse.proofs.PrintMarks.{Thinner, kept, same, dropped}
-use Rattle.ceal_parse.proofs.Words.{word, named, phrase}
+use Rattle.ceal_parse.proofs.PrintMarks.{Thinner, kept, dropped}
+use Rattle.ceal_parse.proofs.Words.{word, phrase}
 
 -- Tokens of these kinds. The span of each is a function of the kinds from it on.
 unfoldable pub spanned : (List TokenKind → Span) → List TokenKind → List Token

@@ -1,22 +1,20 @@
 -- Each program is printed as a derivation of its own, with the same tree apart from spans.
-use Rattle.std.proofs.Common.{◌≡◌, ℕ, suc, Bool, false, Some, None, List, [], ◌∷◌, ◌++◌, refl, ap, sym, ◌∙◌, append_assoc}
+use Rattle.std.proofs.Common.{◌≡◌, ℕ, suc, false, Some, None, List, [], ◌∷◌, ◌++◌, refl, ap, sym, ◌∙◌, append_assoc}
 use Rattle.ceal_base.specs.declared.fault.Span.{Span}
 use Rattle.ceal_base.specs.declared.syntax.Entry.TheVariants.{Struct, Function}
-use Rattle.ceal_base.specs.declared.syntax.Ident.{Ident}
 use Rattle.ceal_lex.specs.declared.token.Reserved.TheVariants as Words
 use Rattle.ceal_lex.specs.declared.token.Sign.TheVariants as Signs
-use Rattle.ceal_lex.specs.declared.token.Token.{Token}
 use Rattle.ceal_lex.specs.declared.token.TokenKind.{TokenKind}
-use Rattle.ceal_lex.specs.declared.token.TokenKind.TheVariants.{Name, Number, Reserved, Sign, End}
-use Rattle.ceal_parse.specs.Grammar.{Written, Allowed, Block, Parameter, Parameters, no_parameters, parameters, Signature, core, init, Member, Part, structure, function, Program, MoreProper, ParametersProper, PartProper, PartsProper}
+use Rattle.ceal_lex.specs.declared.token.TokenKind.TheVariants.{Name, Reserved, Sign, End}
+use Rattle.ceal_parse.specs.Grammar.{Allowed, Parameter, Parameters, no_parameters, parameters, core, init, Member, Part, structure, function, Program, MoreProper, ParametersProper, PartProper, PartsProper}
 use Rattle.ceal_parse.specs.Print.{nowhere, bare_name, bare_field, bare_fields, bare_entry, bare_entries, bare_tree}
 use Rattle.ceal_parse.specs.PrintWords.{type_kinds, braced, stmts_kinds, field_kinds, other_kinds, parameter_kinds, member_kinds, entry_kinds, entries_kinds, tree_kinds}
-use Rattle.ceal_parse.specs.Spelled.{Mark, mark, plain, name, spelled_parameter, spelled_others, spelled_parameters, spelled_members, spelled_part, spelled_parts, spelled_program, tokens_of}
+use Rattle.ceal_parse.specs.Spelled.{Mark, spelled_parameter, spelled_others, spelled_parameters, spelled_members, spelled_part, spelled_parts, spelled_program, tokens_of}
 use Rattle.ceal_parse.specs.Trees.{type_form, parameter_tree, other_trees, parameter_trees, member_trees, block_trees, part_tree, part_trees, program_tree}
 use Rattle.ceal_parse.proofs.PrintMarks.{Thinner, same, the_end}
 use Rattle.ceal_parse.proofs.PrintPhrase.{spanned, placed}
 use Rattle.ceal_parse.proofs.PrintStatement.{next, printed_type, printed_block}
-use Rattle.ceal_parse.proofs.Words.{word, named, type_words, parameter_words, others, parameters_words, member_words, block_words, part_words, parts_words, bare_program}
+use Rattle.ceal_parse.proofs.Words.{type_words, parameter_words, others, parameters_words, member_words, part_words, parts_words, bare_program}
 
 pub record PrintedParameter (σ : List TokenKind → Span) (old : Parameter) (ks : List TokenKind) : Type 0 where
   pub made : Parameter

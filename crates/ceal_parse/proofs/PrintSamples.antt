@@ -6,12 +6,11 @@ use Rattle.ceal_base.specs.declared.syntax.Expr.{Expr}
 use Rattle.ceal_base.specs.declared.syntax.ExprForm.{Var}
 use Rattle.ceal_base.specs.declared.syntax.ExprForm.TheBlock.{hidden-the_row-Expr-0, shape-the_row-Expr-0}
 use Rattle.ceal_base.specs.declared.syntax.ExprForm.TheViews.{Binary}
-use Rattle.ceal_base.specs.declared.syntax.Ident.{Ident}
 use Rattle.ceal_base.specs.declared.syntax.Stmt.{Stmt, Return}
 use Rattle.ceal_base.specs.declared.syntax.Stmt.TheBlock.{hidden-the_row-Stmt-0, shape-the_row-Stmt-0}
 use Rattle.ceal_base.specs.declared.syntax.Stmt.TheViews.{If}
 use Rattle.ceal_parse.specs.Print.{nowhere, bare_form, bare_expr}
-use Rattle.ceal_parse.specs.PrintWords.{texts, form_kinds, expr_kinds, stmt_kinds, stmts_kinds}
+use Rattle.ceal_parse.specs.PrintWords.{texts, form_kinds, expr_kinds, stmt_kinds}
 
 abbrev s : Span
 s = record { from = 0; to = 1 }

@@ -1,28 +1,26 @@
 -- Each statement is printed as a derivation of its own, with no more braces than it had.
-use Rattle.std.proofs.Common.{◌≡◌, ℕ, suc, ◌≤◌, max, Bool, true, false, List, [], ◌∷◌, ◌++◌, refl, ap, sym, ◌∙◌, subst, arith, inl, inr, append_assoc}
-use Rattle.std.specs.Prelude.{if◌then◌else◌}
+use Rattle.std.proofs.Common.{◌≡◌, ℕ, suc, ◌≤◌, Bool, true, false, List, [], ◌∷◌, ◌++◌, refl, ap, sym, ◌∙◌, subst, arith, inl, inr, append_assoc}
 use Rattle.std.proofs.lemmas.Bool.{cases_Bool, false≢true}
 use Rattle.ceal_base.specs.declared.fault.Span.{Span}
 use Rattle.ceal_base.specs.declared.syntax.Expr.{Expr}
-use Rattle.ceal_base.specs.declared.syntax.Ident.{Ident}
 use Rattle.ceal_base.specs.declared.syntax.Stmt.{Stmt, Declare, Assign, SetField, Write, Call, If', While', Return}
 use Rattle.ceal_base.specs.declared.syntax.Stmt.TheBlock.{hidden-the_row-Stmt-0, shape-the_row-Stmt-0}
 use Rattle.ceal_base.specs.declared.syntax.Stmt.TheViews.{If, While}
-use Rattle.ceal_base.specs.declared.syntax.Value.TheVariants.{Plain, Read, Alloc, ModrefInt, Modref}
+use Rattle.ceal_base.specs.declared.syntax.Value.TheVariants.{Plain, Read, Alloc}
 use Rattle.ceal_lex.specs.declared.token.Reserved.TheVariants as Words
 use Rattle.ceal_lex.specs.declared.token.Sign.TheVariants as Signs
 use Rattle.ceal_lex.specs.declared.token.Token.{Token}
 use Rattle.ceal_lex.specs.declared.token.TokenKind.{TokenKind}
-use Rattle.ceal_lex.specs.declared.token.TokenKind.TheVariants.{Name, Number, Reserved, Sign}
+use Rattle.ceal_lex.specs.declared.token.TokenKind.TheVariants.{Name, Reserved, Sign}
 use Rattle.ceal_parse.specs.Grammar.{Phrase, variable, own, arrow, level_of, Grouped, IsPath, Written, int, pointer, mod_int, mod_pointer, cell_int, cell_pointer, Allowed, Arguments, no_arguments, arguments, AllGrouped, ArgumentsGrouped, Given, plainly, reading, allocation, modref_int, modref, GivenGrouped, Statement, declare, assign, set, store, call, branch, loop, exit, Branch, when, Otherwise, nothing, otherwise, chained, Block, block, Statements, ended, followed, StatementProper, BranchProper, OtherwiseProper, BlockProper, StatementsProper}
 use Rattle.ceal_parse.specs.Print.{nowhere, bare_name, bare_expr, bare_exprs, bare_type, bare_value, bare_stmt, bare_stmt_row, bare_stmts}
 use Rattle.ceal_parse.specs.PrintWords.{expr_kinds, more_kinds, argument_kinds, type_kinds, value_kinds, is_branch, is_chain, braced, after_else, stmt_kinds, stmts_kinds, second_kinds}
-use Rattle.ceal_parse.specs.Spelled.{Mark, mark, plain, after, spelled, spelled_type, spelled_more, spelled_arguments, spelled_given, spelled_statement, spelled_branch, spelled_otherwise, spelled_block, spelled_statements}
-use Rattle.ceal_parse.specs.Trees.{expression, first, type_form, type_first, expressions, argument_trees, value_tree, statement_tree, branch_tree, otherwise_trees, block_trees, statement_trees}
+use Rattle.ceal_parse.specs.Spelled.{Mark, plain, spelled, spelled_type, spelled_more, spelled_arguments, spelled_given, spelled_statement, spelled_branch, spelled_otherwise, spelled_block, spelled_statements}
+use Rattle.ceal_parse.specs.Trees.{expression, first, type_form, expressions, argument_trees, value_tree, statement_tree, branch_tree, otherwise_trees, block_trees, statement_trees}
 use Rattle.ceal_parse.proofs.PrintMarks.{Thinner, kept, same, dropped}
 use Rattle.ceal_parse.proofs.PrintPhrase.{spanned, placed, Printed, printed}
 use Rattle.ceal_parse.proofs.PrintSteps.{kinds-if, kinds-while}
-use Rattle.ceal_parse.proofs.Words.{word, named, phrase, type_words, items, argument_words, given_words, statement, branch_words, other_words, block_words, statement_words}
+use Rattle.ceal_parse.proofs.Words.{word, phrase, type_words, items, argument_words, given_words, statement, branch_words, other_words, block_words, statement_words}
 
 -- one more token in front
 pub next : (σ : List TokenKind → Span) (k : TokenKind) {ts : List Token} {ks : List TokenKind} → ts ≡ spanned σ ks → word k (σ (k ∷ ks)) ∷ ts ≡ spanned σ (k ∷ ks)

@@ -1,6 +1,5 @@
 -- The tokens of a tree and their text, piece by piece.
 use Rattle.std.proofs.Common.{◌≡◌, ℕ, zero, suc, ℤ, ◌+◌, ◌<◌, Bool, true, false, Option, Some, None, List, [], ◌∷◌, ◌++◌, refl, length, arith, codes, ap, ap₂, append_assoc, append-nil, ◌∙◌, sym, take, get_or}
-use Rattle.std.specs.Prelude.{if◌then◌else◌}
 use Rattle.std.specs.Fmt.{signed_decimal}
 use Rattle.std.proofs.lemmas.List.{take_more}
 use Rattle.ceal_base.specs.declared.fault.Span.{Span}
@@ -8,7 +7,7 @@ use Rattle.ceal_base.specs.declared.operators.Binary.{Binary as BinaryOp}
 use Rattle.ceal_base.specs.declared.operators.Unary.{Unary as UnaryOp}
 use Rattle.ceal_base.specs.declared.syntax.Entry.{Entry}
 use Rattle.ceal_base.specs.declared.syntax.Expr.{Expr}
-use Rattle.ceal_base.specs.declared.syntax.ExprForm.{ExprForm, Num, Null, Var, Own}
+use Rattle.ceal_base.specs.declared.syntax.ExprForm.{Num, Null, Var, Own}
 use Rattle.ceal_base.specs.declared.syntax.ExprForm.TheBlock.{hidden-the_row-Expr-0, shape-the_row-Expr-0}
 use Rattle.ceal_base.specs.declared.syntax.ExprForm.TheViews.{Unary, Binary, Field, Address}
 use Rattle.ceal_base.specs.declared.syntax.FieldDecl.{FieldDecl}
@@ -26,16 +25,12 @@ use Rattle.ceal_lex.specs.declared.token.TokenKind.TheVariants.{Name, Number, Re
 use Rattle.ceal_lex.specs.Spelling.{sign_text}
 use Rattle.ceal_parse.specs.Grammar.{level}
 use Rattle.ceal_parse.specs.Spelled.{sign_of, prefix_sign}
-use Rattle.ceal_parse.specs.PrintWords.{kind_text, gap, sign_gap, texts, form_level, raised, form_kinds, operand_kinds, expr_kinds, more_kinds, argument_kinds, type_kinds, value_kinds, is_branch, is_chain, braced, after_else, stmt_kinds, row_kinds, else_kinds, stmts_kinds, second_kinds, field_kinds, other_kinds, parameter_kinds, member_kinds, head_kinds, entry_kinds, entries_kinds}
+use Rattle.ceal_parse.specs.PrintWords.{kind_text, gap, sign_gap, texts, form_level, raised, form_kinds, expr_kinds, more_kinds, argument_kinds, type_kinds, value_kinds, braced, after_else, stmt_kinds, row_kinds, else_kinds, stmts_kinds, second_kinds, field_kinds, other_kinds, parameter_kinds, member_kinds, entry_kinds, entries_kinds}
 
 -- one list of tokens behind another
 pub texts-nil : texts [] ≡ []
 unfolding texts
 texts-nil = refl
-
-pub texts-cons : (k : TokenKind) (ks : List TokenKind) → texts (k ∷ ks) ≡ kind_text k ++ (gap k ++ texts ks)
-unfolding texts
-texts-cons k ks = refl
 
 pub texts-append : (ks ls : List TokenKind) → texts (ks ++ ls) ≡ texts ks ++ texts ls
 unfolding texts

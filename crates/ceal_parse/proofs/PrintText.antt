@@ -1,5 +1,5 @@
 -- The printed text has the printed tokens.
-use Rattle.std.proofs.Common.{◌≡◌, ◌⊎◌, ℕ, zero, suc, ◌+◌, ◌-◌, ◌≤◌, ◌<◌, ◌^◌, Bool, true, List, [], ◌∷◌, ◌++◌, length, get_or, take, codes, refl, ap, sym, ◌∙◌, subst, arith, inl, inr, append_assoc, append-nil}
+use Rattle.std.proofs.Common.{◌≡◌, ℕ, ◌+◌, ◌-◌, ◌≤◌, ◌<◌, ◌^◌, true, List, [], ◌∷◌, ◌++◌, length, get_or, refl, ap, sym, ◌∙◌, subst, arith, inl, inr, append_assoc, append-nil}
 use Rattle.std.proofs.lemmas.Bool.{cases_lt}
 use Rattle.std.proofs.lemmas.List.{length-append}
 use Rattle.std.proofs.Math.Seq.{get_or-append_seam, take-append_seam}
@@ -10,7 +10,6 @@ use Rattle.ceal_lex.specs.declared.parts.Split.{Split}
 use Rattle.ceal_lex.specs.declared.token.Reserved.TheVariants as Words
 use Rattle.ceal_lex.specs.declared.token.Sign.{Sign as SignOf}
 use Rattle.ceal_lex.specs.declared.token.Sign.TheVariants as Signs
-use Rattle.ceal_lex.specs.declared.token.Token.{Token}
 use Rattle.ceal_lex.specs.declared.token.TokenKind.{TokenKind}
 use Rattle.ceal_lex.specs.declared.token.TokenKind.TheVariants.{Name, Number, Reserved, Sign, End, Cut}
 use Rattle.ceal_lex.specs.Characters.{LINE_FEED, PERCENT, is_space}

@@ -12,7 +12,6 @@ use Rattle.ceal_base.specs.declared.syntax.FunctionDecl.{FunctionDecl}
 use Rattle.ceal_base.specs.declared.syntax.Ident.{Ident}
 use Rattle.ceal_base.specs.declared.syntax.Stmt.{Stmt, Declare, Assign, SetField, Write, Call, If', While', Return, Row_of-Stmt, end_of-Stmt, more_of-Stmt}
 use Rattle.ceal_base.specs.declared.syntax.Stmt.TheViews.{If, While}
-use Rattle.ceal_base.specs.declared.syntax.StructDecl.{StructDecl}
 use Rattle.ceal_base.specs.declared.syntax.Tree.{Tree}
 use Rattle.ceal_base.specs.declared.syntax.TypeForm.{TypeForm}
 use Rattle.ceal_base.specs.declared.syntax.TypeForm.TheVariants.{Int, Ptr, ModInt, ModPtr, CellInt, CellPtr}
