@@ -10,4 +10,14 @@ pub mod Possible
 pub mod Viable
 pub mod Exact
 pub mod Verdicts
+pub mod PrintSteps
+pub mod PrintMarks
+pub mod PrintPhrase
+pub mod PrintStatement
+pub mod PrintProgram
+pub mod PrintLexemes
+pub mod PrintText
+pub mod PrintSource
+pub mod PrintBack
 mod Samples
+mod PrintSamples

@@ -5,3 +5,5 @@ pub mod Faults
 pub mod Machine
 pub mod Judged
 pub mod Follows
+pub mod Print
+pub mod PrintWords

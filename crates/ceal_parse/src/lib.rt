@@ -5,9 +5,12 @@
 //! (`Faults`). They know no parser. `laws` says what holds of them. The proof goes by a machine that takes one token at
 //! a time: `state` says where it can stand, and `specs/Machine` how a token moves it. The parser will be that machine in
 //! code; it does not stand yet.
+//!
+//! `print` makes a text of a tree, which reads back as the same tree apart from spans.
 #![tactic(auto)]
 
 pub mod laws;
+pub mod print;
 pub mod stack;
 pub mod state;
 #[cfg(test)]
