@@ -7,8 +7,13 @@
 //! code; it does not stand yet.
 #![tactic(auto)]
 
+mod expression;
 pub mod laws;
+mod making;
+mod marks;
 pub mod stack;
 pub mod state;
+mod statement;
 #[cfg(test)]
 mod tests;
+mod typing;
