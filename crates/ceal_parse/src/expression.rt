@@ -225,3 +225,16 @@ pub fn arrow(whole: Whole, piece: Piece) -> Mode
     whole.operators += 1;
     Mode::Within(whole, Place::Pick(piece))
 }
+
+/// The first operand of a whole expression.
+pub fn take_whole(
+    alloc: Global,
+    nesting: u32,
+    receiver: Receiver,
+    token: &Token,
+) -> Result<Option<Mode>, NoMemory>
+    requires shallow { nesting < 2 ^ 31 }
+    ensures value { IfOk result (λ mode. mode ≡ at_operand (begun nesting receiver) token.now.span token.now.kind) }
+{
+    take_operand(begin(alloc, nesting, receiver), token)
+}

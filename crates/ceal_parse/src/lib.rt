@@ -7,13 +7,19 @@
 //! code; it does not stand yet.
 #![tactic(auto)]
 
+mod body;
 mod expression;
+mod head;
 pub mod laws;
+mod limits;
 mod making;
 mod marks;
+pub mod parse;
+mod program;
 pub mod stack;
 pub mod state;
 mod statement;
+mod structs;
 #[cfg(test)]
 mod tests;
 mod typing;

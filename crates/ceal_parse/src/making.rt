@@ -3,7 +3,7 @@
 ghost use Rattle.std.specs.Prelude.{◌≡◌, ◌<◌, ◌^◌, IfOk};
 ghost use Rattle.ceal_parse.specs.Machine.{given, called, at_modref, at_making, at_value};
 
-use crate::expression::{begin, take_operand};
+use crate::expression::take_whole;
 use crate::marks::{is_sign, is_word, name, same_word};
 use crate::state::{Callee, Making, Mode, Receiver, Target};
 use ceal_base::fault::Span;
@@ -137,6 +137,6 @@ pub fn take_value(
     } else if is_word(token, Reserved::Modref) {
         Ok(Some(Mode::Making(Making::Modref(target, at))))
     } else {
-        take_operand(begin(alloc, nesting, Receiver::Value(target)), token)
+        take_whole(alloc, nesting, Receiver::Value(target), token)
     }
 }

@@ -2,9 +2,9 @@
 // goes on so.
 
 ghost use Rattle.std.specs.Prelude.{◌≡◌, ◌<◌, ◌^◌, [], IfOk};
-ghost use Rattle.ceal_parse.specs.Machine.{placed, type_begin, wrapped, with_statement, ends_at, opened_by, at_word, at_statement, at_typing, at_declared, at_owned, at_path, at_calls, at_before, at_named, at_reached, at_first, path_of, field_of};
+ghost use Rattle.ceal_parse.specs.Machine.{placed, begun, at_operand, type_begin, wrapped, with_statement, ends_at, opened_by, at_word, at_statement, at_typing, at_declared, at_owned, at_path, at_calls, at_before, at_named, at_reached, at_first, path_of, field_of};
 
-use crate::expression::{begin, take_operand};
+use crate::expression::{begin, take_whole};
 use crate::making::call;
 use crate::marks::{is_sign, name, same_sign, same_word};
 use crate::stack::Stack;
@@ -225,6 +225,20 @@ pub fn take_calls(callee: Callee, token: &Token) -> Option<Mode>
     }
 }
 
+/// The first operand of the first argument.
+fn first_argument(
+    alloc: Global,
+    nesting: u32,
+    callee: Callee,
+    token: &Token,
+) -> Result<Option<Mode>, NoMemory>
+    requires shallow { nesting < 2 ^ 31 }
+    ensures value { IfOk result (λ mode. mode ≡ at_operand (begun nesting (Receiver.Argument callee [])) token.now.span token.now.kind) }
+{
+    let receiver = Receiver::Argument(callee, Items::empty(alloc));
+    take_whole(alloc, nesting, receiver, token)
+}
+
 /// The first argument, or `)`.
 pub fn take_first(
     alloc: Global,
@@ -235,12 +249,10 @@ pub fn take_first(
     requires shallow { nesting < 2 ^ 30 }
     ensures value { IfOk result (λ mode. mode ≡ at_first nesting callee token.now.span token.now.kind) }
 {
-    let arguments = Items::empty(alloc);
     if is_sign(token, Sign::RightParenthesis) {
-        Ok(Some(Mode::Ends(call(callee, arguments))))
+        Ok(Some(Mode::Ends(call(callee, Items::empty(alloc)))))
     } else {
-        let receiver = Receiver::Argument(callee, arguments);
-        take_operand(begin(alloc, nesting + 1, receiver), token)
+        first_argument(alloc, nesting + 1, callee, token)
     }
 }
 
