@@ -10,4 +10,5 @@ pub mod Possible
 pub mod Viable
 pub mod Exact
 pub mod Verdicts
+mod Outcomes
 mod Samples

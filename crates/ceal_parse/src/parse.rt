@@ -3,7 +3,7 @@
 ghost use Rattle.std.specs.Prelude.{◌≡◌, ◌≤◌, [], IfOk, Ok, Err};
 ghost use Rattle.ceal_base.specs.declared.fault.Fault.{Fault as FaultRecord};
 ghost use Rattle.ceal_base.specs.declared.syntax.Tree.{Tree as TreeRecord};
-ghost use Rattle.ceal_lex.specs.Answers.{Gives, IfFault};
+ghost use Rattle.ceal_base.specs.Answers.{Gives, IfFault};
 ghost use Rattle.ceal_lex.specs.Tokens.{IsEnded};
 ghost use Rattle.ceal_parse.specs.Faults.{Accepts, IsFirstFault};
 ghost use Rattle.ceal_parse.specs.Judged.{judged, advanced, tested, entries_of, code_at, fault_at};

@@ -1,0 +1,13 @@
+use Rattle.ceal_parse.proofs.Outcomes.{found_from, all_from, fault_from, only_from}
+use Rattle.ceal_parse.proofs.parse.parse.Goals as goal
+
+pub returns : goal.returns
+returns c =
+    let tokens = c.args.tokens.now in
+    let gives = c.read.ensures.value in
+    record {
+      found = found_from tokens c.read.result gives;
+      all = all_from tokens c.read.result gives;
+      fault = fault_from tokens c.read.result c.requires.ended gives;
+      only = only_from tokens c.read.result gives;
+    }
