@@ -46,7 +46,11 @@ fn take_argument(
         let whole = begin(alloc, nesting, Receiver::Argument(callee, arguments));
         Some(Mode::Within(whole, Place::Want))
     } else {
-        wanted(sign, Sign::RightParenthesis, Mode::Ends(call(callee, arguments)))
+        wanted(
+            sign,
+            Sign::RightParenthesis,
+            Mode::Ends(call(callee, arguments)),
+        )
     }
 }
 

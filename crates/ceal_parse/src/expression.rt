@@ -24,12 +24,7 @@ fn single(at: Span, form: ExprForm) -> Piece
     }
 }
 
-fn prefix(
-    alloc: Global,
-    operator: Unary,
-    at: Span,
-    piece: Piece,
-) -> Result<Piece, NoMemory>
+fn prefix(alloc: Global, operator: Unary, at: Span, piece: Piece) -> Result<Piece, NoMemory>
     ensures value { IfOk result (λ p. p ≡ prefixed operator at piece) }
 {
     let operand = Boxed::new(alloc, piece.expr)?;
@@ -54,10 +49,7 @@ fn join(
 {
     let first = Boxed::new(alloc, left.expr)?;
     let second = Boxed::new(alloc, right.expr)?;
-    Ok(single(
-        left.from,
-        ExprForm::Binary(operator, at, first, second),
-    ))
+    Ok(single(left.from, ExprForm::Binary(operator, at, first, second)))
 }
 
 fn pick(alloc: Global, piece: Piece, field: Ident) -> Result<Piece, NoMemory>

@@ -256,12 +256,7 @@ pub fn take_first(
     }
 }
 
-pub fn take_before(
-    alloc: Global,
-    nesting: u32,
-    receiver: Receiver,
-    token: &Token,
-) -> Option<Mode>
+pub fn take_before(alloc: Global, nesting: u32, receiver: Receiver, token: &Token) -> Option<Mode>
     requires shallow { nesting < 2 ^ 31 }
     ensures value { result ≡ at_before nesting receiver token.now.kind }
 {

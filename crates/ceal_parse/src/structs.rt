@@ -21,12 +21,7 @@ fn take_begun(entries: Items<Entry>, token: &Token) -> Result<Option<State>, NoM
     }
 }
 
-fn take_named(
-    alloc: Global,
-    entries: Items<Entry>,
-    name: Ident,
-    token: &Token,
-) -> Option<State>
+fn take_named(alloc: Global, entries: Items<Entry>, name: Ident, token: &Token) -> Option<State>
     ensures value { result ≡ at_struct entries (StructPlace.Named name) token.now.span token.now.kind }
 {
     if is_sign(token, Sign::LeftBrace) {

@@ -50,12 +50,7 @@ fn finds_the_first_fault(rt: HostRuntime) {
             28,
             29,
         ),
-        (
-            b"ceal f(int a) {\n  a = 1;\n}\n",
-            FaultCode::S5,
-            27,
-            27,
-        ),
+        (b"ceal f(int a) {\n  a = 1;\n}\n", FaultCode::S5, 27, 27),
         (b"", FaultCode::S5, 0, 0),
         (b"ceal f() { a = 1 +\n%%\n", FaultCode::S5, 19, 19),
         (b"ceal f() { a = &!b; }\n%%\n", FaultCode::S3, 16, 17),
@@ -102,7 +97,13 @@ fn keeps_the_limits(rt: HostRuntime) -> Result<(), Fail> {
             b"int a) { }\n%%",
             Some((FaultCode::S6, 1792)),
         ),
-        (b"ceal f() { if (a) { } ", b"else if (a) { } ", 62, b"}\n%%", None),
+        (
+            b"ceal f() { if (a) { } ",
+            b"else if (a) { } ",
+            62,
+            b"}\n%%",
+            None,
+        ),
         (
             b"ceal f() { if (a) { } ",
             b"else if (a) { } ",

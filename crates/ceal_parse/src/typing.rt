@@ -67,11 +67,7 @@ fn take_mod_int(cells: bool, token: &Token) -> Result<Option<Typing>, NoMemory>
     }
 }
 
-fn take_mod_named(
-    cells: bool,
-    shape: Ident,
-    token: &Token,
-) -> Result<Option<Typing>, NoMemory>
+fn take_mod_named(cells: bool, shape: Ident, token: &Token) -> Result<Option<Typing>, NoMemory>
     ensures value { IfOk result (λ next. next ≡ star_or cells (TypeForm.ModPtr shape) (TypeForm.CellPtr shape) token.now.span token.now.kind) }
 {
     if is_sign(token, Sign::Star) {
@@ -112,11 +108,7 @@ fn take_mod_struct(token: &Token) -> Result<Option<Typing>, NoMemory>
 }
 
 /// What one more token makes of a type. `cells`: a modifiable within a struct may stand here.
-pub fn take_type(
-    cells: bool,
-    part: TypePart,
-    token: &Token,
-) -> Result<Option<Typing>, NoMemory>
+pub fn take_type(cells: bool, part: TypePart, token: &Token) -> Result<Option<Typing>, NoMemory>
     ensures value { IfOk result (λ next. next ≡ at_type cells part token.now.span token.now.kind) }
 {
     match part {
