@@ -1,5 +1,5 @@
 -- Each statement is read.
-use Rattle.std.proofs.Common.{◌≡◌, ℕ, suc, Bool, false, Some, None, List, [], ◌∷◌, ◌++◌, length, refl, sym, ap, ◌∙◌, subst, arith, append_assoc, length-append, append-nil, inl, inr}
+use Rattle.std.proofs.Common.{◌≡◌, ℕ, suc, Bool, false, Option, Some, None, List, [], ◌∷◌, ◌++◌, length, refl, sym, ap, ◌∙◌, subst, arith, append_assoc, length-append, append-nil, inl, inr}
 use Rattle.ceal_base.specs.declared.fault.Span.{Span}
 use Rattle.ceal_base.specs.declared.syntax.Entry.{Entry}
 use Rattle.ceal_base.specs.declared.syntax.Expr.{Expr}
@@ -19,8 +19,10 @@ use Rattle.ceal_parse.specs.declared.state.Callee.{Callee}
 use Rattle.ceal_parse.specs.declared.state.Callee.TheVariants.{Call as ToCall, Alloc as ToAlloc}
 use Rattle.ceal_parse.specs.declared.state.Head.{Head}
 use Rattle.ceal_parse.specs.declared.state.Inside.{Inside}
+use Rattle.ceal_parse.specs.declared.state.Mode.{Mode}
 use Rattle.ceal_parse.specs.declared.state.Mode.TheVariants as Modes
 use Rattle.ceal_parse.specs.declared.state.Opened.{Opened}
+use Rattle.ceal_parse.specs.declared.state.Place.TheVariants.{Want}
 use Rattle.ceal_parse.specs.declared.state.Owner.{Owner}
 use Rattle.ceal_parse.specs.declared.state.Owner.TheVariants.{While as OfWhile, Then as OfThen, Else as OfElse}
 use Rattle.ceal_parse.specs.declared.state.Receiver.{Receiver}
@@ -31,11 +33,13 @@ use Rattle.ceal_parse.specs.declared.state.Target.{Target}
 use Rattle.ceal_parse.specs.declared.state.Target.TheVariants.{Declare as ToDeclare, Assign as ToAssign}
 use Rattle.ceal_parse.specs.declared.state.TypePart.{TypePart}
 use Rattle.ceal_parse.specs.declared.state.TypePart.TheVariants as Types
+use Rattle.ceal_parse.specs.declared.state.Typing.{Typing}
+use Rattle.ceal_parse.specs.declared.state.Typing.TheVariants.{More as MoreType, Named as NamedType}
 use Rattle.ceal_parse.specs.declared.state.Whole.{Whole}
 use Rattle.ceal_parse.specs.Grammar.{Phrase, number, null, variable, own, parens, arrow, prefix, address, binary, Grouped, IsPath, Written, int, pointer, mod_int, mod_pointer, cell_int, cell_pointer, Allowed, Arguments, no_arguments, arguments, AllGrouped, ArgumentsGrouped, Given, plainly, reading, allocation, modref_int, modref, GivenGrouped, Statement, declare, assign, set, store, call, branch, loop, exit, Branch, when, Otherwise, nothing, otherwise, chained, Block, block, Statements, ended, followed, StatementProper, BranchProper, OtherwiseProper, BlockProper, StatementsProper}
 use Rattle.ceal_parse.specs.Spelled.{Mark, plain, name, after, spelled, spelled_type, spelled_more, spelled_arguments, spelled_given, spelled_statement, spelled_branch, spelled_otherwise, spelled_block, spelled_statements}
 use Rattle.ceal_parse.specs.Trees.{first, expression, type_form, type_first, expressions, argument_trees, value_tree, statement_tree, branch_tree, otherwise_trees, block_trees, statement_trees}
-use Rattle.ceal_parse.specs.Machine.{same_sign, same_word, is_sign, is_word, operator_of, Reduced, reduced, begun, begins, at_operand, at_body, at_type, typed, type_begin, given, called, wrapped, with_statement, received, closes, owned, opened_by, moved, step, nesting_of, item_of, operators_of}
+use Rattle.ceal_parse.specs.Machine.{same_sign, same_word, is_sign, is_word, operator_of, Reduced, reduced, within, begun, placed, at_operand, at_body, at_type, typed, type_begin, given, called, wrapped, with_statement, received, closes, owned, opened_by, moved, step, nesting_of, item_of, operators_of}
 use Rattle.ceal_parse.specs.Follows.{Follows}
 use Rattle.ceal_parse.proofs.CompletePhrase.{having, whole, complete, reduced_pending}
 use Rattle.ceal_parse.proofs.Telling.{sign_tells, word_tells}
@@ -64,8 +68,15 @@ closed_step i at e first s (Sign c) σ h = h
 closed_step i at e first s End σ h = h
 closed_step i at e first s Cut σ h = h
 
+-- what one more token makes of a type in a body
+typed_in : (i : Inside) (on : TypePart → Mode) (done : TypeForm → Ident → Mode) (o : Option Typing)
+    → placed i (typed on done o) ≡ typed (λ p. In i (on p)) (λ form x. In i (done form x)) o
+typed_in i on done None = refl
+typed_in i on done (Some (MoreType p)) = refl
+typed_in i on done (Some (NamedType form x)) = refl
+
 -- no operand begins with `)`
-operand_open : (i : Inside) (w : Whole) (s : Span) (k : TokenKind) (σ : State) → at_operand i w s k ≡ Some σ → is_sign Signs.RightParenthesis k ≡ false
+operand_open : (i : Inside) (w : Whole) (s : Span) (k : TokenKind) (σ : State) → placed i (at_operand w s k) ≡ Some σ → is_sign Signs.RightParenthesis k ≡ false
 unfolding same_sign
 operand_open i w s (Name y) σ h = refl
 operand_open i w s (Number v) σ h = refl
@@ -81,7 +92,7 @@ operand_open i w s Cut σ h = refl
 abbrev NoValueWord : TokenKind → Type 0
 NoValueWord k = (is_word Words.Read k ≡ false) × (is_word Words.Alloc k ≡ false) × (is_word Words.Modref k ≡ false)
 
-operand_word : (i : Inside) (w : Whole) (s : Span) (k : TokenKind) (σ : State) → at_operand i w s k ≡ Some σ → NoValueWord k
+operand_word : (i : Inside) (w : Whole) (s : Span) (k : TokenKind) (σ : State) → placed i (at_operand w s k) ≡ Some σ → NoValueWord k
 unfolding same_word
 operand_word i w s (Name y) σ h = (refl, refl, refl)
 operand_word i w s (Number v) σ h = (refl, refl, refl)
@@ -276,7 +287,7 @@ module _ (tree : List Entry) where
   )
 
   first_argument : (i : Inside) (c : Callee) (ms : List Mark)
-      → Follows (begins i (suc i.nesting) (To.Argument c [])) ms tree → Follows (In i (Modes.First c)) ms tree
+      → Follows (within i (begun (suc i.nesting) (To.Argument c [])) Want) ms tree → Follows (In i (Modes.First c)) ms tree
   unfolding Follows
   first_argument i c [] f = absurd (cc)
   first_argument i c (m ∷ ms) f =
@@ -291,7 +302,7 @@ module _ (tree : List Entry) where
   read_arguments i c (arguments e l) right rest g f =
       first_argument i c _ (complete i (To.Argument c []) tree (suc i.nesting) [] 0 e _ g.0 tt (read_more i (suc i.nesting) c l [] e 0 2 right rest g.0 g.1 refl f))
 
-  plain_value : (i : Inside) (t : Target) (ms : List Mark) → Follows (begins i i.nesting (To.Value t)) ms tree → Follows (In i (Modes.Value t)) ms tree
+  plain_value : (i : Inside) (t : Target) (ms : List Mark) → Follows (within i (begun i.nesting (To.Value t)) Want) ms tree → Follows (In i (Modes.Value t)) ms tree
   unfolding Follows
   plain_value i t [] f = absurd (cc)
   plain_value i t (m ∷ ms) f =
@@ -423,7 +434,7 @@ module _ (tree : List Entry) where
     read_statement (declare w x q v semi) es h os ds d rest g f =
         let i = inner es h os ds d in
         read_type tree false d (λ p. In i (Modes.Typing (type_first w) p)) (λ form y. In i (Modes.Declared (type_first w) form y))
-        (λ p s k. refl) (λ p. refl) (λ form y. refl) (λ p t. refl) (λ p. refl) (λ form y. refl)
+        (λ p s k. typed_in i _ _ (at_type false p s k)) (λ p. refl) (λ form y. refl) (λ p t. refl) (λ p. refl) (λ form y. refl)
         w x 0 (In i Modes.Body) _ g.0 (λ k p e. word_starts i (type_first w) k p e) (λ k p e. refl)
         (_, refl, refl, refl, refl, read_given v es h os ds d (ToDeclare (type_first w) (type_form w) x) semi rest g.1 f)
     read_statement (assign x q v semi) es h os ds d rest g f =

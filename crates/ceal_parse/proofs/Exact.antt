@@ -33,13 +33,13 @@ use Rattle.ceal_parse.specs.Faults.{Begins, IsWithin, AllWithin, Accepts, IsClea
 use Rattle.ceal_parse.specs.Follows.{Follows}
 use Rattle.ceal_parse.specs.Grammar.{Program}
 use Rattle.ceal_parse.specs.Judged.{code_at, fault_at, finished, tested, advanced, judged}
-use Rattle.ceal_parse.specs.Machine.{moved, at_type, typed, with_parameter, at_making, at_place, at_struct, at_head, step, nesting_of, item_of, operators_of}
+use Rattle.ceal_parse.specs.Machine.{moved, at_type, typed, with_parameter, placed, at_making, at_place, at_struct, at_head, step, nesting_of, item_of, operators_of}
 use Rattle.ceal_parse.specs.Spelled.{Mark, spelled_program, tokens_of}
 use Rattle.ceal_parse.specs.Trees.{part_trees}
 use Rattle.ceal_parse.proofs.CompleteProgram.{read_program}
 use Rattle.ceal_parse.proofs.Words.{bare_program}
 use Rattle.ceal_parse.proofs.Future.{Future}
-use Rattle.ceal_parse.proofs.Viable.{step_back}
+use Rattle.ceal_parse.proofs.Viable.{step_back, typed_in}
 use Rattle.ceal_parse.proofs.Possible.{possible}
 
 unfoldable Steps : State → List Token → State → Type 0
@@ -258,7 +258,7 @@ module _ (s : Span) (z : State) where
   place_end i w (Have p) h = absurd (cc)
   place_end i w (Pick p) h = absurd (cc)
 
-  making_end : (i : Inside) (m : Making) → at_making i m s End ≡ Some z → ⊥
+  making_end : (i : Inside) (m : Making) → placed i (at_making m s End) ≡ Some z → ⊥
   making_end i (Makings.Alloc t at) h = absurd (cc)
   making_end i (Makings.Shape t at y) h = absurd (cc)
   making_end i (Makings.Modref t at) h = absurd (cc)
@@ -278,7 +278,7 @@ module _ (s : Span) (z : State) where
 
   mode_end : (i : Inside) (m : Mode) → moved i m s End ≡ Some z → ⊥
   mode_end i Modes.Body h = absurd (cc)
-  mode_end i (Modes.Typing at p) h = type_end (λ q. In i (Modes.Typing at q)) (λ form x. In i (Modes.Declared at form x)) false p h
+  mode_end i (Modes.Typing at p) h = type_end (λ q. In i (Modes.Typing at q)) (λ form x. In i (Modes.Declared at form x)) false p (typed_in i (λ q. Modes.Typing at q) (λ form x. Modes.Declared at form x) (at_type false p s End) z h)
   mode_end i (Modes.Declared at form x) h = absurd (cc)
   mode_end i (Modes.Named x) h = absurd (cc)
   mode_end i (Modes.Owned at) h = absurd (cc)
@@ -326,7 +326,7 @@ module _ (s : Span) (z : State) where
   place_cut i w (Have p) h = absurd (cc)
   place_cut i w (Pick p) h = absurd (cc)
 
-  making_cut : (i : Inside) (m : Making) → at_making i m s Cut ≡ Some z → ⊥
+  making_cut : (i : Inside) (m : Making) → placed i (at_making m s Cut) ≡ Some z → ⊥
   making_cut i (Makings.Alloc t at) h = absurd (cc)
   making_cut i (Makings.Shape t at y) h = absurd (cc)
   making_cut i (Makings.Modref t at) h = absurd (cc)
@@ -346,7 +346,7 @@ module _ (s : Span) (z : State) where
 
   mode_cut : (i : Inside) (m : Mode) → moved i m s Cut ≡ Some z → ⊥
   mode_cut i Modes.Body h = absurd (cc)
-  mode_cut i (Modes.Typing at p) h = type_cut (λ q. In i (Modes.Typing at q)) (λ form x. In i (Modes.Declared at form x)) false p h
+  mode_cut i (Modes.Typing at p) h = type_cut (λ q. In i (Modes.Typing at q)) (λ form x. In i (Modes.Declared at form x)) false p (typed_in i (λ q. Modes.Typing at q) (λ form x. Modes.Declared at form x) (at_type false p s Cut) z h)
   mode_cut i (Modes.Declared at form x) h = absurd (cc)
   mode_cut i (Modes.Named x) h = absurd (cc)
   mode_cut i (Modes.Owned at) h = absurd (cc)

@@ -19,5 +19,6 @@ pub mod PrintLexemes
 pub mod PrintText
 pub mod PrintSource
 pub mod PrintBack
+mod Outcomes
 mod Samples
 mod PrintSamples

@@ -1,5 +1,6 @@
 -- What a test of a sign or of a word tells.
-use Rattle.std.proofs.Common.{◌≡◌, ℕ, true, false, List, [], ◌∷◌, refl, sym, ap, ◌∙◌, inl, inr, ◌⊎◌, get_or, eqb-true}
+use Rattle.std.proofs.Common.{◌≡◌, ◌↔◌, ℕ, Bool, IsTrue, true, false, List, [], ◌∷◌, refl, sym, ap, ◌∙◌, inl, inr, ◌⊎◌, get_or, eqb-true}
+use Rattle.std.proofs.lemmas.Bool.{eq-eqb}
 use Rattle.std.proofs.lemmas.Bool.Decides.{eqb_tells}
 use Rattle.ceal_lex.specs.declared.token.Reserved.{Reserved as ReservedWord}
 use Rattle.ceal_lex.specs.declared.token.Reserved.TheVariants as Words
@@ -83,6 +84,17 @@ sign_tells a b = elim (eqb_tells (sign_number a) (sign_number b)) [ inl p ↦ in
 pub word_tells : (a b : ReservedWord) → ((same_word a b ≡ true) × (a ≡ b)) ⊎ (same_word a b ≡ false)
 unfolding same_word
 word_tells a b = elim (eqb_tells (word_number a) (word_number b)) [ inl p ↦ inl (p.0, word_from a b p.1) | inr p ↦ inr p.0 ]
+
+-- a test that tells whether two signs or words are the same
+pub sign_decided : (a b : SignOf) (r : Bool) → (IsTrue r ↔ (a ≡ b)) → r ≡ same_sign a b
+unfolding same_sign
+sign_decided a b true h = sym (eq-eqb (sign_number a) (sign_number b) (ap sign_number (h.0 refl)))
+sign_decided a b false h = elim (sign_tells a b) [ inl p ↦ absurd (cc (h.1 p.1)) | inr p ↦ sym p ]
+
+pub word_decided : (a b : ReservedWord) (r : Bool) → (IsTrue r ↔ (a ≡ b)) → r ≡ same_word a b
+unfolding same_word
+word_decided a b true h = sym (eq-eqb (word_number a) (word_number b) (ap word_number (h.0 refl)))
+word_decided a b false h = elim (word_tells a b) [ inl p ↦ absurd (cc (h.1 p.1)) | inr p ↦ sym p ]
 
 pub sign_is : (c : SignOf) (k : TokenKind) → is_sign c k ≡ true → k ≡ Sign c
 sign_is c (Sign s) h = ap Sign (sign_true s c h)

@@ -57,7 +57,7 @@ use Rattle.ceal_base.specs.declared.syntax.Stmt.TheViews as Trees
 use Rattle.ceal_base.specs.declared.syntax.ExprForm.{Null, Own}
 use Rattle.ceal_base.specs.declared.syntax.TypeForm.TheVariants as Forms
 use Rattle.ceal_base.specs.declared.syntax.Value.TheVariants as Values
-use Rattle.ceal_parse.specs.Machine.{same_sign, same_word, is_sign, is_word, wants, operator_of, at_name, single, prefixed, addressed, joined, picked, reduced, within, begun, begins, operated, at_prim, at_operand, with_statement, given, called, received, closes, at_sign_after, picks, at_after, at_place, type_begin, type_starts, star_or, at_type, owned, block_closed, opened_by, at_statement, at_word, at_body, typed, path_of, at_value, at_modref, at_making, moved, begun_type, at_struct, with_parameter, at_head, at_part, at_top, step}
+use Rattle.ceal_parse.specs.Machine.{same_sign, same_word, is_sign, is_word, wants, operator_of, at_name, single, prefixed, addressed, joined, picked, reduced, within, begun, operated, placed, at_prim, at_operand, with_statement, given, called, received, closes, at_sign_after, picks, at_after, at_place, type_begin, type_starts, star_or, at_type, owned, block_closed, opened_by, at_statement, at_word, at_body, typed, path_of, field_of, at_value, at_modref, at_making, at_reached, chained_in, moved, begun_type, at_struct, with_parameter, at_head, at_part, at_top, step}
 use Rattle.ceal_parse.proofs.Telling.{sign_true, word_true, sign_is, word_is}
 use Rattle.ceal_parse.proofs.Future.{AfterSign, AfterWord, AfterName, TopFuture, StarOr, TypeFuture, BodyFuture, OtherFuture, OwnedFuture, CloseFuture, In_body, SemiFuture, ClosedFuture, BlockFuture, ReceiverFuture, FramesFuture, WantFuture, PostFuture, HaveFuture, PlaceFuture, ArgumentsFuture, ValueFuture, hops, ReachedFuture, PathFuture, MakingFuture, NamedFuture, ModeFuture, MembersFuture, StructFuture, OthersFuture, ParametersFuture, OwnFuture, ShapeFuture, HeadFuture, Future}
 
@@ -81,6 +81,29 @@ at_next u σ τ h f = subst (λ (ρ : State). Future ρ u) (sym (got σ τ h)) f
 
 pub at_wanted : (u : List Token) (b : Bool) (σ τ : State) → wants b σ ≡ Some τ → Future τ u → Future σ u
 at_wanted u b σ τ h f = subst (λ (ρ : State). Future ρ u) (sym ((wanted b σ τ h).1)) f
+
+-- the same at a place within a body
+pub chosen_in : (i : Inside) (b : Bool) (x y : Option Mode) (τ : State) → placed i (if b then x else y) ≡ Some τ → ((b ≡ true) × (placed i x ≡ Some τ)) ⊎ ((b ≡ false) × (placed i y ≡ Some τ))
+chosen_in i true x y τ h = inl (refl, h)
+chosen_in i false x y τ h = inr (refl, h)
+
+pub wanted_in : (i : Inside) (b : Bool) (m : Mode) (τ : State) → placed i (wants b m) ≡ Some τ → wants b (In i m) ≡ Some τ
+wanted_in i true m τ h = h
+wanted_in i false m τ h = h
+
+pub name_in : (i : Inside) (g : Ident → Mode) (s : Span) (k : TokenKind) (τ : State) → placed i (at_name g s k) ≡ Some τ → at_name (λ x. In i (g x)) s k ≡ Some τ
+name_in i g s (Name x) τ h = h
+name_in i g s (Number x) τ h = h
+name_in i g s (Reserved x) τ h = h
+name_in i g s (Sign x) τ h = h
+name_in i g s End τ h = h
+name_in i g s Cut τ h = h
+
+pub typed_in : (i : Inside) (on : TypePart → Mode) (done : TypeForm → Ident → Mode) (o : Option Typing) (τ : State)
+    → placed i (typed on done o) ≡ Some τ → typed (λ p. In i (on p)) (λ form x. In i (done form x)) o ≡ Some τ
+typed_in i on done None τ h = h
+typed_in i on done (Some (MoreType p)) τ h = h
+typed_in i on done (Some (NamedType form x)) τ h = h
 
 -- the same token by its kind
 pub same_kind : (k l : TokenKind) (s : Span) (u : List Token) → k ≡ l → word k s ∷ u ≡ word l s ∷ u
@@ -330,17 +353,17 @@ module _ (i : Inside) (s : Span) (τ : State) (u : List Token) where
       (ahead (Reserved Words.Write) s _ _ (f.2 ∙ ahead (Sign Signs.LeftParenthesis) f.0 _ _ (w.3 ∙ ap (phrase w.0)
       (r.5 ∙ ahead (Sign Signs.Comma) r.0 _ _ (ap (λ (v : List Token). phrase r.1 (word (Sign Signs.RightParenthesis) r.2 ∷ v)) semi.2))))) semi.3
 
-  abbrev at_word_5 : ReservedWord → Option State
-  at_word_5 k = wants (same_word k Words.Own) (In i (Modes.Owned s))
+  abbrev at_word_5 : ReservedWord → Option Mode
+  at_word_5 k = wants (same_word k Words.Own) (Modes.Owned s)
 
-  abbrev at_word_4 : ReservedWord → Option State
-  at_word_4 k = if same_word k Words.Write then Some (In i (Modes.Before (To.Write s))) else at_word_5 k
+  abbrev at_word_4 : ReservedWord → Option Mode
+  at_word_4 k = if same_word k Words.Write then Some (Modes.Before (To.Write s)) else at_word_5 k
 
-  abbrev at_word_3 : ReservedWord → Option State
-  at_word_3 k = if same_word k Words.Return then Some (In i (Modes.Ends (Return s))) else at_word_4 k
+  abbrev at_word_3 : ReservedWord → Option Mode
+  at_word_3 k = if same_word k Words.Return then Some (Modes.Ends (Return s)) else at_word_4 k
 
-  abbrev at_word_2 : ReservedWord → Option State
-  at_word_2 k = if same_word k Words.While then Some (In i (Modes.Before (To.While s))) else at_word_3 k
+  abbrev at_word_2 : ReservedWord → Option Mode
+  at_word_2 k = if same_word k Words.While then Some (Modes.Before (To.While s)) else at_word_3 k
 
   abbrev Backed : ReservedWord → Type 0
   Backed k = In_body i (word (Reserved k) s ∷ u)
@@ -348,23 +371,23 @@ module _ (i : Inside) (s : Span) (τ : State) (u : List Token) where
   backed : (k l : ReservedWord) → same_word k l ≡ true → Backed l → Backed k
   backed k l e b = subst Backed (sym (word_true k l e)) b
 
-  statement_back : (k : ReservedWord) → at_statement i s k ≡ Some τ → Future τ u → Backed k
+  statement_back : (k : ReservedWord) → placed i (at_statement s k) ≡ Some τ → Future τ u → Backed k
   unfolding statement StatementProper phrase
-  statement_back k h f = elim (chosen (same_word k Words.If) (Some (In i (Modes.Before (To.If s)))) (at_word_2 k) τ h) [
+  statement_back k h f = elim (chosen_in i (same_word k Words.If) (Some (Modes.Before (To.If s))) (at_word_2 k) τ h) [
     | inl q ↦ backed k Words.If q.0 (let b = if_rest (at_next u _ τ q.1 f) in put _ (branch b.0) _ b.1 b.2 b.3 b.4)
-    | inr q ↦ elim (chosen (same_word k Words.While) (Some (In i (Modes.Before (To.While s)))) (at_word_3 k) τ q.1) [
+    | inr q ↦ elim (chosen_in i (same_word k Words.While) (Some (Modes.Before (To.While s))) (at_word_3 k) τ q.1) [
       | inl r ↦ backed k Words.While r.0 (while_back (at_next u _ τ r.1 f))
-      | inr r ↦ elim (chosen (same_word k Words.Return) (Some (In i (Modes.Ends (Return s)))) (at_word_4 k) τ r.1) [
+      | inr r ↦ elim (chosen_in i (same_word k Words.Return) (Some (Modes.Ends (Return s))) (at_word_4 k) τ r.1) [
         | inl a ↦ backed k Words.Return a.0 (let g = at_next u _ τ a.1 f in put _ (exit s g.0) _ g.1 tt (ahead (Reserved Words.Return) s _ _ g.2) g.3)
-        | inr a ↦ elim (chosen (same_word k Words.Write) (Some (In i (Modes.Before (To.Write s)))) (at_word_5 k) τ a.1) [
+        | inr a ↦ elim (chosen_in i (same_word k Words.Write) (Some (Modes.Before (To.Write s))) (at_word_5 k) τ a.1) [
           | inl b ↦ backed k Words.Write b.0 (write_back (at_next u _ τ b.1 f))
-          | inr b ↦ backed k Words.Own (wanted _ _ τ b.1).0 (set_back (own s) tt (at_wanted u _ _ τ b.1 f))
+          | inr b ↦ let w = wanted_in i _ _ τ b.1 in backed k Words.Own (wanted _ _ τ w).0 (set_back (own s) tt (at_wanted u _ _ τ w f))
         ]
       ]
     ]
   ]
 
-  word_back : (k : ReservedWord) (o : Option TypePart) → type_begin k ≡ o → at_word i s k o ≡ Some τ → Future τ u → Backed k
+  word_back : (k : ReservedWord) (o : Option TypePart) → type_begin k ≡ o → placed i (at_word s k o) ≡ Some τ → Future τ u → Backed k
   word_back k (Some p) e h f = typing_back k p e (at_next u _ τ h f)
   word_back k None e h f = statement_back k h f
 
@@ -422,20 +445,20 @@ module _ (i : Inside) (s : Span) (τ : State) (u : List Token) where
   receiver_back : (r : Receiver) (d : ℕ) (e : Expr) (c : SignOf) → received i d r e c ≡ Some τ → Future τ u → ReceiverFuture i r (word (Sign c) s ∷ u)
   unfolding FramesFuture items AllGrouped
   receiver_back (To.Value t) d e c h f = ended_at c Signs.Semicolon (In (with_statement i (given t (Values.Plain e))) Modes.Body) h (In_body i) (λ g. g) f
-  receiver_back (To.Read t at) d e c h f = ended_at c Signs.RightParenthesis (In i (Modes.Ends (given t (Values.Read at e)))) h (SemiFuture i) (λ g. g) f
+  receiver_back (To.Read t at) d e c h f = ended_at c Signs.RightParenthesis (In i (Modes.Ends (given t (Values.Read at e)))) (wanted_in i _ _ τ h) (SemiFuture i) (λ g. g) f
   receiver_back (To.Argument x args) d e c h f =
-      elim (chosen (same_sign c Signs.Comma) (Some (begins i d (To.Argument x (args ++ e ∷ [])))) (wants (same_sign c Signs.RightParenthesis) (In i (Modes.Ends (called x (args ++ e ∷ []))))) τ h) [
+      elim (chosen_in i (same_sign c Signs.Comma) (Some (Modes.Within (begun d (To.Argument x (args ++ e ∷ []))) Want)) (wants (same_sign c Signs.RightParenthesis) (Modes.Ends (called x (args ++ e ∷ [])))) τ h) [
         | inl p ↦ let w = at_next u _ τ p.1 f in let a = w.4 in
             ((s, w.0) ∷ a.0, a.1, a.2, (w.2, a.3), behind _ _ s _ _ (ap Sign (sign_true c Signs.Comma p.0)) (w.3 ∙ ap (phrase w.0) a.4), a.5)
-        | inr p ↦ ([], s, u, tt, same_kind _ _ s u (ap Sign (sign_true c Signs.RightParenthesis (wanted _ _ τ p.1).0)), at_wanted u _ _ τ p.1 f)
+        | inr p ↦ let q = wanted_in i _ _ τ p.1 in ([], s, u, tt, same_kind _ _ s u (ap Sign (sign_true c Signs.RightParenthesis (wanted _ _ τ q).0)), at_wanted u _ _ τ q f)
       ]
   receiver_back (To.Set a x) d e c h f = ended_at c Signs.Semicolon (In (with_statement i (SetField a.span a x e)) Modes.Body) h (In_body i) (λ g. g) f
   receiver_back (To.Write at) d e c h f =
-      let w = at_wanted u _ _ τ h f in let p = w.4 in
-      (s, w.0, p.0, p.1, w.2, behind _ _ s _ _ (ap Sign (sign_true c Signs.Comma (wanted _ _ τ h).0)) (w.3 ∙ ap (phrase w.0) p.2), p.3)
-  receiver_back (To.Store at a) d e c h f = ended_at c Signs.RightParenthesis (In i (Modes.Ends (Write at a e))) h (SemiFuture i) (λ g. g) f
-  receiver_back (To.If at) d e c h f = ended_at c Signs.RightParenthesis (In i (Modes.Opens (OfThen at e))) h (BlockFuture (OtherFuture (In_body i))) (λ g. g) f
-  receiver_back (To.While at) d e c h f = ended_at c Signs.RightParenthesis (In i (Modes.Opens (OfWhile at e))) h (BlockFuture (In_body i)) (λ g. g) f
+      let q = wanted_in i _ _ τ h in let w = at_wanted u _ _ τ q f in let p = w.4 in
+      (s, w.0, p.0, p.1, w.2, behind _ _ s _ _ (ap Sign (sign_true c Signs.Comma (wanted _ _ τ q).0)) (w.3 ∙ ap (phrase w.0) p.2), p.3)
+  receiver_back (To.Store at a) d e c h f = ended_at c Signs.RightParenthesis (In i (Modes.Ends (Write at a e))) (wanted_in i _ _ τ h) (SemiFuture i) (λ g. g) f
+  receiver_back (To.If at) d e c h f = ended_at c Signs.RightParenthesis (In i (Modes.Opens (OfThen at e))) (wanted_in i _ _ τ h) (BlockFuture (OtherFuture (In_body i))) (λ g. g) f
+  receiver_back (To.While at) d e c h f = ended_at c Signs.RightParenthesis (In i (Modes.Opens (OfWhile at e))) (wanted_in i _ _ τ h) (BlockFuture (In_body i)) (λ g. g) f
 
   closes_back : (w : Whole) (c : SignOf) (p : Piece) (fs : List Frame) → closes i w c p fs ≡ Some τ → Future τ u → FramesFuture i w.receiver fs (word (Sign c) s ∷ u)
   unfolding FramesFuture
@@ -477,36 +500,36 @@ module _ (i : Inside) (s : Span) (τ : State) (u : List Token) where
   after_back w p Cut h f = never τ h
 
   -- an operand, and what follows it
-  prim_back : (w : Whole) (k : TokenKind) → at_prim i w s k ≡ Some τ → Future τ u → PostFuture i w.receiver w.frames (word k s ∷ u)
+  prim_back : (w : Whole) (k : TokenKind) → placed i (at_prim w s k) ≡ Some τ → Future τ u → PostFuture i w.receiver w.frames (word k s ∷ u)
   unfolding FramesFuture Grouped phrase
   prim_back w (Name x) h f =
       let t = at_next u _ τ h f in
       (variable (record { text = x; span = s }), t.0, t.1, omega arith, tt, t.2, ahead (Name x) s _ _ t.3, t.4)
   prim_back w (Number v) h f = let t = at_next u _ τ h f in (number v s, t.0, t.1, omega arith, tt, t.2, ahead (Number v) s _ _ t.3, t.4)
   prim_back w (Reserved k) h f =
-      elim (chosen (same_word k Words.Own) (Some (within i w (Have (single s Own)))) (wants (same_word k Words.Null) (within i w (Have (single s Null)))) τ h) [
+      elim (chosen_in i (same_word k Words.Own) (Some (Modes.Within w (Have (single s Own)))) (wants (same_word k Words.Null) (Modes.Within w (Have (single s Null)))) τ h) [
         | inl a ↦ let t = at_next u _ τ a.1 f in
             (own s, t.0, t.1, omega arith, tt, t.2, behind _ _ s _ _ (ap Reserved (word_true k Words.Own a.0)) t.3, t.4)
-        | inr a ↦ let t = at_wanted u _ _ τ a.1 f in
-            (null s, t.0, t.1, omega arith, tt, t.2, behind _ _ s _ _ (ap Reserved (word_true k Words.Null (wanted _ _ τ a.1).0)) t.3, t.4)
+        | inr a ↦ let q = wanted_in i _ _ τ a.1 in let t = at_wanted u _ _ τ q f in
+            (null s, t.0, t.1, omega arith, tt, t.2, behind _ _ s _ _ (ap Reserved (word_true k Words.Null (wanted _ _ τ q).0)) t.3, t.4)
       ]
   prim_back w (Sign c) h f =
-      let n = at_wanted u _ _ τ h f in let t = n.4 in
-      (parens s n.0 t.0, t.1, t.2, omega arith, n.2, t.3, behind _ _ s _ _ (ap Sign (sign_true c Signs.LeftParenthesis (wanted _ _ τ h).0)) (n.3 ∙ ap (phrase n.0) t.4), t.5)
+      let q = wanted_in i _ _ τ h in let n = at_wanted u _ _ τ q f in let t = n.4 in
+      (parens s n.0 t.0, t.1, t.2, omega arith, n.2, t.3, behind _ _ s _ _ (ap Sign (sign_true c Signs.LeftParenthesis (wanted _ _ τ q).0)) (n.3 ∙ ap (phrase n.0) t.4), t.5)
   prim_back w End h f = never τ h
   prim_back w Cut h f = never τ h
 
   grow_back : (r : Receiver) (fs : List Frame) (v : List Token) → PostFuture i r fs v → WantFuture i r fs v
   grow_back r fs v p = (grown p.0 p.1, p.2, grown_grouped p.1 p.0 p.3 p.4 p.5, p.6 ∙ sym (grown_words p.1 p.0 p.2), p.7)
 
-  operand_back : (w : Whole) (k : TokenKind) → at_operand i w s k ≡ Some τ → Future τ u → WantFuture i w.receiver w.frames (word k s ∷ u)
+  operand_back : (w : Whole) (k : TokenKind) → placed i (at_operand w s k) ≡ Some τ → Future τ u → WantFuture i w.receiver w.frames (word k s ∷ u)
   unfolding FramesFuture Grouped phrase
   operand_back w k h f =
-      elim (chosen (is_sign Signs.Minus k) (Some (within i (operated w (Prefix Neg s) w.frames) Want)) (second k) τ h) [
+      elim (chosen_in i (is_sign Signs.Minus k) (Some (Modes.Within (operated w (Prefix Neg s) w.frames) Want)) (second k) τ h) [
         | inl a ↦ prefix_back Neg (sign_is Signs.Minus k a.0) (at_next u _ τ a.1 f)
-        | inr a ↦ elim (chosen (is_sign Signs.Bang k) (Some (within i (operated w (Prefix Not s) w.frames) Want)) (third k) τ a.1) [
+        | inr a ↦ elim (chosen_in i (is_sign Signs.Bang k) (Some (Modes.Within (operated w (Prefix Not s) w.frames) Want)) (third k) τ a.1) [
           | inl b ↦ prefix_back Not (sign_is Signs.Bang k b.0) (at_next u _ τ b.1 f)
-          | inr b ↦ elim (chosen (is_sign Signs.Ampersand k) (Some (within i (operated w (AddressOf s) w.frames) Post)) (at_prim i w s k) τ b.1) [
+          | inr b ↦ elim (chosen_in i (is_sign Signs.Ampersand k) (Some (Modes.Within (operated w (AddressOf s) w.frames) Post)) (at_prim w s k) τ b.1) [
             | inl c ↦ let t = at_next u _ τ c.1 f in (
               pointed s t.0 t.1,
               t.2,
@@ -519,11 +542,11 @@ module _ (i : Inside) (s : Span) (τ : State) (u : List Token) where
         ]
       ]
     where
-      third : TokenKind → Option State
-      third k = if is_sign Signs.Ampersand k then Some (within i (operated w (AddressOf s) w.frames) Post) else at_prim i w s k
+      third : TokenKind → Option Mode
+      third k = if is_sign Signs.Ampersand k then Some (Modes.Within (operated w (AddressOf s) w.frames) Post) else at_prim w s k
 
-      second : TokenKind → Option State
-      second k = if is_sign Signs.Bang k then Some (within i (operated w (Prefix Not s) w.frames) Want) else third k
+      second : TokenKind → Option Mode
+      second k = if is_sign Signs.Bang k then Some (Modes.Within (operated w (Prefix Not s) w.frames) Want) else third k
 
       prefix_back : (o : UnaryOp) → k ≡ Sign (prefix_sign o) → WantFuture i w.receiver (Prefix o s ∷ w.frames) u → WantFuture i w.receiver w.frames (word k s ∷ u)
       prefix_back o e t = (
@@ -538,15 +561,15 @@ module _ (i : Inside) (s : Span) (τ : State) (u : List Token) where
   place_back w Want k h f = operand_back w k h f
   place_back w Post k h f = prim_back w k h f
   place_back w (Have p) k h f = after_back w p k h f
-  place_back w (Pick p) k h f = at_name_back s τ u (λ x. within i w (Have (picked p x))) (HaveFuture i w.receiver w.frames) (λ x g. g) k h f
+  place_back w (Pick p) k h f = at_name_back s τ u (λ x. within i w (Have (picked p x))) (HaveFuture i w.receiver w.frames) (λ x g. g) k (name_in i (λ x. Modes.Within w (Have (picked p x))) s k τ h) f
 
-  value_back : (t : Target) (k : TokenKind) → at_value i t s k ≡ Some τ → Future τ u → ValueFuture i (word k s ∷ u)
+  value_back : (t : Target) (k : TokenKind) → placed i (at_value i.nesting t s k) ≡ Some τ → Future τ u → ValueFuture i (word k s ∷ u)
   unfolding FramesFuture
   value_back t k h f =
-      elim (chosen (is_word Words.Read k) (Some (In i (Modes.Before (To.Read t s)))) (second k) τ h) [
+      elim (chosen_in i (is_word Words.Read k) (Some (Modes.Before (To.Read t s))) (second k) τ h) [
         | inl a ↦ let p = at_next u _ τ a.1 f in let e = p.3 in let c = e.4 in
             (reading s p.0 e.0 c.0, c.1, e.2, behind _ _ s _ _ (word_is Words.Read k a.0) (p.2 ∙ ahead (Sign Signs.LeftParenthesis) p.0 _ _ (e.3 ∙ ap (phrase e.0) c.2)), c.3)
-        | inr a ↦ elim (chosen (is_word Words.Alloc k) (Some (In i (Modes.Making (Makings.Alloc t s)))) (third k) τ a.1) [
+        | inr a ↦ elim (chosen_in i (is_word Words.Alloc k) (Some (Modes.Making (Makings.Alloc t s))) (third k) τ a.1) [
           | inl b ↦ let y = at_next u _ τ b.1 f in let x = y.3 in let l = x.3 in let p = l.3 in (
             allocation s y.0 x.0 l.0 p.0 p.1,
             p.2,
@@ -554,18 +577,18 @@ module _ (i : Inside) (s : Span) (τ : State) (u : List Token) where
             behind _ _ s _ _ (word_is Words.Alloc k b.0) (y.2 ∙ ahead (Name y.0.text) y.0.span _ _ (x.2 ∙ ahead (Name x.0.text) x.0.span _ _ (l.2 ∙ ahead (Sign Signs.LeftParenthesis) l.0 _ _ p.4))),
             p.5,
           )
-          | inr b ↦ elim (chosen (is_word Words.Modref k) (Some (In i (Modes.Making (Makings.Modref t s)))) (at_operand i (begun i.nesting (To.Value t)) s k) τ b.1) [
+          | inr b ↦ elim (chosen_in i (is_word Words.Modref k) (Some (Modes.Making (Makings.Modref t s))) (at_operand (begun i.nesting (To.Value t)) s k) τ b.1) [
             | inl c ↦ made_back (word_is Words.Modref k c.0) (at_next u _ τ c.1 f)
             | inr c ↦ let w = operand_back (begun i.nesting (To.Value t)) k c.1 f in (plainly w.0, w.1, w.2, w.3, w.4)
           ]
         ]
       ]
     where
-      third : TokenKind → Option State
-      third k = if is_word Words.Modref k then Some (In i (Modes.Making (Makings.Modref t s))) else at_operand i (begun i.nesting (To.Value t)) s k
+      third : TokenKind → Option Mode
+      third k = if is_word Words.Modref k then Some (Modes.Making (Makings.Modref t s)) else at_operand (begun i.nesting (To.Value t)) s k
 
-      second : TokenKind → Option State
-      second k = if is_word Words.Alloc k then Some (In i (Modes.Making (Makings.Alloc t s))) else third k
+      second : TokenKind → Option Mode
+      second k = if is_word Words.Alloc k then Some (Modes.Making (Makings.Alloc t s)) else third k
 
       made_back : k ≡ Reserved Words.Modref → MakingFuture i (Makings.Modref t s) u → ValueFuture i (word k s ∷ u)
       made_back e (inl f) = let l = f.3 in let r = l.3 in
@@ -573,35 +596,35 @@ module _ (i : Inside) (s : Span) (τ : State) (u : List Token) where
       made_back e (inr f) = let l = f.3 in let r = l.3 in
           (modref s f.0 l.0 r.0, r.1, tt, behind _ _ s _ _ e (f.2 ∙ ahead (Name f.0.text) f.0.span _ _ (l.2 ∙ ahead (Sign Signs.LeftParenthesis) l.0 _ _ r.2)), r.3)
 
-  modref_back : (t : Target) (at : Span) (k : TokenKind) → at_modref i t at s k ≡ Some τ → Future τ u → MakingFuture i (Makings.Modref t at) (word k s ∷ u)
+  modref_back : (t : Target) (at : Span) (k : TokenKind) → placed i (at_modref t at s k) ≡ Some τ → Future τ u → MakingFuture i (Makings.Modref t at) (word k s ∷ u)
   modref_back t at (Name x) h f = inr (record { text = x; span = s }, u, refl, at_next u _ τ h f)
-  modref_back t at (Reserved k) h f = inl (s, u, same_kind _ _ s u (ap Reserved (word_true k Words.Int (wanted _ _ τ h).0)), at_wanted u _ _ τ h f)
+  modref_back t at (Reserved k) h f = let q = wanted_in i _ _ τ h in inl (s, u, same_kind _ _ s u (ap Reserved (word_true k Words.Int (wanted _ _ τ q).0)), at_wanted u _ _ τ q f)
   modref_back t at (Number v) h f = never τ h
   modref_back t at (Sign c) h f = never τ h
   modref_back t at End h f = never τ h
   modref_back t at Cut h f = never τ h
 
-  making_back : (m : Making) (k : TokenKind) → at_making i m s k ≡ Some τ → Future τ u → MakingFuture i m (word k s ∷ u)
+  making_back : (m : Making) (k : TokenKind) → placed i (at_making m s k) ≡ Some τ → Future τ u → MakingFuture i m (word k s ∷ u)
   making_back (Makings.Alloc t at) k h f =
-      at_name_back s τ u (λ y. In i (Modes.Making (Makings.Shape t at y))) (AfterName (AfterSign Signs.LeftParenthesis (ArgumentsFuture i))) (λ x g. g) k h f
+      at_name_back s τ u (λ y. In i (Modes.Making (Makings.Shape t at y))) (AfterName (AfterSign Signs.LeftParenthesis (ArgumentsFuture i))) (λ x g. g) k (name_in i (λ y. Modes.Making (Makings.Shape t at y)) s k τ h) f
   making_back (Makings.Shape t at y) k h f =
-      at_name_back s τ u (λ x. In i (Modes.Calls (ToAlloc t at y x))) (AfterSign Signs.LeftParenthesis (ArgumentsFuture i)) (λ x g. g) k h f
+      at_name_back s τ u (λ x. In i (Modes.Calls (ToAlloc t at y x))) (AfterSign Signs.LeftParenthesis (ArgumentsFuture i)) (λ x g. g) k (name_in i (λ x. Modes.Calls (ToAlloc t at y x)) s k τ h) f
   making_back (Makings.Modref t at) k h f = modref_back t at k h f
-  making_back (Makings.Typed st) k h f = sign_wanted s τ u Signs.LeftParenthesis k (In i (Modes.Making (Makings.Opened st))) (ClosedFuture i) (λ g. g) h f
-  making_back (Makings.Opened st) k h f = sign_wanted s τ u Signs.RightParenthesis k (In i (Modes.Ends st)) (SemiFuture i) (λ g. g) h f
+  making_back (Makings.Typed st) k h f = sign_wanted s τ u Signs.LeftParenthesis k (In i (Modes.Making (Makings.Opened st))) (ClosedFuture i) (λ g. g) (wanted_in i _ _ τ h) f
+  making_back (Makings.Opened st) k h f = sign_wanted s τ u Signs.RightParenthesis k (In i (Modes.Ends st)) (SemiFuture i) (λ g. g) (wanted_in i _ _ τ h) f
 
   opened_back : (o : Owner) (k : TokenKind) → k ≡ Sign Signs.LeftBrace → Future (opened_by i o) u → BlockFuture (OwnedFuture o (In_body i)) (word k s ∷ u)
   unfolding CloseFuture statement StatementProper
   opened_back o k e f = (block s f.0 f.1, f.2, f.3, behind _ _ s _ _ e f.4, f.5)
 
-  reached_back : (e : Expr) (x : Ident) (n : ℕ) (k : TokenKind) → moved i (Modes.Reached e x n) s k ≡ Some τ → Future τ u → ReachedFuture i (word k s ∷ u)
+  reached_back : (e : Expr) (x : Ident) (n : ℕ) (k : TokenKind) → placed i (at_reached i.nesting e x n k) ≡ Some τ → Future τ u → ReachedFuture i (word k s ∷ u)
   unfolding hops FramesFuture
   reached_back e x n k h f =
-      elim (chosen (is_sign Signs.Arrow k) (Some (In i (Modes.Path _ _))) (wants (is_sign Signs.Equals k) (begins i i.nesting (To.Set e x))) τ h) [
+      elim (chosen_in i (is_sign Signs.Arrow k) (Some (Modes.Path (field_of e x) (suc n))) (wants (is_sign Signs.Equals k) (Modes.Within (begun i.nesting (To.Set e x)) Want)) τ h) [
         | inl a ↦ let y = at_next u _ τ a.1 f in let r = y.3 in
             ((s, y.0) ∷ r.0, r.1, r.2, r.3, r.4, behind _ _ s _ _ (sign_is Signs.Arrow k a.0) (y.2 ∙ ahead (Name y.0.text) y.0.span _ _ r.5), r.6)
-        | inr a ↦ let w = at_wanted u _ _ τ a.1 f in
-            ([], s, w.0, w.1, w.2, behind _ _ s _ _ (sign_is Signs.Equals k (wanted _ _ τ a.1).0) w.3, w.4)
+        | inr a ↦ let q = wanted_in i _ _ τ a.1 in let w = at_wanted u _ _ τ q f in
+            ([], s, w.0, w.1, w.2, behind _ _ s _ _ (sign_is Signs.Equals k (wanted _ _ τ q).0) w.3, w.4)
       ]
 
 module _ (i : Inside) (s : Span) (τ : State) (u : List Token) where
@@ -609,35 +632,35 @@ module _ (i : Inside) (s : Span) (τ : State) (u : List Token) where
   unfolding CloseFuture FramesFuture statement StatementProper
   mode_back Modes.Body k h f = body_back i s τ u k h f
   mode_back (Modes.Typing at p) k h f =
-      type_back false (AfterSign Signs.Equals (ValueFuture i)) s τ u (λ q. In i (Modes.Typing at q)) (λ form x. In i (Modes.Declared at form x)) (λ q g. g) (λ form x g. g) p k h f
-  mode_back (Modes.Declared at form x) k h f = sign_wanted s τ u Signs.Equals k (In i (Modes.Value (ToDeclare at form x))) (ValueFuture i) (λ g. g) h f
+      type_back false (AfterSign Signs.Equals (ValueFuture i)) s τ u (λ q. In i (Modes.Typing at q)) (λ form x. In i (Modes.Declared at form x)) (λ q g. g) (λ form x g. g) p k (typed_in i (λ q. Modes.Typing at q) (λ form x. Modes.Declared at form x) (at_type false p s k) τ h) f
+  mode_back (Modes.Declared at form x) k h f = sign_wanted s τ u Signs.Equals k (In i (Modes.Value (ToDeclare at form x))) (ValueFuture i) (λ g. g) (wanted_in i _ _ τ h) f
   mode_back (Modes.Named x) k h f =
-      elim (chosen (is_sign Signs.Equals k) (Some (In i (Modes.Value (ToAssign x)))) (second k) τ h) [
+      elim (chosen_in i (is_sign Signs.Equals k) (Some (Modes.Value (ToAssign x))) (second k) τ h) [
         | inl a ↦ inl (s, u, same_kind _ _ s u (sign_is Signs.Equals k a.0), at_next u _ τ a.1 f)
-        | inr a ↦ elim (chosen (is_sign Signs.LeftParenthesis k) (Some (In i (Modes.First (ToCall x)))) (third k) τ a.1) [
+        | inr a ↦ elim (chosen_in i (is_sign Signs.LeftParenthesis k) (Some (Modes.First (ToCall x))) (third k) τ a.1) [
           | inl b ↦ inr (inl (s, u, same_kind _ _ s u (sign_is Signs.LeftParenthesis k b.0), at_next u _ τ b.1 f))
-          | inr b ↦ inr (inr (sign_wanted s τ u Signs.Arrow k (In i (Modes.Path (path_of x) 1)) (PathFuture i) (λ g. g) b.1 f))
+          | inr b ↦ inr (inr (sign_wanted s τ u Signs.Arrow k (In i (Modes.Path (path_of x) 1)) (PathFuture i) (λ g. g) (wanted_in i _ _ τ b.1) f))
         ]
       ]
     where
-      third : TokenKind → Option State
-      third k = wants (is_sign Signs.Arrow k) (In i (Modes.Path (path_of x) 1))
+      third : TokenKind → Option Mode
+      third k = wants (is_sign Signs.Arrow k) (Modes.Path (path_of x) 1)
 
-      second : TokenKind → Option State
-      second k = if is_sign Signs.LeftParenthesis k then Some (In i (Modes.First (ToCall x))) else third k
-  mode_back (Modes.Owned at) k h f = sign_wanted s τ u Signs.Arrow k (In i (Modes.Path (record { span = at; form = Own }) 1)) (PathFuture i) (λ g. g) h f
-  mode_back (Modes.Path e n) k h f = at_name_back s τ u (λ x. In i (Modes.Reached e x n)) (ReachedFuture i) (λ x g. g) k h f
+      second : TokenKind → Option Mode
+      second k = if is_sign Signs.LeftParenthesis k then Some (Modes.First (ToCall x)) else third k
+  mode_back (Modes.Owned at) k h f = sign_wanted s τ u Signs.Arrow k (In i (Modes.Path (record { span = at; form = Own }) 1)) (PathFuture i) (λ g. g) (wanted_in i _ _ τ h) f
+  mode_back (Modes.Path e n) k h f = at_name_back s τ u (λ x. In i (Modes.Reached e x n)) (ReachedFuture i) (λ x g. g) k (name_in i (λ x. Modes.Reached e x n) s k τ h) f
   mode_back (Modes.Reached e x n) k h f = reached_back i s τ u e x n k h f
   mode_back (Modes.Value t) k h f = value_back i s τ u t k h f
   mode_back (Modes.Making m) k h f = making_back i s τ u m k h f
-  mode_back (Modes.Calls c) k h f = sign_wanted s τ u Signs.LeftParenthesis k (In i (Modes.First c)) (ArgumentsFuture i) (λ g. g) h f
+  mode_back (Modes.Calls c) k h f = sign_wanted s τ u Signs.LeftParenthesis k (In i (Modes.First c)) (ArgumentsFuture i) (λ g. g) (wanted_in i _ _ τ h) f
   mode_back (Modes.First c) k h f =
-      elim (chosen (is_sign Signs.RightParenthesis k) (Some (In i (Modes.Ends (called c [])))) (at_operand i (begun (suc i.nesting) (To.Argument c [])) s k) τ h) [
+      elim (chosen_in i (is_sign Signs.RightParenthesis k) (Some (Modes.Ends (called c []))) (at_operand (begun (suc i.nesting) (To.Argument c [])) s k) τ h) [
         | inl p ↦ (no_arguments, s, u, tt, same_kind _ _ s u (sign_is Signs.RightParenthesis k p.0), at_next u _ τ p.1 f)
         | inr p ↦ let w = operand_back i s τ u (begun (suc i.nesting) (To.Argument c [])) k p.1 f in let a = w.4 in
             (arguments w.0 a.0, a.1, a.2, (w.2, a.3), w.3 ∙ ap (phrase w.0) a.4, a.5)
       ]
-  mode_back (Modes.Before r) k h f = sign_wanted s τ u Signs.LeftParenthesis k (begins i (suc i.nesting) r) (WantFuture i r []) (λ g. g) h f
+  mode_back (Modes.Before r) k h f = sign_wanted s τ u Signs.LeftParenthesis k (within i (begun (suc i.nesting) r) Want) (WantFuture i r []) (λ g. g) (wanted_in i _ _ τ h) f
   mode_back (Modes.Within w p) k h f = place_back i s τ u w p k h f
   mode_back (Modes.Ends st) k h f = sign_wanted s τ u Signs.Semicolon k (In (with_statement i st) Modes.Body) (In_body i) (λ g. g) h f
   mode_back (Modes.Ended st) k h f = body_back (with_statement i st) s τ u k h f
@@ -659,15 +682,7 @@ module _ (i : Inside) (s : Span) (τ : State) (u : List Token) where
       ]
     where
       nested : Inside
-      nested = record {
-        entries = i.entries;
-        head = i.head;
-        opened = i.opened;
-        done = i.done;
-        chain = record { span = at; test = e; first = first } ∷ i.chain;
-        base = i.base;
-        nesting = suc i.nesting;
-      }
+      nested = chained_in i (record { span = at; test = e; first = first })
 
 -- Structs, heads and whole parts.
 module _ (s : Span) (τ : State) (u : List Token) (es : List Entry) where

@@ -186,30 +186,32 @@ within i w p = In i (Modes.Within w p)
 abbrev pub begun : ℕ → Receiver → Whole
 begun d r = record { nesting = d; operators = 0; frames = []; receiver = r }
 
-abbrev pub begins : Inside → ℕ → Receiver → State
-begins i d r = within i (begun d r) Want
-
 abbrev pub opened : Whole → Span → Whole
 opened w s = record { nesting = suc w.nesting; operators = w.operators; frames = Open s w.nesting ∷ w.frames; receiver = w.receiver }
 
 abbrev pub operated : Whole → Frame → List Frame → Whole
 operated w f fs = record { nesting = w.nesting; operators = suc w.operators; frames = f ∷ fs; receiver = w.receiver }
 
-abbrev pub at_prim : Inside → Whole → Span → TokenKind → Option State
-at_prim i w s (Name x) = Some (within i w (Have (single s (Var (record { text = x; span = s })))))
-at_prim i w s (Number v) = Some (within i w (Have (single s (Num v))))
-at_prim i w s (Reserved k) =
-    if same_word k Words.Own then Some (within i w (Have (single s Own)))
-    else wants (same_word k Words.Null) (within i w (Have (single s Null)))
-at_prim i w s (Sign c) = wants (same_sign c Signs.LeftParenthesis) (within i (opened w s) Want)
-at_prim i w s _ = None
+-- what a token makes of a place within a statement, in a body
+abbrev pub placed : Inside → Option Mode → Option State
+placed i None = None
+placed i (Some m) = Some (In i m)
 
-abbrev pub at_operand : Inside → Whole → Span → TokenKind → Option State
-at_operand i w s k =
-    if is_sign Signs.Minus k then Some (within i (operated w (Prefix Neg s) w.frames) Want)
-    else if is_sign Signs.Bang k then Some (within i (operated w (Prefix Not s) w.frames) Want)
-    else if is_sign Signs.Ampersand k then Some (within i (operated w (AddressOf s) w.frames) Post)
-    else at_prim i w s k
+abbrev pub at_prim : Whole → Span → TokenKind → Option Mode
+at_prim w s (Name x) = Some (Modes.Within w (Have (single s (Var (record { text = x; span = s })))))
+at_prim w s (Number v) = Some (Modes.Within w (Have (single s (Num v))))
+at_prim w s (Reserved k) =
+    if same_word k Words.Own then Some (Modes.Within w (Have (single s Own)))
+    else wants (same_word k Words.Null) (Modes.Within w (Have (single s Null)))
+at_prim w s (Sign c) = wants (same_sign c Signs.LeftParenthesis) (Modes.Within (opened w s) Want)
+at_prim w s _ = None
+
+abbrev pub at_operand : Whole → Span → TokenKind → Option Mode
+at_operand w s k =
+    if is_sign Signs.Minus k then Some (Modes.Within (operated w (Prefix Neg s) w.frames) Want)
+    else if is_sign Signs.Bang k then Some (Modes.Within (operated w (Prefix Not s) w.frames) Want)
+    else if is_sign Signs.Ampersand k then Some (Modes.Within (operated w (AddressOf s) w.frames) Post)
+    else at_prim w s k
 
 -- A statement ends, and with it each `if` that it is the else part of.
 unfoldable pub wrapped : List Chained → Stmt → Stmt
@@ -240,17 +242,20 @@ abbrev pub ends_at : Inside → Stmt → SignOf → Option State
 ends_at i st c = wants (same_sign c Signs.Semicolon) (In (with_statement i st) Modes.Body)
 
 -- The whole expression e at the sign behind it; d is the nesting at it.
+abbrev pub at_argument : ℕ → Callee → List Expr → SignOf → Option Mode
+at_argument d f args c =
+    if same_sign c Signs.Comma then Some (Modes.Within (begun d (To.Argument f args)) Want)
+    else wants (same_sign c Signs.RightParenthesis) (Modes.Ends (called f args))
+
 abbrev pub received : Inside → ℕ → Receiver → Expr → SignOf → Option State
 received i d (To.Value t) e c = ends_at i (given t (Plain e)) c
-received i d (To.Read t s) e c = wants (same_sign c Signs.RightParenthesis) (In i (Modes.Ends (given t (Read s e))))
-received i d (To.Argument f args) e c =
-    if same_sign c Signs.Comma then Some (begins i d (To.Argument f (args ++ e ∷ [])))
-    else wants (same_sign c Signs.RightParenthesis) (In i (Modes.Ends (called f (args ++ e ∷ []))))
+received i d (To.Read t s) e c = placed i (wants (same_sign c Signs.RightParenthesis) (Modes.Ends (given t (Read s e))))
+received i d (To.Argument f args) e c = placed i (at_argument d f (args ++ e ∷ []) c)
 received i d (To.Set a x) e c = ends_at i (SetField a.span a x e) c
-received i d (To.Write s) e c = wants (same_sign c Signs.Comma) (begins i d (To.Store s e))
-received i d (To.Store s a) e c = wants (same_sign c Signs.RightParenthesis) (In i (Modes.Ends (Write s a e)))
-received i d (To.If s) e c = wants (same_sign c Signs.RightParenthesis) (In i (Modes.Opens (OfThen s e)))
-received i d (To.While s) e c = wants (same_sign c Signs.RightParenthesis) (In i (Modes.Opens (OfWhile s e)))
+received i d (To.Write s) e c = placed i (wants (same_sign c Signs.Comma) (Modes.Within (begun d (To.Store s e)) Want))
+received i d (To.Store s a) e c = placed i (wants (same_sign c Signs.RightParenthesis) (Modes.Ends (Write s a e)))
+received i d (To.If s) e c = placed i (wants (same_sign c Signs.RightParenthesis) (Modes.Opens (OfThen s e)))
+received i d (To.While s) e c = placed i (wants (same_sign c Signs.RightParenthesis) (Modes.Opens (OfWhile s e)))
 
 abbrev pub closed : Whole → ℕ → List Frame → Whole
 closed w d fs = record { nesting = d; operators = w.operators; frames = fs; receiver = w.receiver }
@@ -278,11 +283,14 @@ at_after i w p s (Sign c) =
     if same_sign c Signs.Arrow then Some (within i (picks w) (Pick p)) else at_sign_after i w p s c (operator_of c)
 at_after i w p s _ = None
 
+abbrev pub at_pick : Whole → Piece → Span → TokenKind → Option Mode
+at_pick w p s k = at_name (λ x. Modes.Within w (Have (picked p x))) s k
+
 abbrev pub at_place : Inside → Whole → Place → Span → TokenKind → Option State
-at_place i w Want s k = at_operand i w s k
-at_place i w Post s k = at_prim i w s k
+at_place i w Want s k = placed i (at_operand w s k)
+at_place i w Post s k = placed i (at_prim w s k)
 at_place i w (Have p) s k = at_after i w p s k
-at_place i w (Pick p) s k = at_name (λ x. within i w (Have (picked p x))) s k
+at_place i w (Pick p) s k = placed i (at_pick w p s k)
 
 -- Types. `cells` says whether a modifiable within a struct may stand here.
 abbrev pub type_begin : ReservedWord → Option TypePart
@@ -336,75 +344,116 @@ opened_by i o = In (record {
 }) Modes.Body
 
 -- a word that begins a statement, and no type
-abbrev pub at_statement : Inside → Span → ReservedWord → Option State
-at_statement i s k =
-    if same_word k Words.If then Some (In i (Modes.Before (To.If s)))
-    else if same_word k Words.While then Some (In i (Modes.Before (To.While s)))
-    else if same_word k Words.Return then Some (In i (Modes.Ends (Return s)))
-    else if same_word k Words.Write then Some (In i (Modes.Before (To.Write s)))
-    else wants (same_word k Words.Own) (In i (Modes.Owned s))
+abbrev pub at_statement : Span → ReservedWord → Option Mode
+at_statement s k =
+    if same_word k Words.If then Some (Modes.Before (To.If s))
+    else if same_word k Words.While then Some (Modes.Before (To.While s))
+    else if same_word k Words.Return then Some (Modes.Ends (Return s))
+    else if same_word k Words.Write then Some (Modes.Before (To.Write s))
+    else wants (same_word k Words.Own) (Modes.Owned s)
 
-abbrev pub at_word : Inside → Span → ReservedWord → Option TypePart → Option State
-at_word i s k (Some part) = Some (In i (Modes.Typing s part))
-at_word i s k None = at_statement i s k
+abbrev pub at_word : Span → ReservedWord → Option TypePart → Option Mode
+at_word s k (Some part) = Some (Modes.Typing s part)
+at_word s k None = at_statement s k
 
 abbrev pub at_body : Inside → Span → TokenKind → Option State
 at_body i s (Name x) = Some (In i (Modes.Named (record { text = x; span = s })))
-at_body i s (Reserved k) = at_word i s k (type_begin k)
+at_body i s (Reserved k) = placed i (at_word s k (type_begin k))
 at_body i s (Sign c) = wants (same_sign c Signs.RightBrace) (block_closed i.entries i.head i.done i.opened s)
 at_body i s _ = None
 
-abbrev pub typed : (TypePart → State) → (TypeForm → Ident → State) → Option Typing → Option State
+abbrev pub typed : {A : Type 0} → (TypePart → A) → (TypeForm → Ident → A) → Option Typing → Option A
 typed more done None = None
 typed more done (Some (MoreType part)) = Some (more part)
 typed more done (Some (NamedType form x)) = Some (done form x)
 
--- An arrow behind the path e, the arrow number n of its whole expression.
+-- A path, and one more field of it.
 abbrev pub field_of : Expr → Ident → Expr
 field_of e x = record { span = e.span; form = Field e x }
 
 abbrev pub path_of : Ident → Expr
 path_of x = record { span = x.span; form = Var x }
 
-abbrev pub at_value : Inside → Target → Span → TokenKind → Option State
-at_value i t s k =
-    if is_word Words.Read k then Some (In i (Modes.Before (To.Read t s)))
-    else if is_word Words.Alloc k then Some (In i (Modes.Making (Makings.Alloc t s)))
-    else if is_word Words.Modref k then Some (In i (Modes.Making (Makings.Modref t s)))
-    else at_operand i (begun i.nesting (To.Value t)) s k
+-- d is the nesting
+abbrev pub at_value : ℕ → Target → Span → TokenKind → Option Mode
+at_value d t s k =
+    if is_word Words.Read k then Some (Modes.Before (To.Read t s))
+    else if is_word Words.Alloc k then Some (Modes.Making (Makings.Alloc t s))
+    else if is_word Words.Modref k then Some (Modes.Making (Makings.Modref t s))
+    else at_operand (begun d (To.Value t)) s k
 
-abbrev pub at_modref : Inside → Target → Span → Span → TokenKind → Option State
-at_modref i t at s (Name y) = Some (In i (Modes.Making (Makings.Typed (given t (Modref at (record { text = y; span = s }))))))
-at_modref i t at s (Reserved k) = wants (same_word k Words.Int) (In i (Modes.Making (Makings.Typed (given t (ModrefInt at)))))
-at_modref i t at s _ = None
+abbrev pub at_modref : Target → Span → Span → TokenKind → Option Mode
+at_modref t at s (Name y) = Some (Modes.Making (Makings.Typed (given t (Modref at (record { text = y; span = s })))))
+at_modref t at s (Reserved k) = wants (same_word k Words.Int) (Modes.Making (Makings.Typed (given t (ModrefInt at))))
+at_modref t at s _ = None
 
-abbrev pub at_making : Inside → Making → Span → TokenKind → Option State
-at_making i (Makings.Alloc t at) s k = at_name (λ y. In i (Modes.Making (Makings.Shape t at y))) s k
-at_making i (Makings.Shape t at y) s k = at_name (λ x. In i (Modes.Calls (ToAlloc t at y x))) s k
-at_making i (Makings.Modref t at) s k = at_modref i t at s k
-at_making i (Makings.Typed st) s k = wants (is_sign Signs.LeftParenthesis k) (In i (Modes.Making (Makings.Opened st)))
-at_making i (Makings.Opened st) s k = wants (is_sign Signs.RightParenthesis k) (In i (Modes.Ends st))
+abbrev pub at_making : Making → Span → TokenKind → Option Mode
+at_making (Makings.Alloc t at) s k = at_name (λ y. Modes.Making (Makings.Shape t at y)) s k
+at_making (Makings.Shape t at y) s k = at_name (λ x. Modes.Calls (ToAlloc t at y x)) s k
+at_making (Makings.Modref t at) s k = at_modref t at s k
+at_making (Makings.Typed st) s k = wants (is_sign Signs.LeftParenthesis k) (Modes.Making (Makings.Opened st))
+at_making (Makings.Opened st) s k = wants (is_sign Signs.RightParenthesis k) (Modes.Ends st)
+
+abbrev pub at_typing : Span → TypePart → Span → TokenKind → Option Mode
+at_typing at part s k = typed (λ p. Modes.Typing at p) (λ form x. Modes.Declared at form x) (at_type false part s k)
+
+abbrev pub at_declared : Span → TypeForm → Ident → TokenKind → Option Mode
+at_declared at form x k = wants (is_sign Signs.Equals k) (Modes.Value (ToDeclare at form x))
+
+abbrev pub at_owned : Span → TokenKind → Option Mode
+at_owned at k = wants (is_sign Signs.Arrow k) (Modes.Path (record { span = at; form = Own }) 1)
+
+-- e is a path, and n the number of its arrow
+abbrev pub at_path : Expr → ℕ → Span → TokenKind → Option Mode
+at_path e n s k = at_name (λ x. Modes.Reached e x n) s k
+
+abbrev pub at_calls : Callee → TokenKind → Option Mode
+at_calls f k = wants (is_sign Signs.LeftParenthesis k) (Modes.First f)
+
+abbrev pub at_before : ℕ → Receiver → TokenKind → Option Mode
+at_before d r k = wants (is_sign Signs.LeftParenthesis k) (Modes.Within (begun (suc d) r) Want)
+
+abbrev pub at_named : Ident → TokenKind → Option Mode
+at_named x k =
+    if is_sign Signs.Equals k then Some (Modes.Value (ToAssign x))
+    else if is_sign Signs.LeftParenthesis k then Some (Modes.First (ToCall x))
+    else wants (is_sign Signs.Arrow k) (Modes.Path (path_of x) 1)
+
+abbrev pub at_reached : ℕ → Expr → Ident → ℕ → TokenKind → Option Mode
+at_reached d e x n k =
+    if is_sign Signs.Arrow k then Some (Modes.Path (field_of e x) (suc n))
+    else wants (is_sign Signs.Equals k) (Modes.Within (begun d (To.Set e x)) Want)
+
+abbrev pub at_first : ℕ → Callee → Span → TokenKind → Option Mode
+at_first d f s k =
+    if is_sign Signs.RightParenthesis k then Some (Modes.Ends (called f []))
+    else at_operand (begun (suc d) (To.Argument f [])) s k
+
+-- an `if` waits for the one that is its else part
+abbrev pub chained_in : Inside → Chained → Inside
+chained_in i c = record {
+  entries = i.entries;
+  head = i.head;
+  opened = i.opened;
+  done = i.done;
+  chain = c ∷ i.chain;
+  base = i.base;
+  nesting = suc i.nesting;
+}
 
 abbrev pub moved : Inside → Mode → Span → TokenKind → Option State
 moved i Modes.Body s k = at_body i s k
-moved i (Modes.Typing at part) s k = typed (λ p. In i (Modes.Typing at p)) (λ form x. In i (Modes.Declared at form x)) (at_type false part s k)
-moved i (Modes.Declared at form x) s k = wants (is_sign Signs.Equals k) (In i (Modes.Value (ToDeclare at form x)))
-moved i (Modes.Named x) s k =
-    if is_sign Signs.Equals k then Some (In i (Modes.Value (ToAssign x)))
-    else if is_sign Signs.LeftParenthesis k then Some (In i (Modes.First (ToCall x)))
-    else wants (is_sign Signs.Arrow k) (In i (Modes.Path (path_of x) 1))
-moved i (Modes.Owned at) s k = wants (is_sign Signs.Arrow k) (In i (Modes.Path (record { span = at; form = Own }) 1))
-moved i (Modes.Path e n) s k = at_name (λ x. In i (Modes.Reached e x n)) s k
-moved i (Modes.Reached e x n) s k =
-    if is_sign Signs.Arrow k then Some (In i (Modes.Path (field_of e x) (suc n)))
-    else wants (is_sign Signs.Equals k) (begins i i.nesting (To.Set e x))
-moved i (Modes.Value t) s k = at_value i t s k
-moved i (Modes.Making m) s k = at_making i m s k
-moved i (Modes.Calls f) s k = wants (is_sign Signs.LeftParenthesis k) (In i (Modes.First f))
-moved i (Modes.First f) s k =
-    if is_sign Signs.RightParenthesis k then Some (In i (Modes.Ends (called f [])))
-    else at_operand i (begun (suc i.nesting) (To.Argument f [])) s k
-moved i (Modes.Before r) s k = wants (is_sign Signs.LeftParenthesis k) (begins i (suc i.nesting) r)
+moved i (Modes.Typing at part) s k = placed i (at_typing at part s k)
+moved i (Modes.Declared at form x) s k = placed i (at_declared at form x k)
+moved i (Modes.Named x) s k = placed i (at_named x k)
+moved i (Modes.Owned at) s k = placed i (at_owned at k)
+moved i (Modes.Path e n) s k = placed i (at_path e n s k)
+moved i (Modes.Reached e x n) s k = placed i (at_reached i.nesting e x n k)
+moved i (Modes.Value t) s k = placed i (at_value i.nesting t s k)
+moved i (Modes.Making m) s k = placed i (at_making m s k)
+moved i (Modes.Calls f) s k = placed i (at_calls f k)
+moved i (Modes.First f) s k = placed i (at_first i.nesting f s k)
+moved i (Modes.Before r) s k = placed i (at_before i.nesting r k)
 moved i (Modes.Within w p) s k = at_place i w p s k
 moved i (Modes.Ends st) s k = wants (is_sign Signs.Semicolon k) (In (with_statement i st) Modes.Body)
 moved i (Modes.Ended st) s k = at_body (with_statement i st) s k
@@ -413,15 +462,7 @@ moved i (Modes.Closed at e first) s k =
     if is_word Words.Else k then Some (In i (Modes.Otherwise at e first)) else at_body (with_statement i (If at e first [])) s k
 moved i (Modes.Otherwise at e first) s k =
     if is_sign Signs.LeftBrace k then Some (opened_by i (OfElse at e first))
-    else wants (is_word Words.If k) (In (record {
-      entries = i.entries;
-      head = i.head;
-      opened = i.opened;
-      done = i.done;
-      chain = record { span = at; test = e; first = first } ∷ i.chain;
-      base = i.base;
-      nesting = suc i.nesting;
-    }) (Modes.Before (To.If s)))
+    else wants (is_word Words.If k) (In (chained_in i (record { span = at; test = e; first = first })) (Modes.Before (To.If s)))
 
 -- Structs.
 abbrev pub with_member : StructDecl → FieldDecl → StructDecl

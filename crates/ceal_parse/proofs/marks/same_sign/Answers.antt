@@ -1,0 +1,8 @@
+use Rattle.std.proofs.Common.{◌≡◌, ◌↔◌, IsTrue, rules}
+use Rattle.ceal_parse.proofs.Telling.{sign_decided}
+use Rattle.ceal_parse.proofs.marks.same_sign.Goals as goal
+
+pub returns : goal.returns
+returns c =
+    let told : IsTrue c.eq.result ↔ (c.args.a ≡ c.args.b) = search rules in
+    record { value = sign_decided c.args.a c.args.b c.eq.result told }

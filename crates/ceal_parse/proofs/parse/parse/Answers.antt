@@ -1,0 +1,17 @@
+use Rattle.ceal_base.specs.Answers.{Gives}
+use Rattle.ceal_parse.specs.declared.state.State.TheVariants.{Top}
+use Rattle.std.proofs.Common.{[]}
+use Rattle.ceal_parse.specs.Judged.{judged}
+use Rattle.ceal_parse.proofs.Outcomes.{found_from, all_from, fault_from, only_from}
+use Rattle.ceal_parse.proofs.parse.parse.Goals as goal
+
+pub returns : goal.returns
+returns c =
+    let tokens = c.args.tokens.now in
+    let gives : Gives c.read.result (judged (Top []) tokens) = rw c.items.ensures.value at c.read.ensures.value in
+    record {
+      found = found_from tokens c.read.result gives;
+      all = all_from tokens c.read.result gives;
+      fault = fault_from tokens c.read.result c.requires.ended gives;
+      only = only_from tokens c.read.result gives;
+    }

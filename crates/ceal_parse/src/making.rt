@@ -1,0 +1,142 @@
+// What a variable is given. A `take_..` takes one token.
+
+ghost use Rattle.std.specs.Prelude.{◌≡◌, ◌<◌, ◌^◌, IfOk};
+ghost use Rattle.ceal_parse.specs.Machine.{given, called, at_modref, at_making, at_value};
+
+use crate::expression::take_whole;
+use crate::marks::{is_sign, is_word, name, same_word};
+use crate::state::{Callee, Making, Mode, Receiver, Target};
+use ceal_base::fault::Span;
+use ceal_base::no_memory::NoMemory;
+use ceal_base::syntax::{Exprs, Ident, Stmt, Value};
+use ceal_lex::token::{Reserved, Sign, Token, TokenKind};
+use std::alloc::Global;
+
+/// The statement that gives the value.
+pub fn give(target: Target, value: Value) -> Stmt
+    ensures value { result ≡ given target value }
+{
+    match target {
+        Target::Declare(at, form, name) => Stmt::Declare(at, form, name, value),
+        Target::Assign(name) => Stmt::Assign(name, value),
+    }
+}
+
+/// The statement that has these arguments.
+pub fn call(callee: Callee, arguments: Exprs) -> Stmt
+    ensures value { result ≡ called callee arguments }
+{
+    match callee {
+        Callee::Call(name) => Stmt::Call(name, arguments),
+        Callee::Alloc(target, at, shape, name) => {
+            give(target, Value::Alloc(at, shape, name, arguments))
+        }
+    }
+}
+
+fn take_shape(target: Target, at: Span, token: &Token) -> Result<Option<Mode>, NoMemory>
+    ensures value { IfOk result (λ mode. mode ≡ at_making (Making.Alloc target at) token.now.span token.now.kind) }
+{
+    match name(token)? {
+        Some(shape) => Ok(Some(Mode::Making(Making::Shape(target, at, shape)))),
+        None => Ok(None),
+    }
+}
+
+fn take_initialiser(
+    target: Target,
+    at: Span,
+    shape: Ident,
+    token: &Token,
+) -> Result<Option<Mode>, NoMemory>
+    ensures value { IfOk result (λ mode. mode ≡ at_making (Making.Shape target at shape) token.now.span token.now.kind) }
+{
+    match name(token)? {
+        Some(name) => Ok(Some(Mode::Calls(Callee::Alloc(target, at, shape, name)))),
+        None => Ok(None),
+    }
+}
+
+fn modref_int(target: Target, at: Span, word: Reserved) -> Option<Mode>
+    ensures value { result ≡ at_modref target at at (TokenKind.Reserved word) }
+{
+    if same_word(word, Reserved::Int) {
+        let statement = give(target, Value::ModrefInt(at));
+        Some(Mode::Making(Making::Typed(statement)))
+    } else {
+        None
+    }
+}
+
+fn take_modref(target: Target, at: Span, token: &Token) -> Result<Option<Mode>, NoMemory>
+    ensures value { IfOk result (λ mode. mode ≡ at_modref target at token.now.span token.now.kind) }
+{
+    match &token.kind {
+        TokenKind::Name(text) => {
+            let text = text.copy()?;
+            let shape = Ident {
+                text,
+                span: token.span,
+            };
+            let statement = give(target, Value::Modref(at, shape));
+            Ok(Some(Mode::Making(Making::Typed(statement))))
+        }
+        TokenKind::Reserved(word) => Ok(modref_int(target, at, *word)),
+        _ => Ok(None),
+    }
+}
+
+fn take_opening(statement: Stmt, token: &Token) -> Option<Mode>
+    ensures value { result ≡ at_making (Making.Typed statement) token.now.span token.now.kind }
+{
+    if is_sign(token, Sign::LeftParenthesis) {
+        Some(Mode::Making(Making::Opened(statement)))
+    } else {
+        None
+    }
+}
+
+fn take_closing(statement: Stmt, token: &Token) -> Option<Mode>
+    ensures value { result ≡ at_making (Making.Opened statement) token.now.span token.now.kind }
+{
+    if is_sign(token, Sign::RightParenthesis) {
+        Some(Mode::Ends(statement))
+    } else {
+        None
+    }
+}
+
+/// An `alloc` or a `modref`.
+pub fn take_making(making: Making, token: &Token) -> Result<Option<Mode>, NoMemory>
+    ensures value { IfOk result (λ mode. mode ≡ at_making making token.now.span token.now.kind) }
+{
+    match making {
+        Making::Alloc(target, at) => take_shape(target, at, token),
+        Making::Shape(target, at, shape) => take_initialiser(target, at, shape, token),
+        Making::Modref(target, at) => take_modref(target, at, token),
+        Making::Typed(statement) => Ok(take_opening(statement, token)),
+        Making::Opened(statement) => Ok(take_closing(statement, token)),
+    }
+}
+
+/// What the target is given.
+pub fn take_value(
+    alloc: Global,
+    nesting: u32,
+    target: Target,
+    token: &Token,
+) -> Result<Option<Mode>, NoMemory>
+    requires shallow { nesting < 2 ^ 31 }
+    ensures value { IfOk result (λ mode. mode ≡ at_value nesting target token.now.span token.now.kind) }
+{
+    let at = token.span;
+    if is_word(token, Reserved::Read) {
+        Ok(Some(Mode::Before(Receiver::Read(target, at))))
+    } else if is_word(token, Reserved::Alloc) {
+        Ok(Some(Mode::Making(Making::Alloc(target, at))))
+    } else if is_word(token, Reserved::Modref) {
+        Ok(Some(Mode::Making(Making::Modref(target, at))))
+    } else {
+        take_whole(alloc, nesting, Receiver::Value(target), token)
+    }
+}

@@ -1,0 +1,99 @@
+// What a token is, and which operator a sign is.
+
+ghost use Rattle.std.specs.Prelude.{◌≡◌, IfOk};
+ghost use Rattle.ceal_parse.specs.Grammar.{level as level_of_operator};
+ghost use Rattle.ceal_parse.specs.Machine.{same_sign as same_signs, same_word as same_words, is_sign as is_sign_kind, is_word as is_word_kind, operator_of, ident_of};
+
+use ceal_base::no_memory::NoMemory;
+use ceal_base::operators::Binary;
+use ceal_base::syntax::Ident;
+use ceal_lex::token::{Reserved, Sign, Token, TokenKind};
+
+pub fn same_sign(a: Sign, b: Sign) -> bool
+    ensures value { result ≡ same_signs a b }
+{
+    a == b
+}
+
+pub fn same_word(a: Reserved, b: Reserved) -> bool
+    ensures value { result ≡ same_words a b }
+{
+    a == b
+}
+
+pub fn is_sign(token: &Token, sign: Sign) -> bool
+    ensures value { result ≡ is_sign_kind sign token.now.kind }
+{
+    match token.kind {
+        TokenKind::Sign(found) => same_sign(found, sign),
+        _ => false,
+    }
+}
+
+pub fn is_word(token: &Token, word: Reserved) -> bool
+    ensures value { result ≡ is_word_kind word token.now.kind }
+{
+    match token.kind {
+        TokenKind::Reserved(found) => same_word(found, word),
+        _ => false,
+    }
+}
+
+/// The level of an operator: those of a higher one bind first.
+pub fn level(operator: Binary) -> u8
+    ensures value { result ≡ level_of_operator operator }
+{
+    match operator {
+        Binary::Or => 1,
+        Binary::And => 2,
+        Binary::Same => 3,
+        Binary::Differ => 3,
+        Binary::Less => 4,
+        Binary::LessEq => 4,
+        Binary::More => 4,
+        Binary::MoreEq => 4,
+        Binary::Add => 5,
+        Binary::Sub => 5,
+        Binary::Mul => 6,
+        Binary::Div => 6,
+        Binary::Rem => 6,
+    }
+}
+
+/// The operator on two operands that the sign is.
+pub fn operator(sign: Sign) -> Option<Binary>
+    ensures value { result ≡ operator_of sign }
+{
+    match sign {
+        Sign::Plus => Some(Binary::Add),
+        Sign::Minus => Some(Binary::Sub),
+        Sign::Star => Some(Binary::Mul),
+        Sign::Slash => Some(Binary::Div),
+        Sign::Percent => Some(Binary::Rem),
+        Sign::Less => Some(Binary::Less),
+        Sign::LessEquals => Some(Binary::LessEq),
+        Sign::Greater => Some(Binary::More),
+        Sign::GreaterEquals => Some(Binary::MoreEq),
+        Sign::EqualsEquals => Some(Binary::Same),
+        Sign::BangEquals => Some(Binary::Differ),
+        Sign::AndAnd => Some(Binary::And),
+        Sign::BarBar => Some(Binary::Or),
+        _ => None,
+    }
+}
+
+/// The name that the token is, with its own text.
+pub fn name(token: &Token) -> Result<Option<Ident>, NoMemory>
+    ensures value { IfOk result (λ x. x ≡ ident_of token.now.span token.now.kind) }
+{
+    match &token.kind {
+        TokenKind::Name(text) => {
+            let text = text.copy()?;
+            Ok(Some(Ident {
+                text,
+                span: token.span,
+            }))
+        }
+        _ => Ok(None),
+    }
+}

@@ -1,0 +1,269 @@
+// Statements. A `take_..` takes one token, and answers where the reading stands after it, or None where no program
+// goes on so.
+
+ghost use Rattle.std.specs.Prelude.{◌≡◌, ◌<◌, ◌^◌, [], IfOk};
+ghost use Rattle.ceal_parse.specs.Machine.{placed, begun, at_operand, type_begin, wrapped, with_statement, ends_at, opened_by, at_word, at_statement, at_typing, at_declared, at_owned, at_path, at_calls, at_before, at_named, at_reached, at_first, path_of, field_of};
+
+use crate::expression::{begin, take_whole};
+use crate::making::call;
+use crate::marks::{is_sign, name, same_sign, same_word};
+use crate::stack::Stack;
+use crate::state::{
+    Callee, Chained, Inside, Mode, Opened, Owner, Place, Receiver, State, Target, TypePart, Typing,
+};
+use crate::typing::{begin_type, take_type};
+use ceal_base::boxed::Boxed;
+use ceal_base::fault::Span;
+use ceal_base::items::Items;
+use ceal_base::no_memory::NoMemory;
+use ceal_base::syntax::{Expr, ExprForm, Ident, Stmt, TypeForm};
+use ceal_lex::token::{Reserved, Sign, Token};
+use std::alloc::Global;
+use std::mem;
+
+/// The statement once each `if` that it is the else part of has ended with it.
+#[tactic(auto, unfolding(crate::specs::Machine::wrapped))]
+fn wrap(alloc: Global, chain: &mut Stack<Chained>, statement: Stmt) -> Result<Stmt, NoMemory>
+    ensures value { IfOk result (λ st. (st ≡ wrapped chain.old statement) × (chain.new ≡ [])) }
+{
+    match chain.pop() {
+        None => Ok(statement),
+        Some(outer) => {
+            let mut other = Items::empty(alloc);
+            other.push(statement)?;
+            let whole = Stmt::If(outer.span, outer.test, outer.first, other);
+            let all = wrap(alloc, chain, whole)?;
+            Ok(all)
+        }
+    }
+}
+
+/// Puts the statement, which has ended, behind those of its block.
+pub fn end_statement(alloc: Global, inside: &mut Inside, statement: Stmt) -> Result<(), NoMemory>
+    ensures value { IfOk result (λ _. inside.new ≡ with_statement inside.old statement) }
+{
+    let whole = wrap(alloc, &mut inside.chain, statement)?;
+    inside.done.push(whole)?;
+    inside.nesting = inside.base;
+    Ok(())
+}
+
+/// The statement at a sign that may be its semicolon.
+pub fn take_end(
+    alloc: Global,
+    inside: &mut Inside,
+    statement: Stmt,
+    sign: Sign,
+) -> Result<Option<Mode>, NoMemory>
+    ensures value { IfOk result (λ mode. ends_at inside.old statement sign ≡ placed inside.new mode) }
+{
+    if same_sign(sign, Sign::Semicolon) {
+        end_statement(alloc, inside, statement)?;
+        Ok(Some(Mode::Body))
+    } else {
+        Ok(None)
+    }
+}
+
+/// Opens a block.
+pub fn open_block(alloc: Global, inside: &mut Inside, owner: Owner) -> Result<(), NoMemory>
+    requires shallow { inside.old.nesting < 2 ^ 31 }
+    ensures value { IfOk result (λ _. State.In inside.new Mode.Body ≡ opened_by inside.old owner) }
+{
+    let before = mem::replace(&mut inside.done, Items::empty(alloc));
+    let chain = mem::replace(&mut inside.chain, Stack::new(alloc));
+    inside.opened.push(Opened {
+        before,
+        chain,
+        owner,
+        base: inside.base,
+        nesting: inside.nesting,
+    })?;
+    inside.nesting += 1;
+    inside.base = inside.nesting;
+    Ok(())
+}
+
+fn take_statement(at: Span, word: Reserved) -> Option<Mode>
+    ensures value { result ≡ at_statement at word }
+{
+    if same_word(word, Reserved::If) {
+        Some(Mode::Before(Receiver::If(at)))
+    } else if same_word(word, Reserved::While) {
+        Some(Mode::Before(Receiver::While(at)))
+    } else if same_word(word, Reserved::Return) {
+        Some(Mode::Ends(Stmt::Return(at)))
+    } else if same_word(word, Reserved::Write) {
+        Some(Mode::Before(Receiver::Write(at)))
+    } else if same_word(word, Reserved::Own) {
+        Some(Mode::Owned(at))
+    } else {
+        None
+    }
+}
+
+/// A reserved word at the beginning of a statement.
+pub fn take_word(at: Span, word: Reserved) -> Option<Mode>
+    ensures value { result ≡ at_word at word (type_begin word) }
+{
+    match begin_type(word) {
+        Some(part) => Some(Mode::Typing(at, part)),
+        None => take_statement(at, word),
+    }
+}
+
+pub fn take_typing(at: Span, part: TypePart, token: &Token) -> Result<Option<Mode>, NoMemory>
+    ensures value { IfOk result (λ mode. mode ≡ at_typing at part token.now.span token.now.kind) }
+{
+    match take_type(false, part, token)? {
+        Some(Typing::More(part)) => Ok(Some(Mode::Typing(at, part))),
+        Some(Typing::Named(form, name)) => Ok(Some(Mode::Declared(at, form, name))),
+        None => Ok(None),
+    }
+}
+
+pub fn take_declared(at: Span, form: TypeForm, name: Ident, token: &Token) -> Option<Mode>
+    ensures value { result ≡ at_declared at form name token.now.kind }
+{
+    if is_sign(token, Sign::Equals) {
+        Some(Mode::Value(Target::Declare(at, form, name)))
+    } else {
+        None
+    }
+}
+
+/// The path that is this name alone.
+fn path(name: Ident) -> Expr
+    ensures value { result ≡ path_of name }
+{
+    Expr {
+        span: name.span,
+        form: ExprForm::Var(name),
+    }
+}
+
+/// The path and one more field.
+fn field(alloc: Global, path: Expr, name: Ident) -> Result<Expr, NoMemory>
+    ensures value { IfOk result (λ e. e ≡ field_of path name) }
+{
+    let span = path.span;
+    let operand = Boxed::new(alloc, path)?;
+    Ok(Expr {
+        span,
+        form: ExprForm::Field(operand, name),
+    })
+}
+
+/// A name at the beginning of a statement was read.
+pub fn take_named(name: Ident, token: &Token) -> Option<Mode>
+    ensures value { result ≡ at_named name token.now.kind }
+{
+    if is_sign(token, Sign::Equals) {
+        Some(Mode::Value(Target::Assign(name)))
+    } else if is_sign(token, Sign::LeftParenthesis) {
+        Some(Mode::First(Callee::Call(name)))
+    } else if is_sign(token, Sign::Arrow) {
+        Some(Mode::Path(path(name), 1))
+    } else {
+        None
+    }
+}
+
+/// `self` at the beginning of a statement was read.
+pub fn take_owned(at: Span, token: &Token) -> Option<Mode>
+    ensures value { result ≡ at_owned at token.now.kind }
+{
+    if is_sign(token, Sign::Arrow) {
+        let path = Expr {
+            span: at,
+            form: ExprForm::Own,
+        };
+        Some(Mode::Path(path, 1))
+    } else {
+        None
+    }
+}
+
+pub fn take_path(path: Expr, arrows: u32, token: &Token) -> Result<Option<Mode>, NoMemory>
+    ensures value { IfOk result (λ mode. mode ≡ at_path path arrows token.now.span token.now.kind) }
+{
+    match name(token)? {
+        Some(name) => Ok(Some(Mode::Reached(path, name, arrows))),
+        None => Ok(None),
+    }
+}
+
+pub fn take_reached(
+    alloc: Global,
+    nesting: u32,
+    path: Expr,
+    name: Ident,
+    arrows: u32,
+    token: &Token,
+) -> Result<Option<Mode>, NoMemory>
+    requires few { arrows < 2 ^ 31 }
+    ensures value { IfOk result (λ mode. mode ≡ at_reached nesting path name arrows token.now.kind) }
+{
+    if is_sign(token, Sign::Arrow) {
+        let path = field(alloc, path, name)?;
+        Ok(Some(Mode::Path(path, arrows + 1)))
+    } else if is_sign(token, Sign::Equals) {
+        let whole = begin(alloc, nesting, Receiver::Set(path, name));
+        Ok(Some(Mode::Within(whole, Place::Want)))
+    } else {
+        Ok(None)
+    }
+}
+
+pub fn take_calls(callee: Callee, token: &Token) -> Option<Mode>
+    ensures value { result ≡ at_calls callee token.now.kind }
+{
+    if is_sign(token, Sign::LeftParenthesis) {
+        Some(Mode::First(callee))
+    } else {
+        None
+    }
+}
+
+/// The first operand of the first argument.
+fn first_argument(
+    alloc: Global,
+    nesting: u32,
+    callee: Callee,
+    token: &Token,
+) -> Result<Option<Mode>, NoMemory>
+    requires shallow { nesting < 2 ^ 31 }
+    ensures value { IfOk result (λ mode. mode ≡ at_operand (begun nesting (Receiver.Argument callee [])) token.now.span token.now.kind) }
+{
+    let receiver = Receiver::Argument(callee, Items::empty(alloc));
+    take_whole(alloc, nesting, receiver, token)
+}
+
+/// The first argument, or `)`.
+pub fn take_first(
+    alloc: Global,
+    nesting: u32,
+    callee: Callee,
+    token: &Token,
+) -> Result<Option<Mode>, NoMemory>
+    requires shallow { nesting < 2 ^ 30 }
+    ensures value { IfOk result (λ mode. mode ≡ at_first nesting callee token.now.span token.now.kind) }
+{
+    if is_sign(token, Sign::RightParenthesis) {
+        Ok(Some(Mode::Ends(call(callee, Items::empty(alloc)))))
+    } else {
+        first_argument(alloc, nesting + 1, callee, token)
+    }
+}
+
+pub fn take_before(alloc: Global, nesting: u32, receiver: Receiver, token: &Token) -> Option<Mode>
+    requires shallow { nesting < 2 ^ 31 }
+    ensures value { result ≡ at_before nesting receiver token.now.kind }
+{
+    if is_sign(token, Sign::LeftParenthesis) {
+        let whole = begin(alloc, nesting + 1, receiver);
+        Some(Mode::Within(whole, Place::Want))
+    } else {
+        None
+    }
+}

@@ -1,0 +1,123 @@
+// Types. A `take_..` takes one token.
+
+ghost use Rattle.std.specs.Prelude.{◌≡◌, false, IfOk};
+ghost use Rattle.ceal_parse.specs.Machine.{type_begin, type_starts, star_or, at_mod, at_type};
+
+use crate::marks::{is_sign, is_word, name, same_word};
+use crate::state::{TypePart, Typing};
+use ceal_base::no_memory::NoMemory;
+use ceal_base::syntax::{Ident, TypeForm};
+use ceal_lex::token::{Reserved, Sign, Token, TokenKind};
+
+/// The type that the word begins.
+pub fn begin_type(word: Reserved) -> Option<TypePart>
+    ensures value { result ≡ type_begin word }
+{
+    if same_word(word, Reserved::Int) {
+        Some(TypePart::Done(TypeForm::Int))
+    } else if same_word(word, Reserved::Struct) {
+        Some(TypePart::Struct)
+    } else if same_word(word, Reserved::Mod) {
+        Some(TypePart::Mod)
+    } else {
+        None
+    }
+}
+
+pub fn start_type(token: &Token) -> Option<TypePart>
+    ensures value { result ≡ type_starts token.now.kind }
+{
+    match token.kind {
+        TokenKind::Reserved(word) => begin_type(word),
+        _ => None,
+    }
+}
+
+/// A type that has ended, and the name behind it.
+fn named(form: TypeForm, token: &Token) -> Result<Option<Typing>, NoMemory>
+    ensures value { IfOk result (λ next. next ≡ at_type false (TypePart.Done form) token.now.span token.now.kind) }
+{
+    match name(token)? {
+        Some(name) => Ok(Some(Typing::Named(form, name))),
+        None => Ok(None),
+    }
+}
+
+fn take_mod(token: &Token) -> Option<Typing>
+    ensures value { result ≡ at_mod token.now.kind }
+{
+    if is_word(token, Reserved::Int) {
+        Some(Typing::More(TypePart::ModInt))
+    } else if is_word(token, Reserved::Struct) {
+        Some(Typing::More(TypePart::ModStruct))
+    } else {
+        None
+    }
+}
+
+fn take_mod_int(cells: bool, token: &Token) -> Result<Option<Typing>, NoMemory>
+    ensures value { IfOk result (λ next. next ≡ star_or cells TypeForm.ModInt TypeForm.CellInt token.now.span token.now.kind) }
+{
+    if is_sign(token, Sign::Star) {
+        Ok(Some(Typing::More(TypePart::Done(TypeForm::ModInt))))
+    } else if cells {
+        named(TypeForm::CellInt, token)
+    } else {
+        Ok(None)
+    }
+}
+
+fn take_mod_named(cells: bool, shape: Ident, token: &Token) -> Result<Option<Typing>, NoMemory>
+    ensures value { IfOk result (λ next. next ≡ star_or cells (TypeForm.ModPtr shape) (TypeForm.CellPtr shape) token.now.span token.now.kind) }
+{
+    if is_sign(token, Sign::Star) {
+        Ok(Some(Typing::More(TypePart::Done(TypeForm::ModPtr(shape)))))
+    } else if cells {
+        named(TypeForm::CellPtr(shape), token)
+    } else {
+        Ok(None)
+    }
+}
+
+fn take_struct(token: &Token) -> Result<Option<Typing>, NoMemory>
+    ensures value { IfOk result (λ next. next ≡ at_type false TypePart.Struct token.now.span token.now.kind) }
+{
+    match name(token)? {
+        Some(name) => Ok(Some(Typing::More(TypePart::StructNamed(name)))),
+        None => Ok(None),
+    }
+}
+
+fn take_struct_star(shape: Ident, token: &Token) -> Option<Typing>
+    ensures value { result ≡ at_type false (TypePart.StructNamed shape) token.now.span token.now.kind }
+{
+    if is_sign(token, Sign::Star) {
+        Some(Typing::More(TypePart::Done(TypeForm::Ptr(shape))))
+    } else {
+        None
+    }
+}
+
+fn take_mod_struct(token: &Token) -> Result<Option<Typing>, NoMemory>
+    ensures value { IfOk result (λ next. next ≡ at_type false TypePart.ModStruct token.now.span token.now.kind) }
+{
+    match name(token)? {
+        Some(name) => Ok(Some(Typing::More(TypePart::ModNamed(name)))),
+        None => Ok(None),
+    }
+}
+
+/// What one more token makes of a type. `cells`: a modifiable within a struct may stand here.
+pub fn take_type(cells: bool, part: TypePart, token: &Token) -> Result<Option<Typing>, NoMemory>
+    ensures value { IfOk result (λ next. next ≡ at_type cells part token.now.span token.now.kind) }
+{
+    match part {
+        TypePart::Struct => take_struct(token),
+        TypePart::StructNamed(shape) => Ok(take_struct_star(shape, token)),
+        TypePart::Mod => Ok(take_mod(token)),
+        TypePart::ModInt => take_mod_int(cells, token),
+        TypePart::ModStruct => take_mod_struct(token),
+        TypePart::ModNamed(shape) => take_mod_named(cells, shape, token),
+        TypePart::Done(form) => named(form, token),
+    }
+}
