@@ -6,3 +6,4 @@ mod ValuesLaws
 mod FormLaws
 mod SpellingLaws
 mod CommandLaws
+mod Samples

@@ -13,4 +13,6 @@ pub mod line;
 pub mod line_error;
 mod number;
 mod spelling;
+#[cfg(test)]
+mod tests;
 mod words;
