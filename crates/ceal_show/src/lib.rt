@@ -1,13 +1,14 @@
-// A library with one function.
+//! The text of the memory that a block reaches.
+//!
+//! `graph_text` writes a line for each block, breadth first. `specs/` says it without a search: a path is a list of
+//! field numbers, a block's path is the least that leads to it, and the blocks stand in the order of their paths. Core
+//! blocks are numbered in that order, so that the text says nothing of their numbers inside. The form of the text is
+//! this project's own.
 #![tactic(auto)]
 
-ghost use Rattle.std.specs.Prelude.{◌≡◌};
-ghost use Rattle.ceal_show.specs.Echo.{echo_of};
-
-// The `ensures` clause is the contract: what `echo` returns is `echo_of` of its argument, a definition
-// in `specs/Echo.antt`, which a caller's clause can cite too.
-pub fn echo(x: usize) -> usize
-    ensures { result ≡ echo_of x }
-{
-    x
-}
+mod bytes;
+pub mod graph;
+mod lines;
+mod met;
+mod reach;
+pub mod view;
