@@ -3,7 +3,7 @@
 ghost use Rattle.std.specs.Prelude.{◌≡◌, IsSome, IfOk, length};
 ghost use Rattle.ceal_base.specs.Shapes.{kinds_of_shape};
 ghost use Rattle.ceal_show.specs.Paths.{AreReached};
-ghost use Rattle.ceal_show.specs.Search.{with_targets as targets_met, AreClosed};
+ghost use Rattle.ceal_show.specs.Search.{with_target as target_met, with_targets as targets_met, AreClosed};
 ghost use Rattle.ceal_show.specs.Shown.{IsWhole, words_at, target as target_block};
 
 use crate::met::Met;
@@ -41,6 +41,16 @@ fn target(word: Word) -> Option<BlockId>
     }
 }
 
+/// With the block to which a word leads.
+fn with_target(met: Met, word: Word) -> Result<Met, NoMemory>
+    ensures { IfOk result (λ next. next ≡ target_met met (target_block word)) }
+{
+    match target(word) {
+        Some(block) => met.with(block),
+        None => Ok(met),
+    }
+}
+
 /// With the blocks to which the fields of a block lead.
 fn with_targets<V: View>(view: &V, met: Met, block: BlockId) -> Result<Met, NoMemory>
     requires whole { IsWhole (V.declared view.now) (V.memory view.now) }
@@ -50,9 +60,7 @@ fn with_targets<V: View>(view: &V, met: Met, block: BlockId) -> Result<Met, NoMe
     let count = field_count(view.structs().items(), view.shape(block))?;
     let mut met = met;
     for field in 0..count {
-        if let Some(target) = target(view.word(block, field)) {
-            met = met.with(target)?;
-        }
+        met = with_target(met, view.word(block, field))?;
     }
     Ok(met)
 }

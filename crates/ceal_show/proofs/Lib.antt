@@ -1,0 +1,5 @@
+mod Same
+mod Numbers
+mod PathOrder
+mod Searching
+mod Finding
