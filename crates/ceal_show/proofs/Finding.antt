@@ -3,7 +3,7 @@ use Rattle.std.proofs.Common.{◌≡◌, ◌≢◌, ℕ, ◌+◌, ◌<◌, ◌�
 use Rattle.std.proofs.lemmas.List.{append-nil}
 use Rattle.std.specs.Prelude.{◌⊎◌, IsSome, slice_get}
 use Rattle.std.specs.List.{AllZip}
-use Rattle.std.proofs.lemmas.Bool.{false≢true, cases_Bool, cases_lt}
+use Rattle.std.proofs.lemmas.Bool.{false≢true, cases_Bool, or_right}
 use Rattle.ceal_base.specs.Block.{Block}
 use Rattle.ceal_base.specs.Shapes.{kinds_of_shape}
 use Rattle.ceal_base.specs.declared.kind.Shape.{Shape}
@@ -14,7 +14,16 @@ use Rattle.ceal_show.specs.Paths.{same_block, is_in, target_of, behind, Leads, I
 use Rattle.ceal_show.specs.Search.{with_block, with_target, with_targets, AreClosed}
 use Rattle.ceal_show.specs.Shown.{Shown, shape_in, shape_at, words_in, words_at, word_at, target, IsThere, IsWhole}
 use Rattle.ceal_show.proofs.PathOrder.{IsAtMost, at_most_append, at_most_trans, at_most_not_less}
+use Rattle.ceal_show.proofs.Same.{same_self}
 use Rattle.ceal_show.proofs.Searching.{Visit, visit, blocks_of, paths_of, Among, Meets, Sound, Searched, Visiting, blocks_of-append, visited, is_in-visit, among_left, among_right, begin, skip, pass, meet, finish}
+
+-- What the search has come to: so many blocks are done, and these are met.
+pub record IsSearching (memory : Shown) (root : BlockId) (at : ℕ) (met : List BlockId) : Type 0 where
+  pub done : List Visit
+  pub waiting : List Visit
+  pub searched : Searched memory root done waiting
+  pub counted : length done ≡ at
+  pub same : blocks_of (done ++ waiting) ≡ met
 
 -- Words of a block.
 slice_get-middle : (front : List Word) (w : Word) (back : List Word) → slice_get (front ++ w ∷ back) (length front) ≡ Some w
@@ -47,6 +56,15 @@ words_all blocks [] zero h = refl
 words_all blocks [] (suc i) h = refl
 words_all blocks (w ∷ words) zero h = absurd (omega (arith, h))
 words_all blocks (w ∷ words) (suc i) h = words_all blocks words i (omega (arith, h))
+
+length-blocks_of : (all : List Visit) → length (blocks_of all) ≡ length all
+length-blocks_of [] = refl
+length-blocks_of (v ∷ all) = let p = length-blocks_of all in omega (arith, p)
+
+is_in-get_or : (met : List BlockId) (at : ℕ) (d : BlockId) → at < length met → is_in (get_or met at d) met ≡ true
+is_in-get_or [] at d h = absurd (omega (arith, h))
+is_in-get_or (b ∷ met) zero d h = rw (same_self b) refl
+is_in-get_or (b ∷ met) (suc at) d h = or_right (same_block (get_or met at d) b) (is_in (get_or met at d) met) (is_in-get_or met at d (omega (arith, h)))
 
 module _ (structs : List StructInfo) (memory : Shown) (whole : IsWhole structs memory) where
   -- a block of a shape has one word for each of its fields
@@ -118,15 +136,14 @@ module _ (structs : List StructInfo) (memory : Shown) (whole : IsWhole structs m
     look done here front (w ∷ back) waiting e s =
         look_at done here front w back waiting e s (λ out t. look done here (front ++ w ∷ []) back out (e ∙ sym (append_assoc front (w ∷ []) back)) t)
 
-    -- what the search has come to: so many blocks are done, and these are met
-    pub record IsSearching (at : ℕ) (met : List BlockId) : Type 0 where
-      pub done : List Visit
-      pub waiting : List Visit
-      pub searched : Searched memory root done waiting
-      pub counted : length done ≡ at
-      pub same : blocks_of (done ++ waiting) ≡ met
+    at_here : (done : List Visit) (here : Visit) (waiting : List Visit) (at : ℕ) (d : BlockId) → length done ≡ at → get_or (blocks_of (done ++ here ∷ waiting)) at d ≡ here.block
+    at_here done here waiting at d e = rw (← e) (by_done done)
+      where
+        by_done : (front : List Visit) → get_or (blocks_of (front ++ here ∷ waiting)) (length front) d ≡ here.block
+        by_done [] = refl
+        by_done (v ∷ front) = by_done front
 
-    pub start_search : IsSome (memory root) → IsSearching 0 (root ∷ [])
+    pub start_search : IsSome (memory root) → IsSearching memory root 0 (root ∷ [])
     unfolding Leads
     start_search there = record {
       done = [];
@@ -163,3 +180,114 @@ module _ (structs : List StructInfo) (memory : Shown) (whole : IsWhole structs m
         by_ahead v (inl e) w (inl f) field = subst (λ (x : Visit). IsLess x.path (v.path ++ field ∷ [])) (sym f) (subst (λ (x : Visit). IsLess [] (x.path ++ field ∷ [])) (sym e) (inl (omega arith)))
         by_ahead v (inl e) w (inr k) field = absurd k
         by_ahead v (inr h) w k field = absurd h
+
+    pub more_search : (at : ℕ) (met : List BlockId) (b d : BlockId) → IsSearching memory root at met → at < length met → b ≡ get_or met at d → IsSearching memory root (at + 1) (with_targets met (words_at memory b))
+    more_search at met b d s h e = by_waiting s.waiting s.searched s.same
+      where
+        longer : (waiting : List Visit) → blocks_of (s.done ++ waiting) ≡ met → length met ≡ at + length waiting
+        longer waiting f =
+            let l = length-blocks_of (s.done ++ waiting) in
+            let m = length-append s.done waiting in
+            let n = ap length f in
+            omega (arith, l, m, n, s.counted)
+
+        step : (here : Visit) (waiting : List Visit) → Searched memory root s.done (here ∷ waiting) → blocks_of (s.done ++ here ∷ waiting) ≡ met → here.block ≡ b → IsSearching memory root (at + 1) (with_targets met (words_at memory b))
+        step here waiting t f same =
+            let r = look s.done here [] (words_at memory here.block) waiting refl (begin memory root s.done here waiting t) in
+            record {
+              done = s.done ++ here ∷ [];
+              waiting = r.waiting;
+              searched = finish memory root s.done here (length (words_at memory here.block)) r.waiting r.visiting (λ field k. ap target_of (slice_get-past (words_at memory here.block) field k));
+              counted = let l = length-append s.done (here ∷ []) in omega (arith, l, s.counted);
+              same = ap blocks_of (append_assoc s.done (here ∷ []) r.waiting) ∙ r.same ∙ rw (f, same) refl;
+            }
+
+        by_waiting : (waiting : List Visit) → Searched memory root s.done waiting → blocks_of (s.done ++ waiting) ≡ met → IsSearching memory root (at + 1) (with_targets met (words_at memory b))
+        by_waiting [] t f = absurd (let l = longer [] f in omega (arith, l, h))
+        by_waiting (here ∷ waiting) t f = step here waiting t f (sym (e ∙ ap (λ (l : List BlockId). get_or l at d) (sym f) ∙ at_here s.done here waiting at d s.counted))
+
+    pub there_search : (at : ℕ) (met : List BlockId) (b d : BlockId) → IsSearching memory root at met → at < length met → b ≡ get_or met at d → IsSome (memory b)
+    there_search at met b d s h e =
+        let v = visited (s.done ++ s.waiting) b (ap (is_in b) s.same ∙ rw e (is_in-get_or met at d h)) in
+        subst (λ (x : BlockId). IsSome (memory x)) v.2 (s.searched.sound.there v.0 v.1)
+
+-- Where nothing waits, all that the root reaches is met by its least path.
+module _ (memory : Shown) (root : BlockId) (done : List Visit) (s : Searched memory root done []) where
+  nothing_waits : done ++ [] ≡ done
+  nothing_waits = append-nil done
+
+  closed : (v : Visit) → Among v done → (field : ℕ) (b : BlockId) → behind memory v.block field ≡ Some b → Meets done b (v.path ++ field ∷ [])
+  closed v h field b e = subst (λ (l : List Visit). Meets l b (v.path ++ field ∷ [])) nothing_waits (s.closed v h field b e)
+
+  sound : Sound memory root done
+  sound = subst (Sound memory root) nothing_waits s.sound
+
+  -- a path from a block that is met leads to one that is met by a path that is not larger
+  met_from : (path : List ℕ) (v : Visit) → Among v done → (b : BlockId) → Leads memory v.block path b → Meets done b (v.path ++ path)
+  unfolding Leads
+  met_from [] v h b e = record { by = v; among = h; same = e; least = inl (sym (append-nil v.path)) }
+  met_from (field ∷ path) v h b (c, e, k) =
+      let m = closed v h field c e in
+      let r = met_from path m.by m.among b (subst (λ (x : BlockId). Leads memory x path b) (sym m.same) k) in
+      record {
+        by = r.by;
+        among = r.among;
+        same = r.same;
+        least =
+            at_most_trans r.by.path (m.by.path ++ path) (v.path ++ field ∷ path) r.least
+            (subst (IsAtMost (m.by.path ++ path)) (append_assoc v.path (field ∷ []) path) (at_most_append m.by.path (v.path ++ field ∷ []) path m.least));
+      }
+
+  met_by : (b : BlockId) (path : List ℕ) → Leads memory root path b → Meets done b path
+  met_by b path h = met_from path (visit root []) sound.start b h
+
+  is_path : (v : Visit) → Among v done → IsPathOf memory root v.block v.path
+  is_path v h = record {
+    leads = sound.leads v h;
+    least = λ other k less.
+        let m = met_by v.block other k in
+        let same = sound.once m.by v m.among h m.same in
+        at_most_not_less m.by.path other m.least (subst (IsLess other) (sym same) less);
+  }
+
+  each : (all : List Visit) → ((v : Visit) → Among v all → IsPathOf memory root v.block v.path) → AllZip (IsPathOf memory root) (blocks_of all) (paths_of all)
+  each [] h = tt
+  each (v ∷ all) h = (h v (inl refl), each all (λ w k. h w (inr k)))
+
+  pub all_reached : AreReached memory root (blocks_of done)
+  all_reached = record {
+    paths = paths_of done;
+    each = each done is_path;
+    rising = sound.rising;
+    all = λ b path h. let m = met_by b path h in subst (λ (x : BlockId). is_in x (blocks_of done) ≡ true) m.same (is_in-visit done m.by m.among);
+  }
+
+  pub all_closed : AreClosed memory (blocks_of done)
+  all_closed = record {
+    there = λ b h. let v = visited done b h in subst (λ (x : BlockId). IsSome (memory x)) v.2 (sound.there v.0 v.1);
+    closed = λ b field c h e.
+        let v = visited done b h in
+        let m = closed v.0 v.1 field c (subst (λ (x : BlockId). behind memory x field ≡ Some c) (sym v.2) e) in
+        subst (λ (x : BlockId). is_in x (blocks_of done) ≡ true) m.same (is_in-visit done m.by m.among);
+  }
+
+module _ (memory : Shown) (root : BlockId) (at : ℕ) (met : List BlockId) (s : IsSearching memory root at met) (over : length met ≤ at) where
+  no_more : (waiting : List Visit) → length (blocks_of (s.done ++ waiting)) ≡ length met → waiting ≡ []
+  no_more [] e = refl
+  no_more (v ∷ waiting) e =
+      let l = length-blocks_of (s.done ++ v ∷ waiting) in
+      let m = length-append s.done (v ∷ waiting) in
+      absurd (omega (arith, l, m, e, s.counted, over))
+
+  searched : Searched memory root s.done []
+  searched = subst (Searched memory root s.done) (no_more s.waiting (ap length s.same)) s.searched
+
+  same : blocks_of s.done ≡ met
+  same =
+      ap blocks_of (sym (append-nil s.done)) ∙ ap (λ (w : List Visit). blocks_of (s.done ++ w)) (sym (no_more s.waiting (ap length s.same))) ∙ s.same
+
+  pub end_reached : AreReached memory root met
+  end_reached = subst (AreReached memory root) same (all_reached memory root s.done searched)
+
+  pub end_closed : AreClosed memory met
+  end_closed = subst (AreClosed memory) same (all_closed memory root s.done searched)

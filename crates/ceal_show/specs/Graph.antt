@@ -75,11 +75,14 @@ word_text scene Null = codes "null"
 word_text scene (BlockWord b) = label_text scene.name scene.blocks b
 word_text scene (At p) = label_text scene.name scene.blocks p.block ++ suffix_text scene.structs (shape_at scene.memory p.block) p.field
 
--- ` NAME=VALUE` for each word, the first of which is that of this field
+-- ` NAME=VALUE`
+abbrev pub field_word_text : Scene → Shape → ℕ → Word → List ℕ
+field_word_text scene shape field word = codes " " ++ field_name scene.structs shape field ++ codes "=" ++ word_text scene word
+
+-- the same for each word, the first of which is that of this field
 unfoldable pub fields_text : Scene → Shape → ℕ → List Word → List ℕ
 fields_text scene shape field [] = []
-fields_text scene shape field (word ∷ words) =
-    codes " " ++ field_name scene.structs shape field ++ codes "=" ++ word_text scene word ++ fields_text scene shape (field + 1) words
+fields_text scene shape field (word ∷ words) = field_word_text scene shape field word ++ fields_text scene shape (field + 1) words
 
 abbrev pub block_text : Scene → BlockId → Option Shape → List ℕ
 block_text scene b None = []

@@ -28,6 +28,10 @@ cores_in (b ∷ bs) = core_count b + cores_in bs
 abbrev pub number_in : List BlockId → BlockId → Option ℕ
 number_in blocks b = if is_in b blocks then Some (cores_before b blocks + core_count b) else None
 
+abbrev pub AreAmong : List BlockId → Option BlockId → Type 0
+AreAmong blocks None = Unit {0}
+AreAmong blocks (Some b) = IsTrue (is_in b blocks)
+
 -- Each block is in the memory, and so are those to which it leads, which are among the blocks.
 pub record AreClosed (memory : Shown) (blocks : List BlockId) : Type 0 where
   pub there : (b : BlockId) → IsTrue (is_in b blocks) → IsSome (memory b)
