@@ -1,21 +1,21 @@
 -- The search finds the blocks that the root reaches, in the order of their paths.
-use Rattle.std.proofs.Common.{◌≡◌, ◌≢◌, ℕ, ◌+◌, ◌<◌, ◌≤◌, zero, suc, Bool, true, false, List, [], ◌∷◌, ◌++◌, length, drop, get_or, Option, Some, None, refl, sym, ap, ◌∙◌, subst, arith, inl, inr, append_assoc, length-append, add-one}
+use Rattle.std.proofs.Common.{◌≡◌, ℕ, ◌+◌, ◌<◌, ◌≤◌, zero, suc, true, false, List, [], ◌∷◌, ◌++◌, length, drop, get_or, Option, Some, None, refl, sym, ap, ◌∙◌, subst, arith, inl, inr, append_assoc, length-append, add-one}
 use Rattle.std.proofs.lemmas.List.{append-nil}
-use Rattle.std.specs.Prelude.{◌⊎◌, IsSome, slice_get}
+use Rattle.std.specs.Prelude.{IsSome, slice_get}
 use Rattle.std.specs.List.{AllZip}
-use Rattle.std.proofs.lemmas.Bool.{false≢true, cases_Bool, or_right}
+use Rattle.std.proofs.lemmas.Bool.{cases_Bool, or_right}
 use Rattle.ceal_base.specs.Block.{Block}
 use Rattle.ceal_base.specs.Shapes.{kinds_of_shape}
 use Rattle.ceal_base.specs.declared.kind.Shape.{Shape}
 use Rattle.ceal_base.specs.declared.typed.StructInfo.{StructInfo}
 use Rattle.ceal_base.specs.declared.word.BlockId.{BlockId}
 use Rattle.ceal_base.specs.declared.word.Word.{Word}
-use Rattle.ceal_show.specs.Paths.{same_block, is_in, target_of, behind, Leads, IsLess, IsPathOf, AreRising, AreReached}
-use Rattle.ceal_show.specs.Search.{with_block, with_target, with_targets, AreClosed}
+use Rattle.ceal_show.specs.Paths.{same_block, is_in, target_of, behind, Leads, IsLess, IsPathOf, AreReached}
+use Rattle.ceal_show.specs.Search.{with_target, with_targets, AreClosed}
 use Rattle.ceal_show.specs.Shown.{Shown, shape_in, shape_at, words_in, words_at, word_at, target, IsThere, IsWhole}
 use Rattle.ceal_show.proofs.PathOrder.{IsAtMost, at_most_append, at_most_trans, at_most_not_less}
 use Rattle.ceal_show.proofs.Same.{same_self}
-use Rattle.ceal_show.proofs.Searching.{Visit, visit, blocks_of, paths_of, Among, Meets, Sound, Searched, Visiting, blocks_of-append, visited, is_in-visit, among_left, among_right, begin, skip, pass, meet, finish}
+use Rattle.ceal_show.proofs.Searching.{Visit, visit, blocks_of, paths_of, Among, Meets, Sound, Searched, Visiting, blocks_of-append, visited, is_in-visit, begin, skip, pass, meet, finish}
 
 -- What the search has come to: so many blocks are done, and these are met.
 pub record IsSearching (memory : Shown) (root : BlockId) (at : ℕ) (met : List BlockId) : Type 0 where
@@ -40,7 +40,7 @@ slice_get-within [] i h = absurd (omega (arith, h))
 slice_get-within (w ∷ words) zero h = refl
 slice_get-within (w ∷ words) (suc i) h = slice_get-within words i (omega (arith, h))
 
-drop_get : (words : List Word) (i : ℕ) (w : Word) → slice_get words i ≡ Some w → drop i words ≡ w ∷ drop (suc i) words
+pub drop_get : (words : List Word) (i : ℕ) (w : Word) → slice_get words i ≡ Some w → drop i words ≡ w ∷ drop (suc i) words
 drop_get [] i w e = absurd cc
 drop_get (x ∷ words) zero w e = let same : x ≡ w = cc in ap (λ (y : Word). y ∷ words) same
 drop_get (x ∷ words) (suc i) w e = drop_get words i w e
@@ -61,7 +61,7 @@ length-blocks_of : (all : List Visit) → length (blocks_of all) ≡ length all
 length-blocks_of [] = refl
 length-blocks_of (v ∷ all) = let p = length-blocks_of all in omega (arith, p)
 
-is_in-get_or : (met : List BlockId) (at : ℕ) (d : BlockId) → at < length met → is_in (get_or met at d) met ≡ true
+pub is_in-get_or : (met : List BlockId) (at : ℕ) (d : BlockId) → at < length met → is_in (get_or met at d) met ≡ true
 is_in-get_or [] at d h = absurd (omega (arith, h))
 is_in-get_or (b ∷ met) zero d h = rw (same_self b) refl
 is_in-get_or (b ∷ met) (suc at) d h = or_right (same_block (get_or met at d) b) (is_in (get_or met at d) met) (is_in-get_or met at d (omega (arith, h)))

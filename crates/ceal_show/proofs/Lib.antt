@@ -3,3 +3,5 @@ mod Numbers
 mod PathOrder
 mod Searching
 mod Finding
+mod LineSteps
+mod OneText

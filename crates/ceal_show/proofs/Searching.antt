@@ -1,12 +1,12 @@
 -- A search breadth first: which blocks it has met, by which paths, and what it has still to look at.
-use Rattle.std.proofs.Common.{◌≡◌, ◌≢◌, ℕ, ◌+◌, ◌<◌, ◌≤◌, Bool, true, false, ◌||◌, List, [], ◌∷◌, ◌++◌, length, map, Option, Some, None, refl, sym, ap, ◌∙◌, subst, arith, inl, inr, append_assoc}
+use Rattle.std.proofs.Common.{◌≡◌, ℕ, ◌+◌, ◌<◌, ◌≤◌, Bool, true, false, ◌||◌, List, [], ◌∷◌, ◌++◌, Some, None, refl, sym, ap, ◌∙◌, subst, arith, inl, inr, append_assoc}
 use Rattle.std.specs.Prelude.{◌⊎◌, IsSome}
-use Rattle.std.proofs.lemmas.Bool.{false≢true, cases_Bool, cases_lt}
+use Rattle.std.proofs.lemmas.Bool.{false≢true, cases_lt}
 use Rattle.ceal_base.specs.declared.word.BlockId.{BlockId}
 use Rattle.ceal_show.specs.Paths.{same_block, is_in, behind, Leads, IsLess, IsBelow, AreRising}
 use Rattle.ceal_show.specs.Shown.{Shown}
 use Rattle.ceal_show.proofs.PathOrder.{IsAtMost, less_trans, less_append, less_last, less_more}
-use Rattle.ceal_show.proofs.Same.{same_tells, is_in-push}
+use Rattle.ceal_show.proofs.Same.{same_tells}
 
 -- a block and the path by which it was met
 pub record Visit : Type 0 where
