@@ -5,3 +5,4 @@ mod Searching
 mod Finding
 mod LineSteps
 mod OneText
+mod SampleLaws

@@ -11,4 +11,6 @@ pub mod graph;
 mod lines;
 mod met;
 mod reach;
+#[cfg(test)]
+mod tests;
 pub mod view;
