@@ -66,6 +66,11 @@ is_in-get_or [] at d h = absurd (omega (arith, h))
 is_in-get_or (b ∷ met) zero d h = rw (same_self b) refl
 is_in-get_or (b ∷ met) (suc at) d h = or_right (same_block (get_or met at d) b) (is_in (get_or met at d) met) (is_in-get_or met at d (omega (arith, h)))
 
+is_in-slice_get : (met : List BlockId) (at : ℕ) (b : BlockId) → slice_get met at ≡ Some b → is_in b met ≡ true
+is_in-slice_get [] at b e = absurd cc
+is_in-slice_get (c ∷ met) zero b e = let same : c ≡ b = cc in rw same (rw (same_self b) refl)
+is_in-slice_get (c ∷ met) (suc at) b e = or_right (same_block b c) (is_in b met) (is_in-slice_get met at b e)
+
 module _ (structs : List StructInfo) (memory : Shown) (whole : IsWhole structs memory) where
   -- a block of a shape has one word for each of its fields
   pub words_counted : (b : BlockId) (shape : Shape) → shape_at memory b ≡ Some shape → length (words_at memory b) ≡ length (kinds_of_shape structs shape)
@@ -136,10 +141,17 @@ module _ (structs : List StructInfo) (memory : Shown) (whole : IsWhole structs m
     look done here front (w ∷ back) waiting e s =
         look_at done here front w back waiting e s (λ out t. look done here (front ++ w ∷ []) back out (e ∙ sym (append_assoc front (w ∷ []) back)) t)
 
-    at_here : (done : List Visit) (here : Visit) (waiting : List Visit) (at : ℕ) (d : BlockId) → length done ≡ at → get_or (blocks_of (done ++ here ∷ waiting)) at d ≡ here.block
-    at_here done here waiting at d e = rw (← e) (by_done done)
+    at_here : (done : List Visit) (here : Visit) (waiting : List Visit) (at : ℕ) → length done ≡ at → slice_get (blocks_of (done ++ here ∷ waiting)) at ≡ Some here.block
+    at_here done here waiting at e = rw (← e) (by_done done)
       where
-        by_done : (front : List Visit) → get_or (blocks_of (front ++ here ∷ waiting)) (length front) d ≡ here.block
+        by_done : (front : List Visit) → slice_get (blocks_of (front ++ here ∷ waiting)) (length front) ≡ Some here.block
+        by_done [] = refl
+        by_done (v ∷ front) = by_done front
+
+    none_at : (done : List Visit) (at : ℕ) → length done ≡ at → slice_get (blocks_of (done ++ [])) at ≡ None
+    none_at done at e = rw (← e) (by_done done)
+      where
+        by_done : (front : List Visit) → slice_get (blocks_of (front ++ [])) (length front) ≡ None
         by_done [] = refl
         by_done (v ∷ front) = by_done front
 
@@ -181,16 +193,9 @@ module _ (structs : List StructInfo) (memory : Shown) (whole : IsWhole structs m
         by_ahead v (inl e) w (inr k) field = absurd k
         by_ahead v (inr h) w k field = absurd h
 
-    pub more_search : (at : ℕ) (met : List BlockId) (b d : BlockId) → IsSearching memory root at met → at < length met → b ≡ get_or met at d → IsSearching memory root (at + 1) (with_targets met (words_at memory b))
-    more_search at met b d s h e = by_waiting s.waiting s.searched s.same
+    pub more_search : (at : ℕ) (met : List BlockId) (b : BlockId) → IsSearching memory root at met → slice_get met at ≡ Some b → IsSearching memory root (at + 1) (with_targets met (words_at memory b))
+    more_search at met b s e = by_waiting s.waiting s.searched s.same
       where
-        longer : (waiting : List Visit) → blocks_of (s.done ++ waiting) ≡ met → length met ≡ at + length waiting
-        longer waiting f =
-            let l = length-blocks_of (s.done ++ waiting) in
-            let m = length-append s.done waiting in
-            let n = ap length f in
-            omega (arith, l, m, n, s.counted)
-
         step : (here : Visit) (waiting : List Visit) → Searched memory root s.done (here ∷ waiting) → blocks_of (s.done ++ here ∷ waiting) ≡ met → here.block ≡ b → IsSearching memory root (at + 1) (with_targets met (words_at memory b))
         step here waiting t f same =
             let r = look s.done here [] (words_at memory here.block) waiting refl (begin memory root s.done here waiting t) in
@@ -203,12 +208,14 @@ module _ (structs : List StructInfo) (memory : Shown) (whole : IsWhole structs m
             }
 
         by_waiting : (waiting : List Visit) → Searched memory root s.done waiting → blocks_of (s.done ++ waiting) ≡ met → IsSearching memory root (at + 1) (with_targets met (words_at memory b))
-        by_waiting [] t f = absurd (let l = longer [] f in omega (arith, l, h))
-        by_waiting (here ∷ waiting) t f = step here waiting t f (sym (e ∙ ap (λ (l : List BlockId). get_or l at d) (sym f) ∙ at_here s.done here waiting at d s.counted))
+        by_waiting [] t f = absurd (let g : Some b ≡ None = sym e ∙ ap (λ (l : List BlockId). slice_get l at) (sym f) ∙ none_at s.done at s.counted in cc)
+        by_waiting (here ∷ waiting) t f =
+            let g : Some here.block ≡ Some b = sym (at_here s.done here waiting at s.counted) ∙ ap (λ (l : List BlockId). slice_get l at) f ∙ e in
+            step here waiting t f (let same : here.block ≡ b = cc in same)
 
-    pub there_search : (at : ℕ) (met : List BlockId) (b d : BlockId) → IsSearching memory root at met → at < length met → b ≡ get_or met at d → IsSome (memory b)
-    there_search at met b d s h e =
-        let v = visited (s.done ++ s.waiting) b (ap (is_in b) s.same ∙ rw e (is_in-get_or met at d h)) in
+    pub there_search : (at : ℕ) (met : List BlockId) (b : BlockId) → IsSearching memory root at met → slice_get met at ≡ Some b → IsSome (memory b)
+    there_search at met b s e =
+        let v = visited (s.done ++ s.waiting) b (ap (is_in b) s.same ∙ is_in-slice_get met at b e) in
         subst (λ (x : BlockId). IsSome (memory x)) v.2 (s.searched.sound.there v.0 v.1)
 
 -- Where nothing waits, all that the root reaches is met by its least path.

@@ -6,3 +6,5 @@ mod Finding
 mod LineSteps
 mod OneText
 mod SampleLaws
+mod WholeMemory
+mod Samples

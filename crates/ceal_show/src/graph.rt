@@ -1,10 +1,8 @@
 // The text of the memory that a block reaches.
 
-ghost use Rattle.std.specs.Prelude.{◌≡◌, ℕ, List, IsSome, IfOk};
-ghost use Rattle.ceal_base.specs.declared.typed.StructInfo.{StructInfo};
-ghost use Rattle.ceal_base.specs.declared.word.BlockId.{BlockId as BlockNumber};
+ghost use Rattle.std.specs.Prelude.{IsSome, IfOk};
 ghost use Rattle.ceal_show.specs.Graph.{IsGraphText};
-ghost use Rattle.ceal_show.specs.Shown.{Shown, IsWhole};
+ghost use Rattle.ceal_show.specs.Shown.{IsWhole};
 
 use crate::bytes::put_str;
 use crate::lines::put_lines;
@@ -28,9 +26,3 @@ pub fn graph_text<V: View>(alloc: Global, view: &V, root: BlockId) -> Result<Tex
     put_str(&mut out, "end\n")?;
     Ok(Text::new(out))
 }
-
-/// A memory has one text from a block.
-pub fn one_text()
-    ensures { (structs : List StructInfo) (memory : Shown) (name : ℕ → List ℕ) (root : BlockNumber) (text other : List ℕ)
-        → IsGraphText structs memory name root text → IsGraphText structs memory name root other → text ≡ other }
-{}

@@ -8,6 +8,7 @@
 
 mod bytes;
 pub mod graph;
+pub mod laws;
 mod lines;
 mod met;
 mod reach;

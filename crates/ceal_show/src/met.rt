@@ -1,6 +1,6 @@
 // The blocks that a search has met, and the numbers of the core blocks among them.
 
-ghost use Rattle.std.specs.Prelude.{◌≡◌, ◌+◌, [], IsTrue, IfOk};
+ghost use Rattle.std.specs.Prelude.{◌≡◌, ◌+◌, ◌<◌, Some, [], length, slice_get, IsTrue, IfOk};
 ghost use Rattle.ceal_show.specs.Graph.{core_count as cores_at, cores_before};
 ghost use Rattle.ceal_show.specs.Paths.{is_in};
 ghost use Rattle.ceal_show.specs.Search.{with_block};
@@ -48,6 +48,21 @@ impl Met {
         ensures value { result.now ≡ self.now }
     {
         self.blocks.as_slice()
+    }
+
+    /// How many they are.
+    pub fn len(&self) -> usize
+        ensures value { result ≡ length self.now }
+    {
+        self.blocks.len()
+    }
+
+    /// The block that was met after so many others.
+    pub fn block(&self, at: usize) -> BlockId
+        requires { at < length self.now }
+        ensures value { slice_get self.now at ≡ Some result }
+    {
+        self.blocks[at]
     }
 
     /// With one more block at the end, unless it is there.

@@ -74,8 +74,8 @@ pub fn reach<V: View>(alloc: Global, view: &V, root: BlockId) -> Result<Met, NoM
 {
     let mut met = Met::new(alloc).with(root)?;
     let mut at = 0;
-    while at < met.blocks().len() {
-        let block = met.blocks()[at];
+    while at < met.len() {
+        let block = met.block(at);
         met = with_targets(view, met, block)?;
         at += 1;
     }

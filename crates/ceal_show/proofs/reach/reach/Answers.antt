@@ -1,6 +1,3 @@
-use Rattle.std.proofs.Common.{List, ap, get_or}
-use Rattle.ceal_base.specs.declared.word.BlockId.{BlockId}
-use Rattle.ceal_base.specs.declared.word.BlockId.TheVariants.{Input}
 use Rattle.ceal_show.proofs.Finding.{start_search, more_search, there_search, end_reached, end_closed}
 use Rattle.ceal_show.proofs.reach.reach.Goals as goal
 
@@ -11,23 +8,19 @@ loop-at-init g c =
 
 pub with_targets-requires-clause-there : goal.with_targets-requires-clause-there
 with_targets-requires-clause-there g c =
-    let within = rw c.blocks-in-loop-at.ensures.value at c.loop-at-test.true in
-    there_search (g.V.View.declared c.args.view.now) (g.V.View.memory c.args.view.now) c.requires.whole c.args.root c.loop-at.at c.loop-at.met _ (Input 0) c.loop-at.invariant within
-    (ap (λ (l : List BlockId). get_or l c.loop-at.at (Input 0)) c.blocks-in-loop-at-2.ensures.value)
+    there_search (g.V.View.declared c.args.view.now) (g.V.View.memory c.args.view.now) c.requires.whole c.args.root c.loop-at.at c.loop-at.met c.block-block.result c.loop-at.invariant c.block-block.ensures.value
 
 pub loop-at-preserved : goal.loop-at-preserved
 loop-at-preserved g c =
-    let within = rw c.blocks-in-loop-at.ensures.value at c.loop-at-test.true in
     rw c.in_ok-met-2.ensures
-    (more_search (g.V.View.declared c.args.view.now) (g.V.View.memory c.args.view.now) c.requires.whole c.args.root c.loop-at.at c.loop-at.met _ (Input 0) c.loop-at.invariant within
-    (ap (λ (l : List BlockId). get_or l c.loop-at.at (Input 0)) c.blocks-in-loop-at-2.ensures.value))
+    (more_search (g.V.View.declared c.args.view.now) (g.V.View.memory c.args.view.now) c.requires.whole c.args.root c.loop-at.at c.loop-at.met c.block-block.result c.loop-at.invariant c.block-block.ensures.value)
 
 pub returns-clause-reached : goal.returns-clause-reached
 returns-clause-reached g c =
-    let over = rw c.blocks-in-loop-at.ensures.value at c.loop-at-test.false in
+    let over = rw c.len.ensures.value at c.loop-at-test.false in
     end_reached (g.V.View.memory c.args.view.now) c.args.root c.loop-at.at c.loop-at.met c.loop-at.invariant over
 
 pub returns-clause-closed : goal.returns-clause-closed
 returns-clause-closed g c =
-    let over = rw c.blocks-in-loop-at.ensures.value at c.loop-at-test.false in
+    let over = rw c.len.ensures.value at c.loop-at-test.false in
     end_closed (g.V.View.memory c.args.view.now) c.args.root c.loop-at.at c.loop-at.met c.loop-at.invariant over
