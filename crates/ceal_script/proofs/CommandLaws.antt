@@ -1,6 +1,6 @@
 -- Words are those of one command at most.
-use Rattle.std.proofs.Common.{◌≡◌, ◌≢◌, ℕ, true, false, List, [], ◌∷◌, Result, Ok, Err, refl, sym, ap, ◌∙◌, subst, arith, inl, inr}
-use Rattle.std.specs.Prelude.{codes, bytes_eq, if◌then◌else◌, ◌⊎◌, IsFalse}
+use Rattle.std.proofs.Common.{◌≡◌, ◌≢◌, ℕ, false, List, [], ◌∷◌, Result, Ok, Err, refl, sym, ap, ◌∙◌, subst, arith, inl, inr}
+use Rattle.std.specs.Prelude.{codes, bytes_eq, if◌then◌else◌, ◌⊎◌}
 use Rattle.std.proofs.lemmas.Bool.{false≢true}
 use Rattle.ceal_script.specs.Answers.{Reads}
 use Rattle.ceal_script.specs.Keywords.{keyword_text}

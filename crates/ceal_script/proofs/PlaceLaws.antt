@@ -1,17 +1,16 @@
 -- A place's name ends at the first dot.
-use Rattle.std.proofs.Common.{◌≡◌, ◌≢◌, ℕ, ◌+◌, ◌-◌, ◌<◌, ◌≤◌, Bool, true, false, not, List, [], ◌∷◌, ◌++◌, length, take, drop, get_or, add-one, drop-cons, Option, Some, None, Err, suc, refl, sym, ap, ◌∙◌, subst, arith, length-append}
-use Rattle.std.specs.Prelude.{IsTrue, ◌&&◌, ◌==◌, nat_lt, position, codes, bytes_eq, ℤ}
-use Rattle.std.specs.List.{list_all, prefix_len, position_or_len}
+use Rattle.std.proofs.Common.{◌≡◌, ℕ, ◌+◌, ◌<◌, true, false, not, List, [], ◌∷◌, ◌++◌, length, take, drop, get_or, add-one, drop-cons, Option, Some, None, Err, suc, refl, sym, ap, ◌∙◌, subst, arith, length-append}
+use Rattle.std.specs.Prelude.{◌==◌, nat_lt, position, codes, bytes_eq, ℤ}
+use Rattle.std.specs.List.{list_all, position_or_len}
 use Rattle.std.proofs.lemmas.Bool.{false≢true, and_parts}
 use Rattle.std.proofs.lemmas.Bool.Decides.{nat_tests}
 use Rattle.std.proofs.lemmas.List.{take-append-drop}
 use Rattle.std.proofs.lemmas.Slice.Eq.{bytes_eq-Decides}
-use Rattle.std.proofs.Math.Numerals.{one-add}
 use Rattle.std.proofs.Math.Seq.{take-append_seam}
 use Rattle.std.proofs.lemmas.List.Quantifiers.{position-Some}
 use Rattle.ceal_script.specs.Answers.{Reads}
 use Rattle.ceal_script.specs.Characters.{is_letter, is_name_byte}
-use Rattle.ceal_script.specs.Spelling.{DOT, is_identifier, is_name, IsIdentifier, IsName, IsTextOf, place_text, IsField, SpellsNumber, SpellsPlace, SpellsValue}
+use Rattle.ceal_script.specs.Spelling.{DOT, is_identifier, IsIdentifier, IsName, IsTextOf, place_text, IsField, SpellsNumber, SpellsPlace, SpellsValue}
 use Rattle.ceal_script.specs.declared.command.PlaceWord.{PlaceWord}
 use Rattle.ceal_script.specs.declared.command.ValueWord.{ValueWord}
 use Rattle.ceal_script.specs.declared.command.ValueWord.TheVariants.{Num, Null, At}

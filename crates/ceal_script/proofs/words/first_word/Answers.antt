@@ -1,4 +1,4 @@
-use Rattle.std.proofs.Common.{◌≡◌, ◌≢◌, ◌-◌, take, drop, length, arith, eqb→eq, rules}
+use Rattle.std.proofs.Common.{◌-◌, take, drop, length, arith}
 use Rattle.std.proofs.lemmas.List.{take_rest}
 use Rattle.std.proofs.lemmas.Bool.Decides.{nat_tests}
 use Rattle.ceal_script.proofs.WordLaws.{no_word, first_found}
