@@ -1,0 +1,9 @@
+mod Values
+mod Runs
+mod WordLaws
+mod PlaceLaws
+mod ValuesLaws
+mod FormLaws
+mod SpellingLaws
+mod CommandLaws
+mod Samples

@@ -1,0 +1,25 @@
+-- The value of decimal digits.
+use Rattle.std.proofs.Common.{◌≡◌, ℕ, ◌+◌, ◌-◌, ◌*◌, ◌^◌, ◌≤◌, ◌<◌, List, [], ◌∷◌, length, drop, get_or, sym, ◌∙◌, arith}
+use Rattle.std.proofs.lemmas.List.{at_drop_more, at_drop_all}
+use Rattle.ceal_script.specs.Spelling.{continued, number_of}
+
+-- more digits make no smaller number
+continued_grows : (n : ℕ) (ds : List ℕ) → n ≤ continued n ds
+unfolding continued
+continued_grows n [] = omega arith
+continued_grows n (d ∷ ds) = let p = continued_grows (10 * n + (d - 48)) ds in omega (arith, p)
+
+module _ (value i : ℕ) (digits : List ℕ) (same : continued value (drop i digits) ≡ number_of digits) where
+  pub value_more : i < length digits → continued (10 * value + (get_or digits i 0 - 48)) (drop (i + 1) digits) ≡ number_of digits
+  unfolding continued
+  value_more h = sym (at_drop_more (continued value) digits i 0 h) ∙ same
+
+  pub value_all : length digits ≤ i → value ≡ number_of digits
+  unfolding continued
+  value_all h = sym (at_drop_all (continued value) digits i h) ∙ same
+
+  pub value_large : i < length digits → 2 ^ 63 < 10 * value + (get_or digits i 0 - 48) → 2 ^ 63 < number_of digits
+  value_large h l =
+      let e = value_more h in
+      let p = continued_grows (10 * value + (get_or digits i 0 - 48)) (drop (i + 1) digits) in
+      omega (arith, e, p, l)

@@ -1,0 +1,14 @@
+use Rattle.std.proofs.Common.{◌≡◌, ◌∙◌, ap, arith, length}
+use Rattle.std.specs.Prelude.{ℕ, Option, not, unwrap_or}
+use Rattle.std.specs.List.{position_or_len}
+use Rattle.std.proofs.lemmas.List.Sums.{prefix_len-le-length}
+use Rattle.ceal_script.specs.Characters.{is_gap}
+use Rattle.ceal_script.proofs.Runs.{position_default}
+use Rattle.ceal_script.proofs.words.word_length.Goals as goal
+
+pub returns : goal.returns
+returns c =
+    let run : c.unwrap_or.result ≡ position_or_len is_gap c.args.bytes.now =
+    c.unwrap_or.ensures ∙ ap (λ (o : Option ℕ). unwrap_or o (length c.args.bytes.now)) c.word_end.ensures ∙ position_default is_gap c.args.bytes.now in
+    let few = prefix_len-le-length (λ b. not (is_gap b)) c.args.bytes.now in
+    record { within = omega (arith, run, few); run = run }

@@ -1,0 +1,84 @@
+-- What a word of a line spells.
+use Rattle.std.specs.Prelude.{◌≡◌, ◌≢◌, ℕ, Bool, false, not, ◌&&◌, bytes_eq, ◌+◌, ◌-◌, ◌*◌, ◌^◌, ◌<◌, ◌≤◌, ℤ, pos, neg_ℤ, ◌⊎◌, Option, Some, None, List, [], ◌∷◌, ◌++◌, IsTrue, codes}
+use Rattle.std.specs.List.{list_all}
+use Rattle.ceal_script.specs.Characters.{is_letter, is_digit, is_name_byte}
+use Rattle.ceal_script.specs.declared.command.KindWord.{KindWord}
+use Rattle.ceal_script.specs.declared.command.KindWord.TheVariants.{Int, Named}
+use Rattle.ceal_script.specs.declared.command.PlaceWord.{PlaceWord}
+use Rattle.ceal_script.specs.declared.command.ValueWord.{ValueWord}
+use Rattle.ceal_script.specs.declared.command.ValueWord.TheVariants.{Num, Null, At}
+
+abbrev pub DOT : ℕ
+DOT = 46
+
+abbrev pub MINUS : ℕ
+MINUS = 45
+
+-- a letter or `_`, and then letters, digits and `_`
+abbrev pub is_identifier : List ℕ → Bool
+is_identifier [] = false
+is_identifier (b ∷ bs) = is_letter b && list_all is_name_byte bs
+
+abbrev pub IsIdentifier : List ℕ → Type 0
+IsIdentifier word = IsTrue (is_identifier word)
+
+-- the name of an input, which is not `null`
+abbrev pub is_name : List ℕ → Bool
+is_name word = is_identifier word && not (bytes_eq word (codes "null"))
+
+abbrev pub IsName : List ℕ → Type 0
+IsName word = IsTrue (is_name word)
+
+-- the text is the word, which is an identifier, say
+abbrev pub IsTextOf : (List ℕ → Type 0) → List ℕ → List ℕ → Type 0
+IsTextOf P word text = (text ≡ word) × P word
+
+-- digits, at least one
+abbrev pub are_digits : List ℕ → Bool
+are_digits [] = false
+are_digits (b ∷ bs) = is_digit b && list_all is_digit bs
+
+abbrev pub AreDigits : List ℕ → Type 0
+AreDigits digits = IsTrue (are_digits digits)
+
+-- a number n with the digits behind it
+unfoldable pub continued : ℕ → List ℕ → ℕ
+continued n [] = n
+continued n (b ∷ bs) = continued (10 * n + (b - 48)) bs
+
+-- the decimal number that digits spell
+abbrev pub number_of : List ℕ → ℕ
+number_of digits = continued 0 digits
+
+abbrev pub SpellsPositive : List ℕ → ℤ → Type 0
+SpellsPositive digits n = AreDigits digits × (number_of digits < 2 ^ 63) × (n ≡ pos (number_of digits))
+
+abbrev pub SpellsNegative : List ℕ → ℤ → Type 0
+SpellsNegative digits n = AreDigits digits × (number_of digits ≤ 2 ^ 63) × (n ≡ neg_ℤ (pos (number_of digits)))
+
+-- The word spells the number, which lies in the range of an `int`: digits, or a `-` and digits.
+abbrev pub SpellsNumber : List ℕ → ℤ → Type 0
+SpellsNumber word n = SpellsPositive word n ⊎ (digits : List ℕ) × (word ≡ MINUS ∷ digits) × SpellsNegative digits n
+
+-- NAME, or NAME.FIELD
+abbrev pub place_text : List ℕ → Option (List ℕ) → List ℕ
+place_text name None = name
+place_text name (Some field) = name ++ DOT ∷ field
+
+abbrev pub IsField : Option (List ℕ) → Type 0
+IsField None = Unit {0}
+IsField (Some field) = IsIdentifier field
+
+abbrev pub SpellsPlace : List ℕ → PlaceWord → Type 0
+SpellsPlace word place = (word ≡ place_text place.name place.field) × IsName place.name × IsField place.field
+
+-- a number, `null`, or a place
+abbrev pub SpellsValue : List ℕ → ValueWord → Type 0
+SpellsValue word (Num n) = SpellsNumber word n
+SpellsValue word Null = word ≡ codes "null"
+SpellsValue word (At place) = SpellsPlace word place
+
+-- the word `int`, which is never a struct's name here, or the name of a struct
+abbrev pub SpellsKind : List ℕ → KindWord → Type 0
+SpellsKind word Int = word ≡ codes "int"
+SpellsKind word (Named name) = IsTextOf IsIdentifier word name × (word ≢ codes "int")

@@ -1,0 +1,89 @@
+// Numbers of the range of an `int`.
+
+ghost use Rattle.std.specs.Prelude.{◌≡◌, ◌<◌, ◌≤◌, ◌^◌, pos, neg_ℤ, MatchOption};
+ghost use Rattle.std.specs.List.{list_all};
+ghost use Rattle.ceal_script.specs.Answers.{Finds};
+ghost use Rattle.ceal_script.specs.Characters as characters;
+ghost use Rattle.ceal_script.specs.Spelling as spelling;
+ghost use Rattle.ceal_script.specs.Spelling.{number_of, SpellsPositive, SpellsNegative, SpellsNumber};
+
+use crate::bytes::is_digit;
+
+/// The largest distance of a number from 0.
+const LARGEST: u64 = 1 << 63;
+
+fn all_digits(bytes: &[u8]) -> bool
+    ensures { result ≡ list_all characters.is_digit bytes.now }
+{
+    bytes.iter().all(|byte| is_digit(*byte))
+}
+
+/// Whether the bytes are digits, at least one.
+fn are_digits(bytes: &[u8]) -> bool
+    ensures { result ≡ spelling.are_digits bytes.now }
+{
+    match bytes {
+        [first, rest @ ..] => is_digit(*first) && all_digits(rest),
+        [] => false,
+    }
+}
+
+/// The number that decimal digits spell, unless it is too large.
+fn magnitude(digits: &[u8]) -> Option<u64>
+    ensures { MatchOption result (2 ^ 63 < number_of digits.now) (λ n. (n ≡ number_of digits.now) × (n ≤ 2 ^ 63)) }
+{
+    let mut value = 0;
+    for byte in digits {
+        let digit = u64::from(byte.saturating_sub(b'0'));
+        if value > (LARGEST - digit) / 10 {
+            return None;
+        }
+        value = value * 10 + digit;
+    }
+    Some(value)
+}
+
+/// The number of digits.
+fn positive(word: &[u8]) -> Option<i64>
+    ensures { Finds result (SpellsPositive word.now) }
+{
+    if !are_digits(word) {
+        return None;
+    }
+    let value = magnitude(word)?;
+    if value == LARGEST {
+        return None;
+    }
+    Some(value as i64)
+}
+
+/// The number of digits behind a `-`.
+fn negative(digits: &[u8]) -> Option<i64>
+    ensures { Finds result (SpellsNegative digits.now) }
+{
+    if !are_digits(digits) {
+        return None;
+    }
+    let value = magnitude(digits)?;
+    Some(opposite(value))
+}
+
+fn opposite(value: u64) -> i64
+    requires { value ≤ 2 ^ 63 }
+    ensures { result ≡ neg_ℤ (pos value) }
+{
+    if value == 0 {
+        return 0;
+    }
+    -1 - (value - 1) as i64
+}
+
+/// The number that a word spells, if it spells one.
+pub fn number(word: &[u8]) -> Option<i64>
+    ensures { Finds result (SpellsNumber word.now) }
+{
+    match word {
+        [b'-', digits @ ..] => negative(digits),
+        _ => positive(word),
+    }
+}

@@ -1,0 +1,10 @@
+mod Same
+mod Numbers
+mod PathOrder
+mod Searching
+mod Finding
+mod LineSteps
+mod OneText
+mod SampleLaws
+mod WholeMemory
+mod Samples

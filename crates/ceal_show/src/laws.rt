@@ -1,0 +1,20 @@
+// The laws of graph texts.
+
+ghost use Rattle.std.specs.Prelude.{◌≡◌, ℕ, List, IsTrue};
+ghost use Rattle.ceal_base.specs.Block.{Blocks, block_at};
+ghost use Rattle.ceal_base.specs.Fitting.{memory_fits};
+ghost use Rattle.ceal_base.specs.declared.typed.StructInfo.{StructInfo};
+ghost use Rattle.ceal_base.specs.declared.word.BlockId.{BlockId};
+ghost use Rattle.ceal_show.specs.Graph.{IsGraphText};
+ghost use Rattle.ceal_show.specs.Shown.{Shown, IsWhole};
+
+/// A law: a memory has one text from a block.
+pub fn one_text()
+    ensures law { (structs : List StructInfo) (memory : Shown) (name : ℕ → List ℕ) (root : BlockId) (text other : List ℕ)
+        → IsGraphText structs memory name root text → IsGraphText structs memory name root other → text ≡ other }
+{}
+
+/// A law: a memory whose words fit is whole.
+pub fn fitting_is_whole()
+    ensures law { (structs : List StructInfo) (m : Blocks) → IsTrue (memory_fits structs m) → IsWhole structs (block_at m) }
+{}
