@@ -1,0 +1,1 @@
+// Traces node by node.
