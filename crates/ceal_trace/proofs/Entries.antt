@@ -64,15 +64,15 @@ plain_ends read (Read place value unit var args) h = refl
 plain_ends read (End r) h = absurd (cc)
 
 pub some_of : (o : Option ℕ) → IsSome o → (s : ℕ) × (o ≡ Some s)
-some_of None h = absurd h
+some_of None h = absurd (let no : false ≡ true = h in cc)
 some_of (Some s) h = (s, refl)
 
 pub is_some_of : (o : Option ℕ) (s : ℕ) → o ≡ Some s → IsSome o
-is_some_of o s h = rw h tt
+is_some_of o s h = rw h refl
 
 pub none_of : (o : Option ℕ) → (IsSome o → ⊥) → o ≡ None
 none_of None h = refl
-none_of (Some s) h = absurd (h tt)
+none_of (Some s) h = absurd (h refl)
 
 -- the end of a read is a node that ends it
 pub end-found : (read s : ℕ) (es : List Entry) → Distinct (stamps_in es) → end_in read es ≡ Some s → node_at s es ≡ Some (End (record { 0 = read }))
@@ -94,7 +94,7 @@ end-found read s (e ∷ es) distinct h = elim (cases_Bool (ends read e.node)) [
 pub end-some : (read s : ℕ) (n : Node) (es : List Entry) → node_at s es ≡ Some n → ends read n ≡ true → IsSome (end_in read es)
 end-some read s n [] h does = absurd (cc)
 end-some read s n (e ∷ es) h does = elim (cases_Bool (ends read e.node)) [
-  | inl p ↦ rw p tt
+  | inl p ↦ rw p refl
   | inr p ↦ elim (eqb_tells e.stamp s) [
     | inl q ↦
         let is : Some e.node ≡ Some n = rw q.0 at h in
