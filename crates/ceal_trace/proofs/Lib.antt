@@ -5,3 +5,8 @@ pub mod Listings
 pub mod Shapes
 pub mod Keeps
 pub mod Growing
+pub mod Removing
+pub mod Changing
+pub mod Ends
+pub mod ItemSteps
+pub mod Nesting
