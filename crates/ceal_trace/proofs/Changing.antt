@@ -1,18 +1,18 @@
 -- A trace with a node changed, and one with more room.
-use Rattle.std.proofs.Common.{◌≡◌, ◌≢◌, ℕ, suc, inl, inr, ◌⊎◌, ◌+◌, ◌-◌, ◌*◌, ◌<◌, ◌≤◌, ◌^◌, max, true, false, List, [], ◌∷◌, length, refl, sym, ap, subst, ◌∙◌, arith, Option, Some, None}
+use Rattle.std.proofs.Common.{◌≡◌, ◌≢◌, ℕ, inl, inr, ◌⊎◌, ◌+◌, ◌-◌, ◌*◌, ◌<◌, ◌≤◌, ◌^◌, max, true, List, [], ◌∷◌, length, refl, sym, ap, subst, ◌∙◌, arith, Option, Some, None}
 use Rattle.std.specs.Prelude.{unwrap_or, option_map, Result, Ok, Err, OnOk, OnErr}
 use Rattle.std.proofs.lemmas.Bool.Decides.{eqb_tells}
 use Rattle.slab.specs.Slab.{get, slab_len, Slab}
 use Rattle.ceal_base.specs.declared.word.Word.{Word}
-use Rattle.ceal_order.specs.Stamps.{Listing, IsOrder, is_in, head_of}
+use Rattle.ceal_order.specs.Stamps.{Listing, IsOrder, is_in}
 use Rattle.ceal_trace.specs.declared.node.Node.{Node}
 use Rattle.ceal_trace.specs.declared.node.Node.TheVariants.{Root, Alloc, Write, Read, End}
 use Rattle.ceal_trace.specs.declared.row.Row.{Row}
 use Rattle.ceal_trace.specs.declared.table.Table.{Table}
-use Rattle.ceal_trace.specs.Nodes.{Entry, stamps_in, has_node, entry_at, held_by, steps_on, node_at, steps_at, steps_sum, is_read, ends, end_in, changed_at, valued, value_set, steps_set, with_value, with_steps, IsTrace, NoLooseEnd, SameBut}
+use Rattle.ceal_trace.specs.Nodes.{Entry, stamps_in, entry_at, held_by, steps_on, node_at, steps_at, steps_sum, is_read, ends, changed_at, valued, value_set, steps_set, with_value, with_steps, IsTrace, NoLooseEnd, SameBut}
 use Rattle.ceal_trace.specs.Rows.{row_of}
 use Rattle.ceal_trace.specs.Keeping.{kept, key_of, steps_of, end_of, node_of, entry_of, listed, timeline, noted, HasNodes, KnowsEnds, Sound, Wider, ValueSet, StepsSet}
-use Rattle.ceal_trace.proofs.Entries.{entry-some, has-read, stamps-changed, entry-changed, entry-unchanged, sum-changed, ends-changed}
+use Rattle.ceal_trace.proofs.Entries.{has-read, stamps-changed, entry-changed, entry-unchanged, sum-changed, ends-changed}
 use Rattle.ceal_trace.proofs.Stamped.{in_head, in_tail}
 use Rattle.ceal_trace.proofs.Listings.{listed_same, listed_changed}
 use Rattle.ceal_trace.proofs.Shapes.{changed_closed, changed_trace}

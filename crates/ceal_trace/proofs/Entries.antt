@@ -1,14 +1,14 @@
 -- Entries in a list.
-use Rattle.std.proofs.Common.{◌≡◌, ◌≢◌, ℕ, suc, inl, inr, ◌+◌, ◌<◌, ◌≤◌, true, false, List, [], ◌∷◌, length, refl, sym, ap, subst, ◌∙◌, arith, Option, Some, None}
+use Rattle.std.proofs.Common.{◌≡◌, ◌≢◌, ℕ, inl, inr, ◌+◌, true, false, List, [], ◌∷◌, refl, sym, ap, ◌∙◌, arith, Option, Some, None}
 use Rattle.std.specs.Prelude.{option_map, IsSome}
 use Rattle.std.proofs.lemmas.Bool.Decides.{eqb_tells}
 use Rattle.std.proofs.lemmas.Bool.{eq-eqb, cases_Bool}
 use Rattle.ceal_order.specs.declared.stamp.Stamp.{Stamp}
-use Rattle.ceal_order.specs.Stamps.{Distinct, is_in, with_after, without}
+use Rattle.ceal_order.specs.Stamps.{Distinct, with_after, without}
 use Rattle.ceal_trace.specs.declared.node.Node.{Node}
 use Rattle.ceal_trace.specs.declared.node.Node.TheVariants.{Root, Alloc, Write, Read, End}
 use Rattle.ceal_trace.specs.Nodes.{Entry, stamps_in, has_node, entry_at, node_at, steps_at, steps_sum, is_plain, is_read, ends, end_in, with_entry_after, without_entry, changed_at}
-use Rattle.ceal_trace.proofs.Stamped.{NotIn-apart, in_tail}
+use Rattle.ceal_trace.proofs.Stamped.{NotIn-apart}
 
 -- ---- the entry at a stamp
 

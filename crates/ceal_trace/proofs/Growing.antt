@@ -1,20 +1,20 @@
 -- A trace with one node more.
-use Rattle.std.proofs.Common.{◌≡◌, ◌≢◌, ℕ, inl, inr, ◌+◌, ◌<◌, ◌≤◌, true, false, List, length, refl, sym, ap, subst, ◌∙◌, arith, Option, Some, None}
+use Rattle.std.proofs.Common.{◌≡◌, ◌≢◌, ℕ, inl, inr, ◌+◌, ◌<◌, ◌≤◌, true, List, length, sym, ap, subst, ◌∙◌, arith, Some, None}
 use Rattle.std.proofs.lemmas.Bool.Decides.{eqb_tells}
 use Rattle.slab.specs.Slab.{slab_len, Slab}
 use Rattle.ceal_order.specs.declared.stamp.Stamp.{Stamp}
 use Rattle.ceal_order.specs.Stamps.{Listing, IsOrder, OneMore, is_in, place, with_after}
 use Rattle.ceal_trace.specs.declared.node.Node.{Node}
-use Rattle.ceal_trace.specs.declared.node.Node.TheVariants.{Root, End}
+use Rattle.ceal_trace.specs.declared.node.Node.TheVariants.{End}
 use Rattle.ceal_trace.specs.declared.row.Row.{Row}
 use Rattle.ceal_trace.specs.declared.table.Table.{Table}
-use Rattle.ceal_trace.specs.Nodes.{Entry, stamps_in, has_node, position, node_at, steps_sum, is_plain, is_read, end_in, with_entry_after, new_entry, IsTrace, NoLooseEnd, OneMoreNode, Inserted}
+use Rattle.ceal_trace.specs.Nodes.{Entry, stamps_in, has_node, position, node_at, steps_sum, is_plain, is_read, end_in, with_entry_after, new_entry, IsTrace, NoLooseEnd, Inserted}
 use Rattle.ceal_trace.specs.Rows.{row_of}
-use Rattle.ceal_trace.specs.Keeping.{kept, end_of, node_of, entry_of, listed, timeline, noted, HasNodes, KnowsEnds, Sound, PutAt, EndSet}
-use Rattle.ceal_trace.proofs.Entries.{has-held, has-read, is_some_of, stamps-after, sum-after}
+use Rattle.ceal_trace.specs.Keeping.{kept, end_of, node_of, entry_of, timeline, noted, HasNodes, KnowsEnds, Sound, PutAt, EndSet}
+use Rattle.ceal_trace.proofs.Entries.{has-read, is_some_of, stamps-after, sum-after}
 use Rattle.ceal_trace.proofs.Listings.{listed_same}
-use Rattle.ceal_trace.proofs.Shapes.{inserted_as, other_than_new, new_open, ends_same, plain_trace, plain_closed, plain_open, end_now, ends_others, end_trace, end_closed}
-use Rattle.ceal_trace.proofs.Keeps.{entry_eq, found_is, kept_eq, stamps_are, there_is, is_there, noted_stamp, row_bound, nodes_put, has_put, end_put}
+use Rattle.ceal_trace.proofs.Shapes.{inserted_as, other_than_new, new_open, ends_same, plain_trace, plain_closed, end_now, ends_others, end_trace, end_closed}
+use Rattle.ceal_trace.proofs.Keeps.{entry_eq, found_is, kept_eq, stamps_are, there_is, is_there, noted_stamp, row_bound, nodes_put, has_put}
 
 module _ (order order' : Listing) (t : Table) (s f : ℕ) (node : Node)
     (here : is_in s order.stamps ≡ true)

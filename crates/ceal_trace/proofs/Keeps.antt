@@ -1,22 +1,18 @@
 -- A table keeps a trace while nodes are put into it and taken out.
-use Rattle.std.proofs.Common.{◌≡◌, ◌≢◌, ℕ, suc, inl, inr, ◌+◌, ◌<◌, ◌≤◌, ◌^◌, true, false, List, length, refl, sym, ap, subst, ◌∙◌, arith, Option, Some, None}
-use Rattle.std.specs.Prelude.{IsSome, unwrap_or, option_map}
+use Rattle.std.proofs.Common.{◌≡◌, ◌≢◌, ℕ, suc, inl, inr, ◌+◌, ◌<◌, true, List, length, refl, sym, ap, subst, ◌∙◌, arith, Option, Some}
+use Rattle.std.specs.Prelude.{unwrap_or}
 use Rattle.std.proofs.lemmas.Bool.Decides.{eqb_tells}
-use Rattle.std.proofs.lemmas.Bool.{eq-eqb}
-use Rattle.slab.specs.Slab.{get, slab_len, Slab}
-use Rattle.ceal_order.specs.declared.stamp.Stamp.{Stamp}
-use Rattle.ceal_order.specs.Stamps.{Listing, IsOrder, OneMore, Distinct, AllBelow, is_in, head_of, place, with_after, without}
+use Rattle.slab.specs.Slab.{get, Slab}
+use Rattle.ceal_order.specs.Stamps.{Listing, IsOrder, OneMore, is_in, with_after}
 use Rattle.ceal_trace.specs.declared.node.Node.{Node}
-use Rattle.ceal_trace.specs.declared.node.Node.TheVariants.{Root, Alloc, Write, Read, End}
+use Rattle.ceal_trace.specs.declared.node.Node.TheVariants.{Root}
 use Rattle.ceal_trace.specs.declared.row.Row.{Row}
 use Rattle.ceal_trace.specs.declared.table.Table.{Table}
-use Rattle.ceal_trace.specs.Nodes.{Entry, Timeline, stamps_in, has_node, position, order_of, entry_at, node_at, steps_at, steps_sum, is_plain, is_read, ends, end_in, with_entry_after, without_entry, changed_at, new_entry, IsTrace, NoLooseEnd, LooseEndOf, OneMoreNode, Inserted, SameBut}
+use Rattle.ceal_trace.specs.Nodes.{Entry, stamps_in, has_node, entry_at, with_entry_after, new_entry}
 use Rattle.ceal_trace.specs.Rows.{row_of, no_stamp}
-use Rattle.ceal_trace.specs.Keeping.{kept, key_of, steps_of, end_of, node_of, entry_of, listed, timeline, noted, HasNodes, KnowsEnds, Sound, PutAt, TakenFrom, Wider, ValueSet, StepsSet, EndSet}
-use Rattle.ceal_trace.proofs.Stamped.{apart, below_of, length-after, length-without}
-use Rattle.ceal_trace.proofs.Entries.{has-held, plain_ends, is_some_of, stamps-after, entry-new, entry-old, sum-after, ends-after, end-new}
-use Rattle.ceal_trace.proofs.Listings.{stamps_listed, entry_listed, listed_same, listed_after, listed_without, listed_changed}
-use Rattle.ceal_trace.proofs.Shapes.{inserted_as, other_than_new, new_open, ends_same, plain_trace, plain_closed, plain_open}
+use Rattle.ceal_trace.specs.Keeping.{kept, key_of, steps_of, end_of, node_of, entry_of, listed, timeline, noted, HasNodes, PutAt}
+use Rattle.ceal_trace.proofs.Stamped.{apart, below_of, length-after}
+use Rattle.ceal_trace.proofs.Listings.{stamps_listed, entry_listed, listed_after}
 
 -- ---- what a table keeps of a stamp
 

@@ -2,7 +2,6 @@
 use Rattle.std.proofs.Common.{◌≡◌, ◌≢◌, ℕ, Bool, inl, inr, true, false, List, [], ◌∷◌, refl, sym, ap, ◌∙◌, Some}
 use Rattle.std.specs.Bool.{◌==◌}
 use Rattle.std.proofs.lemmas.Bool.Decides.{eqb_tells}
-use Rattle.std.proofs.lemmas.Bool.{eq-eqb}
 use Rattle.ceal_order.specs.Stamps.{Distinct, is_in, with_after, without}
 use Rattle.ceal_trace.specs.Nodes.{Entry, stamps_in, entry_at, with_entry_after, without_entry, changed_at}
 use Rattle.ceal_trace.specs.Keeping.{listed}

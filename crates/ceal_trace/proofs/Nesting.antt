@@ -1,5 +1,5 @@
 -- Nodes that nest are a forest.
-use Rattle.std.proofs.Common.{◌≡◌, ℕ, zero, suc, inl, inr, ◌+◌, true, false, List, [], ◌∷◌, ◌++◌, length, append_assoc, refl, sym, ap, ◌∙◌, arith, Option, Some, None}
+use Rattle.std.proofs.Common.{◌≡◌, ℕ, zero, suc, inl, inr, ◌+◌, List, [], ◌∷◌, ◌++◌, length, append_assoc, refl, ap, ◌∙◌, arith, Some, None}
 use Rattle.std.proofs.lemmas.Bool.Decides.{eqb_tells}
 use Rattle.ceal_base.specs.declared.forest.Item.{Item}
 use Rattle.ceal_base.specs.declared.forest.Item.TheVariants as item
@@ -9,11 +9,10 @@ use Rattle.ceal_base.specs.declared.word.BlockId.{BlockId}
 use Rattle.ceal_base.specs.declared.word.Place.{Place}
 use Rattle.ceal_base.specs.declared.word.Word.{Word}
 use Rattle.ceal_base.specs.Trace.{Trace, Nothing, Stepped, Allocated, Wrote, Was_read, flat, steps_of}
-use Rattle.ceal_order.specs.declared.stamp.Stamp.{Stamp}
 use Rattle.ceal_trace.specs.declared.node.Node.{Node}
 use Rattle.ceal_trace.specs.declared.node.Node.TheVariants.{Root, Alloc, Write, Read, End}
 use Rattle.ceal_trace.specs.Nodes.{Entry, steps_sum}
-use Rattle.ceal_trace.specs.Items.{ticks, item_of, forest_of, unclosed, unclosed_after, Nests}
+use Rattle.ceal_trace.specs.Items.{ticks, forest_of, unclosed, unclosed_after, Nests}
 
 -- so many steps, and then a trace
 abbrev ticked : ℕ → Trace → Trace

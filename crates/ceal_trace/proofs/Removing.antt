@@ -1,19 +1,16 @@
 -- A trace with one node less.
-use Rattle.std.proofs.Common.{◌≡◌, ◌≢◌, ℕ, suc, inl, inr, ◌+◌, ◌-◌, ◌<◌, ◌≤◌, true, false, List, length, refl, sym, ap, subst, ◌∙◌, arith, Option, Some, None}
-use Rattle.std.specs.Prelude.{unwrap_or}
+use Rattle.std.proofs.Common.{◌≡◌, ◌≢◌, ℕ, suc, inl, inr, ◌+◌, ◌-◌, ◌<◌, ◌≤◌, true, false, List, length, refl, sym, ap, subst, ◌∙◌, arith, Some, None}
 use Rattle.std.proofs.lemmas.Bool.{cases_Bool}
 use Rattle.ceal_order.specs.Stamps.{Listing, IsOrder, OneMore, is_in, head_of, without}
 use Rattle.ceal_trace.specs.declared.node.Node.{Node}
-use Rattle.ceal_trace.specs.declared.node.Node.TheVariants.{Root, End}
-use Rattle.ceal_trace.specs.declared.row.Row.{Row}
 use Rattle.ceal_trace.specs.declared.table.Table.{Table}
-use Rattle.ceal_trace.specs.Nodes.{Entry, stamps_in, has_node, held_by, steps_on, node_at, steps_at, steps_sum, ends, end_in, without_entry, IsTrace, NoLooseEnd, LooseEndOf, OneMoreNode}
-use Rattle.ceal_trace.specs.Keeping.{kept, key_of, steps_of, end_of, node_of, entry_of, listed, timeline, noted, HasNodes, KnowsEnds, Sound, TakenFrom}
+use Rattle.ceal_trace.specs.Nodes.{Entry, stamps_in, held_by, steps_on, node_at, steps_at, steps_sum, ends, end_in, without_entry, IsTrace, NoLooseEnd, LooseEndOf, OneMoreNode}
+use Rattle.ceal_trace.specs.Keeping.{kept, steps_of, node_of, entry_of, listed, timeline, noted, HasNodes, KnowsEnds, Sound, TakenFrom}
 use Rattle.ceal_trace.proofs.Stamped.{apart, length-without}
 use Rattle.ceal_trace.proofs.Entries.{ends_is, stamps-without, sum-without}
 use Rattle.ceal_trace.proofs.Listings.{listed_without}
 use Rattle.ceal_trace.proofs.Shapes.{one_less_node, ends_but, end_gone, end_left, less_trace, less_loose, less_closed, less_mended}
-use Rattle.ceal_trace.proofs.Keeps.{entry_eq, found_is, stamps_are, there_is, is_there, entry_found}
+use Rattle.ceal_trace.proofs.Keeps.{entry_eq, found_is, stamps_are, is_there, entry_found}
 
 -- the node that a table keeps is that of the trace
 pub held_is : (order : Listing) (t : Table) (s : ℕ) → is_in s order.stamps ≡ true → node_at s (timeline order t).nodes ≡ Some (node_of t s)

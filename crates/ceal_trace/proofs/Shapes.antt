@@ -1,15 +1,15 @@
 -- What is true of every trace stays true.
-use Rattle.std.proofs.Common.{◌≡◌, ◌≢◌, ℕ, inl, inr, ◌⊎◌, ◌+◌, ◌<◌, ◌≤◌, true, false, List, [], ◌∷◌, refl, sym, ap, subst, ◌∙◌, arith, Option, Some, None}
+use Rattle.std.proofs.Common.{◌≡◌, ◌≢◌, ℕ, inl, inr, ◌⊎◌, ◌+◌, ◌<◌, ◌≤◌, true, false, List, refl, sym, ap, subst, ◌∙◌, arith, Option, Some, None}
 use Rattle.std.specs.Prelude.{IsSome}
 use Rattle.std.proofs.lemmas.Bool.Decides.{eqb_tells}
 use Rattle.std.proofs.lemmas.Bool.{cases_Bool}
 use Rattle.ceal_order.specs.declared.stamp.Stamp.{Stamp}
-use Rattle.ceal_order.specs.Stamps.{Listing, IsOrder, OneMore, Distinct, is_in, head_of, place, with_after, without}
+use Rattle.ceal_order.specs.Stamps.{IsOrder, OneMore, is_in, head_of, place}
 use Rattle.ceal_trace.specs.declared.node.Node.{Node}
-use Rattle.ceal_trace.specs.declared.node.Node.TheVariants.{Root, Alloc, Write, Read, End}
-use Rattle.ceal_trace.specs.Nodes.{Entry, Timeline, stamps_in, has_node, position, order_of, entry_at, held_by, steps_on, node_at, steps_at, steps_sum, is_plain, is_read, ends, end_in, with_entry_after, without_entry, changed_at, new_entry, IsTrace, NoLooseEnd, LooseEndOf, OneMoreNode, Inserted, SameBut}
+use Rattle.ceal_trace.specs.declared.node.Node.TheVariants.{Root, End}
+use Rattle.ceal_trace.specs.Nodes.{Entry, stamps_in, has_node, position, entry_at, held_by, node_at, is_plain, is_read, ends, end_in, with_entry_after, without_entry, new_entry, IsTrace, NoLooseEnd, LooseEndOf, OneMoreNode, Inserted, SameBut}
 use Rattle.ceal_trace.proofs.Stamped.{apart, head_in, head-after, head-without, up_to}
-use Rattle.ceal_trace.proofs.Entries.{entry-some, has-held, has-read, ends_is, ends_own, ends_other, plain_ends, some_of, is_some_of, none_of, end-found, end-some, stamps-after, entry-new, entry-old, sum-after, ends-after, end-new, stamps-without, entry-left, sum-without, ends-left, stamps-changed, entry-changed, entry-unchanged, ends-changed}
+use Rattle.ceal_trace.proofs.Entries.{has-held, has-read, ends_is, ends_own, ends_other, plain_ends, some_of, is_some_of, none_of, end-found, stamps-after, entry-new, entry-old, sum-after, ends-after, end-new, stamps-without, entry-left, sum-without, ends-left}
 
 -- ---- a node more
 

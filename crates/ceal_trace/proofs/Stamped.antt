@@ -1,8 +1,8 @@
 -- Stamps in a list.
-use Rattle.std.proofs.Common.{◌≡◌, ◌≢◌, ℕ, suc, inl, inr, ◌+◌, ◌<◌, ◌≤◌, true, false, List, [], ◌∷◌, length, refl, sym, ap, subst, ◌∙◌, arith, Some, None}
+use Rattle.std.proofs.Common.{◌≡◌, ◌≢◌, ℕ, suc, inl, inr, ◌+◌, ◌<◌, ◌≤◌, true, false, List, [], ◌∷◌, length, refl, sym, ap, subst, ◌∙◌, arith, Some}
 use Rattle.std.proofs.lemmas.Bool.Decides.{eqb_tells}
 use Rattle.std.proofs.lemmas.Bool.{eq-eqb}
-use Rattle.ceal_order.specs.Stamps.{NotIn, Distinct, AllBelow, is_in, place, head_of, with_after, without, OneMore}
+use Rattle.ceal_order.specs.Stamps.{NotIn, AllBelow, is_in, place, head_of, with_after, without, OneMore}
 
 pub in_head : (x : ℕ) (xs : List ℕ) → is_in x (x ∷ xs) ≡ true
 in_head x xs = rw (eq-eqb x x refl) refl

@@ -4,7 +4,7 @@ use Rattle.ceal_base.specs.declared.word.Word.{Word}
 use Rattle.ceal_order.specs.Stamps.{Listing, IsOrder, OneMore, is_in, head_of, place}
 use Rattle.ceal_order.specs.declared.stamp.Stamp.{Stamp}
 use Rattle.ceal_trace.specs.declared.node.Node.{Node}
-use Rattle.ceal_trace.specs.declared.node.Node.TheVariants.{Root, Alloc, Write, Read, End}
+use Rattle.ceal_trace.specs.declared.node.Node.TheVariants.{Root, Read, End}
 
 -- a node with its stamp and its steps, which are those between it and the next node
 pub record Entry : Type 0 where

@@ -1,5 +1,5 @@
 -- Rows by the numbers of their stamps.
-use Rattle.std.specs.Prelude.{◌≡◌, ◌≢◌, ◌<◌, ◌≤◌, ℕ, List, length, slice_index_or, Option, None, Some, Bool, true, false, ◌==◌, if◌then◌else◌}
+use Rattle.std.specs.Prelude.{◌≡◌, ◌≢◌, ◌<◌, ◌≤◌, ℕ, List, length, slice_index_or, true, false}
 use Rattle.ceal_trace.specs.declared.node.Node.{Node}
 use Rattle.ceal_trace.specs.declared.row.Row.{Row}
 use Rattle.ceal_trace.specs.Nodes.{ends}

@@ -1,10 +1,10 @@
 // The nodes of a trace by the numbers of their stamps.
 
-ghost use Rattle.std.specs.Prelude.{◌≡◌, ◌<◌, ◌≤◌, ◌+◌, ◌^◌, ℕ, length, [], Some, IsSome, OnOk, true};
+ghost use Rattle.std.specs.Prelude.{◌≡◌, ◌<◌, ◌≤◌, ◌+◌, ◌^◌, ℕ, length, [], Some, None, IsSome, IfSome, IfNone, OnOk, true};
 ghost use Rattle.slab.specs.Slab.{HasRoomFor, slab_len};
 ghost use Rattle.ceal_trace.specs.Nodes.{is_read, ends, valued};
-ghost use Rattle.ceal_trace.specs.Rows.{row_of, Reopened};
-ghost use Rattle.ceal_trace.specs.Keeping.{kept, key_of, steps_of, end_of, PutAt, TakenFrom, Wider, ValueSet, StepsSet, EndSet};
+ghost use Rattle.ceal_trace.specs.Rows.{Reopened};
+ghost use Rattle.ceal_trace.specs.Keeping.{kept, steps_of, end_of, noted, PutAt, TakenFrom, Wider, ValueSet, StepsSet, EndSet};
 
 use crate::node::{Gone, Node};
 use crate::row::{NO_STAMP, Row, lengthen, row_at, set_row};
@@ -113,12 +113,18 @@ impl Table {
         set_row(&mut self.rows, at.0, Row { steps, ..row });
     }
 
-    /// The number of the stamp of a read's end, `NO_STAMP` where it is not finished.
-    pub fn end(&self, read: Stamp) -> u32
+    /// The end of a read, None where it is not finished.
+    pub fn end(&self, read: Stamp) -> Option<Stamp>
         requires { read.0 < length self.now.rows.items }
-        ensures { result ≡ end_of self.now read.0 }
+        ensures some { IfSome result (λ end. noted (end_of self.now read.0) ≡ Some end.0) }
+        ensures none { IfNone result (noted (end_of self.now read.0) ≡ None) }
     {
-        row_at(&self.rows, read.0).end
+        let end = row_at(&self.rows, read.0).end;
+        if end == NO_STAMP {
+            None
+        } else {
+            Some(Stamp(end))
+        }
     }
 
     pub fn set_end(&mut self, read: Stamp, end: Stamp)

@@ -8,7 +8,6 @@ ghost use Rattle.ceal_trace.specs.Nodes.{order_of, stamps_in, has_node, position
 ghost use Rattle.ceal_trace.specs.Items.{forest_of};
 
 use crate::node::{Gone, Node};
-use crate::row::NO_STAMP;
 use crate::table::Table;
 use ceal_base::forest::{Key, UnitId};
 use ceal_base::no_memory::NoMemory;
@@ -244,12 +243,7 @@ impl Trace {
         ensures behind { IfSome result (λ end. position read.0 self.now.nodes < position end.0 self.now.nodes) }
         ensures open { IfNone result (end_in read.0 self.now.nodes ≡ None) }
     {
-        let end = self.table.end(read);
-        if end == NO_STAMP {
-            None
-        } else {
-            Some(Stamp(end))
-        }
+        self.table.end(read)
     }
 
     /// Takes a node out that is not the root, and gives back what it held.

@@ -1,6 +1,6 @@
-use Rattle.std.proofs.Common.{refl, arith, ◌≤◌, ◌≡◌, sym, ◌∙◌, ap}
-use Rattle.ceal_trace.proofs.Keeps.{there_is, stamps_are, row_bound}
-use Rattle.ceal_trace.proofs.Removing.{Shrank, shrank, end_row, steps_within, steps_are}
+use Rattle.std.proofs.Common.{refl, sym, ◌∙◌}
+use Rattle.ceal_trace.proofs.Keeps.{there_is, row_bound}
+use Rattle.ceal_trace.proofs.Removing.{shrank, end_row, steps_within, steps_are}
 use Rattle.ceal_trace.proofs.trace.Trace.remove.Goals as goal
 
 pub take-gone-requires-clause-row : goal.take-gone-requires-clause-row

@@ -1,6 +1,6 @@
-use Rattle.std.proofs.Common.{ap, List, sym, ◌∙◌, ◌≡◌}
+use Rattle.std.proofs.Common.{ap, List, ◌∙◌}
 use Rattle.ceal_order.specs.Stamps.{Listing}
-use Rattle.ceal_trace.specs.Nodes.{Entry, Timeline}
+use Rattle.ceal_trace.specs.Nodes.{Entry}
 use Rattle.ceal_trace.specs.Keeping.{timeline}
 use Rattle.ceal_trace.proofs.Changing.{spare_most, reserved, not_reserved, on_err_of, on_err_map}
 use Rattle.ceal_trace.proofs.trace.Trace.reserve.Goals as goal

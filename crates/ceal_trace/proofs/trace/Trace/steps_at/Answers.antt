@@ -1,5 +1,5 @@
 use Rattle.std.proofs.Common.{sym, ◌∙◌}
-use Rattle.ceal_trace.proofs.Keeps.{there_is, row_bound}
+use Rattle.ceal_trace.proofs.Keeps.{there_is}
 use Rattle.ceal_trace.proofs.Removing.{steps_are}
 use Rattle.ceal_trace.proofs.trace.Trace.steps_at.Goals as goal
 
