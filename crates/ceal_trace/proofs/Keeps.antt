@@ -1,0 +1,132 @@
+-- A table keeps a trace while nodes are put into it and taken out.
+use Rattle.std.proofs.Common.{◌≡◌, ◌≢◌, ℕ, suc, inl, inr, ◌+◌, ◌<◌, true, List, length, refl, sym, ap, subst, ◌∙◌, arith, Option, Some}
+use Rattle.std.specs.Prelude.{unwrap_or}
+use Rattle.std.proofs.lemmas.Bool.Decides.{eqb_tells}
+use Rattle.slab.specs.Slab.{get, Slab}
+use Rattle.ceal_order.specs.Stamps.{Listing, IsOrder, OneMore, is_in, with_after}
+use Rattle.ceal_trace.specs.declared.node.Node.{Node}
+use Rattle.ceal_trace.specs.declared.node.Node.TheVariants.{Root}
+use Rattle.ceal_trace.specs.declared.row.Row.{Row}
+use Rattle.ceal_trace.specs.declared.table.Table.{Table}
+use Rattle.ceal_trace.specs.Nodes.{Entry, stamps_in, has_node, entry_at, with_entry_after, new_entry}
+use Rattle.ceal_trace.specs.Rows.{row_of, no_stamp}
+use Rattle.ceal_trace.specs.Keeping.{kept, key_of, steps_of, end_of, node_of, entry_of, listed, timeline, noted, HasNodes, PutAt}
+use Rattle.ceal_trace.proofs.Stamped.{apart, below_of, length-after}
+use Rattle.ceal_trace.proofs.Listings.{stamps_listed, entry_listed, listed_after}
+
+-- ---- what a table keeps of a stamp
+
+abbrev made : ℕ → Option Node → ℕ → Entry
+made s node steps = record { stamp = s; node = unwrap_or node Root; steps = steps }
+
+pub entry_eq : (t t' : Table) (s : ℕ) → kept t' s ≡ kept t s → steps_of t' s ≡ steps_of t s → entry_of t' s ≡ entry_of t s
+entry_eq t t' s same_node same_steps = ap (λ (o : Option Node). made s o (steps_of t' s)) same_node ∙ ap (λ (k : ℕ). made s (kept t s) k) same_steps
+
+pub entry_is : (t : Table) (s : ℕ) (node : Node) → kept t s ≡ Some node → steps_of t s ≡ 0 → entry_of t s ≡ new_entry s node
+entry_is t s node is none = ap (λ (o : Option Node). made s o (steps_of t s)) is ∙ ap (λ (k : ℕ). made s (Some node) k) none
+
+pub found_is : (t : Table) (s : ℕ) (node : Node) → kept t s ≡ Some node → kept t s ≡ Some (node_of t s)
+found_is t s node is = is ∙ ap (λ (o : Option Node). Some (unwrap_or o Root)) (sym is)
+
+pub kept_eq : (t t' : Table) (s : ℕ) → t'.nodes ≡ t.nodes → key_of t' s ≡ key_of t s → kept t' s ≡ kept t s
+kept_eq t t' s same_nodes same_key = ap (λ (n : Slab Node). get n (key_of t' s)) same_nodes ∙ ap (λ (k : ℕ). get t.nodes k) same_key
+
+module _ (order : Listing) (t : Table) where
+  pub stamps_are : stamps_in (timeline order t).nodes ≡ order.stamps
+  stamps_are = stamps_listed (entry_of t) (λ s. refl) order.stamps
+
+  pub there_is : (s : ℕ) → has_node s (timeline order t).nodes ≡ true → is_in s order.stamps ≡ true
+  there_is s there = ap (λ (l : List ℕ). is_in s l) (sym stamps_are) ∙ there
+
+  pub is_there : (s : ℕ) → is_in s order.stamps ≡ true → has_node s (timeline order t).nodes ≡ true
+  is_there s found = ap (λ (l : List ℕ). is_in s l) stamps_are ∙ found
+
+  pub entry_found : (s : ℕ) → is_in s order.stamps ≡ true → entry_at s (timeline order t).nodes ≡ Some (entry_of t s)
+  entry_found s found = entry_listed (entry_of t) (λ k. refl) s order.stamps found
+
+-- a stamp of an order is not the number that stands for none
+pub noted_stamp : (order : Listing) (s : ℕ) → IsOrder order → is_in s order.stamps ≡ true → noted s ≡ Some s
+noted_stamp order s is_order found =
+    let low : s < length order.stamps + order.spare = below_of s (length order.stamps + order.spare) order.stamps found is_order.below in
+    let few = is_order.few in
+    elim (eqb_tells s no_stamp) [ inl p ↦ absurd (let same = p.1 in omega arith) | inr p ↦ rw p.0 refl ]
+
+-- each stamp has a row
+pub row_bound : (order : Listing) (t : Table) (s : ℕ) → IsOrder order → HasNodes order t → is_in s order.stamps ≡ true → s < length t.rows.items
+row_bound order t s is_order has found =
+    let low : s < length order.stamps + order.spare = below_of s (length order.stamps + order.spare) order.stamps found is_order.below in
+    let rows = has.rows in
+    omega arith
+
+-- a new stamp has a row
+pub new_row : (order order' : Listing) (t : Table) (s f : ℕ) → HasNodes order t → is_in s order.stamps ≡ true → order'.stamps ≡ with_after s f order.stamps
+    → order'.spare + 1 ≡ order.spare → f < length order'.stamps + order'.spare → f < length t.rows.items
+new_row order order' t s f has here stamps spare below =
+    let longer : length order'.stamps ≡ suc (length order.stamps) = ap (λ (l : List ℕ). length l) stamps ∙ length-after s f order.stamps here in
+    let rows = has.rows in
+    omega arith
+
+-- ---- a node more
+
+module _ (order order' : Listing) (t t' : Table) (s f : ℕ) (node : Node)
+    (has : HasNodes order t) (here : is_in s order.stamps ≡ true)
+    (stamps : order'.stamps ≡ with_after s f order.stamps)
+    (spare : order'.spare + 1 ≡ order.spare)
+    (one : OneMore f order.stamps order'.stamps)
+    (put : PutAt f node t t') where
+  old_apart : (u : ℕ) → is_in u order.stamps ≡ true → u ≢ f
+  old_apart u found = apart u f order.stamps found one.absent
+
+  kept_put : (u : ℕ) → is_in u order.stamps ≡ true → kept t' u ≡ kept t u
+  kept_put u found = put.others u (old_apart u found) (rw (has.found u found) refl)
+
+  row_put : (u : ℕ) → is_in u order.stamps ≡ true → row_of t'.rows.items u ≡ row_of t.rows.items u
+  row_put u found = put.rows u (old_apart u found)
+
+  entry_put : (u : ℕ) → is_in u order.stamps ≡ true → entry_of t' u ≡ entry_of t u
+  entry_put u found = entry_eq t t' u (kept_put u found) (ap (λ (r : Row). r.steps) (row_put u found))
+
+  pub nodes_put : (timeline order' t').nodes ≡ with_entry_after s (new_entry f node) (timeline order t).nodes
+  nodes_put =
+      ap (λ (l : List ℕ). listed (entry_of t') l) stamps
+      ∙ (listed_after (entry_of t) (entry_of t') (λ k. refl) s f order.stamps entry_put
+      ∙ ap (λ (e : Entry). with_entry_after s e (listed (entry_of t) order.stamps)) (entry_is t' f node put.there put.steps))
+
+  longer : length order'.stamps ≡ suc (length order.stamps)
+  longer = ap (λ (l : List ℕ). length l) stamps ∙ length-after s f order.stamps here
+
+  pub has_put : HasNodes order' t'
+  has_put = record {
+    rows = let long = put.long in let rows = has.rows in omega (arith, longer, spare, long, rows);
+    count = let more = put.count in let count = has.count in omega (arith, longer, more, count);
+    room = let more = put.count in let capacity = put.capacity in let room = has.room in omega (arith, spare, more, capacity, room);
+    found = λ u found. elim (eqb_tells u f) [
+      | inl p ↦ found_is t' u node (subst (λ (k : ℕ). kept t' k ≡ Some node) (sym p.1) put.there)
+      | inr p ↦ let old = one.only u found p.1 in found_is t' u (node_of t u) (kept_put u old ∙ has.found u old)
+    ];
+    apart = λ u v u_in v_in same. elim (eqb_tells u f) [
+      | inl p ↦ elim (eqb_tells v f) [
+        | inl q ↦ p.1 ∙ sym q.1
+        | inr q ↦ absurd (put.apart v q.1 (rw (has.found v (one.only v v_in q.1)) refl) (sym same ∙ ap (λ (k : ℕ). key_of t' k) p.1))
+      ]
+      | inr p ↦
+          let u_old = one.only u u_in p.1 in
+          elim (eqb_tells v f) [
+            | inl q ↦ absurd (put.apart u p.1 (rw (has.found u u_old) refl) (same ∙ ap (λ (k : ℕ). key_of t' k) q.1))
+            | inr q ↦
+                let v_old = one.only v v_in q.1 in
+                has.apart u v u_old v_old (ap (λ (r : Row). r.key) (sym (row_put u u_old)) ∙ (same ∙ ap (λ (r : Row). r.key) (row_put v v_old)))
+          ]
+    ];
+    low = λ u found. elim (eqb_tells u f) [
+      | inl p ↦ let none : steps_of t' u ≡ 0 = ap (λ (k : ℕ). steps_of t' k) p.1 ∙ put.steps in omega arith
+      | inr p ↦
+          let old = one.only u found p.1 in
+          let low = has.low u old in
+          let same : steps_of t' u ≡ steps_of t u = ap (λ (r : Row). r.steps) (row_put u old) in
+          omega arith
+    ];
+  }
+
+  pub end_put : (u : ℕ) → is_in u order.stamps ≡ true → end_of t' u ≡ end_of t u
+  end_put u found = ap (λ (r : Row). r.end) (row_put u found)

@@ -1,0 +1,12 @@
+pub mod Samples
+pub mod Stamped
+pub mod Entries
+pub mod Listings
+pub mod Shapes
+pub mod Keeps
+pub mod Growing
+pub mod Removing
+pub mod Changing
+pub mod Ends
+pub mod ItemSteps
+pub mod Nesting

@@ -1,0 +1,9 @@
+use Rattle.std.proofs.Common.{sym, ◌∙◌}
+use Rattle.ceal_trace.proofs.Keeps.{there_is}
+use Rattle.ceal_trace.proofs.Removing.{steps_are}
+use Rattle.ceal_trace.proofs.trace.Trace.steps_at.Goals as goal
+
+pub returns : goal.returns
+returns c =
+    let here = there_is c.self.inside.order c.self.inside.table c.args.node.0 (rw (← c.self.view_is) at c.requires.here) in
+    rw (← c.self.view_is) (c.steps.ensures ∙ sym (steps_are c.self.inside.order c.self.inside.table c.args.node.0 here))

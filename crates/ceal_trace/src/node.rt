@@ -1,0 +1,40 @@
+// What a trace holds at a stamp.
+
+use ceal_base::forest::{Key, UnitId};
+use ceal_base::word::{BlockId, Place, Word};
+use ceal_base::words::Words;
+use ceal_order::stamp::Stamp;
+
+/// A node of a trace (the nodes of a dynamic dependence graph: Acar, *Self-Adjusting Computation*, 2005).
+#[derive(Drop)]
+pub enum Node {
+    /// the first node
+    Root,
+    Alloc {
+        block: BlockId,
+        key: Key,
+    },
+    Write {
+        place: Place,
+        value: Word,
+    },
+    /// a read with its closure: the unit that goes on, the variable that takes the value, and the arguments
+    Read {
+        place: Place,
+        value: Word,
+        unit: UnitId,
+        var: u32,
+        args: Words,
+    },
+    /// the end of all that runs because of a read
+    End {
+        read: Stamp,
+    },
+}
+
+/// What a removed node held, and its steps.
+#[derive(Drop)]
+pub struct Gone {
+    pub node: Node,
+    pub steps: u32,
+}

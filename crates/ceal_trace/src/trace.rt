@@ -1,0 +1,286 @@
+// The nodes of a trace in the order of time.
+
+ghost use Rattle.std.specs.Prelude.{◌≡◌, ◌≢◌, ◌+◌, ◌<◌, ◌≤◌, ℕ, [], ◌∷◌, max, false, Some, None, IfSome, IfNone, IfOk, OnOk, OnErr, IsTrue, option_map};
+ghost use Rattle.ceal_base.specs.Trace.{steps_in};
+ghost use Rattle.ceal_order.specs.Stamps.{head_of};
+ghost use Rattle.ceal_trace.specs.declared.node.Node.TheVariants.{Root, Alloc, Write, Read, End};
+ghost use Rattle.ceal_trace.specs.Nodes.{order_of, stamps_in, has_node, position, new_entry, node_at, steps_at, steps_sum, is_read, ends, end_in, with_entry_after, without_entry, valued, with_value, with_steps, IsTrace, NoLooseEnd, LooseEndOf, OneMoreNode, Inserted, SameBut, is_plain};
+ghost use Rattle.ceal_trace.specs.Items.{forest_of};
+
+use crate::node::{Gone, Node};
+use crate::table::Table;
+use ceal_base::forest::{Key, UnitId};
+use ceal_base::no_memory::NoMemory;
+use ceal_base::word::{BlockId, Place, Word};
+use ceal_base::words::Words;
+use ceal_order::order::Order;
+use ceal_order::stamp::Stamp;
+use std::alloc::Global;
+use std::marker::Model;
+
+/// The nodes of a run in the order of time, and room for more. Contracts see `nodes`, the list of the nodes with their
+/// stamps and steps, and `spare`, how many may be inserted without taking memory.
+///
+/// Each stamp that is handed in must be a node's. Where a finished read is removed before its end, the end must be
+/// removed before the next insertion.
+#[derive(Drop)]
+pub struct Trace {
+    order: Order,
+    table: Table,
+    steps: u64,
+}
+
+impl Model for Trace {
+    ghost use Rattle.ceal_trace.specs.Nodes.{Timeline};
+
+    ghost Value = { Timeline };
+
+    ghost use Rattle.ceal_trace.specs.Keeping.{timeline, Sound};
+
+    ghost view = { λ a. timeline a.order a.table };
+
+    ghost invariant = { λ a. Sound a.order a.table a.steps };
+}
+
+impl Trace {
+    /// A trace of the root alone.
+    pub fn new(alloc: Global) -> Result<Trace, NoMemory>
+        ensures nodes { IfOk result (λ trace. trace.nodes ≡ new_entry 0 Root ∷ []) }
+        ensures spare { IfOk result (λ trace. trace.spare ≡ 0) }
+        ensures whole { IfOk result IsTrace }
+        ensures closed { IfOk result (λ trace. NoLooseEnd trace.nodes) }
+    {
+        let order = Order::new(alloc)?;
+        let root = order.first();
+        let mut table = Table::new(alloc);
+        table.reserve(1)?;
+        table.put(root, Node::Root);
+        Ok(Trace {
+            order,
+            table,
+            steps: 0,
+        })
+    }
+
+    /// The root. Its contract also tells what is true of every trace.
+    pub fn root(&self) -> Stamp
+        ensures first { head_of (stamps_in self.now.nodes) ≡ Some result.0 }
+        ensures there { IsTrue (has_node result.0 self.now.nodes) }
+        ensures at_start { position result.0 self.now.nodes ≡ 0 }
+        ensures node { node_at result.0 self.now.nodes ≡ Some Root }
+        ensures whole { IsTrace self.now }
+    {
+        self.order.first()
+    }
+
+    /// The order of the nodes' stamps.
+    pub fn order(&self) -> &Order
+        ensures { result.now ≡ order_of self.now }
+    {
+        &self.order
+    }
+
+    /// Makes room for so many insertions without taking memory. `NoMemory` also comes where there would be 2^32 - 1
+    /// nodes or more, the spare ones counted.
+    pub fn reserve(&mut self, nodes: u32) -> Result<(), NoMemory>
+        ensures nodes { self.new.nodes ≡ self.old.nodes }
+        ensures room { OnOk result (nodes ≤ self.new.spare) }
+        ensures exact { OnOk result (self.new.spare ≡ max self.old.spare nodes) }
+        ensures kept { self.old.spare ≤ self.new.spare }
+        ensures err { OnErr result (self.new ≡ self.old) }
+        ensures whole { IsTrace self.new }
+    {
+        self.table.reserve(nodes)?;
+        self.order.reserve(nodes)
+    }
+
+    /// Puts an allocation directly after a node.
+    pub fn insert_alloc(&mut self, after: Stamp, block: BlockId, key: Key) -> Stamp
+        requires here { IsTrue (has_node after.0 self.old.nodes) }
+        requires room { 0 < self.old.spare }
+        requires closed { NoLooseEnd self.old.nodes }
+        ensures nodes { self.new.nodes ≡ with_entry_after after.0 (new_entry result.0 (Alloc block key)) self.old.nodes }
+        ensures inserted { Inserted after.0 result.0 (Alloc block key) self.old.nodes self.new.nodes }
+        ensures spare { self.new.spare + 1 ≡ self.old.spare }
+        ensures ends { (read : ℕ) → end_in read self.new.nodes ≡ end_in read self.old.nodes }
+        ensures closed { NoLooseEnd self.new.nodes }
+        ensures whole { IsTrace self.new }
+    {
+        self.insert(after, Node::Alloc { block, key })
+    }
+
+    /// Puts a write directly after a node.
+    pub fn insert_write(&mut self, after: Stamp, place: Place, value: Word) -> Stamp
+        requires here { IsTrue (has_node after.0 self.old.nodes) }
+        requires room { 0 < self.old.spare }
+        requires closed { NoLooseEnd self.old.nodes }
+        ensures nodes { self.new.nodes ≡ with_entry_after after.0 (new_entry result.0 (Write place value)) self.old.nodes }
+        ensures inserted { Inserted after.0 result.0 (Write place value) self.old.nodes self.new.nodes }
+        ensures spare { self.new.spare + 1 ≡ self.old.spare }
+        ensures ends { (read : ℕ) → end_in read self.new.nodes ≡ end_in read self.old.nodes }
+        ensures closed { NoLooseEnd self.new.nodes }
+        ensures whole { IsTrace self.new }
+    {
+        self.insert(after, Node::Write { place, value })
+    }
+
+    /// Puts a read directly after a node. It is not finished.
+    pub fn begin_read(
+        &mut self,
+        after: Stamp,
+        place: Place,
+        value: Word,
+        unit: UnitId,
+        var: u32,
+        args: Words,
+    ) -> Stamp
+        requires here { IsTrue (has_node after.0 self.old.nodes) }
+        requires room { 0 < self.old.spare }
+        requires closed { NoLooseEnd self.old.nodes }
+        ensures nodes { self.new.nodes ≡ with_entry_after after.0 (new_entry result.0 (Read place value unit var args)) self.old.nodes }
+        ensures inserted { Inserted after.0 result.0 (Read place value unit var args) self.old.nodes self.new.nodes }
+        ensures spare { self.new.spare + 1 ≡ self.old.spare }
+        ensures open { end_in result.0 self.new.nodes ≡ None }
+        ensures ends { (read : ℕ) → end_in read self.new.nodes ≡ end_in read self.old.nodes }
+        ensures closed { NoLooseEnd self.new.nodes }
+        ensures whole { IsTrace self.new }
+    {
+        let read = Node::Read {
+            place,
+            value,
+            unit,
+            var,
+            args,
+        };
+        self.insert(after, read)
+    }
+
+    // Puts a node that is no end directly after another.
+    fn insert(&mut self, after: Stamp, node: Node) -> Stamp
+        requires here { IsTrue (has_node after.0 self.old.nodes) }
+        requires room { 0 < self.old.spare }
+        requires closed { NoLooseEnd self.old.nodes }
+        requires plain { IsTrue (is_plain node) }
+        ensures nodes { self.new.nodes ≡ with_entry_after after.0 (new_entry result.0 node) self.old.nodes }
+        ensures inserted { Inserted after.0 result.0 node self.old.nodes self.new.nodes }
+        ensures spare { self.new.spare + 1 ≡ self.old.spare }
+        ensures open { end_in result.0 self.new.nodes ≡ None }
+        ensures ends { (read : ℕ) → end_in read self.new.nodes ≡ end_in read self.old.nodes }
+        ensures closed { NoLooseEnd self.new.nodes }
+        ensures whole { IsTrace self.new }
+    {
+        let new = self.order.insert_after(after);
+        self.table.put(new, node);
+        new
+    }
+
+    /// Puts the end of a read that is not finished directly after a node that does not lie before the read.
+    pub fn finish_read(&mut self, read: Stamp, after: Stamp) -> Stamp
+        requires read { IsTrue (is_read (node_at read.0 self.old.nodes)) }
+        requires unfinished { end_in read.0 self.old.nodes ≡ None }
+        requires here { IsTrue (has_node after.0 self.old.nodes) }
+        requires behind { position read.0 self.old.nodes ≤ position after.0 self.old.nodes }
+        requires room { 0 < self.old.spare }
+        requires closed { NoLooseEnd self.old.nodes }
+        ensures nodes { self.new.nodes ≡ with_entry_after after.0 (new_entry result.0 (End read)) self.old.nodes }
+        ensures inserted { Inserted after.0 result.0 (End read) self.old.nodes self.new.nodes }
+        ensures spare { self.new.spare + 1 ≡ self.old.spare }
+        ensures finished { end_in read.0 self.new.nodes ≡ Some result.0 }
+        ensures ends { (other : ℕ) → other ≢ read.0 → end_in other self.new.nodes ≡ end_in other self.old.nodes }
+        ensures closed { NoLooseEnd self.new.nodes }
+        ensures whole { IsTrace self.new }
+    {
+        let end = self.order.insert_after(after);
+        self.table.put(end, Node::End { read });
+        self.table.set_end(read, end);
+        end
+    }
+
+    /// Gives a read another value.
+    pub fn set_value(&mut self, read: Stamp, value: Word)
+        requires read { IsTrue (is_read (node_at read.0 self.old.nodes)) }
+        ensures nodes { self.new.nodes ≡ with_value read.0 value self.old.nodes }
+        ensures changed { node_at read.0 self.new.nodes ≡ option_map (valued value) (node_at read.0 self.old.nodes) }
+        ensures steps { steps_at read.0 self.new.nodes ≡ steps_at read.0 self.old.nodes }
+        ensures others { SameBut read.0 self.old.nodes self.new.nodes }
+        ensures sum { steps_sum self.new.nodes ≡ steps_sum self.old.nodes }
+        ensures spare { self.new.spare ≡ self.old.spare }
+        ensures closed { NoLooseEnd self.old.nodes → NoLooseEnd self.new.nodes }
+        ensures whole { IsTrace self.new }
+    {
+        self.table.set_value(read, value);
+    }
+
+    /// Sets the steps between a node and the next one.
+    pub fn set_steps(&mut self, node: Stamp, steps: u32)
+        requires here { IsTrue (has_node node.0 self.old.nodes) }
+        ensures nodes { self.new.nodes ≡ with_steps node.0 steps self.old.nodes }
+        ensures changed { steps_at node.0 self.new.nodes ≡ steps }
+        ensures node { node_at node.0 self.new.nodes ≡ node_at node.0 self.old.nodes }
+        ensures others { SameBut node.0 self.old.nodes self.new.nodes }
+        ensures sum { steps_sum self.new.nodes + steps_at node.0 self.old.nodes ≡ steps_sum self.old.nodes + steps }
+        ensures spare { self.new.spare ≡ self.old.spare }
+        ensures closed { NoLooseEnd self.old.nodes → NoLooseEnd self.new.nodes }
+        ensures whole { IsTrace self.new }
+    {
+        let old = self.table.steps(node);
+        self.table.set_steps(node, steps);
+        self.steps = self.steps - u64::from(old) + u64::from(steps);
+    }
+
+    pub fn node(&self, stamp: Stamp) -> &Node
+        requires here { IsTrue (has_node stamp.0 self.now.nodes) }
+        ensures node { node_at stamp.0 self.now.nodes ≡ Some result.now }
+    {
+        self.table.node(stamp)
+    }
+
+    /// The end of a read, None where it is not finished.
+    pub fn end_of(&self, read: Stamp) -> Option<Stamp>
+        requires read { IsTrue (is_read (node_at read.0 self.now.nodes)) }
+        ensures finished { IfSome result (λ end. end_in read.0 self.now.nodes ≡ Some end.0) }
+        ensures there { IfSome result (λ end. IsTrue (has_node end.0 self.now.nodes)) }
+        ensures behind { IfSome result (λ end. position read.0 self.now.nodes < position end.0 self.now.nodes) }
+        ensures open { IfNone result (end_in read.0 self.now.nodes ≡ None) }
+    {
+        self.table.end(read)
+    }
+
+    /// Takes a node out that is not the root, and gives back what it held.
+    pub fn remove(&mut self, stamp: Stamp) -> Gone
+        requires here { IsTrue (has_node stamp.0 self.old.nodes) }
+        requires not_root { head_of (stamps_in self.old.nodes) ≢ Some stamp.0 }
+        ensures nodes { self.new.nodes ≡ without_entry stamp.0 self.old.nodes }
+        ensures node { node_at stamp.0 self.old.nodes ≡ Some result.node }
+        ensures steps { result.steps ≡ steps_at stamp.0 self.old.nodes }
+        ensures others { OneMoreNode stamp.0 self.new.nodes self.old.nodes }
+        ensures spare { self.new.spare ≡ self.old.spare + 1 }
+        ensures opened { (read : ℕ) → IsTrue (ends read result.node) → end_in read self.new.nodes ≡ None }
+        ensures ends { (read : ℕ) → ends read result.node ≡ false → end_in read self.new.nodes ≡ end_in read self.old.nodes }
+        ensures loose { NoLooseEnd self.old.nodes → LooseEndOf stamp.0 self.new.nodes }
+        ensures closed { NoLooseEnd self.old.nodes → end_in stamp.0 self.old.nodes ≡ None → NoLooseEnd self.new.nodes }
+        ensures mended { (read : ℕ) → LooseEndOf read self.old.nodes → IsTrue (ends read result.node) → NoLooseEnd self.new.nodes }
+        ensures whole { IsTrace self.new }
+    {
+        let gone = self.table.take(stamp);
+        self.order.delete(stamp);
+        self.steps -= u64::from(gone.steps);
+        gone
+    }
+
+    /// The steps between a node and the next one.
+    pub fn steps_at(&self, node: Stamp) -> u32
+        requires here { IsTrue (has_node node.0 self.now.nodes) }
+        ensures { result ≡ steps_at node.0 self.now.nodes }
+    {
+        self.table.steps(node)
+    }
+
+    /// The steps of the whole run.
+    pub fn steps(&self) -> u64
+        ensures sum { result ≡ steps_sum self.now.nodes }
+        ensures items { result ≡ steps_in (forest_of self.now.nodes) }
+    {
+        self.steps
+    }
+}
