@@ -1,50 +1,81 @@
--- Writing piece by piece.
-use Rattle.std.proofs.Common.{◌≡◌, ℕ, ◌+◌, ◌≤◌, List, [], ◌++◌, Option, length, take, refl, sym, ap, ◌∙◌, subst, append_assoc, append-nil, arith, length-append}
+-- Writing replies one after another.
+use Rattle.std.proofs.Common.{◌≡◌, ◌⊎◌, inl, inr, ℕ, ◌≤◌, List, [], ◌∷◌, ◌++◌, Option, length, take, drop, refl, sym, ap, ◌∙◌, subst, append_assoc, append-nil, take-append-drop}
 use Rattle.std.specs.Io.KnownBytes.{Appends}
 use Rattle.std.proofs.KnownBytes.{Appends-trans, Appends-nil}
-use Rattle.std.proofs.Math.Seq.{take-append-add, take-append_seam, take-length}
-use Rattle.std.proofs.lemmas.List.{take-append-le}
-use Rattle.ceal_cli.specs.Growth.{Written}
 use Rattle.ceal_io.specs.Streams.{GrowsByPrefix}
+use Rattle.ceal_session.specs.Replies.{Answers, AreReplies}
+use Rattle.ceal_session.specs.declared.state.State.{State}
+use Rattle.ceal_cli.specs.Growth.{Grows, WritesReply, WritesPart, BeginsReply, WritesReplies, BeginsToReply}
+use Rattle.ceal_cli.specs.Output.{IsPrefix, BeginReplies}
 
-pub Written-start : (a : Option (List ℕ)) (whole : List ℕ) → Written a a whole whole
-Written-start a whole = record { part = []; appends = Appends-nil a; all = refl }
+-- what was written of a piece begins it
+pub of_prefix : (a b : Option (List ℕ)) (piece : List ℕ) → GrowsByPrefix a b piece → Grows a b (λ out. IsPrefix out piece)
+of_prefix a b piece (k, within, more) =
+    record { out = take k piece; is = record { rest = drop k piece; same = take-append-drop k piece }; appends = more }
 
--- the next piece was written whole
-pub Written-more : (a b c : Option (List ℕ)) (whole piece rest : List ℕ) → Written a b whole (piece ++ rest) → Appends b c piece → Written a c whole rest
-Written-more a b c whole piece rest w more = record {
-  part = w.part ++ piece;
-  appends = Appends-trans a b c w.part piece w.appends more;
-  all = append_assoc w.part piece rest ∙ w.all;
-}
+pub nothing : (a : Option (List ℕ)) (P : List ℕ → Type 0) → P [] → Grows a a P
+nothing a P h = record { out = []; is = h; appends = Appends-nil a }
 
--- all was written
-pub Written-all : (a b : Option (List ℕ)) (whole : List ℕ) → Written a b whole [] → Appends a b whole
-Written-all a b whole w = subst (Appends a b) (sym (append-nil w.part) ∙ w.all) w.appends
+pub weaker : {a b : Option (List ℕ)} {P Q : List ℕ → Type 0} → ((out : List ℕ) → P out → Q out) → Grows a b P → Grows a b Q
+weaker f g = record { out = g.out; is = f g.out g.is; appends = g.appends }
 
--- a prefix of the next piece was written
-pub Written-prefix : (a b c : Option (List ℕ)) (whole piece rest : List ℕ) → Written a b whole (piece ++ rest) → GrowsByPrefix b c piece → GrowsByPrefix a c whole
-Written-prefix a b c whole piece rest w (k, within, more) =
-    let front : take (length w.part + k) whole ≡ w.part ++ take k piece =
-    subst (λ (l : List ℕ). take (length w.part + k) l ≡ w.part ++ take k piece) w.all
-    (take-append-add w.part (piece ++ rest) k ∙ ap (λ (l : List ℕ). w.part ++ l) (take-append-le k piece rest within)) in
-    let bound : length w.part + k ≤ length whole =
-    omega (arith, ap length w.all, length-append w.part (piece ++ rest), length-append piece rest) in
-    (length w.part + k, bound, subst (Appends a c) (sym front) (Appends-trans a b c w.part (take k piece) w.appends more))
+-- So far some text was written behind which the replies to what is left, or their beginning, are to be put.
+pub record SoFar (old now : Option (List ℕ)) (start here : State) (all left : List (List ℕ)) : Type 0 where
+  pub part : List ℕ
+  pub appends : Appends old now part
+  pub whole : (rest : List ℕ) → AreReplies here left rest → AreReplies start all (part ++ rest)
+  pub begun : (rest : List ℕ) → BeginReplies here left rest → BeginReplies start all (part ++ rest)
 
--- nothing more was written
-pub Written-so_far : (a b : Option (List ℕ)) (whole rest : List ℕ) → Written a b whole rest → GrowsByPrefix a b whole
-Written-so_far a b whole rest w =
-    let front : take (length w.part) whole ≡ w.part =
-    subst (λ (l : List ℕ). take (length w.part) l ≡ w.part) w.all (take-append_seam w.part rest) in
-    let bound : length w.part ≤ length whole =
-    omega (arith, ap length w.all, length-append w.part rest) in
-    (length w.part, bound, subst (Appends a b) (sym front) w.appends)
+pub at_start : (a : Option (List ℕ)) (s : State) (lines : List (List ℕ)) → SoFar a a s s lines lines
+at_start a s lines = record { part = []; appends = Appends-nil a; whole = λ rest h. h; begun = λ rest h. h }
 
--- nothing was written
-pub grows_by_none : (a : Option (List ℕ)) (bytes : List ℕ) → GrowsByPrefix a a bytes
-grows_by_none a bytes = (0, omega arith, Appends-nil a)
+module _ (a b c : Option (List ℕ)) (start here next : State) (all lines : List (List ℕ)) (line : List ℕ) (so_far : SoFar a b start here all (line ∷ lines)) where
+  more_replies : (text rest : List ℕ) → Answers here line text next → AreReplies next lines rest → AreReplies here (line ∷ lines) (text ++ rest)
+  unfolding AreReplies
+  more_replies text rest answers h = (text, next, rest, answers, h, refl)
 
--- all was written
-pub grows_by_all : (a b : Option (List ℕ)) (bytes : List ℕ) → Appends a b bytes → GrowsByPrefix a b bytes
-grows_by_all a b bytes e = (length bytes, omega arith, subst (Appends a b) (sym (take-length bytes)) e)
+  more_begun : (text rest : List ℕ) → Answers here line text next → BeginReplies next lines rest → BeginReplies here (line ∷ lines) (text ++ rest)
+  unfolding BeginReplies
+  more_begun text rest answers h = inr (text, next, answers, inr (rest, refl, h))
+
+  -- one more reply was written whole
+  pub one_more : WritesReply b c here line next → SoFar a c start next all lines
+  one_more w = record {
+    part = so_far.part ++ w.out;
+    appends = Appends-trans a b c so_far.part w.out so_far.appends w.appends;
+    whole = λ rest h. rw (append_assoc so_far.part w.out rest) (so_far.whole (w.out ++ rest) (more_replies w.out rest w.is h));
+    begun = λ rest h. rw (append_assoc so_far.part w.out rest) (so_far.begun (w.out ++ rest) (more_begun w.out rest w.is h));
+  }
+
+  part_begun : (out : List ℕ) → BeginsReply here line out → BeginReplies here (line ∷ lines) out
+  unfolding BeginReplies
+  part_begun out (inl e) = inl e
+  part_begun out (inr (text, after, answers, prefix)) = inr (text, after, answers, inl prefix)
+
+  -- a part of the next reply was written
+  pub some_of_it : WritesPart b c here line → BeginsToReply a c start all
+  some_of_it w = record {
+    out = so_far.part ++ w.out;
+    is = so_far.begun w.out (part_begun w.out w.is);
+    appends = Appends-trans a b c so_far.part w.out so_far.appends w.appends;
+  }
+
+module _ (a b : Option (List ℕ)) (start here : State) (all : List (List ℕ)) (so_far : SoFar a b start here all []) where
+  none_left : AreReplies here [] []
+  unfolding AreReplies
+  none_left = refl
+
+  none_begun : BeginReplies here [] []
+  unfolding BeginReplies
+  none_begun = refl
+
+  pub all_written : WritesReplies a b start all
+  all_written = record { out = so_far.part; is = rw (← append-nil so_far.part) (so_far.whole [] none_left); appends = so_far.appends }
+
+  pub all_begun : BeginsToReply a b start all
+  all_begun = record { out = so_far.part; is = rw (← append-nil so_far.part) (so_far.begun [] none_begun); appends = so_far.appends }
+
+-- what was written of the reply to a line begins it
+pub begins_reply : (a b : Option (List ℕ)) (s next : State) (line text : List ℕ) → Answers s line text next → GrowsByPrefix a b text → WritesPart a b s line
+begins_reply a b s next line text answers grows =
+    weaker (λ out prefix. inr (text, next, answers, prefix)) (of_prefix a b text grows)

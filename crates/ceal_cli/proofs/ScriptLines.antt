@@ -1,11 +1,7 @@
 -- The lines of a script, piece by piece.
-use Rattle.std.proofs.Common.{◌≡◌, ℕ, ◌+◌, is_some, Option, Some, None, List, [], ◌∷◌, ◌++◌, if◌then◌else◌, eqb, position, take, drop, refl, sym, subst}
-use Rattle.std.proofs.KnownBytes.{Appends-nil}
-use Rattle.std.specs.Io.KnownBytes.{Appends}
-use Rattle.ceal_base.specs.declared.typed.Typed.{Typed}
-use Rattle.ceal_cli.specs.Output.{script_lines, without_return, replies, step_of, answer_text}
-use Rattle.ceal_cli.specs.Source.{lines_of, lines_left}
-use Rattle.ceal_cli.specs.declared.first_script.session.Session.{Session}
+use Rattle.std.proofs.Common.{◌≡◌, ℕ, ◌+◌, Bool, is_some, Option, Some, None, List, [], ◌∷◌, if◌then◌else◌, eqb, position, take, drop, refl, sym, ap, ◌∙◌, subst, Bor}
+use Rattle.std.specs.Option.{option_copied}
+use Rattle.ceal_cli.specs.Lines.{lines_of, pieces_of, pieces_left, script_lines, without_return}
 use Rattle.ceal_cli.proofs.LineEnds.{cut_some, cut_none}
 
 record Begun (lines : List (List ℕ)) : Type 0 where
@@ -13,32 +9,35 @@ record Begun (lines : List (List ℕ)) : Type 0 where
   more : List (List ℕ)
   same : lines ≡ first ∷ more
 
-some_line : (text : List ℕ) (o : Option ℕ) → position (λ b. eqb b 10) text ≡ o → Begun (lines_of text)
+some_line : (text : List ℕ) (o : Option ℕ) → position (λ b. eqb b 10) text ≡ o → Begun (pieces_of text)
 some_line text None e = record { first = text; more = []; same = cut_none (λ b. eqb b 10) text e }
 some_line text (Some at) e =
-    record { first = take at text; more = lines_of (drop (at + 1) text); same = (cut_some (λ b. eqb b 10) text at e).1 }
+    record { first = take at text; more = pieces_of (drop (at + 1) text); same = (cut_some (λ b. eqb b 10) text at e).1 }
 
-followed : (piece : List ℕ) (lines : List (List ℕ)) → Begun lines → script_lines (piece ∷ lines) ≡ without_return piece ∷ script_lines lines
-unfolding script_lines
+followed : (piece : List ℕ) (lines : List (List ℕ)) → Begun lines → lines_of (piece ∷ lines) ≡ without_return piece ∷ lines_of lines
+unfolding lines_of
 followed piece lines b =
-    subst (λ (l : List (List ℕ)). script_lines (piece ∷ l) ≡ without_return piece ∷ script_lines l) (sym b.same) refl
+    subst (λ (l : List (List ℕ)). lines_of (piece ∷ l) ≡ without_return piece ∷ lines_of l) (sym b.same) refl
 
 -- the first line of what is left, and those behind it
-pub script_next : (piece : List ℕ) (after : Option (List ℕ))
-    → script_lines (piece ∷ lines_left after) ≡ (if is_some after then without_return piece else piece) ∷ script_lines (lines_left after)
-unfolding script_lines
-script_next piece None = refl
-script_next piece (Some text) = followed piece (lines_of text) (some_line text _ refl)
+line_next : (piece : List ℕ) (after : Option (List ℕ))
+    → lines_of (piece ∷ pieces_left after) ≡ (if is_some after then without_return piece else piece) ∷ lines_of (pieces_left after)
+unfolding lines_of
+line_next piece None = refl
+line_next piece (Some text) = followed piece (pieces_of text) (some_line text _ refl)
 
-pub replies_next : (program : Typed) (s : Session) (line : List ℕ) (lines : List (List ℕ))
-    → replies program s (line ∷ lines) ≡ answer_text (step_of program s line).answer ++ replies program (step_of program s line).session lines
-unfolding replies
-replies_next program s line lines = refl
+pub copied_some : (o : Option (Bor (List ℕ))) → is_some o ≡ is_some (option_copied o)
+copied_some None = refl
+copied_some (Some x) = refl
 
-pub replies_none : (program : Typed) (s : Session) → replies program s (script_lines []) ≡ []
-unfolding replies script_lines
-replies_none program s = refl
+pub lines_cut : (rest piece line : List ℕ) (after : Option (List ℕ)) (ended : Bool)
+    → pieces_of rest ≡ piece ∷ pieces_left after → ended ≡ is_some after → line ≡ (if ended then without_return piece else piece)
+    → script_lines rest ≡ line ∷ lines_of (pieces_left after)
+lines_cut rest piece line after ended cut e is =
+    let here : (if is_some after then without_return piece else piece) ≡ line =
+    ap (λ (b : Bool). if b then without_return piece else piece) (sym e) ∙ sym is in
+    ap lines_of cut ∙ line_next piece after ∙ ap (λ (l : List ℕ). l ∷ lines_of (pieces_left after)) here
 
--- where no script stands behind the mark, there is nothing to write
-pub replied_none : (a : Option (List ℕ)) (program : Typed) (s : Session) → Appends a a (replies program s (script_lines []))
-replied_none a program s = rw (replies_none program s) (Appends-nil a)
+pub no_lines : lines_of [] ≡ []
+unfolding lines_of
+no_lines = refl

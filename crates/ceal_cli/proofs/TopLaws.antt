@@ -1,9 +1,10 @@
 -- From the bytes that were read to the input that the source told.
 use Rattle.std.proofs.Common.{◌≡◌, ◌≤◌, ◌⊎◌, inl, ℕ, Option, Some, None, List, ◌++◌, length, IfSome, refl, sym, ap, ◌∙◌, subst, append-nil}
 use Rattle.std.specs.Io.KnownBytes.{Consumes, IsAtEnd}
-use Rattle.ceal_cli.specs.FirstLanguage.{IsAccepted}
+use Rattle.ceal_compile.specs.Source.{IsAccepted}
 use Rattle.ceal_cli.specs.Growth.{WritesOutput, WritesPrefix}
 use Rattle.ceal_cli.specs.declared.top.TheConstants.{INPUT_LIMIT}
+use Rattle.ceal_cli.specs.declared.words.Mode.{Mode}
 use Rattle.ceal_cli.specs.declared.top.Status.TheVariants.{Done, Refused, Memory}
 
 -- what was read up to the end is the input
@@ -21,17 +22,20 @@ module _ (old new : Option (List ℕ)) (bytes text : List ℕ) (all : Consumes o
   for_input : (P : List ℕ → Type 0) → P text → IfSome old P
   for_input P h = carried old text P (whole_input old new bytes text all at_end same) h
 
-  pub output_for : (a b : Option (List ℕ)) → WritesOutput a b text → IfSome old (λ input. WritesOutput a b input)
-  output_for a b h = for_input (λ input. WritesOutput a b input) h
+  pub output_for : (a b : Option (List ℕ)) (mode : Mode) → WritesOutput a b mode text → IfSome old (λ input. WritesOutput a b mode input)
+  output_for a b mode h = for_input (λ input. WritesOutput a b mode input) h
 
-  pub prefix_for : (a b : Option (List ℕ)) → WritesPrefix a b text → IfSome old (λ input. WritesPrefix a b input)
-  prefix_for a b h = for_input (λ input. WritesPrefix a b input) h
+  pub prefix_for : (a b : Option (List ℕ)) (mode : Mode) → WritesPrefix a b mode text → IfSome old (λ input. WritesPrefix a b mode input)
+  prefix_for a b mode h = for_input (λ input. WritesPrefix a b mode input) h
 
   pub short_for : length text ≤ INPUT_LIMIT → IfSome old (λ input. length input ≤ INPUT_LIMIT)
   short_for h = for_input (λ input. length input ≤ INPUT_LIMIT) h
 
   pub accepted_for : IsAccepted text → IfSome old (λ input. IsAccepted input)
   accepted_for h = for_input (λ input. IsAccepted input) h
+
+  pub refused_for : (IsAccepted text → ⊥) → IfSome old (λ input. IsAccepted input → ⊥)
+  refused_for h = for_input (λ input. IsAccepted input → ⊥) h
 
   pub done_for : (R S : Type 0) → IfSome old (λ input. length input ≤ INPUT_LIMIT → IsAccepted input → R → S → (Done ≡ Done) ⊎ (Done ≡ Memory))
   done_for R S = for_input (λ input. length input ≤ INPUT_LIMIT → IsAccepted input → R → S → (Done ≡ Done) ⊎ (Done ≡ Memory)) (λ short h r s. inl refl)

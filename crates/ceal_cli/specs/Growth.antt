@@ -1,23 +1,39 @@
--- What is written piece by piece.
-use Rattle.std.specs.Prelude.{◌≡◌, List, ◌++◌, ℕ, Option}
+-- By what a sink has grown.
+use Rattle.std.specs.Prelude.{◌≡◌, ◌⊎◌, List, [], ℕ, Option}
 use Rattle.std.specs.Io.KnownBytes.{Appends}
-use Rattle.ceal_cli.specs.Output.{IsOutput}
-use Rattle.ceal_io.specs.Streams.{GrowsByPrefix}
+use Rattle.ceal_session.specs.Replies.{Answers, AreReplies}
+use Rattle.ceal_session.specs.declared.state.State.{State}
+use Rattle.ceal_cli.specs.Output.{IsPrefix, IsOutput, BeginsOutput, BeginReplies}
+use Rattle.ceal_cli.specs.declared.words.Mode.{Mode}
 
--- known bytes have grown by a part of the whole, and rest is still to come
-pub record Written (old now : Option (List ℕ)) (whole rest : List ℕ) : Type 0 where
-  pub part : List ℕ
-  pub appends : Appends old now part
-  pub all : part ++ rest ≡ whole
-
--- known bytes have grown by the output for this input
-pub record WritesOutput (old now : Option (List ℕ)) (input : List ℕ) : Type 0 where
+-- known bytes have grown by a text of this sort
+pub record Grows (old now : Option (List ℕ)) (P : List ℕ → Type 0) : Type 0 where
   pub out : List ℕ
-  pub output : IsOutput input out
+  pub is : P out
   pub appends : Appends old now out
 
--- known bytes have grown by a prefix of the output for this input
-pub record WritesPrefix (old now : Option (List ℕ)) (input : List ℕ) : Type 0 where
-  pub out : List ℕ
-  pub output : IsOutput input out
-  pub grows : GrowsByPrefix old now out
+-- by the output for this input
+abbrev pub WritesOutput : Option (List ℕ) → Option (List ℕ) → Mode → List ℕ → Type 0
+WritesOutput old now mode input = Grows old now (λ out. IsOutput mode input out)
+
+-- by the beginning of the output for this input
+abbrev pub WritesPrefix : Option (List ℕ) → Option (List ℕ) → Mode → List ℕ → Type 0
+WritesPrefix old now mode input = Grows old now (λ out. BeginsOutput mode input out)
+
+-- by the replies to lines
+abbrev pub WritesReplies : Option (List ℕ) → Option (List ℕ) → State → List (List ℕ) → Type 0
+WritesReplies old now s lines = Grows old now (λ out. AreReplies s lines out)
+
+abbrev pub BeginsToReply : Option (List ℕ) → Option (List ℕ) → State → List (List ℕ) → Type 0
+BeginsToReply old now s lines = Grows old now (λ out. BeginReplies s lines out)
+
+-- by the reply to a line
+abbrev pub WritesReply : Option (List ℕ) → Option (List ℕ) → State → List ℕ → State → Type 0
+WritesReply old now s line next = Grows old now (λ out. Answers s line out next)
+
+-- The text begins the reply to a line.
+abbrev pub BeginsReply : State → List ℕ → List ℕ → Type 0
+BeginsReply s line out = (out ≡ []) ⊎ (text : List ℕ) × (next : State) × Answers s line text next × IsPrefix out text
+
+abbrev pub WritesPart : Option (List ℕ) → Option (List ℕ) → State → List ℕ → Type 0
+WritesPart old now s line = Grows old now (λ out. BeginsReply s line out)

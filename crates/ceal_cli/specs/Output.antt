@@ -1,63 +1,68 @@
 -- What the program writes for its input.
-use Rattle.std.specs.Prelude.{ℕ, ◌≡◌, ◌⊎◌, ◌==◌, ◌-◌, not, ◌&&◌, Bool, Some, List, [], ◌∷◌, ◌++◌, length, take, slice_index_or, codes, if◌then◌else◌}
-use Rattle.std.specs.Fmt.{signed_decimal}
+use Rattle.std.specs.Prelude.{◌≡◌, ◌⊎◌, ℕ, List, [], ◌∷◌, ◌++◌, codes}
+use Rattle.ceal_base.specs.declared.fault.Fault.{Fault}
 use Rattle.ceal_base.specs.declared.typed.Typed.{Typed}
-use Rattle.ceal_cli.specs.Commands.{read_line}
-use Rattle.ceal_cli.specs.FirstLanguage.{IsProgram, IsAccepted}
-use Rattle.ceal_cli.specs.Session.{initial, answered_line}
-use Rattle.ceal_cli.specs.Source.{Parts, split}
-use Rattle.ceal_cli.specs.declared.first_script.session.Answer.{Answer}
-use Rattle.ceal_cli.specs.declared.first_script.session.Answer.TheVariants.{Nothing, Ok, OutOfFuel, Value, Refused}
-use Rattle.ceal_cli.specs.declared.first_script.session.Session.{Session}
-use Rattle.ceal_cli.specs.declared.first_script.session.Step.{Step}
+use Rattle.ceal_compile.specs.FaultLine.{fault_line}
+use Rattle.ceal_compile.specs.Source.{IsProgram, IsFirstFault, IsAccepted}
+use Rattle.ceal_lex.specs.Parts.{IsSplit}
+use Rattle.ceal_lex.specs.declared.parts.Split.{Split}
+use Rattle.ceal_session.specs.Replies.{Answers, AreReplies}
+use Rattle.ceal_session.specs.Runs.{begun}
+use Rattle.ceal_session.specs.declared.state.State.{State}
+use Rattle.ceal_cli.specs.Lines.{script_of, script_lines}
+use Rattle.ceal_cli.specs.declared.words.Mode.{Mode}
+use Rattle.ceal_cli.specs.declared.words.Mode.TheVariants.{Check, Run}
 
--- the text of an answer
-abbrev pub answer_text : Answer → List ℕ
-answer_text Nothing = []
-answer_text Ok = codes "ok\n"
-answer_text OutOfFuel = codes "out of fuel\n"
-answer_text (Value n) = signed_decimal n ++ 10 ∷ []
-answer_text Refused = codes "refused C1: unreadable line\n"
+-- The one text is the beginning of the other.
+pub record IsPrefix (part whole : List ℕ) : Type 0 where
+  pub rest : List ℕ
+  pub same : part ++ rest ≡ whole
 
--- the last byte is a CR
-abbrev pub ends_in_return : List ℕ → Bool
-ends_in_return piece = not (length piece == 0) && (slice_index_or piece (length piece - 1) 0 == 13)
+-- The text begins the replies to the lines: it is the replies to the first of them, and the beginning of the next one.
+unfoldable pub BeginReplies : State → List (List ℕ) → List ℕ → Type 0
+BeginReplies s [] out = out ≡ []
+BeginReplies s (line ∷ lines) out =
+    (out ≡ [])
+    ⊎ (text : List ℕ) × (next : State) × Answers s line text next
+    × (IsPrefix out text ⊎ (rest : List ℕ) × (out ≡ text ++ rest) × BeginReplies next lines rest)
 
-abbrev pub without_return : List ℕ → List ℕ
-without_return piece = if ends_in_return piece then take (length piece - 1) piece else piece
-
--- the lines of the pieces between line feeds: one CR is dropped where a line feed follows it
-unfoldable pub script_lines : List (List ℕ) → List (List ℕ)
-script_lines [] = []
-script_lines (piece ∷ []) = piece ∷ []
-script_lines (piece ∷ next ∷ more) = without_return piece ∷ script_lines (next ∷ more)
-
--- what a line is answered in a state, and the state after it
-abbrev pub step_of : Typed → Session → List ℕ → Step
-step_of program s line = answered_line program s (read_line line)
-
--- the replies to lines, one after another
-unfoldable pub replies : Typed → Session → List (List ℕ) → List ℕ
-replies program s [] = []
-replies program s (line ∷ lines) =
-    answer_text (step_of program s line).answer ++ replies program (step_of program s line).session lines
-
-abbrev pub fault_text : List ℕ
-fault_text = codes "fault S3 at 1:1: unexpected token\n"
-
--- what the program writes for an accepted input: the replies to its lines, from a state without inputs
-pub record IsReplies (input out : List ℕ) : Type 0 where
-  pub parts : Parts
-  pub marked : split input ≡ Some parts
+-- An accepted program, and the script behind it.
+pub record Programmed (input : List ℕ) : Type 0 where
+  pub part : Split
+  pub split : IsSplit input part
   pub program : Typed
-  pub reads : IsProgram parts.source program
-  pub same : out ≡ replies program initial (script_lines parts.script)
+  pub reads : IsProgram input program
 
--- what the program writes for an input that is not accepted: one line
-pub record IsFault (input out : List ℕ) : Type 0 where
-  pub outside : IsAccepted input → ⊥
-  pub same : out ≡ fault_text
+-- the state before the first line, and the lines
+abbrev pub first_state : {input : List ℕ} → Programmed input → ℕ → State
+first_state p fuel = begun p.program fuel
+
+abbrev pub lines_behind : {input : List ℕ} → Programmed input → List (List ℕ)
+lines_behind {input} p = script_lines (script_of input p.part)
+
+abbrev pub accepted_text : List ℕ
+accepted_text = codes "accepted\n"
+
+-- What is written for an accepted input: `accepted`, or the replies to the lines of its script, from a state without inputs.
+abbrev pub IsAnswer : Mode → List ℕ → List ℕ → Type 0
+IsAnswer Check input out = IsAccepted input × (out ≡ accepted_text)
+IsAnswer (Run fuel) input out = (p : Programmed input) × AreReplies (first_state p fuel) (lines_behind p) out
+
+abbrev pub BeginsAnswer : Mode → List ℕ → List ℕ → Type 0
+BeginsAnswer Check input out = IsAccepted input × IsPrefix out accepted_text
+BeginsAnswer (Run fuel) input out = (p : Programmed input) × BeginReplies (first_state p fuel) (lines_behind p) out
+
+-- What is written for an input that is not accepted: the line of its first fault.
+abbrev pub IsRefusal : List ℕ → List ℕ → Type 0
+IsRefusal input out = (fault : Fault) × IsFirstFault input fault × (out ≡ fault_line input fault)
+
+abbrev pub BeginsRefusal : List ℕ → List ℕ → Type 0
+BeginsRefusal input out = (fault : Fault) × IsFirstFault input fault × IsPrefix out (fault_line input fault)
 
 -- what the program writes for an input
-abbrev pub IsOutput : List ℕ → List ℕ → Type 0
-IsOutput input out = IsReplies input out ⊎ IsFault input out
+abbrev pub IsOutput : Mode → List ℕ → List ℕ → Type 0
+IsOutput mode input out = IsAnswer mode input out ⊎ IsRefusal input out
+
+-- The text begins what the program writes for an input.
+abbrev pub BeginsOutput : Mode → List ℕ → List ℕ → Type 0
+BeginsOutput mode input out = (out ≡ []) ⊎ (BeginsAnswer mode input out ⊎ BeginsRefusal input out)

@@ -1,81 +1,118 @@
 // What is written for an input that was read.
 
-ghost use Rattle.std.specs.Prelude.{◌≡◌, ◌<◌, ◌^◌, ◌↔◌, IsTrue, length, false, IfSome, IfOk, OnOk, IsErrOf};
-ghost use Rattle.std.specs.Option.{option_copied};
-ghost use Rattle.std.specs.Io.KnownBytes.{Appends};
-ghost use Rattle.ceal_io.specs.Streams.{Rose, GrowsByPrefix};
-ghost use Rattle.ceal_cli.specs.FirstLanguage.{IsAccepted};
+ghost use Rattle.std.specs.Prelude.{◌≡◌, ◌<◌, ◌≤◌, ◌^◌, ◌↔◌, IsTrue, length, IfOk, OnOk, IsErrOf};
+ghost use Rattle.ceal_base.specs.Answers.{IfFault};
+ghost use Rattle.ceal_compile.specs.Source.{IsAccepted, IsFirstFault, IsProgram};
+ghost use Rattle.ceal_io.specs.Streams.{Rose};
 ghost use Rattle.ceal_cli.specs.Growth.{WritesOutput, WritesPrefix};
-ghost use Rattle.ceal_cli.specs.Output.{fault_text, replies, script_lines};
-ghost use Rattle.ceal_cli.specs.Reading.{is_accepted, output_of};
-ghost use Rattle.ceal_cli.specs.Session.{initial};
-ghost use Rattle.ceal_cli.specs.Source.{lines_left};
 
-use crate::first_language::read_program;
-use crate::first_language::source::split;
+use crate::lines::script;
 use crate::replies::reply_all;
+use crate::words::Mode;
+use ceal_base::fault::{Fault, FrontError};
 use ceal_base::no_memory::NoMemory;
 use ceal_base::typed::Typed;
+use ceal_compile::compile::{compile, one_answer};
+use ceal_compile::fault_line::fault_line;
 use ceal_io::{Sink, Stopped, write_all};
+use ceal_lex::split::split;
+use ceal_session::session::Session;
 use std::alloc::Global;
 
-/// Writes the output for an input, and says whether the input is accepted.
-pub fn write_answer<K: Sink>(alloc: Global, input: &[u8], sink: &mut K) -> Result<bool, Stopped>
-    requires { length input.now < 2 ^ 31 }
-    ensures accepted { IfOk result (λ accepted. IsTrue accepted ↔ IsAccepted input.now) }
-    ensures all { OnOk result (WritesOutput (K.written sink.old) (K.written sink.new) input.now) }
-    ensures prefix { WritesPrefix (K.written sink.old) (K.written sink.new) input.now }
-    ensures fault { IsErrOf result Stopped.Failed → Rose (K.faults sink.old) (K.faults sink.new) }
-{
-    answer(alloc, input, sink)
-}
-
-fn answer<K: Sink>(alloc: Global, input: &[u8], sink: &mut K) -> Result<bool, Stopped>
-    requires { length input.now < 2 ^ 31 }
-    ensures accepted { IfOk result (λ accepted. accepted ≡ is_accepted input.now) }
-    ensures all { OnOk result (Appends (K.written sink.old) (K.written sink.new) (output_of input.now)) }
-    ensures prefix { GrowsByPrefix (K.written sink.old) (K.written sink.new) (output_of input.now) }
-    ensures fault { IsErrOf result Stopped.Failed → Rose (K.faults sink.old) (K.faults sink.new) }
-{
-    let Some((source, script)) = split(input) else {
-        return refuse(sink);
-    };
-    let program = match read_program(alloc, source) {
-        Ok(program) => program,
-        Err(NoMemory) => return Err(Stopped::Memory),
-    };
-    let Some(program) = program else {
-        return refuse(sink);
-    };
-    reply_to(alloc, &program, script, sink)?;
-    Ok(true)
-}
-
-// Writes the replies to the script behind the mark, if there is one.
-fn reply_to<K: Sink>(
+// Writes the line of the first fault.
+fn refuse<K: Sink>(
     alloc: Global,
-    program: &Typed,
-    script: Option<&[u8]>,
+    mode: Mode,
+    input: &[u8],
+    fault: Fault,
     sink: &mut K,
 ) -> Result<(), Stopped>
-    requires { IfSome script (λ text. length text.now < 2 ^ 31) }
-    ensures all { OnOk result (Appends (K.written sink.old) (K.written sink.new) (replies program.now initial (script_lines (lines_left (option_copied script.entry))))) }
-    ensures prefix { GrowsByPrefix (K.written sink.old) (K.written sink.new) (replies program.now initial (script_lines (lines_left (option_copied script.entry)))) }
+    requires { IsFirstFault input.now fault }
+    ensures all { OnOk result (WritesOutput (K.written sink.old) (K.written sink.new) mode input.now) }
+    ensures part { WritesPrefix (K.written sink.old) (K.written sink.new) mode input.now }
     ensures fault { IsErrOf result Stopped.Failed → Rose (K.faults sink.old) (K.faults sink.new) }
 {
-    match script {
-        Some(script) => reply_all(alloc, program, script, sink),
-        None => Ok(()),
+    match fault_line(alloc, input, fault) {
+        Ok(line) => write_all(sink, line.items()),
+        Err(NoMemory) => Err(Stopped::Memory),
     }
 }
 
-// Writes the line of the one fault.
-fn refuse<K: Sink>(sink: &mut K) -> Result<bool, Stopped>
-    ensures answer { IfOk result (λ accepted. accepted ≡ false) }
-    ensures all { OnOk result (Appends (K.written sink.old) (K.written sink.new) fault_text) }
-    ensures prefix { GrowsByPrefix (K.written sink.old) (K.written sink.new) fault_text }
+// Writes that the input is accepted.
+fn accept<K: Sink>(input: &[u8], program: &Typed, sink: &mut K) -> Result<(), Stopped>
+    requires { IsProgram input.now program.now }
+    ensures all { OnOk result (WritesOutput (K.written sink.old) (K.written sink.new) Mode.Check input.now) }
+    ensures part { WritesPrefix (K.written sink.old) (K.written sink.new) Mode.Check input.now }
     ensures fault { IsErrOf result Stopped.Failed → Rose (K.faults sink.old) (K.faults sink.new) }
 {
-    write_all(sink, b"fault S3 at 1:1: unexpected token\n")?;
-    Ok(false)
+    write_all(sink, b"accepted\n")
+}
+
+// Writes the replies to the script behind the mark.
+fn run<K: Sink>(
+    alloc: Global,
+    fuel: u32,
+    input: &[u8],
+    program: Typed,
+    sink: &mut K,
+) -> Result<(), Stopped>
+    requires small { length input.now < 2 ^ 32 }
+    requires program { IsProgram input.now program }
+    ensures all { OnOk result (WritesOutput (K.written sink.old) (K.written sink.new) (Mode.Run fuel) input.now) }
+    ensures part { WritesPrefix (K.written sink.old) (K.written sink.new) (Mode.Run fuel) input.now }
+    ensures fault { IsErrOf result Stopped.Failed → Rose (K.faults sink.old) (K.faults sink.new) }
+{
+    match Session::new(alloc, program, fuel) {
+        Ok(session) => {
+            let mut session = session;
+            reply_all(&mut session, script(input, &split(input)), sink)
+        }
+        Err(NoMemory) => Err(Stopped::Memory),
+    }
+}
+
+fn answer<K: Sink>(
+    alloc: Global,
+    mode: Mode,
+    input: &[u8],
+    program: Typed,
+    sink: &mut K,
+) -> Result<(), Stopped>
+    requires small { length input.now < 2 ^ 32 }
+    requires program { IsProgram input.now program }
+    ensures all { OnOk result (WritesOutput (K.written sink.old) (K.written sink.new) mode input.now) }
+    ensures part { WritesPrefix (K.written sink.old) (K.written sink.new) mode input.now }
+    ensures fault { IsErrOf result Stopped.Failed → Rose (K.faults sink.old) (K.faults sink.new) }
+{
+    match mode {
+        Mode::Check => accept(input, &program, sink),
+        Mode::Run(fuel) => run(alloc, fuel, input, program, sink),
+    }
+}
+
+/// Writes the output for an input, and says whether the input is accepted.
+pub fn write_answer<K: Sink>(
+    alloc: Global,
+    mode: Mode,
+    input: &[u8],
+    sink: &mut K,
+) -> Result<bool, Stopped>
+    requires { length input.now < 2 ^ 32 }
+    ensures accepted { IfOk result (λ accepted. IsTrue accepted ↔ IsAccepted input.now) }
+    ensures all { OnOk result (WritesOutput (K.written sink.old) (K.written sink.new) mode input.now) }
+    ensures part { WritesPrefix (K.written sink.old) (K.written sink.new) mode input.now }
+    ensures fault { IsErrOf result Stopped.Failed → Rose (K.faults sink.old) (K.faults sink.new) }
+{
+    one_answer();
+    match compile(alloc, input) {
+        Ok(program) => {
+            answer(alloc, mode, input, program, sink)?;
+            Ok(true)
+        }
+        Err(FrontError::Memory) => Err(Stopped::Memory),
+        Err(FrontError::Fault(fault)) => {
+            refuse(alloc, mode, input, fault, sink)?;
+            Ok(false)
+        }
+    }
 }

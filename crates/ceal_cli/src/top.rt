@@ -4,12 +4,13 @@ ghost use Rattle.std.specs.Prelude.{◌≡◌, ◌≤◌, ◌⊎◌, ◌+◌, �
 ghost use Rattle.std.specs.Io.KnownBytes.{Keeps, IsAtEnd};
 ghost use Rattle.ceal_io.specs.Streams.{Rose, LosesCount};
 ghost use Rattle.ceal_cli.specs.Answers.{IsWhole, IsSilent, status_text};
-ghost use Rattle.ceal_cli.specs.FirstLanguage.{IsAccepted};
+ghost use Rattle.ceal_compile.specs.Source.{IsAccepted};
 ghost use Rattle.ceal_cli.specs.Growth.{WritesOutput, WritesPrefix};
-ghost use Rattle.ceal_cli.specs.Words.{texts, AreDefined};
+ghost use Rattle.ceal_cli.specs.Modes.{texts, Asks, AreDefined};
+ghost use Rattle.ceal_cli.specs.declared.words.Mode.{Mode as ModeOf};
 
 use crate::answer::write_answer;
-use crate::words::are_defined;
+use crate::words::asked_mode;
 use ceal_io::{ReadError, Sink, Source, Stopped, read_all};
 use std::alloc::Global;
 
@@ -37,7 +38,6 @@ pub const INPUT_LIMIT: usize = 4_194_304;
 
 /// Does all that the program does. `words` are those after the program's name. The source is read whole before
 /// anything is written, and each reply is written as it is made.
-#[tactic(auto, using(crate::proofs::OutputLaws::nothing_written))]
 pub fn ceal_main<S: Source, K: Sink>(
     alloc: Global,
     words: &Vec<String>,
@@ -45,11 +45,11 @@ pub fn ceal_main<S: Source, K: Sink>(
     sink: &mut K,
 ) -> Status
     // Where all went well, the output for the input was written whole, and the source is at its end.
-    ensures headline { IsWhole result → IfSome (S.left source.old) (λ input. WritesOutput (K.written sink.old) (K.written sink.new) input) }
+    ensures headline { IsWhole result → (mode : ModeOf) → Asks (texts words.now) mode → IfSome (S.left source.old) (λ input. WritesOutput (K.written sink.old) (K.written sink.new) mode input) }
     ensures read { IsWhole result → IsAtEnd (S.left source.new) }
     ensures within { IsWhole result → IfSome (S.left source.old) (λ input. length input ≤ INPUT_LIMIT) }
     // In every case a prefix of it was written.
-    ensures prefix { AreDefined (texts words.now) → IfSome (S.left source.old) (λ input. WritesPrefix (K.written sink.old) (K.written sink.new) input) }
+    ensures prefix { (mode : ModeOf) → Asks (texts words.now) mode → IfSome (S.left source.old) (λ input. WritesPrefix (K.written sink.old) (K.written sink.new) mode input) }
     ensures silent { IsSilent result → Keeps (K.written sink.old) (K.written sink.new) }
 
     // When each answer comes.
@@ -68,16 +68,16 @@ pub fn ceal_main<S: Source, K: Sink>(
         → ¬ Rose (S.faults source.old) (S.faults source.new) → ¬ Rose (K.faults sink.old) (K.faults sink.new)
         → (result ≡ Status.Refused) ⊎ (result ≡ Status.Memory)) }
 {
-    if !are_defined(words) {
+    let Some(mode) = asked_mode(words) else {
         return Status::Usage;
-    }
+    };
     let input = match read_all(alloc, source, INPUT_LIMIT) {
         Ok(input) => input,
         Err(ReadError::Memory) => return Status::Memory,
         Err(ReadError::TooLong { .. }) => return Status::TooLong,
         Err(ReadError::ReadFault) => return Status::ReadFault,
     };
-    match write_answer(alloc, &input, sink) {
+    match write_answer(alloc, mode, &input, sink) {
         Ok(true) => Status::Done,
         Ok(false) => Status::Refused,
         Err(Stopped::Memory) => Status::Memory,

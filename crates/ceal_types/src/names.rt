@@ -1,6 +1,8 @@
 // A set of names.
 
-ghost use Rattle.std.specs.Prelude.{◌≡◌, ◌<◌, [], Bool, ℕ, Option, List, length, take, IfSome, OnOk, position};
+ghost use Rattle.std.specs.Prelude.{◌≡◌, [], length, take, OnOk, OnErr, position, slice_get};
+ghost use Rattle.std.specs.List.{list_any};
+ghost use Rattle.std.specs.Option.{option_map};
 ghost use Rattle.std.specs.Str.{bytes_eq};
 ghost use Rattle.ceal_types.specs.Tables.{with_name};
 
@@ -38,6 +40,7 @@ impl Names {
     /// Adds a name, if it is not there.
     pub fn add(&mut self, name: &Text) -> Result<(), NoMemory>
         ensures ok { OnOk result (self.new ≡ with_name self.old name.now) }
+        ensures err { OnErr result (self.new ≡ self.old) }
     {
         if self.names.len() >= 4294967295 {
             return Err(NoMemory);
@@ -52,5 +55,31 @@ impl Names {
     {
         let number = self.names.get_index_of(name)?;
         Some(number as u32)
+    }
+
+    pub fn len(&self) -> usize
+        ensures count { result ≡ length self.now }
+    {
+        self.names.len()
+    }
+
+    /// Leaves the first `len` names.
+    pub fn truncate(&mut self, len: usize)
+        ensures kept { self.new ≡ take len self.old }
+    {
+        self.names.truncate(len);
+    }
+
+    pub fn has(&self, name: &Text) -> bool
+        ensures there { result ≡ list_any (bytes_eq name.now) self.now }
+    {
+        self.names.contains(name)
+    }
+
+    /// The name of this number.
+    pub fn at(&self, number: u32) -> Option<&Text>
+        ensures name { option_map (λ n. n.now) result ≡ slice_get self.now number }
+    {
+        self.names.get_index(number as usize)
     }
 }

@@ -1,10 +1,6 @@
-use Rattle.ceal_cli.proofs.OutputLaws.{accepted_told, output_told, prefix_told}
+use Rattle.ceal_cli.proofs.OutputLaws.{not_accepted}
 use Rattle.ceal_cli.proofs.answer.write_answer.Goals as goal
 
-pub returns : goal.returns
-returns g c = record {
-  accepted = accepted_told _ _ c.answer.ensures.accepted;
-  all = output_told _ _ _ _ c.answer.ensures.all;
-  prefix = prefix_told _ _ _ c.answer.ensures.prefix;
-  fault = c.answer.ensures.fault;
-}
+pub returns-in_ok-refuse-in-Err-Fault-clause-accepted : goal.returns-in_ok-refuse-in-Err-Fault-clause-accepted
+returns-in_ok-refuse-in-Err-Fault-clause-accepted g c =
+    ((λ t. absurd (cc t)), λ a. absurd (not_accepted c.args.input.now c.in-Err-Fault.fault (c.one_answer.ensures.law c.args.input.now) (rw (c.in-Err-Fault.field-0-is) at c.in-Err-Fault.ensures.fault) a))

@@ -1,18 +1,14 @@
-use Rattle.std.proofs.Common.{◌+◌, ◌<◌, ◌≤◌, ◌^◌, length}
-use Rattle.ceal_cli.specs.Growth.{Written}
-use Rattle.ceal_cli.specs.Output.{replies, script_lines}
-use Rattle.ceal_cli.specs.Session.{initial}
-use Rattle.ceal_cli.specs.Source.{lines_of}
+use Rattle.std.proofs.Common.{◌≤◌, length}
+use Rattle.ceal_cli.specs.Lines.{script_lines}
+use Rattle.ceal_cli.proofs.Growing.{SoFar}
 use Rattle.ceal_cli.proofs.replies.reply_all.Given as goal
 
 -- the replies so far, and those to what is left, are those to all
-abbrev pub invariant-loop-session : goal.invariant-loop-session
-invariant-loop-session g l = record {
-  written : Written (g.K.Sink.written l.fn.sink) (g.K.Sink.written l.sink) (replies l.program initial (script_lines (lines_of l.script)))
-      (replies l.program l.session (script_lines (lines_of l.rest)));
+abbrev pub invariant-loop-next : goal.invariant-loop-next
+invariant-loop-next g l = record {
+  so_far : SoFar (g.K.Sink.written l.fn.sink) (g.K.Sink.written l.sink) l.fn.session l.session (script_lines l.script) (script_lines l.rest);
   later : g.K.Sink.faults l.fn.sink ≤ g.K.Sink.faults l.sink;
-  room : length l.session.names + length l.rest < 2 ^ 31;
 }
 
-abbrev pub decreases-loop-session : goal.decreases-loop-session
-decreases-loop-session g l = length l.rest
+abbrev pub decreases-loop-next : goal.decreases-loop-next
+decreases-loop-next g l = length l.rest

@@ -1,0 +1,6 @@
+use Rattle.ceal_cli.proofs.Growing.{begins_reply}
+use Rattle.ceal_cli.proofs.replies.reply.Goals as goal
+
+pub returns-in-Ok-clause-part : goal.returns-in-Ok-clause-part
+returns-in-Ok-clause-part g c =
+    begins_reply _ _ c.args.session.now c.command.new.self c.args.line.now c.in-Ok.text c.in-Ok.ensures.reply (rw (← c.items.ensures.value) c.write_all.ensures.prefix)

@@ -1,0 +1,53 @@
+// The lines of a script.
+
+ghost use Rattle.std.specs.Prelude.{◌≡◌, ◌∷◌, ◌++◌, ◌==◌, position, IfSome, if◌then◌else◌};
+ghost use Rattle.std.specs.Option.{option_copied};
+ghost use Rattle.ceal_cli.specs.Lines.{script_of, pieces_of, pieces_left, without_return as no_return};
+
+use ceal_lex::parts::Split;
+
+/// The script part of an input.
+pub fn script<'a>(input: &'a [u8], part: &Split) -> &'a [u8]
+    ensures { result.now ≡ script_of input.now part.now }
+{
+    let from = part.script.from as usize;
+    if from < input.len() {
+        &input[from..]
+    } else {
+        &[]
+    }
+}
+
+// Where the first line feed is.
+fn line_end(text: &[u8]) -> Option<usize>
+    ensures { result ≡ position (λ b. b == 10) text.now }
+{
+    text.iter().position(|b| *b == b'\n')
+}
+
+/// The text before the first line feed, and the text behind it, where there is a line feed.
+pub fn cut_line(text: &[u8]) -> (&[u8], Option<&[u8]>)
+    ensures lines { pieces_of text.now ≡ result.0.now ∷ pieces_left (option_copied result.1) }
+    ensures whole { IfSome result.1 (λ rest. text.now ≡ result.0.now ++ 10 ∷ rest.now) }
+{
+    match line_end(text) {
+        Some(at) => (&text[..at], Some(&text[at + 1..])),
+        None => (text, None),
+    }
+}
+
+/// The line of a piece between line feeds: where a line feed follows, one CR before it is dropped.
+pub fn line(piece: &[u8], ended: bool) -> &[u8]
+    ensures { result.now ≡ (if ended then no_return piece.now else piece.now) }
+{
+    if ended { without_return(piece) } else { piece }
+}
+
+fn without_return(piece: &[u8]) -> &[u8]
+    ensures { result.now ≡ no_return piece.now }
+{
+    if !piece.is_empty() && piece[piece.len() - 1] == b'\r' {
+        return &piece[..piece.len() - 1];
+    }
+    piece
+}

@@ -1,0 +1,4 @@
+pub mod FitsSteps
+pub mod SenseSteps
+pub mod ReplySteps
+pub mod WholeSteps

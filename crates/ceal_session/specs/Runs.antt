@@ -1,0 +1,48 @@
+-- A session that begins, and the run from scratch at each moment of it.
+use Rattle.std.specs.Prelude.{◌≡◌, ℕ, Bool, true, false, Option, Some, None, List, []}
+use Rattle.ceal_base.specs.Block.{Block, Blocks}
+use Rattle.ceal_base.specs.Finished.{Finished}
+use Rattle.ceal_base.specs.declared.typed.Typed.{Typed}
+use Rattle.ceal_mean.specs.Fresh.{fresh}
+use Rattle.ceal_session.specs.declared.state.Call.{Call}
+use Rattle.ceal_session.specs.declared.state.State.{State}
+
+-- no inputs, and no run
+abbrev pub begun : Typed → ℕ → State
+begun program fuel = record {
+  program = program;
+  fuel = fuel;
+  names = [];
+  inputs = [];
+  call = None;
+  out_of_fuel = false;
+  pending = false;
+}
+
+-- inputs as a memory without core blocks
+abbrev pub inputs_alone : List Block → Blocks
+inputs_alone inputs = record { inputs = inputs; made = [] }
+
+abbrev pub memory_of : State → Blocks
+memory_of s = inputs_alone s.inputs
+
+-- the run from scratch of a call on the inputs of this moment
+abbrev pub run_of : State → Call → Option Finished
+run_of s call = fresh s.program call.function call.args s.inputs s.fuel
+
+abbrev pub run_of_call : State → Option Call → Option Finished
+run_of_call s None = None
+run_of_call s (Some call) = run_of s call
+
+-- the run from scratch of the accepted call
+abbrev pub present_run : State → Option Finished
+present_run s = run_of_call s s.call
+
+-- the state after a run or propagate
+abbrev pub with_run : State → Call → Bool → State
+with_run s call out_of_fuel = record s { call = Some call; out_of_fuel = out_of_fuel; pending = false }
+
+-- A run that is kept beside the state is that of this moment.
+abbrev pub Keeps : State → Option Finished → Type 0
+Keeps s None = Unit {0}
+Keeps s (Some run) = present_run s ≡ Some run

@@ -1,0 +1,161 @@
+-- What each command is answered, and the state after it.
+use Rattle.std.specs.Prelude.{ℕ, Bool, true, false, ◌||◌, ◌&&◌, Option, Some, None, is_some, is_none, Result, Ok, Err, List, [], ◌∷◌, ◌++◌, map, take, slice_get, bytes_eq, if◌then◌else◌}
+use Rattle.std.specs.List.{list_any}
+use Rattle.ceal_base.specs.Block.{Block, written_at}
+use Rattle.ceal_base.specs.Finished.{Finished}
+use Rattle.ceal_base.specs.Fitting.{kind_at, fits_field, words_fit, block_fits}
+use Rattle.ceal_base.specs.declared.kind.FieldKind.{FieldKind}
+use Rattle.ceal_base.specs.declared.kind.Shape.{Shape}
+use Rattle.ceal_base.specs.declared.kind.Shape.TheVariants.{Struct}
+use Rattle.ceal_base.specs.declared.typed.TypedFunction.{TypedFunction}
+use Rattle.ceal_base.specs.declared.word.Place.{Place}
+use Rattle.ceal_base.specs.declared.word.Word.{Word}
+use Rattle.ceal_base.specs.declared.word.Word.TheVariants.{At}
+use Rattle.ceal_script.specs.declared.command.Command.{Command}
+use Rattle.ceal_script.specs.declared.command.Command.TheVariants.{Blank, Mod, New, Set, Run, Propagate, Get, Show, Blocks, Steps, Work}
+use Rattle.ceal_session.specs.Runs.{memory_of, run_of, with_run}
+use Rattle.ceal_session.specs.Senses.{place_sense, value_sense, is_unknown, words_of, mod_shape, struct_shape, struct_named, function_named, input_named}
+use Rattle.ceal_session.specs.declared.refusal.Refusal.{Refusal}
+use Rattle.ceal_session.specs.declared.refusal.Refusal.TheVariants.{C1, C2, C3, C4, C5, C6, C7, C8}
+use Rattle.ceal_session.specs.declared.reply.Query.{Query}
+use Rattle.ceal_session.specs.declared.reply.Query.TheVariants.{Get as GetOf, Show as ShowOf, Blocks as BlocksOf, Steps as StepsOf}
+use Rattle.ceal_session.specs.declared.reply.Reply.{Reply}
+use Rattle.ceal_session.specs.declared.reply.Reply.TheVariants.{Nothing, Ok as Done, OutOfFuel, Refused, Told}
+use Rattle.ceal_session.specs.declared.sense.Sense.{Sense}
+use Rattle.ceal_session.specs.declared.sense.Sense.TheVariants.{Word as IsWord}
+use Rattle.ceal_session.specs.declared.state.Call.{Call}
+use Rattle.ceal_session.specs.declared.state.State.{State}
+
+-- a reply, and the state after it
+pub record Step : Type 0 where
+  pub reply : Reply
+  pub state : State
+
+-- a reply that no change stands behind
+abbrev pub IsQuiet : Reply → Type 0
+IsQuiet Done = ⊥
+IsQuiet OutOfFuel = ⊥
+IsQuiet _ = Unit {0}
+
+-- a line that changes nothing
+abbrev pub stays : State → Reply → Step
+stays s reply = record { reply = reply; state = s }
+
+abbrev pub refuses : State → Refusal → Step
+refuses s r = stays s (Refused r)
+
+-- `mod` and `new`: one more input
+abbrev pub with_input : State → List ℕ → Block → State
+with_input s name block = record s { names = s.names ++ name ∷ []; inputs = s.inputs ++ block ∷ [] }
+
+abbrev pub block_of : Shape → List Word → Block
+block_of shape words = record { shape = shape; words = words }
+
+abbrev pub made_if : State → List ℕ → Block → Bool → Step
+made_if s name block fits = if fits then stays (with_input s name block) Done else refuses s C4
+
+abbrev pub made_with : State → List ℕ → Shape → Option (List Word) → Step
+made_with s name shape None = refuses s C4
+made_with s name shape (Some words) =
+    made_if s name (block_of shape words) (block_fits s.program.structs (memory_of s) (block_of shape words))
+
+abbrev pub made : State → List ℕ → Shape → List Sense → Step
+made s name shape senses =
+    if list_any is_unknown senses then refuses s C2
+    else if list_any (bytes_eq name) s.names then refuses s C3
+    else made_with s name shape (words_of senses)
+
+abbrev pub made_of : State → List ℕ → Option Shape → List Sense → Step
+made_of s name None senses = refuses s C2
+made_of s name (Some shape) senses = made s name shape senses
+
+-- `set`: another base
+abbrev pub with_base : State → Place → Word → State
+with_base s p word = record s { inputs = (written_at (memory_of s) p.block p.field word).inputs; pending = true }
+
+abbrev pub fits_cell : State → Option FieldKind → Word → Bool
+fits_cell s None word = false
+fits_cell s (Some kind) word = fits_field s.program.structs (memory_of s) kind word
+
+abbrev pub set_base : State → Place → Word → Step
+set_base s p word =
+    if fits_cell s (kind_at s.program.structs (memory_of s) p) word then stays (with_base s p word) Done else refuses s C4
+
+abbrev pub set_word : State → Sense → Sense → Step
+set_word s (IsWord (At p)) (IsWord word) = set_base s p word
+set_word s _ _ = refuses s C4
+
+abbrev pub set : State → Sense → Sense → Step
+set s place value = if is_unknown place || is_unknown value then refuses s C2 else set_word s place value
+
+-- `run`: the call, or why there is none
+abbrev pub fits_function : State → TypedFunction → List Word → Bool
+fits_function s f words = is_none f.initialiser && words_fit s.program.structs (memory_of s) (take f.params f.kinds) words
+
+abbrev pub called_with : State → ℕ → TypedFunction → Option (List Word) → Result Call Refusal
+called_with s n f None = Err C5
+called_with s n f (Some words) =
+    if fits_function s f words then if is_some s.call then Err C6 else Ok (record { function = n; args = words }) else Err C5
+
+abbrev pub called_function : State → ℕ → Option TypedFunction → List Sense → Result Call Refusal
+called_function s n None senses = Err C2
+called_function s n (Some f) senses = if list_any is_unknown senses then Err C2 else called_with s n f (words_of senses)
+
+abbrev pub called : State → Option ℕ → List Sense → Result Call Refusal
+called s None senses = Err C2
+called s (Some n) senses = called_function s n (slice_get s.program.functions n) senses
+
+-- `propagate`: the call of the accepted `run`
+abbrev pub called_again : Option Call → Result Call Refusal
+called_again None = Err C7
+called_again (Some call) = Ok call
+
+abbrev pub run_reply : Option Finished → Reply
+run_reply None = OutOfFuel
+run_reply (Some f) = Done
+
+-- the run from scratch on the inputs of this moment
+abbrev pub runs : State → Result Call Refusal → Step
+runs s (Err r) = refuses s r
+runs s (Ok call) = record { reply = run_reply (run_of s call); state = with_run s call (is_none (run_of s call)) }
+
+-- a question: there is a run that was not out of fuel, and no edit came after it
+abbrev pub has_no_run : State → Bool
+has_no_run s = s.out_of_fuel || is_none s.call
+
+abbrev pub asked : State → Query → Reply
+asked s q = if has_no_run s then Refused C7 else if s.pending then Refused C8 else Told q
+
+-- `get`: a modifiable alone has a content
+abbrev pub got : State → Sense → Reply
+got s (IsWord (At p)) = asked s (GetOf p)
+got s sense = if is_unknown sense then Refused C2 else Refused C4
+
+abbrev pub shown : State → Option ℕ → Reply
+shown s None = Refused C2
+shown s (Some n) = asked s (ShowOf n)
+
+-- the call of a line that runs
+abbrev pub call_of : State → Command → Result Call Refusal
+call_of s (Run function args) = called s (function_named s function) (map (value_sense s) args)
+call_of s Propagate = called_again s.call
+call_of s _ = Err C1
+
+-- what a command is answered
+abbrev pub answered : State → Command → Step
+answered s Blank = stays s Nothing
+answered s (Mod name kind value) = made_of s name (mod_shape s kind) (value_sense s value ∷ [])
+answered s (New name shape values) = made_of s name (struct_shape (struct_named s shape)) (map (value_sense s) values)
+answered s (Set place value) = set s (place_sense s place) (value_sense s value)
+answered s (Run function args) = runs s (called s (function_named s function) (map (value_sense s) args))
+answered s Propagate = runs s (called_again s.call)
+answered s (Get place) = stays s (got s (place_sense s place))
+answered s (Show name) = stays s (shown s (input_named s name))
+answered s Blocks = stays s (asked s BlocksOf)
+answered s Steps = stays s (asked s StepsOf)
+answered s Work = refuses s C1
+
+-- what a line is answered that is this command's, or none's
+abbrev pub answered_line : State → Option Command → Step
+answered_line s None = refuses s C1
+answered_line s (Some command) = answered s command

@@ -1,0 +1,21 @@
+//! A session: the replies to the lines of a script, one after another.
+//!
+//! `specs/` says what each command is answered and what it leaves (`Steps`), what the names and values of a line stand
+//! for (`Senses`), and the texts of replies (`Texts`). Every answer about a run is that of the run from scratch on the
+//! inputs of that moment (`Runs`); `Replies` puts lines together.
+#![tactic(auto)]
+
+mod commands;
+mod fits;
+mod numbers;
+pub mod refusal;
+pub mod reply;
+mod run;
+pub mod sense;
+mod senses;
+pub mod session;
+pub mod state;
+mod steps;
+mod texts;
+mod view;
+mod whole;

@@ -1,0 +1,269 @@
+// What a command that asks for no run is answered, and the state after it.
+
+ghost use Rattle.std.specs.Prelude.{◌≡◌, Some, false, slice_get, IfOk, OnOk, OnErr, bytes_eq};
+ghost use Rattle.std.specs.List.{list_any};
+ghost use Rattle.ceal_session.specs.Senses.{function_named};
+ghost use Rattle.ceal_session.specs.Steps.{IsQuiet, made, made_of, made_with, set as set_of, set_word as set_sense, set_base as based, fits_function, called_with, called_function, called as called_of, asked, has_no_run, got, shown as shown_of, with_input, with_base, fits_cell, block_of};
+
+use crate::fits::{field_fits, new_block_fits, place_kind, words_fit};
+use crate::numbers::function_number;
+use crate::refusal::Refusal;
+use crate::reply::{Query, Reply};
+use crate::sense::Sense;
+use crate::senses::{has_unknown, is_unknown, words};
+use crate::state::{Call, State};
+use ceal_base::kind::{FieldKind, Shape};
+use ceal_base::memory::BlockWords;
+use ceal_base::no_memory::NoMemory;
+use ceal_base::text::Text;
+use ceal_base::typed::TypedFunction;
+use ceal_base::word::{BlockId, Place, Word};
+use ceal_base::words::Words;
+use std::alloc::Global;
+
+/// A new block of these words.
+fn new_block(alloc: Global, shape: Shape, words: &[Word]) -> Result<BlockWords, NoMemory>
+    ensures { IfOk result (λ block. block ≡ block_of shape words.now) }
+{
+    let words = Vec::from_slice(alloc, words)?;
+    Ok(BlockWords::new(shape, words))
+}
+
+/// One more input, of a new name.
+fn add_input(state: &mut State, name: &Text, block: BlockWords) -> Result<(), NoMemory>
+    requires { list_any (bytes_eq name.now) state.old.names ≡ false }
+    ensures ok { OnOk result (state.new ≡ with_input state.old name.now block) }
+    ensures err { OnErr result (state.new ≡ state.old) }
+{
+    let count = state.names.len();
+    state.names.add(name)?;
+    match state.inputs.push(block) {
+        Ok(()) => Ok(()),
+        Err(NoMemory) => {
+            state.names.truncate(count);
+            Err(NoMemory)
+        }
+    }
+}
+
+/// An input of these words, where they fit.
+fn make_if(
+    alloc: Global,
+    state: &mut State,
+    name: &Text,
+    shape: Shape,
+    words: &[Word],
+) -> Result<Reply, NoMemory>
+    requires { list_any (bytes_eq name.now) state.old.names ≡ false }
+    ensures ok { IfOk result (λ reply. record { reply = reply; state = state.new } ≡ made_with state.old name.now shape (Some words.now)) }
+    ensures quiet { IfOk result (λ reply. IsQuiet reply → state.new ≡ state.old) }
+    ensures err { OnErr result (state.new ≡ state.old) }
+{
+    if !new_block_fits(state.program.structs.items(), &state.inputs, shape, words) {
+        return Ok(Reply::Refused(Refusal::C4));
+    }
+    let block = new_block(alloc, shape, words)?;
+    add_input(state, name, block)?;
+    Ok(Reply::Ok)
+}
+
+fn make_with(
+    alloc: Global,
+    state: &mut State,
+    name: &Text,
+    shape: Shape,
+    senses: &[Sense],
+) -> Result<Reply, NoMemory>
+    ensures ok { IfOk result (λ reply. record { reply = reply; state = state.new } ≡ made state.old name.now shape senses.now) }
+    ensures quiet { IfOk result (λ reply. IsQuiet reply → state.new ≡ state.old) }
+    ensures err { OnErr result (state.new ≡ state.old) }
+{
+    if has_unknown(senses) {
+        return Ok(Reply::Refused(Refusal::C2));
+    }
+    if state.names.has(name) {
+        return Ok(Reply::Refused(Refusal::C3));
+    }
+    match words(alloc, senses)? {
+        None => Ok(Reply::Refused(Refusal::C4)),
+        Some(words) => make_if(alloc, state, name, shape, words.items()),
+    }
+}
+
+/// `mod` and `new`: one more input, unless it is refused.
+pub fn make(
+    alloc: Global,
+    state: &mut State,
+    name: &Text,
+    shape: Option<Shape>,
+    senses: &[Sense],
+) -> Result<Reply, NoMemory>
+    ensures ok { IfOk result (λ reply. record { reply = reply; state = state.new } ≡ made_of state.old name.now shape senses.now) }
+    ensures quiet { IfOk result (λ reply. IsQuiet reply → state.new ≡ state.old) }
+    ensures err { OnErr result (state.new ≡ state.old) }
+{
+    match shape {
+        None => Ok(Reply::Refused(Refusal::C2)),
+        Some(shape) => make_with(alloc, state, name, shape, senses),
+    }
+}
+
+/// Whether a word fits the modifiable of this type.
+fn fits(state: &State, kind: Option<FieldKind>, word: Word) -> bool
+    ensures { result ≡ fits_cell state.now kind word }
+{
+    match kind {
+        None => false,
+        Some(kind) => field_fits(state.program.structs.items(), &state.inputs, kind, word),
+    }
+}
+
+/// Another base for an input's modifiable.
+fn put(state: &mut State, place: Place, word: Word)
+    ensures { state.new ≡ with_base state.old place word }
+{
+    if let BlockId::Input(input) = place.block {
+        state.inputs.set(input, place.field, word);
+    }
+    state.pending = true;
+}
+
+fn set_base(state: &mut State, place: Place, word: Word) -> Reply
+    ensures step { record { reply = result; state = state.new } ≡ based state.old place word }
+    ensures quiet { IsQuiet result → state.new ≡ state.old }
+{
+    let kind = place_kind(state.program.structs.items(), &state.inputs, place);
+    if !fits(state, kind, word) {
+        return Reply::Refused(Refusal::C4);
+    }
+    put(state, place, word);
+    Reply::Ok
+}
+
+fn set_word(state: &mut State, place: Sense, value: Sense) -> Reply
+    ensures step { record { reply = result; state = state.new } ≡ set_sense state.old place value }
+    ensures quiet { IsQuiet result → state.new ≡ state.old }
+{
+    match (place, value) {
+        (Sense::Word(Word::At(place)), Sense::Word(word)) => set_base(state, place, word),
+        _ => Reply::Refused(Refusal::C4),
+    }
+}
+
+/// `set`: another base, unless it is refused.
+pub fn set(state: &mut State, place: Sense, value: Sense) -> Reply
+    ensures step { record { reply = result; state = state.new } ≡ set_of state.old place value }
+    ensures quiet { IsQuiet result → state.new ≡ state.old }
+{
+    if is_unknown(place) || is_unknown(value) {
+        return Reply::Refused(Refusal::C2);
+    }
+    set_word(state, place, value)
+}
+
+/// Whether this is a core function, and the words fit its parameters.
+fn fits_call(state: &State, function: &TypedFunction, words: &[Word]) -> bool
+    ensures { result ≡ fits_function state.now function.now words.now }
+{
+    if function.initialiser.is_some() {
+        return false;
+    }
+    let kinds = function.kinds.items();
+    let count = (function.params as usize).min(kinds.len());
+    words_fit(
+        state.program.structs.items(),
+        &state.inputs,
+        &kinds[..count],
+        words,
+    )
+}
+
+fn call_with(
+    state: &State,
+    number: u32,
+    function: &TypedFunction,
+    words: Option<Words>,
+) -> Result<Call, Refusal>
+    ensures { result ≡ called_with state.now number function.now words }
+{
+    let Some(args) = words else {
+        return Err(Refusal::C5);
+    };
+    if !fits_call(state, function, args.items()) {
+        return Err(Refusal::C5);
+    }
+    if state.call.is_some() {
+        return Err(Refusal::C6);
+    }
+    Ok(Call {
+        function: number,
+        args,
+    })
+}
+
+fn call_function(
+    alloc: Global,
+    state: &State,
+    number: u32,
+    senses: &[Sense],
+) -> Result<Result<Call, Refusal>, NoMemory>
+    ensures { IfOk result (λ call. call ≡ called_function state.now number (slice_get state.now.program.functions number) senses.now) }
+{
+    let Some(function) = state.program.functions.items().get(number as usize) else {
+        return Ok(Err(Refusal::C2));
+    };
+    if has_unknown(senses) {
+        return Ok(Err(Refusal::C2));
+    }
+    let words = words(alloc, senses)?;
+    Ok(call_with(state, number, function, words))
+}
+
+/// The call of a `run` line, or why it is refused.
+pub fn call(
+    alloc: Global,
+    state: &State,
+    function: &Text,
+    senses: &[Sense],
+) -> Result<Result<Call, Refusal>, NoMemory>
+    ensures { IfOk result (λ call. call ≡ called_of state.now (function_named state.now function.now) senses.now) }
+{
+    match function_number(state.program.functions.items(), function)? {
+        None => Ok(Err(Refusal::C2)),
+        Some(number) => call_function(alloc, state, number, senses),
+    }
+}
+
+/// A question, where there is a run that was not out of fuel and no edit came after it.
+pub fn ask(state: &State, query: Query) -> Reply
+    ensures { result ≡ asked state.now query }
+{
+    if state.out_of_fuel || state.call.is_none() {
+        return Reply::Refused(Refusal::C7);
+    }
+    if state.pending {
+        return Reply::Refused(Refusal::C8);
+    }
+    Reply::Told(query)
+}
+
+/// `get`
+pub fn get(state: &State, place: Sense) -> Reply
+    ensures { result ≡ got state.now place }
+{
+    match place {
+        Sense::Word(Word::At(place)) => ask(state, Query::Get(place)),
+        Sense::Unknown => Reply::Refused(Refusal::C2),
+        _ => Reply::Refused(Refusal::C4),
+    }
+}
+
+/// `show`
+pub fn show(state: &State, input: Option<u32>) -> Reply
+    ensures { result ≡ shown_of state.now input }
+{
+    match input {
+        None => Reply::Refused(Refusal::C2),
+        Some(input) => ask(state, Query::Show(input)),
+    }
+}
