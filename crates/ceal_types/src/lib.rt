@@ -14,7 +14,7 @@ mod expressions;
 mod heads;
 mod kinds;
 mod members;
-mod names;
+pub mod names;
 mod program;
 mod statements;
 mod table;
