@@ -1,7 +1,6 @@
 // The faults of a source text.
 
 ghost use Rattle.std.specs.Prelude.{◌≡◌};
-ghost use Rattle.ceal_base.specs.declared.fault.FrontError.TheVariants.{Memory};
 
 use crate::no_memory::NoMemory;
 
@@ -70,9 +69,11 @@ pub enum FrontError {
 }
 
 impl From<NoMemory> for FrontError {
-    fn from(_error: NoMemory) -> FrontError
-        ensures value { result ≡ Memory }
-    {
+    ghost use Rattle.ceal_base.specs.declared.fault.FrontError.TheVariants.{Memory};
+
+    ghost from_gives = { λ _ e. e ≡ Memory };
+
+    fn from(_error: NoMemory) -> FrontError {
         FrontError::Memory
     }
 }
