@@ -10,17 +10,22 @@ use Rattle.ceal_base.specs.declared.operators.Unary.{Unary as UnaryOp}
 use Rattle.ceal_base.specs.declared.syntax.Expr.{Expr}
 use Rattle.ceal_base.specs.declared.syntax.ExprForm.{ExprForm, Num, Null, Var, Own, Unary', Binary', Field', Address', out-ExprForm}
 use Rattle.ceal_base.specs.declared.syntax.ExprForm.TheBlock.{hidden-the_row-Expr-0, shape-the_row-Expr-0, shown-the_row-Expr-0, more_of-Expr}
+use Rattle.ceal_base.specs.declared.syntax.ExprForm.TheOpen.{ExprForm-F, Field as FieldOpen}
 use Rattle.ceal_base.specs.declared.syntax.ExprForm.TheViews.{Unary, Binary, Field, Address}
 use Rattle.ceal_base.specs.declared.syntax.Ident.{Ident}
 use Rattle.ceal_base.specs.declared.typed.TypedExpr.{TypedExpr}
 use Rattle.ceal_base.specs.declared.typed.TypedForm.{Num as NumForm, Null as NullForm}
 use Rattle.ceal_types.specs.Expressions.{Scope, typed_form, typed_expr, expression, variable_at, own_at, unary_at, binary_at, field_at, address_at, no_address}
-use Rattle.ceal_types.specs.Views.{access_of}
 use Rattle.ceal_types.specs.Walk.{after, both}
 use Rattle.ceal_types.specs.declared.program.Program.{Program}
 
+-- the field access that an expression is, if it is one
+abbrev access_of : ExprForm-F ExprForm Expr → Option (Expr × Ident)
+access_of (FieldOpen a name) = Some (a, name)
+access_of _ = None
+
 -- `&` of a field access, or of what is none
-abbrev pub addressed : Program → Option ℕ → Scope → Span → Expr → Option (Expr × Ident) → Result TypedExpr Fault
+abbrev addressed : Program → Option ℕ → Scope → Span → Expr → Option (Expr × Ident) → Result TypedExpr Fault
 addressed p own scope at e (Some f) = after (address_at p.structs at f.1) (typed_expr p own scope f.0)
 addressed p own scope at e None = after no_address (typed_expr p own scope e)
 

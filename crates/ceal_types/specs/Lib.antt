@@ -4,7 +4,6 @@ pub mod States
 pub mod Kinds
 pub mod Heads
 pub mod Expressions
-pub mod Views
 pub mod Statements
 pub mod Checked
 pub mod Limits

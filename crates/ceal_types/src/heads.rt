@@ -4,8 +4,8 @@ ghost use Rattle.std.specs.Prelude.{◌≡◌, ◌∷◌, [], ℕ, Ok, length, f
 ghost use Rattle.ceal_base.specs.Answers.{Gives};
 ghost use Rattle.ceal_types.specs.States.{Leads};
 ghost use Rattle.ceal_types.specs.Tables.{has};
-ghost use Rattle.ceal_types.specs.Walk.{in_turn, mapped, fault as refused};
-ghost use Rattle.ceal_types.specs.Heads as rules;
+ghost use Rattle.ceal_types.specs.Walk.{in_turn};
+ghost use Rattle.ceal_types.specs.Heads as spec;
 
 use crate::members::fault;
 use crate::names::Names;
@@ -20,7 +20,7 @@ use std::alloc::Global;
 
 /// The number of the struct of this name.
 pub fn struct_number(names: &Names, name: &Ident) -> Result<u32, FrontError>
-    ensures value { Gives result (rules.struct_number names.now name.now) }
+    ensures value { Gives result (spec.struct_number names.now name.now) }
 {
     match names.number(&name.text) {
         Some(number) => Ok(number),
@@ -30,7 +30,7 @@ pub fn struct_number(names: &Names, name: &Ident) -> Result<u32, FrontError>
 
 /// The type of a variable.
 pub fn kind_of(names: &Names, form: &TypeForm) -> Result<Kind, FrontError>
-    ensures value { Gives result (rules.kind_of names.now form.now) }
+    ensures value { Gives result (spec.kind_of names.now form.now) }
 {
     match form {
         TypeForm::Int => Ok(Kind::Int),
@@ -43,7 +43,7 @@ pub fn kind_of(names: &Names, form: &TypeForm) -> Result<Kind, FrontError>
 }
 
 fn field_kind_of(names: &Names, form: &TypeForm) -> Result<FieldKind, FrontError>
-    ensures { Gives result (rules.field_kind_of names.now form.now) }
+    ensures { Gives result (spec.field_kind_of names.now form.now) }
 {
     match form {
         TypeForm::Int => Ok(FieldKind::Plain(Kind::Int)),
@@ -56,7 +56,7 @@ fn field_kind_of(names: &Names, form: &TypeForm) -> Result<FieldKind, FrontError
 }
 
 fn new_field(fields: &mut Table<FieldKind>, name: &Ident, kind: FieldKind) -> Result<(), FrontError>
-    ensures { Leads result fields.new (rules.new_field name.now fields.old kind) }
+    ensures { Leads result fields.new (spec.new_field name.now fields.old kind) }
 {
     if fields.has(&name.text) {
         return Err(fault(FaultCode::N2, name.span));
@@ -71,7 +71,7 @@ fn add_field(
     fields: &mut Table<FieldKind>,
     field: &FieldDecl,
 ) -> Result<(), FrontError>
-    ensures { Leads result fields.new (rules.with_field names.now field.now fields.old) }
+    ensures { Leads result fields.new (spec.with_field names.now field.now fields.old) }
 {
     let kind = field_kind_of(names, &field.form)?;
     new_field(fields, &field.name, kind)
@@ -82,7 +82,7 @@ fn fields_of(
     names: &Names,
     fields: &[FieldDecl],
 ) -> Result<Table<FieldKind>, FrontError>
-    ensures { Gives result (in_turn (rules.with_field names.now) fields.now []) }
+    ensures { Gives result (in_turn (spec.with_field names.now) fields.now []) }
 {
     let mut table = Table::new(alloc);
     for field in fields {
@@ -94,7 +94,7 @@ fn fields_of(
 /// Brings a new variable into scope, and gives its number. There may be fewer than 2^32 variables.
 pub fn add_variable(variables: &mut Variables, name: &Text, kind: Kind) -> Result<u32, NoMemory>
     requires { has variables.old.scope name.now ≡ false }
-    ensures state { OnOk result (variables.new ≡ rules.with_variable variables.old name.now kind) }
+    ensures state { OnOk result (variables.new ≡ spec.with_variable variables.old name.now kind) }
     ensures number { IfOk result (λ n. n ≡ length variables.old.kinds) }
 {
     let count = variables.kinds.items().len();
@@ -108,7 +108,7 @@ pub fn add_variable(variables: &mut Variables, name: &Text, kind: Kind) -> Resul
 }
 
 fn new_parameter(variables: &mut Variables, name: &Ident, kind: Kind) -> Result<(), FrontError>
-    ensures { Leads result variables.new (rules.new_parameter name.now variables.old kind) }
+    ensures { Leads result variables.new (spec.new_parameter name.now variables.old kind) }
 {
     if variables.scope.has(&name.text) {
         return Err(fault(FaultCode::N2, name.span));
@@ -123,7 +123,7 @@ fn add_parameter(
     variables: &mut Variables,
     parameter: &FieldDecl,
 ) -> Result<(), FrontError>
-    ensures { Leads result variables.new (rules.with_parameter names.now parameter.now variables.old) }
+    ensures { Leads result variables.new (spec.with_parameter names.now parameter.now variables.old) }
 {
     let kind = kind_of(names, &parameter.form)?;
     new_parameter(variables, &parameter.name, kind)
@@ -134,7 +134,7 @@ fn parameters_of(
     names: &Names,
     parameters: &[FieldDecl],
 ) -> Result<Variables, FrontError>
-    ensures { Gives result (in_turn (rules.with_parameter names.now) parameters.now rules.no_variables) }
+    ensures { Gives result (in_turn (spec.with_parameter names.now) parameters.now spec.no_variables) }
 {
     let mut variables = Variables {
         scope: Table::new(alloc),
@@ -147,7 +147,7 @@ fn parameters_of(
 }
 
 fn own_of(names: &Names, initialiser: &Option<Ident>) -> Result<Option<u32>, FrontError>
-    ensures { Gives result (rules.own_of names.now initialiser.now) }
+    ensures { Gives result (spec.own_of names.now initialiser.now) }
 {
     match initialiser {
         None => Ok(None),
@@ -158,7 +158,7 @@ fn own_of(names: &Names, initialiser: &Option<Ident>) -> Result<Option<u32>, Fro
 /// A function's head.
 #[tactic(auto, unfolding(crate::specs::Heads::head_of))]
 pub fn head_of(alloc: Global, names: &Names, function: &FunctionDecl) -> Result<Head, FrontError>
-    ensures value { Gives result (rules.head_of names.now function.now) }
+    ensures value { Gives result (spec.head_of names.now function.now) }
 {
     let own = own_of(names, &function.initialiser)?;
     let parameters = parameters_of(alloc, names, function.params.items())?;
@@ -171,7 +171,7 @@ fn add_struct(
     program: &mut Program,
     structure: &StructDecl,
 ) -> Result<(), FrontError>
-    ensures { Leads result program.new (rules.with_entry (Entry.Struct structure.now) program.old) }
+    ensures { Leads result program.new (spec.with_entry (Entry.Struct structure.now) program.old) }
 {
     let name = &structure.name;
     if program.structs.has(&name.text) {
@@ -188,7 +188,7 @@ fn add_function(
     program: &mut Program,
     function: &FunctionDecl,
 ) -> Result<(), FrontError>
-    ensures { Leads result program.new (rules.with_entry (Entry.Function function.now) program.old) }
+    ensures { Leads result program.new (spec.with_entry (Entry.Function function.now) program.old) }
 {
     let name = &function.name;
     if program.functions.has(&name.text) {
@@ -200,7 +200,7 @@ fn add_function(
 }
 
 fn add_entry(alloc: Global, program: &mut Program, entry: &Entry) -> Result<(), FrontError>
-    ensures { Leads result program.new (rules.with_entry entry.now program.old) }
+    ensures { Leads result program.new (spec.with_entry entry.now program.old) }
 {
     match entry {
         Entry::Struct(structure) => add_struct(alloc, program, structure),
@@ -209,7 +209,7 @@ fn add_entry(alloc: Global, program: &mut Program, entry: &Entry) -> Result<(), 
 }
 
 fn add_name(names: &mut Names, entry: &Entry) -> Result<(), NoMemory>
-    ensures { OnOk result (names.new ≡ rules.with_struct_name entry.now names.old) }
+    ensures { OnOk result (names.new ≡ spec.with_struct_name entry.now names.old) }
 {
     match entry {
         Entry::Struct(structure) => names.add(&structure.name.text),
@@ -218,7 +218,7 @@ fn add_name(names: &mut Names, entry: &Entry) -> Result<(), NoMemory>
 }
 
 fn struct_names(alloc: Global, entries: &[Entry]) -> Result<Names, NoMemory>
-    ensures { IfOk result (λ names. names ≡ rules.struct_names entries.now []) }
+    ensures { IfOk result (λ names. names ≡ spec.struct_names entries.now []) }
 {
     let mut names = Names::new(alloc);
     for entry in entries {
@@ -230,7 +230,7 @@ fn struct_names(alloc: Global, entries: &[Entry]) -> Result<Names, NoMemory>
 /// The heads of all entries, or the first fault in them.
 #[tactic(auto, unfolding(crate::specs::Heads::heads))]
 pub fn heads(alloc: Global, entries: &[Entry]) -> Result<Program, FrontError>
-    ensures value { Gives result (rules.heads entries.now) }
+    ensures value { Gives result (spec.heads entries.now) }
 {
     let mut program = Program {
         names: struct_names(alloc, entries)?,

@@ -2,12 +2,12 @@
 
 ghost use Rattle.std.specs.Prelude.{◌≡◌};
 ghost use Rattle.ceal_base.specs.WellTyped.{kind_held};
-ghost use Rattle.ceal_types.specs.Kinds as rules;
+ghost use Rattle.ceal_types.specs.Kinds as spec;
 
 use ceal_base::kind::Kind;
 
 pub fn same_kind(a: Kind, b: Kind) -> bool
-    ensures value { result ≡ rules.same_kind a b }
+    ensures value { result ≡ spec.same_kind a b }
 {
     match (a, b) {
         (Kind::Int, Kind::Int) => true,
@@ -19,7 +19,7 @@ pub fn same_kind(a: Kind, b: Kind) -> bool
 }
 
 fn is_pointer(kind: Kind) -> bool
-    ensures { result ≡ rules.is_pointer kind }
+    ensures { result ≡ spec.is_pointer kind }
 {
     match kind {
         Kind::Int => false,
@@ -31,7 +31,7 @@ fn is_pointer(kind: Kind) -> bool
 
 /// Whether a value of this type, `null` where it has none, may stand where that type is asked.
 pub fn suits(asked: Kind, given: Option<Kind>) -> bool
-    ensures value { result ≡ rules.suits asked given }
+    ensures value { result ≡ spec.suits asked given }
 {
     match given {
         None => is_pointer(asked),
@@ -41,7 +41,7 @@ pub fn suits(asked: Kind, given: Option<Kind>) -> bool
 
 /// Whether values of these types may be compared.
 pub fn comparable(left: Option<Kind>, right: Option<Kind>) -> bool
-    ensures value { result ≡ rules.comparable left right }
+    ensures value { result ≡ spec.comparable left right }
 {
     match (left, right) {
         (None, None) => true,

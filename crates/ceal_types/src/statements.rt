@@ -6,7 +6,7 @@ ghost use Rattle.std.specs.Str.{bytes_eq};
 ghost use Rattle.ceal_base.specs.Answers.{Gives};
 ghost use Rattle.ceal_types.specs.Statements.{block, nested, typed_stmts, typed_stmt};
 ghost use Rattle.ceal_types.specs.Statements.{step as step_of};
-ghost use Rattle.ceal_types.specs.Statements as rules;
+ghost use Rattle.ceal_types.specs.Statements as spec;
 ghost use Rattle.ceal_types.specs.States.{Makes};
 ghost use Rattle.ceal_types.specs.Tables.{find};
 
@@ -35,7 +35,7 @@ fn type_declared(
     value: &Value,
     kind: Kind,
 ) -> Result<TypedStmt, FrontError>
-    ensures { Makes step_of result variables.new (rules.declare program.now own at name.now value.now variables.old kind) }
+    ensures { Makes step_of result variables.new (spec.declare program.now own at name.now value.now variables.old kind) }
 {
     if variables.scope.has(&name.text) {
         return Err(fault(FaultCode::N2, name.span));
@@ -53,7 +53,7 @@ fn type_assigned(
     name: &Ident,
     value: &Value,
 ) -> Result<TypedStmt, FrontError>
-    ensures { Gives result (rules.assigned program.now own name.now value.now scope.now (lookup (bytes_eq name.now.text) scope.now)) }
+    ensures { Gives result (spec.assigned program.now own name.now value.now scope.now (lookup (bytes_eq name.now.text) scope.now)) }
 {
     match scope.get(&name.text) {
         Some(variable) => {
@@ -66,7 +66,7 @@ fn type_assigned(
 
 /// The type of a field that may be assigned, a plain one.
 fn plain_kind(name: &Ident, kind: FieldKind) -> Result<Kind, FrontError>
-    ensures { Gives result (rules.plain_kind name.now kind) }
+    ensures { Gives result (spec.plain_kind name.now kind) }
 {
     match kind {
         FieldKind::Plain(kind) => Ok(kind),
@@ -85,7 +85,7 @@ fn type_set(
     name: &Ident,
     e: &Expr,
 ) -> Result<TypedStmt, FrontError>
-    ensures { Gives result (rules.set_field program.now own scope.now at left.now name.now e.now) }
+    ensures { Gives result (spec.set_field program.now own scope.now at left.now name.now e.now) }
 {
     let left = type_expr(alloc, program, own, scope, left)?;
     let member = find_member(&program.structs, name, &left)?;
@@ -99,7 +99,7 @@ fn type_set(
 }
 
 fn type_written(at: Span, place: TypedExpr, e: TypedExpr) -> Result<TypedStmt, FrontError>
-    ensures { Gives result (rules.written at place e) }
+    ensures { Gives result (spec.written at place e) }
 {
     match held(place.kind) {
         Some(kind) => {
@@ -122,7 +122,7 @@ fn type_write(
     place: &Expr,
     e: &Expr,
 ) -> Result<TypedStmt, FrontError>
-    ensures { Gives result (rules.write program.now own scope.now at place.now e.now) }
+    ensures { Gives result (spec.write program.now own scope.now at place.now e.now) }
 {
     let place = type_expr(alloc, program, own, scope, place)?;
     let e = type_expr(alloc, program, own, scope, e)?;
@@ -137,7 +137,7 @@ fn type_called(
     name: &Ident,
     args: &[Expr],
 ) -> Result<TypedStmt, FrontError>
-    ensures { Gives result (rules.called program.now own scope.now name.now args.now (find program.now.functions name.now.text)) }
+    ensures { Gives result (spec.called program.now own scope.now name.now args.now (find program.now.functions name.now.text)) }
 {
     match program.functions.find(&name.text) {
         Some((function, head)) => {

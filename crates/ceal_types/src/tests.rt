@@ -80,7 +80,7 @@ fn tree(alloc: Global, body: Vec<Stmt>) -> Result<Tree, NoMemory> {
 
 /// `int x = read(a);`
 fn read(alloc: Global, n: u32) -> Result<Stmt, NoMemory> {
-    let value = Value::Read(at(n + 1), variable(alloc, "a", n + 2)?);
+    let value = Value::Read(at(n), variable(alloc, "a", n)?);
     Ok(Stmt::Declare(at(n), TypeForm::Int, ident(alloc, "x", n)?, value))
 }
 

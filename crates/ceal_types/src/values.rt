@@ -3,7 +3,7 @@
 ghost use Rattle.std.specs.Prelude.{◌≡◌, [], Ok, length};
 ghost use Rattle.ceal_base.specs.Answers.{Gives};
 ghost use Rattle.ceal_types.specs.Expressions.{typed_exprs, condition};
-ghost use Rattle.ceal_types.specs.Statements as rules;
+ghost use Rattle.ceal_types.specs.Statements as spec;
 
 use crate::expressions::type_expr;
 use crate::heads::struct_number;
@@ -55,7 +55,7 @@ pub fn type_condition(
 }
 
 fn check_arguments(kinds: &[Kind], es: &[TypedExpr]) -> Result<(), FrontError>
-    ensures { Gives result (rules.arguments_suit kinds.now es.now) }
+    ensures { Gives result (spec.arguments_suit kinds.now es.now) }
 {
     let mut rest = kinds;
     for e in es {
@@ -72,7 +72,7 @@ fn check_arguments(kinds: &[Kind], es: &[TypedExpr]) -> Result<(), FrontError>
 
 /// The arguments of a call.
 pub fn check_call(name: &Ident, head: &Head, es: &[TypedExpr]) -> Result<(), FrontError>
-    ensures value { Gives result (rules.call_suits name.now head.now es.now) }
+    ensures value { Gives result (spec.call_suits name.now head.now es.now) }
 {
     if head.own.is_some() {
         return Ok(());
@@ -92,7 +92,7 @@ fn check_alloc(
     head: &Head,
     es: &[TypedExpr],
 ) -> Result<(), FrontError>
-    ensures { Gives result (rules.alloc_suits structure.now name.now shape head.now es.now) }
+    ensures { Gives result (spec.alloc_suits structure.now name.now shape head.now es.now) }
 {
     let Some(own) = head.own else {
         return Ok(());
@@ -113,7 +113,7 @@ fn asked_for(
     at: Span,
     value: TypedValue,
 ) -> Result<TypedValue, FrontError>
-    ensures { Gives result (rules.asked_for asked given at value) }
+    ensures { Gives result (spec.asked_for asked given at value) }
 {
     if same_kind(asked, given) {
         Ok(value)
@@ -123,7 +123,7 @@ fn asked_for(
 }
 
 fn plain_value(asked: Kind, e: TypedExpr) -> Result<TypedValue, FrontError>
-    ensures { Gives result (rules.plain_value asked e) }
+    ensures { Gives result (spec.plain_value asked e) }
 {
     if suits(asked, e.kind) {
         Ok(TypedValue::Plain(e))
@@ -133,7 +133,7 @@ fn plain_value(asked: Kind, e: TypedExpr) -> Result<TypedValue, FrontError>
 }
 
 fn read_value(asked: Kind, at: Span, e: TypedExpr) -> Result<TypedValue, FrontError>
-    ensures { Gives result (rules.read_value asked at e) }
+    ensures { Gives result (spec.read_value asked at e) }
 {
     match held(e.kind) {
         Some(kind) => asked_for(asked, kind, at, TypedValue::Read(at, e)),
@@ -151,7 +151,7 @@ pub fn type_value(
     asked: Kind,
     value: &Value,
 ) -> Result<TypedValue, FrontError>
-    ensures value { Gives result (rules.typed_value program.now own scope.now asked value.now) }
+    ensures value { Gives result (spec.typed_value program.now own scope.now asked value.now) }
 {
     match value {
         Value::Plain(e) => {
