@@ -125,7 +125,7 @@ mark_line = codes "%%\n"
 abbrev pub INPUT_LIMIT : ℕ
 INPUT_LIMIT = 4194304
 
--- The tree is that of a source of at most so many bytes.
+-- The tree is that of a source no larger than an input may be.
 pub record IsParsed (tree : Tree) : Type 0 where
   pub source : List ℕ
   pub marked : Bool
