@@ -441,6 +441,21 @@ chained_in i c = record {
   nesting = suc i.nesting;
 }
 
+abbrev pub at_ends : Inside → Stmt → TokenKind → Option State
+at_ends i st k = wants (is_sign Signs.Semicolon k) (In (with_statement i st) Modes.Body)
+
+abbrev pub at_opens : Inside → Owner → TokenKind → Option State
+at_opens i o k = wants (is_sign Signs.LeftBrace k) (opened_by i o)
+
+abbrev pub at_closed : Inside → Span → Expr → List Stmt → Span → TokenKind → Option State
+at_closed i at e first s k =
+    if is_word Words.Else k then Some (In i (Modes.Otherwise at e first)) else at_body (with_statement i (If at e first [])) s k
+
+abbrev pub at_otherwise : Inside → Span → Expr → List Stmt → Span → TokenKind → Option State
+at_otherwise i at e first s k =
+    if is_sign Signs.LeftBrace k then Some (opened_by i (OfElse at e first))
+    else wants (is_word Words.If k) (In (chained_in i (record { span = at; test = e; first = first })) (Modes.Before (To.If s)))
+
 abbrev pub moved : Inside → Mode → Span → TokenKind → Option State
 moved i Modes.Body s k = at_body i s k
 moved i (Modes.Typing at part) s k = placed i (at_typing at part s k)
@@ -455,14 +470,11 @@ moved i (Modes.Calls f) s k = placed i (at_calls f k)
 moved i (Modes.First f) s k = placed i (at_first i.nesting f s k)
 moved i (Modes.Before r) s k = placed i (at_before i.nesting r k)
 moved i (Modes.Within w p) s k = at_place i w p s k
-moved i (Modes.Ends st) s k = wants (is_sign Signs.Semicolon k) (In (with_statement i st) Modes.Body)
+moved i (Modes.Ends st) s k = at_ends i st k
 moved i (Modes.Ended st) s k = at_body (with_statement i st) s k
-moved i (Modes.Opens o) s k = wants (is_sign Signs.LeftBrace k) (opened_by i o)
-moved i (Modes.Closed at e first) s k =
-    if is_word Words.Else k then Some (In i (Modes.Otherwise at e first)) else at_body (with_statement i (If at e first [])) s k
-moved i (Modes.Otherwise at e first) s k =
-    if is_sign Signs.LeftBrace k then Some (opened_by i (OfElse at e first))
-    else wants (is_word Words.If k) (In (chained_in i (record { span = at; test = e; first = first })) (Modes.Before (To.If s)))
+moved i (Modes.Opens o) s k = at_opens i o k
+moved i (Modes.Closed at e first) s k = at_closed i at e first s k
+moved i (Modes.Otherwise at e first) s k = at_otherwise i at e first s k
 
 -- Structs.
 abbrev pub with_member : StructDecl → FieldDecl → StructDecl

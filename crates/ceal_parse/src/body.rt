@@ -2,7 +2,7 @@
 // program goes on so.
 
 ghost use Rattle.std.specs.Prelude.{◌≡◌, ◌<◌, ◌≤◌, ◌^◌, [], IfOk};
-ghost use Rattle.ceal_parse.specs.Machine.{same_sign as same_signs, wants, placed, operator_of, at_argument, received, closes, at_sign_after, at_after, at_place, with_statement, owned, block_closed, chained_in, at_body, moved, mode_nesting, operators_in};
+ghost use Rattle.ceal_parse.specs.Machine.{same_sign as same_signs, wants, placed, operator_of, at_argument, received, closes, at_sign_after, at_after, at_place, with_statement, owned, block_closed, chained_in, at_body, at_ends, at_opens, at_closed, at_otherwise, moved, mode_nesting, operators_in};
 
 use crate::expression::{arrow, begin, operated, reduce, take_operand, take_pick, take_prim};
 use crate::making::{call, give, take_making, take_value};
@@ -324,7 +324,7 @@ fn take_ends(
     statement: Stmt,
     token: &Token,
 ) -> Result<Option<State>, NoMemory>
-    ensures value { IfOk result (λ next. next ≡ moved inside (Mode.Ends statement) token.now.span token.now.kind) }
+    ensures value { IfOk result (λ next. next ≡ at_ends inside statement token.now.kind) }
 {
     if is_sign(token, Sign::Semicolon) {
         let mut inside = inside;
@@ -357,7 +357,7 @@ fn take_opens(
     token: &Token,
 ) -> Result<Option<State>, NoMemory>
     requires shallow { inside.nesting < 2 ^ 31 }
-    ensures value { IfOk result (λ next. next ≡ moved inside (Mode.Opens owner) token.now.span token.now.kind) }
+    ensures value { IfOk result (λ next. next ≡ at_opens inside owner token.now.kind) }
 {
     if is_sign(token, Sign::LeftBrace) {
         let mut inside = inside;
@@ -376,7 +376,7 @@ fn take_closed(
     first: Stmts,
     token: &Token,
 ) -> Result<Option<State>, NoMemory>
-    ensures value { IfOk result (λ next. next ≡ moved inside (Mode.Closed at test first) token.now.span token.now.kind) }
+    ensures value { IfOk result (λ next. next ≡ at_closed inside at test first token.now.span token.now.kind) }
 {
     if is_word(token, Reserved::Else) {
         Ok(Some(State::In(inside, Mode::Otherwise(at, test, first))))
@@ -407,7 +407,7 @@ fn take_otherwise(
     token: &Token,
 ) -> Result<Option<State>, NoMemory>
     requires shallow { inside.nesting < 2 ^ 31 }
-    ensures value { IfOk result (λ next. next ≡ moved inside (Mode.Otherwise at test first) token.now.span token.now.kind) }
+    ensures value { IfOk result (λ next. next ≡ at_otherwise inside at test first token.now.span token.now.kind) }
 {
     if is_word(token, Reserved::If) {
         let chained = Chained {
