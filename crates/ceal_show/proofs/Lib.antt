@@ -7,4 +7,5 @@ mod LineSteps
 mod OneText
 mod SampleLaws
 mod WholeMemory
+mod Renamed
 mod Samples
