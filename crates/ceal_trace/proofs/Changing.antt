@@ -107,7 +107,7 @@ module _ (order : Listing) (t t' : Table) (s steps steps' : ℕ) (change : Entry
 
   pub changed_as : (sum : steps' ≡ steps_sum (changed_at s change (timeline order t).nodes))
       → ((node_at s (changed_at s change (timeline order t).nodes) ≡ node_at s (timeline order t).nodes)
-        ⊎ ((is_read (node_at s (changed_at s change (timeline order t).nodes)) ≡ true) × (is_read (node_at s (timeline order t).nodes) ≡ true)))
+      ⊎ ((is_read (node_at s (changed_at s change (timeline order t).nodes)) ≡ true) × (is_read (node_at s (timeline order t).nodes) ≡ true)))
       → Changed order t t' s steps' change
   changed_as sum node = record {
     sound = record {
@@ -251,10 +251,10 @@ module _ (order : Listing) (t t' : Table) (s n steps was_on now_on : ℕ)
       (λ u found other. entry_eq t t' u (kept_still u) (set.others u other))
       set.long set.ends
       (let sum = sum-changed s (steps_set n) (λ e. refl) earlier (is_there order t s here) in
-       let was = sound.sum in
-       let own = steps_are order t s here in
-       let within = steps_within order t s steps sound here in
-       omega (arith, steps_are_now))
+      let was = sound.sum in
+      let own = steps_are order t s here in
+      let within = steps_within order t s steps sound here in
+      omega (arith, steps_are_now))
       (inl (ap held_by entry_now ∙ steps_held n (entry_at s earlier)))
 
   pub steps_node : node_at s (timeline order t').nodes ≡ node_at s (timeline order t).nodes
@@ -318,14 +318,16 @@ widened order order' t t' steps sound stamps whole wider rows room =
       end_node = sound.is_trace.end_node;
       of_read = sound.is_trace.of_read;
       behind = sound.is_trace.behind;
-    } in
-    (record {
-      is_order = whole;
-      is_trace = subst (λ (l : List Entry). IsTrace (record { nodes = l; spare = order'.spare })) (sym nodes) trace;
-      has_nodes = has;
-      knows_ends = subst (λ (l : List Entry). KnowsEnds t' l) (sym nodes) knows;
-      sum = sound.sum ∙ ap steps_sum (sym nodes);
-    }, nodes)
+    } in (
+      record {
+        is_order = whole;
+        is_trace = subst (λ (l : List Entry). IsTrace (record { nodes = l; spare = order'.spare })) (sym nodes) trace;
+        has_nodes = has;
+        knows_ends = subst (λ (l : List Entry). KnowsEnds t' l) (sym nodes) knows;
+        sum = sound.sum ∙ ap steps_sum (sym nodes);
+      },
+      nodes,
+    )
 
 -- how much room a call leaves that answers either way
 pub spare_most : {T E : Type 0} (order order' : Listing) (n : ℕ) (result : Result T E) → OnOk result (order'.spare ≡ max order.spare n) → OnErr result (order' ≡ order)

@@ -10,3 +10,4 @@ pub mod Changing
 pub mod Ends
 pub mod ItemSteps
 pub mod Nesting
+pub mod Parts

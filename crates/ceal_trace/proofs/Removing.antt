@@ -109,11 +109,13 @@ module _ (order order' : Listing) (t t' : Table) (s steps : ℕ) (node : Node)
     end_noted = λ x read found.
         let was = sound.knows_ends.end_noted x read (end_left es order.spare order'.spare s node sound.is_trace held one_es order_es x read found) in
         let low = was.0 in
-        let long = taken.long in
-        (omega arith, elim (cases_Bool (ends read node)) [
-          | inl p ↦ absurd (let no : Some x ≡ None = sym found ∙ ends_gone read p in cc)
-          | inr p ↦ taken.ends read p ∙ was.1
-        ]);
+        let long = taken.long in (
+          omega arith,
+          elim (cases_Bool (ends read node)) [
+            | inl p ↦ absurd (let no : Some x ≡ None = sym found ∙ ends_gone read p in cc)
+            | inr p ↦ taken.ends read p ∙ was.1
+          ],
+        );
   }
 
   pub shrank : Shrank order order' t t' s steps node
@@ -133,7 +135,7 @@ module _ (order order' : Listing) (t t' : Table) (s steps : ℕ) (node : Node)
     };
     nodes = nodes_are;
     node = held;
-    others = subst (λ (l : List Entry). OneMoreNode s l es) (sym nodes_are) (one_less_node es order.spare order'.spare s node sound.is_trace held one_es order_es);
+    others = subst (λ (l : List Entry). OneMoreNode s l es) (sym nodes_are) (one_less_node es order.spare order'.spare s node sound.is_trace held one_es order_es not_root);
     opened = λ read does. ap (λ (l : List Entry). end_in read l) nodes_are ∙ ends_gone read does;
     other_ends = λ read other. ap (λ (l : List Entry). end_in read l) nodes_are ∙ ends_same read other;
     loose = λ closed. subst (λ (l : List Entry). LooseEndOf s l) (sym nodes_are) (less_loose es order.spare order'.spare s node sound.is_trace held one_es order_es closed);

@@ -1,14 +1,14 @@
 -- What is true of every trace stays true.
-use Rattle.std.proofs.Common.{◌≡◌, ◌≢◌, ℕ, inl, inr, ◌⊎◌, ◌+◌, ◌<◌, ◌≤◌, true, false, List, refl, sym, ap, subst, ◌∙◌, arith, Option, Some, None}
+use Rattle.std.proofs.Common.{◌≡◌, ◌≢◌, ℕ, inl, inr, ◌⊎◌, ◌+◌, ◌<◌, ◌≤◌, true, false, List, refl, sym, ap, subst, ◌∙◌, arith, Option, Some, None, length}
 use Rattle.std.specs.Prelude.{IsSome}
 use Rattle.std.proofs.lemmas.Bool.Decides.{eqb_tells}
 use Rattle.std.proofs.lemmas.Bool.{cases_Bool}
 use Rattle.ceal_order.specs.declared.stamp.Stamp.{Stamp}
-use Rattle.ceal_order.specs.Stamps.{IsOrder, OneMore, is_in, head_of, place}
+use Rattle.ceal_order.specs.Stamps.{IsOrder, OneMore, is_in, head_of, place, without}
 use Rattle.ceal_trace.specs.declared.node.Node.{Node}
 use Rattle.ceal_trace.specs.declared.node.Node.TheVariants.{Root, End}
 use Rattle.ceal_trace.specs.Nodes.{Entry, stamps_in, has_node, position, entry_at, held_by, node_at, is_plain, is_read, ends, end_in, with_entry_after, without_entry, new_entry, IsTrace, NoLooseEnd, LooseEndOf, OneMoreNode, Inserted, SameBut}
-use Rattle.ceal_trace.proofs.Stamped.{apart, head_in, head-after, head-without, up_to}
+use Rattle.ceal_trace.proofs.Stamped.{apart, head_in, head-after, head-without, length-after, length-without, up_to}
 use Rattle.ceal_trace.proofs.Entries.{has-held, has-read, ends_is, ends_own, ends_other, plain_ends, some_of, is_some_of, none_of, end-found, stamps-after, entry-new, entry-old, sum-after, ends-after, end-new, stamps-without, entry-left, sum-without, ends-left}
 
 -- ---- a node more
@@ -28,10 +28,18 @@ module _ (es : List Entry) (spare more s f : ℕ) (node : Node)
   pub entry_kept : (u : ℕ) → has_node u es ≡ true → entry_at u (with_entry_after s (new_entry f node) es) ≡ entry_at u es
   entry_kept u found = entry-old s (new_entry f node) u es (other_than_new u found)
 
+  first_same : head_of (stamps_in all) ≡ head_of (stamps_in es)
+  first_same = ap head_of (stamps-after s (new_entry f node) es) ∙ head-after s f (stamps_in es)
+
+  one_longer : length (stamps_in all) ≡ length (stamps_in es) + 1
+  one_longer = let longer = length-after s f (stamps_in es) here in ap (λ (l : List ℕ). length l) (stamps-after s (new_entry f node) es) ∙ omega arith
+
   pub one_more_node : OneMoreNode f es (with_entry_after s (new_entry f node) es)
   one_more_node = record {
     stamps = one;
     entries = entry_kept;
+    first = first_same;
+    long = one_longer;
     sum = rw (entry-new s (new_entry f node) es here one.absent) (sum-after s (new_entry f node) es here);
   }
 
@@ -59,9 +67,6 @@ module _ (es : List Entry) (spare more s f : ℕ) (node : Node)
 
   node_new : (n : Node) → node_at f all ≡ Some n → node ≡ n
   node_new n held = let is : Some node ≡ Some n = ap held_by (sym (entry-new s (new_entry f node) es here one.absent)) ∙ held in cc
-
-  first_same : head_of (stamps_in all) ≡ head_of (stamps_in es)
-  first_same = ap head_of (stamps-after s (new_entry f node) es) ∙ head-after s f (stamps_in es)
 
   root_first : (u : ℕ) → head_of (stamps_in all) ≡ Some u → node_at u all ≡ Some Root
   root_first u h = node_kept u Root (old.first_root u (sym first_same ∙ h))
@@ -99,7 +104,7 @@ module _ (es : List Entry) (spare more s f : ℕ) (node : Node)
       only_root = root_alone (λ e. let no : false ≡ true = ap is_plain (sym e) ∙ plain in cc);
       one_end = λ u read held. elim (eqb_tells u f) [
         | inl p ↦ absurd (let is : node ≡ End read = node_new (End read) (subst (λ (k : ℕ). node_at k all ≡ Some (End read)) p.1 held) in
-              let no : false ≡ true = ap is_plain (sym is) ∙ plain in cc)
+            let no : false ≡ true = ap is_plain (sym is) ∙ plain in cc)
         | inr p ↦ ends_same read.0 ∙ old.one_end u read (node_was u (End read) p.1 held)
       ];
       end_node = λ u read found. end-found read u all order.distinct found;
@@ -185,13 +190,6 @@ module _ (es : List Entry) (spare more s : ℕ) (node : Node)
   node_left : (u : ℕ) (n : Node) → node_at u rest ≡ Some n → node_at u es ≡ Some n
   node_left u n is = ap held_by (sym (entry_left u (has-held u n rest is))) ∙ is
 
-  pub one_less_node : OneMoreNode s (without_entry s es) es
-  one_less_node = record {
-    stamps = one;
-    entries = λ u found. sym (entry_left u found);
-    sum = sum-without s es one.there;
-  }
-
   pub ends_but : (read : ℕ) → ends read node ≡ false → end_in read (without_entry s es) ≡ end_in read es
   ends_but read other = ends-left s read node es held other
 
@@ -222,6 +220,21 @@ module _ (es : List Entry) (spare more s : ℕ) (node : Node)
   module _ (not_root : head_of (stamps_in es) ≢ Some s) where
     first_left : head_of (stamps_in rest) ≡ head_of (stamps_in es)
     first_left = ap head_of (stamps-without s es) ∙ head-without s (stamps_in es) not_root
+
+    one_shorter : length (stamps_in es) ≡ length (stamps_in rest) + 1
+    one_shorter =
+        let shorter = length-without s (stamps_in es) one.there in
+        let same : length (stamps_in rest) ≡ length (without s (stamps_in es)) = ap (λ (l : List ℕ). length l) (stamps-without s es) in
+        omega arith
+
+    pub one_less_node : OneMoreNode s (without_entry s es) es
+    one_less_node = record {
+      stamps = one;
+      entries = λ u found. sym (entry_left u found);
+      first = sym first_left;
+      long = one_shorter;
+      sum = sum-without s es one.there;
+    }
 
     pub less_trace : IsTrace (record { nodes = without_entry s es; spare = more })
     less_trace = record {

@@ -1,5 +1,5 @@
 -- The nodes of a trace in the order of time, and what its calls do to them.
-use Rattle.std.specs.Prelude.{◌≡◌, ◌≢◌, ◌<◌, ℕ, ◌+◌, List, [], ◌∷◌, Option, None, Some, IsSome, Bool, true, false, ◌==◌, if◌then◌else◌}
+use Rattle.std.specs.Prelude.{◌≡◌, ◌≢◌, ◌<◌, ℕ, ◌+◌, List, [], ◌∷◌, Option, None, Some, IsSome, Bool, true, false, ◌==◌, if◌then◌else◌, length}
 use Rattle.ceal_base.specs.declared.word.Word.{Word}
 use Rattle.ceal_order.specs.Stamps.{Listing, IsOrder, OneMore, is_in, head_of, place}
 use Rattle.ceal_order.specs.declared.stamp.Stamp.{Stamp}
@@ -139,10 +139,12 @@ pub record NoLooseEnd (nodes : List Entry) : Type 0 where
 pub record LooseEndOf (one : ℕ) (nodes : List Entry) : Type 0 where
   pub read_there : (read : ℕ) → IsSome (end_in read nodes) → read ≢ one → has_node read nodes ≡ true
 
--- the second list has the nodes of the first, in their order and as they are, and one more
+-- the second list has the nodes of the first, in their order and as they are, and one more, which is not the first
 pub record OneMoreNode (more : ℕ) (fewer all : List Entry) : Type 0 where
   pub stamps : OneMore more (stamps_in fewer) (stamps_in all)
   pub entries : (s : ℕ) → has_node s fewer ≡ true → entry_at s all ≡ entry_at s fewer
+  pub first : head_of (stamps_in all) ≡ head_of (stamps_in fewer)
+  pub long : length (stamps_in all) ≡ length (stamps_in fewer) + 1
   pub sum : steps_sum all ≡ steps_sum fewer + steps_at more all
 
 -- a node without steps was put directly after another; all others are as they were

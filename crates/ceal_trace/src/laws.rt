@@ -1,11 +1,43 @@
-// What the list of a trace's nodes has to do with its forest.
+// The laws of a trace's list of nodes.
 
-ghost use Rattle.std.specs.Prelude.{◌≡◌, List};
+ghost use Rattle.std.specs.Prelude.{◌≡◌, ◌+◌, ◌++◌, ◌∷◌, ℕ, List, length, true, false, Some};
 ghost use Rattle.ceal_base.specs.Trace.{Trace, flat, steps_of};
-ghost use Rattle.ceal_trace.specs.Nodes.{Entry, steps_sum};
+ghost use Rattle.ceal_order.specs.Stamps.{Distinct};
+ghost use Rattle.ceal_trace.specs.Nodes.{Entry, stamps_in, has_node, position, entry_at, steps_sum, with_entry_after, without_entry, changed_at};
 ghost use Rattle.ceal_trace.specs.Items.{forest_of, Nests};
 
 /// A law: nodes that nest are the flat form of a forest, whose steps are theirs.
 pub fn nodes_are_a_forest()
     ensures law { (nodes : List Entry) → Nests nodes → (t : Trace) × (flat t ≡ forest_of nodes) × (steps_of t ≡ steps_sum nodes) }
+{}
+
+/// Laws: the stamps, the items and the steps of nodes are those of their parts.
+pub fn parts_follow()
+    ensures stamps { (front back : List Entry) → stamps_in (front ++ back) ≡ stamps_in front ++ stamps_in back }
+    ensures items { (front back : List Entry) → forest_of (front ++ back) ≡ forest_of front ++ forest_of back }
+    ensures steps { (front back : List Entry) → steps_sum (front ++ back) ≡ steps_sum front + steps_sum back }
+{}
+
+/// Laws: a stamp that a node has parts the nodes at that node, and it is the stamp of no other one.
+pub fn a_stamp_parts()
+    ensures at { (s : ℕ) (nodes : List Entry) → has_node s nodes ≡ true
+        → (front : List Entry) × (e : Entry) × (back : List Entry) × (nodes ≡ front ++ e ∷ back) × (e.stamp ≡ s) × (has_node s front ≡ false) }
+    ensures before { (front : List Entry) (e : Entry) (back : List Entry)
+        → Distinct (stamps_in (front ++ e ∷ back)) → has_node e.stamp front ≡ false }
+    ensures behind { (front : List Entry) (e : Entry) (back : List Entry)
+        → Distinct (stamps_in (front ++ e ∷ back)) → has_node e.stamp back ≡ false }
+{}
+
+/// Laws: what is looked up or done at a stamp is done between the nodes before it and those behind it.
+pub fn done_between()
+    ensures entry { (e : Entry) (back front : List Entry) → has_node e.stamp front ≡ false
+        → entry_at e.stamp (front ++ e ∷ back) ≡ Some e }
+    ensures position { (e : Entry) (back front : List Entry) → has_node e.stamp front ≡ false
+        → position e.stamp (front ++ e ∷ back) ≡ length front }
+    ensures after { (e : Entry) (back : List Entry) (new : Entry) (front : List Entry) → has_node e.stamp front ≡ false
+        → with_entry_after e.stamp new (front ++ e ∷ back) ≡ front ++ e ∷ new ∷ back }
+    ensures without { (e : Entry) (back front : List Entry) → has_node e.stamp front ≡ false
+        → without_entry e.stamp (front ++ e ∷ back) ≡ front ++ back }
+    ensures changed { (e : Entry) (back : List Entry) (change : Entry → Entry) (front : List Entry) → has_node e.stamp front ≡ false
+        → changed_at e.stamp change (front ++ e ∷ back) ≡ front ++ change e ∷ back }
 {}

@@ -50,7 +50,10 @@ fn line_of(node: &Node) -> Option<Line> {
         },
         Node::Write { place, value } => Some(Line::Write(*place, *value)),
         Node::Read {
-            place, value, args, ..
+            place,
+            value,
+            args,
+            ..
         } => Some(Line::Read(*place, *value, first_of(args))),
         Node::End { .. } => Some(Line::End),
     }

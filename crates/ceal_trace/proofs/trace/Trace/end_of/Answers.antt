@@ -9,7 +9,7 @@ pub end-requires : goal.end-requires
 end-requires c =
     let reads = rw (← c.self.view_is) at c.requires.read in
     row_bound _ _ _ c.self.invariant.is_order c.self.invariant.has_nodes
-        (there_is c.self.inside.order c.self.inside.table c.args.read.0 (has-read c.args.read.0 (timeline c.self.inside.order c.self.inside.table).nodes reads))
+    (there_is c.self.inside.order c.self.inside.table c.args.read.0 (has-read c.args.read.0 (timeline c.self.inside.order c.self.inside.table).nodes reads))
 
 pub returns-clause-finished : goal.returns-clause-finished
 returns-clause-finished c =
