@@ -9,5 +9,9 @@ pub mod TextSteps
 pub mod BranchSteps
 pub mod ListingSteps
 pub mod Local
-pub mod LocalInit
+pub mod Closed
+pub mod ClosedInit
 pub mod Over
+pub mod Same
+pub mod Pairs
+pub mod AlikeLemmas

@@ -9,5 +9,6 @@ pub mod Parts
 pub mod Listing
 pub mod Branches
 pub mod Known
+pub mod Alike
 pub mod Laws
 pub mod Over
