@@ -154,7 +154,7 @@ module _ (ps : Pairs) where
   default-self : (k : Kind) → Word_alike ps (default_of_kind k) (default_of_kind k)
   default-self k = default-of (λ w. Word_alike ps w w) (λ n. Word_alike.num) Word_alike.null k
 
-  field_default-self : (k : Option FieldKind) → Word_alike ps (field_default k) (field_default k)
+  pub field_default-self : (k : Option FieldKind) → Word_alike ps (field_default k) (field_default k)
   field_default-self k = field_default-of (λ w. Word_alike ps w w) (λ n. Word_alike.num) Word_alike.null k
 
   unary-alike : (op : Unary) {v w : Word} → Word_alike ps v w → Word_alike ps (unary_value op v) (unary_value op w)

@@ -24,7 +24,7 @@ use Rattle.ceal_base.specs.declared.word.BlockId.{BlockId}
 use Rattle.ceal_base.specs.declared.word.Word.{Word}
 use Rattle.ceal_base.specs.declared.word.Word.TheVariants.{Num, Null, Block as BlockWord, At}
 use Rattle.ceal_code.specs.Program.{Code}
-use Rattle.ceal_code.specs.Step.{Stack, Empty, Run, Act, Over, Quiet, Makes, Writes, Reads, unit_at, command_at, entry_of, variable_default, kind_default, bound, entered, first_word, later_words, woven, given, key_of, place_of, writes_at, reads_at, act, landed, settled_at, settled, acted, next, kinds_of}
+use Rattle.ceal_code.specs.Step.{Stack, Empty, Run, Act, Over, Quiet, Makes, Writes, Reads, unit_at, command_at, entry_of, variable_default, kind_default, bound, entered, chosen, first_word, later_words, woven, given, key_of, place_of, writes_at, reads_at, act, landed, settled_at, settled, acted, next, kinds_of}
 use Rattle.ceal_code.specs.Value.{Plain, Variables, unset, set, field_kind, field_default, plain_word, field_in, field_value, address_value, expr_value, operand_value, values}
 use Rattle.ceal_code.specs.declared.command.Cmd.{Cmd}
 use Rattle.ceal_code.specs.declared.command.Cmd.TheVariants.{Move, Tick, Alloc, Modref, Write, If, Done, Tail, Read, Call}
@@ -103,6 +103,11 @@ module _ (W : Word → Type 0) (num : (n : ℤ) → W (Num n)) (null : W Null) w
   bound-of [] ws h v = null
   bound-of (p ∷ ps) [] h v = null
   bound-of (p ∷ ps) (w ∷ ws) h v = set-of (bound ps ws) p.0 w (bound-of ps ws h.1) h.0 v
+
+  pub chosen-of : (ps : List VarId) (args : List Word) → Each W args → Each W (chosen ps args)
+  unfolding chosen
+  chosen-of [] args h = tt
+  chosen-of (p ∷ ps) args h = (get-of args p.0 Null h null, chosen-of ps args h)
 
   first-of : (ws : List Word) → Each W ws → W (first_word ws)
   first-of [] h = null

@@ -15,3 +15,11 @@ pub mod Over
 pub mod Same
 pub mod Pairs
 pub mod AlikeLemmas
+pub mod Memory
+pub mod Placed
+pub mod AlikeActs
+pub mod AlikeStores
+pub mod Determined
+pub mod FittingLemmas
+pub mod FinalMemory
+pub mod Replayed

@@ -25,7 +25,11 @@ pub tied-case : (b c : ℕ) (p : Pair) (ps : Pairs) → Tied b c (p ∷ ps) → 
 tied-case b c p ps Tied.here = inl (refl, refl)
 tied-case b c p ps (Tied.there t) = inr t
 
-pub one-at : (b e : ℕ) → e ≡ b → (if e == b then 1 else 0) ≡ 1
+-- how often b is c
+abbrev pub one_if : ℕ → ℕ → ℕ
+one_if b c = if c == b then 1 else 0
+
+pub one-at : (b e : ℕ) → e ≡ b → one_if b e ≡ 1
 one-at b e h = rw (h, nat-refl b)
 
 abbrev pub lefts : Pairs → List ℕ
@@ -40,7 +44,7 @@ pub left-count : (ps : Pairs) (b c : ℕ) → Tied b c ps → 1 ≤ count b (lef
 left-count [] b c t = elim t [ ]
 left-count (p ∷ ps) b c t = go (tied-case b c p ps t) (left-count ps b c)
   where
-    go : ((p.left ≡ b) × (p.right ≡ c)) ⊎ Tied b c ps → (Tied b c ps → 1 ≤ count b (lefts ps)) → 1 ≤ (if p.left == b then 1 else 0) + count b (lefts ps)
+    go : ((p.left ≡ b) × (p.right ≡ c)) ⊎ Tied b c ps → (Tied b c ps → 1 ≤ count b (lefts ps)) → 1 ≤ one_if b p.left + count b (lefts ps)
     go (inl e) k = omega (arith, one-at b p.left e.0)
     go (inr t) k = omega (arith, k t)
 
@@ -48,7 +52,7 @@ pub right-count : (ps : Pairs) (b c : ℕ) → Tied b c ps → 1 ≤ count c (ri
 right-count [] b c t = elim t [ ]
 right-count (p ∷ ps) b c t = go (tied-case b c p ps t) (right-count ps b c)
   where
-    go : ((p.left ≡ b) × (p.right ≡ c)) ⊎ Tied b c ps → (Tied b c ps → 1 ≤ count c (rights ps)) → 1 ≤ (if p.right == c then 1 else 0) + count c (rights ps)
+    go : ((p.left ≡ b) × (p.right ≡ c)) ⊎ Tied b c ps → (Tied b c ps → 1 ≤ count c (rights ps)) → 1 ≤ one_if c p.right + count c (rights ps)
     go (inl e) k = omega (arith, one-at c p.right e.1)
     go (inr t) k = omega (arith, k t)
 

@@ -1,12 +1,17 @@
 -- Laws of trace code.
 use Rattle.std.specs.Prelude.{◌≡◌, ℕ, List}
+use Rattle.ceal_base.specs.Block.{Block}
+use Rattle.ceal_base.specs.Trace.{Trace}
 use Rattle.ceal_base.specs.declared.forest.Key.{Key}
+use Rattle.ceal_base.specs.declared.word.Word.{Word}
 use Rattle.ceal_code.specs.Alike.{Pairs, Key_alike, Stack_alike, Act_alike, Block_alike, Plain_alike, One_to_one}
+use Rattle.ceal_code.specs.Determined.{Determined}
+use Rattle.ceal_code.specs.Fitting.{Fits}
 use Rattle.ceal_code.specs.Init.{made}
 use Rattle.ceal_code.specs.Known.{Agree, Holds, Known_stack, Known_act}
 use Rattle.ceal_code.specs.Over.{on, act_on}
 use Rattle.ceal_code.specs.Program.{Code}
-use Rattle.ceal_code.specs.Replay.{Known_words, Known_key}
+use Rattle.ceal_code.specs.Replay.{Known_words, Known_key, Replays, IsHonest}
 use Rattle.ceal_code.specs.Step.{Stack, next}
 use Rattle.ceal_code.specs.Value.{Plain}
 
@@ -31,3 +36,8 @@ abbrev pub Alike_law : Type 0
 Alike_law = (code : Code) (ps : Pairs) → One_to_one ps → (x y : Plain) → Plain_alike code.structs ps x y
     → ((st st' : Stack) → Stack_alike ps st st' → Act_alike ps (next code x st) (next code y st'))
     × ((key key' : Key) → Key_alike ps key key' → Block_alike code.structs ps (made code x key) (made code y key'))
+
+-- a trace that replays a call and is honest determines the run of the call from scratch
+abbrev pub Trace_law : Type 0
+Trace_law = (code : Code) (inputs : List Block) (f : ℕ) (args : List Word) → Fits code inputs f args
+    → (l : Trace) → Replays code inputs f args l → (h : IsHonest code inputs l) → Determined code inputs f args l h.after

@@ -10,5 +10,7 @@ pub mod Listing
 pub mod Branches
 pub mod Known
 pub mod Alike
+pub mod Fitting
+pub mod Determined
 pub mod Laws
 pub mod Over
