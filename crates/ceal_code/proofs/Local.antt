@@ -54,11 +54,11 @@ module _ (inputs : ℕ) (bs : List ℕ) where
   words-each [] h = h
   words-each (w ∷ ws) h = (h.0, words-each ws h.1)
 
-  of-stack : (st : Stack) → Known_stack inputs bs st → Of_stack (Known_word inputs bs) st
+  pub of-stack : (st : Stack) → Known_stack inputs bs st → Of_stack (Known_word inputs bs) st
   of-stack Empty h = h
   of-stack (Run u i env below) h = (h.0, of-stack below h.1)
 
-  stack-of : (st : Stack) → Of_stack (Known_word inputs bs) st → Known_stack inputs bs st
+  pub stack-of : (st : Stack) → Of_stack (Known_word inputs bs) st → Known_stack inputs bs st
   stack-of Empty h = h
   stack-of (Run u i env below) h = (h.0, stack-of below h.1)
 

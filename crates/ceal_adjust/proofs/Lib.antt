@@ -1,0 +1,11 @@
+pub mod Honesty
+pub mod Good
+pub mod Taking
+pub mod Growing
+pub mod Replaying
+pub mod Counting
+pub mod Walking
+pub mod Inputs
+pub mod Repaired
+pub mod Unchanged
+pub mod Functions
