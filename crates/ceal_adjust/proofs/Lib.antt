@@ -9,3 +9,7 @@ pub mod Inputs
 pub mod Repaired
 pub mod Unchanged
 pub mod Functions
+pub mod Told
+pub mod Unique
+pub mod Sure
+pub mod Total

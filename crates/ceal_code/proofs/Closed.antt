@@ -1,6 +1,6 @@
 -- A property of words that numbers and null have, that passes from a block's word to its plain fields and to the places
 -- of its modifiables, passes from a stack to all that its next step gives.
-use Rattle.std.proofs.Common.{◌≡◌, ℕ, ℤ, pos, zero, suc, ◌+◌, ◌==◌, Bool, true, false, Option, Some, None, List, [], ◌∷◌, if◌then◌else◌, refl, ap, ap₂, ◌∙◌, slice_get, unwrap_or}
+use Rattle.std.proofs.Common.{◌≡◌, ℕ, ℤ, pos, zero, suc, ◌+◌, ◌==◌, Bool, true, false, Option, Some, None, List, [], ◌∷◌, if◌then◌else◌, refl, ap, ap₂, ◌∙◌, subst, slice_get, unwrap_or}
 use Rattle.std.specs.Prelude.{⊤}
 use Rattle.ceal_base.specs.Access.{holds}
 use Rattle.ceal_base.specs.Block.{Block}
@@ -23,6 +23,7 @@ use Rattle.ceal_base.specs.declared.typed.StructInfo.{StructInfo}
 use Rattle.ceal_base.specs.declared.word.BlockId.{BlockId}
 use Rattle.ceal_base.specs.declared.word.Word.{Word}
 use Rattle.ceal_base.specs.declared.word.Word.TheVariants.{Num, Null, Block as BlockWord, At}
+use Rattle.ceal_code.proofs.Same.{some-same, none-some}
 use Rattle.ceal_code.specs.Program.{Code}
 use Rattle.ceal_code.specs.Step.{Stack, Empty, Run, Act, Over, Quiet, Makes, Writes, Reads, unit_at, command_at, entry_of, variable_default, kind_default, bound, entered, chosen, first_word, later_words, woven, given, key_of, place_of, writes_at, reads_at, act, landed, settled_at, settled, acted, next, kinds_of}
 use Rattle.ceal_code.specs.Value.{Plain, Variables, unset, set, field_kind, field_default, plain_word, field_in, field_value, address_value, expr_value, operand_value, values}
@@ -51,6 +52,11 @@ Of_act W (Quiet after) = Of_stack W after
 Of_act W (Makes key v u i env below) = Of_key W key × ((v : ℕ) → W (env v)) × Of_stack W below
 Of_act W (Writes p value after) = W (At p) × W value × Of_stack W after
 Of_act W (Reads p u v args below) = W (At p) × Each W args × Of_stack W below
+
+pub each-at : (W : Word → Type 0) (ws : List Word) (n : ℕ) (w : Word) → Each W ws → slice_get ws n ≡ Some w → W w
+each-at W [] n w h e = none-some w e
+each-at W (v ∷ ws) zero w h e = subst W (some-same v w e) h.0
+each-at W (v ∷ ws) (suc n) w h e = each-at W ws n w h.1 e
 
 -- it passes to what a block's word leads to
 pub record Closed (structs : List StructInfo) (x : Plain) (W : Word → Type 0) : Type 0 where

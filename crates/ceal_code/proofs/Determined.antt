@@ -21,11 +21,11 @@ use Rattle.ceal_code.proofs.AlikeActs.{Quiet_too, Makes_too, Writes_too, Reads_t
 use Rattle.ceal_code.proofs.AlikeLemmas.{id-wider, word-wider, words-wider, key-wider, variables-wider, stack-wider, set-alike, given-alike, pointer-alike, made-alike, next-alike}
 use Rattle.ceal_code.proofs.AlikeStores.{cleared-alike, stored-alike, plain-with}
 use Rattle.ceal_code.proofs.Closed.{Each, Of_stack, Of_key, Of_act, next-of, set-of, given-of}
-use Rattle.ceal_code.proofs.Memory.{contents, Cell_there, content-there, altered, written-here, written-other, written-count, written-contents, grown-here, grown-other, grown-count, grown-contents, get-within}
+use Rattle.ceal_code.proofs.Memory.{contents, Cell_there, content-read, altered, written-here, written-other, written-count, written-contents, grown-here, grown-other, grown-count, grown-contents, get-within}
 use Rattle.ceal_code.proofs.Over.{next-on}
 use Rattle.ceal_code.proofs.Pairs.{within-trans, one-within, more-pair, tied-with, tied-case}
-use Rattle.ceal_code.proofs.Placed.{Placed, Well_placed, Keeps, placed-keeps, stack-keeps, placed-closed, written-keeps, written-well, grown-keeps, grown-well, pointer-placed}
-use Rattle.ceal_code.proofs.Same.{block-same, some-same, none-some}
+use Rattle.ceal_code.proofs.Placed.{content-placed, Placed, Well_placed, Keeps, placed-keeps, stack-keeps, placed-closed, written-keeps, written-well, grown-keeps, grown-well, pointer-placed}
+use Rattle.ceal_code.proofs.Same.{block-same}
 use Rattle.ceal_code.specs.Alike.{Pair, Pairs, Tied, Id_alike, Place_alike, Word_alike, Words_alike, Key_alike, Variables_alike, Stack_alike, Act_alike, Fields_alike, Block_alike, Maybe_alike, Plain_alike, Store_alike, Within, One_to_one}
 use Rattle.ceal_code.specs.Fresh.{ran, only_over, run}
 use Rattle.ceal_code.specs.Init.{made, pointer}
@@ -126,17 +126,17 @@ store-is : (ps : Pairs) (s t t' : Store) → Store_alike ps s t → ((p : Place)
 store-is ps s t t' h e p q k = rw (e q) (h p q k)
 
 module _ (code : Code) where
-  over-on : (n steps : ℕ) (m : Blocks) (st below : Stack) → next code (block_at m) st ≡ Over → run code n steps m (on st below) ≡ run code n steps m below
+  pub over-on : (n steps : ℕ) (m : Blocks) (st below : Stack) → next code (block_at m) st ≡ Over → run code n steps m (on st below) ≡ run code n steps m below
   unfolding run
   over-on zero steps m st below e = ap (only_over steps m) (next-on code (block_at m) below st ∙ ap (λ a. act_on a below (next code (block_at m) below)) e)
   over-on (suc n) steps m st below e = ap (ran code (run code n (steps + 1)) steps m) (next-on code (block_at m) below st ∙ ap (λ a. act_on a below (next code (block_at m) below)) e)
 
-  one-step : (n steps : ℕ) (m : Blocks) (st below : Stack) (a : Act) → next code (block_at m) st ≡ a
+  pub one-step : (n steps : ℕ) (m : Blocks) (st below : Stack) (a : Act) → next code (block_at m) st ≡ a
       → run code (suc n) steps m (on st below) ≡ ran code (run code n (steps + 1)) steps m (act_on a below (next code (block_at m) below))
   unfolding run
   one-step n steps m st below a e = ap (ran code (run code n (steps + 1)) steps m) (next-on code (block_at m) below st ∙ ap (λ a. act_on a below (next code (block_at m) below)) e)
 
-  no-step : (steps : ℕ) (m : Blocks) (st below : Stack) (a : Act) → next code (block_at m) st ≡ a
+  pub no-step : (steps : ℕ) (m : Blocks) (st below : Stack) (a : Act) → next code (block_at m) st ≡ a
       → run code zero steps m (on st below) ≡ only_over steps m (act_on a below (next code (block_at m) below))
   unfolding run
   no-step steps m st below a e = ap (only_over steps m) (next-on code (block_at m) below st ∙ ap (λ a. act_on a below (next code (block_at m) below)) e)
@@ -367,17 +367,6 @@ module _ (code : Code) where
           bound = bound-with m (made code (block_at m) key') ps b h.bound;
         }
 
-    each-at : (W : Word → Type 0) (ws : List Word) (n : ℕ) (w : Word) → Each W ws → slice_get ws n ≡ Some w → W w
-    each-at W [] n w h e = none-some w e
-    each-at W (v ∷ ws) zero w h e = subst W (some-same v w e) h.0
-    each-at W (v ∷ ws) (suc n) w h e = each-at W ws n w h.1 e
-
-    content-placed : (m : Blocks) (q : Place) → Well_placed code.structs m → (cell : Cell_there code.structs m q) → Placed code.structs m (contents code m q)
-    content-placed m q well cell = rw (content-there code m q cell) (each-at (Placed code.structs m) cell.block.words q.field cell.word (well q.block cell.block cell.there) cell.holds)
-
-    content-read : (m : Blocks) (q : Place) (d : Word) → Cell_there code.structs m q → content_of m (At q) d ≡ contents code m q
-    content-read m q d cell = rw (content-there code m q cell, cell.there, cell.holds)
-
     rest-within : (n k : ℕ) (is ls : List BlockId) (rest : List ℕ) → k ≡ n + length (core_numbers is) → Within (numbered n (core_numbers (is ++ ls) ++ rest)) big → Within (numbered k (core_numbers ls ++ rest)) big
     rest-within n k is ls rest e z =
         within-trans (numbered k (core_numbers ls ++ rest)) (numbered n (core_numbers is ++ (core_numbers ls ++ rest))) big
@@ -450,7 +439,7 @@ module _ (code : Code) where
             let cell = cell-there code.structs ps x m h.plain q.places a.0 in
             let w : Word = contents code m q.p' in
             let kw : Word_alike ps value (contents code m q.p') = rw f at (h.store p q.p' q.places) in
-            then-reads ps m st' q.below' p q.p' value (contents code m q.p') u y args q.args' i l t s' q.is (content-read m q.p' (variable_default code u.0 y) cell)
+            then-reads ps m st' q.below' p q.p' value (contents code m q.p') u y args q.args' i l t s' q.is (content-read code m q.p' (variable_default code u.0 y) cell)
             (g1 (entered code u.0 (given code u.0 y q.args' (contents code m q.p')) Empty) (given-alike ps code u.0 y q.words kw Stack_alike.empty)
-            (given-of (Placed code.structs m) (λ n. tt) tt code u.0 y q.args' (contents code m q.p') Empty a.1 (content-placed m q.p' h.well cell) tt))
+            (given-of (Placed code.structs m) (λ n. tt) tt code u.0 y q.args' (contents code m q.p') Empty a.1 (content-placed code m q.p' h.well cell) tt))
             (λ qs m1 wide keeps count stands. g2 qs m1 q.below' count stands (stack-wider ps qs wide q.alike) (stack-keeps code.structs m m1 keeps q.below' a.2))

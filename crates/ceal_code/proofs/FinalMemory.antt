@@ -16,7 +16,7 @@ use Rattle.ceal_base.specs.declared.word.BlockId.TheVariants.{Input, Core}
 use Rattle.ceal_base.specs.declared.word.Place.{Place}
 use Rattle.ceal_base.specs.declared.word.Word.{Word}
 use Rattle.ceal_base.specs.declared.word.Word.TheVariants.{Num, Null, Block as BlockWord, At}
-use Rattle.ceal_code.proofs.AlikeLemmas.{id-wider, word-wider, entered-alike}
+use Rattle.ceal_code.proofs.AlikeLemmas.{id-wider, word-wider, fields-wider, entered-alike}
 use Rattle.ceal_code.proofs.Closed.{Each, Of_stack, entered-of, get-of}
 use Rattle.ceal_code.proofs.Determined.{numbered, numbered-first, Stands, Runs, determined}
 use Rattle.ceal_code.proofs.FittingLemmas.{id-self, word-self, words-self, input-known, input-self, begun-placed, args-known, args-placed}
@@ -159,7 +159,7 @@ module _ (bs : List ℕ) (distinct : Distinct bs) where
     fields-named : (b c : BlockId) (v w : Block) → Id_alike ps b c → block_at m c ≡ Some w → Block_alike code.structs ps v w → renamed_block bs (filled code s b v) ≡ w
     fields-named b c v w i e h =
         ap₂ (λ shape words. record { shape = shape; words = words }) h.shape
-        (words-named s b 0 (Rattle.ceal_code.proofs.AlikeLemmas.fields-wider ps (numbered 0 bs) within h.fields)
+        (words-named s b 0 (fields-wider ps (numbered 0 bs) within h.fields)
         (λ j z k g. cell j z (subst (λ shape. is_cell (field_kind code.structs shape j) ≡ true) h.shape k) g))
       where
         cell : (j : ℕ) (z : Word) → is_cell (field_kind code.structs w.shape j) ≡ true → slice_get w.words j ≡ Some z → Word_alike (numbered 0 bs) (s (record { block = b; field = 0 + j })) z

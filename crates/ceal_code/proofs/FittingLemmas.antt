@@ -1,5 +1,5 @@
 -- Words that fit where there are no core blocks name inputs and modifiables of inputs.
-use Rattle.std.proofs.Common.{◌≡◌, ℕ, pos, zero, suc, ◌<◌, ◌==◌, ◌&&◌, Bool, true, false, Option, Some, None, List, [], ◌∷◌, length, if◌then◌else◌, refl, slice_get, unwrap_or, is_some, arith}
+use Rattle.std.proofs.Common.{◌≡◌, ℕ, pos, zero, suc, ◌<◌, ◌==◌, ◌&&◌, Bool, true, false, Option, Some, None, List, [], ◌∷◌, length, if◌then◌else◌, refl, ap, slice_get, unwrap_or, is_some, arith}
 use Rattle.std.specs.List.{list_all}
 use Rattle.ceal_base.specs.Access.{of_struct}
 use Rattle.ceal_base.specs.Block.{Block, Blocks, block_at}
@@ -18,7 +18,7 @@ use Rattle.ceal_base.specs.declared.word.Word.TheVariants.{Num, Null, Block as B
 use Rattle.ceal_code.proofs.Closed.{Each}
 use Rattle.ceal_code.proofs.Memory.{get-within}
 use Rattle.ceal_code.proofs.Placed.{Placed, Well_placed}
-use Rattle.ceal_code.proofs.Same.{both, none-some}
+use Rattle.ceal_code.proofs.Same.{both, some-same, none-some}
 use Rattle.ceal_code.specs.Alike.{Pairs, Id_alike, Word_alike, Words_alike, Fields_alike}
 use Rattle.ceal_code.specs.Fitting.{args_fit, Fits}
 use Rattle.ceal_code.specs.Program.{Code}
@@ -130,9 +130,28 @@ module _ (structs : List StructInfo) (inputs : List Block) where
   fields-self ps (CellPtr s ∷ kinds) (w ∷ ws) h =
       let k = both (fits_field structs begun (CellPtr s) w) (fields_fit structs begun kinds ws) h in Fields_alike.pointer_cell (fields-self ps kinds ws k.1)
 
+  fields-plain : (ps : Pairs) (kinds : List FieldKind) (ws : List Word) → fields_fit structs begun kinds ws ≡ true → Fields_alike ps kinds (plain_words kinds ws) (plain_words kinds ws)
+  fields-plain ps [] [] h = Fields_alike.none
+  fields-plain ps [] (w ∷ ws) h = absurd (grind (arith, h))
+  fields-plain ps (kind ∷ kinds) [] h = absurd (grind (arith, h))
+  fields-plain ps (PlainField kind ∷ kinds) (w ∷ ws) h =
+      let k = both (fits_kind structs begun kind w) (fields_fit structs begun kinds ws) h in
+      Fields_alike.plain (word-self (length inputs) ps w (fits-fine kind w k.0).0) (fields-plain ps kinds ws k.1)
+  fields-plain ps (CellInt ∷ kinds) (w ∷ ws) h =
+      let k = both (fits_field structs begun CellInt w) (fields_fit structs begun kinds ws) h in Fields_alike.int_cell (fields-plain ps kinds ws k.1)
+  fields-plain ps (CellPtr s ∷ kinds) (w ∷ ws) h =
+      let k = both (fits_field structs begun (CellPtr s) w) (fields_fit structs begun kinds ws) h in Fields_alike.pointer_cell (fields-plain ps kinds ws k.1)
+
+  fields-full : (kinds : List FieldKind) (ws : List Word) → fields_fit structs begun kinds ws ≡ true → length ws ≡ length kinds
+  fields-full [] [] h = refl
+  fields-full [] (w ∷ ws) h = absurd (grind (arith, h))
+  fields-full (kind ∷ kinds) [] h = absurd (grind (arith, h))
+  fields-full (kind ∷ kinds) (w ∷ ws) h =
+      let k = both (fits_field structs begun kind w) (fields_fit structs begun kinds ws) h in ap suc (fields-full kinds ws k.1)
+
   all-at : (test : Block → Bool) (blocks : List Block) → list_all test blocks ≡ true → (i : ℕ) (block : Block) → slice_get blocks i ≡ Some block → test block ≡ true
   all-at test [] h i block e = none-some block e
-  all-at test (b ∷ blocks) h zero block e = let k = both (test b) (list_all test blocks) h in rw (Rattle.ceal_code.proofs.Same.some-same b block e) at k.0
+  all-at test (b ∷ blocks) h zero block e = let k = both (test b) (list_all test blocks) h in rw (some-same b block e) at k.0
   all-at test (b ∷ blocks) h (suc i) block e = let k = both (test b) (list_all test blocks) h in all-at test blocks k.1 i block e
 
   -- an input block fits
@@ -153,6 +172,14 @@ module _ (structs : List StructInfo) (inputs : List Block) where
 
     pub input-self : (ps : Pairs) (i : ℕ) (block : Block) → slice_get inputs i ≡ Some block → Fields_alike ps (kinds_of_shape structs block.shape) (plain_words (kinds_of_shape structs block.shape) block.words) block.words
     input-self ps i block e = fields-self ps (kinds_of_shape structs block.shape) block.words (input-fits fit i block e)
+
+    pub plain-self : (ps : Pairs) (i : ℕ) (block : Block) → slice_get inputs i ≡ Some block
+        → Fields_alike ps (kinds_of_shape structs block.shape) (plain_words (kinds_of_shape structs block.shape) block.words) (plain_words (kinds_of_shape structs block.shape) block.words)
+    plain-self ps i block e = fields-plain ps (kinds_of_shape structs block.shape) block.words (input-fits fit i block e)
+
+    -- and has one word for each field
+    pub input-full : (i : ℕ) (block : Block) → slice_get inputs i ≡ Some block → length block.words ≡ length (kinds_of_shape structs block.shape)
+    input-full i block e = fields-full (kinds_of_shape structs block.shape) block.words (input-fits fit i block e)
 
     pub begun-placed : Well_placed structs (record { inputs = inputs; made = [] })
     begun-placed (Input i) block e = placed-each block.words (fields-fine (kinds_of_shape structs block.shape) block.words (input-fits fit i block e))

@@ -1,7 +1,7 @@
 -- What a write and a new block change in a memory, and what they leave.
 use Rattle.std.proofs.Common.{◌≡◌, ℕ, pos, zero, suc, ◌+◌, ◌<◌, ◌≤◌, ◌==◌, ◌&&◌, Bool, true, false, Option, Some, None, List, [], ◌∷◌, ◌++◌, length, if◌then◌else◌, refl, sym, ap, ◌∙◌, subst, slice_get, slice_set, unwrap_or, map, arith}
 use Rattle.std.specs.Prelude.{⊤}
-use Rattle.ceal_base.specs.Access.{holds}
+use Rattle.ceal_base.specs.Access.{content_of, holds}
 use Rattle.ceal_base.specs.Block.{Block, Blocks, block_at, with_word, written_at}
 use Rattle.ceal_base.specs.Finished.{with_block}
 use Rattle.ceal_base.specs.Operators.{same_block, same_place}
@@ -16,7 +16,7 @@ use Rattle.ceal_base.specs.declared.word.BlockId.{BlockId}
 use Rattle.ceal_base.specs.declared.word.BlockId.TheVariants.{Input, Core}
 use Rattle.ceal_base.specs.declared.word.Place.{Place}
 use Rattle.ceal_base.specs.declared.word.Word.{Word}
-use Rattle.ceal_base.specs.declared.word.Word.TheVariants.{Num, Null}
+use Rattle.ceal_base.specs.declared.word.Word.TheVariants.{Num, Null, At}
 use Rattle.ceal_code.proofs.Same.{both, nat-same, nat-refl, block-same, place-same, some-same, none-some}
 use Rattle.ceal_code.specs.Init.{set_plain, set_by, set_by_row, set_by_all, arguments, made_by, made}
 use Rattle.ceal_code.specs.Program.{Code}
@@ -81,7 +81,7 @@ written-other m (Input n) (Core k) f w block e h = refl
 written-other m (Core n) (Input k) f w block e h = refl
 written-other m (Core n) (Core k) f w block e h = rw (with_word-is m.made n f w block e) (get-set_other m.made n k (altered block f w) h)
 
-length-set : {A : Type 0} (xs : List A) (n : ℕ) (x : A) → length (slice_set xs n x) ≡ length xs
+pub length-set : {A : Type 0} (xs : List A) (n : ℕ) (x : A) → length (slice_set xs n x) ≡ length xs
 length-set [] n x = refl
 length-set (y ∷ xs) zero x = refl
 length-set (y ∷ xs) (suc n) x = ap suc (length-set xs n x)
@@ -118,6 +118,9 @@ pub record Cell_there (structs : List StructInfo) (m : Blocks) (p : Place) : Typ
 pub content-there : (code : Code) (m : Blocks) (p : Place) (c : Cell_there code.structs m p) → contents code m p ≡ c.word
 unfolding contents
 content-there code m p c = rw (c.there, c.cell, c.holds)
+
+pub content-read : (code : Code) (m : Blocks) (q : Place) (d : Word) → Cell_there code.structs m q → content_of m (At q) d ≡ contents code m q
+content-read code m q d cell = rw (content-there code m q cell, cell.there, cell.holds)
 
 module _ (code : Code) (m : Blocks) (p : Place) (c : Cell_there code.structs m p) (w : Word) where
   field-if : (t : Bool) (f : ℕ) → (f == p.field) ≡ t
@@ -221,6 +224,52 @@ module _ (code : Code) (x : Plain) where
   made-defaults (Init f args) = made_by-defaults args (slice_get code.functions f)
   made-defaults IntKey = (refl, tt)
   made-defaults (PtrKey s) = (refl, tt)
+
+set_plain-length : (k : Option FieldKind) (ws : List Word) (n : ℕ) (z : Word) → length (set_plain k ws n z) ≡ length ws
+set_plain-length None ws n z = refl
+set_plain-length (Some (PlainField kind)) ws n z = length-set ws n z
+set_plain-length (Some CellInt) ws n z = refl
+set_plain-length (Some (CellPtr s)) ws n z = refl
+
+module _ (structs : List StructInfo) (x : Plain) (env : Variables) (s : ℕ) where
+  length-if : (b : Bool) (vs ws : List Word) (n : ℕ) → length vs ≡ n → length ws ≡ n → length (if b then vs else ws) ≡ n
+  length-if true vs ws n h k = h
+  length-if false vs ws n h k = k
+
+  mutual
+    unfolding set_by
+
+    set_by-length : (ws : List Word) (stmt : InitStmt) → length (set_by structs x env s ws stmt) ≡ length ws
+    set_by-length ws (Set field e) = set_plain-length (field_kind structs (Struct s) field) ws field (expr_value structs x env e)
+    set_by-length ws (IfStmt' test _ first _ second) =
+        length-if (holds (expr_value structs x env test)) (set_by_row structs x env s ws first) (set_by_row structs x env s ws second) (length ws) (row-length ws first) (row-length ws second)
+
+    row-length : (ws : List Word) {n : _} (row : Row_of-InitStmt n) → length (set_by_row structs x env s ws row) ≡ length ws
+    row-length ws end_of-InitStmt = refl
+    row-length ws (more_of-InitStmt stmt rest) = row-length (set_by structs x env s ws stmt) rest ∙ set_by-length ws stmt
+
+  all-length : (ws : List Word) (stmts : List InitStmt) → length (set_by_all structs x env s ws stmts) ≡ length ws
+  unfolding set_by_all
+  all-length ws [] = refl
+  all-length ws (stmt ∷ rest) = all-length (set_by structs x env s ws stmt) rest ∙ set_by-length ws stmt
+
+default-length : (kinds : List FieldKind) → length (map default_of_field kinds) ≡ length kinds
+default-length [] = refl
+default-length (kind ∷ kinds) = ap suc (default-length kinds)
+
+module _ (code : Code) (x : Plain) where
+  made_by-full : (args : List Word) (f : Option FunctionCode) → length (made_by code.structs x args f).words ≡ length (kinds_of_shape code.structs (made_by code.structs x args f).shape)
+  made_by-full args (Some (InitFunction name s params body)) =
+      all-length code.structs x (arguments args) s (default_block code.structs (Struct s)).words body ∙ default-length (kinds_of_shape code.structs (Struct s))
+  made_by-full args (Some (CoreFunction name entry params)) = refl
+  made_by-full args None = refl
+
+  -- a new block has one word for each field
+  pub made-full : (key : Key) → length (made code x key).words ≡ length (kinds_of_shape code.structs (made code x key).shape)
+  unfolding made
+  made-full (Init f args) = made_by-full args (slice_get code.functions f)
+  made-full IntKey = refl
+  made-full (PtrKey s) = refl
 
 default-content : (kinds : List FieldKind) (ws : List Word) (n : ℕ) → At_defaults kinds ws
     → (if is_cell (slice_get kinds n) then unwrap_or (slice_get ws n) (field_default (slice_get kinds n)) else Num (pos 0)) ≡ cell_default (slice_get kinds n)

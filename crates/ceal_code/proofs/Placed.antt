@@ -18,9 +18,9 @@ use Rattle.ceal_base.specs.declared.word.BlockId.TheVariants.{Input, Core}
 use Rattle.ceal_base.specs.declared.word.Place.{Place}
 use Rattle.ceal_base.specs.declared.word.Word.{Word}
 use Rattle.ceal_base.specs.declared.word.Word.TheVariants.{Num, Null, Block as BlockWord, At}
-use Rattle.ceal_code.proofs.Closed.{Each, Of_stack, Of_key, Closed, field_in-of, field_default-of}
+use Rattle.ceal_code.proofs.Closed.{Each, each-at, Of_stack, Of_key, Closed, field_in-of, field_default-of}
 use Rattle.ceal_code.proofs.ClosedInit.{put-of, made-of}
-use Rattle.ceal_code.proofs.Memory.{get-before, get-push_other, altered, written-here, written-other, grown-here, grown-other, made-shape}
+use Rattle.ceal_code.proofs.Memory.{contents, Cell_there, content-there, get-before, get-push_other, altered, written-here, written-other, grown-here, grown-other, made-shape}
 use Rattle.ceal_code.proofs.Same.{both, nat-same, block-same, some-same, none-some}
 use Rattle.ceal_code.specs.Init.{made, pointer}
 use Rattle.ceal_code.specs.Program.{Code}
@@ -111,6 +111,10 @@ module _ (structs : List StructInfo) (m : Blocks) (well : Well_placed structs m)
 
     pub written-well : Placed structs m w → Well_placed structs (written_at m b f w)
     written-well h c after g = each-keeps structs m (written_at m b f w) written-keeps after.words (altered-placed (same_block c b) c refl h after g)
+
+pub content-placed : (code : Code) (m : Blocks) (q : Place) → Well_placed code.structs m → (cell : Cell_there code.structs m q) → Placed code.structs m (contents code m q)
+content-placed code m q well cell =
+    rw (content-there code m q cell) (each-at (Placed code.structs m) cell.block.words q.field cell.word (well q.block cell.block cell.there) cell.holds)
 
 module _ (code : Code) (m : Blocks) (well : Well_placed code.structs m) (key : Key) where
   none-past : (xs : List Block) → slice_get xs (length xs) ≡ None

@@ -3,6 +3,7 @@ use Rattle.std.proofs.Common.{◌≡◌, ℕ, pos, zero, suc, ◌+◌, ◌-◌, 
 use Rattle.std.specs.Option.{option_map}
 use Rattle.ceal_base.specs.Block.{Block, Blocks, block_at}
 use Rattle.ceal_base.specs.Finished.{Finished}
+use Rattle.ceal_base.specs.Fitting.{inputs_fit}
 use Rattle.ceal_base.specs.Same.{Same, renamed_block}
 use Rattle.ceal_base.specs.Shapes.{kinds_of_shape}
 use Rattle.ceal_base.specs.Trace.{Trace, Nothing, Stepped, Allocated, Wrote, Was_read, steps_of, blocks_of}
@@ -16,9 +17,9 @@ use Rattle.ceal_base.specs.declared.word.Word.{Word}
 use Rattle.ceal_base.specs.declared.word.Word.TheVariants.{Num}
 use Rattle.ceal_code.proofs.AlikeLemmas.{entered-alike, field_default-self}
 use Rattle.ceal_code.proofs.Closed.{Each, Of_stack, entered-of, chosen-of, get-of}
-use Rattle.ceal_code.proofs.Determined.{numbered, Stands, Runs, determined}
+use Rattle.ceal_code.proofs.Determined.{cores-append, numbered, Stands, Runs, determined}
 use Rattle.ceal_code.proofs.FinalMemory.{numbered-at, numbered-one, is-distinct, list-same, get-map, block-named}
-use Rattle.ceal_code.proofs.FittingLemmas.{word-self, input-known, input-self, begun-placed, args-known, args-placed}
+use Rattle.ceal_code.proofs.FittingLemmas.{word-self, input-known, input-self, plain-self, begun-placed, args-known, args-placed}
 use Rattle.ceal_code.proofs.Local.{each-words}
 use Rattle.ceal_code.proofs.Memory.{contents, got}
 use Rattle.ceal_code.proofs.Placed.{Placed}
@@ -50,7 +51,7 @@ all-core (Yields.quiet e r) = all-core r
 all-core (Yields.makes e g r) = ap suc (all-core r)
 all-core (Yields.writes e r) = all-core r
 all-core (Yields.reads {inside = i} {rest = l} e r1 r2) =
-    ap length (Rattle.ceal_code.proofs.Determined.cores-append (blocks_of i) (blocks_of l)) ∙ (append (core_numbers (blocks_of i)) (core_numbers (blocks_of l))
+    ap length (cores-append (blocks_of i) (blocks_of l)) ∙ (append (core_numbers (blocks_of i)) (core_numbers (blocks_of l))
     ∙ (sums (all-core r1) (all-core r2) ∙ sym (append (blocks_of i) (blocks_of l))))
   where
     append : {A : Type 0} (xs ys : List A) → length (xs ++ ys) ≡ length xs + length ys
@@ -61,7 +62,16 @@ all-core (Yields.reads {inside = i} {rest = l} e r1 r2) =
     sums e g = rw (e, g)
 
 module _ (code : Code) (inputs : List Block) where
-  begin-plain : (ps : Pairs) (fit : Rattle.ceal_base.specs.Fitting.inputs_fit code.structs inputs ≡ true) (i : ℕ) → Maybe_alike code.structs ps (input_plain code inputs (Input i)) (slice_get inputs i)
+  -- the plain words of an input are like themselves
+  pub begin-self : (ps : Pairs) (fit : inputs_fit code.structs inputs ≡ true) (i : ℕ) → Maybe_alike code.structs ps (input_plain code inputs (Input i)) (input_plain code inputs (Input i))
+  unfolding input_plain
+  begin-self ps fit i = go (slice_get inputs i) refl
+    where
+      go : (o : Option Block) → slice_get inputs i ≡ o → Maybe_alike code.structs ps (option_map (plain_block code.structs) o) (option_map (plain_block code.structs) o)
+      go None e = Maybe_alike.none
+      go (Some block) e = Maybe_alike.some (record { shape = refl; fields = plain-self code.structs inputs fit ps i block e })
+
+  begin-plain : (ps : Pairs) (fit : inputs_fit code.structs inputs ≡ true) (i : ℕ) → Maybe_alike code.structs ps (input_plain code inputs (Input i)) (slice_get inputs i)
   unfolding input_plain
   begin-plain ps fit i = go (slice_get inputs i) refl
     where
@@ -69,7 +79,7 @@ module _ (code : Code) (inputs : List Block) where
       go None e = Maybe_alike.none
       go (Some block) e = Maybe_alike.some (record { shape = refl; fields = input-self code.structs inputs fit ps i block e })
 
-  content-self : (ps : Pairs) (fit : Rattle.ceal_base.specs.Fitting.inputs_fit code.structs inputs ≡ true) (i f : ℕ) (o : Option Block) → slice_get inputs i ≡ o → Word_alike ps (content_in code.structs o f) (content_in code.structs o f)
+  content-self : (ps : Pairs) (fit : inputs_fit code.structs inputs ≡ true) (i f : ℕ) (o : Option Block) → slice_get inputs i ≡ o → Word_alike ps (content_in code.structs o f) (content_in code.structs o f)
   content-self ps fit i f None e = Word_alike.num
   content-self ps fit i f (Some block) e = go (is_cell (field_kind code.structs block.shape f))
     where
@@ -84,12 +94,20 @@ module _ (code : Code) (inputs : List Block) where
       go false = Word_alike.num
 
   -- the bases are the contents of the inputs
-  begin-store : (ps : Pairs) (fit : Rattle.ceal_base.specs.Fitting.inputs_fit code.structs inputs ≡ true) → Store_alike ps (bases code inputs) (contents code (record { inputs = inputs; made = [] }))
+  begin-store : (ps : Pairs) (fit : inputs_fit code.structs inputs ≡ true) → Store_alike ps (bases code inputs) (contents code (record { inputs = inputs; made = [] }))
   unfolding bases contents
   begin-store ps fit p q h = go p.block q.block h.block (rw h.field refl)
     where
       go : (b c : BlockId) → Id_alike ps b c → p.field ≡ q.field
           → Word_alike ps (content_in code.structs (input_block inputs b) p.field) (content_in code.structs (block_at (record { inputs = inputs; made = [] }) c) q.field)
+      go b c (Id_alike.input {i = i}) e = rw e (content-self ps fit i q.field (slice_get inputs i) refl)
+      go b c (Id_alike.core t) e = Word_alike.num
+
+  pub bases-self : (ps : Pairs) (fit : inputs_fit code.structs inputs ≡ true) → Store_alike ps (bases code inputs) (bases code inputs)
+  unfolding bases
+  bases-self ps fit p q h = go p.block q.block h.block (rw h.field refl)
+    where
+      go : (b c : BlockId) → Id_alike ps b c → p.field ≡ q.field → Word_alike ps (content_in code.structs (input_block inputs b) p.field) (content_in code.structs (input_block inputs c) q.field)
       go b c (Id_alike.input {i = i}) e = rw e (content-self ps fit i q.field (slice_get inputs i) refl)
       go b c (Id_alike.core t) e = Word_alike.num
 
@@ -123,6 +141,12 @@ get-after : (code : Code) (s : Store) (n : ℕ) (blocks : List Block) (i : ℕ) 
 get-after code s n [] i = refl
 get-after code s n (block ∷ blocks) zero = let e : n + 0 ≡ n = omega arith in rw e
 get-after code s n (block ∷ blocks) (suc i) = let e : n + suc i ≡ n + 1 + i = omega arith in rw e (get-after code s (n + 1) blocks i)
+
+-- the run of an empty stack is at its end
+pub empty-run : (code : Code) (n k : ℕ) (m : Blocks) → run code n k m Empty ≡ Some (record { memory = m; steps = k; blocks = length m.made })
+unfolding run next settled
+empty-run code zero k m = refl
+empty-run code (suc n) k m = refl
 
 module _ (code : Code) (inputs : List Block) (f : ℕ) (args : List Word) (fits : Fits code inputs f args) (l : Trace) (r : Replays code inputs f args l) (h : IsHonest code inputs l) where
   input-is : (i : ℕ) → plain_of code inputs l (Input i) ≡ input_plain code inputs (Input i)
@@ -172,11 +196,6 @@ module _ (code : Code) (inputs : List Block) (f : ℕ) (args : List Word) (fits 
       named (Core (slice_index (core_numbers (blocks_of l)) i)) (Core i)
       (Id_alike.core (the-run.inward (slice_index (core_numbers (blocks_of l)) i) i (rw n at (numbered-at 0 (core_numbers (blocks_of l)) i k))))
 
-  empty-run : (n k : ℕ) (m : Blocks) → run code n k m Empty ≡ Some (record { memory = m; steps = k; blocks = length m.made })
-  unfolding run next settled
-  empty-run zero k m = refl
-  empty-run (suc n) k m = refl
-
   count : length the-run.memory.made ≡ length (core_numbers (blocks_of l))
   count = omega (arith, the-run.count)
 
@@ -184,7 +203,7 @@ module _ (code : Code) (inputs : List Block) (f : ℕ) (args : List Word) (fits 
   unfolding fresh
   ends fuel k =
       the-run.runs Empty fuel (fuel - steps_of l) 0 (steps_of l) (omega (arith, k)) (omega arith)
-      ∙ (empty-run (fuel - steps_of l) (steps_of l) the-run.memory
+      ∙ (empty-run code (fuel - steps_of l) (steps_of l) the-run.memory
       ∙ ap (λ n. Some (record { memory = the-run.memory; steps = steps_of l; blocks = n })) (count ∙ all-core r.yields))
 
   short : (fuel : ℕ) → fuel < steps_of l → fresh code f args inputs fuel ≡ None
