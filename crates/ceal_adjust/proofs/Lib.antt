@@ -13,3 +13,5 @@ pub mod Told
 pub mod Unique
 pub mod Sure
 pub mod Total
+pub mod Stored
+pub mod FromScratch
