@@ -15,3 +15,4 @@ pub mod Sure
 pub mod Total
 pub mod Stored
 pub mod FromScratch
+pub mod Renaming
