@@ -16,3 +16,5 @@ pub mod Total
 pub mod Stored
 pub mod FromScratch
 pub mod Renaming
+pub mod RenamedWalk
+pub mod Renamed

@@ -32,7 +32,7 @@ learnt-none-if : (x : Plain) (b c : ℕ) (block : Block) (test : Bool) → (c ==
 learnt-none-if x b c block false s h e = e
 learnt-none-if x b c block true s h e = absurd (grind (arith, h, one-at c b (grind (arith, s))))
 
-learnt-none : (x : Plain) (b c : ℕ) (block : Block) → one_if c b ≡ 0 → x (Core c) ≡ None → learnt x (Core b) block (Core c) ≡ None
+pub learnt-none : (x : Plain) (b c : ℕ) (block : Block) → one_if c b ≡ 0 → x (Core c) ≡ None → learnt x (Core b) block (Core c) ≡ None
 unfolding learnt
 learnt-none x b c block h e = learnt-none-if x b c block (c == b) refl h e
 
@@ -58,7 +58,7 @@ extends-at-if : (x : Plain) (b : ℕ) (c : BlockId) (new block : Block) (test : 
 extends-at-if x b c new block false s h e = e
 extends-at-if x b c new block true s h e = let e' : x (Core b) ≡ Some block = rw (block-same c (Core b) s) at e in absurd (cc (e', h))
 
-extends-at : (x : Plain) (b : ℕ) (new : Block) → x (Core b) ≡ None → Extends x (learnt x (Core b) new)
+pub extends-at : (x : Plain) (b : ℕ) (new : Block) → x (Core b) ≡ None → Extends x (learnt x (Core b) new)
 unfolding learnt
 extends-at x b new h c block e = extends-at-if x b c new block (same_block c (Core b)) refl h e
 
@@ -80,7 +80,7 @@ plain-from code (Yields.reads {inside = inside} {rest = rest} e r1 r2) x d n =
     (λ c. omega (arith, d c, times-append c (blocks_of inside) (blocks_of rest)))
     (λ c h. plain-none code x inside c (omega (arith, h, d c, times-append c (blocks_of inside) (blocks_of rest))) (n c (omega (arith, h, times-append c (blocks_of inside) (blocks_of rest))))))
 
-holds-over : (n : ℕ) (bs : List ℕ) (x y : Plain) → Holds n bs x → Extends x y → Holds n bs y
+pub holds-over : (n : ℕ) (bs : List ℕ) (x y : Plain) → Holds n bs x → Extends x y → Holds n bs y
 holds-over n bs x y h e b k = let g = h b k in record { block = g.block; there = e b g.block g.there; known = g.known }
 
 module _ (code : Code) (old new : List Block) (f : ℕ) (args : List Word) (fits : Fits code old f args) (fit : inputs_fit code.structs new ≡ true) (more : Extended code old new)

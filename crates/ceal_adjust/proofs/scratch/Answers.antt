@@ -6,6 +6,7 @@ use Rattle.ceal_adjust.proofs.Counting.{fix-old}
 use Rattle.ceal_adjust.proofs.Repaired.{adjust-honest}
 use Rattle.ceal_adjust.proofs.Unique.{same-traces}
 use Rattle.ceal_adjust.proofs.Renaming.{fix-too}
+use Rattle.ceal_adjust.proofs.Renamed.{renamed-honest}
 use Rattle.ceal_adjust.proofs.Unchanged.{adjust-same}
 use Rattle.ceal_adjust.proofs.Functions.{first-found}
 use Rattle.ceal_adjust.proofs.Inputs.{fits-more}
