@@ -18,3 +18,7 @@ pub mod FromScratch
 pub mod Renaming
 pub mod RenamedWalk
 pub mod Renamed
+pub mod Flipped
+pub mod RenamedRepair
+pub mod Found
+pub mod Main

@@ -75,8 +75,7 @@ module _ (code : Code) (n : ℕ) where
         holds = q.holds;
         from = extends-trans y y1 (plain_after code y1 rest) more q.from;
         made' = λ z e.
-            let y1z = extends-trans y1 (plain_after code y1 rest) z q.from e in
-            (
+            let y1z = extends-trans y1 (plain_after code y1 rest) z q.from e in (
               y1z (Core b) block (learnt-here y (Core b) block) ∙ ap Some (made-same n bs y h z (agrees n bs y z h (extends-trans y y1 z more y1z)) code key ka),
               q.made' z e,
             );
