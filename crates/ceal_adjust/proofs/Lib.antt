@@ -22,3 +22,4 @@ pub mod Flipped
 pub mod RenamedRepair
 pub mod Found
 pub mod Main
+pub mod Samples
