@@ -1,11 +1,17 @@
 -- Laws of trace code.
 use Rattle.std.specs.Prelude.{◌≡◌, ℕ, List}
+use Rattle.ceal_base.specs.Block.{Block}
+use Rattle.ceal_base.specs.Trace.{Trace}
 use Rattle.ceal_base.specs.declared.forest.Key.{Key}
+use Rattle.ceal_base.specs.declared.word.Word.{Word}
+use Rattle.ceal_code.specs.Alike.{Pairs, Key_alike, Stack_alike, Act_alike, Block_alike, Plain_alike, One_to_one}
+use Rattle.ceal_code.specs.Determined.{Determined}
+use Rattle.ceal_code.specs.Fitting.{Fits}
 use Rattle.ceal_code.specs.Init.{made}
 use Rattle.ceal_code.specs.Known.{Agree, Holds, Known_stack, Known_act}
 use Rattle.ceal_code.specs.Over.{on, act_on}
 use Rattle.ceal_code.specs.Program.{Code}
-use Rattle.ceal_code.specs.Replay.{Known_words, Known_key}
+use Rattle.ceal_code.specs.Replay.{Known_words, Known_key, Replays, IsHonest}
 use Rattle.ceal_code.specs.Step.{Stack, next}
 use Rattle.ceal_code.specs.Value.{Plain}
 
@@ -23,3 +29,15 @@ Block_law = (code : Code) (inputs : ℕ) (bs : List ℕ) (x y : Plain) → Holds
 -- a stack over another one takes its own step, and the other one's where nothing of it is left
 abbrev pub Over_law : Type 0
 Over_law = (code : Code) (x : Plain) (st below : Stack) → next code x (on st below) ≡ act_on (next code x st) below (next code x below)
+
+-- the numbers of core blocks count for nothing: like stacks over like plain words have like next steps, and like keys
+-- make like blocks
+abbrev pub Alike_law : Type 0
+Alike_law = (code : Code) (ps : Pairs) → One_to_one ps → (x y : Plain) → Plain_alike code.structs ps x y
+    → ((st st' : Stack) → Stack_alike ps st st' → Act_alike ps (next code x st) (next code y st'))
+    × ((key key' : Key) → Key_alike ps key key' → Block_alike code.structs ps (made code x key) (made code y key'))
+
+-- a trace that replays a call and is honest determines the run of the call from scratch
+abbrev pub Trace_law : Type 0
+Trace_law = (code : Code) (inputs : List Block) (f : ℕ) (args : List Word) → Fits code inputs f args
+    → (l : Trace) → Replays code inputs f args l → (h : IsHonest code inputs l) → Determined code inputs f args l h.after

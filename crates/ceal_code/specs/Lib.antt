@@ -9,5 +9,8 @@ pub mod Parts
 pub mod Listing
 pub mod Branches
 pub mod Known
+pub mod Alike
+pub mod Fitting
+pub mod Determined
 pub mod Laws
 pub mod Over

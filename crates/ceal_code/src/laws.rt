@@ -1,6 +1,6 @@
 // Laws of trace code, each the contract of a function that does nothing.
 
-ghost use Rattle.ceal_code.specs.Laws.{Step_law, Block_law, Over_law};
+ghost use Rattle.ceal_code.specs.Laws.{Step_law, Block_law, Over_law, Alike_law, Trace_law};
 
 /// A step of trace code depends on the plain words of the blocks that its stack can reach, and on nothing else
 /// (our own).
@@ -17,4 +17,15 @@ pub fn block_law()
 /// A stack over another one takes its own steps, and then those of the other (our own).
 pub fn over_law()
     ensures law { Over_law }
+{}
+
+/// The numbers of core blocks count for nothing in a step or in what a new block holds (our own).
+pub fn alike_law()
+    ensures law { Alike_law }
+{}
+
+/// A trace that replays a call and is honest determines the steps, the blocks and the memory of the call's run from
+/// scratch (our own).
+pub fn trace_law()
+    ensures law { Trace_law }
 {}

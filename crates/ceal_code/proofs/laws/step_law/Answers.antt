@@ -3,5 +3,5 @@ use Rattle.ceal_code.proofs.laws.step_law.Goals as goal
 
 pub returns : goal.returns
 returns c = record {
-  law = λ code inputs bs x y has more st known. (next-known inputs bs x y has more code st known, next-same inputs bs x y has more code st known);
+  law = λ code inputs bs x y has more st known. (next-known inputs bs x has y more code st known, next-same inputs bs x has y more code st known);
 }

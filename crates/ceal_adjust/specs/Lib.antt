@@ -1,0 +1,5 @@
+pub mod Take
+pub mod Repair
+pub mod Adjust
+pub mod Computed
+pub mod Laws

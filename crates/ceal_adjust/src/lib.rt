@@ -1,0 +1,8 @@
+//! The repair of traces: change propagation as a definition, and the laws that make its result that of a run from
+//! scratch.
+//!
+//! `specs/` says which old items are taken (`Take`), how a trace is repaired (`Repair`, as rules, and `Computed`, as a
+//! function), and what the laws are (`Laws`). `laws` has each law as the contract of a function that does nothing.
+#![tactic(auto)]
+
+pub mod laws;
