@@ -1,0 +1,75 @@
+-- The places of the blocks of each form of statement.
+use Rattle.std.proofs.Common.{◌≡◌, ℕ, ◌+◌, ◌-◌, ◌<◌, ◌≤◌, Option, Some, List, [], ◌∷◌, ◌++◌, length, slice_get, refl, ap, ap₂, sym, ◌∙◌, arith, length-append}
+use Rattle.ceal_base.specs.declared.fault.Span.{Span}
+use Rattle.ceal_base.specs.declared.kind.Kind.{Kind}
+use Rattle.ceal_base.specs.declared.typed.TypedExpr.{TypedExpr}
+use Rattle.ceal_base.specs.declared.typed.TypedStmt.{TypedStmt, If', While', Row_of-TypedStmt, end_of-TypedStmt, more_of-TypedStmt}
+use Rattle.ceal_base.specs.declared.typed.TypedStmt.TheBlock.{hidden-the_row-TypedStmt-0, shape-the_row-TypedStmt-0}
+use Rattle.ceal_base.specs.declared.typed.TypedStmt.TheVariants.{Declare, Assign, SetField, Write, Call, Return}
+use Rattle.ceal_base.specs.declared.typed.TypedStmt.TheViews.{If, While}
+use Rattle.ceal_base.specs.declared.typed.TypedValue.{TypedValue}
+use Rattle.ceal_flow.specs.Blocks.{size, row_size, sizes}
+use Rattle.ceal_flow.specs.Lowering.{places, row_places, all_places}
+use Rattle.ceal_flow.proofs.BlockSteps.{row-sizes, size_steps}
+
+pub row-places : (xs : List TypedStmt) → row_places (hidden-the_row-TypedStmt-0 xs) ≡ all_places xs
+unfolding places all_places hidden-the_row-TypedStmt-0 shape-the_row-TypedStmt-0 denote.Hole.Carrier.hidden
+row-places [] = refl
+row-places (s ∷ xs) = ap (λ ps. places s ++ ps) (row-places xs)
+
+pub places-declare : (at : Span) (n : ℕ) (kind : Kind) (v : TypedValue) → places (Declare at n kind v) ≡ at ∷ []
+unfolding places
+places-declare at n kind v = refl
+
+pub places-assign : (at : Span) (n : ℕ) (v : TypedValue) → places (Assign at n v) ≡ at ∷ []
+unfolding places
+places-assign at n v = refl
+
+pub places-set : (at : Span) (left : TypedExpr) (s field : ℕ) (e : TypedExpr) → places (SetField at left s field e) ≡ at ∷ []
+unfolding places
+places-set at left s field e = refl
+
+pub places-write : (at : Span) (p e : TypedExpr) → places (Write at p e) ≡ at ∷ []
+unfolding places
+places-write at p e = refl
+
+pub places-call : (at : Span) (f : ℕ) (args : List TypedExpr) → places (Call at f args) ≡ at ∷ []
+unfolding places
+places-call at f args = refl
+
+pub places-return : (at : Span) → places (Return at) ≡ []
+unfolding places
+places-return at = refl
+
+pub places-if : (at : Span) (test : TypedExpr) (first second : List TypedStmt) → places (If at test first second) ≡ at ∷ (all_places first ++ all_places second)
+unfolding places
+places-if at test first second = ap₂ (λ a b. at ∷ (a ++ b)) (row-places first) (row-places second)
+
+pub places-while : (at : Span) (test : TypedExpr) (body : List TypedStmt) → places (While at test body) ≡ at ∷ all_places body
+unfolding places
+places-while at test body = ap (λ a. at ∷ a) (row-places body)
+
+-- one for each block
+mutual
+  unfolding places size
+
+  pub places-length : (s : TypedStmt) → length (places s) ≡ size s
+  places-length (Declare at v kind value) = refl
+  places-length (Assign at v value) = refl
+  places-length (SetField at left s field e) = refl
+  places-length (Write at p e) = refl
+  places-length (Call at f args) = refl
+  places-length (Return at) = refl
+  places-length (If' at test _ first _ second) =
+      let a = row-places-length first in let b = row-places-length second in simp length-append (omega (arith, a, b))
+  places-length (While' at test _ body) = let a = row-places-length body in omega (arith, a)
+
+  row-places-length : {m : _} (r : Row_of-TypedStmt m) → length (row_places r) ≡ row_size r
+  row-places-length end_of-TypedStmt = refl
+  row-places-length (more_of-TypedStmt s rest) =
+      let a = places-length s in let b = row-places-length rest in simp length-append (omega (arith, a, b))
+
+pub all-places-length : (xs : List TypedStmt) → length (all_places xs) ≡ sizes xs
+all-places-length xs = sym (ap length (row-places xs)) ∙ row-places-length (hidden-the_row-TypedStmt-0 xs) ∙ row-sizes xs
+
+pub ruleset place_steps = (size_steps, places-declare, places-assign, places-set, places-write, places-call, places-return)

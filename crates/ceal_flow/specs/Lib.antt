@@ -1,0 +1,8 @@
+pub mod Program
+pub mod Answers
+pub mod Blocks
+pub mod Lowering
+pub mod Fresh
+pub mod Paths
+pub mod Live
+pub mod Laws
