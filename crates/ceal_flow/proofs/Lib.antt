@@ -1,2 +1,5 @@
+pub mod ListFacts
 pub mod BlockSteps
 pub mod PlaceSteps
+pub mod FunctionSteps
+pub mod PutSteps

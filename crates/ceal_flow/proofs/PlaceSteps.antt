@@ -1,5 +1,7 @@
 -- The places of the blocks of each form of statement.
-use Rattle.std.proofs.Common.{◌≡◌, ℕ, ◌+◌, ◌-◌, ◌<◌, ◌≤◌, Option, Some, List, [], ◌∷◌, ◌++◌, length, slice_get, refl, ap, ap₂, sym, ◌∙◌, arith, length-append}
+use Rattle.std.proofs.Common.{◌≡◌, ℕ, ◌+◌, ◌-◌, ◌<◌, ◌≤◌, Option, Some, List, [], ◌∷◌, ◌++◌, length, slice_get, refl, ap, ap₂, sym, ◌∙◌, arith, length-append, take, drop, get_or, suc, add-one, append_assoc}
+use Rattle.std.proofs.Math.Seq.{drop-cons}
+use Rattle.std.proofs.lemmas.List.{take-append-drop}
 use Rattle.ceal_base.specs.declared.fault.Span.{Span}
 use Rattle.ceal_base.specs.declared.kind.Kind.{Kind}
 use Rattle.ceal_base.specs.declared.typed.TypedExpr.{TypedExpr}
@@ -10,6 +12,8 @@ use Rattle.ceal_base.specs.declared.typed.TypedStmt.TheViews.{If, While}
 use Rattle.ceal_base.specs.declared.typed.TypedValue.{TypedValue}
 use Rattle.ceal_flow.specs.Blocks.{size, row_size, sizes}
 use Rattle.ceal_flow.specs.Lowering.{places, row_places, all_places}
+use Rattle.ceal_flow.specs.declared.limit.TheConstants.{BLOCK_LIMIT}
+use Rattle.ceal_flow.proofs.ListFacts.{get-left, get-right}
 use Rattle.ceal_flow.proofs.BlockSteps.{row-sizes, size_steps}
 
 pub row-places : (xs : List TypedStmt) → row_places (hidden-the_row-TypedStmt-0 xs) ≡ all_places xs
@@ -71,5 +75,32 @@ mutual
 
 pub all-places-length : (xs : List TypedStmt) → length (all_places xs) ≡ sizes xs
 all-places-length xs = sym (ap length (row-places xs)) ∙ row-places-length (hidden-the_row-TypedStmt-0 xs) ∙ row-sizes xs
+
+pub all-places-append : (xs ys : List TypedStmt) → all_places (xs ++ ys) ≡ all_places xs ++ all_places ys
+unfolding all_places
+all-places-append [] ys = refl
+all-places-append (s ∷ xs) ys = rw (all-places-append xs ys, append_assoc) refl
+
+all-places-cons : (s : TypedStmt) (rest : List TypedStmt) → all_places (s ∷ rest) ≡ places s ++ all_places rest
+unfolding all_places
+all-places-cons s rest = refl
+
+pub all-places-parts : (xs : List TypedStmt) (i : ℕ) (s : TypedStmt) → s ≡ get_or xs i s → i < length xs
+    → all_places xs ≡ all_places (take i xs) ++ (places s ++ all_places (drop (i + 1) xs))
+all-places-parts xs i s is h =
+    sym (ap all_places (take-append-drop i xs)) ∙ all-places-append (take i xs) (drop i xs)
+    ∙ ap (λ ps. all_places (take i xs) ++ ps) (rw (drop-cons xs i s h, ← is, add-one) (all-places-cons s (drop (suc i) xs)))
+
+-- the place of a block of the statement at `i`
+pub all-places-at : (xs : List TypedStmt) (i : ℕ) (s : TypedStmt) → s ≡ get_or xs i s → i < length xs
+    → (k j : ℕ) (at : Span) → slice_get (places s) j ≡ Some at → k ≡ sizes (take i xs) + j → slice_get (all_places xs) k ≡ Some at
+all-places-at xs i s is h k j at here e =
+    rw (all-places-parts xs i s is h)
+    (get-right (all_places (take i xs)) (places s ++ all_places (drop (i + 1) xs)) k j at (get-left (places s) (all_places (drop (i + 1) xs)) j at here)
+    (rw (all-places-length (take i xs)) e))
+
+-- the first place past the limit, where none is left
+pub place-first : (at : Span) (ps : List Span) (count : ℕ) (place : Span) → place ≡ at → count ≡ BLOCK_LIMIT → slice_get (at ∷ ps) (BLOCK_LIMIT - count) ≡ Some place
+place-first at ps count place e full = let z : BLOCK_LIMIT - count ≡ 0 = omega arith in rw (z, e) refl
 
 pub ruleset place_steps = (size_steps, places-declare, places-assign, places-set, places-write, places-call, places-return)

@@ -11,7 +11,7 @@ use Rattle.ceal_base.specs.declared.typed.TypedValue.TheVariants.{Plain, Read, A
 use Rattle.ceal_base.specs.declared.word.Word.{Word}
 use Rattle.ceal_base.specs.declared.word.Word.TheVariants.{Null}
 use Rattle.ceal_mean.specs.Exec.{Taken, content_default, new_block, new_modifiable}
-use Rattle.ceal_mean.specs.Fresh.{Finished}
+use Rattle.ceal_base.specs.Finished.{Finished}
 use Rattle.ceal_mean.specs.Init.{made_by}
 use Rattle.ceal_mean.specs.Value.{value_of, values_of}
 use Rattle.ceal_flow.specs.Program.{Graph}

@@ -1,5 +1,4 @@
 pub mod Program
-pub mod Answers
 pub mod Blocks
 pub mod Lowering
 pub mod Fresh

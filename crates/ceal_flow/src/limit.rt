@@ -78,7 +78,8 @@ fn count_function(count: u32, function: &TypedFunction) -> Result<u32, Span>
         Some(_) => Ok(count),
         None => {
             let count = count_stmts(count, function.body.items())?;
-            count_block(count, function.close)
+            let count = count_block(count, function.close)?;
+            Ok(count)
         }
     }
 }

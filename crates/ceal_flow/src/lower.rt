@@ -1,7 +1,7 @@
 // A program into its graph.
 
 ghost use Rattle.std.specs.Prelude.{◌≡◌, ◌≤◌, ◌+◌, ◌++◌, length, IfOk, OnOk, IfErr};
-ghost use Rattle.ceal_flow.specs.Answers.{Gives};
+ghost use Rattle.ceal_base.specs.Answers.{Gives};
 ghost use Rattle.ceal_base.specs.Usage.{KeepsUsage};
 ghost use Rattle.ceal_flow.specs.Blocks.{sizes};
 ghost use Rattle.ceal_flow.specs.Laws.{RunsAs};
@@ -90,10 +90,10 @@ pub fn lower(alloc: Global, program: &Typed) -> Result<Graph, FrontError>
     ensures same_run { KeepsUsage program.now → IfOk result (λ g. RunsAs g program.now) }
 {
     match count_functions(program.functions.items()) {
-        Ok(_) => match graph(alloc, program) {
-            Ok(graph) => Ok(graph),
-            Err(NoMemory) => Err(FrontError::Memory),
-        },
+        Ok(_) => {
+            let graph = graph(alloc, program)?;
+            Ok(graph)
+        }
         Err(span) => Err(FrontError::Fault(Fault {
             code: FaultCode::L1,
             span,

@@ -53,6 +53,7 @@ fn leave_out(blocks: &mut Vec<GraphBlock>, count: u32) -> Result<(), NoMemory>
 
 /// Adds the blocks of a statement, which is followed by a jump to `after`, and says whether some path goes on behind it.
 #[cycle(put)]
+#[tactic(auto, using(crate::proofs::BlockSteps::put_steps))]
 fn put_stmt(
     alloc: Global,
     blocks: &mut Vec<GraphBlock>,
@@ -94,6 +95,7 @@ fn put_stmt(
 /// Adds the blocks of statements, which are followed by a jump to `after`, and says whether some path goes on behind
 /// them. What no path leads to is left out.
 #[cycle(put)]
+#[tactic(auto, using(crate::proofs::BlockSteps::put_steps))]
 pub fn put_stmts(
     alloc: Global,
     blocks: &mut Vec<GraphBlock>,
