@@ -3,3 +3,5 @@ pub mod BlockSteps
 pub mod PlaceSteps
 pub mod FunctionSteps
 pub mod PutSteps
+pub mod Placing
+pub mod Simulation

@@ -5,14 +5,14 @@ ghost use Rattle.ceal_base.specs.Answers.{Gives};
 ghost use Rattle.ceal_base.specs.Usage.{KeepsUsage};
 ghost use Rattle.ceal_flow.specs.Blocks.{sizes};
 ghost use Rattle.ceal_flow.specs.Laws.{RunsAs};
-ghost use Rattle.ceal_flow.specs.Lowering.{function_size, function_sizes, core_at, function_at, core_blocks, blocks_at, graph_of, lowered};
+ghost use Rattle.ceal_flow.specs.Lowering.{function_size, function_sizes, core_at, function_at, core_blocks, blocks_at, functions_from, blocks_from, graph_of, lowered};
 
 use crate::block::GraphBlock;
 use crate::function::GraphFunction;
 use crate::graph::Graph;
 use crate::limit::{BLOCK_LIMIT, count_functions};
 use crate::size::{entry_of, sizes_of};
-use crate::statements::put_stmts;
+use crate::statements::{next_number, put_stmts};
 use ceal_base::copies::{copied_function, copied_structs};
 use ceal_base::fault::{Fault, FaultCode, FrontError};
 use ceal_base::no_memory::NoMemory;
@@ -30,7 +30,7 @@ fn put_core(
     ensures function { IfOk result (λ f. f ≡ core_at function.now (length blocks.old.items)) }
 {
     let body = function.body.items();
-    let at = blocks.len() as u32;
+    let at = next_number(blocks);
     let done = at + sizes_of(body);
     let first = entry_of(body, at, done, done);
     put_stmts(alloc, blocks, body, done, done)?;
@@ -67,17 +67,30 @@ fn put_function(
     }
 }
 
+/// Adds the blocks of functions, and gives the functions.
+fn put_functions(
+    alloc: Global,
+    blocks: &mut Vec<GraphBlock>,
+    functions: &[TypedFunction],
+) -> Result<Vec<GraphFunction>, NoMemory>
+    requires room { length blocks.old.items + function_sizes functions.now ≤ BLOCK_LIMIT }
+    ensures blocks { OnOk result (blocks.new.items ≡ blocks.old.items ++ blocks_from (length blocks.old.items) functions.now) }
+    ensures functions { IfOk result (λ fs. fs.items ≡ functions_from (length blocks.old.items) functions.now) }
+{
+    let mut put = Vec::new(alloc);
+    for function in functions {
+        put.push(put_function(alloc, blocks, function)?)?;
+    }
+    Ok(put)
+}
+
 /// The graph of a program that keeps the limit.
 fn graph(alloc: Global, program: &Typed) -> Result<Graph, NoMemory>
     requires { function_sizes program.now.functions ≤ BLOCK_LIMIT }
     ensures value { IfOk result (λ g. g ≡ graph_of program.now) }
 {
-    let mut functions = Vec::new(alloc);
     let mut blocks = Vec::new(alloc);
-    for function in program.functions.items() {
-        let function = put_function(alloc, &mut blocks, function)?;
-        functions.push(function)?;
-    }
+    let functions = put_functions(alloc, &mut blocks, program.functions.items())?;
     let structs = copied_structs(alloc, program.structs.items())?;
     Ok(Graph::new(structs, functions, blocks))
 }
@@ -90,10 +103,10 @@ pub fn lower(alloc: Global, program: &Typed) -> Result<Graph, FrontError>
     ensures same_run { KeepsUsage program.now → IfOk result (λ g. RunsAs g program.now) }
 {
     match count_functions(program.functions.items()) {
-        Ok(_) => {
-            let graph = graph(alloc, program)?;
-            Ok(graph)
-        }
+        Ok(_) => match graph(alloc, program) {
+            Ok(graph) => Ok(graph),
+            Err(NoMemory) => Err(FrontError::Memory),
+        },
         Err(span) => Err(FrontError::Fault(Fault {
             code: FaultCode::L1,
             span,

@@ -12,6 +12,14 @@ use ceal_base::no_memory::NoMemory;
 use ceal_base::typed::{TypedExpr, TypedStmt};
 use std::alloc::Global;
 
+/// The number of the next block.
+pub fn next_number(blocks: &Vec<GraphBlock>) -> u32
+    requires { length blocks.now.items ≤ BLOCK_LIMIT }
+    ensures value { result ≡ length blocks.now.items }
+{
+    blocks.len() as u32
+}
+
 /// The block of a statement that has one; some path goes on behind it.
 fn put_act(
     alloc: Global,
@@ -67,7 +75,7 @@ fn put_stmt(
 {
     match s {
         TypedStmt::If(_, test, first, second) => {
-            let first_at = blocks.len() as u32 + 1;
+            let first_at = next_number(blocks) + 1;
             let second_at = first_at + sizes_of(first.items());
             let yes = entry_of(first.items(), first_at, after, done);
             let no = entry_of(second.items(), second_at, after, done);
@@ -77,7 +85,7 @@ fn put_stmt(
             Ok(first_on | second_on)
         }
         TypedStmt::While(_, test, body) => {
-            let at = blocks.len() as u32;
+            let at = next_number(blocks);
             let yes = entry_of(body.items(), at + 1, at, done);
             put_test(alloc, blocks, test, yes, after)?;
             put_stmts(alloc, blocks, body.items(), at, done)?;
@@ -109,7 +117,7 @@ pub fn put_stmts(
 {
     for (i, s) in stmts.iter().enumerate() {
         let rest = &stmts[i + 1..];
-        let behind = blocks.len() as u32 + size_of(s);
+        let behind = next_number(blocks) + size_of(s);
         let next = entry_of(rest, behind, after, done);
         if !put_stmt(alloc, blocks, s, next, done)? {
             leave_out(blocks, sizes_of(rest))?;
