@@ -5,3 +5,4 @@ pub mod FunctionSteps
 pub mod PutSteps
 pub mod Placing
 pub mod Simulation
+pub mod SameRun
