@@ -205,7 +205,7 @@ mutual
       simp length-append (omega (arith, a, b))
   blocks-length (While' at test _ body) n after done = let a = row-length body (n + 1) n done in omega (arith, a)
 
-  row-length : {m : _} (r : Row_of-TypedStmt m) (n after done : ℕ) → length (row_blocks r n after done) ≡ row_size r
+  pub row-length : {m : _} (r : Row_of-TypedStmt m) (n after done : ℕ) → length (row_blocks r n after done) ≡ row_size r
   row-length end_of-TypedStmt n after done = refl
   row-length (more_of-TypedStmt s rest) n after done =
       let a = blocks-length s n (row_entry rest (n + size s) after done) done in

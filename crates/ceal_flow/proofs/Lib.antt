@@ -6,3 +6,5 @@ pub mod PutSteps
 pub mod Placing
 pub mod Simulation
 pub mod SameRun
+pub mod Reach
+pub mod Reached
