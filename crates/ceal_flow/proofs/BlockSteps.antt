@@ -216,4 +216,5 @@ pub all-length : (xs : List TypedStmt) (n after done : ℕ) → length (all_bloc
 all-length xs n after done = sym (ap length (row-blocks xs n after done)) ∙ row-length (hidden-the_row-TypedStmt-0 xs) n after done ∙ row-sizes xs
 
 pub ruleset size_steps = (size-declare, size-assign, size-set, size-write, size-call, size-return, size-if, size-while, sizes-nil, sizes-cons)
+
 pub ruleset put_steps = (size_steps, on-declare, on-assign, on-set, on-write, on-call, on-return, on-if, on-while, blocks-declare, blocks-assign, blocks-set, blocks-write, blocks-call, blocks-return)

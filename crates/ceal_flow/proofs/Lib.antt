@@ -8,3 +8,4 @@ pub mod Simulation
 pub mod SameRun
 pub mod Reach
 pub mod Reached
+pub mod BitFacts

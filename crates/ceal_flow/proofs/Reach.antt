@@ -32,9 +32,9 @@ pub parted : {X : Type 0} (P : Option X → Type 0) (xs ys : List X) (i : ℕ) �
 parted P [] ys i h = inr (i, omega arith, h)
 parted P (x ∷ xs) ys zero h = inl (omega arith, h)
 parted P (x ∷ xs) ys (suc i) h = elim (parted P xs ys i h) [
-    inl k ↦ inl (let l = k.0 in omega (arith, l), k.1)
+  | inl k ↦ inl (let l = k.0 in omega (arith, l), k.1)
   | inr k ↦ inr (k.0, (let e = k.1 in omega (arith, e)), k.2)
-  ]
+]
 
 module _ (blocks : List GraphBlock) where
   pub lead-on : (a b c : ℕ) → Leads blocks a b → Leads blocks b c → Leads blocks a c
@@ -99,23 +99,23 @@ module _ (blocks : List GraphBlock) where
       (one : Laws start xs n mid done true) (two : Laws mid ys (n + k) after done on) where
     seq-inside : (i : ℕ) → IsKept (slice_get (xs ++ ys) i) → Leads blocks start (n + i)
     seq-inside i h = elim (parted IsKept xs ys i h) [
-        inl l ↦ one.inside i l.1
+      | inl l ↦ one.inside i l.1
       | inr l ↦
-        let e : (n + k) + l.0 ≡ n + i = let q = l.1 in omega (arith, q, long) in
-        subst (λ m. Leads blocks start m) e (lead-on start mid ((n + k) + l.0) one.out (two.inside l.0 l.2))
-      ]
+          let e : (n + k) + l.0 ≡ n + i = let q = l.1 in omega (arith, q, long) in
+          subst (λ m. Leads blocks start m) e (lead-on start mid ((n + k) + l.0) one.out (two.inside l.0 l.2))
+    ]
 
     seq-closed : Kept done → (on ≡ true → Kept after) → (i : ℕ) (block : GraphBlock) (c : ℕ) → slice_get (xs ++ ys) i ≡ Some block → Contains (jumps block) c → Kept c
     seq-closed d h i block c e j = elim (parted (λ o. o ≡ Some block) xs ys i e) [
-        inl l ↦ one.closed d (λ t. two.entry d h) i block c l.1 j
+      | inl l ↦ one.closed d (λ t. two.entry d h) i block c l.1 j
       | inr l ↦ two.closed d h l.0 block c l.2 j
-      ]
+    ]
 
     seq-acts : (i : ℕ) (s : TypedStmt) (next : ℕ) → slice_get (xs ++ ys) i ≡ Some (Act s next) → IsSimple s
     seq-acts i s next e = elim (parted (λ o. o ≡ Some (Act s next)) xs ys i e) [
-        inl l ↦ one.acts i s next l.1
+      | inl l ↦ one.acts i s next l.1
       | inr l ↦ two.acts l.0 s next l.2
-      ]
+    ]
 
     pub seq-laws : Laws start (xs ++ ys) n after done on
     seq-laws = record {
@@ -130,9 +130,9 @@ module _ (blocks : List GraphBlock) where
   module _ (start mid : ℕ) (xs : List GraphBlock) (n k after done : ℕ) (one : Laws start xs n mid done false) where
     last-inside : (i : ℕ) → IsKept (slice_get (xs ++ replicate k Unreached) i) → Leads blocks start (n + i)
     last-inside i h = elim (parted IsKept xs (replicate k Unreached) i h) [
-        inl l ↦ one.inside i l.1
+      | inl l ↦ one.inside i l.1
       | inr l ↦ absurd (none-kept k l.0 l.2)
-      ]
+    ]
 
     left-out : (m i : ℕ) (block : GraphBlock) → slice_get (replicate m Unreached) i ≡ Some block → block ≡ Unreached
     left-out zero i block e = cc
@@ -144,15 +144,15 @@ module _ (blocks : List GraphBlock) where
 
     last-closed : Kept done → (i : ℕ) (block : GraphBlock) (c : ℕ) → slice_get (xs ++ replicate k Unreached) i ≡ Some block → Contains (jumps block) c → Kept c
     last-closed d i block c e j = elim (parted (λ o. o ≡ Some block) xs (replicate k Unreached) i e) [
-        inl l ↦ one.closed d (λ t. cc) i block c l.1 j
+      | inl l ↦ one.closed d (λ t. cc) i block c l.1 j
       | inr l ↦ absurd (no-jumps block c (left-out k l.0 block l.2) j)
-      ]
+    ]
 
     last-acts : (i : ℕ) (s : TypedStmt) (next : ℕ) → slice_get (xs ++ replicate k Unreached) i ≡ Some (Act s next) → IsSimple s
     last-acts i s next e = elim (parted (λ o. o ≡ Some (Act s next)) xs (replicate k Unreached) i e) [
-        inl l ↦ one.acts i s next l.1
+      | inl l ↦ one.acts i s next l.1
       | inr l ↦ let q = left-out k l.0 (Act s next) l.2 in cc
-      ]
+    ]
 
     pub last-laws : Laws start (xs ++ replicate k Unreached) n after done false
     last-laws = record {
@@ -188,31 +188,31 @@ module _ (blocks : List GraphBlock) where
     if-inside : (i : ℕ) → IsKept (slice_get (Test test a b ∷ (xs ++ ys)) i) → Leads blocks n (n + i)
     if-inside zero h = let e : n ≡ n + 0 = omega arith in subst (λ m. Leads blocks n m) e stays
     if-inside (suc i) h = elim (parted IsKept xs ys i h) [
-        inl l ↦ let e : n + 1 + i ≡ n + suc i = omega arith in subst (λ m. Leads blocks n m) e (to-first (n + 1 + i) (one.inside i l.1))
+      | inl l ↦ let e : n + 1 + i ≡ n + suc i = omega arith in subst (λ m. Leads blocks n m) e (to-first (n + 1 + i) (one.inside i l.1))
       | inr l ↦
-        let e : n + 1 + k + l.0 ≡ n + suc i = let q = l.1 in omega (arith, q, long) in
-        subst (λ m. Leads blocks n m) e (to-second (n + 1 + k + l.0) (two.inside l.0 l.2))
-      ]
+          let e : n + 1 + k + l.0 ≡ n + suc i = let q = l.1 in omega (arith, q, long) in
+          subst (λ m. Leads blocks n m) e (to-second (n + 1 + k + l.0) (two.inside l.0 l.2))
+    ]
 
     if-closed : Kept done → ((first_on || second_on) ≡ true → Kept after) → (i : ℕ) (block : GraphBlock) (c : ℕ)
         → slice_get (Test test a b ∷ (xs ++ ys)) i ≡ Some block → Contains (jumps block) c → Kept c
     if-closed d h zero block c e j =
         let same : Test test a b ≡ block = cc in
         elim (contains-two a b c (rw (← same) at j)) [
-          inl q ↦ subst (λ x. Kept x) q (one.entry d (λ t. h (on-left first_on second_on t)))
-        | inr q ↦ subst (λ x. Kept x) q (two.entry d (λ t. h (on-right first_on second_on t)))
+          | inl q ↦ subst (λ x. Kept x) q (one.entry d (λ t. h (on-left first_on second_on t)))
+          | inr q ↦ subst (λ x. Kept x) q (two.entry d (λ t. h (on-right first_on second_on t)))
         ]
     if-closed d h (suc i) block c e j = elim (parted (λ o. o ≡ Some block) xs ys i e) [
-        inl l ↦ one.closed d (λ t. h (on-left first_on second_on t)) i block c l.1 j
+      | inl l ↦ one.closed d (λ t. h (on-left first_on second_on t)) i block c l.1 j
       | inr l ↦ two.closed d (λ t. h (on-right first_on second_on t)) l.0 block c l.2 j
-      ]
+    ]
 
     if-acts : (i : ℕ) (s : TypedStmt) (next : ℕ) → slice_get (Test test a b ∷ (xs ++ ys)) i ≡ Some (Act s next) → IsSimple s
     if-acts zero s next e = cc
     if-acts (suc i) s next e = elim (parted (λ o. o ≡ Some (Act s next)) xs ys i e) [
-        inl l ↦ one.acts i s next l.1
+      | inl l ↦ one.acts i s next l.1
       | inr l ↦ two.acts l.0 s next l.2
-      ]
+    ]
 
     pub if-laws : Laws n (Test test a b ∷ (xs ++ ys)) n after done (first_on || second_on)
     if-laws = record {
@@ -236,8 +236,8 @@ module _ (blocks : List GraphBlock) where
     while-closed d h zero block c e j =
         let same : Test test a after ≡ block = cc in
         elim (contains-two a after c (rw (← same) at j)) [
-          inl q ↦ subst (λ x. Kept x) q (one.entry d (λ t. rw look tt))
-        | inr q ↦ subst (λ x. Kept x) q h
+          | inl q ↦ subst (λ x. Kept x) q (one.entry d (λ t. rw look tt))
+          | inr q ↦ subst (λ x. Kept x) q h
         ]
     while-closed d h (suc i) block c e j = one.closed d (λ t. rw look tt) i block c e j
 

@@ -106,9 +106,9 @@ module _ (blocks : List GraphBlock) where
 
     whole-inside : (i : ℕ) → IsKept (slice_get (core_blocks body n) i) → Leads blocks (first_of body n) (n + i)
     whole-inside i h = elim (parted IsKept (all_blocks body n (end_of body n) (end_of body n)) (Done ∷ []) i h) [
-        inl l ↦ stmts.inside i l.1
+      | inl l ↦ stmts.inside i l.1
       | inr l ↦ at-last l.0 i l.1 l.2
-      ]
+    ]
 
     none-after : (j : ℕ) (block : GraphBlock) (c : ℕ) → slice_get (Done ∷ []) j ≡ Some block → Contains (jumps block) c → ⊥
     none-after zero block c e h =
@@ -118,9 +118,9 @@ module _ (blocks : List GraphBlock) where
 
     whole-closed : (i : ℕ) (block : GraphBlock) (c : ℕ) → slice_get (core_blocks body n) i ≡ Some block → Contains (jumps block) c → Kept blocks c
     whole-closed i block c e h = elim (parted (λ o. o ≡ Some block) (all_blocks body n (end_of body n) (end_of body n)) (Done ∷ []) i e) [
-        inl l ↦ stmts.closed kept-end (λ t. kept-end) i block c l.1 h
+      | inl l ↦ stmts.closed kept-end (λ t. kept-end) i block c l.1 h
       | inr l ↦ absurd (none-after l.0 block c l.2 h)
-      ]
+    ]
 
     no-act : (j : ℕ) (s : TypedStmt) (next : ℕ) → slice_get (Done ∷ []) j ≡ Some (Act s next) → ⊥
     no-act zero s next e = cc
@@ -128,9 +128,9 @@ module _ (blocks : List GraphBlock) where
 
     whole-acts : (i : ℕ) (s : TypedStmt) (next : ℕ) → slice_get (core_blocks body n) i ≡ Some (Act s next) → IsSimple s
     whole-acts i s next e = elim (parted (λ o. o ≡ Some (Act s next)) (all_blocks body n (end_of body n) (end_of body n)) (Done ∷ []) i e) [
-        inl l ↦ stmts.acts i s next l.1
+      | inl l ↦ stmts.acts i s next l.1
       | inr l ↦ absurd (no-act l.0 s next l.2)
-      ]
+    ]
 
     pub whole : Whole body n
     whole = record { inside = whole-inside; entry = stmts.entry kept-end (λ t. kept-end); closed = whole-closed; acts = whole-acts }
@@ -156,7 +156,11 @@ first-here (Some s) f n fs e = cc
 owner-here : (before : List GraphBlock) (n : ℕ) (f : TypedFunction) (rest : List GraphBlock) (fs : List GraphFunction) (i : Option ℕ) (j : ℕ) (block : GraphBlock)
     → n ≡ length before → slice_get (blocks_in i f.body n) j ≡ Some block → Owner (before ++ (blocks_in i f.body n ++ rest)) (function_in i f n ∷ fs) (n + j) block
 owner-here before n f rest fs None j block e h = record {
-  body = f.body; start = n; i = j; at = refl; item = h;
+  body = f.body;
+  start = n;
+  i = j;
+  at = refl;
+  item = h;
   placed = placed-part before (core_blocks f.body n) rest n e;
   first = first-here None f n fs refl;
 }
@@ -167,20 +171,23 @@ owner-from : (before : List GraphBlock) (n : ℕ) (fs : List TypedFunction) (j :
 unfolding blocks_from functions_from
 owner-from before n [] j block e h = cc
 owner-from before n (f ∷ fs) j block e h = elim (parted (λ o. o ≡ Some block) (blocks_at f n) (blocks_from (n + function_size f) fs) j h) [
-    inl l ↦ owner-here before n f (blocks_from (n + function_size f) fs) (functions_from (n + function_size f) fs) f.initialiser j block e l.1
+  | inl l ↦ owner-here before n f (blocks_from (n + function_size f) fs) (functions_from (n + function_size f) fs) f.initialiser j block e l.1
   | inr l ↦
-    let long = blocks_in-length f.initialiser f.body n in
-    let longer : n + function_size f ≡ length (before ++ blocks_at f n) = simp length-append (omega (arith, long, e)) in
-    let o = owner-from (before ++ blocks_at f n) (n + function_size f) fs l.0 block longer l.2 in
-    let q = l.1 in
-    let at = o.at in
-    record {
-      body = o.body; start = o.start; i = o.i; item = o.item;
-      at = omega (arith, q, long, at);
-      placed = rw append_assoc at o.placed;
-      first = firsts-more (function_at f n) (functions_from (n + function_size f) fs) (first_of o.body o.start) o.first;
-    }
-  ]
+      let long = blocks_in-length f.initialiser f.body n in
+      let longer : n + function_size f ≡ length (before ++ blocks_at f n) = simp length-append (omega (arith, long, e)) in
+      let o = owner-from (before ++ blocks_at f n) (n + function_size f) fs l.0 block longer l.2 in
+      let q = l.1 in
+      let at = o.at in
+      record {
+        body = o.body;
+        start = o.start;
+        i = o.i;
+        item = o.item;
+        at = omega (arith, q, long, at);
+        placed = rw append_assoc at o.placed;
+        first = firsts-more (function_at f n) (functions_from (n + function_size f) fs) (first_of o.body o.start) o.first;
+      }
+]
 
 -- the core function that begins at a block
 record Started (blocks : List GraphBlock) (x : ℕ) : Type 0 where
@@ -192,9 +199,9 @@ record Started (blocks : List GraphBlock) (x : ℕ) : Type 0 where
 first-cases : (i : Option ℕ) (f : TypedFunction) (n : ℕ) (fs : List GraphFunction) (x : ℕ) → Contains (firsts (function_in i f n ∷ fs)) x
     → ((i ≡ None) × (first_of f.body n ≡ x)) ⊎ Contains (firsts fs) x
 first-cases None f n fs x h = elim (Contains-append_cases (first_of f.body n ∷ []) (firsts fs) x h) [
-    inl k ↦ elim (Contains-push_cases [] (first_of f.body n) x k) [ inl z ↦ absurd (let l = z.1 in omega (arith, l)) | inr e ↦ inl (refl, e) ]
+  | inl k ↦ elim (Contains-push_cases [] (first_of f.body n) x k) [ inl z ↦ absurd (let l = z.1 in omega (arith, l)) | inr e ↦ inl (refl, e) ]
   | inr k ↦ inr k
-  ]
+]
 first-cases (Some s) f n fs x h = inr h
 
 core-part : (before rest : List GraphBlock) (i : Option ℕ) (body : List TypedStmt) (n : ℕ) → n ≡ length before → i ≡ None
@@ -207,13 +214,13 @@ started-from : (before : List GraphBlock) (n : ℕ) (fs : List TypedFunction) (x
 unfolding blocks_from functions_from
 started-from before n [] x e h = let l = h.1 in absurd (omega (arith, l))
 started-from before n (f ∷ fs) x e h = elim (first-cases f.initialiser f n (functions_from (n + function_size f) fs) x h) [
-    inl k ↦ record { body = f.body; start = n; is = k.1; placed = core-part before (blocks_from (n + function_size f) fs) f.initialiser f.body n e k.0 }
+  | inl k ↦ record { body = f.body; start = n; is = k.1; placed = core-part before (blocks_from (n + function_size f) fs) f.initialiser f.body n e k.0 }
   | inr k ↦
-    let long = blocks_in-length f.initialiser f.body n in
-    let longer : n + function_size f ≡ length (before ++ blocks_at f n) = simp length-append (omega (arith, long, e)) in
-    let s = started-from (before ++ blocks_at f n) (n + function_size f) fs x longer k in
-    record { body = s.body; start = s.start; is = s.is; placed = rw append_assoc at s.placed }
-  ]
+      let long = blocks_in-length f.initialiser f.body n in
+      let longer : n + function_size f ≡ length (before ++ blocks_at f n) = simp length-append (omega (arith, long, e)) in
+      let s = started-from (before ++ blocks_at f n) (n + function_size f) fs x longer k in
+      record { body = s.body; start = s.start; is = s.is; placed = rw append_assoc at s.placed }
+]
 
 record Block (o : Option GraphBlock) : Type 0 where
   block : GraphBlock

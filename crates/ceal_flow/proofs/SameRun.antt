@@ -189,13 +189,13 @@ module _ (p : Typed) (kept : KeepsUsage p) where
     look-at s (OpenIf sp test first second) rest at fr e =
         let is : s ≡ If sp test first second = sym (roll-out-TypedStmt s) ∙ ap roll-TypedStmt e ∙ rolls-If sp test first second in
         let blocks : blocks_of s fr.n fr.after done ≡ looked (OpenIf sp test first second) fr.n fr.after done
-            ∷ (all_blocks first (fr.n + 1) fr.after done ++ all_blocks second (fr.n + 1 + sizes first) fr.after done) =
-            rw is (blocks-if fr.n fr.after done sp test first second) in
+        ∷ (all_blocks first (fr.n + 1) fr.after done ++ all_blocks second (fr.n + 1 + sizes first) fr.after done) =
+        rw is (blocks-if fr.n fr.after done sp test first second) in
         first-block s rest at fr _ _ (rw is refl) blocks
     look-at s (OpenWhile sp test body) rest at fr e =
         let is : s ≡ While sp test body = sym (roll-out-TypedStmt s) ∙ ap roll-TypedStmt e ∙ rolls-While sp test body in
         let blocks : blocks_of s fr.n fr.after done ≡ looked (OpenWhile sp test body) fr.n fr.after done ∷ all_blocks body (fr.n + 1) fr.n done =
-            rw is (blocks-while fr.n fr.after done sp test body) in
+        rw is (blocks-while fr.n fr.after done sp test body) in
         first-block s rest at fr _ _ (rw is refl) blocks
     look-at s (OpenReturn sp) rest at fr e =
         let is : s ≡ Return sp = sym (roll-out-TypedStmt s) ∙ ap roll-TypedStmt e ∙ rolls-Return sp in
@@ -274,11 +274,11 @@ module _ (p : Typed) (kept : KeepsUsage p) where
           let k = fr.n + 1 in
           let other = k + sizes first in
           let one = part-stands-at first rest k fr.after (all_go_on first) refl (row-usage p.functions first usage.0)
-              (placed-left g.blocks k (all_blocks first k fr.after done) (all_blocks second other fr.after done) parts)
-              (λ on. fr.next (rw (is, on-if, on) refl)) in
+          (placed-left g.blocks k (all_blocks first k fr.after done) (all_blocks second other fr.after done) parts)
+          (λ on. fr.next (rw (is, on-if, on) refl)) in
           let two = part-stands-at second rest other fr.after (all_go_on second) refl (row-usage p.functions second usage.1)
-              (placed-right g.blocks k (all_blocks first k fr.after done) (all_blocks second other fr.after done) (sizes first) (sym (all-length first k fr.after done)) parts)
-              (λ on. fr.next (rw (is, on-if, on) (or-right (all_go_on first)))) in
+          (placed-right g.blocks k (all_blocks first k fr.after done) (all_blocks second other fr.after done) (sizes first) (sym (all-length first k fr.after done)) parts)
+          (λ on. fr.next (rw (is, on-if, on) (or-right (all_go_on first)))) in
           record { memory = refl; frames = next-along _ _ env (if-stands (holds (value_of env m test)) first second rest _ _ fr.after one two) }
       step-of s (OpenWhile sp test body) at e r st fr =
           let is : s ≡ While sp test body = sym (roll-out-TypedStmt s) ∙ ap roll-TypedStmt e ∙ rolls-While sp test body in
@@ -321,15 +321,29 @@ module _ (p : Typed) (kept : KeepsUsage p) where
       let s : settled (f ∷ fs) ≡ settled fs = rw e refl in
       let t : graph_settled g (q ∷ qs) ≡ graph_settled g qs = rw (o, e) refl in
       elim later [
-        inl n ↦ inl (s ∙ n.0, t ∙ n.1)
-      | inr r ↦ inr (record {
-          frame = r.frame; below = r.below; point = r.point; points = r.points;
-          frames_are = s ∙ r.frames_are; points_are = t ∙ r.points_are; along = r.along; others = r.others; runs = r.runs;
+        | inl n ↦ inl (s ∙ n.0, t ∙ n.1)
+        | inr r ↦ inr (record {
+          frame = r.frame;
+          below = r.below;
+          point = r.point;
+          points = r.points;
+          frames_are = s ∙ r.frames_are;
+          points_are = t ∙ r.points_are;
+          along = r.along;
+          others = r.others;
+          runs = r.runs;
         })
       ]
   settle-first f fs q qs h later false e o = inr (record {
-    frame = f; below = fs; point = q; points = qs;
-    frames_are = rw e refl; points_are = rw (o, e) refl; along = h.0; others = h.1; runs = e;
+    frame = f;
+    below = fs;
+    point = q;
+    points = qs;
+    frames_are = rw e refl;
+    points_are = rw (o, e) refl;
+    along = h.0;
+    others = h.1;
+    runs = e;
   })
 
   settle : (fs : List Frame) (qs : List Point) → AllAlong fs qs → Settled fs qs
@@ -345,14 +359,14 @@ module _ (p : Typed) (kept : KeepsUsage p) where
   run-same zero steps m fs qs h =
       elim (settle fs qs h) [ inl n ↦ rw (n.0, n.1) refl | inr r ↦ rw (r.frames_are, r.points_are) refl ]
   run-same (suc fuel) steps m fs qs h = elim (settle fs qs h) [
-      inl n ↦ rw (n.0, n.1) refl
+    | inl n ↦ rw (n.0, n.1) refl
     | inr r ↦
-      let t = graph_stepped g m r.point.env r.points (slice_get g.blocks r.point.block) in
-      let s = stepped p m r.frame r.frame.todo r.below in
-      let a = step-along m r.frame r.frame.todo r.below r.point r.points refl r.along r.others r.runs in
-      rw (r.frames_are, r.points_are)
-      (ap (λ mm. graph_run_settled g fuel (steps + 1) mm (graph_settled g t.points)) (sym a.memory) ∙ run-same fuel (steps + 1) s.memory s.frames t.points a.frames)
-    ]
+        let t = graph_stepped g m r.point.env r.points (slice_get g.blocks r.point.block) in
+        let s = stepped p m r.frame r.frame.todo r.below in
+        let a = step-along m r.frame r.frame.todo r.below r.point r.points refl r.along r.others r.runs in
+        rw (r.frames_are, r.points_are)
+        (ap (λ mm. graph_run_settled g fuel (steps + 1) mm (graph_settled g t.points)) (sym a.memory) ∙ run-same fuel (steps + 1) s.memory s.frames t.points a.frames)
+  ]
 
   pub runs-as : RunsAs g p
   runs-as f args inputs fuel core = run-same fuel 0 (record { inputs = inputs; made = [] }) (entered p f args) (graph_entered g f args) (call-along f args core)

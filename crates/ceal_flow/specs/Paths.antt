@@ -1,5 +1,5 @@
 -- Paths of a graph.
-use Rattle.std.specs.Prelude.{◌≡◌, ℕ, Bool, true, IsTrue, Option, Some, None, List, [], ◌∷◌, slice_get, Contains}
+use Rattle.std.specs.Prelude.{ℕ, Bool, true, IsTrue, Option, Some, None, List, [], ◌∷◌, slice_get, Contains}
 use Rattle.ceal_flow.specs.declared.block.GraphBlock.{GraphBlock}
 use Rattle.ceal_flow.specs.declared.block.GraphBlock.TheVariants.{Done, Test, Act, Unreached}
 

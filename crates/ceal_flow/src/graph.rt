@@ -31,11 +31,7 @@ impl Model for Graph {
 }
 
 impl Graph {
-    pub fn new(
-        structs: Structs,
-        functions: Vec<GraphFunction>,
-        blocks: Vec<GraphBlock>,
-    ) -> Graph
+    pub fn new(structs: Structs, functions: Vec<GraphFunction>, blocks: Vec<GraphBlock>) -> Graph
         ensures value { result ≡ record { structs = structs; functions = functions.items; blocks = blocks.items } }
     {
         Graph {

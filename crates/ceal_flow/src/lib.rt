@@ -6,11 +6,14 @@
 //! `laws`.
 #![tactic(auto)]
 
+mod bits;
 pub mod block;
 pub mod function;
 pub mod graph;
 pub mod laws;
 pub mod limit;
+pub mod live_set;
+pub mod live_sets;
 pub mod lower;
 mod size;
 mod statements;

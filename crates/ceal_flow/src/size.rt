@@ -19,7 +19,9 @@ pub fn size_of(s: &TypedStmt) -> u32
         TypedStmt::SetField(..) => 1,
         TypedStmt::Write(..) => 1,
         TypedStmt::Call(..) => 1,
-        TypedStmt::If(_, _, first, second) => 1 + sizes_of(first.items()) + sizes_of(second.items()),
+        TypedStmt::If(_, _, first, second) => 1
+            + sizes_of(first.items())
+            + sizes_of(second.items()),
         TypedStmt::While(_, _, body) => 1 + sizes_of(body.items()),
         TypedStmt::Return(_) => 0,
     }

@@ -11,7 +11,7 @@ returns-in-Ok-graph-clause-first c =
     let fs = c.args.program.now.functions in
     let sizes_are = rw c.items.ensures.value at c.in-Ok.ensures.all in
     let few : length (function_places c.args.program.now.functions) ≤ BLOCK_LIMIT =
-        rw function_places-length (rw sizes_are at c.in-Ok.ensures.within) in
+    rw function_places-length (rw sizes_are at c.in-Ok.ensures.within) in
     rw (slice_get_past (function_places fs) BLOCK_LIMIT few, c.in-Ok-graph.ensures.value) refl
 
 pub returns-in-Ok-graph-clause-few : goal.returns-in-Ok-graph-clause-few

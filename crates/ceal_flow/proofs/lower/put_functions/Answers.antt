@@ -9,18 +9,18 @@ pub put_function-requires : goal.put_function-requires
 put_function-requires c =
     let within : c.loop-function.function-index < length c.args.functions.now = omega arith in
     let here : function_sizes (drop c.loop-function.function-index c.args.functions.now)
-        ≡ function_size c.function-item.result + function_sizes (drop (c.loop-function.function-index + 1) c.args.functions.now) =
-        function_sizes-drop c.args.functions.now _ c.function-item.result c.function-item.is within in
+    ≡ function_size c.function-item.result + function_sizes (drop (c.loop-function.function-index + 1) c.args.functions.now) =
+    function_sizes-drop c.args.functions.now _ c.function-item.result c.function-item.is within in
     record { room = omega (arith, here, c.loop-function.invariant.room) }
 
 pub loop-function-preserved : goal.loop-function-preserved
 loop-function-preserved c =
     let within : c.loop-function.function-index < length c.args.functions.now = omega arith in
     let here : function_sizes (drop c.loop-function.function-index c.args.functions.now)
-        ≡ function_size c.function-item.result + function_sizes (drop (c.loop-function.function-index + 1) c.args.functions.now) =
-        function_sizes-drop c.args.functions.now _ c.function-item.result c.function-item.is within in
+    ≡ function_size c.function-item.result + function_sizes (drop (c.loop-function.function-index + 1) c.args.functions.now) =
+    function_sizes-drop c.args.functions.now _ c.function-item.result c.function-item.is within in
     let one : length c.put_function.new.blocks.items ≡ length c.loop-function.blocks.items + function_size c.function-item.result =
-        length-function _ _ c.function-item.result c.in_ok-put_function.ensures.blocks in
+    length-function _ _ c.function-item.result c.in_ok-put_function.ensures.blocks in
     record {
       room = omega (arith, here, one, c.loop-function.invariant.room);
       blocks = next-blocks c.args.functions.now c.loop-function.function-index c.function-item.result c.loop-function.blocks.items c.put_function.new.blocks.items _

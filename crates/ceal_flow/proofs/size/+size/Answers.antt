@@ -24,7 +24,7 @@ sizes_of-size_of-total-requires t c =
     let stmts = c.args.stmts.now in
     let within : c.loop-s.s-index < length c.args.stmts.now = omega arith in
     let here : sizes (drop c.loop-s.s-index c.args.stmts.now) ≡ size c.s-item.result + sizes (drop (c.loop-s.s-index + 1) c.args.stmts.now) =
-        sizes-drop stmts _ c.s-item.result c.s-item.is within in
+    sizes-drop stmts _ c.s-item.result c.s-item.is within in
     let parts : sizes (take c.loop-s.s-index c.args.stmts.now) + sizes (drop c.loop-s.s-index c.args.stmts.now) ≡ sizes c.args.stmts.now = sizes-parts stmts c.loop-s.s-index in
     (search (rules, the_lemmas), omega (arith, here, parts, c.requires))
 
@@ -33,7 +33,7 @@ sizes_of-overflow_add-total t c =
     let stmts = c.args.stmts.now in
     let within : c.loop-s.s-index < length c.args.stmts.now = omega arith in
     let here : sizes (drop c.loop-s.s-index c.args.stmts.now) ≡ size c.s-item.result + sizes (drop (c.loop-s.s-index + 1) c.args.stmts.now) =
-        sizes-drop stmts _ c.s-item.result c.s-item.is within in
+    sizes-drop stmts _ c.s-item.result c.s-item.is within in
     let parts : sizes (take c.loop-s.s-index c.args.stmts.now) + sizes (drop c.loop-s.s-index c.args.stmts.now) ≡ sizes c.args.stmts.now = sizes-parts stmts c.loop-s.s-index in
     omega (arith, here, parts, c.requires, c.loop-s.invariant, c.size_of-total.ensures.value)
 
@@ -42,5 +42,5 @@ sizes_of-loop-s-preserved t c =
     let stmts = c.args.stmts.now in
     let within : c.loop-s.s-index < length c.args.stmts.now = omega arith in
     let more : sizes (take (c.loop-s.s-index + 1) c.args.stmts.now) ≡ sizes (take c.loop-s.s-index c.args.stmts.now) + size c.s-item.result =
-        sizes-take stmts _ c.s-item.result c.s-item.is within in
+    sizes-take stmts _ c.s-item.result c.s-item.is within in
     omega (arith, more, c.loop-s.invariant, c.size_of-total.ensures.value)

@@ -51,28 +51,28 @@ pub put_stmts-size_of-requires : goal.put_stmts-size_of-requires
 put_stmts-size_of-requires t c =
     let within : c.loop-i.i < length c.args.stmts.now = omega arith in
     let here : sizes (drop c.loop-i.i c.args.stmts.now) ≡ size c.index-stmts-i.result + sizes (drop (c.loop-i.i + 1) c.args.stmts.now) =
-        sizes-drop c.args.stmts.now _ c.index-stmts-i.result c.index-stmts-i.is within in
+    sizes-drop c.args.stmts.now _ c.index-stmts-i.result c.index-stmts-i.is within in
     omega (arith, here, c.loop-i.invariant.room)
 
 pub put_stmts-overflow_add-behind : goal.put_stmts-overflow_add-behind
 put_stmts-overflow_add-behind t c =
     let within : c.loop-i.i < length c.args.stmts.now = omega arith in
     let here : sizes (drop c.loop-i.i c.args.stmts.now) ≡ size c.index-stmts-i.result + sizes (drop (c.loop-i.i + 1) c.args.stmts.now) =
-        sizes-drop c.args.stmts.now _ c.index-stmts-i.result c.index-stmts-i.is within in
+    sizes-drop c.args.stmts.now _ c.index-stmts-i.result c.index-stmts-i.is within in
     omega (arith, here, c.loop-i.invariant.room, c.size_of.ensures.value, c.next_number.ensures.value)
 
 pub put_stmts-put_stmt-requires : goal.put_stmts-put_stmt-requires
 put_stmts-put_stmt-requires t c =
     let within : c.loop-i.i < length c.args.stmts.now = omega arith in
     let here : sizes (drop c.loop-i.i c.args.stmts.now) ≡ size c.index-stmts-i.result + sizes (drop (c.loop-i.i + 1) c.args.stmts.now) =
-        sizes-drop c.args.stmts.now _ c.index-stmts-i.result c.index-stmts-i.is within in
+    sizes-drop c.args.stmts.now _ c.index-stmts-i.result c.index-stmts-i.is within in
     (search (rules, the_lemmas), omega (arith, here, c.loop-i.invariant.room))
 
 pub put_stmts-sizes_of-requires : goal.put_stmts-sizes_of-requires
 put_stmts-sizes_of-requires t c =
     let within : c.loop-i.i < length c.args.stmts.now = omega arith in
     let here : sizes (drop c.loop-i.i c.args.stmts.now) ≡ size c.index-stmts-i.result + sizes (drop (c.loop-i.i + 1) c.args.stmts.now) =
-        sizes-drop c.args.stmts.now _ c.index-stmts-i.result c.index-stmts-i.is within in
+    sizes-drop c.args.stmts.now _ c.index-stmts-i.result c.index-stmts-i.is within in
     rw take_rest (omega (arith, here, c.loop-i.invariant.room))
 
 pub put_stmts-returns-then-not-branch-clause-blocks : goal.put_stmts-returns-then-not-branch-clause-blocks
@@ -96,9 +96,9 @@ pub put_stmts-loop-i-preserved : goal.put_stmts-loop-i-preserved
 put_stmts-loop-i-preserved t c =
     let within : c.loop-i.i < length c.args.stmts.now = omega arith in
     let here : sizes (drop c.loop-i.i c.args.stmts.now) ≡ size c.index-stmts-i.result + sizes (drop (c.loop-i.i + 1) c.args.stmts.now) =
-        sizes-drop c.args.stmts.now _ c.index-stmts-i.result c.index-stmts-i.is within in
+    sizes-drop c.args.stmts.now _ c.index-stmts-i.result c.index-stmts-i.is within in
     let one : length c.put_stmt.new.blocks.items ≡ length c.loop-i.blocks.items + size c.index-stmts-i.result =
-        length-one _ _ _ _ _ _ c.in_ok-put_stmt.ensures.blocks in
+    length-one _ _ _ _ _ _ c.in_ok-put_stmt.ensures.blocks in
     let next_is = rw (take_rest, c.size_of.ensures.value, c.next_number.ensures.value) at c.entry_of-next.ensures.value in
     let go : goes_on c.index-stmts-i.result ≡ true = sym c.in_ok-put_stmt.ensures.on ∙ c.if-not-branch.false in
     record {
