@@ -1,0 +1,220 @@
+-- The blocks of each form of statement.
+use Rattle.std.proofs.Common.{◌≡◌, ℕ, ◌+◌, Bool, true, false, ◌&&◌, ◌||◌, List, [], ◌∷◌, ◌++◌, length, replicate, if◌then◌else◌, refl, ap, ap₂, sym, ◌∙◌, arith, length-append, ◌<◌, ◌≤◌, take, drop, get_or, add-one, suc, append_assoc}
+use Rattle.std.proofs.lemmas.List.{length-replicate, take_more, take-append-drop}
+use Rattle.std.proofs.Math.Seq.{drop-cons}
+use Rattle.ceal_base.specs.declared.fault.Span.{Span}
+use Rattle.ceal_base.specs.declared.kind.Kind.{Kind}
+use Rattle.ceal_base.specs.declared.typed.TypedExpr.{TypedExpr}
+use Rattle.ceal_base.specs.declared.typed.TypedStmt.{TypedStmt, If', While', Row_of-TypedStmt, end_of-TypedStmt, more_of-TypedStmt}
+use Rattle.ceal_base.specs.declared.typed.TypedStmt.TheBlock.{hidden-the_row-TypedStmt-0, shape-the_row-TypedStmt-0}
+use Rattle.ceal_base.specs.declared.typed.TypedStmt.TheVariants.{Declare, Assign, SetField, Write, Call, Return}
+use Rattle.ceal_base.specs.declared.typed.TypedStmt.TheViews.{If, While}
+use Rattle.ceal_base.specs.declared.typed.TypedValue.{TypedValue}
+use Rattle.ceal_flow.specs.Blocks.{size, row_size, sizes, goes_on, row_goes_on, all_go_on, row_entry, entry, blocks_of, row_blocks, all_blocks}
+use Rattle.ceal_flow.specs.declared.block.GraphBlock.{GraphBlock}
+use Rattle.ceal_flow.specs.declared.block.GraphBlock.TheVariants.{Test, Act, Unreached}
+
+-- what holds of a row of statements as of their list
+pub row-sizes : (xs : List TypedStmt) → row_size (hidden-the_row-TypedStmt-0 xs) ≡ sizes xs
+unfolding size sizes hidden-the_row-TypedStmt-0 shape-the_row-TypedStmt-0 denote.Hole.Carrier.hidden
+row-sizes [] = refl
+row-sizes (s ∷ xs) = ap (λ n. size s + n) (row-sizes xs)
+
+pub row-go_on : (xs : List TypedStmt) → row_goes_on (hidden-the_row-TypedStmt-0 xs) ≡ all_go_on xs
+unfolding goes_on all_go_on hidden-the_row-TypedStmt-0 shape-the_row-TypedStmt-0 denote.Hole.Carrier.hidden
+row-go_on [] = refl
+row-go_on (s ∷ xs) = ap (λ b. goes_on s && b) (row-go_on xs)
+
+pub row-entry : (xs : List TypedStmt) (n after done : ℕ) → row_entry (hidden-the_row-TypedStmt-0 xs) n after done ≡ entry xs n after done
+unfolding hidden-the_row-TypedStmt-0 shape-the_row-TypedStmt-0 denote.Hole.Carrier.hidden
+row-entry [] n after done = refl
+row-entry (s ∷ xs) n after done = refl
+
+pub row-blocks : (xs : List TypedStmt) (n after done : ℕ) → row_blocks (hidden-the_row-TypedStmt-0 xs) n after done ≡ all_blocks xs n after done
+unfolding blocks_of all_blocks hidden-the_row-TypedStmt-0 shape-the_row-TypedStmt-0 denote.Hole.Carrier.hidden
+row-blocks [] n after done = refl
+row-blocks (s ∷ xs) n after done =
+    ap (λ m. blocks_of s n m done ++ (if goes_on s then row_blocks (hidden-the_row-TypedStmt-0 xs) (n + size s) after done else replicate (row_size (hidden-the_row-TypedStmt-0 xs)) Unreached))
+    (row-entry xs (n + size s) after done)
+    ∙ ap₂ (λ bs k. blocks_of s n (entry xs (n + size s) after done) done ++ (if goes_on s then bs else replicate k Unreached)) (row-blocks xs (n + size s) after done) (row-sizes xs)
+
+-- sizes
+pub size-declare : (at : Span) (n : ℕ) (kind : Kind) (v : TypedValue) → size (Declare at n kind v) ≡ 1
+unfolding size
+size-declare at n kind v = refl
+
+pub size-assign : (at : Span) (n : ℕ) (v : TypedValue) → size (Assign at n v) ≡ 1
+unfolding size
+size-assign at n v = refl
+
+pub size-set : (at : Span) (left : TypedExpr) (s field : ℕ) (e : TypedExpr) → size (SetField at left s field e) ≡ 1
+unfolding size
+size-set at left s field e = refl
+
+pub size-write : (at : Span) (p e : TypedExpr) → size (Write at p e) ≡ 1
+unfolding size
+size-write at p e = refl
+
+pub size-call : (at : Span) (f : ℕ) (args : List TypedExpr) → size (Call at f args) ≡ 1
+unfolding size
+size-call at f args = refl
+
+pub size-return : (at : Span) → size (Return at) ≡ 0
+unfolding size
+size-return at = refl
+
+pub size-if : (at : Span) (test : TypedExpr) (first second : List TypedStmt) → size (If at test first second) ≡ 1 + sizes first + sizes second
+unfolding size
+size-if at test first second = ap₂ (λ a b. 1 + a + b) (row-sizes first) (row-sizes second)
+
+pub size-while : (at : Span) (test : TypedExpr) (body : List TypedStmt) → size (While at test body) ≡ 1 + sizes body
+unfolding size
+size-while at test body = ap (λ a. 1 + a) (row-sizes body)
+
+pub sizes-nil : sizes [] ≡ 0
+unfolding sizes
+sizes-nil = refl
+
+pub sizes-cons : (s : TypedStmt) (rest : List TypedStmt) → sizes (s ∷ rest) ≡ size s + sizes rest
+unfolding sizes
+sizes-cons s rest = refl
+
+pub sizes-append : (xs ys : List TypedStmt) → sizes (xs ++ ys) ≡ sizes xs + sizes ys
+unfolding sizes
+sizes-append [] ys = omega arith
+sizes-append (s ∷ xs) ys = let h = sizes-append xs ys in omega (arith, h)
+
+-- of those from the statement at `i` on
+pub sizes-drop : (xs : List TypedStmt) (i : ℕ) (s : TypedStmt) → s ≡ get_or xs i s → i < length xs → sizes (drop i xs) ≡ size s + sizes (drop (i + 1) xs)
+sizes-drop xs i s is h = rw (drop-cons xs i s h, ← is, add-one) (sizes-cons s (drop (suc i) xs))
+
+pub sizes-take : (xs : List TypedStmt) (i : ℕ) (s : TypedStmt) → s ≡ get_or xs i s → i < length xs → sizes (take (i + 1) xs) ≡ sizes (take i xs) + size s
+sizes-take xs i s is h =
+    let one : sizes (s ∷ []) ≡ size s = sizes-cons s [] ∙ rw sizes-nil (omega arith) in
+    rw (take_more xs i s h, ← is, sizes-append) (ap (λ n. sizes (take i xs) + n) one)
+
+pub sizes-parts : (xs : List TypedStmt) (i : ℕ) → sizes (take i xs) + sizes (drop i xs) ≡ sizes xs
+sizes-parts xs i = sym (sizes-append (take i xs) (drop i xs)) ∙ ap sizes (take-append-drop i xs)
+
+-- whether a path goes on
+pub on-declare : (at : Span) (n : ℕ) (kind : Kind) (v : TypedValue) → goes_on (Declare at n kind v) ≡ true
+unfolding goes_on
+on-declare at n kind v = refl
+
+pub on-assign : (at : Span) (n : ℕ) (v : TypedValue) → goes_on (Assign at n v) ≡ true
+unfolding goes_on
+on-assign at n v = refl
+
+pub on-set : (at : Span) (left : TypedExpr) (s field : ℕ) (e : TypedExpr) → goes_on (SetField at left s field e) ≡ true
+unfolding goes_on
+on-set at left s field e = refl
+
+pub on-write : (at : Span) (p e : TypedExpr) → goes_on (Write at p e) ≡ true
+unfolding goes_on
+on-write at p e = refl
+
+pub on-call : (at : Span) (f : ℕ) (args : List TypedExpr) → goes_on (Call at f args) ≡ true
+unfolding goes_on
+on-call at f args = refl
+
+pub on-return : (at : Span) → goes_on (Return at) ≡ false
+unfolding goes_on
+on-return at = refl
+
+pub on-if : (at : Span) (test : TypedExpr) (first second : List TypedStmt) → goes_on (If at test first second) ≡ (all_go_on first || all_go_on second)
+unfolding goes_on
+on-if at test first second = ap₂ (λ a b. a || b) (row-go_on first) (row-go_on second)
+
+pub on-while : (at : Span) (test : TypedExpr) (body : List TypedStmt) → goes_on (While at test body) ≡ true
+unfolding goes_on
+on-while at test body = refl
+
+pub on-nil : all_go_on [] ≡ true
+unfolding all_go_on
+on-nil = refl
+
+pub on-cons : (s : TypedStmt) (rest : List TypedStmt) → all_go_on (s ∷ rest) ≡ (goes_on s && all_go_on rest)
+unfolding all_go_on
+on-cons s rest = refl
+
+-- blocks
+module _ (n after done : ℕ) where
+  pub blocks-declare : (at : Span) (v : ℕ) (kind : Kind) (value : TypedValue) → blocks_of (Declare at v kind value) n after done ≡ Act (Declare at v kind value) after ∷ []
+  unfolding blocks_of
+  blocks-declare at v kind value = refl
+
+  pub blocks-assign : (at : Span) (v : ℕ) (value : TypedValue) → blocks_of (Assign at v value) n after done ≡ Act (Assign at v value) after ∷ []
+  unfolding blocks_of
+  blocks-assign at v value = refl
+
+  pub blocks-set : (at : Span) (left : TypedExpr) (s field : ℕ) (e : TypedExpr)
+      → blocks_of (SetField at left s field e) n after done ≡ Act (SetField at left s field e) after ∷ []
+  unfolding blocks_of
+  blocks-set at left s field e = refl
+
+  pub blocks-write : (at : Span) (p e : TypedExpr) → blocks_of (Write at p e) n after done ≡ Act (Write at p e) after ∷ []
+  unfolding blocks_of
+  blocks-write at p e = refl
+
+  pub blocks-call : (at : Span) (f : ℕ) (args : List TypedExpr) → blocks_of (Call at f args) n after done ≡ Act (Call at f args) after ∷ []
+  unfolding blocks_of
+  blocks-call at f args = refl
+
+  pub blocks-return : (at : Span) → blocks_of (Return at) n after done ≡ []
+  unfolding blocks_of
+  blocks-return at = refl
+
+  pub blocks-if : (at : Span) (test : TypedExpr) (first second : List TypedStmt) → blocks_of (If at test first second) n after done
+      ≡ Test test (entry first (n + 1) after done) (entry second (n + 1 + sizes first) after done)
+      ∷ (all_blocks first (n + 1) after done ++ all_blocks second (n + 1 + sizes first) after done)
+  unfolding blocks_of
+  blocks-if at test first second = simp (row-entry, row-blocks, row-sizes)
+
+  pub blocks-while : (at : Span) (test : TypedExpr) (body : List TypedStmt)
+      → blocks_of (While at test body) n after done ≡ Test test (entry body (n + 1) n done) after ∷ all_blocks body (n + 1) n done
+  unfolding blocks_of
+  blocks-while at test body = simp (row-entry, row-blocks)
+
+  pub all-nil : all_blocks [] n after done ≡ []
+  unfolding all_blocks
+  all-nil = refl
+
+  pub all-cons : (s : TypedStmt) (rest : List TypedStmt) → all_blocks (s ∷ rest) n after done
+      ≡ blocks_of s n (entry rest (n + size s) after done) done ++ (if goes_on s then all_blocks rest (n + size s) after done else replicate (sizes rest) Unreached)
+  unfolding all_blocks
+  all-cons s rest = refl
+
+-- as many as the size says
+behind-length : (b : Bool) (xs : List GraphBlock) (k : ℕ) → length xs ≡ k → length (if b then xs else replicate k Unreached) ≡ k
+behind-length true xs k h = h
+behind-length false xs k h = length-replicate k Unreached
+
+mutual
+  unfolding blocks_of size
+
+  pub blocks-length : (s : TypedStmt) (n after done : ℕ) → length (blocks_of s n after done) ≡ size s
+  blocks-length (Declare at v kind value) n after done = refl
+  blocks-length (Assign at v value) n after done = refl
+  blocks-length (SetField at left s field e) n after done = refl
+  blocks-length (Write at p e) n after done = refl
+  blocks-length (Call at f args) n after done = refl
+  blocks-length (Return at) n after done = refl
+  blocks-length (If' at test _ first _ second) n after done =
+      let a = row-length first (n + 1) after done in
+      let b = row-length second (n + 1 + row_size first) after done in
+      simp length-append (omega (arith, a, b))
+  blocks-length (While' at test _ body) n after done = let a = row-length body (n + 1) n done in omega (arith, a)
+
+  pub row-length : {m : _} (r : Row_of-TypedStmt m) (n after done : ℕ) → length (row_blocks r n after done) ≡ row_size r
+  row-length end_of-TypedStmt n after done = refl
+  row-length (more_of-TypedStmt s rest) n after done =
+      let a = blocks-length s n (row_entry rest (n + size s) after done) done in
+      let b = behind-length (goes_on s) (row_blocks rest (n + size s) after done) (row_size rest) (row-length rest (n + size s) after done) in
+      simp length-append (omega (arith, a, b))
+
+pub all-length : (xs : List TypedStmt) (n after done : ℕ) → length (all_blocks xs n after done) ≡ sizes xs
+all-length xs n after done = sym (ap length (row-blocks xs n after done)) ∙ row-length (hidden-the_row-TypedStmt-0 xs) n after done ∙ row-sizes xs
+
+pub ruleset size_steps = (size-declare, size-assign, size-set, size-write, size-call, size-return, size-if, size-while, sizes-nil, sizes-cons)
+
+pub ruleset put_steps = (size_steps, on-declare, on-assign, on-set, on-write, on-call, on-return, on-if, on-while, blocks-declare, blocks-assign, blocks-set, blocks-write, blocks-call, blocks-return)

@@ -1,0 +1,11 @@
+pub mod ListFacts
+pub mod BlockSteps
+pub mod PlaceSteps
+pub mod FunctionSteps
+pub mod PutSteps
+pub mod Placing
+pub mod Simulation
+pub mod SameRun
+pub mod Reach
+pub mod Reached
+pub mod BitFacts

@@ -1,0 +1,13 @@
+// The laws of graphs, each the contract of a function that does nothing.
+
+ghost use Rattle.ceal_flow.specs.Laws.{Act_law, Kept_law};
+
+/// A block is left out exactly where no path leads to it from the first block of a function.
+pub fn kept_law()
+    ensures law { Kept_law }
+{}
+
+/// The statement of a block is no `if`, no `while` and no `return`.
+pub fn act_law()
+    ensures law { Act_law }
+{}

@@ -1,0 +1,72 @@
+// Sets of variables.
+
+ghost use Rattle.std.specs.Prelude.{◌≡◌, ◌<◌, ◌≤◌, ◌==◌, ◌^◌, ◌||◌, ◌&&◌, not, true, false, ℕ, [], length, IfOk, OnOk};
+ghost use Rattle.ceal_flow.specs.Sets.{is_in, is_that, IsAscending};
+
+use crate::bits::{has, join_words, numbers, put_bits};
+use ceal_base::no_memory::NoMemory;
+use std::alloc::Global;
+use std::marker::Model;
+
+/// A set of variables of one function, which contracts see as the ascending list of their numbers. It has a bit for
+/// each variable up to the greatest, so that joining two sets takes one step for 64 variables.
+#[derive(Drop)]
+pub struct LiveSet {
+    words: Vec<u64>,
+}
+
+impl Model for LiveSet {
+    ghost use Rattle.std.specs.Prelude.{◌≤◌, ◌^◌, List, ℕ, length};
+    ghost use Rattle.ceal_flow.specs.Bits.{members};
+
+    ghost Value = { List ℕ };
+
+    ghost view = { λ s. members s.words.items };
+
+    ghost invariant = { λ s. length s.words.items ≤ 2 ^ 26 };
+}
+
+impl LiveSet {
+    pub fn empty(alloc: Global) -> LiveSet
+        ensures value { result ≡ [] }
+    {
+        LiveSet {
+            words: Vec::new(alloc),
+        }
+    }
+
+    pub fn contains(&self, v: u32) -> bool
+        ensures value { result ≡ is_in v self.now }
+    {
+        has(self.words.as_slice(), v)
+    }
+
+    pub fn insert(&mut self, v: u32) -> Result<(), NoMemory>
+        ensures ok { OnOk result ((w : ℕ) → is_in w self.new ≡ (v == w || is_in w self.old)) }
+        ensures ascending { IsAscending self.new }
+        ensures few { length self.new ≤ 2 ^ 32 }
+    {
+        put_bits(&mut self.words, v as usize / 64, 1 << (v % 64))?;
+        Ok(())
+    }
+
+    /// Adds the variables of the other set but one, and says whether any was added.
+    pub fn join(&mut self, other: &LiveSet, except: Option<u32>) -> Result<bool, NoMemory>
+        ensures ok { OnOk result ((w : ℕ) → is_in w self.new ≡ (is_in w self.old || (is_in w other.now && not (is_that except w)))) }
+        ensures same { IfOk result (λ changed. changed ≡ false → self.new ≡ self.old) }
+        ensures more { IfOk result (λ changed. changed ≡ true → length self.old < length self.new) }
+        ensures ascending { IsAscending self.new }
+        ensures few { length self.new ≤ 2 ^ 32 }
+    {
+        let changed = join_words(&mut self.words, other.words.as_slice(), except)?;
+        Ok(changed)
+    }
+
+    /// The variables, ascending.
+    pub fn variables(&self, alloc: Global) -> Result<Vec<u32>, NoMemory>
+        ensures value { IfOk result (λ vs. vs.items ≡ self.now) }
+        ensures ascending { IsAscending self.now }
+    {
+        numbers(alloc, self.words.as_slice())
+    }
+}

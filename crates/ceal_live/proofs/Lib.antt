@@ -1,0 +1,3 @@
+pub mod UseSteps
+pub mod RoundFacts
+pub mod BeginFacts

@@ -1,0 +1,12 @@
+use Rattle.ceal_live.proofs.BeginFacts.{begun-underway}
+use Rattle.ceal_live.proofs.RoundFacts.{live-sets}
+use Rattle.ceal_live.proofs.live.live.Goals as goal
+
+pub loop-sets-init : goal.loop-sets-init
+loop-sets-init c = begun-underway c.blocks-blocks.result.now c.in_ok-sets.sets.items c.in_ok-sets.ensures.begun
+
+pub returns : goal.returns
+returns c = record {
+  exact = rw (c.new.ensures.value, ← c.blocks-blocks.ensures.value)
+      (live-sets c.blocks-blocks.result.now c.go_round.new.sets.items c.in_ok-go_round.ensures.underway (c.in_ok-go_round.ensures.closed c.if-branch.false));
+}

@@ -1,0 +1,10 @@
+//! Liveness: which variables each block of a graph may still need.
+//!
+//! `live` equals the definition by paths in `ceal_flow` (`AreLiveSets`). It begins with the variables that each block uses
+//! and goes round the blocks until nothing changes: what is live at a block is what it uses, and what is live where it
+//! jumps to and it does not assign.
+#![tactic(auto)]
+
+pub mod live;
+mod round;
+mod uses;
