@@ -1,10 +1,11 @@
 -- Rising stamps in parts, and the stamps that are in them.
-use Rattle.std.proofs.Common.{◌≡◌, ◌≢◌, ◌↔◌, Bool, ◌<◌, ◌≤◌, ◌+◌, ℕ, inl, inr, true, false, List, [], ◌∷◌, ◌++◌, length, Some, refl, sym, ap, subst, ◌∙◌, arith, length-append}
+use Rattle.std.proofs.Common.{◌≡◌, ◌≢◌, ◌↔◌, Bool, ◌<◌, ◌≤◌, ◌+◌, ℕ, inl, inr, true, false, List, [], ◌∷◌, ◌++◌, length, Option, Some, None, refl, sym, ap, subst, ◌∙◌, arith, length-append}
 use Rattle.std.proofs.lemmas.Bool.Decides.{eqb_tells}
 use Rattle.std.proofs.lemmas.Bool.{eq-eqb, cases_lt, iff_false}
 use Rattle.ceal_order.specs.Stamps.{is_in, place, head_of, without}
+use Rattle.ceal_order.specs.declared.stamp.Stamp.{Stamp}
 use Rattle.ceal_rising.specs.Rising.{IsBeforeAll, IsRising}
-use Rattle.ceal_queue.specs.Queue.{IsWithout, IsEarliest}
+use Rattle.ceal_queue.specs.Queue.{IsWithout, IsBefore, IsEarliest}
 use Rattle.ceal_queue.specs.Tree.{AllBefore, AllFrom, Gains}
 
 -- ---- being in a list
@@ -237,9 +238,9 @@ module _ (order : List ℕ) where
   head_from s y xs ys rising before from found = elim from.0 [
     | inl e ↦ e
     | inr less ↦ absurd (
-      let none : is_in s (y ∷ ys) ≡ false = absent_before s (y ∷ ys) (less, before_all_less s y ys (omega arith) (rising_back xs (y ∷ ys) rising).1) in
-      let there : is_in s (y ∷ ys) ≡ true = sym (in_back s xs (y ∷ ys) (absent_behind s xs before)) ∙ found in
-      let no : true ≡ false = sym there ∙ none in cc)
+        let none : is_in s (y ∷ ys) ≡ false = absent_before s (y ∷ ys) (less, before_all_less s y ys (omega arith) (rising_back xs (y ∷ ys) rising).1) in
+        let there : is_in s (y ∷ ys) ≡ true = sym (in_back s xs (y ∷ ys) (absent_behind s xs before)) ∙ found in
+        let no : true ≡ false = sym there ∙ none in cc)
   ]
 
   pub nothing_from : (s : ℕ) (xs : List ℕ) → AllBefore order s xs → is_in s (xs ++ []) ≡ true → ⊥
@@ -277,11 +278,11 @@ module _ (order : List ℕ) where
   }
 
   -- where the earliest is not before a limit, none is
-  pub none_before : (first limit : ℕ) (ss : List ℕ) → IsRising order ss → head_of ss ≡ Some first → place limit order ≤ place first order
-      → (s : ℕ) → is_in s ss ≡ true → place s order < place limit order → ⊥
-  none_before first limit [] rising head late s found less = absurd (cc)
-  none_before first limit (x ∷ xs) rising head late s found less =
+  pub none_before : (first : ℕ) (limit : Option Stamp) (ss : List ℕ) → IsRising order ss → head_of ss ≡ Some first → (IsBefore order limit first → ⊥)
+      → (s : ℕ) → is_in s ss ≡ true → IsBefore order limit s → ⊥
+  none_before first None ss rising head late s found less = late less
+  none_before first (Some limit) [] rising head late s found less = absurd (cc)
+  none_before first (Some limit) (x ∷ xs) rising head late s found less =
       let same : x ≡ first = cc in
       let earliest : place x order ≤ place s order = (is_earliest x xs rising).first s found in
-      let late' : place limit order ≤ place x order = subst (λ (k : ℕ). place limit order ≤ place k order) (sym same) late in
-      omega arith
+      late (subst (λ (k : ℕ). place k order < place limit.0 order) same (omega (arith, less)))

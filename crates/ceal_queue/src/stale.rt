@@ -1,11 +1,13 @@
 // The queue of stale reads.
 
-ghost use Rattle.std.specs.Prelude.{◌≡◌, ◌+◌, ◌<◌, ℕ, [], true, false, max, IfSome, IfNone, IfOk, OnOk, OnErr, IsTrue};
+ghost use Rattle.std.specs.Prelude.{◌≡◌, ◌↔◌, ◌+◌, ◌<◌, ℕ, [], true, false, max, IfSome, IfNone, IfOk, OnOk, OnErr, IsTrue};
 ghost use Rattle.std.specs.Option.{ForSome};
 ghost use Rattle.ceal_order.specs.Stamps.{is_in};
 ghost use Rattle.ceal_queue.specs.Queue.{Follows, IsWith, IsWithout, IsBefore, IsEarliest};
 
-use crate::tree::{Fork, Tree, add_forks, first_stamp, has, taken_first, with_stamp, without_stamp};
+use crate::tree::{
+    Fork, Tree, add_forks, first_stamp, has, taken_first, with_stamp, without_stamp,
+};
 use ceal_base::no_memory::NoMemory;
 use ceal_order::order::Order;
 use ceal_order::stamp::Stamp;
@@ -99,18 +101,16 @@ impl Stale {
         ensures follows { Follows order.now.stamps self.new }
     {
         let first = first_stamp(&self.tree)?;
-        if let Some(limit) = limit {
-            if !order.before(first, limit) {
-                return None;
-            }
+        if !is_before(order, first, limit) {
+            return None;
         }
         match mem::replace(&mut self.tree, Tree::Empty) {
             Tree::Empty => unreachable!(),
             Tree::Fork(fork) => {
-                let (taken, rest) = taken_first(fork);
+                let (earliest, rest) = taken_first(fork);
                 self.tree = rest;
                 self.count -= 1;
-                let _ = self.spares.push(taken);
+                let _ = self.spares.push(earliest);
                 Some(first)
             }
         }
@@ -133,5 +133,17 @@ impl Stale {
         self.tree = rest;
         self.count -= 1;
         let _ = self.spares.push(taken);
+    }
+}
+
+// Whether a stamp stands before the limit.
+fn is_before(order: &Order, stamp: Stamp, limit: Option<Stamp>) -> bool
+    requires here { IsTrue (is_in stamp.0 order.now.stamps) }
+    requires limit { ForSome limit (λ l. IsTrue (is_in l.0 order.now.stamps)) }
+    ensures { IsTrue result ↔ IsBefore order.now.stamps limit stamp.0 }
+{
+    match limit {
+        None => true,
+        Some(limit) => order.before(stamp, limit),
     }
 }

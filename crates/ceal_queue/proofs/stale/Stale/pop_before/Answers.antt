@@ -1,22 +1,22 @@
 use Rattle.std.proofs.Common.{◌≡◌, ◌∷◌, sym, ap, ◌∙◌}
-use Rattle.ceal_queue.specs.Queue.{Waiting}
+use Rattle.std.proofs.lemmas.Bool.{iff_false}
+use Rattle.ceal_queue.specs.Queue.{Waiting, IsBefore}
 use Rattle.ceal_queue.specs.Tree.{stamps_of}
-use Rattle.ceal_queue.proofs.TreeLemmas.{headed, none_before, is_earliest, without_earliest, not_less}
+use Rattle.ceal_queue.proofs.TreeLemmas.{headed, none_before, is_earliest, without_earliest}
 use Rattle.ceal_queue.proofs.stale.Stale.pop_before.Goals as goal
 
-pub returns-then-not-before-clause-none : goal.returns-then-not-before-clause-none
-returns-then-not-before-clause-none c =
+pub returns-then-not-is_before-clause-none : goal.returns-then-not-is_before-clause-none
+returns-then-not-is_before-clause-none c =
     let first = rw c.in_ok-first.was at c.first_stamp.ensures in
-    let late = not_less _ _ _ c.before-in-Some.ensures.before c.if-not-before.true in
-    rw (c.in-Some.is, ← c.self.view_is)
-    (none_before _ _ _ _ (rw (← c.self.view_is) at c.requires.follows) (sym first) late)
+    let late : IsBefore c.args.order.now.stamps c.args.limit c.in_ok-first.first.0 → ⊥ = iff_false c.is_before.ensures c.if-not-is_before.true in
+    rw (← c.self.view_is) (none_before _ _ _ _ (rw (← c.self.view_is) at c.requires.follows) (sym first) late)
 
 -- the stamps are the earliest one, and those that are left
-parted : (c : goal.Joined-push) → c.in_ok-first.first.0 ∷ stamps_of c.taken_first-taken.result.1 ≡ c.args.self.now.stamps
+parted : (c : goal.Joined-push) → c.in_ok-first.first.0 ∷ stamps_of c.taken_first-earliest.result.1 ≡ c.args.self.now.stamps
 parted c =
     let first = rw c.in_ok-first.was at c.first_stamp.ensures in
     let tree = rw c.in-Fork.is at c.replace.ensures.value in
-    headed _ _ _ _ (c.taken_first-taken.ensures ∙ ap stamps_of tree) first ∙ ap (λ (q : Waiting). q.stamps) c.self.view_is
+    headed _ _ _ _ (c.taken_first-earliest.ensures ∙ ap stamps_of tree) first ∙ ap (λ (q : Waiting). q.stamps) c.self.view_is
 
 pub returns-clause-earliest : goal.returns-clause-earliest
 returns-clause-earliest c =
