@@ -1,26 +1,21 @@
 -- Rising stamps along other orders.
-use Rattle.std.proofs.Common.{◌≡◌, ◌≢◌, ◌<◌, ℕ, inl, inr, true, false, List, [], ◌∷◌, refl, sym, ◌∙◌}
+use Rattle.std.proofs.Common.{◌≡◌, ◌≢◌, ◌<◌, ℕ, inl, inr, true, false, List, [], ◌∷◌, refl, ◌∙◌}
 use Rattle.std.proofs.lemmas.Bool.Decides.{eqb_tells}
 use Rattle.std.proofs.lemmas.Bool.{eq-eqb}
 use Rattle.ceal_order.specs.Stamps.{is_in, place, OneMore}
 use Rattle.ceal_rising.specs.Rising.{IsBeforeAll, IsRising, KeepsOrder}
 
-in_head : (x : ℕ) (xs : List ℕ) → is_in x (x ∷ xs) ≡ true
+pub in_head : (x : ℕ) (xs : List ℕ) → is_in x (x ∷ xs) ≡ true
 in_head x xs = rw (eq-eqb x x refl) refl
 
-in_tail : (s x : ℕ) (xs : List ℕ) → is_in s xs ≡ true → is_in s (x ∷ xs) ≡ true
+pub in_tail : (s x : ℕ) (xs : List ℕ) → is_in s xs ≡ true → is_in s (x ∷ xs) ≡ true
 in_tail s x xs found = elim (eqb_tells x s) [ inl p ↦ rw p.0 refl | inr p ↦ rw p.0 found ]
 
-before_still : (s : ℕ) (ts old new : List ℕ) → KeepsOrder (s ∷ ts) old new → IsBeforeAll old s ts → IsBeforeAll new s ts
+before_still : (s : ℕ) (ts old new : List ℕ) → ((t : ℕ) → is_in t ts ≡ true → place s old < place t old → place s new < place t new) → IsBeforeAll old s ts → IsBeforeAll new s ts
 before_still s [] old new keeps before = tt
 before_still s (t ∷ ts) old new keeps before = (
-  keeps.order s t (in_head s (t ∷ ts)) (in_tail t s (t ∷ ts) (in_head t ts)) before.0,
-  before_still s ts old new (record {
-    there = λ a found. keeps.there a (elim (eqb_tells s a) [ inl p ↦ rw p.0 refl | inr p ↦ rw p.0 (in_tail a t ts (rw p.0 at found)) ]);
-    order = λ a b a_in b_in. keeps.order a b
-        (elim (eqb_tells s a) [ inl p ↦ rw p.0 refl | inr p ↦ rw p.0 (in_tail a t ts (rw p.0 at a_in)) ])
-        (elim (eqb_tells s b) [ inl p ↦ rw p.0 refl | inr p ↦ rw p.0 (in_tail b t ts (rw p.0 at b_in)) ]);
-  }) before.1,
+  keeps t (in_head t ts) before.0,
+  before_still s ts old new (λ u found. keeps u (in_tail u t ts found)) before.1,
 )
 
 keeps_tail : (s : ℕ) (ss old new : List ℕ) → KeepsOrder (s ∷ ss) old new → KeepsOrder ss old new
@@ -33,7 +28,7 @@ pub rising_kept : (ss old new : List ℕ) → IsRising old ss → KeepsOrder ss 
 rising_kept [] old new rising keeps = tt
 rising_kept (s ∷ ss) old new rising keeps = (
   keeps.there s (in_head s ss),
-  before_still s ss old new keeps rising.1,
+  before_still s ss old new (λ t found. keeps.order s t (in_head s ss) (in_tail t s ss found)) rising.1,
   rising_kept ss old new rising.2 (keeps_tail s ss old new keeps),
 )
 
