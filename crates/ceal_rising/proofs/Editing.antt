@@ -1,5 +1,5 @@
 -- Rising stamps with one more, or one less.
-use Rattle.std.proofs.Common.{◌≡◌, ◌≢◌, ◌↔◌, ◌==◌, ◌<◌, ◌≤◌, ℕ, suc, zero, inl, inr, true, false, List, [], ◌∷◌, ◌++◌, length, get_or, take, drop, refl, ap, subst, arith}
+use Rattle.std.proofs.Common.{◌≡◌, ◌≢◌, ◌↔◌, ◌==◌, ◌+◌, ◌<◌, ◌≤◌, ℕ, suc, zero, inl, inr, true, false, List, [], ◌∷◌, ◌++◌, length, get_or, take, drop, refl, ap, subst, arith}
 use Rattle.std.proofs.lemmas.Bool.Decides.{eqb_tells}
 use Rattle.std.proofs.lemmas.Bool.{eq-eqb, eqb-true, cases_lt, lt-ltb, le-ltb}
 use Rattle.std.specs.List.{insert, remove}
@@ -52,6 +52,22 @@ without_at s (x ∷ xs) (suc i) within is none = elim (eqb_tells x s) [
   | inr p ↦ rw p.0 (ap (λ (l : List ℕ). x ∷ l) (without_at s xs i (omega arith) is (λ k less. none (suc k) (omega arith))))
 ]
 
+pub place_within : (s : ℕ) (xs : List ℕ) → is_in s xs ≡ true → place s xs < length xs
+place_within s [] found = absurd (cc)
+place_within s (x ∷ xs) found = elim (eqb_tells x s) [
+  | inl p ↦ rw p.0 (omega arith)
+  | inr p ↦ rw p.0 (let rest = place_within s xs (rw p.0 at found) in omega (arith, rest))
+]
+
+pub remove_place : (s : ℕ) (xs : List ℕ) → is_in s xs ≡ true → remove xs (place s xs) ≡ without s xs
+remove_place s [] found = absurd (cc)
+remove_place s (x ∷ xs) found = elim (eqb_tells x s) [
+  | inl p ↦ rw p.0 refl
+  | inr p ↦
+      let next : 1 + place s xs ≡ suc (place s xs) = omega arith in
+      rw (p.0, next) (ap (λ (l : List ℕ). x ∷ l) (remove_place s xs (rw p.0 at found)))
+]
+
 module _ (order : List ℕ) where
   before_all_without : (s t : ℕ) (xs : List ℕ) → IsBeforeAll order s xs → IsBeforeAll order s (without t xs)
   before_all_without s t [] before = tt
@@ -71,18 +87,17 @@ module _ (order : List ℕ) where
     | inr p ↦ before_in s t xs before.1 (rw p.0 at found)
   ]
 
-  -- a stamp stands behind as many as stand before it
-  pub removed : (s : ℕ) (xs : List ℕ) → IsRising order xs → is_in s xs ≡ true → (count_before order s xs < length xs) × (remove xs (count_before order s xs) ≡ without s xs)
-  removed s [] rising found = absurd (cc)
-  removed s (x ∷ xs) rising found = elim (eqb_tells x s) [
+  -- as many stand before a stamp as the stamps in front of it
+  pub count_of_member : (s : ℕ) (xs : List ℕ) → IsRising order xs → is_in s xs ≡ true → count_before order s xs ≡ place s xs
+  count_of_member s [] rising found = absurd (cc)
+  count_of_member s (x ∷ xs) rising found = elim (eqb_tells x s) [
     | inl p ↦
         let le : place s order ≤ place x order = subst (λ (k : ℕ). place k order ≤ place x order) p.1 (omega arith) in
-        rw (le-ltb (place x order) (place s order) le, count_none order s x xs le rising.1, p.0) (omega arith, refl)
+        rw (le-ltb (place x order) (place s order) le, p.0) (count_none order s x xs le rising.1)
     | inr p ↦
         let there : is_in s xs ≡ true = rw p.0 at found in
         let less : place x order < place s order = before_in x s xs rising.1 there in
-        let rest = removed s xs rising.2 there in
-        rw (lt-ltb (place x order) (place s order) less, p.0) (let within = rest.0 in omega (arith, within), ap (λ (l : List ℕ). x ∷ l) rest.1)
+        rw (lt-ltb (place x order) (place s order) less, p.0) (let rest = count_of_member s xs rising.2 there in omega (arith, rest))
   ]
 
   -- ---- one more

@@ -1,7 +1,7 @@
 // Rising stamps in a vector.
 
 ghost use Rattle.std.specs.Prelude.{◌≡◌, ◌↔◌, ◌<◌, ◌≤◌, [], false, length, insert, remove, IfOk, IfSome, IfNone, OnOk, OnErr, IsTrue};
-ghost use Rattle.ceal_order.specs.Stamps.{is_in, without};
+ghost use Rattle.ceal_order.specs.Stamps.{is_in, place, without};
 ghost use Rattle.ceal_rising.specs.Rising.{numbers, count_before, IsRising, IsFirstAfter, NoneAfter, IsParted};
 
 use ceal_base::no_memory::NoMemory;
@@ -83,7 +83,8 @@ impl Rising {
         requires here { IsTrue (is_in stamp.0 order.now.stamps) }
         requires rising { IsRising order.now.stamps self.old }
         requires there { IsTrue (is_in stamp.0 self.old) }
-        ensures at { result ≡ count_before order.now.stamps stamp.0 self.old }
+        ensures at { result ≡ place stamp.0 self.old }
+        ensures within { result < length self.old }
         ensures stamps { self.new ≡ without stamp.0 self.old }
         ensures rising { IsRising order.now.stamps self.new }
     {
