@@ -1,6 +1,6 @@
 // The queue of stale reads.
 
-ghost use Rattle.std.specs.Prelude.{◌≡◌, ◌↔◌, ◌+◌, ◌<◌, ℕ, [], true, false, max, IfSome, IfNone, IfOk, OnOk, OnErr, IsTrue};
+ghost use Rattle.std.specs.Prelude.{◌≡◌, ◌↔◌, ◌+◌, ◌<◌, ℕ, List, [], true, false, max, IfSome, IfNone, IfOk, OnOk, OnErr, IsTrue};
 ghost use Rattle.std.specs.Option.{ForSome};
 ghost use Rattle.ceal_order.specs.Stamps.{is_in};
 ghost use Rattle.ceal_queue.specs.Queue.{Follows, IsWith, IsWithout, IsBefore, IsEarliest};
@@ -42,6 +42,7 @@ impl Stale {
     pub fn new(alloc: Global) -> Result<Stale, NoMemory>
         ensures stamps { IfOk result (λ queue. queue.stamps ≡ []) }
         ensures spare { IfOk result (λ queue. queue.spare ≡ 0) }
+        ensures follows { IfOk result (λ queue. (order : List ℕ) → Follows order queue) }
     {
         Ok(Stale {
             tree: Tree::Empty,
@@ -55,6 +56,7 @@ impl Stale {
         ensures stamps { self.new.stamps ≡ self.old.stamps }
         ensures room { OnOk result (self.new.spare ≡ max self.old.spare n) }
         ensures err { OnErr result (self.new ≡ self.old) }
+        ensures follows { (order : List ℕ) → Follows order self.old → Follows order self.new }
     {
         let spare = self.spares.len() as u32;
         let more = n.saturating_sub(spare);

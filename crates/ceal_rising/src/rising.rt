@@ -47,7 +47,8 @@ impl Rising {
     pub fn count_before(&self, order: &Order, stamp: Stamp) -> usize
         requires here { IsTrue (is_in stamp.0 order.now.stamps) }
         requires rising { IsRising order.now.stamps self.now }
-        ensures { result ≡ count_before order.now.stamps stamp.0 self.now }
+        ensures count { result ≡ count_before order.now.stamps stamp.0 self.now }
+        ensures within { result ≤ length self.now }
     {
         searched(order, &self.stamps, stamp)
     }
@@ -69,6 +70,7 @@ impl Rising {
         requires rising { IsRising order.now.stamps self.old }
         requires absent { is_in stamp.0 self.old ≡ false }
         ensures at { IfOk result (λ at. at ≡ count_before order.now.stamps stamp.0 self.old) }
+        ensures within { IfOk result (λ at. at ≤ length self.old) }
         ensures ok { OnOk result (self.new ≡ insert self.old (count_before order.now.stamps stamp.0 self.old) stamp.0) }
         ensures err { OnErr result (self.new ≡ self.old) }
         ensures rising { IsRising order.now.stamps self.new }

@@ -1,5 +1,5 @@
 use Rattle.std.proofs.Common.{arith, refl}
-use Rattle.ceal_rising.proofs.Searching.{count_within}
+use Rattle.ceal_rising.proofs.Searching.{length-numbers, count_within}
 use Rattle.ceal_rising.proofs.Editing.{numbers-insert, rising_insert}
 use Rattle.ceal_rising.proofs.rising.Rising.insert.Goals as goal
 
@@ -17,3 +17,6 @@ returns-clause-rising c =
     let rising = rw (← c.self.view_is) at c.requires.rising in
     let absent = rw (← c.self.view_is) at c.requires.absent in
     rw (c.in_ok-insert.ensures.items, numbers-insert, at) (rising_insert _ _ _ c.requires.here rising absent)
+
+pub returns-clause-within : goal.returns-clause-within
+returns-clause-within c = rw (← c.self.view_is) (omega (arith, length-numbers c.self.inside.stamps.items))
