@@ -66,7 +66,13 @@ impl Mods {
     }
 
     /// Keeps a write of a place at a stamp at which the place has none.
-    pub fn add_write(&mut self, order: &Order, place: Place, stamp: Stamp, value: Word) -> Result<(), NoMemory>
+    pub fn add_write(
+        &mut self,
+        order: &Order,
+        place: Place,
+        stamp: Stamp,
+        value: Word,
+    ) -> Result<(), NoMemory>
         requires here { IsTrue (is_in stamp.0 order.now.stamps) }
         requires follows { Follows order.now.stamps self.old }
         requires absent { is_in stamp.0 (stamps_of (cell_of self.old place).writes) ≡ false }

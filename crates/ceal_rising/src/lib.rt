@@ -6,3 +6,5 @@
 
 pub mod laws;
 pub mod rising;
+#[cfg(test)]
+mod tests;
