@@ -1,0 +1,151 @@
+// The queue of stale reads.
+
+ghost use Rattle.std.specs.Prelude.{◌≡◌, ◌↔◌, ◌+◌, ◌<◌, ℕ, List, [], true, false, max, IfSome, IfNone, IfOk, OnOk, OnErr, IsTrue};
+ghost use Rattle.std.specs.Option.{ForSome};
+ghost use Rattle.ceal_order.specs.Stamps.{is_in};
+ghost use Rattle.ceal_queue.specs.Queue.{Follows, IsWith, IsWithout, IsBefore, IsEarliest};
+
+use crate::tree::{
+    Fork, Tree, add_forks, first_stamp, has, taken_first, with_stamp, without_stamp,
+};
+use ceal_base::no_memory::NoMemory;
+use ceal_order::order::Order;
+use ceal_order::stamp::Stamp;
+use std::alloc::Global;
+use std::marker::Model;
+use std::mem;
+
+/// A set of stamps. Contracts see `stamps`, from the earliest to the latest, and `spare`, how many more can be put in
+/// without taking memory. Each call that is handed an order needs that the queue follows it, and leaves it so.
+#[derive(Drop)]
+pub struct Stale {
+    tree: Tree,
+    count: u32,
+    spares: Vec<Box<Fork>>,
+}
+
+impl Model for Stale {
+    ghost use Rattle.std.specs.Prelude.{length};
+    ghost use Rattle.std.specs.Vec.{vec_len, vec_capacity};
+    ghost use Rattle.ceal_queue.specs.Queue.{Waiting, Fits};
+    ghost use Rattle.ceal_queue.specs.Tree.{stamps_of};
+
+    ghost Value = { Waiting };
+
+    ghost view = { λ a. record { stamps = stamps_of a.tree; spare = vec_len a.spares } };
+
+    ghost invariant = { λ a. Fits (length (stamps_of a.tree)) a.count (vec_len a.spares) (vec_capacity a.spares) };
+}
+
+impl Stale {
+    /// A queue of no stamps.
+    pub fn new(alloc: Global) -> Result<Stale, NoMemory>
+        ensures stamps { IfOk result (λ queue. queue.stamps ≡ []) }
+        ensures spare { IfOk result (λ queue. queue.spare ≡ 0) }
+        ensures follows { IfOk result (λ queue. (order : List ℕ) → Follows order queue) }
+    {
+        Ok(Stale {
+            tree: Tree::Empty,
+            count: 0,
+            spares: Vec::new(alloc),
+        })
+    }
+
+    /// Makes room for `n` more stamps. `NoMemory` also comes where there would be 2^32 stamps or more, the room counted.
+    pub fn reserve(&mut self, n: u32) -> Result<(), NoMemory>
+        ensures stamps { self.new.stamps ≡ self.old.stamps }
+        ensures room { OnOk result (self.new.spare ≡ max self.old.spare n) }
+        ensures err { OnErr result (self.new ≡ self.old) }
+        ensures follows { (order : List ℕ) → Follows order self.old → Follows order self.new }
+    {
+        let spare = self.spares.len() as u32;
+        let more = n.saturating_sub(spare);
+        if more > u32::MAX - self.count - spare {
+            return Err(NoMemory);
+        }
+        self.spares.reserve((self.count + more) as usize)?;
+        add_forks(&mut self.spares, more)
+    }
+
+    /// Puts a stamp in. One that is there already changes nothing, and needs no room.
+    pub fn push(&mut self, order: &Order, stamp: Stamp)
+        requires here { IsTrue (is_in stamp.0 order.now.stamps) }
+        requires follows { Follows order.now.stamps self.old }
+        requires room { is_in stamp.0 self.old.stamps ≡ false → 0 < self.old.spare }
+        ensures with { IsWith stamp.0 self.old.stamps self.new.stamps }
+        ensures known { is_in stamp.0 self.old.stamps ≡ true → self.new ≡ self.old }
+        ensures spare { is_in stamp.0 self.old.stamps ≡ false → self.new.spare + 1 ≡ self.old.spare }
+        ensures follows { Follows order.now.stamps self.new }
+    {
+        if has(order, &self.tree, stamp) {
+            return;
+        }
+        let Some(fork) = self.spares.pop() else {
+            unreachable!()
+        };
+        let tree = mem::replace(&mut self.tree, Tree::Empty);
+        self.tree = with_stamp(order, tree, fork, stamp);
+        self.count += 1;
+    }
+
+    /// Takes out the earliest stamp before the limit, or the earliest of all where there is no limit. None where there
+    /// is none. The room of what is taken out can be used again.
+    pub fn pop_before(&mut self, order: &Order, limit: Option<Stamp>) -> Option<Stamp>
+        requires limit { ForSome limit (λ l. IsTrue (is_in l.0 order.now.stamps)) }
+        requires follows { Follows order.now.stamps self.old }
+        ensures earliest { IfSome result (λ s. IsEarliest order.now.stamps self.old.stamps s.0) }
+        ensures before { IfSome result (λ s. IsBefore order.now.stamps limit s.0) }
+        ensures here { IfSome result (λ s. IsTrue (is_in s.0 order.now.stamps)) }
+        ensures without { IfSome result (λ s. IsWithout s.0 self.old.stamps self.new.stamps) }
+        ensures spare { IfSome result (λ s. self.new.spare ≡ self.old.spare + 1) }
+        ensures none { IfNone result ((s : ℕ) → is_in s self.old.stamps ≡ true → ¬ IsBefore order.now.stamps limit s) }
+        ensures unchanged { IfNone result (self.new ≡ self.old) }
+        ensures follows { Follows order.now.stamps self.new }
+    {
+        let first = first_stamp(&self.tree)?;
+        if !is_before(order, first, limit) {
+            return None;
+        }
+        match mem::replace(&mut self.tree, Tree::Empty) {
+            Tree::Empty => unreachable!(),
+            Tree::Fork(fork) => {
+                let (earliest, rest) = taken_first(fork);
+                self.tree = rest;
+                self.count -= 1;
+                let _ = self.spares.push(earliest);
+                Some(first)
+            }
+        }
+    }
+
+    /// Takes a stamp out. One that is not there changes nothing.
+    pub fn remove(&mut self, order: &Order, stamp: Stamp)
+        requires here { IsTrue (is_in stamp.0 order.now.stamps) }
+        requires follows { Follows order.now.stamps self.old }
+        ensures without { IsWithout stamp.0 self.old.stamps self.new.stamps }
+        ensures spare { is_in stamp.0 self.old.stamps ≡ true → self.new.spare ≡ self.old.spare + 1 }
+        ensures absent { is_in stamp.0 self.old.stamps ≡ false → self.new ≡ self.old }
+        ensures follows { Follows order.now.stamps self.new }
+    {
+        if !has(order, &self.tree, stamp) {
+            return;
+        }
+        let tree = mem::replace(&mut self.tree, Tree::Empty);
+        let (taken, rest) = without_stamp(order, tree, stamp);
+        self.tree = rest;
+        self.count -= 1;
+        let _ = self.spares.push(taken);
+    }
+}
+
+// Whether a stamp stands before the limit.
+fn is_before(order: &Order, stamp: Stamp, limit: Option<Stamp>) -> bool
+    requires here { IsTrue (is_in stamp.0 order.now.stamps) }
+    requires limit { ForSome limit (λ l. IsTrue (is_in l.0 order.now.stamps)) }
+    ensures { IsTrue result ↔ IsBefore order.now.stamps limit stamp.0 }
+{
+    match limit {
+        None => true,
+        Some(limit) => order.before(stamp, limit),
+    }
+}
