@@ -11,3 +11,6 @@ mod top;
 mod words;
 
 pub use top::{INPUT_LIMIT, Status, ceal_main, status_line};
+
+#[cfg(test)]
+mod tests;

@@ -8,3 +8,5 @@
 pub mod compile;
 pub mod fault_line;
 mod position;
+#[cfg(test)]
+mod tests;

@@ -16,6 +16,8 @@ mod senses;
 pub mod session;
 pub mod state;
 mod steps;
+#[cfg(test)]
+mod tests;
 mod texts;
 mod view;
 mod whole;

@@ -78,7 +78,8 @@ fn make_with(
     ensures quiet { IfOk result (λ reply. IsQuiet reply → state.new ≡ state.old) }
     ensures err { OnErr result (state.new ≡ state.old) }
 {
-    if has_unknown(senses) {
+    let unknown = has_unknown(senses);
+    if unknown {
         return Ok(Reply::Refused(Refusal::C2));
     }
     if state.names.has(name) {
