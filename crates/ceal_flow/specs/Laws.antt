@@ -7,6 +7,7 @@ use Rattle.ceal_base.specs.declared.typed.TypedStmt.{TypedStmt, Declare, Assign,
 use Rattle.ceal_base.specs.declared.word.Word.{Word}
 use Rattle.ceal_mean.specs.Fresh.{fresh as source_fresh}
 use Rattle.ceal_flow.specs.Fresh.{fresh}
+use Rattle.ceal_flow.specs.Live.{AreLiveSets}
 use Rattle.ceal_flow.specs.Lowering.{graph_of}
 use Rattle.ceal_flow.specs.Paths.{Leads}
 use Rattle.ceal_flow.specs.Program.{Graph}
@@ -50,3 +51,7 @@ IsSimple _ = Unit {0}
 -- blocks act by such statements alone
 abbrev pub Act_law : Type 0
 Act_law = (p : Typed) (b : ℕ) (s : TypedStmt) (next : ℕ) → slice_get (graph_of p).blocks b ≡ Some (Act s next) → IsSimple s
+
+-- a graph has one list of live sets
+abbrev pub One_law : Type 0
+One_law = (blocks : List GraphBlock) (s t : List (List ℕ)) → AreLiveSets blocks s → AreLiveSets blocks t → s ≡ t

@@ -25,8 +25,8 @@ returns-clause-more c = λ e.
     let new = c.join_words.new.words.items in
     let added = c.in_ok-changed.ensures.more e in
     let more : length (members old) < length (members new) =
-        members-more old new (λ v h. c.in_ok-changed.ensures.joined v ∙ or-left (has_bit old v) _ h)
-        (record { number = added.0; out = added.1; inside = added.2 }) in
+    members-more old new (λ v h. c.in_ok-changed.ensures.joined v ∙ or-left (has_bit old v) _ h)
+    (record { number = added.0; out = added.1; inside = added.2 }) in
     rw c.self.view_is at more
 
 pub returns-clause-ascending : goal.returns-clause-ascending
