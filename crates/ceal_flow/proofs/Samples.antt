@@ -1,5 +1,5 @@
 -- The definitions on small programs.
-use Rattle.std.proofs.Common.{◌≡◌, ℕ, pos, Bool, true, false, Some, None, List, [], ◌∷◌, slice_get, refl}
+use Rattle.std.proofs.Common.{◌≡◌, ℕ, pos, Some, None, List, [], ◌∷◌, refl, lit<}
 use Rattle.std.proofs.lemmas.List.Elements.{Contains-push}
 use Rattle.ceal_base.specs.declared.fault.Span.{Span}
 use Rattle.ceal_base.specs.declared.kind.Kind.{Kind}
@@ -7,7 +7,6 @@ use Rattle.ceal_base.specs.declared.kind.Kind.TheVariants.{Int, ModInt}
 use Rattle.ceal_base.specs.declared.typed.Typed.{Typed}
 use Rattle.ceal_base.specs.declared.typed.TypedExpr.{TypedExpr}
 use Rattle.ceal_base.specs.declared.typed.TypedForm.{TypedForm, Num, Var}
-use Rattle.ceal_base.specs.declared.typed.TypedFunction.{TypedFunction}
 use Rattle.ceal_base.specs.declared.typed.TypedStmt.{TypedStmt}
 use Rattle.ceal_base.specs.declared.typed.TypedStmt.TheBlock.{hidden-the_row-TypedStmt-0, shape-the_row-TypedStmt-0}
 use Rattle.ceal_base.specs.declared.typed.TypedStmt.TheVariants.{Assign, Declare, Write, Return}
@@ -15,9 +14,8 @@ use Rattle.ceal_base.specs.declared.typed.TypedStmt.TheViews.{If, While}
 use Rattle.ceal_base.specs.declared.typed.TypedValue.TheVariants.{Plain}
 use Rattle.ceal_flow.specs.Blocks.{size, sizes, goes_on, all_go_on, blocks_of, all_blocks}
 use Rattle.ceal_flow.specs.Live.{form_mentions, Live}
-use Rattle.ceal_flow.specs.Lowering.{blocks_from, functions_from, graph_of}
-use Rattle.ceal_flow.specs.Paths.{Path, stays, jumps_to}
-use Rattle.ceal_flow.specs.declared.block.GraphBlock.{GraphBlock}
+use Rattle.ceal_flow.specs.Lowering.{blocks_from, graph_of}
+use Rattle.ceal_flow.specs.Paths.{stays, jumps_to}
 use Rattle.ceal_flow.specs.declared.block.GraphBlock.TheVariants.{Done, Test, Act, Unreached}
 
 abbrev at : Span
