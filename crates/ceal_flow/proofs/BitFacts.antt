@@ -1,5 +1,5 @@
 -- Sets of numbers as words of bits.
-use Rattle.std.proofs.Common.{◌≡◌, ◌≢◌, ◌⊎◌, inl, inr, ℕ, zero, suc, ◌+◌, ◌*◌, ◌/◌, ◌%◌, ◌^◌, ◌<◌, ◌≤◌, max, Bool, true, false, ◌==◌, ◌||◌, ◌&&◌, not, Option, Some, None, List, [], ◌∷◌, ◌++◌, length, if◌then◌else◌, refl, ap, sym, ◌∙◌, subst, arith, w64, add-one, ltb, length-append, add-zero, add-suc}
+use Rattle.std.proofs.Common.{◌≡◌, ◌≢◌, ◌⊎◌, inl, inr, ℕ, zero, suc, ◌+◌, ◌*◌, ◌/◌, ◌%◌, ◌^◌, ◌<◌, ◌≤◌, max, Bool, true, false, ◌==◌, ◌||◌, ◌&&◌, not, Option, Some, List, [], ◌∷◌, ◌++◌, length, if◌then◌else◌, refl, ap, sym, ◌∙◌, subst, arith, w64, add-one, ltb, length-append, add-zero, add-suc}
 use Rattle.std.specs.Int.{bit_at, bit_not}
 use Rattle.std.specs.Prelude.{bit_and, bit_or}
 use Rattle.std.proofs.lemmas.Nat.Bits.{bit_at-lt, bit_at-zero, bit_at_or, bit_at_clear_same, bit_at_clear_other, bit_at_set_same, bit_at_set_other, same_from_bits_below}
@@ -10,7 +10,7 @@ use Rattle.std.proofs.Math.Bool.{or_assoc}
 use Rattle.std.proofs.lemmas.List.{append-nil}
 use mir.Val.{bits}
 use Rattle.ceal_flow.specs.Bits.{word_at, has_bit, members_below, members}
-use Rattle.ceal_flow.specs.Sets.{is_in, is_that, IsBelow, IsAscending}
+use Rattle.ceal_flow.specs.Sets.{is_in, is_that, IsAscending}
 
 -- what lies past the end is 0
 pub word-past : (words : List ℕ) (k : ℕ) → length words ≤ k → word_at words k ≡ 0
@@ -24,14 +24,14 @@ pub but-bit : (n v at j : ℕ) (except : Option ℕ) → except ≡ Some v → v
 but-bit n v at j except e d l =
     let within : v % 64 < 64 = omega arith in
     elim (eqb_tells v (at * 64 + j)) [
-      inl p ↦
-        let q = p.1 in
-        let same : j ≡ v % 64 = omega (arith, q, d, l) in
-        rw (e, p.0) (subst (λ i. bit_at (bit_and n (bit_not w64 (1 * 2 ^ (v % 64) % 2 ^ bits w64))) i ≡ 0) (sym same) (bit_at_clear_same w64 n (v % 64) within))
-    | inr p ↦
-        let q = p.1 in
-        let other : j ≢ v % 64 = λ s. q (omega (arith, s, d, l)) in
-        rw (e, p.0) (bit_at_clear_other w64 n (v % 64) within j l other)
+      | inl p ↦
+          let q = p.1 in
+          let same : j ≡ v % 64 = omega (arith, q, d, l) in
+          rw (e, p.0) (subst (λ i. bit_at (bit_and n (bit_not w64 (1 * 2 ^ (v % 64) % 2 ^ bits w64))) i ≡ 0) (sym same) (bit_at_clear_same w64 n (v % 64) within))
+      | inr p ↦
+          let q = p.1 in
+          let other : j ≢ v % 64 = λ s. q (omega (arith, s, d, l)) in
+          rw (e, p.0) (bit_at_clear_other w64 n (v % 64) within j l other)
     ]
 
 -- numbers that differ differ in a bit
@@ -43,21 +43,21 @@ pub record Differs (a b : ℕ) : Type 0 where
 find-bit : (n a b : ℕ) → n ≤ 64 → Differs a b ⊎ ((i : ℕ) → i < n → bit_at a i ≡ bit_at b i)
 find-bit zero a b h = inr (λ i l. absurd (omega (arith, l)))
 find-bit (suc n) a b h = elim (eqb_tells (bit_at a n) (bit_at b n)) [
-    inr p ↦ inl (record { bit = n; low = omega arith; apart = p.1 })
+  | inr p ↦ inl (record { bit = n; low = omega arith; apart = p.1 })
   | inl p ↦ elim (find-bit n a b (omega arith)) [
-      inl d ↦ inl d
+    | inl d ↦ inl d
     | inr all ↦ inr (λ i l. elim (eqb_tells i n) [
-          inl q ↦ subst (λ k. bit_at a k ≡ bit_at b k) (sym q.1) p.1
-        | inr q ↦ let r = q.1 in all i (omega (arith, r, l))
-        ])
-    ]
+      | inl q ↦ subst (λ k. bit_at a k ≡ bit_at b k) (sym q.1) p.1
+      | inr q ↦ let r = q.1 in all i (omega (arith, r, l))
+    ])
   ]
+]
 
 pub differs : (a b : ℕ) → a < 2 ^ 64 → b < 2 ^ 64 → a ≢ b → Differs a b
 differs a b la lb ne = elim (find-bit 64 a b (omega arith)) [
-    inl d ↦ d
+  | inl d ↦ d
   | inr all ↦ absurd (ne (same_from_bits_below 64 a b la lb all))
-  ]
+]
 
 -- a word to which bits were added
 pub put-differs : (x y bits : ℕ) → y ≡ bit_or x bits → y < 2 ^ 64 → x ≢ y → Differs x y
@@ -97,21 +97,21 @@ has-joined new old others except w h =
     or-bit (bit_at (word_at old (w / 64)) (w % 64)) (bit_at (word_at others (w / 64)) (w % 64)) (bit_at (word_at new (w / 64)) (w % 64)) (is_that except w)
     (bit_at-lt (word_at old (w / 64)) (w % 64)) (bit_at-lt (word_at others (w / 64)) (w % 64))
     (subst (λ v. bit_at (word_at new (w / 64)) (w % 64)
-        ≡ max (bit_at (word_at old (w / 64)) (w % 64)) (if is_that except v then 0 else bit_at (word_at others (w / 64)) (w % 64))) same h)
+    ≡ max (bit_at (word_at old (w / 64)) (w % 64)) (if is_that except v then 0 else bit_at (word_at others (w / 64)) (w % 64))) same h)
 
 -- at every number, where it is so below the end of the other set and nothing is changed from there on
 pub all-joined : (new old others : List ℕ) (except : Option ℕ) (i : ℕ) → length others ≤ i
     → ((k j : ℕ) → k < i → j < 64 → JoinedAt new old others except k j) → ((k : ℕ) → i ≤ k → word_at new k ≡ word_at old k)
     → (w : ℕ) → has_bit new w ≡ (has_bit old w || (has_bit others w && not (is_that except w)))
 all-joined new old others except i l joined left w = elim (le-or-lt i (w / 64)) [
-    inl far ↦
+  | inl far ↦
       let none = word-past others (w / 64) (omega (arith, l, far)) in
       let zeros : bit_at (word_at others (w / 64)) (w % 64) ≡ 0 = rw none (bit_at-zero (w % 64)) in
       let t = is_that except (w / 64 * 64 + w % 64) in
       has-joined new old others except w
       (rw (left (w / 64) far, zeros) (no-more (bit_at (word_at old (w / 64)) (w % 64)) (is_that except (w / 64 * 64 + w % 64))))
   | inr near ↦ has-joined new old others except w (joined (w / 64) (w % 64) near (omega arith))
-  ]
+]
 
 -- one more, where a bit is not what it was
 pub record Added (old new : List ℕ) : Type 0 where
@@ -138,7 +138,7 @@ has-added new old others except k j l h n =
     let word_is : (k * 64 + j) / 64 ≡ k = omega (arith, l) in
     let bit_is : (k * 64 + j) % 64 ≡ j = omega (arith, l) in
     let both = bit-added (bit_at (word_at old k) j) (bit_at (word_at others k) j) (bit_at (word_at new k) j) (is_that except (k * 64 + j))
-        (bit_at-lt (word_at old k) j) (bit_at-lt (word_at others k) j) h n in
+    (bit_at-lt (word_at old k) j) (bit_at-lt (word_at others k) j) h n in
     record { number = k * 64 + j; out = rw (word_is, bit_is) both.0; inside = rw (word_is, bit_is) both.1 }
 
 -- one word more
@@ -148,14 +148,14 @@ module _ (old cur new others : List ℕ) (except : Option ℕ) (i bits : ℕ)
     (bits_are : (j : ℕ) → j < 64 → bit_at bits j ≡ (if is_that except (i * 64 + j) then 0 else bit_at (word_at others i) j)) where
   pub step-joined : (k j : ℕ) → k < i + 1 → j < 64 → JoinedAt new old others except k j
   step-joined k j lk lj = elim (eqb_tells k i) [
-      inl p ↦
+    | inl p ↦
         let e : JoinedAt new old others except i j =
-            rw (here, bit_at_or, bits_are j lj, left i (omega arith)) refl in
+        rw (here, bit_at_or, bits_are j lj, left i (omega arith)) refl in
         subst (λ x. JoinedAt new old others except x j) (sym p.1) e
     | inr p ↦
         let q = p.1 in
         rw (elsewhere k q) (joined k j (omega (arith, q, lk)) lj)
-    ]
+  ]
 
   pub step-left : (k : ℕ) → i + 1 ≤ k → word_at new k ≡ word_at old k
   step-left k l =
@@ -206,16 +206,16 @@ not-here v n false e = refl
 
 one-more : (v n : ℕ) (here there : Bool) → (n ≡ v → there ≡ here) → ((ltb v n && there) || is_in v (if here then n ∷ [] else [])) ≡ (ltb v (suc n) && there)
 one-more v n here there same = elim (eqb_tells n v) [
-    inl p ↦
+  | inl p ↦
       let q = p.1 in
       rw (le-ltb v n (omega (arith, q)), lt-ltb v (suc n) (omega (arith, q))) (here-too v n here there p.0 (same q))
   | inr p ↦
       let q = p.1 in
       rw (not-here v n here p.0, or-false) (elim (le-or-lt n v) [
-        inl l ↦ rw (le-ltb v n l, le-ltb v (suc n) (omega (arith, l, q))) refl
-      | inr l ↦ rw (lt-ltb v n l, lt-ltb v (suc n) (omega (arith, l))) refl
+        | inl l ↦ rw (le-ltb v n l, le-ltb v (suc n) (omega (arith, l, q))) refl
+        | inr l ↦ rw (lt-ltb v n l, lt-ltb v (suc n) (omega (arith, l))) refl
       ])
-  ]
+]
 
 in-below : (words : List ℕ) (n v : ℕ) → is_in v (members_below words n) ≡ (ltb v n && has_bit words v)
 unfolding members_below
@@ -227,11 +227,11 @@ in-below words (suc n) v =
 -- a number is in the list where its bit is 1
 pub in-members : (words : List ℕ) (v : ℕ) → is_in v (members words) ≡ has_bit words v
 in-members words v = rw in-below (elim (le-or-lt (64 * length words) v) [
-    inl l ↦
+  | inl l ↦
       let none = word-past words (v / 64) (omega (arith, l)) in
       rw (le-ltb v (64 * length words) l, none, bit_at-zero) refl
   | inr l ↦ rw (lt-ltb v (64 * length words) l) refl
-  ])
+])
 
 -- it is ascending
 all-less : ℕ → List ℕ → Type 0
@@ -298,7 +298,6 @@ below-few words (suc n) =
     let m = length-by (has_bit words n) n (members_below words n) in
     let one = at-most-one (has_bit words n) in omega (arith, l, m, one)
 
-
 pub members-few : (words : List ℕ) → length words ≤ 2 ^ 26 → length (members words) ≤ 2 ^ 32
 members-few words l = let h = below-few words (64 * length words) in omega (arith, l, h)
 
@@ -324,7 +323,7 @@ module _ (old new : List ℕ) (grows : (v : ℕ) → has_bit old v ≡ true → 
   unfolding count-by
   below-more-by v zero out inside l = absurd (omega arith)
   below-more-by v (suc n) out inside l = elim (eqb_tells v n) [
-      inl p ↦
+    | inl p ↦
         let q = p.1 in
         let k = below-grows n in
         let a = below-length old n in let b = below-length new n in
@@ -336,7 +335,7 @@ module _ (old new : List ℕ) (grows : (v : ℕ) → has_bit old v ≡ true → 
         let k = below-more-by v n out inside (omega (arith, q, l)) in
         let one = less-by (has_bit old n) (has_bit new n) (grows n) in
         let a = below-length old n in let b = below-length new n in omega (arith, k, one, a, b)
-    ]
+  ]
 
 pub or-left : (a b : Bool) → a ≡ true → (a || b) ≡ true
 or-left true b e = refl
@@ -345,11 +344,11 @@ or-left false b e = cc
 -- a bit past the last word is 0
 has-within : (words : List ℕ) (v : ℕ) → has_bit words v ≡ true → v < 64 * length words
 has-within words v e = elim (le-or-lt (64 * length words) v) [
-    inl l ↦
+  | inl l ↦
       let none = word-past words (v / 64) (omega (arith, l)) in
       let zero_is : has_bit words v ≡ false = rw (none, bit_at-zero) refl in cc
   | inr l ↦ l
-  ]
+]
 
 none-past : (words : List ℕ) (v : ℕ) → 64 * length words ≤ v → has_bit words v ≡ false
 none-past words v l = let none = word-past words (v / 64) (omega (arith, l)) in rw (none, bit_at-zero) refl
@@ -379,18 +378,18 @@ members-more old new grows a =
 pub bit-put : (old new : List ℕ) (v : ℕ) → word_at new (v / 64) ≡ bit_or (word_at old (v / 64)) (1 * 2 ^ (v % 64) % 2 ^ 64)
     → ((k : ℕ) → k ≢ v / 64 → word_at new k ≡ word_at old k) → (w : ℕ) → has_bit new w ≡ (v == w || has_bit old w)
 bit-put old new v here elsewhere w = elim (eqb_tells v w) [
-    inl p ↦
+  | inl p ↦
       let within : v % 64 < 64 = omega arith in
       let set = bit_at_set_same w64 (word_at old (v / 64)) (v % 64) within in
       let one : has_bit new v ≡ true = rw (here, set) refl in
       rw p.0 (subst (λ x. has_bit new x ≡ true) p.1 one)
   | inr p ↦ rw p.0 (elim (eqb_tells (w / 64) (v / 64)) [
-      inl q ↦
+    | inl q ↦
         let n = p.1 in let m = q.1 in
         let within : v % 64 < 64 = omega arith in
         let other : w % 64 ≢ v % 64 = λ s. n (omega (arith, s, m)) in
         let set = bit_at_set_other w64 (word_at old (v / 64)) (v % 64) within (w % 64) other in
         rw (m, here, set) refl
     | inr q ↦ rw (elsewhere (w / 64) q.1) refl
-    ])
-  ]
+  ])
+]

@@ -1,14 +1,11 @@
 -- The blocks of functions one after another.
-use Rattle.std.proofs.Common.{◌≡◌, ℕ, suc, ◌+◌, ◌-◌, ◌<◌, ◌≤◌, Option, Some, None, List, [], ◌∷◌, ◌++◌, length, take, drop, get_or, slice_get, refl, ap, sym, ◌∙◌, arith, length-append, append_assoc, add-one, add-zero}
+use Rattle.std.proofs.Common.{◌≡◌, ℕ, suc, ◌+◌, ◌<◌, Option, Some, None, List, [], ◌∷◌, ◌++◌, length, take, drop, get_or, slice_get, refl, ap, sym, ◌∙◌, arith, length-append, append_assoc, add-one}
 use Rattle.std.proofs.Math.Seq.{drop-cons}
-use Rattle.std.proofs.lemmas.List.{take_more, take-append-drop, append-nil}
+use Rattle.std.proofs.lemmas.List.{take_more, take-append-drop}
 use Rattle.ceal_base.specs.declared.fault.Span.{Span}
 use Rattle.ceal_base.specs.declared.typed.TypedFunction.{TypedFunction}
 use Rattle.ceal_base.specs.declared.typed.TypedStmt.{TypedStmt}
-use Rattle.ceal_flow.specs.Blocks.{sizes, all_blocks}
-use Rattle.ceal_flow.specs.Lowering.{size_in, function_size, function_sizes, end_of, function_at, blocks_in, blocks_at, functions_from, blocks_from, all_places, places_in, places_of, function_places}
-use Rattle.ceal_flow.specs.declared.block.GraphBlock.{GraphBlock}
-use Rattle.ceal_flow.specs.declared.function.GraphFunction.{GraphFunction}
+use Rattle.ceal_flow.specs.Lowering.{size_in, function_size, function_sizes, end_of, function_at, blocks_in, blocks_at, functions_from, blocks_from, places_in, places_of, function_places}
 use Rattle.ceal_flow.proofs.BlockSteps.{all-length}
 use Rattle.ceal_flow.proofs.ListFacts.{get-left, get-right}
 use Rattle.ceal_flow.proofs.PlaceSteps.{all-places-length}

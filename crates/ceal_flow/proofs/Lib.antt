@@ -9,3 +9,5 @@ pub mod SameRun
 pub mod Reach
 pub mod Reached
 pub mod BitFacts
+pub mod OneAnswer
+pub mod Samples

@@ -1,15 +1,14 @@
 -- Where the blocks of statements and of functions stand in a graph.
-use Rattle.std.proofs.Common.{◌≡◌, ℕ, zero, suc, ◌+◌, ◌<◌, ◌≤◌, Bool, true, false, ◌&&◌, Option, Some, None, List, [], ◌∷◌, ◌++◌, length, slice_get, replicate, if◌then◌else◌, refl, ap, sym, ◌∙◌, arith, append_assoc, length-append, All, subst}
+use Rattle.std.proofs.Common.{◌≡◌, ℕ, zero, suc, ◌+◌, ◌<◌, true, Option, Some, List, [], ◌∷◌, ◌++◌, length, slice_get, replicate, if◌then◌else◌, refl, ap, sym, ◌∙◌, arith, append_assoc, length-append, All, subst}
 use Rattle.std.proofs.lemmas.List.Elements.{All-head, All-tail}
-use Rattle.ceal_base.specs.Usage.{CoreUsage, FunctionUsage, KeepsUsage, IsCore, IsInitialiser}
 use Rattle.ceal_base.specs.declared.typed.TypedFunction.{TypedFunction}
 use Rattle.ceal_base.specs.declared.typed.TypedStmt.{TypedStmt}
-use Rattle.ceal_flow.specs.Blocks.{size, sizes, goes_on, all_go_on, target, entry, blocks_of, all_blocks}
-use Rattle.ceal_flow.specs.Lowering.{size_in, function_size, end_of, first_of, core_at, core_blocks, function_at, blocks_in, blocks_at, functions_from, blocks_from}
+use Rattle.ceal_flow.specs.Blocks.{size, sizes, goes_on, entry, blocks_of, all_blocks}
+use Rattle.ceal_flow.specs.Lowering.{function_size, function_at, blocks_at, functions_from, blocks_from}
 use Rattle.ceal_flow.specs.declared.block.GraphBlock.{GraphBlock}
-use Rattle.ceal_flow.specs.declared.block.GraphBlock.TheVariants.{Done, Unreached}
+use Rattle.ceal_flow.specs.declared.block.GraphBlock.TheVariants.{Unreached}
 use Rattle.ceal_flow.specs.declared.function.GraphFunction.{GraphFunction}
-use Rattle.ceal_flow.proofs.BlockSteps.{blocks-length, all-length, all-cons, on-cons, on-nil}
+use Rattle.ceal_flow.proofs.BlockSteps.{blocks-length, all-cons}
 use Rattle.ceal_flow.proofs.FunctionSteps.{blocks_in-length}
 use Rattle.ceal_flow.proofs.ListFacts.{get-append_left, get-append_right}
 

@@ -1,13 +1,12 @@
 -- Which blocks are kept, and where their jumps lead: laws of blocks that are put together.
-use Rattle.std.proofs.Common.{◌≡◌, ◌⊎◌, inl, inr, ℕ, zero, suc, ◌+◌, ◌-◌, ◌<◌, ◌≤◌, Bool, true, false, ◌&&◌, ◌||◌, Option, Some, None, List, [], ◌∷◌, ◌++◌, length, slice_get, replicate, if◌then◌else◌, Contains, refl, ap, sym, ◌∙◌, subst, arith}
+use Rattle.std.proofs.Common.{◌≡◌, ◌⊎◌, inl, inr, ℕ, zero, suc, ◌+◌, ◌<◌, Bool, true, false, ◌||◌, Option, Some, List, [], ◌∷◌, ◌++◌, length, slice_get, replicate, if◌then◌else◌, Contains, refl, subst, arith}
 use Rattle.std.proofs.lemmas.List.Elements.{Contains-push, Contains-push_cases, Contains-append_cases, Contains-append_left, Contains-append_right}
 use Rattle.ceal_base.specs.declared.typed.TypedExpr.{TypedExpr}
 use Rattle.ceal_base.specs.declared.typed.TypedStmt.{TypedStmt}
 use Rattle.ceal_flow.specs.Laws.{IsKept, IsSimple}
-use Rattle.ceal_flow.specs.Paths.{Path, stays, jumps_to, jumps, jumps_at, test_at, any, Leads}
+use Rattle.ceal_flow.specs.Paths.{stays, jumps_to, jumps, Leads}
 use Rattle.ceal_flow.specs.declared.block.GraphBlock.{GraphBlock}
-use Rattle.ceal_flow.specs.declared.block.GraphBlock.TheVariants.{Done, Test, Act, Unreached}
-use Rattle.ceal_flow.proofs.ListFacts.{get-append_left, get-append_right, get-within}
+use Rattle.ceal_flow.specs.declared.block.GraphBlock.TheVariants.{Test, Act, Unreached}
 
 contains-one : (x c : ℕ) → Contains (x ∷ []) c → x ≡ c
 contains-one x c h = elim (Contains-push_cases [] x c h) [ inl k ↦ absurd (omega (arith, k.1)) | inr e ↦ e ]

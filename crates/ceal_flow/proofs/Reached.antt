@@ -1,23 +1,22 @@
 -- The blocks that are kept are those that a path leads to.
-use Rattle.std.proofs.Common.{◌≡◌, ◌↔◌, ◌⊎◌, inl, inr, ℕ, zero, suc, ◌+◌, ◌<◌, ◌≤◌, Bool, true, false, ◌&&◌, Option, Some, None, IsNone, List, [], ◌∷◌, ◌++◌, length, slice_get, replicate, if◌then◌else◌, Contains, refl, ap, sym, ◌∙◌, subst, arith, append_assoc, length-append}
+use Rattle.std.proofs.Common.{◌≡◌, ◌⊎◌, inl, inr, ℕ, zero, suc, ◌+◌, Bool, true, false, ◌&&◌, Option, Some, None, List, [], ◌∷◌, ◌++◌, length, slice_get, replicate, if◌then◌else◌, Contains, refl, sym, subst, arith, append_assoc, length-append}
 use Rattle.std.proofs.lemmas.List.Elements.{Contains-push, Contains-push_cases, Contains-append_cases, Contains-append_left, Contains-append_right}
 use Rattle.ceal_base.specs.declared.typed.Typed.{Typed}
 use Rattle.ceal_base.specs.declared.typed.TypedFunction.{TypedFunction}
 use Rattle.ceal_base.specs.declared.typed.TypedStmt.{TypedStmt, Declare, Assign, SetField, Write, Call, If', While', Return, Row_of-TypedStmt, end_of-TypedStmt, more_of-TypedStmt}
 use Rattle.ceal_base.specs.declared.typed.TypedStmt.TheBlock.{hidden-the_row-TypedStmt-0}
 use Rattle.ceal_flow.specs.Blocks.{size, row_size, sizes, goes_on, row_goes_on, all_go_on, target, row_entry, entry, blocks_of, row_blocks, all_blocks}
-use Rattle.ceal_flow.specs.Laws.{IsKept, firsts, IsReached, Kept_law, IsSimple, Act_law}
-use Rattle.ceal_flow.specs.Lowering.{size_in, function_size, end_of, first_of, core_at, core_blocks, function_in, function_at, blocks_in, blocks_at, functions_from, blocks_from, graph_of}
-use Rattle.ceal_flow.specs.Paths.{Path, stays, jumps_to, jumps, jumps_at, any, Leads}
+use Rattle.ceal_flow.specs.Laws.{IsKept, firsts, IsReached, IsSimple}
+use Rattle.ceal_flow.specs.Lowering.{function_size, end_of, first_of, core_blocks, function_in, function_at, blocks_in, blocks_at, functions_from, blocks_from, graph_of}
+use Rattle.ceal_flow.specs.Paths.{stays, jumps_to, jumps, Leads}
 use Rattle.ceal_flow.specs.declared.block.GraphBlock.{GraphBlock}
-use Rattle.ceal_flow.specs.declared.block.GraphBlock.TheVariants.{Done, Test, Act, Unreached}
+use Rattle.ceal_flow.specs.declared.block.GraphBlock.TheVariants.{Done, Act, Unreached}
 use Rattle.ceal_flow.specs.declared.function.GraphFunction.{GraphFunction}
 use Rattle.ceal_flow.specs.declared.function.GraphFunction.TheVariants.{Core, Init}
-use Rattle.ceal_flow.proofs.BlockSteps.{row-sizes, row-go_on, row-entry, row-blocks, blocks-length, row-length, all-length}
+use Rattle.ceal_flow.proofs.BlockSteps.{row-go_on, row-entry, row-blocks, blocks-length, row-length, all-length}
 use Rattle.ceal_flow.proofs.FunctionSteps.{blocks_in-length}
-use Rattle.ceal_flow.proofs.ListFacts.{get-append_left, get-append_right}
 use Rattle.ceal_flow.proofs.Placing.{Placed, placed-head, placed-left, placed-right, placed-tail, placed-part}
-use Rattle.ceal_flow.proofs.Reach.{Laws, Kept, parted, lead-on, nothing-laws, return-laws, act-laws, seq-laws, last-laws, if-laws, while-laws}
+use Rattle.ceal_flow.proofs.Reach.{Laws, Kept, parted, nothing-laws, return-laws, act-laws, seq-laws, last-laws, if-laws, while-laws}
 
 module _ (blocks : List GraphBlock) where
   -- a statement, and then others

@@ -1,15 +1,11 @@
 -- The graph of a program runs as the program does.
-use Rattle.std.proofs.Common.{◌≡◌, ℕ, zero, suc, ◌+◌, Bool, true, false, ◌||◌, ◌⊎◌, inl, inr, Option, Some, None, IsSomeAnd, IsSome, IsNone, is_some, List, [], ◌∷◌, ◌++◌, length, slice_get, slice_set, if◌then◌else◌, refl, ap, sym, ◌∙◌, All, subst}
+use Rattle.std.proofs.Common.{◌≡◌, ℕ, zero, suc, ◌+◌, Bool, true, false, ◌||◌, ◌⊎◌, inl, inr, Option, Some, None, IsSomeAnd, IsSome, IsNone, List, [], ◌∷◌, ◌++◌, slice_get, slice_set, if◌then◌else◌, refl, ap, sym, ◌∙◌, All, subst}
 use Rattle.std.proofs.lemmas.List.{append-nil}
 use Rattle.std.proofs.lemmas.List.Elements.{All-nil, All-cons}
-use Rattle.ceal_base.specs.Access.{holds, written}
-use Rattle.ceal_base.specs.Block.{Block, Blocks}
-use Rattle.ceal_base.specs.Finished.{Finished}
+use Rattle.ceal_base.specs.Access.{holds}
+use Rattle.ceal_base.specs.Block.{Blocks}
 use Rattle.ceal_base.specs.Usage.{CoreUsage, RowCoreUsage, InitUsage, ValueUsage, FunctionUsage, KeepsUsage, IsCore, IsInitialiser}
-use Rattle.ceal_base.specs.declared.fault.Span.{Span}
-use Rattle.ceal_base.specs.declared.kind.Kind.{Kind}
 use Rattle.ceal_base.specs.declared.typed.Typed.{Typed}
-use Rattle.ceal_base.specs.declared.typed.TypedExpr.{TypedExpr}
 use Rattle.ceal_base.specs.declared.typed.TypedFunction.{TypedFunction}
 use Rattle.ceal_base.specs.declared.typed.TypedStmt.{TypedStmt, out-TypedStmt, roll-TypedStmt, roll-out-TypedStmt}
 use Rattle.ceal_base.specs.declared.typed.TypedStmt.TheBlock.{hidden-the_row-TypedStmt-0, shape-the_row-TypedStmt-0}
@@ -19,22 +15,20 @@ use Rattle.ceal_base.specs.declared.typed.TypedStmt.TheViews.{If, While}
 use Rattle.ceal_base.specs.declared.typed.TypedValue.{TypedValue}
 use Rattle.ceal_base.specs.declared.typed.TypedValue.TheVariants.{Plain, Read, Alloc, ModrefInt, Modref}
 use Rattle.ceal_base.specs.declared.word.Word.{Word}
-use Rattle.ceal_mean.specs.Exec.{Taken, taken, first_env, entered, given, effect, is_return, is_over, settled, stepped, new_block}
+use Rattle.ceal_mean.specs.Exec.{taken, first_env, entered, given, effect, is_return, is_over, settled, stepped, new_block}
 use Rattle.ceal_mean.specs.Frame.{Frame, State}
-use Rattle.ceal_mean.specs.Fresh.{run_settled, run, start, fresh}
+use Rattle.ceal_mean.specs.Fresh.{run_settled}
 use Rattle.ceal_mean.specs.Init.{made_by}
 use Rattle.ceal_mean.specs.Value.{value_of, values_of}
-use Rattle.ceal_flow.specs.Blocks.{size, sizes, goes_on, all_go_on, target, entry, blocks_of, all_blocks}
-use Rattle.ceal_flow.specs.Fresh.{Point, State as GraphState, initialiser_in, taken as graph_taken, entered as graph_entered, given as graph_given, acted, is_over as block_is_over, settled as graph_settled, stepped as graph_stepped, run_settled as graph_run_settled, run as graph_run, start as graph_start, fresh as graph_fresh}
+use Rattle.ceal_flow.specs.Blocks.{sizes, all_go_on, target, entry, blocks_of, all_blocks}
+use Rattle.ceal_flow.specs.Fresh.{Point, State as GraphState, initialiser_in, taken as graph_taken, entered as graph_entered, given as graph_given, is_over as block_is_over, settled as graph_settled, stepped as graph_stepped, run_settled as graph_run_settled}
 use Rattle.ceal_flow.specs.Laws.{RunsAs}
-use Rattle.ceal_flow.specs.Lowering.{end_of, first_of, core_at, core_blocks, function_at, function_in, blocks_at, blocks_in, functions_from, blocks_from, graph_of}
+use Rattle.ceal_flow.specs.Lowering.{end_of, first_of, core_blocks, function_at, function_in, blocks_at, graph_of}
 use Rattle.ceal_flow.specs.Program.{Graph}
 use Rattle.ceal_flow.specs.declared.block.GraphBlock.{GraphBlock}
-use Rattle.ceal_flow.specs.declared.block.GraphBlock.TheVariants.{Done, Test, Act, Unreached}
-use Rattle.ceal_flow.specs.declared.function.GraphFunction.{GraphFunction}
-use Rattle.ceal_flow.specs.declared.function.GraphFunction.TheVariants.{Core, Init}
+use Rattle.ceal_flow.specs.declared.block.GraphBlock.TheVariants.{Done, Test, Act}
 use Rattle.ceal_flow.proofs.BlockSteps.{on-declare, on-assign, on-set, on-write, on-call, on-if, on-while, blocks-declare, blocks-assign, blocks-set, blocks-write, blocks-call, blocks-if, blocks-while, all-length}
-use Rattle.ceal_flow.proofs.Placing.{Placed, placed-head, placed-left, placed-right, placed-tail, Made, made-at, all-at}
+use Rattle.ceal_flow.proofs.Placing.{Placed, placed-head, placed-left, placed-right, placed-tail, made-at, all-at}
 use Rattle.ceal_flow.proofs.Simulation.{Stands, ends, goes, stops, Front, front, at-end}
 
 -- the function of which it holds

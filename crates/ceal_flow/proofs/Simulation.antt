@@ -1,6 +1,6 @@
 -- A run of the graph goes along with a run of the source: each frame's statements still to do stand at the block of the
 -- point that goes with it.
-use Rattle.std.proofs.Common.{◌≡◌, ℕ, zero, suc, ◌+◌, ◌<◌, Bool, true, false, ◌&&◌, ◌||◌, ◌⊎◌, inl, inr, Option, Some, None, List, [], ◌∷◌, ◌++◌, length, slice_get, slice_set, if◌then◌else◌, refl, ap, sym, ◌∙◌, arith, append_assoc, All, subst}
+use Rattle.std.proofs.Common.{◌≡◌, ℕ, ◌+◌, Bool, true, false, ◌&&◌, List, [], ◌∷◌, ◌++◌, refl, sym, ◌∙◌, All}
 use Rattle.std.proofs.lemmas.List.Elements.{All-head, All-tail}
 use Rattle.ceal_base.specs.Usage.{CoreUsage}
 use Rattle.ceal_base.specs.declared.typed.TypedFunction.{TypedFunction}

@@ -3,15 +3,16 @@ use Rattle.std.specs.Prelude.{◌≡◌, ◌↔◌, ℕ, Option, Some, None, Lis
 use Rattle.ceal_base.specs.Block.{Block}
 use Rattle.ceal_base.specs.Usage.{IsCore}
 use Rattle.ceal_base.specs.declared.typed.Typed.{Typed}
-use Rattle.ceal_base.specs.declared.typed.TypedStmt.{TypedStmt, Declare, Assign, SetField, Write, Call, If', While', Return}
+use Rattle.ceal_base.specs.declared.typed.TypedStmt.{TypedStmt, If', While', Return}
 use Rattle.ceal_base.specs.declared.word.Word.{Word}
 use Rattle.ceal_mean.specs.Fresh.{fresh as source_fresh}
 use Rattle.ceal_flow.specs.Fresh.{fresh}
+use Rattle.ceal_flow.specs.Live.{AreLiveSets}
 use Rattle.ceal_flow.specs.Lowering.{graph_of}
 use Rattle.ceal_flow.specs.Paths.{Leads}
 use Rattle.ceal_flow.specs.Program.{Graph}
 use Rattle.ceal_flow.specs.declared.block.GraphBlock.{GraphBlock}
-use Rattle.ceal_flow.specs.declared.block.GraphBlock.TheVariants.{Done, Test, Act, Unreached}
+use Rattle.ceal_flow.specs.declared.block.GraphBlock.TheVariants.{Act, Unreached}
 use Rattle.ceal_flow.specs.declared.function.GraphFunction.{GraphFunction}
 use Rattle.ceal_flow.specs.declared.function.GraphFunction.TheVariants.{Core, Init}
 
@@ -50,3 +51,7 @@ IsSimple _ = Unit {0}
 -- blocks act by such statements alone
 abbrev pub Act_law : Type 0
 Act_law = (p : Typed) (b : ℕ) (s : TypedStmt) (next : ℕ) → slice_get (graph_of p).blocks b ≡ Some (Act s next) → IsSimple s
+
+-- a graph has one list of live sets
+abbrev pub One_law : Type 0
+One_law = (blocks : List GraphBlock) (s t : List (List ℕ)) → AreLiveSets blocks s → AreLiveSets blocks t → s ≡ t

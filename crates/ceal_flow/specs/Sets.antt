@@ -1,5 +1,5 @@
 -- Sets of variables: lists of their numbers, ascending.
-use Rattle.std.specs.Prelude.{◌≡◌, ℕ, ◌<◌, ◌==◌, ◌||◌, Bool, false, Option, Some, None, List, [], ◌∷◌, slice_index_or}
+use Rattle.std.specs.Prelude.{ℕ, ◌<◌, ◌==◌, ◌||◌, Bool, false, Option, Some, None, List, [], ◌∷◌, slice_index_or}
 
 abbrev pub is_in : ℕ → List ℕ → Bool
 is_in v [] = false

@@ -1,6 +1,6 @@
 // The laws of graphs, each the contract of a function that does nothing.
 
-ghost use Rattle.ceal_flow.specs.Laws.{Act_law, Kept_law};
+ghost use Rattle.ceal_flow.specs.Laws.{Act_law, Kept_law, One_law};
 
 /// A block is left out exactly where no path leads to it from the first block of a function.
 pub fn kept_law()
@@ -10,4 +10,9 @@ pub fn kept_law()
 /// The statement of a block is no `if`, no `while` and no `return`.
 pub fn act_law()
     ensures law { Act_law }
+{}
+
+/// There is one list of the live variables of a graph's blocks.
+pub fn one_law()
+    ensures law { One_law }
 {}

@@ -17,3 +17,5 @@ pub mod live_sets;
 pub mod lower;
 mod size;
 mod statements;
+#[cfg(test)]
+mod tests;

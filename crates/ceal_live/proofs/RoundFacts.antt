@@ -74,22 +74,22 @@ module _ (w at : ℕ) (old : Sets) where
   -- the set that was taken out counts for nothing
   taken-less : (c : ℕ) → at < length old → is_in w (set_at (slice_set old at []) c) ≡ true → is_in w (set_at old c) ≡ true
   taken-less c l h = elim (eqb_tells c at) [
-      inl p ↦ let none : is_in w (set_at (slice_set old at []) c) ≡ false = rw (p.1, set-same old at [] l) refl in cc
+    | inl p ↦ let none : is_in w (set_at (slice_set old at []) c) ≡ false = rw (p.1, set-same old at [] l) refl in cc
     | inr p ↦ rw (set-other old at [] c p.1) at h
-    ]
+  ]
 
   taken-split : (c : ℕ) → is_in w (set_at old c) ≡ true → (is_in w (set_at (slice_set old at []) c) ≡ true) ⊎ (is_in w (set_at old at) ≡ true)
   taken-split c h = elim (eqb_tells c at) [
-      inl p ↦ inr (subst (λ x. is_in w (set_at old x) ≡ true) p.1 h)
+    | inl p ↦ inr (subst (λ x. is_in w (set_at old x) ≡ true) p.1 h)
     | inr p ↦ inl (rw (set-other old at [] c p.1) h)
-    ]
+  ]
 
   pub comes-less : (block : GraphBlock) → at < length old → comes (slice_set old at []) block w ≡ true → comes old block w ≡ true
   comes-less Done l h = h
   comes-less (Test test a b) l h = elim (or-cases (is_in w (set_at (slice_set old at []) a)) (is_in w (set_at (slice_set old at []) b)) h) [
-      inl e ↦ or-left (is_in w (set_at old a)) (is_in w (set_at old b)) (taken-less a l e)
+    | inl e ↦ or-left (is_in w (set_at old a)) (is_in w (set_at old b)) (taken-less a l e)
     | inr e ↦ or-right (is_in w (set_at old a)) (is_in w (set_at old b)) (taken-less b l e)
-    ]
+  ]
   comes-less (Act s next) l h =
       let here = and-left (is_in w (set_at (slice_set old at []) next)) (not (is_that (stmt_assigns s) w)) h in
       let keep = and-right (is_in w (set_at (slice_set old at []) next)) (not (is_that (stmt_assigns s) w)) h in
@@ -99,20 +99,20 @@ module _ (w at : ℕ) (old : Sets) where
   pub comes-split : (block : GraphBlock) → comes old block w ≡ true → (comes (slice_set old at []) block w ≡ true) ⊎ (is_in w (set_at old at) ≡ true)
   comes-split Done h = inl h
   comes-split (Test test a b) h = elim (or-cases (is_in w (set_at old a)) (is_in w (set_at old b)) h) [
-      inl e ↦ elim (taken-split a e) [
-          inl k ↦ inl (or-left (is_in w (set_at (slice_set old at []) a)) (is_in w (set_at (slice_set old at []) b)) k)
-        | inr k ↦ inr k
-        ]
-    | inr e ↦ elim (taken-split b e) [
-          inl k ↦ inl (or-right (is_in w (set_at (slice_set old at []) a)) (is_in w (set_at (slice_set old at []) b)) k)
-        | inr k ↦ inr k
-        ]
+    | inl e ↦ elim (taken-split a e) [
+      | inl k ↦ inl (or-left (is_in w (set_at (slice_set old at []) a)) (is_in w (set_at (slice_set old at []) b)) k)
+      | inr k ↦ inr k
     ]
+    | inr e ↦ elim (taken-split b e) [
+      | inl k ↦ inl (or-right (is_in w (set_at (slice_set old at []) a)) (is_in w (set_at (slice_set old at []) b)) k)
+      | inr k ↦ inr k
+    ]
+  ]
   comes-split (Act s next) h =
       let keep = and-right (is_in w (set_at old next)) (not (is_that (stmt_assigns s) w)) h in
       elim (taken-split next (and-left (is_in w (set_at old next)) (not (is_that (stmt_assigns s) w)) h)) [
-        inl k ↦ inl (and-both (is_in w (set_at (slice_set old at []) next)) (not (is_that (stmt_assigns s) w)) k keep)
-      | inr k ↦ inr k
+        | inl k ↦ inl (and-both (is_in w (set_at (slice_set old at []) next)) (not (is_that (stmt_assigns s) w)) k keep)
+        | inr k ↦ inr k
       ]
   comes-split Unreached h = inl h
 
@@ -132,9 +132,9 @@ module _ (blocks : List GraphBlock) (w : ℕ) where
       → comes sets block w ≡ true → Live blocks w at
   comes-live sets sound at Done look h = cc
   comes-live sets sound at (Test test a b) look h = elim (or-cases (is_in w (set_at sets a)) (is_in w (set_at sets b)) h) [
-      inl e ↦ step-live at a (Test test a b) look refl (Contains-append_left (a ∷ []) (b ∷ []) a (Contains-push [] a)) (sound a w e)
+    | inl e ↦ step-live at a (Test test a b) look refl (Contains-append_left (a ∷ []) (b ∷ []) a (Contains-push [] a)) (sound a w e)
     | inr e ↦ step-live at b (Test test a b) look refl (Contains-append_right (a ∷ []) (b ∷ []) b (Contains-push [] b)) (sound b w e)
-    ]
+  ]
   comes-live sets sound at (Act s next) look h =
       let here = and-left (is_in w (set_at sets next)) (not (is_that (stmt_assigns s) w)) h in
       let keep = and-right (is_in w (set_at sets next)) (not (is_that (stmt_assigns s) w)) h in
@@ -145,9 +145,9 @@ module _ (blocks : List GraphBlock) (w : ℕ) where
   comes-from : (sets : Sets) (block : GraphBlock) (c : ℕ) → keeps w block ≡ true → Contains (jumps block) c → is_in w (set_at sets c) ≡ true → comes sets block w ≡ true
   comes-from sets Done c keep j h = let l = j.1 in absurd (omega (arith, l))
   comes-from sets (Test test a b) c keep j h = elim (contains-two a b c j) [
-      inl e ↦ or-left (is_in w (set_at sets a)) (is_in w (set_at sets b)) (subst (λ x. is_in w (set_at sets x) ≡ true) (sym e) h)
+    | inl e ↦ or-left (is_in w (set_at sets a)) (is_in w (set_at sets b)) (subst (λ x. is_in w (set_at sets x) ≡ true) (sym e) h)
     | inr e ↦ or-right (is_in w (set_at sets a)) (is_in w (set_at sets b)) (subst (λ x. is_in w (set_at sets x) ≡ true) (sym e) h)
-    ]
+  ]
   comes-from sets (Act s next) c keep j h =
       let e = contains-one next c j in
       and-both (is_in w (set_at sets next)) (not (is_that (stmt_assigns s) w)) (subst (λ x. is_in w (set_at sets x) ≡ true) (sym e) h) keep
@@ -176,29 +176,29 @@ module _ (blocks : List GraphBlock) (old : Sets) (at : ℕ) (block : GraphBlock)
     (within : at < length old) (ok : (w : ℕ) → is_in w set ≡ (is_in w (set_at old at) || comes (slice_set old at []) block w)) where
   put-used : (b v : ℕ) → is_in v (uses_at (slice_get blocks b)) ≡ true → is_in v (set_at (slice_set old at set) b) ≡ true
   put-used b v h = elim (eqb_tells b at) [
-      inl p ↦
+    | inl p ↦
         let was = subst (λ x. is_in v (set_at old x) ≡ true) p.1 (u.used b v h) in
         rw (p.1, set-same old at set within, ok v) (or-left (is_in v (set_at old at)) _ was)
     | inr p ↦ rw (set-other old at set b p.1) (u.used b v h)
-    ]
+  ]
 
   put-sound : (b v : ℕ) → is_in v (set_at (slice_set old at set) b) ≡ true → Live blocks v b
   put-sound b v h = elim (eqb_tells b at) [
-      inl p ↦
+    | inl p ↦
         let inside : is_in v set ≡ true = rw (p.1, set-same old at set within) at h in
         let here : Live blocks v at = elim (or-cases (is_in v (set_at old at)) (comes (slice_set old at []) block v) (sym (ok v) ∙ inside)) [
-            inl e ↦ u.sound at v e
+          | inl e ↦ u.sound at v e
           | inr e ↦ comes-live blocks v old u.sound at block look (comes-less v at old block within e)
-          ] in
+        ] in
         subst (λ x. Live blocks v x) (sym p.1) here
     | inr p ↦ u.sound b v (rw (set-other old at set b p.1) at h)
-    ]
+  ]
 
   put-each : (P : List ℕ → Type 0) → P set → ((b : ℕ) → P (set_at old b)) → (b : ℕ) → P (set_at (slice_set old at set) b)
   put-each P here others b = elim (eqb_tells b at) [
-      inl p ↦ let same : set ≡ set_at (slice_set old at set) b = sym (rw (p.1, set-same old at set within) refl) in subst P same here
+    | inl p ↦ let same : set ≡ set_at (slice_set old at set) b = sym (rw (p.1, set-same old at set within) refl) in subst P same here
     | inr p ↦ let same : set_at old b ≡ set_at (slice_set old at set) b = sym (set-other old at set b p.1) in subst P same (others b)
-    ]
+  ]
 
   pub put-underway : IsAscending set → length set ≤ 2 ^ 32 → Underway blocks (slice_set old at set)
   put-underway ascending few = record {
@@ -217,9 +217,9 @@ module _ (blocks : List GraphBlock) (old : Sets) (at : ℕ) (block : GraphBlock)
       let same : block ≡ other = cc in
       let was : comes old block w ≡ true = rw (put-same e, ← same) at h in
       let inside : is_in w set ≡ true = elim (comes-split w at old block was) [
-          inl k ↦ ok w ∙ or-right (is_in w (set_at old at)) (comes (slice_set old at []) block w) k
+        | inl k ↦ ok w ∙ or-right (is_in w (set_at old at)) (comes (slice_set old at []) block w) k
         | inr k ↦ ok w ∙ or-left (is_in w (set_at old at)) (comes (slice_set old at []) block w) k
-        ] in
+      ] in
       rw (set-same old at set within) inside
 
   pub put-more : length (set_at old at) < length set → length set ≤ 2 ^ 32 → room (slice_set old at set) < room old
@@ -238,11 +238,11 @@ pub turn-closed : (blocks : List GraphBlock) (a b : Bool) (cur new : Sets) (at :
 turn-closed blocks a b cur new at before same here e k l =
     let n = neither a b e in
     elim (eqb_tells k (at - 1)) [
-      inl p ↦ subst (λ x. IsClosed blocks new x) (sym p.1) (here n.1)
-    | inr p ↦
-        let q = p.1 in
-        let far : at ≤ k = omega (arith, q, l) in
-        subst (λ x. IsClosed blocks x k) (sym (same n.1)) (before n.0 k far)
+      | inl p ↦ subst (λ x. IsClosed blocks new x) (sym p.1) (here n.1)
+      | inr p ↦
+          let q = p.1 in
+          let far : at ≤ k = omega (arith, q, l) in
+          subst (λ x. IsClosed blocks x k) (sym (same n.1)) (before n.0 k far)
     ]
 
 pub turn-more : (a b : Bool) (first cur new : Sets) → (a ≡ false → cur ≡ first) → (a ≡ true → room cur < room first) → (b ≡ false → new ≡ cur)

@@ -68,6 +68,9 @@ pub uses-while : (at : Span) (test : TypedExpr) (body : List TypedStmt) → stmt
 uses-while at test body = refl
 
 pub ruleset joins = (append_assoc, append-nil)
+
 pub ruleset mention_steps = (joins, mention-num, mention-null, mention-var, mention-own, mention-unary, mention-binary, mention-field, mention-address)
+
 pub ruleset all_steps = (joins, all-none)
+
 pub ruleset stmt_steps = (joins, uses-if, uses-while)

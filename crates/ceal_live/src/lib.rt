@@ -7,4 +7,6 @@
 
 pub mod live;
 mod round;
+#[cfg(test)]
+mod tests;
 mod uses;

@@ -50,11 +50,7 @@ fn join_at(
 }
 
 /// Adds what comes to a block from those to which it jumps, and says whether any was added.
-fn join_jumps(
-    set: &mut LiveSet,
-    sets: &[LiveSet],
-    block: &GraphBlock,
-) -> Result<bool, NoMemory>
+fn join_jumps(set: &mut LiveSet, sets: &[LiveSet], block: &GraphBlock) -> Result<bool, NoMemory>
     ensures ok { OnOk result ((w : ℕ) → is_in w set.new ≡ (is_in w set.old || comes sets.now block.now w)) }
     ensures same { IfOk result (λ changed. changed ≡ false → set.new ≡ set.old) }
     ensures more { IfOk result (λ changed. changed ≡ true → length set.old < length set.new) }

@@ -1,4 +1,4 @@
-use Rattle.std.proofs.Common.{◌≡◌, ◌+◌, ◌<◌, ◌≤◌, length, arith}
+use Rattle.std.proofs.Common.{◌≤◌, length, arith}
 use Rattle.ceal_flow.proofs.BitFacts.{all-joined, has-added, step-joined, step-left, step-more, step-same}
 use Rattle.ceal_flow.proofs.bits.join_words.Goals as goal
 

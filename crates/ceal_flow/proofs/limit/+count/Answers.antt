@@ -1,11 +1,10 @@
-use Rattle.std.proofs.Common.{◌≡◌, ◌+◌, ◌-◌, ◌<◌, ◌≤◌, ◌++◌, Some, length, take, slice_get, refl, arith, rules}
+use Rattle.std.proofs.Common.{◌≡◌, ◌+◌, ◌-◌, ◌<◌, length, take, refl, arith, rules}
 use Rattle.std.proofs.lemmas.Result.{err_from_is_err_and, IfErr-weaker}
-use Rattle.ceal_base.specs.declared.fault.Span.{Span}
 use Rattle.ceal_base.specs.declared.typed.TypedStmt.{the_lemmas}
 use Rattle.ceal_flow.specs.Blocks.{size, sizes}
-use Rattle.ceal_flow.specs.Lowering.{places, all_places}
+use Rattle.ceal_flow.specs.Lowering.{all_places}
 use Rattle.ceal_flow.specs.declared.limit.TheConstants.{BLOCK_LIMIT}
-use Rattle.ceal_flow.proofs.BlockSteps.{size-if, size-while, sizes-take}
+use Rattle.ceal_flow.proofs.BlockSteps.{sizes-take}
 use Rattle.ceal_flow.proofs.ListFacts.{get-left, get-right, get-later}
 use Rattle.ceal_flow.proofs.PlaceSteps.{places-if, places-while, all-places-length, all-places-at, place-first}
 use Rattle.ceal_flow.proofs.limit.+count.Goals as goal

@@ -1,4 +1,4 @@
-use Rattle.std.proofs.Common.{◌≡◌, ◌+◌, ◌-◌, ◌<◌, ◌≤◌, length, take, sym, arith, lit≤, zero-le}
+use Rattle.std.proofs.Common.{◌≡◌, ◌+◌, ◌-◌, ◌<◌, length, take, sym, arith}
 use Rattle.std.proofs.lemmas.Result.{err_from_is_err_and}
 use Rattle.ceal_flow.specs.Lowering.{function_size, function_sizes}
 use Rattle.ceal_flow.specs.declared.limit.TheConstants.{BLOCK_LIMIT}

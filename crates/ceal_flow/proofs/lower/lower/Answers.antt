@@ -1,6 +1,6 @@
-use Rattle.std.proofs.Common.{◌≡◌, ◌≤◌, length, slice_get, None, Some, ap, sym, ◌∙◌, arith, refl}
+use Rattle.std.proofs.Common.{◌≤◌, length, refl}
 use Rattle.std.proofs.lemmas.Option.{slice_get_past}
-use Rattle.ceal_flow.specs.Lowering.{function_sizes, function_places, lowered_at, graph_of}
+use Rattle.ceal_flow.specs.Lowering.{function_places}
 use Rattle.ceal_flow.specs.declared.limit.TheConstants.{BLOCK_LIMIT}
 use Rattle.ceal_flow.proofs.FunctionSteps.{function_places-length, blocks_from-length}
 use Rattle.ceal_flow.proofs.SameRun.{runs-as}

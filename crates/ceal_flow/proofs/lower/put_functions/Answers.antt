@@ -1,4 +1,4 @@
-use Rattle.std.proofs.Common.{◌≡◌, ◌+◌, ◌<◌, ◌≤◌, ◌++◌, ◌∷◌, [], length, drop, sym, ◌∙◌, arith, drop_of_length-le}
+use Rattle.std.proofs.Common.{◌≡◌, ◌+◌, ◌<◌, [], length, drop, arith, drop_of_length-le}
 use Rattle.std.proofs.lemmas.List.{append-nil}
 use Rattle.ceal_flow.specs.Lowering.{function_size, function_sizes}
 use Rattle.ceal_flow.proofs.FunctionSteps.{function_sizes-drop, blocks_from-nil, functions_from-nil}

@@ -1,4 +1,4 @@
-use Rattle.std.proofs.Common.{◌≡◌, ◌+◌, ◌<◌, ◌≤◌, length, take, drop, arith, rules}
+use Rattle.std.proofs.Common.{◌≡◌, ◌+◌, ◌<◌, length, take, drop, arith, rules}
 use Rattle.ceal_base.specs.declared.typed.TypedStmt.{the_lemmas}
 use Rattle.ceal_flow.specs.Blocks.{size, sizes}
 use Rattle.ceal_flow.proofs.BlockSteps.{size-if, size-while, sizes-take, sizes-drop, sizes-parts}

@@ -1,7 +1,7 @@
-use Rattle.std.proofs.Common.{◌≡◌, ◌+◌, ◌-◌, ◌<◌, ◌≤◌, ◌++◌, ◌&&◌, false, true, length, take, drop, get_or, sym, ◌∙◌, ap, arith, rules, refl, [], drop_of_length-le}
+use Rattle.std.proofs.Common.{◌≡◌, ◌+◌, ◌<◌, false, true, length, drop, sym, ◌∙◌, ap, arith, rules, refl, [], drop_of_length-le}
 use Rattle.std.proofs.lemmas.List.{take_rest, append-nil}
 use Rattle.ceal_base.specs.declared.typed.TypedStmt.{the_lemmas}
-use Rattle.ceal_flow.specs.Blocks.{size, sizes, goes_on, all_go_on, entry, all_blocks}
+use Rattle.ceal_flow.specs.Blocks.{size, sizes, goes_on}
 use Rattle.ceal_flow.proofs.BlockSteps.{size-if, size-while, sizes-drop, blocks-return, on-nil, all-nil}
 use Rattle.ceal_flow.proofs.PutSteps.{put-if, put-while, put-next, put-last, all_go_on-drop, length-push, length-more, length-one}
 use Rattle.ceal_flow.proofs.statements.+put.Goals as goal

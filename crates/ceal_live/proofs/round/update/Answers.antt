@@ -29,7 +29,7 @@ pub returns-clause-underway : goal.returns-clause-underway
 returns-clause-underway c =
     let ascending = c.in_ok-changed.ensures.ascending (rw c.take_set-set.ensures.set (c.requires.underway.ascending c.args.at)) in
     rw (new_is c) (put-underway c.args.blocks.now c.args.sets.now.items c.args.at c.index-blocks-at.result c.join_jumps.new.set c.requires.underway (look c) (within c) (joined c)
-        ascending (few c))
+    ascending (few c))
 
 pub returns-clause-same : goal.returns-clause-same
 returns-clause-same c = λ e.
@@ -39,10 +39,10 @@ returns-clause-same c = λ e.
 pub returns-clause-closed : goal.returns-clause-closed
 returns-clause-closed c = λ e.
     rw (new_is c) (put-closed c.args.blocks.now c.args.sets.now.items c.args.at c.index-blocks-at.result c.join_jumps.new.set c.requires.underway (look c) (within c) (joined c)
-        (c.in_ok-changed.ensures.same e ∙ c.take_set-set.ensures.set))
+    (c.in_ok-changed.ensures.same e ∙ c.take_set-set.ensures.set))
 
 pub returns-clause-more : goal.returns-clause-more
 returns-clause-more c = λ e.
     let more = rw c.take_set-set.ensures.set at (c.in_ok-changed.ensures.more e) in
     rw (new_is c) (put-more c.args.blocks.now c.args.sets.now.items c.args.at c.index-blocks-at.result c.join_jumps.new.set c.requires.underway (look c) (within c) (joined c)
-        more (few c))
+    more (few c))

@@ -1,4 +1,4 @@
-use Rattle.std.proofs.Common.{◌≡◌, ◌<◌, true, ap, ap₂, sym, ◌∙◌, ◌||◌, ◌&&◌, not, length, subst}
+use Rattle.std.proofs.Common.{◌<◌, ap, ap₂, sym, ◌∙◌, ◌||◌, ◌&&◌, not, length}
 use Rattle.ceal_flow.specs.Bits.{has_bit, members}
 use Rattle.ceal_flow.specs.Sets.{is_in, is_that}
 use Rattle.ceal_flow.proofs.BitFacts.{in-members, members-ascend, members-few, members-more, or-left}
@@ -25,8 +25,8 @@ returns-clause-more c = λ e.
     let new = c.join_words.new.words.items in
     let added = c.in_ok-changed.ensures.more e in
     let more : length (members old) < length (members new) =
-        members-more old new (λ v h. c.in_ok-changed.ensures.joined v ∙ or-left (has_bit old v) _ h)
-        (record { number = added.0; out = added.1; inside = added.2 }) in
+    members-more old new (λ v h. c.in_ok-changed.ensures.joined v ∙ or-left (has_bit old v) _ h)
+    (record { number = added.0; out = added.1; inside = added.2 }) in
     rw c.self.view_is at more
 
 pub returns-clause-ascending : goal.returns-clause-ascending

@@ -1,5 +1,3 @@
-use Rattle.std.proofs.Common.{subst}
-use Rattle.ceal_flow.specs.Sets.{IsAscending}
 use Rattle.ceal_flow.proofs.BitFacts.{members-ascend}
 use Rattle.ceal_flow.proofs.live_set.LiveSet.variables.Goals as goal
 
