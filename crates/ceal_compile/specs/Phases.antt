@@ -3,17 +3,22 @@ use Rattle.std.specs.Prelude.{◌≡◌, ◌⊎◌, Result, Ok, Err, List}
 use Rattle.ceal_base.specs.declared.fault.Fault.{Fault}
 use Rattle.ceal_base.specs.declared.syntax.Tree.{Tree}
 use Rattle.ceal_base.specs.declared.typed.Typed.{Typed}
+use Rattle.ceal_flow.specs.Lowering.{lowered}
 use Rattle.ceal_lex.specs.declared.token.Token.{Token}
 use Rattle.ceal_parse.specs.Faults.{Accepts, IsFirstFault}
 use Rattle.ceal_types.specs.Checked.{checked}
 use Rattle.ceal_usage.specs.Faults.{usage_faults}
 use Rattle.ceal_usage.specs.Verdict.{verdict}
 
--- the program where it keeps the rules of usage, and else the first place where it breaks one
-abbrev pub ruled : Typed → Result Typed Fault
-ruled p = elim (verdict (usage_faults p)) [ Ok u ↦ Ok p | Err f ↦ Err f ]
+-- the program where its graph has no more blocks than are allowed, and else the first place past the limit
+abbrev pub counted : Typed → Result Typed Fault
+counted p = elim (lowered p) [ Ok g ↦ Ok p | Err f ↦ Err f ]
 
--- names and types first, and then the rules of usage
+-- the program where it keeps the rules of usage as well, and else the first place where it breaks one
+abbrev pub ruled : Typed → Result Typed Fault
+ruled p = elim (verdict (usage_faults p)) [ Ok u ↦ counted p | Err f ↦ Err f ]
+
+-- names and types first, then the rules of usage, then the limit
 abbrev pub settled : Tree → Result Typed Fault
 settled tree = elim (checked tree) [ Ok p ↦ ruled p | Err f ↦ Err f ]
 

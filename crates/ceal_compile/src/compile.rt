@@ -6,12 +6,13 @@ ghost use Rattle.ceal_base.specs.declared.fault.Fault.{Fault as FaultRecord};
 ghost use Rattle.ceal_base.specs.declared.typed.Typed.{Typed as TypedRecord};
 ghost use Rattle.ceal_lex.specs.Parts.{IsSplit};
 ghost use Rattle.ceal_lex.specs.Tokens.{IsEnded};
-ghost use Rattle.ceal_compile.specs.Phases.{ruled, settled, TokensCome};
+ghost use Rattle.ceal_compile.specs.Phases.{counted, ruled, settled, TokensCome};
 ghost use Rattle.ceal_compile.specs.Source.{Comes, IsFirstFault, IsProgram, PartComes};
 
 use ceal_base::fault::FrontError;
 use ceal_base::syntax::Tree;
 use ceal_base::typed::Typed;
+use ceal_flow::lower::lower;
 use ceal_lex::lex::lex;
 use ceal_lex::parts::Split;
 use ceal_lex::split::{one_split, split};
@@ -21,22 +22,32 @@ use ceal_types::check::check;
 use ceal_usage::check::check_usage;
 use std::alloc::Global;
 
-/// The program, where it keeps the rules of usage.
-fn kept(program: Typed) -> Result<Typed, FrontError>
+/// The program, where its graph has no more blocks than are allowed.
+fn count(alloc: Global, program: Typed) -> Result<Typed, FrontError>
+    ensures { Gives result (counted program) }
+{
+    match lower(alloc, &program) {
+        Ok(_) => Ok(program),
+        Err(error) => Err(error),
+    }
+}
+
+/// The program, where it keeps the rules of usage, and then the limit.
+fn kept(alloc: Global, program: Typed) -> Result<Typed, FrontError>
     ensures { Gives result (ruled program) }
 {
     match check_usage(&program) {
-        Ok(()) => Ok(program),
+        Ok(()) => count(alloc, program),
         Err(fault) => Err(FrontError::Fault(fault)),
     }
 }
 
-/// Names and types, and then the rules of usage.
+/// Names and types, then the rules of usage, then the limit.
 fn settle(alloc: Global, tree: &Tree) -> Result<Typed, FrontError>
     ensures { Gives result (settled tree.now) }
 {
     match check(alloc, tree) {
-        Ok(program) => kept(program),
+        Ok(program) => kept(alloc, program),
         Err(error) => Err(error),
     }
 }
@@ -68,7 +79,7 @@ fn read_part(alloc: Global, input: &[u8], part: &Split) -> Result<Typed, FrontEr
 }
 
 /// The program of the source part of an input, or its first fault: of characters, else of the grammar, else of names
-/// and types, else of usage. The script behind the source part counts for nothing.
+/// and types, else of usage, else of the limit on blocks. The script behind the source part counts for nothing.
 pub fn compile(alloc: Global, input: &[u8]) -> Result<Typed, FrontError>
     requires { length input.now < 2 ^ 32 }
     ensures found { IfOk result (λ program. IsProgram input.now program) }

@@ -1,7 +1,7 @@
 //! From the bytes of an input to the program of its source part, or to its first fault.
 //!
-//! `compile` goes through the phases: characters and tokens, the grammar, names and types, the rules of usage.
-//! `specs/Source` says what an input comes to, by the definitions of the phases; `fault_line` tells a fault by its line
+//! `compile` goes through the phases: characters and tokens, the grammar, names and types, the rules of usage, the limit
+//! on blocks. `specs/Source` says what an input comes to, by the definitions of the phases; `fault_line` tells a fault by its line
 //! and column.
 #![tactic(auto)]
 

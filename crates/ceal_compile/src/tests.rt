@@ -9,9 +9,18 @@ fn faults_are_told(rt: HostRuntime) -> Result<(), Fail> {
     let alloc = rt.alloc();
     let rows = [
         ("ceal f() { }", "fault S5 at 1:13: unexpected end\n"),
-        ("ceal f() {\n  x = 1;\n}\n%%\n", "fault N1 at 2:3: unknown name\n"),
-        ("ceal f() {\n\treturn\n}\n%%\n", "fault S3 at 3:1: unexpected token\n"),
-        ("ceal f(int x) { self->a = x; }\n%%\n", "fault N1 at 1:17: unknown name\n"),
+        (
+            "ceal f() {\n  x = 1;\n}\n%%\n",
+            "fault N1 at 2:3: unknown name\n",
+        ),
+        (
+            "ceal f() {\n\treturn\n}\n%%\n",
+            "fault S3 at 3:1: unexpected token\n",
+        ),
+        (
+            "ceal f(int x) { self->a = x; }\n%%\n",
+            "fault N1 at 1:17: unknown name\n",
+        ),
     ];
     for (input, line) in rows {
         match compile(alloc, input.as_bytes()) {
