@@ -53,7 +53,7 @@ module _ (structs : List StructInfo) (m : Blocks) where
   words-there : (block : Block) (field : ℕ) (word : Word) → block_is_whole structs m block ≡ true → slice_get block.words field ≡ Some word → IsThere (block_at m) (target word)
   words-there block field word h at =
       named-there word (all-at (λ w. names_there m w) block.words field word
-          (and-right (length block.words == length (kinds_of_shape structs block.shape)) (list_all (λ w. names_there m w) block.words) h) at)
+      (and-right (length block.words == length (kinds_of_shape structs block.shape)) (list_all (λ w. names_there m w) block.words) h) at)
 
   field-there : is_whole structs m ≡ true → (b : BlockId) (found : Option Block) → block_at m b ≡ found → (field : ℕ) (word : Word)
       → slice_get (words_in found) field ≡ Some word → IsThere (block_at m) (target word)
@@ -63,7 +63,7 @@ module _ (structs : List StructInfo) (m : Blocks) where
   as-many : (block : Block) → block_is_whole structs m block ≡ true → length block.words ≡ length (kinds_of_shape structs block.shape)
   as-many block h =
       eqb-true (length block.words) (length (kinds_of_shape structs block.shape))
-          (and-left (length block.words == length (kinds_of_shape structs block.shape)) (list_all (λ w. names_there m w) block.words) h)
+      (and-left (length block.words == length (kinds_of_shape structs block.shape)) (list_all (λ w. names_there m w) block.words) h)
 
   pub can-show : is_whole structs m ≡ true → IsWhole structs (block_at m)
   can-show h = record {

@@ -6,7 +6,7 @@ use Rattle.ceal_session.proofs.view.graph.Goals as goal
 pub graph_text-requires-clause-whole : goal.graph_text-requires-clause-whole
 graph_text-requires-clause-whole c =
     can-show c.args.state.now.program.structs c.run.inside.memory
-        (rw (← c.items.ensures.value) (sym c.is_whole.ensures ∙ c.if-not-is_whole.false))
+    (rw (← c.items.ensures.value) (sym c.is_whole.ensures ∙ c.if-not-is_whole.false))
 
 pub graph_text-requires-clause-there : goal.graph_text-requires-clause-there
 graph_text-requires-clause-there c =
