@@ -1,6 +1,16 @@
+ghost use Rattle.std.specs.Prelude.{IfSome};
+ghost use Rattle.ceal_parse.specs.Print.{IsParsed};
+
 use crate::compile::compile;
 use crate::fault_line::fault_line;
 use ceal_base::fault::FrontError;
+use ceal_base::syntax::Tree;
+use ceal_base::text::Text;
+use ceal_lex::lex::lex;
+use ceal_lex::split::split;
+use ceal_parse::parse::parse;
+use ceal_parse::print::print_tree;
+use std::alloc::Global;
 use std::test::Fail;
 
 // Sources with one fault each, and the lines that tell them.
@@ -46,4 +56,67 @@ fn programs_are_accepted(rt: HostRuntime) -> Result<(), Fail> {
         }
     }
     Ok(())
+}
+
+/// The tree of an input of at most 4,194,304 bytes, where it has one.
+fn tree_of(alloc: Global, input: &[u8]) -> Option<Tree>
+    ensures parsed { IfSome result (λ tree. IsParsed tree) }
+{
+    if input.len() > 4_194_304 {
+        return None;
+    }
+    let part = split(input);
+    let Ok(tokens) = lex(alloc, input, &part) else {
+        return None;
+    };
+    let Ok(tree) = parse(alloc, &tokens) else {
+        return None;
+    };
+    Some(tree)
+}
+
+/// The printed program of an input, and a line `%%`.
+fn printed(alloc: Global, input: &[u8]) -> Option<Text> {
+    let tree = tree_of(alloc, input)?;
+    let Ok(mut text) = print_tree(alloc, &tree) else {
+        return None;
+    };
+    let Ok(()) = text.append(b"%%\n") else {
+        return None;
+    };
+    Some(text)
+}
+
+const EVAL: &[u8] = b"
+struct node { int op; mod int leaf; mod struct node left; mod struct node right; };
+ceal eval(mod struct node *root, mod int *res) {
+  struct node *t = read(root);
+  if (t == null) { write(res, 0); return; }
+  if (t->op == 0) {
+    int v = read(&t->leaf);
+    write(res, v);
+    return;
+  }
+  mod int *a = modref int();
+  mod int *b = modref int();
+  eval(&t->left, a);
+  eval(&t->right, b);
+  int x = read(a);
+  int y = read(b);
+  int r = 0;
+  if (t->op == 1) { r = x + y; }
+  else if (t->op == 2) { r = x - y; }
+  else if (t->op == 3) { r = x * y; }
+  else if (t->op == 4) { r = x / y; }
+  else { r = x % y; }
+  write(res, r);
+}
+%%
+";
+
+#[test]
+fn a_printed_program_reads_back(rt: HostRuntime) {
+    let first = printed(rt.alloc(), EVAL).expect(&rt, "a program");
+    let second = printed(rt.alloc(), first.items()).expect(&rt, "a program");
+    assert!(rt; second.same_as(&first));
 }
