@@ -23,3 +23,6 @@ pub mod Determined
 pub mod FittingLemmas
 pub mod FinalMemory
 pub mod Replayed
+pub mod Kept
+pub mod Typed
+pub mod TypedInit

@@ -29,3 +29,8 @@ pub fn alike_law()
 pub fn trace_law()
     ensures law { Trace_law }
 {}
+
+/// scratch
+pub fn scratch_law()
+    ensures law { Over_law }
+{}

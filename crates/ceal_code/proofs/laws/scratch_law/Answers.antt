@@ -1,0 +1,7 @@
+use Rattle.ceal_code.proofs.Over.{next-on}
+use Rattle.ceal_code.proofs.Kept.{kept-grown}
+use Rattle.ceal_code.proofs.TypedInit.{made-fits}
+use Rattle.ceal_code.proofs.laws.scratch_law.Goals as goal
+
+pub returns : goal.returns
+returns c = record { law = λ code x st below. next-on code x below st }
