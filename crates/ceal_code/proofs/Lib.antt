@@ -26,3 +26,5 @@ pub mod Replayed
 pub mod Kept
 pub mod Typed
 pub mod TypedInit
+pub mod TypedStack
+pub mod TypedActs

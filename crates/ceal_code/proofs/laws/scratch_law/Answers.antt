@@ -1,6 +1,5 @@
 use Rattle.ceal_code.proofs.Over.{next-on}
-use Rattle.ceal_code.proofs.Kept.{kept-grown}
-use Rattle.ceal_code.proofs.TypedInit.{made-fits}
+use Rattle.ceal_code.proofs.TypedActs.{stack-there}
 use Rattle.ceal_code.proofs.laws.scratch_law.Goals as goal
 
 pub returns : goal.returns
