@@ -28,3 +28,5 @@ pub mod Typed
 pub mod TypedInit
 pub mod TypedStack
 pub mod TypedActs
+pub mod TypedCommands
+pub mod TypedRun

@@ -34,10 +34,10 @@ use Rattle.ceal_code.specs.declared.expr.VarId.{VarId}
 use Rattle.ceal_code.specs.declared.function.FunctionCode.{FunctionCode}
 use Rattle.ceal_code.specs.declared.function.FunctionCode.TheVariants.{Core as CoreFunction, Init as InitFunction}
 
-maybe-within : (kinds : List Kind) (v : ℕ) (t : Typing) → fits_maybe (slice_get kinds v) t ≡ true → v < length kinds
+pub maybe-within : (kinds : List Kind) (v : ℕ) (t : Typing) → fits_maybe (slice_get kinds v) t ≡ true → v < length kinds
 maybe-within kinds v t h = let k = maybe-fits (slice_get kinds v) t h in get-within kinds v k.0 k.1
 
-path-within : (code : Code) (f : ℕ) (body : List Cmd) (fuel i : ℕ) (known : List Bool) (stepped : Bool) → paths_ok code f body fuel i known stepped ≡ true → i < length body
+pub path-within : (code : Code) (f : ℕ) (body : List Cmd) (fuel i : ℕ) (known : List Bool) (stepped : Bool) → paths_ok code f body fuel i known stepped ≡ true → i < length body
 unfolding paths_ok
 path-within code f body zero i known stepped h = absurd (grind (arith, h))
 path-within code f body (suc fuel) i known stepped h = go (slice_get body i) refl h
@@ -85,7 +85,7 @@ module _ (code : Code) (m : Blocks) where
   pointer-place s (BlockWord b) h = absurd (grind (arith, h))
 
   -- where a write goes
-  write-place : (s t : Typing) (w : Word) → write_fits s t ≡ true → Has_type code.structs m s w → Modifiable code.structs m w
+  pub write-place : (s t : Typing) (w : Word) → write_fits s t ≡ true → Has_type code.structs m s w → Modifiable code.structs m w
   write-place None t w h k = absurd (grind (arith, h))
   write-place (Some None) t w h k = rw k tt
   write-place (Some (Some Int)) t w h k = absurd (grind (arith, h))
@@ -94,7 +94,7 @@ module _ (code : Code) (m : Blocks) where
   write-place (Some (Some (ModPtr s))) t w h k = pointer-place s w k
 
   -- where a read comes from
-  read-place : (k : Option Kind) (t : Typing) (w : Word) → place_fits k t ≡ true → Has_type code.structs m t w → Modifiable code.structs m w
+  pub read-place : (k : Option Kind) (t : Typing) (w : Word) → place_fits k t ≡ true → Has_type code.structs m t w → Modifiable code.structs m w
   read-place None t w h k = absurd (grind (arith, h))
   read-place (Some Int) t w h k = int-place w (fits-word code.structs m ModInt t w h k)
   read-place (Some (Ptr s)) t w h k = pointer-place s w (fits-word code.structs m (ModPtr s) t w h k)
@@ -113,7 +113,7 @@ module _ (code : Code) (m : Blocks) where
   pointer-takes s p value (Some CellInt) e h k = absurd (grind (arith, h))
   pointer-takes s p value (Some (CellPtr t)) e h k = record { kind = CellPtr t; there = e; cell = refl; fits' = let i : t ≡ s = sym (nat-same s t h) in rw i k }
 
-  takes-typed : (p : Place) (value : Word) (s t : Typing) → write_fits s t ≡ true → Has_type code.structs m s (At p) → Has_type code.structs m t value → Takes code m p value
+  pub takes-typed : (p : Place) (value : Word) (s t : Typing) → write_fits s t ≡ true → Has_type code.structs m s (At p) → Has_type code.structs m t value → Takes code m p value
   takes-typed p value None t h k l = absurd (grind (arith, h))
   takes-typed p value (Some None) t h k l = absurd (grind (arith, k))
   takes-typed p value (Some (Some Int)) t h k l = absurd (grind (arith, h))
@@ -134,7 +134,7 @@ module _ (code : Code) (m : Blocks) where
   pointer-gives s F p (Some (CellPtr t)) e h g =
       let i : s ≡ t = nat-same s t h in record { kind = CellPtr t; there = e; cell = refl; goes = λ w k. g w (subst (λ n. fits_kind code.structs m (Ptr n) w ≡ true) (sym i) k) }
 
-  gives-typed : (F : Word → Type 0) (p : Place) (k : Option Kind) (t : Typing) → place_fits k t ≡ true → Has_type code.structs m t (At p)
+  pub gives-typed : (F : Word → Type 0) (p : Place) (k : Option Kind) (t : Typing) → place_fits k t ≡ true → Has_type code.structs m t (At p)
       → ((w : Word) → ((kind : Kind) → k ≡ Some kind → fits_kind code.structs m kind w ≡ true) → F w) → Gives code m p F
   gives-typed F p None t h k g = absurd (grind (arith, h))
   gives-typed F p (Some ModInt) t h k g = absurd (grind (arith, h))
@@ -166,12 +166,12 @@ module _ (code : Code) (m : Blocks) where
 
 module _ (code : Code) (ok : valid code ≡ true) (m : Blocks) (typed : Memory_typed code.structs m) where
   module _ (f : ℕ) (known : List Bool) (env : Variables) (envs : Env_typed code.structs m (kinds_of code f) known env) where
-    asked : (theirs : List Kind) (v : ℕ) (e : CodeExpr) (kind : Kind) → fits_maybe (slice_get theirs v) (type_of code.structs (kinds_of code f) known e) ≡ true → slice_get theirs v ≡ Some kind
+    pub asked : (theirs : List Kind) (v : ℕ) (e : CodeExpr) (kind : Kind) → fits_maybe (slice_get theirs v) (type_of code.structs (kinds_of code f) known e) ≡ true → slice_get theirs v ≡ Some kind
         → fits_kind code.structs m kind (expr_value code.structs (block_at m) env e) ≡ true
     asked theirs v e kind h i =
         let j : fits kind (type_of code.structs (kinds_of code f) known e) ≡ true = rw i at h in value-fits code.structs m typed (kinds_of code f) known env envs kind e j
 
-    there-if : (k : Option Kind) (e : CodeExpr) → fits_maybe k (type_of code.structs (kinds_of code f) known e) ≡ true → Expr_there code.structs m (length (kinds_of code f)) env e
+    pub there-if : (k : Option Kind) (e : CodeExpr) → fits_maybe k (type_of code.structs (kinds_of code f) known e) ≡ true → Expr_there code.structs m (length (kinds_of code f)) env e
     there-if None e h = absurd (grind (arith, h))
     there-if (Some kind) e h = asked-there code.structs m typed (kinds_of code f) known env envs kind e h
 
@@ -193,7 +193,7 @@ module _ (code : Code) (ok : valid code ≡ true) (m : Blocks) (typed : Memory_t
         let k = both (fits_maybe (slice_get theirs p.0) (type_of code.structs (kinds_of code f) known e)) (params_fit code.structs (kinds_of code f) known theirs ps es) h in
         (there-if (slice_get theirs p.0) e k.0, params-there theirs ps es k.1)
 
-    all-there : (params : List Kind) (es : List CodeExpr) → all_fit code.structs (kinds_of code f) known params es ≡ true → Exprs_there code.structs m (length (kinds_of code f)) env es
+    pub all-there : (params : List Kind) (es : List CodeExpr) → all_fit code.structs (kinds_of code f) known params es ≡ true → Exprs_there code.structs m (length (kinds_of code f)) env es
     unfolding all_fit
     all-there [] [] h = tt
     all-there [] (e ∷ es) h = absurd (grind (arith, h))
@@ -202,7 +202,7 @@ module _ (code : Code) (ok : valid code ≡ true) (m : Blocks) (typed : Memory_t
         let k = both (fits p (type_of code.structs (kinds_of code f) known e)) (all_fit code.structs (kinds_of code f) known params es) h in
         (asked-there code.structs m typed (kinds_of code f) known env envs p e k.0, all-there params es k.1)
 
-    all-count : (params : List Kind) (es : List CodeExpr) → all_fit code.structs (kinds_of code f) known params es ≡ true → length params ≡ length es
+    pub all-count : (params : List Kind) (es : List CodeExpr) → all_fit code.structs (kinds_of code f) known params es ≡ true → length params ≡ length es
     unfolding all_fit
     all-count [] [] h = refl
     all-count [] (e ∷ es) h = absurd (grind (arith, h))
@@ -216,7 +216,7 @@ module _ (code : Code) (ok : valid code ≡ true) (m : Blocks) (typed : Memory_t
       pub args' : Exprs_there code.structs m (length (kinds_of code f)) env args
       pub enters : (st : Stack) → Stack_typed code m st → Stack_typed code m (entered code w (values code.structs (block_at m) env args) st)
 
-    unit-entered : (w : ℕ) (args : List CodeExpr) (o : Option CodeUnit) → slice_get code.units w ≡ o → unit_fits code f known o args ≡ true → Goes_to w args
+    pub unit-entered : (w : ℕ) (args : List CodeExpr) (o : Option CodeUnit) → slice_get code.units w ≡ o → unit_fits code f known o args ≡ true → Goes_to w args
     unit-entered w args None e h = absurd (grind (arith, h))
     unit-entered w args (Some unit) e h =
         let p = both (unit.function == f) (params_fit code.structs (kinds_of code f) known (kinds_of code f) unit.params args) h in
@@ -236,7 +236,7 @@ module _ (code : Code) (ok : valid code ≡ true) (m : Blocks) (typed : Memory_t
       pub enters : (word : Word) → ((kind : Kind) → slice_get (kinds_of code f) v ≡ Some kind → fits_kind code.structs m kind word ≡ true) → (st : Stack) → Stack_typed code m st
           → Stack_typed code m (entered code w (given code w v (values code.structs (block_at m) env args) word) st)
 
-    reader-entered : (w v : ℕ) (args : List CodeExpr) (o : Option CodeUnit) → slice_get code.units w ≡ o → read_fits code f known v o args ≡ true → Reader w v args
+    pub reader-entered : (w v : ℕ) (args : List CodeExpr) (o : Option CodeUnit) → slice_get code.units w ≡ o → read_fits code f known v o args ≡ true → Reader w v args
     reader-entered w v args None e h = absurd (grind (arith, h))
     reader-entered w v args (Some unit) e h =
         let p = both (unit.function == f) (params_fit code.structs (kinds_of code f) known (kinds_of code f) (others v unit.params) args) h in
@@ -279,7 +279,7 @@ module _ (code : Code) (ok : valid code ≡ true) (m : Blocks) (typed : Memory_t
     entry-right : (g : ℕ) (name : List ℕ) (entry : UnitId) (params : List Kind) (kinds : List Kind) → function_ok code g (CoreFunction name entry params) kinds ≡ true → entry_ok g (length params) (slice_get code.units entry.0) ≡ true
     entry-right g name entry params kinds h = (both (is_prefix params kinds && kinds_ok code.structs kinds) (entry_ok g (length params) (slice_get code.units entry.0)) h).1
 
-    callee : (g : ℕ) (args : List CodeExpr) (o : Option FunctionCode) → slice_get code.functions g ≡ o → call_fits code f known g o args ≡ true → Callee g args
+    pub callee : (g : ℕ) (args : List CodeExpr) (o : Option FunctionCode) → slice_get code.functions g ≡ o → call_fits code f known g o args ≡ true → Callee g args
     callee g args None e h = absurd (grind (arith, h))
     callee g args (Some (InitFunction name s params body)) e h = absurd (grind (arith, h))
     callee g args (Some (CoreFunction name entry params)) e h =
