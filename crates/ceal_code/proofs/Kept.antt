@@ -16,14 +16,11 @@ use Rattle.ceal_base.specs.declared.word.Place.{Place}
 use Rattle.ceal_base.specs.declared.word.Word.{Word}
 use Rattle.ceal_base.specs.declared.word.Word.TheVariants.{Num, Null, Block as BlockWord, At}
 use Rattle.ceal_code.proofs.Memory.{altered, written-here, written-other, get-before, get-within}
-use Rattle.ceal_code.proofs.Same.{both, block-same, some-same, none-some}
+use Rattle.ceal_code.proofs.Same.{both, block-same, some-same, none-some, both-true}
 
 -- each block is there, of the same shape
 abbrev pub Shapes_kept : Blocks → Blocks → Type 0
 Shapes_kept m m' = (b : BlockId) (block : Block) → block_at m b ≡ Some block → (c : Block) × (block_at m' b ≡ Some c) × (c.shape ≡ block.shape)
-
-pub both-true : (a b : Bool) → a ≡ true → b ≡ true → (a && b) ≡ true
-both-true a b h k = rw (h, k)
 
 module _ (structs : List StructInfo) (m m' : Blocks) (kept : Shapes_kept m m') where
   pub kind-kept : (b : BlockId) (f : ℕ) (k : FieldKind) (o : Option Block) → block_at m b ≡ o → kind_in structs o f ≡ Some k → kind_in structs (block_at m' b) f ≡ Some k

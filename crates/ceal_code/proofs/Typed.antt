@@ -21,7 +21,7 @@ use Rattle.ceal_base.specs.declared.word.BlockId.{BlockId}
 use Rattle.ceal_base.specs.declared.word.Place.{Place}
 use Rattle.ceal_base.specs.declared.word.Word.{Word}
 use Rattle.ceal_base.specs.declared.word.Word.TheVariants.{Num, Null, Block as BlockWord, At}
-use Rattle.ceal_code.proofs.Same.{both, nat-same, some-same, none-some}
+use Rattle.ceal_code.proofs.Same.{both, nat-same, some-same, none-some, struct-shape}
 use Rattle.ceal_code.specs.Running.{Points, Expr_there, Operand_there, Exprs_there}
 use Rattle.ceal_code.specs.Valid.{Typing, is_pointer, same_kind, fits, fits_maybe, one_type, int_if, binary_type, variable_type, points_to, plain_type, cell_type, type_of, operand_type, all_fit, params_fit}
 use Rattle.ceal_code.specs.Value.{Plain, Variables, field_kind, is_cell, field_default, plain_word, pointed, field_in, field_value, address_value, expr_value, operand_value, values}
@@ -52,11 +52,6 @@ Env_typed structs m kinds known env = (v : ℕ) (kind : Kind) → slice_get kind
 -- each block has one word for each field, which fits it
 abbrev pub Memory_typed : List StructInfo → Blocks → Type 0
 Memory_typed structs m = (b : BlockId) (block : Block) → block_at m b ≡ Some block → fields_fit structs m (kinds_of_shape structs block.shape) block.words ≡ true
-
-struct-shape : (s : ℕ) (shape : Shape) → is_struct s shape ≡ true → shape ≡ Struct s
-struct-shape s (Struct t) h = let e : t ≡ s = grind (arith, h) in ap Struct e
-struct-shape s OneInt h = absurd (grind (arith, h))
-struct-shape s (OnePtr t) h = absurd (grind (arith, h))
 
 pub fits-typed : (kind : Kind) (t : Typing) → fits kind t ≡ true → Typed t
 fits-typed kind None h = absurd (grind (arith, h))
@@ -321,15 +316,13 @@ module _ (structs : List StructInfo) (m : Blocks) where
         expr-there (Binary' op _ a _ b) h =
             let k = binary-typed op (operand_type structs kinds known a) (operand_type structs kinds known b) h in (operand-there a k.0, operand-there b k.1)
         expr-there (Field' _ a s f) h =
-            let k = points-typed (points_to s (operand_type structs kinds known a)) (plain_type (field_kind structs (Struct s) f)) h in
-            (
+            let k = points-typed (points_to s (operand_type structs kinds known a)) (plain_type (field_kind structs (Struct s) f)) h in (
               operand-there a (points-operand s (operand_type structs kinds known a) k.0),
               within (kinds_of_shape structs (Struct s)) f (plain-there (field_kind structs (Struct s) f) k.1),
               pointer-points s (operand_value structs (block_at m) env a) (points-word s (operand_type structs kinds known a) (operand_value structs (block_at m) env a) k.0 (operand-type a)),
             )
         expr-there (Address' _ a s f) h =
-            let k = points-typed (points_to s (operand_type structs kinds known a)) (cell_type (field_kind structs (Struct s) f)) h in
-            (
+            let k = points-typed (points_to s (operand_type structs kinds known a)) (cell_type (field_kind structs (Struct s) f)) h in (
               operand-there a (points-operand s (operand_type structs kinds known a) k.0),
               within (kinds_of_shape structs (Struct s)) f (cell-there (field_kind structs (Struct s) f) k.1),
               pointer-points s (operand_value structs (block_at m) env a) (points-word s (operand_type structs kinds known a) (operand_value structs (block_at m) env a) k.0 (operand-type a)),

@@ -15,6 +15,7 @@ use Rattle.ceal_base.specs.declared.kind.Shape.TheVariants.{Struct, ModInt as On
 use Rattle.ceal_base.specs.declared.word.Place.{Place}
 use Rattle.ceal_base.specs.declared.word.Word.{Word}
 use Rattle.ceal_base.specs.declared.word.Word.TheVariants.{Num, Null, Block as BlockWord, At}
+use Rattle.ceal_code.proofs.FittingLemmas.{int-is_cell, pointer-is_cell}
 use Rattle.ceal_code.proofs.Kept.{Shapes_kept, fits-kept}
 use Rattle.ceal_code.proofs.Memory.{get-within}
 use Rattle.ceal_code.proofs.Same.{both, nat-same, some-same}
@@ -60,26 +61,14 @@ Step_command (Read v p w args) = ⊤
 Step_command (Call g args w rest) = ⊤
 
 module _ (code : Code) (m : Blocks) where
-  int-cell : (o : Option FieldKind) → is_int_cell o ≡ true → is_cell o ≡ true
-  int-cell None h = h
-  int-cell (Some (PlainField kind)) h = absurd (grind (arith, h))
-  int-cell (Some CellInt) h = refl
-  int-cell (Some (CellPtr s)) h = refl
-
-  pointer-cell : (s : ℕ) (o : Option FieldKind) → is_pointer_cell s o ≡ true → is_cell o ≡ true
-  pointer-cell s None h = h
-  pointer-cell s (Some (PlainField kind)) h = absurd (grind (arith, h))
-  pointer-cell s (Some CellInt) h = refl
-  pointer-cell s (Some (CellPtr t)) h = refl
-
   int-place : (w : Word) → fits_kind code.structs m ModInt w ≡ true → Modifiable code.structs m w
-  int-place (At p) h = int-cell (kind_at code.structs m p) h
+  int-place (At p) h = int-is_cell (kind_at code.structs m p) h
   int-place Null h = tt
   int-place (Num n) h = absurd (grind (arith, h))
   int-place (BlockWord b) h = absurd (grind (arith, h))
 
   pointer-place : (s : ℕ) (w : Word) → fits_kind code.structs m (ModPtr s) w ≡ true → Modifiable code.structs m w
-  pointer-place s (At p) h = pointer-cell s (kind_at code.structs m p) h
+  pointer-place s (At p) h = pointer-is_cell s (kind_at code.structs m p) h
   pointer-place s Null h = tt
   pointer-place s (Num n) h = absurd (grind (arith, h))
   pointer-place s (BlockWord b) h = absurd (grind (arith, h))
@@ -269,8 +258,7 @@ module _ (code : Code) (ok : valid code ≡ true) (m : Blocks) (typed : Memory_t
     entry-entered g w n args (Some unit) e k h =
         let p = both (unit.function == g) (all_below n unit.params) k in
         let i : unit.function ≡ g = nat-same unit.function g p.0 in
-        let ws = params-typed (kinds_of code g) unit.params args h in
-        (
+        let ws = params-typed (kinds_of code g) unit.params args h in (
           get-within code.units w unit e,
           params-there (kinds_of code g) unit.params args h,
           λ st h. enter code ok m w unit (values code.structs (block_at m) env args) st e (subst (λ g. Params_typed code m (kinds_of code g) unit.params (values code.structs (block_at m) env args)) (sym i) ws) h,

@@ -33,9 +33,9 @@ use Rattle.ceal_code.specs.declared.function.FunctionCode.{FunctionCode}
 use Rattle.ceal_code.specs.declared.function.FunctionCode.TheVariants.{Core as CoreFunction, Init as InitFunction}
 
 -- what is written is of a type
-written-typed : (s t : Typing) → write_fits s t ≡ true → Typed s × Typed t
-written-typed None t h = absurd (grind (arith, h))
-written-typed (Some s) None h = absurd (none s h)
+write-types : (s t : Typing) → write_fits s t ≡ true → Typed s × Typed t
+write-types None t h = absurd (grind (arith, h))
+write-types (Some s) None h = absurd (none s h)
   where
     none : (s : Option Kind) → write_fits (Some s) None ≡ true → ⊥
     none None h = absurd (grind (arith, h))
@@ -43,7 +43,7 @@ written-typed (Some s) None h = absurd (none s h)
     none (Some (Ptr s)) h = absurd (grind (arith, h))
     none (Some ModInt) h = absurd (grind (arith, h))
     none (Some (ModPtr s)) h = absurd (grind (arith, h))
-written-typed (Some s) (Some t) h = (tt, tt)
+write-types (Some s) (Some t) h = (tt, tt)
 
 place-typed : (k : Option Kind) (t : Typing) → place_fits k t ≡ true → Typed t
 place-typed None t h = absurd (grind (arith, h))
@@ -122,12 +122,11 @@ module _ (code : Code) (ok : valid code ≡ true) (m : Blocks) (typed : Memory_t
     write-typed p e at Null h = (on-frame u i env (Write p e) at (i + 1) at.onward', under)
     write-typed p e at (Num n) h = (on-frame u i env (Write p e) at (i + 1) at.onward', under)
     write-typed p e at (BlockWord b) h = (on-frame u i env (Write p e) at (i + 1) at.onward', under)
-    write-typed p e at (At q) h =
-        (
-          takes-typed code m q (expr_value code.structs (block_at m) env e) (type_of code.structs (kinds_of code at.unit.function) at.known p) (type_of code.structs (kinds_of code at.unit.function) at.known e) at.ok h
+    write-typed p e at (At q) h = (
+      takes-typed code m q (expr_value code.structs (block_at m) env e) (type_of code.structs (kinds_of code at.unit.function) at.known p) (type_of code.structs (kinds_of code at.unit.function) at.known e) at.ok h
           (value-type code.structs m typed (kinds_of code at.unit.function) at.known env at.envs e),
-          (on-frame u i env (Write p e) at (i + 1) at.onward', under),
-        )
+      (on-frame u i env (Write p e) at (i + 1) at.onward', under),
+    )
 
     if-typed : (test : CodeExpr) (first second : ℕ) (at : At_command code m u i env (If test first second)) (b : Bool) → Stack_typed code m (Run u (if b then first else second) env below)
     if-typed test first second at b = go b
@@ -170,20 +169,18 @@ module _ (code : Code) (ok : valid code ≡ true) (m : Blocks) (typed : Memory_t
     callee-at : (g : ℕ) (args : List CodeExpr) (w : UnitId) (rest : List CodeExpr) (at : At_command code m u i env (Call g args w rest))
         → Callee code ok m typed at.unit.function at.known env at.envs g args × Goes_to code ok m typed at.unit.function at.known env at.envs w.0 rest
     callee-at g args w rest at =
-        let k = both (call_fits code at.unit.function at.known g (slice_get code.functions g) args) (unit_fits code at.unit.function at.known (slice_get code.units w.0) rest) at.ok in
-        (
+        let k = both (call_fits code at.unit.function at.known g (slice_get code.functions g) args) (unit_fits code at.unit.function at.known (slice_get code.units w.0) rest) at.ok in (
           callee code ok m typed at.unit.function at.known env at.envs g args (slice_get code.functions g) refl k.0,
           unit-entered code ok m typed at.unit.function at.known env at.envs w.0 rest (slice_get code.units w.0) refl k.1,
         )
 
     -- the step of a command gives a typed state
     pub act-typed : (c : Cmd) → At_command code m u i env c → Step_command c → Act_typed code m (act code (block_at m) c u i env below)
-    act-typed (Move v e) at s =
-        (
-          set-frame u i env v (expr_value code.structs (block_at m) env e) at.unit at.known at.fuel (i + 1) at.there at.envs at.onward'
+    act-typed (Move v e) at s = (
+      set-frame u i env v (expr_value code.structs (block_at m) env e) at.unit at.known at.fuel (i + 1) at.there at.envs at.onward'
           (λ kind j. asked code ok m typed at.unit.function at.known env at.envs (kinds_of code at.unit.function) v.0 e kind at.ok j),
-          under,
-        )
+      under,
+    )
     act-typed Tick at s = (on-frame u i env Tick at (i + 1) at.onward', under)
     act-typed (Alloc v g args) at s = alloc-typed v g args at (slice_get code.functions g) refl at.ok
     act-typed (Modref v shape) at s = modref-typed v shape at
@@ -226,12 +223,12 @@ module _ (code : Code) (ok : valid code ≡ true) (m : Blocks) (typed : Memory_t
     command-there (Alloc v g args) at s = alloc-there v g args at (slice_get code.functions g) refl at.ok
     command-there (Modref v shape) at s = modref-there v shape at
     command-there (Write p e) at s =
-        let k = written-typed (type_of code.structs (kinds_of code at.unit.function) at.known p) (type_of code.structs (kinds_of code at.unit.function) at.known e) at.ok in
+        let k = write-types (type_of code.structs (kinds_of code at.unit.function) at.known p) (type_of code.structs (kinds_of code at.unit.function) at.known e) at.ok in
         rw at.there (
           expr-there code.structs m typed (kinds_of code at.unit.function) at.known env at.envs p k.0,
           expr-there code.structs m typed (kinds_of code at.unit.function) at.known env at.envs e k.1,
           write-place code m (type_of code.structs (kinds_of code at.unit.function) at.known p) (type_of code.structs (kinds_of code at.unit.function) at.known e) (expr_value code.structs (block_at m) env p) at.ok
-          (value-type code.structs m typed (kinds_of code at.unit.function) at.known env at.envs p),
+              (value-type code.structs m typed (kinds_of code at.unit.function) at.known env at.envs p),
         )
     command-there (If test first second) at s =
         let k = both (nat_lt i first && nat_lt i second) (paths_ok code at.unit.function at.unit.body at.fuel first at.known true && paths_ok code at.unit.function at.unit.body at.fuel second at.known true) at.onward' in
@@ -248,10 +245,10 @@ module _ (code : Code) (ok : valid code ≡ true) (m : Blocks) (typed : Memory_t
         rw at.there (
           place-some (kinds_of code at.unit.function) v.0 (type_of code.structs (kinds_of code at.unit.function) at.known p) k.0,
           expr-there code.structs m typed (kinds_of code at.unit.function) at.known env at.envs p
-          (place-typed (slice_get (kinds_of code at.unit.function) v.0) (type_of code.structs (kinds_of code at.unit.function) at.known p) k.0),
+              (place-typed (slice_get (kinds_of code at.unit.function) v.0) (type_of code.structs (kinds_of code at.unit.function) at.known p) k.0),
           k.1.args',
           read-place code m (slice_get (kinds_of code at.unit.function) v.0) (type_of code.structs (kinds_of code at.unit.function) at.known p) (expr_value code.structs (block_at m) env p) k.0
-          (value-type code.structs m typed (kinds_of code at.unit.function) at.known env at.envs p),
+              (value-type code.structs m typed (kinds_of code at.unit.function) at.known env at.envs p),
           k.1.within,
         )
     command-there (Call g args w rest) at s =

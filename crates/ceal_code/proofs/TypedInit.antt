@@ -15,8 +15,7 @@ use Rattle.ceal_base.specs.declared.kind.Shape.TheVariants.{Struct}
 use Rattle.ceal_base.specs.declared.typed.StructInfo.{StructInfo}
 use Rattle.ceal_base.specs.declared.word.Word.{Word}
 use Rattle.ceal_base.specs.declared.word.Word.TheVariants.{Null}
-use Rattle.ceal_code.proofs.Kept.{both-true}
-use Rattle.ceal_code.proofs.Same.{both, some-same, none-some}
+use Rattle.ceal_code.proofs.Same.{both, some-same, none-some, both-true}
 use Rattle.ceal_code.proofs.Typed.{Env_typed, Memory_typed, default-fits, value-fits}
 use Rattle.ceal_code.specs.Init.{set_plain, set_by, set_by_row, set_by_all, arguments, made_by, made}
 use Rattle.ceal_code.specs.Program.{Unit as CodeUnit, Code}

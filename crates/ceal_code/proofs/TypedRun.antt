@@ -21,9 +21,10 @@ use Rattle.ceal_base.specs.declared.word.BlockId.TheVariants.{Input, Core}
 use Rattle.ceal_base.specs.declared.word.Place.{Place}
 use Rattle.ceal_base.specs.declared.word.Word.{Word}
 use Rattle.ceal_base.specs.declared.word.Word.TheVariants.{Null, Block as BlockWord, At}
-use Rattle.ceal_code.proofs.Kept.{Shapes_kept, both-true, fields-kept, kept-same, kept-written, kept-grown}
+use Rattle.ceal_code.proofs.FittingLemmas.{input-fits}
+use Rattle.ceal_code.proofs.Kept.{Shapes_kept, fields-kept, kept-same, kept-written, kept-grown}
 use Rattle.ceal_code.proofs.Memory.{altered, written-here, written-other, get-push_other, grown-here, made-shape}
-use Rattle.ceal_code.proofs.Same.{both, nat-same, nat-refl, some-same, none-some, block-same}
+use Rattle.ceal_code.proofs.Same.{both, nat-same, nat-refl, some-same, none-some, block-same, both-true}
 use Rattle.ceal_code.proofs.Typed.{Memory_typed, kind-same}
 use Rattle.ceal_code.proofs.TypedActs.{Step_command, stack-there}
 use Rattle.ceal_code.proofs.TypedCommands.{act-typed, command-there, tail-typed}
@@ -120,12 +121,7 @@ step-there code m st (Writes p value after) e s = (written_at m p.block p.field 
 step-there code m st (Reads p u v args below) e s =
     (m, entered code u.0 (given code u.0 v args (content_of m (At p) (variable_default code u.0 v))) below, Steps.reads e)
 
--- each block of a list fits, where all of them do, and the other way about
-all-at : (test : Block → Bool) (blocks : List Block) → list_all test blocks ≡ true → (i : ℕ) (block : Block) → slice_get blocks i ≡ Some block → test block ≡ true
-all-at test [] h i block e = none-some block e
-all-at test (b ∷ blocks) h zero block e = let k = both (test b) (list_all test blocks) h in rw (some-same b block e) at k.0
-all-at test (b ∷ blocks) h (suc i) block e = let k = both (test b) (list_all test blocks) h in all-at test blocks k.1 i block e
-
+-- all blocks of a list fit, where each does
 all-of : (test : Block → Bool) (blocks : List Block) → ((i : ℕ) (block : Block) → slice_get blocks i ≡ Some block → test block ≡ true) → list_all test blocks ≡ true
 all-of test [] h = refl
 all-of test (b ∷ blocks) h = both-true (test b) (list_all test blocks) (h 0 b refl) (all-of test blocks (λ i block e. h (suc i) block e))
@@ -136,9 +132,7 @@ typed-fits structs m typed =
     (all-of (block_fits structs m) m.made (λ i block e. typed (Core i) block e))
 
 inputs-typed : (structs : List StructInfo) (inputs : List Block) → inputs_fit structs inputs ≡ true → Memory_typed structs (record { inputs = inputs; made = [] })
-inputs-typed structs inputs h (Input i) block e =
-    let k = both (list_all (block_fits structs (record { inputs = inputs; made = [] })) inputs) (list_all (block_fits structs (record { inputs = inputs; made = [] })) []) h in
-    all-at (block_fits structs (record { inputs = inputs; made = [] })) inputs k.0 i block e
+inputs-typed structs inputs h (Input i) block e = input-fits structs inputs h i block e
 inputs-typed structs inputs h (Core i) block e = none-some block e
 
 module _ (structs : List StructInfo) (m : Blocks) where
@@ -270,11 +264,10 @@ module _ (code : Code) (ok : valid code ≡ true) where
 
   after-makes : (m : Blocks) (key : Key) (v u i : ℕ) (env : Variables) (below : Stack) → Memory_typed code.structs m → Act_typed code m (Makes key v u i env below)
       → State_typed (with_block m (made code (block_at m) key)) (Run u i (set env v (pointer key (Core (length m.made)))) below)
-  after-makes m key v u i env below t h =
-      (
-        grown-typed code m t (made code (block_at m) key) (made-fits code ok m t key h.0),
-        h.1 (with_block m (made code (block_at m) key)) (pointer key (Core (length m.made))) (kept-grown m (made code (block_at m) key)) (pointer-fits code m t key h.0),
-      )
+  after-makes m key v u i env below t h = (
+    grown-typed code m t (made code (block_at m) key) (made-fits code ok m t key h.0),
+    h.1 (with_block m (made code (block_at m) key)) (pointer key (Core (length m.made))) (kept-grown m (made code (block_at m) key)) (pointer-fits code m t key h.0),
+  )
 
   after-writes : (m : Blocks) (p : Place) (value : Word) (after : Stack) → Memory_typed code.structs m → Act_typed code m (Writes p value after) → State_typed (written_at m p.block p.field value) after
   after-writes m p value after t h = (written-typed code m t p value h.0, kept h.0)
@@ -292,11 +285,10 @@ module _ (code : Code) (ok : valid code ≡ true) where
   step-typed m st m' st' h (Steps.makes {below = below} {key = key} {v = v} {u = u} {i = i} {env = env} e) =
       after-makes m key v u i env below h.0 (subst (Act_typed code m) e (next-typed m h.0 st h.1))
   step-typed m st m' st' h (Steps.writes {after = after} {p = p} {value = value} e) = after-writes m p value after h.0 (subst (Act_typed code m) e (next-typed m h.0 st h.1))
-  step-typed m st m' st' h (Steps.reads {below = below} {p = p} {u = u} {v = v} {args = args} e) =
-      (
-        h.0,
-        content-taken code m h.0 p (variable_default code u.0 v) (λ w. Stack_typed code m (entered code u.0 (given code u.0 v args w) below)) (subst (Act_typed code m) e (next-typed m h.0 st h.1)),
-      )
+  step-typed m st m' st' h (Steps.reads {below = below} {p = p} {u = u} {v = v} {args = args} e) = (
+    h.0,
+    content-taken code m h.0 p (variable_default code u.0 v) (λ w. Stack_typed code m (entered code u.0 (given code u.0 v args w) below)) (subst (Act_typed code m) e (next-typed m h.0 st h.1)),
+  )
 
   reaches-typed : (m : Blocks) (st : Stack) (m' : Blocks) (st' : Stack) → State_typed m st → Reaches code m st m' st' → State_typed m' st'
   reaches-typed m st m' st' h Reaches.begin = h
@@ -318,8 +310,7 @@ module _ (code : Code) (ok : valid code ≡ true) where
     unfolding chosen all_below
     chosen-typed params kinds args h k [] l = tt
     chosen-typed params kinds args h k (p ∷ ps) l =
-        let i = both (nat_lt p.0 (length params)) (all_below (length params) ps) l in
-        (
+        let i = both (nat_lt p.0 (length params)) (all_below (length params) ps) l in (
           λ kind e. word-at code.structs begun params args k p.0 kind (prefix-at params kinds p.0 kind h (grind (arith, i.0)) e),
           chosen-typed params kinds args h k ps i.1,
         )
