@@ -27,7 +27,7 @@ use Rattle.ceal_code.proofs.FittingLemmas.{begun-placed, input-full, args-placed
 use Rattle.ceal_code.proofs.Memory.{contents, Cell_there, content-read, altered, got, get-set_other, get-push_other, length-set, written-here, written-other, written-count, written-contents, grown-here, grown-count, grown-contents, made-full}
 use Rattle.ceal_code.proofs.Placed.{Placed, Well_placed, Keeps, placed-keeps, stack-keeps, placed-closed, content-placed, written-keeps, written-well, grown-keeps, grown-well, pointer-placed}
 use Rattle.ceal_code.proofs.Replayed.{empty-run}
-use Rattle.ceal_code.proofs.Same.{block-same, nat-same, some-same, none-some}
+use Rattle.ceal_code.proofs.Same.{block-same, nat-same, some-same, none-some, struct-shape}
 use Rattle.ceal_code.specs.Fitting.{Fits}
 use Rattle.ceal_code.specs.Fresh.{ran, only_over, run, fresh}
 use Rattle.ceal_code.specs.Init.{made, pointer}
@@ -83,11 +83,6 @@ plain-other kinds ws n f w c = go (slice_get kinds f) refl
         apart : (t : Bool) → (f == n) ≡ t → plain_word (Some (PlainField kind)) (slice_set ws n w) f ≡ plain_word (Some (PlainField kind)) ws f
         apart true t = let i : n ≡ f = grind (arith, t) in let d : is_cell (Some (PlainField kind)) ≡ true = rw (i, e) at c in absurd (grind (arith, d))
         apart false t = rw (get-set_other ws n f w t)
-
-struct-shape : (s : ℕ) (shape : Shape) → is_struct s shape ≡ true → shape ≡ Struct s
-struct-shape s (Struct t) h = let e : t ≡ s = grind (arith, h) in ap Struct e
-struct-shape s ModInt h = absurd (grind (arith, h))
-struct-shape s (ModPtr t) h = absurd (grind (arith, h))
 
 module _ (code : Code) where
   -- the state of a first trace stands for the memory of the run

@@ -18,6 +18,7 @@ use Rattle.ceal_base.specs.declared.word.Word.{Word}
 use Rattle.ceal_base.specs.declared.word.Word.TheVariants.{Num, Null, Block as BlockWord, At}
 use Rattle.ceal_code.proofs.Closed.{Each, get-of, chosen-of, entered-of, field_default-of}
 use Rattle.ceal_code.proofs.FittingLemmas.{input-known, args-known}
+use Rattle.ceal_code.proofs.Kept.{Shapes_kept, words-kept}
 use Rattle.ceal_code.proofs.Local.{each-words, words-each, stack-of}
 use Rattle.ceal_code.proofs.Memory.{get-within, got}
 use Rattle.ceal_code.proofs.Same.{both, some-same, none-some}
@@ -115,64 +116,12 @@ module _ (code : Code) (old new : List Block) (more : Extended code old new) whe
       let same : plain_block code.structs c ≡ plain_block code.structs b = some-same (plain_block code.structs c) (plain_block code.structs b) (sym (ap (option_map (plain_block code.structs)) h) ∙ more i b e) in
       (c, h, ap (λ block. block.shape) same)
 
-  kind-more : (b : BlockId) (f : ℕ) (k : FieldKind) (o : Option Block) → block_at before b ≡ o → kind_in code.structs o f ≡ Some k → kind_in code.structs (block_at after b) f ≡ Some k
-  kind-more b f k None e h = none-some k h
-  kind-more (Input i) f k (Some block) e h =
-      let c = shape-in i block (slice_get new i) e refl in rw (c.1, c.2) h
-  kind-more (Core n) f k (Some block) e h = none-some block e
-
-  int-more : (p : Place) (k : Option FieldKind) → kind_at code.structs before p ≡ k → is_int_cell k ≡ true → is_int_cell (kind_at code.structs after p) ≡ true
-  int-more p None e h = absurd (grind (arith, h))
-  int-more p (Some k) e h = rw (kind-more p.block p.field k (block_at before p.block) refl e) h
-
-  pointer-more : (s : ℕ) (p : Place) (k : Option FieldKind) → kind_at code.structs before p ≡ k → is_pointer_cell s k ≡ true → is_pointer_cell s (kind_at code.structs after p) ≡ true
-  pointer-more s p None e h = absurd (grind (arith, h))
-  pointer-more s p (Some k) e h = rw (kind-more p.block p.field k (block_at before p.block) refl e) h
-
-  struct-if : (s : ℕ) (b c : Block) → c.shape ≡ b.shape → is_some (of_struct s (Some b)) ≡ true → is_some (of_struct s (Some c)) ≡ true
-  struct-if s b c e h = go (is_struct s b.shape) refl h
-    where
-      go : (t : Bool) → is_struct s b.shape ≡ t → is_some (if t then Some b else None) ≡ true → is_some (of_struct s (Some c)) ≡ true
-      go true k h = rw (e, k)
-      go false k h = absurd (grind (arith, h))
-
-  struct-more : (s : ℕ) (b : BlockId) (o : Option Block) → block_at before b ≡ o → is_some (of_struct s o) ≡ true → is_some (of_struct s (block_at after b)) ≡ true
-  struct-more s b None e h = absurd (grind (arith, h))
-  struct-more s (Input i) (Some block) e h =
-      let c = shape-in i block (slice_get new i) e refl in rw c.1 (struct-if s block c.0 c.2 h)
-  struct-more s (Core n) (Some block) e h = none-some block e
-
-  kinds-more : (kind : Kind) (w : Word) → fits_kind code.structs before kind w ≡ true → fits_kind code.structs after kind w ≡ true
-  kinds-more Int (Num n) h = h
-  kinds-more Int Null h = h
-  kinds-more Int (BlockWord b) h = h
-  kinds-more Int (At p) h = h
-  kinds-more (Ptr s) Null h = h
-  kinds-more (Ptr s) (BlockWord b) h = struct-more s b (block_at before b) refl h
-  kinds-more (Ptr s) (Num n) h = h
-  kinds-more (Ptr s) (At p) h = h
-  kinds-more ModInt Null h = h
-  kinds-more ModInt (At p) h = int-more p (kind_at code.structs before p) refl h
-  kinds-more ModInt (Num n) h = h
-  kinds-more ModInt (BlockWord b) h = h
-  kinds-more (ModPtr s) Null h = h
-  kinds-more (ModPtr s) (At p) h = pointer-more s p (kind_at code.structs before p) refl h
-  kinds-more (ModPtr s) (Num n) h = h
-  kinds-more (ModPtr s) (BlockWord b) h = h
-
-  both-true : (a b : Bool) → a ≡ true → b ≡ true → (a && b) ≡ true
-  both-true a b h k = rw (h, k)
-
-  words-more : (kinds : List Kind) (ws : List Word) → words_fit code.structs before kinds ws ≡ true → words_fit code.structs after kinds ws ≡ true
-  words-more [] [] h = h
-  words-more [] (w ∷ ws) h = h
-  words-more (kind ∷ kinds) [] h = h
-  words-more (kind ∷ kinds) (w ∷ ws) h =
-      let k = both (fits_kind code.structs before kind w) (words_fit code.structs before kinds ws) h in
-      both-true (fits_kind code.structs after kind w) (words_fit code.structs after kinds ws) (kinds-more kind w k.0) (words-more kinds ws k.1)
+  shapes-kept : Shapes_kept before after
+  shapes-kept (Input i) block e = shape-in i block (slice_get new i) e refl
+  shapes-kept (Core n) block e = none-some block e
 
   args-more : (f : Option FunctionCode) (args : List Word) → args_fit code.structs before f args ≡ true → args_fit code.structs after f args ≡ true
-  args-more (Some (CoreFunction name entry params)) args h = words-more params args h
+  args-more (Some (CoreFunction name entry params)) args h = words-kept code.structs before after shapes-kept params args h
   args-more (Some (InitFunction name s params body)) args h = h
   args-more None args h = h
 

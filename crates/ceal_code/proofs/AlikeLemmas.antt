@@ -35,6 +35,8 @@ use Rattle.ceal_code.specs.declared.expr.VarId.{VarId}
 use Rattle.ceal_code.specs.declared.function.FunctionCode.{FunctionCode}
 use Rattle.ceal_code.specs.declared.function.FunctionCode.TheVariants.{Core as CoreFunction, Init as InitFunction}
 use Rattle.ceal_code.specs.declared.function.InitStmt.{InitStmt, Set, If' as IfStmt', Row_of-InitStmt, end_of-InitStmt, more_of-InitStmt}
+use Rattle.ceal_code.proofs.Same.{struct-shape}
+use Rattle.ceal_code.proofs.Memory.{set-next}
 
 module _ (ps qs : Pairs) (sub : Within ps qs) where
   pub id-wider : {b c : BlockId} → Id_alike ps b c → Id_alike qs b c
@@ -234,12 +236,6 @@ module _ (ps : Pairs) where
   fields-at (Fields_alike.pointer_cell {kinds = kinds} {v = v} {w = w} {vs = vs} {ws = ws} k) (suc n) =
       rw (word-next (slice_get kinds n) v vs n, word-next (slice_get kinds n) w ws n) (fields-at k n)
 
-  set-next : (k : Option FieldKind) (w : Word) (ws : List Word) (n : ℕ) (z : Word) → set_plain k (w ∷ ws) (suc n) z ≡ w ∷ set_plain k ws n z
-  set-next None w ws n z = refl
-  set-next (Some (PlainField kind)) w ws n z = refl
-  set-next (Some CellInt) w ws n z = refl
-  set-next (Some (CellPtr s)) w ws n z = refl
-
   fields-set : {kinds : List FieldKind} {vs ws : List Word} → Fields_alike ps kinds vs ws → (n : ℕ) {y z : Word} → Word_alike ps y z
       → Fields_alike ps kinds (set_plain (slice_get kinds n) vs n y) (set_plain (slice_get kinds n) ws n z)
   fields-set Fields_alike.none n l = Fields_alike.none
@@ -258,11 +254,6 @@ module _ (ps : Pairs) where
   defaults-alike (PlainField kind ∷ kinds) = Fields_alike.plain (default-self kind) (defaults-alike kinds)
   defaults-alike (CellInt ∷ kinds) = Fields_alike.int_cell (defaults-alike kinds)
   defaults-alike (CellPtr s ∷ kinds) = Fields_alike.pointer_cell (defaults-alike kinds)
-
-  struct-shape : (s : ℕ) (shape : Shape) → is_struct s shape ≡ true → shape ≡ Struct s
-  struct-shape s (Struct t) h = let e : t ≡ s = grind (arith, h) in ap Struct e
-  struct-shape s ModInt h = absurd (grind (arith, h))
-  struct-shape s (ModPtr t) h = absurd (grind (arith, h))
 
   module _ (structs : List StructInfo) (s field : ℕ) where
     in-if : (b c : Block) (t : Bool) → is_struct s b.shape ≡ t → Block_alike structs ps b c

@@ -43,13 +43,13 @@ module _ (n : ℕ) (ps : Pairs) where
   words-self [] h = Words_alike.none
   words-self (w ∷ ws) h = Words_alike.more (word-self w h.0) (words-self ws h.1)
 
-int-is_cell : (k : Option FieldKind) → is_int_cell k ≡ true → is_cell k ≡ true
+pub int-is_cell : (k : Option FieldKind) → is_int_cell k ≡ true → is_cell k ≡ true
 int-is_cell (Some CellInt) h = refl
 int-is_cell (Some (CellPtr s)) h = absurd (grind (arith, h))
 int-is_cell (Some (PlainField kind)) h = absurd (grind (arith, h))
 int-is_cell None h = absurd (grind (arith, h))
 
-pointer-is_cell : (s : ℕ) (k : Option FieldKind) → is_pointer_cell s k ≡ true → is_cell k ≡ true
+pub pointer-is_cell : (s : ℕ) (k : Option FieldKind) → is_pointer_cell s k ≡ true → is_cell k ≡ true
 pointer-is_cell s (Some CellInt) h = refl
 pointer-is_cell s (Some (CellPtr t)) h = refl
 pointer-is_cell s (Some (PlainField kind)) h = absurd (grind (arith, h))
@@ -155,7 +155,7 @@ module _ (structs : List StructInfo) (inputs : List Block) where
   all-at test (b ∷ blocks) h (suc i) block e = let k = both (test b) (list_all test blocks) h in all-at test blocks k.1 i block e
 
   -- an input block fits
-  input-fits : inputs_fit structs inputs ≡ true → (i : ℕ) (block : Block) → slice_get inputs i ≡ Some block → block_fits structs begun block ≡ true
+  pub input-fits : inputs_fit structs inputs ≡ true → (i : ℕ) (block : Block) → slice_get inputs i ≡ Some block → block_fits structs begun block ≡ true
   input-fits h = let k = both (list_all (block_fits structs begun) inputs) (list_all (block_fits structs begun) []) h in all-at (block_fits structs begun) inputs k.0
 
   known-each : (ws : List Word) → Each Fine ws → Known_words (length inputs) [] ws

@@ -23,3 +23,10 @@ pub mod Determined
 pub mod FittingLemmas
 pub mod FinalMemory
 pub mod Replayed
+pub mod Kept
+pub mod Typed
+pub mod TypedInit
+pub mod TypedStack
+pub mod TypedActs
+pub mod TypedCommands
+pub mod TypedRun

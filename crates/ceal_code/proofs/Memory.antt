@@ -154,7 +154,7 @@ new-defaults (PlainField k ∷ kinds) = new-defaults kinds
 new-defaults (CellInt ∷ kinds) = (refl, new-defaults kinds)
 new-defaults (CellPtr s ∷ kinds) = (refl, new-defaults kinds)
 
-set-next : (k : Option FieldKind) (w : Word) (ws : List Word) (n : ℕ) (z : Word) → set_plain k (w ∷ ws) (suc n) z ≡ w ∷ set_plain k ws n z
+pub set-next : (k : Option FieldKind) (w : Word) (ws : List Word) (n : ℕ) (z : Word) → set_plain k (w ∷ ws) (suc n) z ≡ w ∷ set_plain k ws n z
 set-next None w ws n z = refl
 set-next (Some (PlainField kind)) w ws n z = refl
 set-next (Some CellInt) w ws n z = refl

@@ -21,7 +21,7 @@ use Rattle.ceal_base.specs.declared.word.Word.TheVariants.{Num, Null, Block as B
 use Rattle.ceal_code.proofs.Closed.{Each, each-at, Of_stack, Of_key, Closed, field_in-of, field_default-of}
 use Rattle.ceal_code.proofs.ClosedInit.{put-of, made-of}
 use Rattle.ceal_code.proofs.Memory.{contents, Cell_there, content-there, get-before, get-push_other, altered, written-here, written-other, grown-here, grown-other, made-shape}
-use Rattle.ceal_code.proofs.Same.{both, nat-same, block-same, some-same, none-some}
+use Rattle.ceal_code.proofs.Same.{both, nat-same, block-same, some-same, none-some, struct-shape}
 use Rattle.ceal_code.specs.Init.{made, pointer}
 use Rattle.ceal_code.specs.Program.{Code}
 use Rattle.ceal_code.specs.Replay.{shape_of}
@@ -57,11 +57,6 @@ module _ (structs : List StructInfo) (m m' : Blocks) (keeps : Keeps structs m m'
   pub stack-keeps : (st : Stack) → Of_stack (Placed structs m) st → Of_stack (Placed structs m') st
   stack-keeps Empty h = h
   stack-keeps (Run u i env below) h = ((λ v. placed-keeps (env v) (h.0 v)), stack-keeps below h.1)
-
-struct-shape : (s : ℕ) (shape : Shape) → is_struct s shape ≡ true → shape ≡ Struct s
-struct-shape s (Struct t) h = let e : t ≡ s = grind (arith, h) in ap Struct e
-struct-shape s ModInt h = absurd (grind (arith, h))
-struct-shape s (ModPtr t) h = absurd (grind (arith, h))
 
 module _ (structs : List StructInfo) (m : Blocks) (well : Well_placed structs m) where
   field-placed : (b : BlockId) (s f : ℕ) (o : Option Block) → block_at m b ≡ o → Placed structs m (field_in (field_kind structs (Struct s) f) (of_struct s o) f)

@@ -1,7 +1,10 @@
 -- What the operators of sameness say: equal.
 use Rattle.std.proofs.Common.{◌≡◌, ℕ, ℤ, Bool, true, false, ◌==◌, ◌&&◌, Option, Some, None, List, [], ◌∷◌, refl, ap, ap₂, arith}
 use Rattle.std.specs.Ordering.{int_eq}
+use Rattle.ceal_base.specs.Access.{is_struct}
 use Rattle.ceal_base.specs.Operators.{same_block, same_place, same_word}
+use Rattle.ceal_base.specs.declared.kind.Shape.{Shape}
+use Rattle.ceal_base.specs.declared.kind.Shape.TheVariants.{Struct, ModInt, ModPtr}
 use Rattle.ceal_base.specs.declared.word.BlockId.{BlockId}
 use Rattle.ceal_base.specs.declared.word.BlockId.TheVariants.{Input, Core}
 use Rattle.ceal_base.specs.declared.word.Place.{Place}
@@ -11,6 +14,9 @@ use Rattle.ceal_base.specs.declared.word.Word.TheVariants.{Num, Null, Block as B
 pub both : (a b : Bool) → (a && b) ≡ true → (a ≡ true) × (b ≡ true)
 both true b h = (refl, h)
 both false b h = absurd (grind (arith, h))
+
+pub both-true : (a b : Bool) → a ≡ true → b ≡ true → (a && b) ≡ true
+both-true a b h k = rw (h, k)
 
 pub some-same : {A : Type 0} (a b : A) → Some a ≡ Some b → a ≡ b
 some-same a b e = grind (arith, e)
@@ -60,3 +66,8 @@ word-refl (Num n) = int-refl n
 word-refl Null = refl
 word-refl (BlockWord b) = block-refl b
 word-refl (At p) = place-refl p
+
+pub struct-shape : (s : ℕ) (shape : Shape) → is_struct s shape ≡ true → shape ≡ Struct s
+struct-shape s (Struct t) h = let e : t ≡ s = grind (arith, h) in ap Struct e
+struct-shape s ModInt h = absurd (grind (arith, h))
+struct-shape s (ModPtr t) h = absurd (grind (arith, h))

@@ -1,6 +1,6 @@
 -- Laws of trace code.
-use Rattle.std.specs.Prelude.{◌≡◌, ℕ, List}
-use Rattle.ceal_base.specs.Block.{Block}
+use Rattle.std.specs.Prelude.{◌≡◌, ℕ, true, List, []}
+use Rattle.ceal_base.specs.Block.{Block, Blocks}
 use Rattle.ceal_base.specs.Trace.{Trace}
 use Rattle.ceal_base.specs.declared.forest.Key.{Key}
 use Rattle.ceal_base.specs.declared.word.Word.{Word}
@@ -12,7 +12,9 @@ use Rattle.ceal_code.specs.Known.{Agree, Holds, Known_stack, Known_act}
 use Rattle.ceal_code.specs.Over.{on, act_on}
 use Rattle.ceal_code.specs.Program.{Code}
 use Rattle.ceal_code.specs.Replay.{Known_words, Known_key, Replays, IsHonest}
-use Rattle.ceal_code.specs.Step.{Stack, next}
+use Rattle.ceal_code.specs.Running.{Reaches, Not_stuck}
+use Rattle.ceal_code.specs.Step.{Stack, started, next}
+use Rattle.ceal_code.specs.Valid.{valid}
 use Rattle.ceal_code.specs.Value.{Plain}
 
 -- where a stack names known blocks alone, and these name known blocks alone, the next step names no other, and is
@@ -41,3 +43,8 @@ Alike_law = (code : Code) (ps : Pairs) → One_to_one ps → (x y : Plain) → P
 abbrev pub Trace_law : Type 0
 Trace_law = (code : Code) (inputs : List Block) (f : ℕ) (args : List Word) → Fits code inputs f args
     → (l : Trace) → Replays code inputs f args l → (h : IsHonest code inputs l) → Determined code inputs f args l h.after
+
+-- valid code is never stuck
+abbrev pub Progress_law : Type 0
+Progress_law = (code : Code) → valid code ≡ true → (inputs : List Block) (f : ℕ) (args : List Word) → Fits code inputs f args
+    → (m : Blocks) (st : Stack) → Reaches code (record { inputs = inputs; made = [] }) (started code f args) m st → Not_stuck code m st

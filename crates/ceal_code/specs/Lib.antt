@@ -11,6 +11,7 @@ pub mod Branches
 pub mod Known
 pub mod Alike
 pub mod Fitting
+pub mod Running
 pub mod Determined
 pub mod Laws
 pub mod Over

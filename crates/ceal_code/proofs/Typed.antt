@@ -1,0 +1,340 @@
+-- A well typed expression gives a word that fits its type, and all that it names is there.
+use Rattle.std.proofs.Common.{◌≡◌, ℕ, ℤ, pos, zero, suc, ◌<◌, ◌==◌, ◌&&◌, Bool, true, false, if◌then◌else◌, Option, Some, None, List, [], ◌∷◌, length, is_some, ◌⊎◌, inl, inr, refl, sym, ap, ◌∙◌, subst, slice_get, slice_set, unwrap_or, map, arith}
+use Rattle.std.specs.Prelude.{⊤}
+use Rattle.ceal_base.specs.Access.{of_struct, is_struct, place_in}
+use Rattle.ceal_base.specs.Block.{Block, Blocks, block_at}
+use Rattle.ceal_base.specs.Fitting.{kind_in, kind_at, is_int_cell, is_pointer_cell, fits_kind, fits_field, fields_fit}
+use Rattle.ceal_base.specs.Operators.{unary_value, binary_value, truth}
+use Rattle.ceal_base.specs.Shapes.{default_of_kind, default_of_field, kinds_of_shape}
+use Rattle.ceal_base.specs.declared.kind.FieldKind.{FieldKind}
+use Rattle.ceal_base.specs.declared.kind.FieldKind.TheVariants.{Plain as PlainField, CellInt, CellPtr}
+use Rattle.ceal_base.specs.declared.kind.Kind.{Kind}
+use Rattle.ceal_base.specs.declared.kind.Kind.TheVariants.{Int, Ptr, ModInt, ModPtr}
+use Rattle.ceal_base.specs.declared.kind.Shape.{Shape}
+use Rattle.ceal_base.specs.declared.kind.Shape.TheVariants.{Struct, ModInt as OneInt, ModPtr as OnePtr}
+use Rattle.ceal_base.specs.declared.operators.Binary.{Binary}
+use Rattle.ceal_base.specs.declared.operators.Binary.TheVariants.{Add, Sub, Mul, Div, Rem, Less, LessEq, More, MoreEq, Same, Differ, And, Or}
+use Rattle.ceal_base.specs.declared.operators.Unary.{Unary}
+use Rattle.ceal_base.specs.declared.operators.Unary.TheVariants.{Neg, Not}
+use Rattle.ceal_base.specs.declared.typed.StructInfo.{StructInfo}
+use Rattle.ceal_base.specs.declared.word.BlockId.{BlockId}
+use Rattle.ceal_base.specs.declared.word.Place.{Place}
+use Rattle.ceal_base.specs.declared.word.Word.{Word}
+use Rattle.ceal_base.specs.declared.word.Word.TheVariants.{Num, Null, Block as BlockWord, At}
+use Rattle.ceal_code.proofs.Same.{both, nat-same, some-same, none-some, struct-shape}
+use Rattle.ceal_code.specs.Running.{Points, Expr_there, Operand_there, Exprs_there}
+use Rattle.ceal_code.specs.Valid.{Typing, is_pointer, same_kind, fits, fits_maybe, one_type, int_if, binary_type, variable_type, points_to, plain_type, cell_type, type_of, operand_type, all_fit, params_fit}
+use Rattle.ceal_code.specs.Value.{Plain, Variables, field_kind, is_cell, field_default, plain_word, pointed, field_in, field_value, address_value, expr_value, operand_value, values}
+use Rattle.ceal_code.specs.declared.expr.CodeExpr.{CodeExpr, Num as NumExpr, Null as NullExpr, Var, Unary', Binary', Field', Address', Row_of-CodeExpr, end_of-CodeExpr, more_of-CodeExpr}
+use Rattle.ceal_code.specs.declared.expr.VarId.{VarId}
+
+-- the word is one that an expression of this type gives
+abbrev pub Has_type : List StructInfo → Blocks → Typing → Word → Type 0
+Has_type structs m None w = ⊤
+Has_type structs m (Some None) w = w ≡ Null
+Has_type structs m (Some (Some kind)) w = fits_kind structs m kind w ≡ true
+
+abbrev pub Typed : Typing → Type 0
+Typed None = ⊥
+Typed (Some t) = ⊤
+
+pub kind-same : (k l : Kind) → same_kind k l ≡ true → k ≡ l
+kind-same Int Int h = refl
+kind-same (Ptr s) (Ptr t) h = ap Ptr (nat-same s t h)
+kind-same ModInt ModInt h = refl
+kind-same (ModPtr s) (ModPtr t) h = ap ModPtr (nat-same s t h)
+kind-same _ _ h = absurd (grind (arith, h))
+
+-- a variable that is known has a word that fits its kind
+abbrev pub Env_typed : List StructInfo → Blocks → List Kind → List Bool → Variables → Type 0
+Env_typed structs m kinds known env = (v : ℕ) (kind : Kind) → slice_get kinds v ≡ Some kind → unwrap_or (slice_get known v) false ≡ true → fits_kind structs m kind (env v) ≡ true
+
+-- each block has one word for each field, which fits it
+abbrev pub Memory_typed : List StructInfo → Blocks → Type 0
+Memory_typed structs m = (b : BlockId) (block : Block) → block_at m b ≡ Some block → fields_fit structs m (kinds_of_shape structs block.shape) block.words ≡ true
+
+pub fits-typed : (kind : Kind) (t : Typing) → fits kind t ≡ true → Typed t
+fits-typed kind None h = absurd (grind (arith, h))
+fits-typed kind (Some t) h = tt
+
+pub maybe-fits : (kind : Option Kind) (t : Typing) → fits_maybe kind t ≡ true → (k : Kind) × (kind ≡ Some k) × (fits k t ≡ true)
+maybe-fits None t h = absurd (grind (arith, h))
+maybe-fits (Some k) t h = (k, refl, h)
+
+module _ (structs : List StructInfo) (m : Blocks) where
+  pub null-fits : (kind : Kind) → is_pointer kind ≡ true → fits_kind structs m kind Null ≡ true
+  null-fits Int h = h
+  null-fits (Ptr s) h = refl
+  null-fits ModInt h = refl
+  null-fits (ModPtr s) h = refl
+
+  -- a word of a type that may stand where a kind is asked fits it
+  pub fits-word : (kind : Kind) (t : Typing) (w : Word) → fits kind t ≡ true → Has_type structs m t w → fits_kind structs m kind w ≡ true
+  fits-word kind None w h k = absurd (grind (arith, h))
+  fits-word kind (Some None) w h k = rw k (null-fits kind h)
+  fits-word kind (Some (Some other)) w h k = rw (kind-same kind other h) k
+
+  pub default-fits : (kind : Kind) → fits_kind structs m kind (default_of_kind kind) ≡ true
+  default-fits Int = refl
+  default-fits (Ptr s) = refl
+  default-fits ModInt = refl
+  default-fits (ModPtr s) = refl
+
+  truth-int : (b : Bool) → fits_kind structs m Int (truth b) ≡ true
+  truth-int true = refl
+  truth-int false = refl
+
+  unary-int : (op : Unary) (w : Word) → fits_kind structs m Int (unary_value op w) ≡ true
+  unary-int Neg w = refl
+  unary-int Not w = truth-int _
+
+  binary-int : (op : Binary) (v w : Word) → fits_kind structs m Int (binary_value op v w) ≡ true
+  binary-int Add v w = refl
+  binary-int Sub v w = refl
+  binary-int Mul v w = refl
+  binary-int Div v w = refl
+  binary-int Rem v w = refl
+  binary-int Less v w = truth-int _
+  binary-int LessEq v w = truth-int _
+  binary-int More v w = truth-int _
+  binary-int MoreEq v w = truth-int _
+  binary-int Same v w = truth-int _
+  binary-int Differ v w = truth-int _
+  binary-int And v w = truth-int _
+  binary-int Or v w = truth-int _
+
+  int-type : (b : Bool) (w : Word) → fits_kind structs m Int w ≡ true → Has_type structs m (int_if b) w
+  int-type true w h = h
+  int-type false w h = tt
+
+  binary-type : (op : Binary) (s t : Typing) (w : Word) → fits_kind structs m Int w ≡ true → Has_type structs m (binary_type op s t) w
+  binary-type Same s t w h = int-type (one_type s t) w h
+  binary-type Differ s t w h = int-type (one_type s t) w h
+  binary-type Add s t w h = int-type (fits Int s && fits Int t) w h
+  binary-type Sub s t w h = int-type (fits Int s && fits Int t) w h
+  binary-type Mul s t w h = int-type (fits Int s && fits Int t) w h
+  binary-type Div s t w h = int-type (fits Int s && fits Int t) w h
+  binary-type Rem s t w h = int-type (fits Int s && fits Int t) w h
+  binary-type Less s t w h = int-type (fits Int s && fits Int t) w h
+  binary-type LessEq s t w h = int-type (fits Int s && fits Int t) w h
+  binary-type More s t w h = int-type (fits Int s && fits Int t) w h
+  binary-type MoreEq s t w h = int-type (fits Int s && fits Int t) w h
+  binary-type And s t w h = int-type (fits Int s && fits Int t) w h
+  binary-type Or s t w h = int-type (fits Int s && fits Int t) w h
+
+  points-word : (s : ℕ) (t : Typing) (w : Word) → points_to s t ≡ true → Has_type structs m t w → fits_kind structs m (Ptr s) w ≡ true
+  points-word s None w h k = absurd (grind (arith, h))
+  points-word s (Some None) w h k = absurd (grind (arith, h))
+  points-word s (Some (Some kind)) w h k = rw (kind-same (Ptr s) kind h) k
+
+  -- what a pointer to a struct points to
+  pointer-points : (s : ℕ) (w : Word) → fits_kind structs m (Ptr s) w ≡ true → Points m s w
+  pointer-points s Null h = inl refl
+  pointer-points s (BlockWord b) h = inr h
+  pointer-points s (Num n) h = absurd (grind (arith, h))
+  pointer-points s (At p) h = absurd (grind (arith, h))
+
+  -- a plain field of a block that fits
+  field-fits : (kinds : List FieldKind) (ws : List Word) (n : ℕ) → fields_fit structs m kinds ws ≡ true → Has_type structs m (plain_type (slice_get kinds n)) (plain_word (slice_get kinds n) ws n)
+  field-fits [] ws n h = tt
+  field-fits (kind ∷ kinds) [] n h = absurd (grind (arith, h))
+  field-fits (PlainField kind ∷ kinds) (w ∷ ws) zero h = let k = both (fits_kind structs m kind w) (fields_fit structs m kinds ws) h in k.0
+  field-fits (CellInt ∷ kinds) (w ∷ ws) zero h = tt
+  field-fits (CellPtr s ∷ kinds) (w ∷ ws) zero h = tt
+  field-fits (kind ∷ kinds) (w ∷ ws) (suc n) h =
+      let k = both (fits_field structs m kind w) (fields_fit structs m kinds ws) h in later (slice_get kinds n) (field-fits kinds ws n k.1)
+    where
+      later : (k : Option FieldKind) → Has_type structs m (plain_type k) (plain_word k ws n) → Has_type structs m (plain_type k) (plain_word k (w ∷ ws) (suc n))
+      later None h = tt
+      later (Some (PlainField kind)) h = h
+      later (Some CellInt) h = tt
+      later (Some (CellPtr s)) h = tt
+
+  default-type : (k : Option FieldKind) → Has_type structs m (plain_type k) (field_default k)
+  default-type None = tt
+  default-type (Some (PlainField kind)) = default-fits kind
+  default-type (Some CellInt) = tt
+  default-type (Some (CellPtr s)) = tt
+
+  module _ (typed : Memory_typed structs m) where
+    in-struct : (s f : ℕ) (block : Block) → fields_fit structs m (kinds_of_shape structs block.shape) block.words ≡ true → (t : Bool) → is_struct s block.shape ≡ t
+        → Has_type structs m (plain_type (field_kind structs (Struct s) f)) (field_in (field_kind structs (Struct s) f) (if t then Some block else None) f)
+    in-struct s f block h false e = default-type (field_kind structs (Struct s) f)
+    in-struct s f block h true e =
+        subst (λ shape. Has_type structs m (plain_type (slice_get (kinds_of_shape structs shape) f)) (plain_word (slice_get (kinds_of_shape structs shape) f) block.words f))
+        (struct-shape s block.shape e) (field-fits (kinds_of_shape structs block.shape) block.words f h)
+
+    in-block : (s f : ℕ) (b : BlockId) (o : Option Block) → block_at m b ≡ o → Has_type structs m (plain_type (field_kind structs (Struct s) f)) (field_in (field_kind structs (Struct s) f) (of_struct s o) f)
+    in-block s f b None e = default-type (field_kind structs (Struct s) f)
+    in-block s f b (Some block) e = in-struct s f block (typed b block e) (is_struct s block.shape) refl
+
+    field-type : (w : Word) (s f : ℕ) → Has_type structs m (plain_type (field_kind structs (Struct s) f)) (field_value structs (block_at m) w s f)
+    field-type (Num n) s f = default-type (field_kind structs (Struct s) f)
+    field-type Null s f = default-type (field_kind structs (Struct s) f)
+    field-type (BlockWord b) s f = in-block s f b (block_at m b) refl
+    field-type (At p) s f = default-type (field_kind structs (Struct s) f)
+
+    kind-there : (s f : ℕ) (b : BlockId) (o : Option Block) → block_at m b ≡ o → is_some (of_struct s o) ≡ true → kind_in structs o f ≡ field_kind structs (Struct s) f
+    kind-there s f b None e h = absurd (grind (arith, h))
+    kind-there s f b (Some block) e h = go (is_struct s block.shape) refl h
+      where
+        go : (t : Bool) → is_struct s block.shape ≡ t → is_some (if t then Some block else None) ≡ true → slice_get (kinds_of_shape structs block.shape) f ≡ slice_get (kinds_of_shape structs (Struct s)) f
+        go true k h = ap (λ shape. slice_get (kinds_of_shape structs shape) f) (struct-shape s block.shape k)
+        go false k h = absurd (grind (arith, h))
+
+    -- the address of a modifiable of a block, where `t` says that it is there
+    cell-if : (s f : ℕ) (b : BlockId) (k : Option FieldKind) → field_kind structs (Struct s) f ≡ k → (t : Bool) → is_some (of_struct s (block_at m b)) ≡ t
+        → Has_type structs m (cell_type k) (if is_cell k && t then At (record { block = b; field = f }) else Null)
+    cell-if s f b None e t g = tt
+    cell-if s f b (Some (PlainField kind)) e t g = tt
+    cell-if s f b (Some CellInt) e true g =
+        let i : kind_at structs m (record { block = b; field = f }) ≡ Some CellInt = kind-there s f b (block_at m b) refl g ∙ e in rw i
+    cell-if s f b (Some CellInt) e false g = refl
+    cell-if s f b (Some (CellPtr z)) e true g =
+        let i : kind_at structs m (record { block = b; field = f }) ≡ Some (CellPtr z) = kind-there s f b (block_at m b) refl g ∙ e in rw i (nat-true z)
+      where
+        nat-true : (n : ℕ) → (n == n) ≡ true
+        nat-true n = grind arith
+    cell-if s f b (Some (CellPtr z)) e false g = refl
+
+    null-cell : (k : Option FieldKind) (t u : Bool) → Has_type structs m (cell_type k) (if t && u then Null else Null)
+    null-cell None t u = tt
+    null-cell (Some (PlainField kind)) t u = tt
+    null-cell (Some CellInt) true true = refl
+    null-cell (Some CellInt) true false = refl
+    null-cell (Some CellInt) false u = refl
+    null-cell (Some (CellPtr s)) true true = refl
+    null-cell (Some (CellPtr s)) true false = refl
+    null-cell (Some (CellPtr s)) false u = refl
+
+    address-type : (w : Word) (s f : ℕ) → Has_type structs m (cell_type (field_kind structs (Struct s) f)) (address_value structs (block_at m) w s f)
+    address-type (Num n) s f = null-cell (field_kind structs (Struct s) f) (is_cell (field_kind structs (Struct s) f)) false
+    address-type Null s f = null-cell (field_kind structs (Struct s) f) (is_cell (field_kind structs (Struct s) f)) false
+    address-type (BlockWord b) s f = cell-if s f b (field_kind structs (Struct s) f) refl (is_some (of_struct s (block_at m b))) refl
+    address-type (At p) s f = null-cell (field_kind structs (Struct s) f) (is_cell (field_kind structs (Struct s) f)) false
+
+    points-if : (b : Bool) (t : Typing) (w : Word) → (b ≡ true → Has_type structs m t w) → Has_type structs m (if b then t else None) w
+    points-if true t w h = h refl
+    points-if false t w h = tt
+
+    known-if : (kind : Kind) (b : Bool) (w : Word) → (b ≡ true → fits_kind structs m kind w ≡ true) → Has_type structs m (if b then Some (Some kind) else None) w
+    known-if kind true w h = h refl
+    known-if kind false w h = tt
+
+    module _ (kinds : List Kind) (known : List Bool) (env : Variables) (envs : Env_typed structs m kinds known env) where
+      variable-if : (v : ℕ) (o : Option Kind) → slice_get kinds v ≡ o → Has_type structs m (variable_type o (unwrap_or (slice_get known v) false)) (env v)
+      variable-if v None e = tt
+      variable-if v (Some kind) e = known-if kind (unwrap_or (slice_get known v) false) (env v) (λ k. envs v kind e k)
+
+      mutual
+        unfolding type_of expr_value
+
+        pub value-type : (e : CodeExpr) → Has_type structs m (type_of structs kinds known e) (expr_value structs (block_at m) env e)
+        value-type (NumExpr n) = refl
+        value-type NullExpr = refl
+        value-type (Var v) = variable-if v.0 (slice_get kinds v.0) refl
+        value-type (Unary' op _ a) = int-type (fits Int (operand_type structs kinds known a)) (unary_value op (operand_value structs (block_at m) env a)) (unary-int op (operand_value structs (block_at m) env a))
+        value-type (Binary' op _ a _ b) =
+            binary-type op (operand_type structs kinds known a) (operand_type structs kinds known b) (binary_value op (operand_value structs (block_at m) env a) (operand_value structs (block_at m) env b))
+            (binary-int op (operand_value structs (block_at m) env a) (operand_value structs (block_at m) env b))
+        value-type (Field' _ a s f) =
+            points-if (points_to s (operand_type structs kinds known a)) (plain_type (field_kind structs (Struct s) f)) (field_value structs (block_at m) (operand_value structs (block_at m) env a) s f)
+            (λ k. field-type (operand_value structs (block_at m) env a) s f)
+        value-type (Address' _ a s f) =
+            points-if (points_to s (operand_type structs kinds known a)) (cell_type (field_kind structs (Struct s) f)) (address_value structs (block_at m) (operand_value structs (block_at m) env a) s f)
+            (λ k. address-type (operand_value structs (block_at m) env a) s f)
+
+        pub operand-type : {n : _} (row : Row_of-CodeExpr n) → Has_type structs m (operand_type structs kinds known row) (operand_value structs (block_at m) env row)
+        operand-type end_of-CodeExpr = tt
+        operand-type (more_of-CodeExpr e rest) = value-type e
+
+      typed-int : (b : Bool) → Typed (int_if b) → b ≡ true
+      typed-int true h = refl
+      typed-int false h = absurd h
+
+      one-typed : (s t : Typing) → one_type s t ≡ true → Typed s × Typed t
+      one-typed None t h = absurd (grind (arith, h))
+      one-typed (Some s) None h = absurd (none s h)
+        where
+          none : (s : Option Kind) → one_type (Some s) None ≡ true → ⊥
+          none None h = absurd (grind (arith, h))
+          none (Some kind) h = absurd (grind (arith, h))
+      one-typed (Some s) (Some t) h = (tt, tt)
+
+      ints-typed : (s t : Typing) → (fits Int s && fits Int t) ≡ true → Typed s × Typed t
+      ints-typed s t h = let k = both (fits Int s) (fits Int t) h in (fits-typed Int s k.0, fits-typed Int t k.1)
+
+      binary-typed : (op : Binary) (s t : Typing) → Typed (binary_type op s t) → Typed s × Typed t
+      binary-typed Same s t h = one-typed s t (typed-int (one_type s t) h)
+      binary-typed Differ s t h = one-typed s t (typed-int (one_type s t) h)
+      binary-typed Add s t h = ints-typed s t (typed-int (fits Int s && fits Int t) h)
+      binary-typed Sub s t h = ints-typed s t (typed-int (fits Int s && fits Int t) h)
+      binary-typed Mul s t h = ints-typed s t (typed-int (fits Int s && fits Int t) h)
+      binary-typed Div s t h = ints-typed s t (typed-int (fits Int s && fits Int t) h)
+      binary-typed Rem s t h = ints-typed s t (typed-int (fits Int s && fits Int t) h)
+      binary-typed Less s t h = ints-typed s t (typed-int (fits Int s && fits Int t) h)
+      binary-typed LessEq s t h = ints-typed s t (typed-int (fits Int s && fits Int t) h)
+      binary-typed More s t h = ints-typed s t (typed-int (fits Int s && fits Int t) h)
+      binary-typed MoreEq s t h = ints-typed s t (typed-int (fits Int s && fits Int t) h)
+      binary-typed And s t h = ints-typed s t (typed-int (fits Int s && fits Int t) h)
+      binary-typed Or s t h = ints-typed s t (typed-int (fits Int s && fits Int t) h)
+
+      within : {A : Type 0} (xs : List A) (n : ℕ) → is_some (slice_get xs n) ≡ true → n < length xs
+      within [] n h = absurd (grind (arith, h))
+      within (x ∷ xs) zero h = omega arith
+      within (x ∷ xs) (suc n) h = omega (arith, within xs n h)
+
+      points-typed : (b : Bool) (t : Typing) → Typed (if b then t else None) → (b ≡ true) × Typed t
+      points-typed true t h = (refl, h)
+      points-typed false t h = absurd h
+
+      plain-there : (k : Option FieldKind) → Typed (plain_type k) → is_some k ≡ true
+      plain-there None h = absurd h
+      plain-there (Some k) h = refl
+
+      cell-there : (k : Option FieldKind) → Typed (cell_type k) → is_some k ≡ true
+      cell-there None h = absurd h
+      cell-there (Some k) h = refl
+
+      points-operand : (s : ℕ) (t : Typing) → points_to s t ≡ true → Typed t
+      points-operand s None h = absurd (grind (arith, h))
+      points-operand s (Some t) h = tt
+
+      variable-there : (v : ℕ) (o : Option Kind) (b : Bool) → slice_get kinds v ≡ o → Typed (variable_type o b) → v < length kinds
+      variable-there v None b e h = absurd h
+      variable-there v (Some kind) b e h = within kinds v (ap is_some e)
+
+      mutual
+        unfolding type_of
+
+        -- what a well typed expression names is there
+        pub expr-there : (e : CodeExpr) → Typed (type_of structs kinds known e) → Expr_there structs m (length kinds) env e
+        expr-there (NumExpr n) h = tt
+        expr-there NullExpr h = tt
+        expr-there (Var v) h = variable-there v.0 (slice_get kinds v.0) (unwrap_or (slice_get known v.0) false) refl h
+        expr-there (Unary' op _ a) h = operand-there a (fits-typed Int (operand_type structs kinds known a) (typed-int (fits Int (operand_type structs kinds known a)) h))
+        expr-there (Binary' op _ a _ b) h =
+            let k = binary-typed op (operand_type structs kinds known a) (operand_type structs kinds known b) h in (operand-there a k.0, operand-there b k.1)
+        expr-there (Field' _ a s f) h =
+            let k = points-typed (points_to s (operand_type structs kinds known a)) (plain_type (field_kind structs (Struct s) f)) h in (
+              operand-there a (points-operand s (operand_type structs kinds known a) k.0),
+              within (kinds_of_shape structs (Struct s)) f (plain-there (field_kind structs (Struct s) f) k.1),
+              pointer-points s (operand_value structs (block_at m) env a) (points-word s (operand_type structs kinds known a) (operand_value structs (block_at m) env a) k.0 (operand-type a)),
+            )
+        expr-there (Address' _ a s f) h =
+            let k = points-typed (points_to s (operand_type structs kinds known a)) (cell_type (field_kind structs (Struct s) f)) h in (
+              operand-there a (points-operand s (operand_type structs kinds known a) k.0),
+              within (kinds_of_shape structs (Struct s)) f (cell-there (field_kind structs (Struct s) f) k.1),
+              pointer-points s (operand_value structs (block_at m) env a) (points-word s (operand_type structs kinds known a) (operand_value structs (block_at m) env a) k.0 (operand-type a)),
+            )
+
+        operand-there : {n : _} (row : Row_of-CodeExpr n) → Typed (operand_type structs kinds known row) → Operand_there structs m (length kinds) env row
+        operand-there end_of-CodeExpr h = tt
+        operand-there (more_of-CodeExpr e rest) h = expr-there e h
+
+      -- the word of an expression where a kind is asked
+      pub value-fits : (kind : Kind) (e : CodeExpr) → fits kind (type_of structs kinds known e) ≡ true → fits_kind structs m kind (expr_value structs (block_at m) env e) ≡ true
+      value-fits kind e h = fits-word kind (type_of structs kinds known e) (expr_value structs (block_at m) env e) h (value-type e)
+
+      pub asked-there : (kind : Kind) (e : CodeExpr) → fits kind (type_of structs kinds known e) ≡ true → Expr_there structs m (length kinds) env e
+      asked-there kind e h = expr-there e (fits-typed kind (type_of structs kinds known e) h)
