@@ -1,8 +1,6 @@
-use Rattle.std.proofs.Common.{subst}
+use Rattle.std.proofs.Common.{arith}
 use Rattle.ceal_cli.proofs.ModeLaws.{one_mode}
-use Rattle.ceal_cli.proofs.TopLaws.{output_for, prefix_for, refused_for, not_done_for}
-use Rattle.ceal_cli.specs.Growth.{WritesOutput, WritesPrefix}
-use Rattle.ceal_cli.specs.declared.words.Mode.{Mode}
+use Rattle.ceal_cli.proofs.TopLaws.{output_for, prefix_for, short_for, accepted_for, refused_for, not_refused_for, not_done_for}
 use Rattle.ceal_cli.proofs.top.ceal_main.Goals as goal
 
 pub returns-in-Ok-true-clause-headline : goal.returns-in-Ok-true-clause-headline
@@ -11,8 +9,26 @@ returns-in-Ok-true-clause-headline g c =
     rw (one_mode _ mode c.in-Some.mode asks c.in-Some.ensures)
     (output_for _ _ _ _ c.in-Ok.ensures.all c.in-Ok.ensures.end c.deref.ensures.value _ _ _ c.in-Ok-true.ensures.all)
 
+pub returns-in-Ok-true-clause-within : goal.returns-in-Ok-true-clause-within
+returns-in-Ok-true-clause-within g c =
+    λ _. short_for _ _ _ _ c.in-Ok.ensures.all c.in-Ok.ensures.end c.deref.ensures.value (omega (arith, c.deref.ensures.len, c.in-Ok.ensures.within))
+
 pub returns-in-Ok-true-clause-prefix : goal.returns-in-Ok-true-clause-prefix
 returns-in-Ok-true-clause-prefix g c =
+    λ mode asks.
+    rw (one_mode _ mode c.in-Some.mode asks c.in-Some.ensures)
+    (prefix_for _ _ _ _ c.in-Ok.ensures.all c.in-Ok.ensures.end c.deref.ensures.value _ _ _ c.write_answer.ensures.part)
+
+pub returns-in-Ok-true-clause-done : goal.returns-in-Ok-true-clause-done
+returns-in-Ok-true-clause-done g c =
+    λ _. accepted_for _ _ _ _ c.in-Ok.ensures.all c.in-Ok.ensures.end c.deref.ensures.value (c.in-Ok-true.ensures.accepted.0 c.in-Ok-true.field-0-test)
+
+pub returns-in-Ok-true-clause-refuses : goal.returns-in-Ok-true-clause-refuses
+returns-in-Ok-true-clause-refuses g c =
+    λ _. not_refused_for _ _ _ _ c.in-Ok.ensures.all c.in-Ok.ensures.end c.deref.ensures.value _ _ (c.in-Ok-true.ensures.accepted.0 c.in-Ok-true.field-0-test)
+
+pub returns-in-Ok-false-clause-prefix : goal.returns-in-Ok-false-clause-prefix
+returns-in-Ok-false-clause-prefix g c =
     λ mode asks.
     rw (one_mode _ mode c.in-Some.mode asks c.in-Some.ensures)
     (prefix_for _ _ _ _ c.in-Ok.ensures.all c.in-Ok.ensures.end c.deref.ensures.value _ _ _ c.write_answer.ensures.part)
