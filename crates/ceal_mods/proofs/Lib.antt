@@ -1,0 +1,2 @@
+pub mod ModsLemmas
+pub mod WritesLemmas

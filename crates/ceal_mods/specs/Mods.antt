@@ -1,0 +1,37 @@
+-- The modifiables of all places.
+use Rattle.std.specs.Prelude.{◌≡◌, ◌≢◌, ℕ, List, unwrap_or, false}
+use Rattle.std.specs.Map.{lookup}
+use Rattle.ceal_base.specs.contracts.word.PlacePartialEq.TheImpl.{ghosts}
+use Rattle.ceal_base.specs.declared.word.Place.{Place}
+use Rattle.ceal_order.specs.Stamps.{is_in}
+use Rattle.ceal_rising.specs.Rising.{KeepsOrder}
+use Rattle.ceal_mods.specs.Writes.{stamps_of}
+use Rattle.ceal_mods.specs.Cell.{untouched, Rises}
+use Rattle.ceal_mods.specs.declared.cell.Cell.{Cell}
+
+-- what a caller sees: the cells of the places that were touched, and how often a value was looked up
+pub record Contents : Type 0 where
+  pub cells : List (Place × Cell)
+  pub looked : ℕ
+
+-- the cell of a place
+abbrev pub cell_of : Contents → Place → Cell
+cell_of mods p = unwrap_or (lookup (ghosts.eq p) mods.cells) untouched
+
+-- the new contents have this cell at a place, and the others' cells and the look-ups as the old ones
+pub record Changes (old new : Contents) (p : Place) (cell : Cell) : Type 0 where
+  pub here : cell_of new p ≡ cell
+  pub others : (q : Place) → q ≢ p → cell_of new q ≡ cell_of old q
+  pub looked : new.looked ≡ old.looked
+
+-- modifiables follow an order along which the writes and the reads of each place rise
+abbrev pub Follows : List ℕ → Contents → Type 0
+Follows order mods = (p : Place) → Rises order (cell_of mods p)
+
+-- the new order keeps the stamps of each place's writes, and those of its reads, and their order
+abbrev pub KeepsStamps : Contents → List ℕ → List ℕ → Type 0
+KeepsStamps mods old new = (p : Place) → KeepsOrder (stamps_of (cell_of mods p).writes) old new × KeepsOrder (cell_of mods p).reads old new
+
+-- a stamp at which nothing is written or read
+abbrev pub IsFree : ℕ → Contents → Type 0
+IsFree s mods = (p : Place) → (is_in s (stamps_of (cell_of mods p).writes) ≡ false) × (is_in s (cell_of mods p).reads ≡ false)

@@ -1,0 +1,54 @@
+// The lists of one place.
+
+ghost use Rattle.std.specs.Prelude.{◌≡◌, ℕ, [], IsTrue, IfSome, IfNone};
+ghost use Rattle.ceal_order.specs.Stamps.{is_in};
+ghost use Rattle.ceal_mods.specs.Cell.{Rises, Sees, IsAffected};
+
+use crate::writes::Writes;
+use ceal_base::word::Word;
+use ceal_order::order::Order;
+use ceal_order::stamp::Stamp;
+use ceal_rising::rising::Rising;
+use std::alloc::Global;
+
+/// A modifiable: what it holds before any write, its writes, and its reads.
+#[derive(Drop)]
+pub struct Cell {
+    pub base: Word,
+    pub writes: Writes,
+    pub reads: Rising,
+}
+
+impl Cell {
+    /// A modifiable with a base alone.
+    pub fn new(alloc: Global, base: Word) -> Cell
+        ensures { result ≡ record { base = base; writes = []; reads = [] } }
+    {
+        Cell {
+            base,
+            writes: Writes::new(alloc),
+            reads: Rising::new(alloc),
+        }
+    }
+
+    /// The earliest read behind a stamp that no write parts from it.
+    pub fn affected(&self, order: &Order, after: Stamp) -> Option<Stamp>
+        requires here { IsTrue (is_in after.0 order.now.stamps) }
+        requires rises { Rises order.now.stamps self.now }
+        ensures some { IfSome result (λ read. IsAffected order.now.stamps self.now after.0 read.0) }
+        ensures here { IfSome result (λ read. IsTrue (is_in read.0 order.now.stamps)) }
+        ensures none { IfNone result ((read : ℕ) → ¬ Sees order.now.stamps self.now after.0 read) }
+    {
+        let read = self.reads.first_after(order, after)?;
+        match self.writes.first_after(order, after) {
+            None => Some(read),
+            Some(write) => {
+                if order.before(write, read) {
+                    None
+                } else {
+                    Some(read)
+                }
+            }
+        }
+    }
+}

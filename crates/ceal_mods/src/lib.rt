@@ -1,0 +1,16 @@
+//! The lists of the modifiables: for each place a base, its writes and its reads by stamp.
+//!
+//! What a place holds at a stamp is the value of the latest write before it, else the base. Contracts see the cells of
+//! the places that were touched, and how often a value was looked up. The order belongs to the caller: each call that
+//! speaks of time is handed it, and what is kept follows it.
+//!
+//! `mods` has the cells of all places with their calls, `cell` the lists of one place, and `writes` stamps with values;
+//! `laws` says along which orders they still follow.
+#![tactic(auto)]
+
+mod cell;
+pub mod laws;
+pub mod mods;
+#[cfg(test)]
+mod tests;
+mod writes;
