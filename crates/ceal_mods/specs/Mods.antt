@@ -18,6 +18,10 @@ pub record Contents : Type 0 where
 abbrev pub cell_of : Contents → Place → Cell
 cell_of mods p = unwrap_or (lookup (ghosts.eq p) mods.cells) untouched
 
+-- nothing was set, written or read at any place
+abbrev pub IsUntouched : Contents → Type 0
+IsUntouched mods = (p : Place) → cell_of mods p ≡ untouched
+
 -- the new contents have this cell at a place, and the others' cells and the look-ups as the old ones
 pub record Changes (old new : Contents) (p : Place) (cell : Cell) : Type 0 where
   pub here : cell_of new p ≡ cell

@@ -1,11 +1,10 @@
 // The modifiables of all places.
 
 ghost use Rattle.std.specs.Prelude.{◌≡◌, ℕ, ◌+◌, ◌-◌, ◌^◌, List, false, min, IsTrue, IfSome, IfNone, IfOk, OnOk, OnErr};
-ghost use Rattle.ceal_base.specs.declared.word.Place.{Place as PlaceOf};
 ghost use Rattle.ceal_order.specs.Stamps.{is_in};
 ghost use Rattle.ceal_mods.specs.Writes.{stamps_of};
-ghost use Rattle.ceal_mods.specs.Cell.{untouched, value_before, latest_value, with_base, with_write, without_write, with_read, without_read, Sees, IsAffected};
-ghost use Rattle.ceal_mods.specs.Mods.{cell_of, Changes, Follows};
+ghost use Rattle.ceal_mods.specs.Cell.{value_before, latest_value, with_base, with_write, without_write, with_read, without_read, Sees, IsAffected};
+ghost use Rattle.ceal_mods.specs.Mods.{cell_of, IsUntouched, Changes, Follows};
 
 use crate::cell::Cell;
 use ceal_base::no_memory::NoMemory;
@@ -36,7 +35,7 @@ impl Model for Mods {
 impl Mods {
     /// No place was touched, and no value was looked up.
     pub fn new(alloc: Global) -> Result<Mods, NoMemory>
-        ensures cells { IfOk result (λ mods. (p : PlaceOf) → cell_of mods p ≡ untouched) }
+        ensures cells { IfOk result IsUntouched }
         ensures looked { IfOk result (λ mods. mods.looked ≡ 0) }
         ensures follows { IfOk result (λ mods. (order : List ℕ) → Follows order mods) }
     {

@@ -42,9 +42,10 @@ fn a_removed_write_uncovers_the_base(rt: HostRuntime) -> Result<(), Fail> {
     let first = order.first();
     let second = order.insert_after(first);
     let mut mods = Mods::new(alloc)?;
+    mods.set_base(COUNTER, Word::Num(1))?;
     mods.add_write(&order, COUNTER, first, Word::Num(2))?;
     mods.remove_write(&order, COUNTER, first);
-    assert_eq!(rt; mods.value_at(&order, COUNTER, second), Word::Num(0));
+    assert_eq!(rt; mods.value_at(&order, COUNTER, second), Word::Num(1));
     Ok(())
 }
 
