@@ -1,5 +1,5 @@
 -- The cells of places.
-use Rattle.std.proofs.Common.{◌≡◌, cond, inl, inr, List, Some, refl, sym, ◌∙◌, rules}
+use Rattle.std.proofs.Common.{◌≡◌, ℕ, cond, inl, inr, List, Some, refl, sym, ◌∙◌, rules}
 use Rattle.std.specs.Prelude.{unwrap_or, OnErr}
 use Rattle.std.specs.declared.result.Result.{Result}
 use Rattle.std.specs.declared.result.Result.TheVariants.{Ok, Err}
