@@ -1,2 +1,3 @@
 pub mod ModsLemmas
+pub mod StampLemmas
 pub mod WritesLemmas

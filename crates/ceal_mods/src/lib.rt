@@ -5,7 +5,7 @@
 //! speaks of time is handed it, and what is kept follows it.
 //!
 //! `mods` has the cells of all places with their calls, `cell` the lists of one place, and `writes` stamps with values;
-//! `laws` says along which orders they still follow.
+//! `laws` says along which orders they still follow, and which stamps there are after a change.
 #![tactic(auto)]
 
 mod cell;

@@ -16,7 +16,9 @@ use std::collections::HashMap;
 use std::marker::Model;
 
 /// The modifiables, each with its base, its writes and its reads; a place that was never touched has the base 0. Each
-/// call that is handed an order needs that they follow it, and leaves them so.
+/// call that is handed an order needs that they follow it, and leaves them so. A place is found by hashing and a stamp
+/// by halves; a write or a read behind all others of its place goes in without a search. Removals and look-ups take no
+/// memory.
 #[derive(Drop)]
 pub struct Mods {
     cells: HashMap<Place, Cell>,
