@@ -71,14 +71,7 @@ fn anew(
     ensures few { IfOk result (λ run. length run.memory.made < 2 ^ 32) }
     ensures out { IfOutOfFuel result (fresh_call code.now inputs.now fuel (Some call.now) ≡ None) }
 {
-    let run = interpret(
-        alloc,
-        code,
-        call.function,
-        call.args.items(),
-        inputs,
-        fuel,
-    )?;
+    let run = interpret(alloc, code, call.function, call.args.items(), inputs, fuel)?;
     match run {
         Some(run) => Ok(run),
         None => Err(RunError::OutOfFuel),
@@ -272,7 +265,7 @@ impl Engine {
         ensures dropped { OnErr result (self.new.phase ≡ Dropped) }
     {
         progress_law();
-        if self.phase == Phase::Finished {
+        if let Phase::Finished = self.phase {
             return Ok(());
         }
         let outcome = self.outcome();
@@ -291,7 +284,7 @@ impl Engine {
     /// The content of a modifiable at the end of the run.
     pub fn value(&self, place: Place) -> Word
         requires finished { self.now.phase ≡ Finished }
-        requires there { is_cell (kind_in self.now.code.structs (stored_at self.now.memory place.block) place.field) ≡ true }
+        requires there { is_cell (kind_in self.now.code.structs (block_in self.now place.block) place.field) ≡ true }
         ensures value { result ≡ word_in (stored_at self.now.memory place.block) place.field Word.Null }
     {
         let block = stored(&self.memory, &self.inputs, place.block);
