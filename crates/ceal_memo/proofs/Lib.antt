@@ -1,0 +1,3 @@
+pub mod StampLists
+pub mod Keys
+pub mod Keeping
