@@ -7,7 +7,9 @@ use Rattle.ceal_order.specs.declared.stamp.Stamp.{Stamp}
 use Rattle.ceal_order.specs.Stamps.{Distinct, is_in, without}
 use Rattle.ceal_order.proofs.Places.{not_in, gone, left_in, other_left}
 use Rattle.ceal_memo.specs.declared.home.Home.{Home}
-use Rattle.ceal_memo.specs.Homes.{Table, home_of, HomeChange, Matches}
+use Rattle.ceal_memo.specs.declared.home.Home.TheVariants.{Read, Alloc}
+use Rattle.ceal_memo.specs.Homes.{Table, home_of, HomeChange, Matches, IsKept}
+use Rattle.ceal_memo.specs.Memo.{Entries, reads_of, allocs_of}
 use Rattle.ceal_memo.proofs.StampLists.{in_inserted, in_besides}
 
 module _ (s : Stamp) (home : Option Home) (old new : Table Stamp Home) (change : HomeChange s home old new) where
@@ -18,9 +20,17 @@ module _ (s : Stamp) (home : Option Home) (old new : Table Stamp Home) (change :
   home_other t other = change t ∙ rw other refl
 
 -- each stamp has the home that it had
-pub matches_same : {K : Type 0} (kind : K → Home) (stamps : K → List ℕ) (old new : Table Stamp Home)
+matches_same : {K : Type 0} (kind : K → Home) (stamps : K → List ℕ) (old new : Table Stamp Home)
     → ((t : Stamp) → home_of new t ≡ home_of old t) → Matches kind stamps old → Matches kind stamps new
 matches_same kind stamps old new same matches t key = (λ h. (matches t key).0 (sym (same t) ∙ h), λ h. same t ∙ (matches t key).1 h)
+
+pub kept_same : (memo : Entries) (old new : Table Stamp Home) → ((t : Stamp) → home_of new t ≡ home_of old t) → IsKept memo old → IsKept memo new
+kept_same memo old new same kept = record {
+  reads = matches_same (λ k. Read k) (reads_of memo) old new same kept.reads;
+  allocs = matches_same (λ k. Alloc k) (allocs_of memo) old new same kept.allocs;
+  reads_once = kept.reads_once;
+  allocs_once = kept.allocs_once;
+}
 
 module _ {K : Type 0} (kind : K → Home) (one_kind : (a b : K) → kind a ≡ kind b → a ≡ b)
     (either : (a b : K) → (a ≡ b) ⊎ (a ≢ b)) (s : Stamp)

@@ -1,3 +1,5 @@
 pub mod StampLists
 pub mod Keys
 pub mod Keeping
+pub mod Adding
+pub mod Taking

@@ -40,17 +40,17 @@ pub fn put<K: Eq + Hash + Drop>(
 }
 
 /// Takes a stamp out of the list of a key.
-pub fn take<K: Eq + Hash + Drop>(lists: &mut HashMap<K, Rising>, key: &K, stamp: Stamp)
-    ensures here { stamps_at K.eq lists.new.entries key.now ≡ without stamp.0 (stamps_at K.eq lists.old.entries key.now) }
-    ensures others { (other : K) → K.eq key.now other ≡ false
+pub fn take<K: Eq + Hash + Drop>(lists: &mut HashMap<K, Rising>, key: K, stamp: Stamp)
+    ensures here { stamps_at K.eq lists.new.entries key ≡ without stamp.0 (stamps_at K.eq lists.old.entries key) }
+    ensures others { (other : K) → K.eq key other ≡ false
         → stamps_at K.eq lists.new.entries other ≡ stamps_at K.eq lists.old.entries other }
 {
-    let Some(list) = lists.get_mut(key) else {
+    let Some(list) = lists.get_mut(&key) else {
         return;
     };
     list.take_out(stamp);
     if list.is_empty() {
-        lists.remove(key);
+        lists.remove(&key);
     }
 }
 

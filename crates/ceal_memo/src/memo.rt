@@ -106,7 +106,7 @@ impl Memo {
         ensures follows { (order : List ℕ) → Follows order self.old → Follows order self.new }
     {
         if let Some(home) = self.homes.remove(&stamp) {
-            forget(&mut self.reads, &mut self.allocs, &home, stamp);
+            forget(&mut self.reads, &mut self.allocs, home, stamp);
         }
     }
 
@@ -141,11 +141,11 @@ impl Memo {
 fn forget(
     reads: &mut HashMap<ReadKey, Rising>,
     allocs: &mut HashMap<Key, Rising>,
-    home: &Home,
+    home: Home,
     stamp: Stamp,
 )
-    requires reads { (key : KeyOfRead) → is_in stamp.0 (reads_of (entries_in reads.old allocs.old) key) ≡ true → home.now ≡ Read key }
-    requires allocs { (key : AllocKey) → is_in stamp.0 (allocs_of (entries_in reads.old allocs.old) key) ≡ true → home.now ≡ Alloc key }
+    requires reads { (key : KeyOfRead) → is_in stamp.0 (reads_of (entries_in reads.old allocs.old) key) ≡ true → home ≡ Read key }
+    requires allocs { (key : AllocKey) → is_in stamp.0 (allocs_of (entries_in reads.old allocs.old) key) ≡ true → home ≡ Alloc key }
     ensures reads { (key : KeyOfRead) → reads_of (entries_in reads.new allocs.new) key
         ≡ without stamp.0 (reads_of (entries_in reads.old allocs.old) key) }
     ensures allocs { (key : AllocKey) → allocs_of (entries_in reads.new allocs.new) key
