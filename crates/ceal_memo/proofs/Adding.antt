@@ -18,7 +18,7 @@ use Rattle.ceal_memo.specs.Lists.{stamps_at, with_stamp}
 use Rattle.ceal_memo.specs.Memo.{Entries, reads_of, allocs_of, Follows, HasNone, ReadsChange, AllocsChange}
 use Rattle.ceal_memo.proofs.Keys.{tells, either, read-Decides, alloc-Decides}
 use Rattle.ceal_memo.proofs.Keeping.{matches_more, matches_apart}
-use Rattle.ceal_memo.proofs.StampLists.{rising_once}
+use Rattle.ceal_memo.proofs.StampLists.{in_besides, rising_once}
 
 -- ---- the lists of a table in which one key was given another list
 
@@ -94,4 +94,28 @@ module _ (order : List ℕ) (s : Stamp) (old new : Entries)
         key (count_before order s.0 (allocs_of old key)) home change.here change.others none.allocs;
     reads_once = λ k. rising_once order (reads_of new k) ((follows_alloc key change).reads k);
     allocs_once = λ k. rising_once order (allocs_of new k) ((follows_alloc key change).allocs k);
+  }
+
+  -- ---- no other stamp gets an entry
+
+  none_more : {K : Type 0} (eq : K → K → Bool) (decides : (a b : K) → Decides (eq a b) (a ≡ b)) (stamps stamps' : K → List ℕ) (key : K)
+      → stamps' key ≡ with_stamp order s.0 (stamps key) → ((k : K) → k ≢ key → stamps' k ≡ stamps k)
+      → (t : ℕ) → t ≢ s.0 → ((k : K) → is_in t (stamps k) ≡ false) → (k : K) → is_in t (stamps' k) ≡ false
+  none_more {K} eq decides stamps stamps' key here_is others t other absent k = elim (either eq decides k key) [
+    | inl same ↦
+        subst (λ (q : K). is_in t (stamps' q) ≡ false) (sym same)
+        (rw here_is (in_besides t s.0 (count_before order s.0 (stamps key)) (stamps key) other ∙ absent key))
+    | inr differ ↦ rw (others k differ) (absent k)
+  ]
+
+  pub none_read : (key : ReadKey) → ReadsChange key (with_stamp order s.0 (reads_of old key)) old new → (t : ℕ) → t ≢ s.0 → HasNone t old → HasNone t new
+  none_read key change t other absent = record {
+    reads = none_more read_key.ghosts.eq read-Decides (reads_of old) (reads_of new) key change.here change.others t other absent.reads;
+    allocs = λ k. rw (change.allocs k) (absent.allocs k);
+  }
+
+  pub none_alloc : (key : Key) → AllocsChange key (with_stamp order s.0 (allocs_of old key)) old new → (t : ℕ) → t ≢ s.0 → HasNone t old → HasNone t new
+  none_alloc key change t other absent = record {
+    reads = λ k. rw (change.reads k) (absent.reads k);
+    allocs = none_more alloc_key.ghosts.eq alloc-Decides (allocs_of old) (allocs_of new) key change.here change.others t other absent.allocs;
   }

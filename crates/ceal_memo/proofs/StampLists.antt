@@ -26,6 +26,17 @@ without_none s (x ∷ xs) none = elim (eqb_tells x s) [
   | inr p ↦ rw p.0 (ap (λ (l : List ℕ). x ∷ l) (without_none s xs (rw p.0 at none)))
 ]
 
+-- one that is not there is not there without another
+pub absent_without : (t s : ℕ) (xs : List ℕ) → is_in t xs ≡ false → is_in t (without s xs) ≡ false
+absent_without t s [] absent = absent
+absent_without t s (x ∷ xs) absent = elim (eqb_tells x t) [
+  | inl q ↦ absurd (let no : true ≡ false = rw q.0 at absent in cc)
+  | inr q ↦ elim (eqb_tells x s) [
+    | inl p ↦ rw p.0 (rw q.0 at absent)
+    | inr p ↦ rw (p.0, q.0) (absent_without t s xs (rw q.0 at absent))
+  ]
+]
+
 module _ (s : ℕ) where
   NotIn-without : (a : ℕ) (xs : List ℕ) → NotIn a xs → NotIn a (without s xs)
   NotIn-without a [] none = tt

@@ -18,7 +18,7 @@ use Rattle.ceal_memo.specs.Lists.{stamps_at}
 use Rattle.ceal_memo.specs.Memo.{Entries, reads_of, allocs_of, Follows, HasNone, OneEntry}
 use Rattle.ceal_memo.proofs.Keys.{tells, either, read-Decides, alloc-Decides}
 use Rattle.ceal_memo.proofs.Keeping.{matches_less}
-use Rattle.ceal_memo.proofs.StampLists.{without_none, Distinct-without}
+use Rattle.ceal_memo.proofs.StampLists.{without_none, absent_without, Distinct-without}
 
 -- what cannot be true is false
 out : (b : Bool) → (b ≡ true → ⊥) → b ≡ false
@@ -87,6 +87,12 @@ module _ (s : Stamp) (old new : Entries)
   none_less homes kept = record {
     reads = λ k. rw (reads k) (not_in s.0 (without s.0 (reads_of old k)) (gone s.0 (reads_of old k) (kept.reads_once k)));
     allocs = λ k. rw (allocs k) (not_in s.0 (without s.0 (allocs_of old k)) (gone s.0 (allocs_of old k) (kept.allocs_once k)));
+  }
+
+  pub none_still : (t : ℕ) → HasNone t old → HasNone t new
+  none_still t absent = record {
+    reads = λ k. rw (reads k) (absent_without t s.0 (reads_of old k) (absent.reads k));
+    allocs = λ k. rw (allocs k) (absent_without t s.0 (allocs_of old k) (absent.allocs k));
   }
 
   pub kept_less : (homes homes' : Table Stamp Home) → HomeChange s None homes homes' → IsKept old homes → IsKept new homes'

@@ -1,6 +1,6 @@
 // The memo tables.
 
-ghost use Rattle.std.specs.Prelude.{◌≡◌, ◌<◌, ℕ, List, [], true, IfSome, IfNone, IfOk, OnOk, OnErr, IsTrue};
+ghost use Rattle.std.specs.Prelude.{◌≡◌, ◌≢◌, ◌<◌, ℕ, List, [], true, IfSome, IfNone, IfOk, OnOk, OnErr, IsTrue};
 ghost use Rattle.ceal_base.specs.declared.forest.Key.{Key as AllocKey};
 ghost use Rattle.ceal_order.specs.Stamps.{is_in, place, without};
 ghost use Rattle.ceal_rising.specs.Rising.{IsFirstAfter};
@@ -48,6 +48,7 @@ impl Memo {
     pub fn new(alloc: Global) -> Result<Memo, NoMemory>
         ensures reads { IfOk result (λ memo. (key : KeyOfRead) → reads_of memo key ≡ []) }
         ensures allocs { IfOk result (λ memo. (key : AllocKey) → allocs_of memo key ≡ []) }
+        ensures none { IfOk result (λ memo. (s : ℕ) → HasNone s memo) }
         ensures follows { IfOk result (λ memo. (order : List ℕ) → Follows order memo) }
     {
         Ok(Memo {
@@ -72,6 +73,7 @@ impl Memo {
         requires absent { HasNone stamp.0 self.old }
         ensures ok { OnOk result (ReadsChange key (with_stamp order.now.stamps stamp.0 (reads_of self.old key)) self.old self.new) }
         ensures err { OnErr result (self.new ≡ self.old) }
+        ensures others { (s : ℕ) → s ≢ stamp.0 → HasNone s self.old → HasNone s self.new }
         ensures follows { Follows order.now.stamps self.new }
     {
         self.homes.reserve(1)?;
@@ -88,6 +90,7 @@ impl Memo {
         requires absent { HasNone stamp.0 self.old }
         ensures ok { OnOk result (AllocsChange key (with_stamp order.now.stamps stamp.0 (allocs_of self.old key)) self.old self.new) }
         ensures err { OnErr result (self.new ≡ self.old) }
+        ensures others { (s : ℕ) → s ≢ stamp.0 → HasNone s self.old → HasNone s self.new }
         ensures follows { Follows order.now.stamps self.new }
     {
         self.homes.reserve(1)?;
@@ -103,6 +106,7 @@ impl Memo {
         ensures allocs { (key : AllocKey) → allocs_of self.new key ≡ without stamp.0 (allocs_of self.old key) }
         ensures gone { HasNone stamp.0 self.new }
         ensures absent { HasNone stamp.0 self.old → self.new ≡ self.old }
+        ensures others { (s : ℕ) → HasNone s self.old → HasNone s self.new }
         ensures follows { (order : List ℕ) → Follows order self.old → Follows order self.new }
     {
         if let Some(home) = self.homes.remove(&stamp) {

@@ -4,7 +4,7 @@ use Rattle.ceal_memo.specs.declared.home.Home.TheVariants.{Alloc}
 use Rattle.ceal_memo.specs.Homes.{entries_in, HomeChange}
 use Rattle.ceal_memo.specs.Lists.{with_stamp}
 use Rattle.ceal_memo.specs.Memo.{allocs_of, AllocsChange}
-use Rattle.ceal_memo.proofs.Adding.{alloc_added, follows_alloc, kept_alloc}
+use Rattle.ceal_memo.proofs.Adding.{alloc_added, follows_alloc, kept_alloc, none_alloc}
 use Rattle.ceal_memo.proofs.Keeping.{kept_same}
 use Rattle.ceal_memo.proofs.memo.Memo.add_alloc.Goals as goal
 use Rattle.ceal_memo.proofs.memo.Memo.add_alloc.Goals.{After-settle}
@@ -35,3 +35,8 @@ pub returns-clause-follows : goal.returns-clause-follows
 returns-clause-follows c =
     follows_alloc c.args.order.now.stamps c.args.stamp _ (entries_in c.self.inside.reads c.put.new.lists) c.requires.here (rw (← c.self.view_is) at c.requires.follows)
     (rw (← c.self.view_is) at c.requires.absent) c.args.key (added c)
+
+pub returns-clause-others : goal.returns-clause-others
+returns-clause-others c = λ t other absent.
+    none_alloc c.args.order.now.stamps c.args.stamp _ (entries_in c.self.inside.reads c.put.new.lists) c.requires.here (rw (← c.self.view_is) at c.requires.follows)
+    (rw (← c.self.view_is) at c.requires.absent) c.args.key (added c) t other (rw (← c.self.view_is) at absent)

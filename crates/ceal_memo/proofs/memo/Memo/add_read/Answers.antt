@@ -4,7 +4,7 @@ use Rattle.ceal_memo.specs.declared.home.Home.TheVariants.{Read}
 use Rattle.ceal_memo.specs.Homes.{entries_in, HomeChange}
 use Rattle.ceal_memo.specs.Lists.{with_stamp}
 use Rattle.ceal_memo.specs.Memo.{reads_of, ReadsChange}
-use Rattle.ceal_memo.proofs.Adding.{read_added, follows_read, kept_read}
+use Rattle.ceal_memo.proofs.Adding.{read_added, follows_read, kept_read, none_read}
 use Rattle.ceal_memo.proofs.Keeping.{kept_same}
 use Rattle.ceal_memo.proofs.memo.Memo.add_read.Goals as goal
 use Rattle.ceal_memo.proofs.memo.Memo.add_read.Goals.{After-settle}
@@ -35,3 +35,8 @@ pub returns-clause-follows : goal.returns-clause-follows
 returns-clause-follows c =
     follows_read c.args.order.now.stamps c.args.stamp _ (entries_in c.put.new.lists c.self.inside.allocs) c.requires.here (rw (← c.self.view_is) at c.requires.follows)
     (rw (← c.self.view_is) at c.requires.absent) c.args.key (added c)
+
+pub returns-clause-others : goal.returns-clause-others
+returns-clause-others c = λ t other absent.
+    none_read c.args.order.now.stamps c.args.stamp _ (entries_in c.put.new.lists c.self.inside.allocs) c.requires.here (rw (← c.self.view_is) at c.requires.follows)
+    (rw (← c.self.view_is) at c.requires.absent) c.args.key (added c) t other (rw (← c.self.view_is) at absent)
