@@ -1,3 +1,4 @@
+pub mod Gaps
 pub mod StampLists
 pub mod Keys
 pub mod Keeping

@@ -1,8 +1,9 @@
 -- Lists of stamps with one more, or one less.
-use Rattle.std.proofs.Common.{◌≡◌, ◌≢◌, ℕ, suc, zero, inl, inr, ◌<◌, true, false, List, [], ◌∷◌, refl, sym, ap, subst, arith}
+use Rattle.std.proofs.Common.{◌≡◌, ◌≢◌, ℕ, suc, zero, inl, inr, ◌<◌, ◌+◌, true, false, List, [], ◌∷◌, length, get_or, refl, sym, ap, ◌∙◌, subst, arith}
 use Rattle.std.proofs.lemmas.Bool.Decides.{eqb_tells}
-use Rattle.std.specs.List.{insert}
+use Rattle.std.specs.List.{insert, remove}
 use Rattle.ceal_order.specs.Stamps.{NotIn, Distinct, is_in, place, without}
+use Rattle.std.proofs.lemmas.Bool.{eq-eqb}
 use Rattle.ceal_order.proofs.Places.{in_head, in_tail}
 use Rattle.ceal_rising.specs.Rising.{IsBeforeAll, IsRising}
 
@@ -57,3 +58,18 @@ module _ (order : List ℕ) where
   pub rising_once : (xs : List ℕ) → IsRising order xs → Distinct xs
   rising_once [] rising = tt
   rising_once (x ∷ xs) rising = (NotIn-before x xs rising.1, rising_once xs rising.2)
+
+-- ---- where one stands that stands once
+
+NotIn-at : (x : ℕ) (xs : List ℕ) (i : ℕ) → NotIn x xs → i < length xs → get_or xs i 0 ≢ x
+NotIn-at x [] i none within = absurd (omega arith)
+NotIn-at x (y ∷ ys) zero none within = λ same. none.0 (sym same)
+NotIn-at x (y ∷ ys) (suc i) none within = NotIn-at x ys i none.1 (omega arith)
+
+pub without_where : (s : ℕ) (xs : List ℕ) (i : ℕ) → Distinct xs → i < length xs → get_or xs i 0 ≡ s → remove xs i ≡ without s xs
+without_where s [] i once within is = absurd (omega arith)
+without_where s (x ∷ xs) zero once within is = rw (eq-eqb x s is) refl
+without_where s (x ∷ xs) (suc i) once within is = elim (eqb_tells x s) [
+  | inl p ↦ absurd (NotIn-at x xs i once.0 (omega arith) (is ∙ sym p.1))
+  | inr p ↦ rw p.0 (ap (λ (l : List ℕ). x ∷ l) (without_where s xs i once.1 (omega arith) is))
+]

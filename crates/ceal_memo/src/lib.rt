@@ -9,9 +9,11 @@
 #![tactic(auto)]
 
 mod home;
+mod gap_buffer;
 pub mod key;
 pub mod laws;
 mod lists;
 pub mod memo;
+mod search;
 #[cfg(test)]
 mod tests;

@@ -2,7 +2,7 @@
 
 ghost use Rattle.std.specs.Prelude.{◌≡◌, ◌≢◌, ◌<◌, ℕ, List, [], true, IfSome, IfNone, IfOk, OnOk, OnErr, IsTrue};
 ghost use Rattle.ceal_base.specs.declared.forest.Key.{Key as AllocKey};
-ghost use Rattle.ceal_order.specs.Stamps.{is_in, place, without};
+ghost use Rattle.ceal_order.specs.Stamps.{is_in, Distinct, place, without};
 ghost use Rattle.ceal_rising.specs.Rising.{IsFirstAfter};
 ghost use Rattle.ceal_memo.specs.declared.key.ReadKey.{ReadKey as KeyOfRead};
 ghost use Rattle.ceal_memo.specs.declared.home.Home.TheVariants.{Read, Alloc};
@@ -10,6 +10,7 @@ ghost use Rattle.ceal_memo.specs.Homes.{entries_in};
 ghost use Rattle.ceal_memo.specs.Lists.{with_stamp, NoneBetween};
 ghost use Rattle.ceal_memo.specs.Memo.{reads_of, allocs_of, Follows, HasNone, OneEntry, ReadsChange, AllocsChange};
 
+use crate::gap_buffer::GapBuffer;
 use crate::home::{Home, settle};
 use crate::key::ReadKey;
 use crate::lists::{first_between, put, take};
@@ -17,7 +18,6 @@ use ceal_base::forest::Key;
 use ceal_base::no_memory::NoMemory;
 use ceal_order::order::Order;
 use ceal_order::stamp::Stamp;
-use ceal_rising::rising::Rising;
 use std::alloc::Global;
 use std::collections::HashMap;
 use std::marker::Model;
@@ -26,8 +26,8 @@ use std::marker::Model;
 /// Each call that is handed an order needs that the memo follows it, and leaves it so.
 #[derive(Drop)]
 pub struct Memo {
-    reads: HashMap<ReadKey, Rising>,
-    allocs: HashMap<Key, Rising>,
+    reads: HashMap<ReadKey, GapBuffer>,
+    allocs: HashMap<Key, GapBuffer>,
     homes: HashMap<Stamp, Home>,
     alloc: Global,
 }
@@ -143,13 +143,15 @@ impl Memo {
 
 // Takes a stamp out of the list of the key that is its home.
 fn forget(
-    reads: &mut HashMap<ReadKey, Rising>,
-    allocs: &mut HashMap<Key, Rising>,
+    reads: &mut HashMap<ReadKey, GapBuffer>,
+    allocs: &mut HashMap<Key, GapBuffer>,
     home: Home,
     stamp: Stamp,
 )
     requires reads { (key : KeyOfRead) → is_in stamp.0 (reads_of (entries_in reads.old allocs.old) key) ≡ true → home ≡ Read key }
     requires allocs { (key : AllocKey) → is_in stamp.0 (allocs_of (entries_in reads.old allocs.old) key) ≡ true → home ≡ Alloc key }
+    requires reads_once { (key : KeyOfRead) → Distinct (reads_of (entries_in reads.old allocs.old) key) }
+    requires allocs_once { (key : AllocKey) → Distinct (allocs_of (entries_in reads.old allocs.old) key) }
     ensures reads { (key : KeyOfRead) → reads_of (entries_in reads.new allocs.new) key
         ≡ without stamp.0 (reads_of (entries_in reads.old allocs.old) key) }
     ensures allocs { (key : AllocKey) → allocs_of (entries_in reads.new allocs.new) key
