@@ -96,8 +96,7 @@ module _ {K : Type 0} (kind : K → Home) (one_kind : (a b : K) → kind a ≡ k
     )
     | inr p ↦
         let same_home : home_of homes' t ≡ home_of homes t = home_other s None homes homes' change t p.0 in
-        let in_less : is_in t.0 (stamps' k) ≡ is_in t.0 (without s.0 (stamps k)) = ap (λ (l : List ℕ). is_in t.0 l) (less k) in
-        (
+        let in_less : is_in t.0 (stamps' k) ≡ is_in t.0 (without s.0 (stamps k)) = ap (λ (l : List ℕ). is_in t.0 l) (less k) in (
           λ h. in_less ∙ other_left s.0 t.0 (stamps k) ((matches t k).0 (sym same_home ∙ h)) (λ e. p.1 (sym e)),
           λ h. same_home ∙ (matches t k).1 (left_in s.0 t.0 (stamps k) (sym in_less ∙ h)),
         )

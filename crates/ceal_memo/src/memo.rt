@@ -115,7 +115,13 @@ impl Memo {
     }
 
     /// The earliest read with a key after one stamp and before another.
-    pub fn first_read(&self, order: &Order, key: &ReadKey, after: Stamp, until: Stamp) -> Option<Stamp>
+    pub fn first_read(
+        &self,
+        order: &Order,
+        key: &ReadKey,
+        after: Stamp,
+        until: Stamp,
+    ) -> Option<Stamp>
         requires after { IsTrue (is_in after.0 order.now.stamps) }
         requires until { IsTrue (is_in until.0 order.now.stamps) }
         requires follows { Follows order.now.stamps self.now }

@@ -34,12 +34,21 @@ fn the_earliest_read_between(rt: HostRuntime) -> Result<(), Fail> {
     let second = order.insert_after(first);
     let mut memo = Memo::new(alloc)?;
     assert!(rt; memo.add_read(&order, read_key(alloc, 3, 4)?, third).is_ok());
-    assert!(rt; memo.add_read(&order, read_key(alloc, 3, 4)?, second).is_ok());
+    assert!(rt;
+        memo.add_read(&order, read_key(alloc, 3, 4)?, second)
+            .is_ok()
+    );
     let key = read_key(alloc, 3, 4)?;
     assert_eq!(rt; memo.first_read(&order, &key, first, third), Some(second));
     assert_eq!(rt; memo.first_read(&order, &key, second, third), None);
-    assert_eq!(rt; memo.first_read(&order, &read_key(alloc, 0, 4)?, first, third), None);
-    assert_eq!(rt; memo.first_read(&order, &read_key(alloc, 3, 0)?, first, third), None);
+    assert_eq!(rt;
+        memo.first_read(&order, &read_key(alloc, 0, 4)?, first, third),
+        None
+    );
+    assert_eq!(rt;
+        memo.first_read(&order, &read_key(alloc, 3, 0)?, first, third),
+        None
+    );
     memo.remove(second);
     assert_eq!(rt; memo.first_read(&order, &key, first, third), None);
     Ok(())
@@ -55,8 +64,14 @@ fn the_earliest_allocation_between(rt: HostRuntime) -> Result<(), Fail> {
     let second = order.insert_after(first);
     let mut memo = Memo::new(alloc)?;
     assert!(rt; memo.add_alloc(&order, Key::ModPtr(1), second).is_ok());
-    assert_eq!(rt; memo.first_alloc(&order, &Key::ModPtr(1), first, third), Some(second));
-    assert_eq!(rt; memo.first_alloc(&order, &Key::ModPtr(2), first, third), None);
+    assert_eq!(rt;
+        memo.first_alloc(&order, &Key::ModPtr(1), first, third),
+        Some(second)
+    );
+    assert_eq!(rt;
+        memo.first_alloc(&order, &Key::ModPtr(2), first, third),
+        None
+    );
     assert_eq!(rt; memo.first_alloc(&order, &Key::ModInt, first, third), None);
     Ok(())
 }
