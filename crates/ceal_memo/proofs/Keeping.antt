@@ -1,5 +1,5 @@
 -- Homes match the lists of stamps while entries come and go.
-use Rattle.std.proofs.Common.{◌≡◌, ◌≢◌, ℕ, inl, inr, ◌⊎◌, ◌↔◌, true, false, List, refl, sym, ap, ◌∙◌, subst, arith, Option, None, Some, ◌==◌}
+use Rattle.std.proofs.Common.{◌≡◌, ◌≢◌, ℕ, inl, inr, ◌⊎◌, true, false, List, refl, sym, ap, ◌∙◌, subst, Option, None, Some, ◌==◌}
 use Rattle.std.proofs.lemmas.Bool.Decides.{eqb_tells}
 use Rattle.std.proofs.lemmas.Bool.{eq-eqb, false≢true}
 use Rattle.std.specs.List.{insert}

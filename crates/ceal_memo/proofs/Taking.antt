@@ -1,5 +1,5 @@
 -- A memo from which the entry of a stamp is taken.
-use Rattle.std.proofs.Common.{◌≡◌, ◌≢◌, Bool, ℕ, inl, inr, ◌⊎◌, true, false, List, refl, sym, ap, ◌∙◌, subst, Option, None, Some}
+use Rattle.std.proofs.Common.{◌≡◌, Bool, ℕ, inl, inr, true, false, List, sym, ◌∙◌, subst, None, Some}
 use Rattle.std.proofs.lemmas.Bool.{cases_Bool, false≢true}
 use Rattle.std.specs.Bool.{Decides}
 use Rattle.ceal_base.specs.declared.forest.Key.{Key}
@@ -7,7 +7,6 @@ use Rattle.ceal_base.specs.contracts.forest.KeyPartialEq.TheImpl as alloc_key
 use Rattle.ceal_order.specs.declared.stamp.Stamp.{Stamp}
 use Rattle.ceal_order.specs.Stamps.{is_in, without}
 use Rattle.ceal_order.proofs.Places.{not_in, gone}
-use Rattle.ceal_rising.specs.Rising.{IsRising}
 use Rattle.ceal_rising.proofs.Editing.{rising_without}
 use Rattle.ceal_memo.specs.declared.home.Home.{Home}
 use Rattle.ceal_memo.specs.declared.home.Home.TheVariants.{Read, Alloc}

@@ -1,4 +1,4 @@
-use Rattle.std.proofs.Common.{◌≡◌, sym, ◌∙◌}
+use Rattle.std.proofs.Common.{sym, ◌∙◌}
 use Rattle.ceal_base.specs.contracts.forest.KeyPartialEq.TheImpl as alloc_key
 use Rattle.ceal_memo.specs.contracts.key.ReadKeyPartialEq.TheImpl as read_key
 use Rattle.ceal_memo.proofs.Keys.{read-Decides, alloc-Decides, one_read, one_alloc, read_apart}

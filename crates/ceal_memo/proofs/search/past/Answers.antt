@@ -1,4 +1,4 @@
-use Rattle.std.proofs.Common.{◌≡◌, ◌<◌, ◌≤◌, ℕ, true, length, get_or, arith, subst, sym}
+use Rattle.std.proofs.Common.{◌≡◌, ◌<◌, ◌≤◌, ℕ, true, arith, subst, sym}
 use Rattle.ceal_order.specs.Stamps.{is_in, place}
 use Rattle.ceal_rising.proofs.Searching.{order_at, parted_at_count, parted_past_count, not_less}
 use Rattle.ceal_memo.proofs.search.past.Goals as goal
