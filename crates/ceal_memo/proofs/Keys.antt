@@ -1,0 +1,37 @@
+-- Keys are compared as what contracts see.
+use Rattle.std.proofs.Common.{◌≡◌, ◌≢◌, Bool, inl, inr, ◌⊎◌, true, false, arith, sym, ◌∙◌}
+use Rattle.std.proofs.lemmas.Bool.{cases_Bool, false≢true}
+use Rattle.std.specs.Bool.{Decides}
+use Rattle.ceal_base.specs.declared.forest.Key.{Key}
+use Rattle.ceal_base.specs.contracts.forest.KeyPartialEq.TheImpl as alloc_key
+use Rattle.ceal_base.proofs.Equality.{words-Decides}
+use Rattle.ceal_memo.specs.declared.home.Home.TheVariants.{Read, Alloc}
+use Rattle.ceal_memo.specs.declared.key.ReadKey.{ReadKey}
+use Rattle.ceal_memo.specs.contracts.key.ReadKeyPartialEq.TheImpl as read_key
+
+pub read-Decides : (a b : ReadKey) → Decides (read_key.ghosts.eq a b) (a ≡ b)
+read-Decides a b = grind (arith, words-Decides)
+
+pub alloc-Decides : (a b : Key) → Decides (alloc_key.ghosts.eq a b) (a ≡ b)
+alloc-Decides a b = grind (arith, words-Decides)
+
+-- an answer, and what it says
+pub tells : {K : Type 0} (eq : K → K → Bool) → ((a b : K) → Decides (eq a b) (a ≡ b)) → (a b : K) → ((eq a b ≡ true) × (a ≡ b)) ⊎ ((eq a b ≡ false) × (a ≢ b))
+tells eq decides a b = elim (cases_Bool (eq a b)) [
+  | inl equal ↦ inl (equal, (decides a b).0 equal)
+  | inr differ ↦ inr (differ, λ same. false≢true (sym differ ∙ (decides a b).1 same))
+]
+
+pub either : {K : Type 0} (eq : K → K → Bool) → ((a b : K) → Decides (eq a b) (a ≡ b)) → (a b : K) → (a ≡ b) ⊎ (a ≢ b)
+either eq decides a b = elim (tells eq decides a b) [ inl p ↦ inl p.1 | inr p ↦ inr p.1 ]
+
+-- ---- keys as homes
+
+pub one_read : (a b : ReadKey) → Read a ≡ Read b → a ≡ b
+one_read a b same = cc
+
+pub one_alloc : (a b : Key) → Alloc a ≡ Alloc b → a ≡ b
+one_alloc a b same = cc
+
+pub read_apart : (a : ReadKey) (b : Key) → Read a ≡ Alloc b → ⊥
+read_apart a b same = cc

@@ -1,0 +1,6 @@
+pub mod Gaps
+pub mod StampLists
+pub mod Keys
+pub mod Keeping
+pub mod Adding
+pub mod Taking

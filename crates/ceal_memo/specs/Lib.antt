@@ -1,0 +1,4 @@
+pub mod GapBuffer
+pub mod Lists
+pub mod Memo
+pub mod Homes
