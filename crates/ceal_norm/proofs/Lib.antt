@@ -1,0 +1,5 @@
+pub mod Counts
+pub mod Owners
+pub mod Forward
+pub mod Closed
+pub mod Trees
