@@ -1,7 +1,7 @@
 -- How often a block is the target of a jump.
-use Rattle.std.proofs.Common.{◌≡◌, ◌⊎◌, inl, inr, ℕ, zero, suc, ◌+◌, ◌==◌, ◌<◌, ◌≤◌, Bool, true, false, ◌||◌, if◌then◌else◌, nat_le, List, [], ◌∷◌, ◌++◌, length, slice_get, Contains, refl, ap, sym, subst, ◌∙◌, arith}
+use Rattle.std.proofs.Common.{◌≡◌, ◌⊎◌, inl, inr, ℕ, zero, suc, ◌+◌, ◌==◌, ◌<◌, ◌≤◌, Bool, true, false, ◌||◌, if◌then◌else◌, nat_le, List, [], ◌∷◌, ◌++◌, slice_get, Contains, refl, ap, ◌∙◌, arith}
 use Rattle.std.proofs.lemmas.Bool.{le-leb, or_left, or_right}
-use Rattle.std.proofs.lemmas.List.Elements.{Contains-push, Contains-push_cases, Contains-append_cases}
+use Rattle.std.proofs.lemmas.List.Elements.{Contains-push_cases, Contains-append_cases}
 use Rattle.ceal_flow.specs.Laws.{firsts}
 use Rattle.ceal_flow.specs.Paths.{jumps, jumps_at}
 use Rattle.ceal_flow.specs.Program.{Graph}
@@ -19,7 +19,7 @@ pub contains-cases : (x : ℕ) (xs : List ℕ) (c : ℕ) → Contains (x ∷ xs)
 contains-cases x xs c h = elim (Contains-append_cases (x ∷ []) xs c h) [ inl k ↦ inl (contains-one x c k) | inr k ↦ inr k ]
 
 same-number : (n : ℕ) → (n == n) ≡ true
-same-number n = eqb-refl n
+same-number n = grind arith
 
 pub contains-is_in : (xs : List ℕ) (c : ℕ) → Contains xs c → is_in c xs ≡ true
 contains-is_in [] c h = absurd (contains-none c h)

@@ -1,6 +1,6 @@
 -- A jump that leads to no entry leads forwards. A jump leads backwards to the test of a `while` alone, from its body;
 -- and a path leads to the test from outside of the body too.
-use Rattle.std.proofs.Common.{◌≡◌, ◌⊎◌, inl, inr, ℕ, zero, suc, ◌+◌, ◌<◌, ◌≤◌, Bool, true, false, ◌&&◌, ◌||◌, if◌then◌else◌, Option, Some, None, List, [], ◌∷◌, ◌++◌, length, slice_get, replicate, Contains, refl, sym, subst, ap, ◌∙◌, arith, length-append}
+use Rattle.std.proofs.Common.{◌≡◌, ◌⊎◌, inl, inr, ℕ, zero, suc, ◌+◌, ◌<◌, ◌≤◌, Bool, true, false, ◌&&◌, ◌||◌, if◌then◌else◌, Option, Some, None, List, [], ◌∷◌, ◌++◌, length, slice_get, replicate, Contains, refl, sym, subst, ◌∙◌, arith}
 use Rattle.std.proofs.lemmas.List.Elements.{Contains-push, Contains-append_left, Contains-append_right}
 use Rattle.ceal_base.specs.declared.typed.Typed.{Typed}
 use Rattle.ceal_base.specs.declared.typed.TypedExpr.{TypedExpr}
@@ -13,13 +13,13 @@ use Rattle.ceal_flow.specs.Paths.{jumps, jumps_at}
 use Rattle.ceal_flow.specs.Program.{Graph}
 use Rattle.ceal_flow.specs.declared.block.GraphBlock.{GraphBlock}
 use Rattle.ceal_flow.specs.declared.block.GraphBlock.TheVariants.{Done, Test, Act, Unreached}
-use Rattle.ceal_flow.proofs.BlockSteps.{row-go_on, row-entry, row-blocks, row-sizes, blocks-length, row-length, all-length}
+use Rattle.ceal_flow.proofs.BlockSteps.{row-go_on, row-entry, row-blocks, row-sizes, blocks-length, row-length}
 use Rattle.ceal_flow.proofs.Placing.{Placed, placed-head, placed-left, placed-right, placed-tail}
 use Rattle.ceal_flow.proofs.Reach.{parted}
 use Rattle.ceal_norm.specs.Entries.{is_entry}
 use Rattle.ceal_norm.specs.Laws.{IsForward}
 use Rattle.ceal_norm.proofs.Counts.{contains-none, contains-one, contains-cases, first-entry, jumps-entry}
-use Rattle.ceal_norm.proofs.Owners.{Owner, owner-of}
+use Rattle.ceal_norm.proofs.Owners.{owner-of}
 
 module _ (g : Graph) where
   abbrev Jumps : ℕ → ℕ → Type 0
@@ -267,7 +267,7 @@ module _ (g : Graph) where
         let look = placed-head g.blocks n (Test test a after) xs h in
         let part = placed-tail g.blocks n (Test test a after) xs h in
         let to_a = jumps-by n a (Test test a after) look (Contains-append_left (a ∷ []) (after ∷ []) a (Contains-push [] a)) in
-        let back = λ b p q j. back-good n (n + (1 + k)) n b p q j into in
+        let back : After n (n + (1 + k)) n = λ b p q j. back-good n (n + (1 + k)) n b p q j into in
         let one = row-laws body (n + 1) n done part (omega (arith, l))
             (after-within n (n + (1 + k)) (n + 1) (n + 1 + k) n (omega arith) (omega arith) back)
             (inr (n, inl (omega arith), to_a)) in
@@ -297,15 +297,21 @@ module _ (g : Graph) where
             (after-within n (n + (k + m)) (n + k) (n + k + m) after (omega arith) (omega arith) behind)
             (mid-entered (target s n done) mid n k m (one.left e) into))
 
+  all-laws : (ss : List TypedStmt) (n after done : ℕ) → Placed g.blocks n (all_blocks ss n after done) → n + sizes ss ≤ done
+      → After n (n + sizes ss) after → Entered n (n + sizes ss) (entry ss n after done)
+      → Laws (entry ss n after done) (all_blocks ss n after done) n (sizes ss) after (all_go_on ss)
+  all-laws ss n after done h l behind into =
+      let r = hidden-the_row-TypedStmt-0 ss in
+      rw (← row-entry, ← row-blocks, ← row-go_on, ← row-sizes)
+      (row-laws r n after done (rw row-blocks h) (rw row-sizes l) (rw row-sizes behind) (rw (row-sizes, row-entry) into))
+
   -- a core function
   module _ (body : List TypedStmt) (n : ℕ) (placed : Placed g.blocks n (core_blocks body n)) (begins : Contains (firsts g.functions) (first_of body n)) where
     stmts-laws : Laws (first_of body n) (all_blocks body n (end_of body n) (end_of body n)) n (sizes body) (end_of body n) (all_go_on body)
     stmts-laws =
-        let r = hidden-the_row-TypedStmt-0 body in
         let done = end_of body n in
         let here = placed-left g.blocks n (all_blocks body n done done) (Done ∷ []) placed in
-        rw (← row-entry, ← row-blocks, ← row-go_on, ← row-sizes)
-            (row-laws r n done done (rw row-blocks here) (rw row-sizes (omega arith)) (λ b p q j. inl (rw row-sizes at q)) (inl (rw row-entry begins)))
+        all-laws body n done done here (omega arith) (λ b p q j. inl q) (inl begins)
 
     none-after : (j : ℕ) (block : GraphBlock) (c : ℕ) → slice_get (Done ∷ []) j ≡ Some block → Contains (jumps block) c → ⊥
     none-after zero block c e h =
