@@ -3,3 +3,9 @@ pub mod Owners
 pub mod Forward
 pub mod Closed
 pub mod Trees
+pub mod ExprSteps
+pub mod InitSteps
+pub mod EntrySteps
+pub mod PlanSteps
+pub mod BodySteps
+pub mod UnitSteps

@@ -5,5 +5,12 @@
 //! valid and runs as the graph does.
 #![tactic(auto)]
 
+mod body;
+mod entries;
+mod expressions;
+mod functions;
+mod initialiser;
 pub mod laws;
 mod normalise;
+mod plan;
+mod units;

@@ -1,0 +1,64 @@
+-- The units one by one.
+use Rattle.std.proofs.Common.{◌≡◌, ℕ, zero, suc, ◌+◌, ◌<◌, Bool, true, false, if◌then◌else◌, Some, List, [], ◌∷◌, ◌++◌, length, get_or, refl, ap, arith, append-nil, append_assoc, add-one, ◌∙◌}
+use Rattle.ceal_base.specs.declared.kind.Kind.{Kind}
+use Rattle.ceal_base.specs.declared.typed.TypedFunction.{TypedFunction}
+use Rattle.ceal_flow.specs.declared.block.GraphBlock.{GraphBlock}
+use Rattle.ceal_flow.specs.declared.block.GraphBlock.TheVariants.{Done, Test, Act, Unreached}
+use Rattle.ceal_flow.specs.declared.function.GraphFunction.{GraphFunction}
+use Rattle.ceal_flow.specs.declared.function.GraphFunction.TheVariants.{Core, Init}
+use Rattle.ceal_norm.specs.Entries.{is_entry}
+use Rattle.ceal_norm.specs.Numbers.{is_done}
+use Rattle.ceal_norm.specs.Units.{Source, core_numbers, ends_before, unit_code, units_before}
+
+pub cores-end : (n : ℕ) (fs : List GraphFunction) → length fs ≡ 0 → core_numbers n fs ≡ []
+unfolding core_numbers
+cores-end n [] h = refl
+cores-end n (f ∷ fs) h = absurd (omega (arith, h))
+
+pub cores-core : (n : ℕ) (name : List ℕ) (first params : ℕ) (kinds : List Kind) (fs : List GraphFunction)
+    → core_numbers n (Core name first params kinds ∷ fs) ≡ n ∷ core_numbers (n + 1) fs
+unfolding core_numbers
+cores-core n name first params kinds fs = refl
+
+pub cores-init : (n : ℕ) (f : TypedFunction) (fs : List GraphFunction) → core_numbers n (Init f ∷ fs) ≡ core_numbers (n + 1) fs
+unfolding core_numbers
+cores-init n f fs = refl
+
+pub ruleset core_steps = (cores-end, cores-core, cores-init, append-nil, append_assoc)
+
+pub units-none : (s : Source) → units_before s 0 ≡ []
+unfolding units_before
+units-none s = refl
+
+pub units-more : (s : Source) (b : ℕ)
+    → units_before s (b + 1) ≡ (if is_entry s.graph b then units_before s b ++ unit_code s b ∷ [] else units_before s b)
+unfolding units_before
+units-more s b = rw add-one refl
+
+pub ends-none : (blocks : List GraphBlock) → ends_before blocks 0 ≡ 0
+unfolding ends_before
+ends-none blocks = refl
+
+ends-swap : (t : Bool) (n : ℕ) → (if t then n + 1 else n) + 1 ≡ (if t then (n + 1) + 1 else n + 1)
+ends-swap true n = refl
+ends-swap false n = refl
+
+ends-next : (blocks : List GraphBlock) (b : ℕ) (d : GraphBlock) → b < length blocks
+    → ends_before blocks (suc b) ≡ (if is_done (get_or blocks b d) then ends_before blocks b + 1 else ends_before blocks b)
+unfolding ends_before
+ends-next [] b d l = absurd (omega (arith, l))
+ends-next (Done ∷ bs) zero d l = refl
+ends-next (Test test first second ∷ bs) zero d l = refl
+ends-next (Act s next ∷ bs) zero d l = refl
+ends-next (Unreached ∷ bs) zero d l = refl
+ends-next (Done ∷ bs) (suc b) d l =
+    ap (λ n. n + 1) (ends-next bs b d (omega (arith, l))) ∙ ends-swap (is_done (get_or bs b d)) (ends_before bs b)
+ends-next (Test test first second ∷ bs) (suc b) d l = ends-next bs b d (omega (arith, l))
+ends-next (Act s next ∷ bs) (suc b) d l = ends-next bs b d (omega (arith, l))
+ends-next (Unreached ∷ bs) (suc b) d l = ends-next bs b d (omega (arith, l))
+
+pub ends-more : (blocks : List GraphBlock) (b : ℕ) (d : GraphBlock) → b < length blocks
+    → ends_before blocks (b + 1) ≡ (if is_done (get_or blocks b d) then ends_before blocks b + 1 else ends_before blocks b)
+ends-more blocks b d l = rw add-one (ends-next blocks b d l)
+
+pub ruleset unit_steps = (units-none, units-more, ends-none)
