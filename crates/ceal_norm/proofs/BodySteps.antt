@@ -87,8 +87,8 @@ module _ (s : Source) where
       let start = command.If (expr_code test) i 0 in
       let xs = onward s first i in
       let k = i + length xs in
-      let p = record { block = first; test = None } in
-      let q = record { block = second; test = Some (length body) } in
+      let p : Pending = record { block = first; test = None } in
+      let q : Pending = record { block = second; test = Some (length body) } in
       let joined : (body ++ start ∷ []) ++ onward s first (length (body ++ start ∷ [])) ≡ body ++ start ∷ xs =
           ap (λ n. (body ++ start ∷ []) ++ onward s first n) (length-more body start) ∙ append_assoc body (start ∷ []) xs in
       let long : length (body ++ start ∷ xs) ≡ k = length-append body (start ∷ xs) ∙ omega arith in
@@ -113,7 +113,7 @@ below-following n next true ps l h = (l, h)
 below-following n next false ps l h = h
 
 pub below-parts : (n at first second : ℕ) (ps : List Pending) → first < n → second < n → AllBelow n ps → AllBelow n (parts at first second ++ ps)
-below-parts n at first second ps l m h = (l, m, h)
+below-parts n at first second ps l m h = (l, (m, h))
 
 pub begun-length : (body : List Cmd) (test : Option ℕ) → length (begun body test) ≡ length body
 begun-length body None = refl

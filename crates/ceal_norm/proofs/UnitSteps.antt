@@ -1,5 +1,7 @@
 -- The units one by one.
-use Rattle.std.proofs.Common.{◌≡◌, ℕ, zero, suc, ◌+◌, ◌<◌, Bool, true, false, if◌then◌else◌, Some, List, [], ◌∷◌, ◌++◌, length, get_or, refl, ap, arith, append-nil, append_assoc, add-one, ◌∙◌}
+use Rattle.std.proofs.Common.{◌≡◌, ℕ, zero, suc, ◌+◌, ◌<◌, Bool, true, false, if◌then◌else◌, Some, List, [], ◌∷◌, ◌++◌, length, get_or, slice_get, map, take, refl, ap, arith, append-nil, append_assoc, add-one, ◌∙◌}
+use Rattle.std.proofs.lemmas.List.{take_more, map-append}
+use Rattle.std.proofs.lemmas.Option.{slice_get_within, get_or_from_slice_get}
 use Rattle.ceal_base.specs.declared.kind.Kind.{Kind}
 use Rattle.ceal_base.specs.declared.typed.TypedFunction.{TypedFunction}
 use Rattle.ceal_flow.specs.declared.block.GraphBlock.{GraphBlock}
@@ -62,3 +64,10 @@ pub ends-more : (blocks : List GraphBlock) (b : ℕ) (d : GraphBlock) → b < le
 ends-more blocks b d l = rw add-one (ends-next blocks b d l)
 
 pub ruleset unit_steps = (units-none, units-more, ends-none)
+
+-- one item more of a list that is mapped
+pub map-more : {A B : Type 0} (f : A → B) (xs : List A) (i : ℕ) (x : A) → slice_get xs i ≡ Some x → map f (take (i + 1) xs) ≡ map f (take i xs) ++ f x ∷ []
+map-more f xs i x h =
+    let within = slice_get_within xs i x h in
+    ap (map f) (take_more xs i x within)
+    ∙ ap (λ y. map f (take i xs ++ y ∷ [])) (get_or_from_slice_get xs i x x h) ∙ map-append f (take i xs) (x ∷ [])
