@@ -1,9 +1,10 @@
 -- The units one by one.
-use Rattle.std.proofs.Common.{◌≡◌, ℕ, zero, suc, ◌+◌, ◌<◌, Bool, true, false, if◌then◌else◌, Some, List, [], ◌∷◌, ◌++◌, length, get_or, slice_get, map, take, refl, ap, arith, append-nil, append_assoc, add-one, ◌∙◌}
+use Rattle.std.proofs.Common.{◌≡◌, ℕ, zero, suc, ◌+◌, ◌<◌, Bool, true, false, if◌then◌else◌, Some, List, [], ◌∷◌, ◌++◌, length, get_or, slice_get, map, take, refl, ap, sym, arith, append-nil, append_assoc, add-one, ◌∙◌}
 use Rattle.std.proofs.lemmas.List.{take_more, map-append}
 use Rattle.std.proofs.lemmas.Option.{slice_get_within, get_or_from_slice_get}
 use Rattle.ceal_base.specs.declared.kind.Kind.{Kind}
 use Rattle.ceal_base.specs.declared.typed.TypedFunction.{TypedFunction}
+use Rattle.ceal_code.specs.Program.{Unit}
 use Rattle.ceal_flow.specs.declared.block.GraphBlock.{GraphBlock}
 use Rattle.ceal_flow.specs.declared.block.GraphBlock.TheVariants.{Done, Test, Act, Unreached}
 use Rattle.ceal_flow.specs.declared.function.GraphFunction.{GraphFunction}
@@ -71,3 +72,18 @@ map-more f xs i x h =
     let within = slice_get_within xs i x h in
     ap (map f) (take_more xs i x within)
     ∙ ap (λ y. map f (take i xs ++ y ∷ [])) (get_or_from_slice_get xs i x x h) ∙ map-append f (take i xs) (x ∷ [])
+
+-- the units and ends before one block more
+pub units-step : (s : Source) (i b : ℕ) (old new : List Unit) → b ≡ i
+    → new ≡ (if is_entry s.graph b then old ++ unit_code s b ∷ [] else old) → old ≡ units_before s i → new ≡ units_before s (i + 1)
+units-step s i b old new e h k =
+    h ∙ ap (λ n. if is_entry s.graph n then old ++ unit_code s n ∷ [] else old) e
+    ∙ ap (λ us. if is_entry s.graph i then us ++ unit_code s i ∷ [] else us) k ∙ sym (units-more s i)
+
+pub ends-step : (blocks : List GraphBlock) (i b : ℕ) (d : GraphBlock) (t : Bool) (old new : ℕ) → b ≡ i → slice_get blocks b ≡ Some d
+    → t ≡ is_done d → new ≡ (if t then old + 1 else old) → old ≡ ends_before blocks i → new ≡ ends_before blocks (i + 1)
+ends-step blocks i b d t old new e here is h k =
+    let at : slice_get blocks i ≡ Some d = ap (slice_get blocks) (sym e) ∙ here in
+    h ∙ ap (λ x. if x then old + 1 else old) (is ∙ ap is_done (sym (get_or_from_slice_get blocks i d d at)))
+    ∙ ap (λ n. if is_done (get_or blocks i d) then n + 1 else n) k
+    ∙ sym (ends-more blocks i d (slice_get_within blocks i d at))

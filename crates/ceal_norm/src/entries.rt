@@ -197,8 +197,8 @@ fn marked_entries(alloc: Global, graph: &Graph) -> Result<Vec<bool>, NoMemory>
     Ok(marks)
 }
 
-/// One unit more; memory for so many that there is no number for the next does not exist.
-fn one_more(n: u32, more: bool) -> Result<u32, NoMemory>
+/// One more, or not; memory for so many that there is no number for the next does not exist.
+pub fn one_more(n: u32, more: bool) -> Result<u32, NoMemory>
     ensures { IfOk result (λ m. m ≡ (if more then n + 1 else n)) }
 {
     if more {

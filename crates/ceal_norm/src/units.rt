@@ -6,6 +6,7 @@ ghost use Rattle.ceal_norm.specs.Numbers.{variables, is_done};
 ghost use Rattle.ceal_norm.specs.Units.{core_numbers, owner, unit_code, units_before};
 
 use crate::body::body_of;
+use crate::entries::one_more;
 use crate::plan::Plan;
 use ceal_base::no_memory::NoMemory;
 use ceal_code::expr::VarId;
@@ -75,10 +76,10 @@ fn ends(block: &GraphBlock) -> bool
     }
 }
 
-fn core_at(cores: &[u32], n: usize) -> u32
+fn core_at(cores: &[u32], n: u32) -> u32
     ensures { result ≡ slice_index_or cores.now n 0 }
 {
-    cores.get(n).copied().unwrap_or(0)
+    cores.get(n as usize).copied().unwrap_or(0)
 }
 
 /// Adds the unit of a block that is an entry.
@@ -105,15 +106,14 @@ pub fn units_of(alloc: Global, plan: &Plan<'_>) -> Result<Vec<Unit>, NoMemory>
     ensures value { IfOk result (λ units. units.items ≡ units_before plan.now (length plan.now.graph.blocks)) }
 {
     let cores = cores(alloc, plan.functions())?;
-    let blocks = plan.blocks();
+    let count = plan.blocks().len();
     let mut units = Vec::new(alloc);
     let mut ended = 0;
-    for b in 0..blocks.len() {
+    for i in 0..count {
+        let b = number(i)?;
         let function = core_at(cores.as_slice(), ended);
-        put_unit(alloc, plan, &mut units, function, number(b)?)?;
-        if ends(&blocks[b]) {
-            ended += 1;
-        }
+        put_unit(alloc, plan, &mut units, function, b)?;
+        ended = one_more(ended, ends(plan.block(b)))?;
     }
     Ok(units)
 }
