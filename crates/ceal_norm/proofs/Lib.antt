@@ -6,3 +6,4 @@ pub mod Bodies
 pub mod Lives
 pub mod UnitFacts
 pub mod Spots
+pub mod Fits
