@@ -7,3 +7,4 @@ pub mod Lives
 pub mod UnitFacts
 pub mod Spots
 pub mod Fits
+pub mod UnitTrees
