@@ -75,7 +75,7 @@ pub none-is : (i : Option ℕ) → IsNone i → i ≡ None
 none-is None h = refl
 none-is (Some s) h = cc
 
-numbers-less : (n v : ℕ) → Contains (numbers_below n) v → v < n
+pub numbers-less : (n v : ℕ) → Contains (numbers_below n) v → v < n
 numbers-less zero v h = let l = h.1 in absurd (omega (arith, l))
 numbers-less (suc n) v h = elim (Contains-append_cases (n ∷ []) (numbers_below n) v h) [
   | inl k ↦ let e = contains-one n v k in omega (arith, e)

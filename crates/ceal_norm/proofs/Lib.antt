@@ -8,3 +8,5 @@ pub mod UnitFacts
 pub mod Spots
 pub mod Fits
 pub mod UnitTrees
+pub mod Initialisers
+pub mod Functions
