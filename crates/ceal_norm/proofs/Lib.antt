@@ -1,3 +1,8 @@
+pub mod Counts
+pub mod Owners
+pub mod Forward
+pub mod Closed
+pub mod Trees
 pub mod Facts
 pub mod Expressions
 pub mod Standing

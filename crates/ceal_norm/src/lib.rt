@@ -5,4 +5,5 @@
 //! valid and runs as the graph does.
 #![tactic(auto)]
 
+pub mod laws;
 mod normalise;
