@@ -1,18 +1,18 @@
 -- A part of a unit's body, seen as a tree: where each command of it is right, all paths are, and each index is reached
 -- once.
-use Rattle.std.proofs.Common.{◌≡◌, ℕ, zero, suc, ◌+◌, ◌-◌, ◌<◌, ◌≤◌, nat_lt, Bool, true, false, ◌&&◌, if◌then◌else◌, Option, Some, None, List, [], ◌∷◌, ◌++◌, length, slice_get, slice_set, unwrap_or, replicate, refl, sym, ap, ◌∙◌, subst, arith, append_assoc, length-append}
+use Rattle.std.proofs.Common.{◌≡◌, ℕ, zero, suc, ◌+◌, ◌<◌, ◌≤◌, Bool, true, false, if◌then◌else◌, Some, None, List, [], ◌∷◌, ◌++◌, length, slice_get, slice_set, unwrap_or, replicate, refl, sym, ap, ◌∙◌, subst, arith, append_assoc, length-append}
+use Rattle.std.proofs.lemmas.Bool.{lt-ltb}
 use Rattle.std.proofs.lemmas.List.{length-replicate, append-nil}
 use Rattle.ceal_code.proofs.Same.{both-true}
 use Rattle.ceal_code.proofs.TreeSteps.{reached-on, tree-is}
 use Rattle.ceal_code.specs.Program.{Code}
 use Rattle.ceal_code.specs.Step.{kinds_of}
-use Rattle.ceal_code.specs.Valid.{type_of, fits, command_ok, onward, path_ok, paths_ok, followers, all_followers, reached, all_true, all_but_first, is_tree}
+use Rattle.ceal_code.specs.Valid.{type_of, fits, command_ok, onward, path_ok, paths_ok, followers, all_followers, reached, all_true, is_tree}
 use Rattle.ceal_base.specs.declared.kind.Kind.TheVariants.{Int}
 use Rattle.ceal_code.specs.declared.command.Cmd.{Cmd}
 use Rattle.ceal_code.specs.declared.command.Cmd.TheVariants.{If}
 use Rattle.ceal_code.specs.declared.expr.CodeExpr.{CodeExpr}
 use Rattle.ceal_flow.proofs.ListFacts.{get-append_right}
-use Rattle.ceal_norm.proofs.Facts.{less-true}
 
 -- what is checked of the rest of a path
 abbrev pub Walk : Type 0
@@ -31,12 +31,12 @@ module _ (code : Code) (f : ℕ) where
         → Good (i + 1) known true first → Good (i + 1 + length first) known true second → Good i known stepped part
 
   -- no part is empty
-  pub record Filled (part : List Cmd) : Type 0 where
-    pub c : Cmd
-    pub rest : List Cmd
-    pub is : part ≡ c ∷ rest
+  record Filled (part : List Cmd) : Type 0 where
+    c : Cmd
+    rest : List Cmd
+    is : part ≡ c ∷ rest
 
-  pub filled : (i : ℕ) (known : List Bool) (stepped : Bool) (part : List Cmd) → Good i known stepped part → Filled part
+  filled : (i : ℕ) (known : List Bool) (stepped : Bool) (part : List Cmd) → Good i known stepped part → Filled part
   filled i known stepped part (leaf c e ok none over) = record { c = c; rest = []; is = e }
   filled i known stepped part (line c rest later e ok next step good) = record { c = c; rest = rest; is = e }
   filled i known stepped part (fork test first second e ok one two) = record { c = _; rest = first ++ second; is = e }
@@ -50,7 +50,7 @@ module _ (code : Code) (f : ℕ) where
       ap (λ b. slice_get b i) e ∙ get-append_right before ((c ∷ rest) ++ after) i 0 (omega (arith, at))
 
   fork-known : (on : Walk) (i a b : ℕ) (known : List Bool) (test : CodeExpr) → i < a → i < b → on a known true ≡ true → on b known true ≡ true → onward on (If test a b) i known ≡ true
-  fork-known on i a b known test l m h k = both-true _ _ (both-true _ _ (less-true i a l) (less-true i b m)) (both-true _ _ h k)
+  fork-known on i a b known test l m h k = both-true _ _ (both-true _ _ (lt-ltb i a l) (lt-ltb i b m)) (both-true _ _ h k)
 
   module _ (body : List Cmd) where
     step-ok : (fuel i : ℕ) (known : List Bool) (stepped : Bool) (c : Cmd) → slice_get body i ≡ Some c → command_ok code f known stepped c ≡ true
@@ -126,7 +126,7 @@ module _ (code : Code) (f : ℕ) where
   reached-none marks = refl
 
   -- the indices of the part behind its first
-  pub behind : List Cmd → ℕ
+  behind : List Cmd → ℕ
   behind [] = 0
   behind (c ∷ cs) = length cs
 

@@ -1,8 +1,8 @@
 -- The variables that a well typed expression mentions are in scope, and the expression of trace code has its type.
-use Rattle.std.proofs.Common.{◌≡◌, ◌⊎◌, inl, inr, ℕ, ◌<◌, ◌==◌, ◌&&◌, Bool, true, false, Option, Some, None, IsSome, if◌then◌else◌, List, [], ◌∷◌, ◌++◌, length, map, slice_get, unwrap_or, Contains, All, refl, sym, ap, ap₂, ◌∙◌, subst}
+use Rattle.std.proofs.Common.{◌≡◌, inl, inr, ℕ, ◌<◌, ◌&&◌, Bool, true, false, Option, Some, None, IsSome, if◌then◌else◌, List, [], ◌∷◌, length, map, slice_get, unwrap_or, Contains, All, refl, sym, ap, ap₂, ◌∙◌, subst}
 use Rattle.std.proofs.lemmas.List.Elements.{All-head, All-tail}
 use Rattle.ceal_base.specs.Usage.{WithoutOwn, OperandWithoutOwn}
-use Rattle.ceal_base.specs.WellTyped.{Context, FormTyped, OperandTyped, ExprTyped, ExprSuits, OperandsSuit, Comparable, Suits, IsPointer, operand_kind, plain_kind, address_kind, ArgsSuit}
+use Rattle.ceal_base.specs.WellTyped.{Context, FormTyped, OperandTyped, ExprTyped, OperandsSuit, Comparable, Suits, IsPointer, operand_kind, plain_kind, address_kind, ArgsSuit}
 use Rattle.ceal_base.specs.declared.kind.FieldKind.{FieldKind}
 use Rattle.ceal_base.specs.declared.kind.FieldKind.TheVariants.{Plain as PlainField, CellInt, CellPtr}
 use Rattle.ceal_base.specs.declared.kind.Kind.{Kind}
@@ -10,7 +10,6 @@ use Rattle.ceal_base.specs.declared.kind.Kind.TheVariants.{Int, Ptr, ModInt, Mod
 use Rattle.ceal_base.specs.declared.kind.Shape.TheVariants.{Struct}
 use Rattle.ceal_base.specs.declared.operators.Binary.{Binary}
 use Rattle.ceal_base.specs.declared.operators.Binary.TheVariants.{Add, Sub, Mul, Div, Rem, Less, LessEq, More, MoreEq, Same, Differ, And, Or}
-use Rattle.ceal_base.specs.declared.typed.StructInfo.{StructInfo}
 use Rattle.ceal_base.specs.declared.typed.TypedExpr.{TypedExpr}
 use Rattle.ceal_base.specs.declared.typed.TypedForm.TheBlock.{Row_of-TypedExpr, end_of-TypedExpr, more_of-TypedExpr}
 use Rattle.ceal_base.specs.declared.typed.TypedForm.{TypedForm, Num, Null, Var, Own, Unary', Binary', Field', Address'}

@@ -1,6 +1,9 @@
 -- Lists, and sets of variables that are known.
-use Rattle.std.proofs.Common.{◌≡◌, ◌⊎◌, inl, inr, ℕ, zero, suc, ◌<◌, ◌==◌, ◌||◌, nat_lt, Bool, true, false, Option, Some, None, IsSome, List, [], ◌∷◌, ◌++◌, length, map, slice_get, slice_set, unwrap_or, replicate, refl, sym, ap, ◌∙◌, subst, arith}
+use Rattle.std.proofs.Common.{◌≡◌, ◌⊎◌, inl, inr, ℕ, zero, suc, ◌<◌, ◌==◌, Bool, true, false, Some, IsSome, List, [], ◌∷◌, ◌++◌, length, map, option_map, slice_get, slice_set, unwrap_or, refl, sym, ap, ◌∙◌, subst, arith}
+use Rattle.std.proofs.lemmas.Bool.{or_right, lt-ltb}
 use Rattle.std.proofs.lemmas.Bool.Decides.{eqb_tells}
+use Rattle.std.proofs.lemmas.List.{length-set}
+use Rattle.std.proofs.lemmas.Option.{slice_get-map}
 use Rattle.ceal_code.proofs.Same.{both-true}
 use Rattle.ceal_code.specs.Valid.{with_params, below}
 use Rattle.ceal_code.specs.declared.expr.VarId.{VarId}
@@ -8,9 +11,7 @@ use Rattle.ceal_flow.specs.Sets.{is_in}
 use Rattle.ceal_norm.specs.Expressions.{variable}
 
 pub get-map : {X Y : Type 0} (f : X → Y) (xs : List X) (i : ℕ) (x : X) → slice_get xs i ≡ Some x → slice_get (map f xs) i ≡ Some (f x)
-get-map f [] i x h = cc
-get-map f (y ∷ ys) zero x h = let e : y ≡ x = cc in ap (λ z. Some (f z)) e
-get-map f (y ∷ ys) (suc i) x h = get-map f ys i x h
+get-map f xs i x h = slice_get-map f xs i ∙ ap (λ o. option_map f o) h
 
 pub some-within : {X : Type 0} (xs : List X) (i : ℕ) → IsSome (slice_get xs i) → i < length xs
 some-within [] i h = cc
@@ -28,18 +29,6 @@ there (x ∷ xs) zero h = record { item = x; is = refl }
 there (x ∷ xs) (suc i) h = let t = there xs i (omega (arith, h)) in record { item = t.item; is = t.is }
 
 -- items of a set
-pub or-cases : (a b : Bool) → (a || b) ≡ true → (a ≡ true) ⊎ (b ≡ true)
-or-cases true b e = inl refl
-or-cases false b e = inr e
-
-pub or-left : (a b : Bool) → a ≡ true → (a || b) ≡ true
-or-left true b e = refl
-or-left false b e = cc
-
-pub or-right : (a b : Bool) → b ≡ true → (a || b) ≡ true
-or-right true b e = refl
-or-right false b e = e
-
 pub in-first : (x : ℕ) (xs : List ℕ) → is_in x (x ∷ xs) ≡ true
 in-first x xs = elim (eqb_tells x x) [ inl p ↦ rw p.0 refl | inr p ↦ absurd (p.1 refl) ]
 
@@ -47,7 +36,7 @@ pub in-cases : (v x : ℕ) (xs : List ℕ) → is_in v (x ∷ xs) ≡ true → (
 in-cases v x xs h = elim (eqb_tells x v) [ inl p ↦ inl p.1 | inr p ↦ inr (rw p.0 at h) ]
 
 pub in-later : (v x : ℕ) (xs : List ℕ) → is_in v xs ≡ true → is_in v (x ∷ xs) ≡ true
-in-later v x xs h = or-right _ (is_in v xs) h
+in-later v x xs h = or_right (x == v) (is_in v xs) h
 
 pub in-left : (v : ℕ) (xs ys : List ℕ) → is_in v xs ≡ true → is_in v (xs ++ ys) ≡ true
 in-left v [] ys h = cc
@@ -83,17 +72,12 @@ knows-still (k ∷ ks) zero (suc w) h = h
 knows-still (k ∷ ks) (suc v) zero h = h
 knows-still (k ∷ ks) (suc v) (suc w) h = knows-still ks v w h
 
-pub set-length : (known : List Bool) (v : ℕ) → length (slice_set known v true) ≡ length known
-set-length [] v = refl
-set-length (k ∷ ks) zero = refl
-set-length (k ∷ ks) (suc v) = ap suc (set-length ks v)
-
 pub params-know : (ps : List ℕ) (known : List Bool) (v : ℕ) → v < length known → (is_in v ps ≡ true) ⊎ Knows known v → Knows (with_params known (map variable ps)) v
 unfolding with_params
 params-know [] known v l (inl h) = cc
 params-know [] known v l (inr h) = h
 params-know (p ∷ ps) known v l h =
-    let longer : v < length (slice_set known p true) = subst (λ n. v < n) (sym (set-length known p)) l in
+    let longer : v < length (slice_set known p true) = subst (λ n. v < n) (sym (length-set known p true)) l in
     params-know ps (slice_set known p true) v longer (next h)
   where
     next : (is_in v (p ∷ ps) ≡ true) ⊎ Knows known v → (is_in v ps ≡ true) ⊎ Knows (slice_set known p true) v
@@ -106,12 +90,9 @@ params-know (p ∷ ps) known v l h =
 pub params-length : (ps : List VarId) (known : List Bool) → length (with_params known ps) ≡ length known
 unfolding with_params
 params-length [] known = refl
-params-length (p ∷ ps) known = params-length ps (slice_set known p.0 true) ∙ set-length known p.0
-
-pub less-true : (m n : ℕ) → m < n → nat_lt m n ≡ true
-less-true m n h = grind (arith, h)
+params-length (p ∷ ps) known = params-length ps (slice_set known p.0 true) ∙ length-set known p.0 true
 
 pub all-below : (n : ℕ) (ps : List ℕ) → ((v : ℕ) → is_in v ps ≡ true → v < n) → below n (map variable ps) ≡ true
 unfolding below
 all-below n [] h = refl
-all-below n (p ∷ ps) h = both-true _ _ (less-true p n (h p (in-first p ps))) (all-below n ps (λ v k. h v (in-later v p ps k)))
+all-below n (p ∷ ps) h = both-true _ _ (lt-ltb p n (h p (in-first p ps))) (all-below n ps (λ v k. h v (in-later v p ps k)))

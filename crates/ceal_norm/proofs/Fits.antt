@@ -1,8 +1,9 @@
 -- The commands of a block of a core function are right: the variables of each target and the expressions of a statement
 -- have the types that are asked.
-use Rattle.std.proofs.Common.{◌≡◌, ◌⊎◌, inl, inr, ℕ, zero, suc, ◌+◌, ◌<◌, ◌≤◌, ◌==◌, ◌&&◌, Bool, true, false, if◌then◌else◌, Option, Some, None, IsSome, IsNone, IsSomeAnd, List, [], ◌∷◌, ◌++◌, length, map, take, slice_get, slice_set, unwrap_or, Contains, All, refl, sym, ap, ap₂, ◌∙◌, subst, arith}
+use Rattle.std.proofs.Common.{◌≡◌, inl, inr, ℕ, zero, suc, ◌<◌, ◌≤◌, ◌==◌, Bool, true, Option, Some, None, IsSome, IsNone, IsSomeAnd, List, [], ◌∷◌, length, map, take, slice_get, unwrap_or, Contains, All, refl, sym, ap, ap₂, ◌∙◌, subst, arith}
 use Rattle.std.proofs.lemmas.Bool.Decides.{eqb_tells}
-use Rattle.std.proofs.lemmas.List.Elements.{All-head, All-tail, Contains-append_cases}
+use Rattle.std.proofs.lemmas.List.{length-take-le}
+use Rattle.std.proofs.lemmas.List.Elements.{All-head, All-tail}
 use Rattle.ceal_base.specs.Usage.{IsCore, IsInitialiser, KeepsUsage}
 use Rattle.ceal_base.specs.WellTyped.{Context, ExprTyped, ExprSuits, CallSuits, AllocSuits, ArgsSuit, Suits, WellTyped, param_kinds, kind_held, numbers_below}
 use Rattle.ceal_base.specs.declared.kind.Kind.{Kind}
@@ -15,26 +16,24 @@ use Rattle.ceal_code.proofs.Same.{both-true, nat-refl}
 use Rattle.ceal_code.proofs.TypeSteps.{type-var}
 use Rattle.ceal_code.specs.Program.{Code}
 use Rattle.ceal_code.specs.Step.{kinds_of}
-use Rattle.ceal_code.specs.Valid.{type_of, fits, fits_maybe, same_kind, variable_type, params_fit, others, unit_fits, read_fits, entry_fits, call_fits, alloc_fits, place_fits, write_fits, all_fit}
-use Rattle.ceal_code.specs.declared.expr.CodeExpr.{CodeExpr, Var}
-use Rattle.ceal_code.specs.declared.expr.VarId.{VarId}
-use Rattle.ceal_code.specs.declared.function.FunctionCode.{FunctionCode}
+use Rattle.ceal_code.specs.Valid.{type_of, fits, fits_maybe, params_fit, others, unit_fits, read_fits, entry_fits, call_fits, alloc_fits, place_fits, write_fits, all_fit}
+use Rattle.ceal_code.specs.declared.expr.CodeExpr.{Var}
 use Rattle.ceal_flow.specs.Live.{AreLiveSets, mentions, all_mentions}
-use Rattle.ceal_flow.specs.Lowering.{end_of, first_of, core_at, function_at, graph_of}
+use Rattle.ceal_flow.specs.Lowering.{end_of, first_of, core_at, graph_of}
 use Rattle.ceal_flow.specs.Sets.{is_in, set_at}
-use Rattle.ceal_flow.specs.declared.function.GraphFunction.TheVariants.{Core, Init}
+use Rattle.ceal_flow.specs.declared.function.GraphFunction.TheVariants.{Init}
 use Rattle.ceal_flow.proofs.Placing.{made-at}
 use Rattle.ceal_norm.specs.Entries.{is_entry, entries_before}
 use Rattle.ceal_norm.specs.Expressions.{variable, expr_code}
 use Rattle.ceal_norm.specs.Laws.{source_of}
-use Rattle.ceal_norm.specs.Units.{Source, params_of, own_args, args_of, without, closure_args, arg_at, call_args, entry_set, owner, unit_code, function_code, kinds_code, code_of}
+use Rattle.ceal_norm.specs.Units.{Source, own_args, args_of, without, closure_args, arg_at, call_args, entry_set, owner, unit_code, function_code, kinds_code, code_of}
+use Rattle.ceal_norm.proofs.Counts.{contains-none, contains-cases}
 use Rattle.ceal_norm.proofs.Expressions.{Seen, Has, kind-refl, suits-fits, form-seen, form-without, form-type, args-fit, exprs-seen}
-use Rattle.ceal_norm.proofs.Facts.{get-map, There, there, in-first, in-later, in-left, in-right, Knows}
-use Rattle.ceal_norm.proofs.Lives.{Match, stands-there, live-seen, contains-one}
-use Rattle.ceal_norm.proofs.Numbers.{home}
-use Rattle.ceal_norm.proofs.Spots.{Function, function-of, g, context, init-function}
-use Rattle.ceal_norm.proofs.Standing.{Stands, within-blocks}
-use Rattle.ceal_norm.proofs.UnitFacts.{unit-at, first-entry}
+use Rattle.ceal_norm.proofs.Facts.{get-map, there, in-first, in-later, in-left, in-right, Knows}
+use Rattle.ceal_norm.proofs.Lives.{Match, stands-there, live-seen}
+use Rattle.ceal_norm.proofs.Spots.{Function, StandsIn, function-of, context, init-function}
+use Rattle.ceal_norm.proofs.Standing.{within-blocks}
+use Rattle.ceal_norm.proofs.UnitFacts.{unit-at, function-entry}
 
 module _ (structs : List StructInfo) (kinds : List Kind) (known : List Bool) where
   pub own-in : (v : ℕ) → v < length kinds → Knows known v → fits_maybe (slice_get kinds v) (type_of structs kinds known (Var (variable v))) ≡ true
@@ -76,9 +75,9 @@ none-is None h = refl
 none-is (Some s) h = cc
 
 pub numbers-less : (n v : ℕ) → Contains (numbers_below n) v → v < n
-numbers-less zero v h = let l = h.1 in absurd (omega (arith, l))
-numbers-less (suc n) v h = elim (Contains-append_cases (n ∷ []) (numbers_below n) v h) [
-  | inl k ↦ let e = contains-one n v k in omega (arith, e)
+numbers-less zero v h = absurd (contains-none v h)
+numbers-less (suc n) v h = elim (contains-cases n (numbers_below n) v h) [
+  | inl e ↦ omega (arith, e)
   | inr k ↦ let l = numbers-less n v k in omega (arith, l)
 ]
 
@@ -87,11 +86,6 @@ get-take zero xs i l = absurd (omega (arith, l))
 get-take (suc n) [] i l = refl
 get-take (suc n) (x ∷ xs) zero l = refl
 get-take (suc n) (x ∷ xs) (suc i) l = get-take n xs i (omega (arith, l))
-
-pub length-take : {X : Type 0} (n : ℕ) (xs : List X) → n ≤ length xs → length (take n xs) ≡ n
-length-take zero xs l = refl
-length-take (suc n) [] l = absurd (omega (arith, l))
-length-take (suc n) (x ∷ xs) l = ap suc (length-take n xs (omega (arith, l)))
 
 -- the argument for a parameter
 record Given (c : Context) (seen : List ℕ) (asked : List Kind) (args : List TypedExpr) (v : ℕ) : Type 0 where
@@ -121,49 +115,46 @@ abbrev AllocIn : TypedFunction → ℕ → List TypedExpr → Option ℕ → Typ
 AllocIn h shape args None = Unit {0}
 AllocIn h shape args (Some s) = (s ≡ shape) × ArgsSuit (param_kinds h) args
 
-module _ (p : Typed) (typed : WellTyped p) (kept : KeepsUsage p) (sets : List (List ℕ)) (live : AreLiveSets (g p).blocks sets) where
-  abbrev pub src : Source
+-- the variables that are live at the block are known
+abbrev pub Covers : List (List ℕ) → List Bool → ℕ → Type 0
+Covers sets known b = (v : ℕ) → is_in v (set_at sets b) ≡ true → Knows known v
+
+module _ (p : Typed) (typed : WellTyped p) (kept : KeepsUsage p) (sets : List (List ℕ)) (live : AreLiveSets (graph_of p).blocks sets) where
+  abbrev src : Source
   src = source_of p sets
 
-  abbrev pub code : Code
+  abbrev code : Code
   code = code_of src
 
-  -- the variables that are live at the block are known
-  abbrev pub Covers : List Bool → ℕ → Type 0
-  Covers known b = (v : ℕ) → is_in v (set_at sets b) ≡ true → Knows known v
-
   module _ (k : ℕ) (fn : Function p k) where
-    abbrev pub kinds : List Kind
+    abbrev kinds : List Kind
     kinds = fn.f.kinds
 
     pub kinds-are : kinds_of code k ≡ kinds
-    kinds-are = ap (λ o. unwrap_or o []) (get-map kinds_code (g p).functions k (core_at fn.f fn.home.start) fn.home.function)
+    kinds-are = ap (λ o. unwrap_or o []) (get-map kinds_code (graph_of p).functions k (core_at fn.f fn.home.start) fn.home.function)
 
-    abbrev pub Stand : List ℕ → ℕ → Type 0
-    Stand seen b = Stands p.functions (context p fn.f) (g p).blocks fn.home.start (end_of fn.f.body fn.home.start) seen b
-
-    pub seen-live : (seen : List ℕ) (b v : ℕ) → Stand seen b → is_in v (set_at sets b) ≡ true → Seen (context p fn.f) seen v
+    pub seen-live : (seen : List ℕ) (b v : ℕ) → StandsIn p k fn seen b → is_in v (set_at sets b) ≡ true → Seen (context p fn.f) seen v
     seen-live seen b v st h =
-        live-seen p.functions (context p fn.f) (g p).blocks fn.home.start (end_of fn.f.body fn.home.start) fn.over fn.room sets live seen b v st h
+        live-seen p.functions (context p fn.f) (graph_of p).blocks fn.home.start (end_of fn.f.body fn.home.start) fn.over fn.room sets live seen b v st h
 
-    pub there-is : (seen : List ℕ) (b : ℕ) → Stand seen b → b < length (g p).blocks
-    there-is seen b st = stands-there p.functions (context p fn.f) (g p).blocks fn.home.start (end_of fn.f.body fn.home.start) fn.over fn.room seen b st
+    pub there-is : (seen : List ℕ) (b : ℕ) → StandsIn p k fn seen b → b < length (graph_of p).blocks
+    there-is seen b st = stands-there p.functions (context p fn.f) (graph_of p).blocks fn.home.start (end_of fn.f.body fn.home.start) fn.over fn.room seen b st
 
-    pub owner-is : (seen : List ℕ) (b : ℕ) → Stand seen b → owner (g p) b ≡ k
+    pub owner-is : (seen : List ℕ) (b : ℕ) → StandsIn p k fn seen b → owner (graph_of p) b ≡ k
     owner-is seen b st =
-        let w = within-blocks p.functions (context p fn.f) (g p).blocks fn.home.start (end_of fn.f.body fn.home.start) fn.over fn.room seen b st in fn.home.owned b w.0 w.1
+        let w = within-blocks p.functions (context p fn.f) (graph_of p).blocks fn.home.start (end_of fn.f.body fn.home.start) fn.over fn.room seen b st in fn.home.owned b w.0 w.1
 
-    pub unit-is : (seen : List ℕ) (b : ℕ) → Stand seen b → is_entry (g p) b ≡ true → slice_get code.units (entries_before (g p) b) ≡ Some (unit_code src b)
-    unit-is seen b st e = unit-at src (length (g p).blocks) b e (there-is seen b st)
+    pub unit-is : (seen : List ℕ) (b : ℕ) → StandsIn p k fn seen b → is_entry (graph_of p) b ≡ true → slice_get code.units (entries_before (graph_of p) b) ≡ Some (unit_code src b)
+    unit-is seen b st e = unit-at src (length (graph_of p).blocks) b e (there-is seen b st)
 
-    owner-true : (seen : List ℕ) (b : ℕ) → Stand seen b → (owner (g p) b == k) ≡ true
+    owner-true : (seen : List ℕ) (b : ℕ) → StandsIn p k fn seen b → (owner (graph_of p) b == k) ≡ true
     owner-true seen b st = rw (owner-is seen b st) (nat-refl k)
 
     abbrev pub entry-of : ℕ
     entry-of = first_of fn.f.body fn.home.start
 
-    pub entry-is : is_entry (g p) entry-of ≡ true
-    entry-is = first-entry (g p) k fn.f.name.text entry-of fn.f.params fn.f.kinds fn.home.function
+    pub entry-is : is_entry (graph_of p) entry-of ≡ true
+    entry-is = function-entry (graph_of p) k fn.f.name.text entry-of fn.f.params fn.f.kinds fn.home.function
 
   module _ (k : ℕ) (fn : Function p k) where
     module _ (known : List Bool) where
@@ -171,16 +162,16 @@ module _ (p : Typed) (typed : WellTyped p) (kept : KeepsUsage p) (sets : List (L
       own-fits v l h = subst (λ ks. fits_maybe (slice_get ks v) (type_of p.structs ks known (Var (variable v))) ≡ true) (sym (kinds-are k fn)) (own-in p.structs fn.f.kinds known v l h)
 
       -- a tail call of the unit of an entry
-      pub unit-fits : (seen : List ℕ) (b : ℕ) → Stand k fn seen b → is_entry (g p) b ≡ true → Covers known b
-          → unit_fits code k known (slice_get code.units (entries_before (g p) b)) (args_of src b) ≡ true
+      pub unit-fits : (seen : List ℕ) (b : ℕ) → StandsIn p k fn seen b → is_entry (graph_of p) b ≡ true → Covers sets known b
+          → unit_fits code k known (slice_get code.units (entries_before (graph_of p) b)) (args_of src b) ≡ true
       unit-fits seen b st e cover =
           ap (λ o. unit_fits code k known o (args_of src b)) (unit-is k fn seen b st e)
           ∙ both-true _ _ (owner-true k fn seen b st)
           (own-fit p.structs (kinds_of code k) known (kinds_of code k) (set_at sets b) (λ v i. own-fits v (seen-live k fn seen b v st i).1 (cover v i)))
 
       -- and of that behind a read
-      pub read-fits : (seen : List ℕ) (b n : ℕ) → Stand k fn seen b → is_entry (g p) b ≡ true → ((v : ℕ) → is_in v (set_at sets b) ≡ true → (v ≡ n → ⊥) → Knows known v)
-          → read_fits code k known n (slice_get code.units (entries_before (g p) b)) (closure_args src n b) ≡ true
+      pub read-fits : (seen : List ℕ) (b n : ℕ) → StandsIn p k fn seen b → is_entry (graph_of p) b ≡ true → ((v : ℕ) → is_in v (set_at sets b) ≡ true → (v ≡ n → ⊥) → Knows known v)
+          → read_fits code k known n (slice_get code.units (entries_before (graph_of p) b)) (closure_args src n b) ≡ true
       read-fits seen b n st e cover =
           ap (λ o. read_fits code k known n o (closure_args src n b)) (unit-is k fn seen b st e)
           ∙ both-true _ _ (owner-true k fn seen b st)
@@ -244,8 +235,8 @@ module _ (p : Typed) (typed : WellTyped p) (kept : KeepsUsage p) (sets : List (L
             let m = some-and (slice_get p.functions j) (λ f. IsSome f.initialiser) usage in
             let i = some-is m.item.initialiser m.holds in
             let made = made-at p.functions j m.item m.is in
-            let there : slice_get (g p).functions j ≡ Some (Init m.item) = made.function ∙ ap Some (init-function m.item made.start i.0 i.1) in
-            let here : slice_get code.functions j ≡ Some (function_code src (Init m.item)) = get-map (function_code src) (g p).functions j (Init m.item) there in
+            let there : slice_get (graph_of p).functions j ≡ Some (Init m.item) = made.function ∙ ap Some (init-function m.item made.start i.0 i.1) in
+            let here : slice_get code.functions j ≡ Some (function_code src (Init m.item)) = get-map (function_code src) (graph_of p).functions j (Init m.item) there in
             let named = subst (λ o. AllocSuits o shape args) m.is suits in
             let all = let P : Option ℕ → Type 0 = λ x. AllocIn m.item shape args x in subst P i.1 named in
             let own : unwrap_or m.item.initialiser 0 ≡ shape = ap (λ o. unwrap_or o 0) i.1 ∙ all.0 in
@@ -267,7 +258,7 @@ module _ (p : Typed) (typed : WellTyped p) (kept : KeepsUsage p) (sets : List (L
             let less : v < o.f.params = numbers-less o.f.params v (seen-live j o (numbers_below o.f.params) (entry-of j o) v o.first i).0 in
             let numbered = o.typed.numbered in
             let few : o.f.params ≤ length o.f.kinds = omega (arith, numbered) in
-            let long : length (take o.f.params o.f.kinds) ≡ o.f.params = length-take o.f.params o.f.kinds few in
+            let long : length (take o.f.params o.f.kinds) ≡ o.f.params = length-take-le o.f.params o.f.kinds few in
             let r = given (context p fn.f) seen (param_kinds o.f) args v t suits (omega (arith, less, long)) in
             let theirs : slice_get (kinds_of code j) v ≡ Some r.kind = ap (λ ks. slice_get ks v) (kinds-are j o) ∙ sym (get-take o.f.params o.f.kinds v less) ∙ r.asks in
             ap₂ fits_maybe theirs (ap (λ a. type_of p.structs (kinds_of code k) known (arg_at a)) r.is ∙ expr-is r.e r.typed (λ u m. h u (r.inside u m)))
@@ -275,17 +266,17 @@ module _ (p : Typed) (typed : WellTyped p) (kept : KeepsUsage p) (sets : List (L
 
         call-of : (j : ℕ) (o : Function p j) (args : List TypedExpr) → All Typed_here args → ArgsSuit (param_kinds o.f) args
             → ((v : ℕ) → is_in v (all_mentions args) ≡ true → Knows known v)
-            → call_fits code k known j (slice_get code.functions j) (call_args args (entry_set src (slice_get (g p).functions j))) ≡ true
+            → call_fits code k known j (slice_get code.functions j) (call_args args (entry_set src (slice_get (graph_of p).functions j))) ≡ true
         call-of j o args t suits h =
             let made = core_at o.f o.home.start in
-            let here : slice_get code.functions j ≡ Some (function_code src made) = get-map (function_code src) (g p).functions j made o.home.function in
+            let here : slice_get code.functions j ≡ Some (function_code src made) = get-map (function_code src) (graph_of p).functions j made o.home.function in
             ap₂ (λ x y. call_fits code k known j x (call_args args (entry_set src y))) here o.home.function
             ∙ ap (λ u. entry_fits code k known j u (call_args args (set_at sets (entry-of j o)))) (unit-is j o (numbers_below o.f.params) (entry-of j o) o.first (entry-is j o))
             ∙ calls-fit p.structs (kinds_of code k) known (kinds_of code j) args (set_at sets (entry-of j o)) (arg-fits j o args t suits h)
 
         pub call-fits : (j : ℕ) (args : List TypedExpr) → All Typed_here args → CallSuits (slice_get p.functions j) args → IsCore (slice_get p.functions j)
             → ((v : ℕ) → is_in v (all_mentions args) ≡ true → Knows known v)
-            → call_fits code k known j (slice_get code.functions j) (call_args args (entry_set src (slice_get (g p).functions j))) ≡ true
+            → call_fits code k known j (slice_get code.functions j) (call_args args (entry_set src (slice_get (graph_of p).functions j))) ≡ true
         call-fits j args t suits usage h =
             let m = some-and (slice_get p.functions j) (λ f. IsNone f.initialiser) usage in
             let o = function-of p typed kept j m.item m.is (none-is m.item.initialiser m.holds) in

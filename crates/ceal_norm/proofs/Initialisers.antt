@@ -1,5 +1,6 @@
 -- The statements of an initialiser are right.
-use Rattle.std.proofs.Common.{◌≡◌, ◌⊎◌, inl, inr, ℕ, zero, suc, ◌+◌, ◌<◌, ◌≤◌, ◌&&◌, Bool, true, false, Option, Some, None, IfSome, IsSome, MatchOption, List, [], ◌∷◌, ◌++◌, length, take, replicate, slice_get, unwrap_or, Contains, All, refl, sym, ap, ap₂, ◌∙◌, subst, arith}
+use Rattle.std.proofs.Common.{◌≡◌, ℕ, zero, suc, ◌+◌, ◌<◌, ◌≤◌, ◌&&◌, Bool, true, false, Option, Some, None, IfSome, MatchOption, List, [], ◌∷◌, ◌++◌, length, take, replicate, slice_get, Contains, All, refl, ap, ◌∙◌, subst, arith}
+use Rattle.std.proofs.lemmas.List.{length-take-le}
 use Rattle.std.proofs.lemmas.List.Elements.{All-head, All-tail}
 use Rattle.ceal_base.specs.Usage.{InitUsage, RowInitUsage, WithoutOwn}
 use Rattle.ceal_base.specs.WellTyped.{Context, FormTyped, ExprTyped, ExprSuits, StmtTyped, RowTyped, StmtsTyped, seen_after, declarations, plain_kind, numbers_below}
@@ -18,13 +19,11 @@ use Rattle.ceal_code.proofs.StmtSteps.{stmt-set, stmt-if}
 use Rattle.ceal_code.specs.Valid.{Typing, type_of, fits, set_ok, stmt_ok, stmts_ok}
 use Rattle.ceal_code.specs.Value.{field_kind}
 use Rattle.ceal_code.specs.declared.function.InitStmt.{InitStmt}
-use Rattle.ceal_flow.specs.Live.{mentions}
-use Rattle.ceal_flow.specs.Sets.{is_in}
 use Rattle.ceal_norm.specs.Expressions.{expr_code, init_code, row_init_code, all_init_code}
 use Rattle.ceal_norm.proofs.Expressions.{Has, form-seen, form-type, suits-fits}
-use Rattle.ceal_norm.proofs.Facts.{There, there, Knows}
-use Rattle.ceal_norm.proofs.Fits.{numbers-less, get-take, length-take}
-use Rattle.ceal_norm.proofs.Lives.{Match, match}
+use Rattle.ceal_norm.proofs.Facts.{there, Knows}
+use Rattle.ceal_norm.proofs.Fits.{numbers-less, get-take}
+use Rattle.ceal_norm.proofs.Lives.{match}
 
 knows-all : (n v : ℕ) → v < n → Knows (replicate n true) v
 knows-all zero v l = absurd (omega (arith, l))
@@ -69,7 +68,7 @@ module _ (c : Context) (s params : ℕ) (own : c.own ≡ Some s) (few : params �
   has : (v : ℕ) → Contains seen v → Has c seen kinds known v
   has v h =
       let less = numbers-less params v h in
-      let long : length kinds ≡ params = length-take params c.kinds few in
+      let long : length kinds ≡ params = length-take-le params c.kinds few in
       let t = there c.kinds v (omega (arith, less, few)) in
       let here : slice_get kinds v ≡ Some t.item = get-take params c.kinds v less ∙ t.is in
       rw (here, knows-all (length kinds) v (omega (arith, less, long)), t.is) refl

@@ -1,22 +1,21 @@
 -- Variables that are live at a block are in scope there.
-use Rattle.std.proofs.Common.{◌≡◌, ◌⊎◌, inl, inr, ◌↔◌, ℕ, ◌+◌, ◌<◌, ◌≤◌, ◌==◌, not, Bool, true, false, Option, Some, None, MatchOption, List, [], ◌∷◌, ◌++◌, length, slice_get, Contains, All, refl, sym, ap, ◌∙◌, subst, arith}
-use Rattle.std.proofs.lemmas.List.Elements.{Contains-push_cases, Contains-append_cases}
+use Rattle.std.proofs.Common.{◌≡◌, ◌⊎◌, inl, inr, ℕ, ◌<◌, ◌≤◌, ◌==◌, not, true, false, Option, Some, None, MatchOption, List, [], ◌∷◌, length, slice_get, Contains, refl, ap, subst}
 use Rattle.ceal_base.specs.Usage.{CoreUsage}
-use Rattle.ceal_base.specs.WellTyped.{Context, ExprTyped, ExprSuits, StmtTyped, ValueTyped, seen_after, kind_held}
+use Rattle.ceal_base.specs.WellTyped.{Context, ExprSuits, StmtTyped, ValueTyped, seen_after, kind_held}
 use Rattle.ceal_base.specs.declared.kind.Kind.{Kind}
-use Rattle.ceal_base.specs.declared.typed.TypedExpr.{TypedExpr}
 use Rattle.ceal_base.specs.declared.typed.TypedFunction.{TypedFunction}
 use Rattle.ceal_base.specs.declared.typed.TypedStmt.{TypedStmt, Declare, Assign, SetField, Write, Call, If', While', Return}
 use Rattle.ceal_base.specs.declared.typed.TypedValue.{TypedValue}
 use Rattle.ceal_base.specs.declared.typed.TypedValue.TheVariants.{Plain, Read, Alloc, ModrefInt, Modref}
 use Rattle.ceal_code.proofs.Same.{nat-refl}
 use Rattle.ceal_flow.specs.Laws.{IsSimple}
-use Rattle.ceal_flow.specs.Live.{mentions, all_mentions, value_mentions, stmt_uses, uses, uses_at, stmt_assigns, keeps, Live, AreLiveSets}
+use Rattle.ceal_flow.specs.Live.{mentions, value_mentions, stmt_uses, uses, uses_at, stmt_assigns, keeps, AreLiveSets}
 use Rattle.ceal_flow.specs.Paths.{Path, stays, jumps_to, jumps, jumps_at, test_at}
 use Rattle.ceal_flow.specs.Sets.{is_in, is_that, set_at}
 use Rattle.ceal_flow.specs.declared.block.GraphBlock.{GraphBlock}
-use Rattle.ceal_flow.specs.declared.block.GraphBlock.TheVariants.{Done, Test, Act, Unreached}
+use Rattle.ceal_flow.specs.declared.block.GraphBlock.TheVariants.{Done, Test, Act}
 use Rattle.ceal_flow.proofs.ListFacts.{get-within}
+use Rattle.ceal_norm.proofs.Counts.{contains-none, contains-one, contains-cases}
 use Rattle.ceal_norm.proofs.Expressions.{Seen, form-seen, exprs-seen}
 use Rattle.ceal_norm.proofs.Facts.{in-either}
 use Rattle.ceal_norm.proofs.Standing.{Within, Stands, View, over, tests, acts, view}
@@ -31,14 +30,8 @@ pub match : {X : Type 0} (o : Option X) (P : X → Type 0) → MatchOption o ⊥
 match None P h = absurd h
 match (Some x) P h = record { item = x; is = refl; holds = h }
 
-pub contains-one : (x c : ℕ) → Contains (x ∷ []) c → x ≡ c
-contains-one x c h = elim (Contains-push_cases [] x c h) [ inl k ↦ absurd (omega (arith, k.1)) | inr e ↦ e ]
-
-pub contains-two : (x y c : ℕ) → Contains (x ∷ y ∷ []) c → (x ≡ c) ⊎ (y ≡ c)
-contains-two x y c h = elim (Contains-append_cases (x ∷ []) (y ∷ []) c h) [ inl k ↦ inl (contains-one x c k) | inr k ↦ inr (contains-one y c k) ]
-
-pub contains-none : (c : ℕ) → Contains [] c → ⊥
-contains-none c h = let l = h.1 in omega (arith, l)
+contains-two : (x y c : ℕ) → Contains (x ∷ y ∷ []) c → (x ≡ c) ⊎ (y ≡ c)
+contains-two x y c h = elim (contains-cases x (y ∷ []) c h) [ inl e ↦ inl e | inr k ↦ inr (contains-one y c k) ]
 
 -- a variable is live where a block uses it, and where it is live behind a block that does not assign it
 module _ (blocks : List GraphBlock) (sets : List (List ℕ)) (live : AreLiveSets blocks sets) where
@@ -75,9 +68,8 @@ module _ (c : Context) (seen : List ℕ) where
   stmt-seen fs next (Return at) t u simple v h = absurd simple
 
   pub seen-kept : (s : TypedStmt) (v : ℕ) → Contains (seen_after seen s) v → not (is_that (stmt_assigns s) v) ≡ true → Contains seen v
-  seen-kept (Declare at n kind value) v h k = elim (Contains-append_cases (n ∷ []) seen v h) [
-    | inl z ↦
-        let e = contains-one n v z in
+  seen-kept (Declare at n kind value) v h k = elim (contains-cases n seen v h) [
+    | inl e ↦
         let same : (n == v) ≡ true = subst (λ w. (n == w) ≡ true) e (nat-refl n) in
         let not-kept : not (n == v) ≡ false = ap not same in cc
     | inr z ↦ z

@@ -1,13 +1,12 @@
 -- Which function a block is of.
-use Rattle.std.proofs.Common.{◌≡◌, ◌⊎◌, inl, inr, ℕ, zero, suc, ◌+◌, ◌<◌, ◌≤◌, Option, Some, None, if◌then◌else◌, true, false, Bool, List, [], ◌∷◌, ◌++◌, length, slice_get, slice_index_or, replicate, Contains, refl, sym, ap, ◌∙◌, subst, arith, append_assoc, length-append}
-use Rattle.std.proofs.lemmas.List.Elements.{Contains-push_cases, Contains-append_cases}
+use Rattle.std.proofs.Common.{◌≡◌, inl, inr, ℕ, zero, suc, ◌+◌, ◌-◌, ◌<◌, ◌≤◌, Option, Some, None, if◌then◌else◌, true, false, Bool, List, [], ◌∷◌, ◌++◌, length, slice_get, slice_index_or, replicate, Contains, refl, ap, ◌∙◌, subst, arith, append_assoc}
 use Rattle.ceal_base.specs.declared.kind.Kind.{Kind}
 use Rattle.ceal_base.specs.declared.typed.TypedFunction.{TypedFunction}
 use Rattle.ceal_base.specs.declared.typed.TypedStmt.{TypedStmt, Declare, Assign, SetField, Write, Call, If', While', Return, Row_of-TypedStmt, end_of-TypedStmt, more_of-TypedStmt}
 use Rattle.ceal_base.specs.declared.typed.TypedStmt.TheBlock.{hidden-the_row-TypedStmt-0}
-use Rattle.ceal_flow.specs.Blocks.{size, row_size, sizes, goes_on, row_entry, entry, blocks_of, row_blocks, all_blocks}
+use Rattle.ceal_flow.specs.Blocks.{size, row_size, sizes, goes_on, row_entry, blocks_of, row_blocks, all_blocks}
 use Rattle.ceal_flow.specs.Laws.{firsts}
-use Rattle.ceal_flow.specs.Lowering.{function_size, end_of, first_of, core_at, core_blocks, function_in, function_at, blocks_in, blocks_at, functions_from, blocks_from}
+use Rattle.ceal_flow.specs.Lowering.{function_size, end_of, core_at, core_blocks, function_in, blocks_in, blocks_at, functions_from, blocks_from}
 use Rattle.ceal_flow.specs.declared.block.GraphBlock.{GraphBlock}
 use Rattle.ceal_flow.specs.declared.block.GraphBlock.TheVariants.{Done, Test, Act, Unreached}
 use Rattle.ceal_flow.specs.declared.function.GraphFunction.{GraphFunction}
@@ -17,6 +16,7 @@ use Rattle.ceal_flow.proofs.FunctionSteps.{blocks_in-length}
 use Rattle.ceal_flow.proofs.ListFacts.{get-append_left, get-append_right}
 use Rattle.ceal_flow.proofs.Placing.{Placed}
 use Rattle.ceal_norm.specs.Units.{ends_before, core_numbers}
+use Rattle.ceal_norm.proofs.Counts.{contains-none, contains-cases}
 
 -- none of the blocks is a function's end
 abbrev pub NoEnd : List GraphBlock → Type 0
@@ -182,16 +182,6 @@ pub record Home (fs : List TypedFunction) (k : ℕ) (f : TypedFunction) : Type 0
   pub placed : Placed (blocks_from 0 fs) start (core_blocks f.body start)
   pub owned : (b : ℕ) → start ≤ b → b ≤ end_of f.body start → slice_index_or (core_numbers 0 (functions_from 0 fs)) (ends_before (blocks_from 0 fs) b) 0 ≡ k
 
--- a number at or past another is some more
-record More (a b : ℕ) : Type 0 where
-  i : ℕ
-  is : b ≡ a + i
-
-more : (a b : ℕ) → a ≤ b → More a b
-more zero b h = record { i = b; is = omega arith }
-more (suc a) zero h = absurd (omega (arith, h))
-more (suc a) (suc b) h = let m = more a b (omega (arith, h)) in let e = m.is in record { i = m.i; is = omega (arith, e) }
-
 pub home : (fs : List TypedFunction) (k : ℕ) (f : TypedFunction) → slice_get fs k ≡ Some f → f.initialiser ≡ None → Home fs k f
 home fs k f e none =
     let a = among 0 fs k f e none in
@@ -201,11 +191,10 @@ home fs k f e none =
       function = a.function;
       placed = λ i l. let same : a.start + i ≡ a.skip + i = omega (arith, begins) in ap (slice_get (blocks_from 0 fs)) same ∙ a.placed i l;
       owned = λ b low high.
-          let m = more a.start b low in
-          let is = m.is in
-          let same : b ≡ a.skip + m.i = omega (arith, begins, is) in
+          let i = b - a.start in
+          let same : b ≡ a.skip + i = omega (arith, begins, low) in
           let z : 0 + k ≡ k = omega arith in
-          ap (λ x. slice_index_or (core_numbers 0 (functions_from 0 fs)) (ends_before (blocks_from 0 fs) x) 0) same ∙ a.owned 0 m.i (omega (arith, is, high)) ∙ z;
+          ap (λ x. slice_index_or (core_numbers 0 (functions_from 0 fs)) (ends_before (blocks_from 0 fs) x) 0) same ∙ a.owned 0 i (omega (arith, low, high)) ∙ z;
     }
 
 -- each function of a graph is that of a function of the program
@@ -224,13 +213,10 @@ pub record Begins (gs : List GraphFunction) (x : ℕ) : Type 0 where
   pub is : slice_get gs k ≡ Some (Core name x params kinds)
 
 pub begins : (gs : List GraphFunction) (x : ℕ) → Contains (firsts gs) x → Begins gs x
-begins [] x h = let l = h.1 in absurd (omega (arith, l))
+begins [] x h = absurd (contains-none x h)
 begins (Init f ∷ gs) x h =
     let b = begins gs x h in record { k = suc b.k; name = b.name; params = b.params; kinds = b.kinds; is = b.is }
-begins (Core name first params kinds ∷ gs) x h = elim (Contains-append_cases (first ∷ []) (firsts gs) x h) [
-  | inl k ↦ elim (Contains-push_cases [] first x k) [
-    | inl z ↦ absurd (let l = z.1 in omega (arith, l))
-    | inr e ↦ record { k = zero; name = name; params = params; kinds = kinds; is = ap (λ y. Some (Core name y params kinds)) e }
-  ]
+begins (Core name first params kinds ∷ gs) x h = elim (contains-cases first (firsts gs) x h) [
+  | inl e ↦ record { k = zero; name = name; params = params; kinds = kinds; is = ap (λ y. Some (Core name y params kinds)) e }
   | inr k ↦ let b = begins gs x k in record { k = suc b.k; name = b.name; params = b.params; kinds = b.kinds; is = b.is }
 ]

@@ -1,25 +1,22 @@
 -- Each entry of a program's graph is a block of a core function, at which well typed statements stand.
-use Rattle.std.proofs.Common.{◌≡◌, ℕ, zero, suc, ◌+◌, ◌<◌, ◌≤◌, true, Option, Some, None, IsSome, IsSomeAnd, List, [], ◌∷◌, ◌++◌, length, slice_get, Contains, All, refl, sym, ap, ◌∙◌, subst, arith}
+use Rattle.std.proofs.Common.{◌≡◌, ℕ, ◌≤◌, true, Option, Some, None, List, [], ◌∷◌, slice_get, All, refl, sym, ap, ◌∙◌, subst, arith}
 use Rattle.ceal_base.specs.Usage.{CoreUsage, InitUsage, FunctionUsage, KeepsUsage}
-use Rattle.ceal_base.specs.WellTyped.{Context, FunctionTyped, StmtsTyped, WellTyped, context_of, numbers_below}
+use Rattle.ceal_base.specs.WellTyped.{Context, FunctionTyped, WellTyped, context_of, numbers_below}
 use Rattle.ceal_base.specs.declared.typed.Typed.{Typed}
 use Rattle.ceal_base.specs.declared.typed.TypedFunction.{TypedFunction}
 use Rattle.ceal_base.specs.declared.typed.TypedStmt.{TypedStmt}
 use Rattle.ceal_flow.specs.Blocks.{sizes, all_blocks}
-use Rattle.ceal_flow.specs.Laws.{IsReached}
-use Rattle.ceal_flow.specs.Lowering.{end_of, first_of, core_at, core_blocks, function_in, function_at, graph_of}
+use Rattle.ceal_flow.specs.Lowering.{end_of, first_of, function_in, function_at, graph_of}
 use Rattle.ceal_flow.specs.Paths.{stays, jumps_to, Leads}
 use Rattle.ceal_flow.specs.Program.{Graph}
-use Rattle.ceal_flow.specs.declared.block.GraphBlock.{GraphBlock}
 use Rattle.ceal_flow.specs.declared.block.GraphBlock.TheVariants.{Done}
-use Rattle.ceal_flow.specs.declared.function.GraphFunction.{GraphFunction}
 use Rattle.ceal_flow.specs.declared.function.GraphFunction.TheVariants.{Core, Init}
 use Rattle.ceal_flow.proofs.BlockSteps.{all-length}
 use Rattle.ceal_flow.proofs.Placing.{placed-head, placed-left, placed-right, made-at, all-at}
 use Rattle.ceal_norm.specs.Entries.{is_entry}
 use Rattle.ceal_norm.proofs.Lives.{onward}
 use Rattle.ceal_norm.proofs.Numbers.{Home, home, functions-there, begins}
-use Rattle.ceal_norm.proofs.Standing.{Stands, ends, goes, view}
+use Rattle.ceal_norm.proofs.Standing.{Stands, ends, goes, View, view}
 use Rattle.ceal_norm.proofs.UnitFacts.{entry-reached}
 
 abbrev BodyUsage : List TypedFunction → List TypedStmt → Option ℕ → Type 0
@@ -48,7 +45,7 @@ pub init-function : (f : TypedFunction) (n s : ℕ) → f.initialiser ≡ Some s
 init-function f n s e = ap (λ i. function_in i f n) e
 
 module _ (p : Typed) where
-  abbrev pub g : Graph
+  abbrev g : Graph
   g = graph_of p
 
   abbrev pub context : TypedFunction → Context
@@ -65,20 +62,30 @@ module _ (p : Typed) where
     pub room : home.start ≤ end_of f.body home.start
     pub first : Stands p.functions (context f) g.blocks home.start (end_of f.body home.start) (numbers_below f.params) (first_of f.body home.start)
 
+  -- it stands at a block of the function, where these variables are in scope
+  abbrev pub StandsIn : (k : ℕ) → Function k → List ℕ → ℕ → Type 0
+  StandsIn k fn seen b = Stands p.functions (context fn.f) g.blocks fn.home.start (end_of fn.f.body fn.home.start) seen b
+
+  -- what stands there
+  abbrev pub ViewIn : (k : ℕ) → Function k → List ℕ → ℕ → Type 0
+  ViewIn k fn seen b = View p.functions (context fn.f) g.blocks fn.home.start (end_of fn.f.body fn.home.start) fn.over fn.room seen b
+
+  pub view-in : (k : ℕ) (fn : Function k) (seen : List ℕ) (b : ℕ) → StandsIn k fn seen b → ViewIn k fn seen b
+  view-in k fn seen b st = view p.functions (context fn.f) g.blocks fn.home.start (end_of fn.f.body fn.home.start) fn.over fn.room seen b st
+
+  -- a block of a core function
   pub record Spot (b : ℕ) : Type 0 where
     pub k : ℕ
     pub function : Function k
     pub seen : List ℕ
-    pub stands : Stands p.functions (context function.f) g.blocks function.home.start (end_of function.f.body function.home.start) seen b
+    pub stands : StandsIn k function seen b
 
   -- the function from which a jump leads is that to which it leads
   lead-spot : (a b : ℕ) → Spot a → Leads g.blocks a b → Spot b
   lead-spot a b spot stays = spot
   lead-spot a b spot (jumps_to {b = x} {c = y} {d = z} t j h) =
       let fn = spot.function in
-      let done = end_of fn.f.body fn.home.start in
-      let o = onward p.functions (context fn.f) g.blocks fn.home.start done fn.over fn.room spot.seen x y
-      (view p.functions (context fn.f) g.blocks fn.home.start done fn.over fn.room spot.seen x spot.stands) j in
+      let o = onward p.functions (context fn.f) g.blocks fn.home.start (end_of fn.f.body fn.home.start) fn.over fn.room spot.seen x y (view-in spot.k fn spot.seen x spot.stands) j in
       lead-spot y b (record { k = spot.k; function = fn; seen = o.after; stands = o.stands }) h
 
   module _ (typed : WellTyped p) (kept : KeepsUsage p) where
@@ -111,7 +118,7 @@ module _ (p : Typed) where
           k = k;
           function = fn;
           seen = numbers_below fn.f.params;
-          stands = subst (λ x. Stands p.functions (context fn.f) g.blocks fn.home.start (end_of fn.f.body fn.home.start) (numbers_below fn.f.params) x) at fn.first;
+          stands = subst (λ x. StandsIn k fn (numbers_below fn.f.params) x) at fn.first;
         }
     first-spot b name params kinds k f there is (initialiser s e) =
         let m = made-at p.functions k f is in

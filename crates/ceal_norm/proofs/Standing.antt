@@ -1,9 +1,9 @@
 -- Where a run stands in the blocks of a function: the statements still to do are well typed there, and a jump leads to
 -- where others stand.
-use Rattle.std.proofs.Common.{◌≡◌, ◌⊎◌, inl, inr, ℕ, ◌+◌, ◌<◌, ◌≤◌, Bool, true, false, ◌||◌, ◌&&◌, Some, List, [], ◌∷◌, ◌++◌, slice_get, Contains, All, refl, sym, ap, ◌∙◌, subst, arith}
+use Rattle.std.proofs.Common.{◌≡◌, ◌⊎◌, inl, inr, ℕ, ◌+◌, ◌≤◌, Bool, true, false, ◌||◌, ◌&&◌, Some, List, [], ◌∷◌, ◌++◌, slice_get, Contains, All, refl, sym, ap, ◌∙◌, subst, arith}
 use Rattle.std.proofs.lemmas.List.Elements.{All-nil, All-cons, All-head, All-tail, Contains-append_right}
 use Rattle.ceal_base.specs.Usage.{CoreUsage, RowCoreUsage}
-use Rattle.ceal_base.specs.WellTyped.{Context, ExprTyped, StmtTyped, RowTyped, StmtsTyped, seen_after, declarations, row_declarations, all_declarations}
+use Rattle.ceal_base.specs.WellTyped.{Context, ExprTyped, StmtTyped, RowTyped, StmtsTyped, seen_after, declarations}
 use Rattle.ceal_base.specs.declared.kind.Kind.TheVariants.{Int}
 use Rattle.ceal_base.specs.declared.typed.TypedExpr.{TypedExpr}
 use Rattle.ceal_base.specs.declared.typed.TypedFunction.{TypedFunction}
@@ -16,7 +16,7 @@ use Rattle.ceal_flow.specs.Blocks.{size, sizes, goes_on, all_go_on, target, entr
 use Rattle.ceal_flow.specs.Laws.{IsSimple}
 use Rattle.ceal_flow.specs.declared.block.GraphBlock.{GraphBlock}
 use Rattle.ceal_flow.specs.declared.block.GraphBlock.TheVariants.{Done, Test, Act}
-use Rattle.ceal_flow.proofs.BlockSteps.{on-declare, on-assign, on-write, on-call, on-if, on-while, on-nil, on-cons, blocks-declare, blocks-assign, blocks-write, blocks-call, blocks-if, blocks-while, all-length, sizes-nil, sizes-cons, size-if, size-while}
+use Rattle.ceal_flow.proofs.BlockSteps.{on-declare, on-assign, on-write, on-call, on-if, on-while, on-nil, on-cons, blocks-declare, blocks-assign, blocks-write, blocks-call, blocks-if, blocks-while, all-length, sizes-cons, size-if, size-while}
 use Rattle.ceal_flow.proofs.Placing.{Placed, placed-head, placed-left, placed-right, placed-tail, placed-first, placed-rest}
 
 -- each variable of the first list is in the second

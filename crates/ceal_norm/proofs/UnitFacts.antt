@@ -1,5 +1,6 @@
 -- The units of a graph's entries.
-use Rattle.std.proofs.Common.{◌≡◌, ◌⊎◌, inl, inr, ℕ, zero, suc, ◌+◌, ◌<◌, ◌≤◌, ◌||◌, ◌&&◌, nat_le, Bool, true, false, Option, Some, None, if◌then◌else◌, List, [], ◌∷◌, ◌++◌, length, slice_get, Contains, refl, sym, ap, ◌∙◌, subst, arith, length-append}
+use Rattle.std.proofs.Common.{◌≡◌, inl, inr, ℕ, zero, suc, ◌+◌, ◌<◌, ◌≤◌, ◌||◌, ◌&&◌, nat_le, Bool, true, false, Some, if◌then◌else◌, List, [], ◌∷◌, ◌++◌, length, slice_get, Contains, refl, sym, subst, arith, length-append}
+use Rattle.std.proofs.lemmas.Bool.{or_left, or_right, or_cases, leb-true}
 use Rattle.std.proofs.lemmas.Bool.Decides.{eqb_tells}
 use Rattle.std.proofs.lemmas.List.Elements.{Contains-push, Contains-append_left, Contains-append_right}
 use Rattle.ceal_base.specs.declared.typed.Typed.{Typed}
@@ -8,9 +9,9 @@ use Rattle.ceal_code.proofs.Same.{both-true}
 use Rattle.ceal_code.specs.Program.{Unit, Code}
 use Rattle.ceal_code.specs.Valid.{unit_ok, units_ok}
 use Rattle.ceal_base.specs.declared.kind.Kind.{Kind}
-use Rattle.ceal_flow.specs.Laws.{IsKept, firsts, IsReached}
+use Rattle.ceal_flow.specs.Laws.{firsts, IsReached}
 use Rattle.ceal_flow.specs.Lowering.{graph_of}
-use Rattle.ceal_flow.specs.Paths.{stays, jumps, Leads}
+use Rattle.ceal_flow.specs.Paths.{stays, jumps, jumps_at}
 use Rattle.ceal_flow.specs.Program.{Graph}
 use Rattle.ceal_flow.specs.Sets.{is_in}
 use Rattle.ceal_flow.specs.declared.block.GraphBlock.{GraphBlock}
@@ -18,11 +19,11 @@ use Rattle.ceal_flow.specs.declared.block.GraphBlock.TheVariants.{Done, Test, Ac
 use Rattle.ceal_flow.specs.declared.function.GraphFunction.{GraphFunction}
 use Rattle.ceal_flow.specs.declared.function.GraphFunction.TheVariants.{Core, Init}
 use Rattle.ceal_flow.proofs.ListFacts.{get-left, get-right}
-use Rattle.ceal_flow.proofs.Reach.{lead-on, jump}
-use Rattle.ceal_flow.proofs.Reached.{kept-reached}
 use Rattle.ceal_norm.specs.Entries.{has_closure, behind, all_behind, all_jumps, count, is_entry, entries_before}
 use Rattle.ceal_norm.specs.Units.{Source, unit_code, units_before}
-use Rattle.ceal_norm.proofs.Facts.{or-cases, or-left, or-right, in-first, in-cases, in-left, in-right, in-either}
+use Rattle.ceal_norm.proofs.Closed.{jump-reached}
+use Rattle.ceal_norm.proofs.Counts.{first-entry}
+use Rattle.ceal_norm.proofs.Facts.{in-first, in-cases, in-left, in-right, in-either}
 
 module _ (s : Source) where
   length-if : (b : Bool) (us : List Unit) (u : Unit) (n : ℕ) → length us ≡ n → length (if b then us ++ u ∷ [] else us) ≡ (if b then n + 1 else n)
@@ -88,20 +89,20 @@ pub behind-entry : (g : Graph) (b c : ℕ) (s : TypedStmt) → slice_get g.block
 behind-entry g b c s look h =
     let here : is_in c (behind (Act s c)) ≡ true = rw h (in-first c []) in
     let inside = behind-in g.blocks b c (Act s c) look here in
-    or-left (is_in c (firsts g.functions) || is_in c (all_behind g.blocks)) (nat_le 2 (count c (all_jumps g.blocks)))
-    (or-right (is_in c (firsts g.functions)) (is_in c (all_behind g.blocks)) inside)
+    or_left (is_in c (firsts g.functions) || is_in c (all_behind g.blocks)) (nat_le 2 (count c (all_jumps g.blocks)))
+    (or_right (is_in c (firsts g.functions)) (is_in c (all_behind g.blocks)) inside)
 
-first-in : (gs : List GraphFunction) (k : ℕ) (name : List ℕ) (first params : ℕ) (kinds : List Kind) → slice_get gs k ≡ Some (Core name first params kinds) → is_in first (firsts gs) ≡ true
+first-in : (gs : List GraphFunction) (k : ℕ) (name : List ℕ) (first params : ℕ) (kinds : List Kind) → slice_get gs k ≡ Some (Core name first params kinds) → Contains (firsts gs) first
 first-in [] k name first params kinds e = cc
 first-in (Init f ∷ gs) zero name first params kinds e = cc
-first-in (Core n x q ks ∷ gs) zero name first params kinds e = let same : x ≡ first = cc in rw same (in-first first (firsts gs))
+first-in (Core n x q ks ∷ gs) zero name first params kinds e =
+    let same : x ≡ first = cc in subst (λ y. Contains (x ∷ firsts gs) y) same (Contains-append_left (x ∷ []) (firsts gs) x (Contains-push [] x))
 first-in (Init f ∷ gs) (suc k) name first params kinds e = first-in gs k name first params kinds e
-first-in (Core n x q ks ∷ gs) (suc k) name first params kinds e = in-right first (x ∷ []) (firsts gs) (first-in gs k name first params kinds e)
+first-in (Core n x q ks ∷ gs) (suc k) name first params kinds e = Contains-append_right (x ∷ []) (firsts gs) first (first-in gs k name first params kinds e)
 
-pub first-entry : (g : Graph) (k : ℕ) (name : List ℕ) (first params : ℕ) (kinds : List Kind) → slice_get g.functions k ≡ Some (Core name first params kinds) → is_entry g first ≡ true
-first-entry g k name first params kinds e =
-    or-left (is_in first (firsts g.functions) || is_in first (all_behind g.blocks)) (nat_le 2 (count first (all_jumps g.blocks)))
-    (or-left (is_in first (firsts g.functions)) (is_in first (all_behind g.blocks)) (first-in g.functions k name first params kinds e))
+-- the first block of a function
+pub function-entry : (g : Graph) (k : ℕ) (name : List ℕ) (first params : ℕ) (kinds : List Kind) → slice_get g.functions k ≡ Some (Core name first params kinds) → is_entry g first ≡ true
+function-entry g k name first params kinds e = first-entry g first (first-in g.functions k name first params kinds e)
 
 in-contains : (v : ℕ) (xs : List ℕ) → is_in v xs ≡ true → Contains xs v
 in-contains v [] h = cc
@@ -113,12 +114,10 @@ in-contains v (x ∷ xs) h = elim (in-cases v x xs h) [
 -- a block from which a jump leads to another
 record Jumps (blocks : List GraphBlock) (c : ℕ) : Type 0 where
   b : ℕ
-  block : GraphBlock
-  look : slice_get blocks b ≡ Some block
-  leads : is_in c (jumps block) ≡ true
+  leads : Contains (jumps_at (slice_get blocks b)) c
 
 later-jump : (x : GraphBlock) (xs : List GraphBlock) (c : ℕ) → Jumps xs c → Jumps (x ∷ xs) c
-later-jump x xs c j = record { b = suc j.b; block = j.block; look = j.look; leads = j.leads }
+later-jump x xs c j = record { b = suc j.b; leads = j.leads }
 
 behind-if : (t : Bool) (n c : ℕ) → is_in c (if t then n ∷ [] else []) ≡ true → is_in c (n ∷ []) ≡ true
 behind-if true n c h = h
@@ -134,7 +133,7 @@ behind-from : (blocks : List GraphBlock) (c : ℕ) → is_in c (all_behind block
 unfolding all_behind
 behind-from [] c h = cc
 behind-from (x ∷ xs) c h = elim (in-either c (behind x) (all_behind xs) h) [
-  | inl k ↦ record { b = 0; block = x; look = refl; leads = behind-jumps x c k }
+  | inl k ↦ record { b = 0; leads = in-contains c (jumps x) (behind-jumps x c k) }
   | inr k ↦ later-jump x xs c (behind-from xs c k)
 ]
 
@@ -150,35 +149,23 @@ jumps-from : (blocks : List GraphBlock) (c : ℕ) → is_in c (all_jumps blocks)
 unfolding all_jumps
 jumps-from [] c h = cc
 jumps-from (x ∷ xs) c h = elim (in-either c (jumps x) (all_jumps xs) h) [
-  | inl k ↦ record { b = 0; block = x; look = refl; leads = k }
+  | inl k ↦ record { b = 0; leads = in-contains c (jumps x) k }
   | inr k ↦ later-jump x xs c (jumps-from xs c k)
 ]
 
-jumps-kept : (block : GraphBlock) (c : ℕ) → is_in c (jumps block) ≡ true → IsKept (Some block)
-jumps-kept Done c h = cc
-jumps-kept (Test test a b) c h = tt
-jumps-kept (Act s next) c h = tt
-jumps-kept Unreached c h = cc
-
-two-one : (n : ℕ) → nat_le 2 n ≡ true → 1 ≤ n
-two-one n h = grind (arith, h)
-
 module _ (p : Typed) where
-  jump-reached : (c : ℕ) → Jumps (graph_of p).blocks c → IsReached (graph_of p) c
-  jump-reached c j =
-      let r = kept-reached p j.b (rw j.look (jumps-kept j.block c j.leads)) in
-      (r.0, r.1, lead-on (graph_of p).blocks r.0 j.b c r.2 (jump (graph_of p).blocks j.b c c j.block j.look (in-contains c (jumps j.block) j.leads) stays))
-
   -- a path leads to each entry
   pub entry-reached : (c : ℕ) → is_entry (graph_of p) c ≡ true → IsReached (graph_of p) c
   entry-reached c h =
       let gs = firsts (graph_of p).functions in
       let bs = all_behind (graph_of p).blocks in
       let js = all_jumps (graph_of p).blocks in
-      elim (or-cases (is_in c gs || is_in c bs) (nat_le 2 (count c js)) h) [
-        | inl k ↦ elim (or-cases (is_in c gs) (is_in c bs) k) [
+      elim (or_cases (is_in c gs || is_in c bs) (nat_le 2 (count c js)) h) [
+        | inl k ↦ elim (or_cases (is_in c gs) (is_in c bs) k) [
           | inl m ↦ (c, in-contains c gs m, stays)
-          | inr m ↦ jump-reached c (behind-from (graph_of p).blocks c m)
+          | inr m ↦ let j = behind-from (graph_of p).blocks c m in jump-reached p j.b c j.leads
         ]
-        | inr k ↦ jump-reached c (jumps-from (graph_of p).blocks c (counted-in c js (two-one (count c js) k)))
+        | inr k ↦
+            let two = leb-true 2 (count c js) k in
+            let j = jumps-from (graph_of p).blocks c (counted-in c js (omega (arith, two))) in jump-reached p j.b c j.leads
       ]
