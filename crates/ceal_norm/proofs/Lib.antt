@@ -13,3 +13,4 @@ pub mod Lives
 pub mod UnitFacts
 pub mod Spots
 pub mod RunValues
+pub mod RunInit
