@@ -14,3 +14,4 @@ pub mod UnitFacts
 pub mod Spots
 pub mod RunValues
 pub mod RunInit
+pub mod RunWords
