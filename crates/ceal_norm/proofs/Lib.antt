@@ -15,3 +15,5 @@ pub mod Spots
 pub mod RunValues
 pub mod RunInit
 pub mod RunWords
+pub mod RunFrames
+pub mod RunSteps
