@@ -17,3 +17,4 @@ pub mod RunInit
 pub mod RunWords
 pub mod RunFrames
 pub mod RunSteps
+pub mod RunSame

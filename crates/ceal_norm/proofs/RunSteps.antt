@@ -52,7 +52,7 @@ use Rattle.ceal_norm.specs.Laws.{IsClosed, IsForward, source_of}
 use Rattle.ceal_norm.specs.Units.{Source, Placed, block_code, code_of, unit_of, args_of, own_args, without, closure_args, arg_at, call_args, entry_set, test_code, value_code, stmt_code, function_code}
 use Rattle.ceal_norm.proofs.Facts.{get-map, in-left, in-right}
 use Rattle.ceal_norm.proofs.Lives.{Match, match, used-live, jump-live}
-use Rattle.ceal_norm.proofs.RunFrames.{PartAt, command-is, part-behind, part-left, part-right, code, T, J, set, over, entry_unit, T-is, params-are, Standing, Sight, sight, spot-there, unit-kinds, Along, Either, AllAlong, enter-along, called_point, call-along}
+use Rattle.ceal_norm.proofs.RunFrames.{PartAt, command-is, part-behind, part-left, part-right, code as code_for, T, J, set, over, entry_unit, T-is, params-are, Standing, Sight, sight, spot-there, unit-kinds, Along, Either, AllAlong, enter-along, called_point, call-along}
 use Rattle.ceal_norm.proofs.RunInit.{all-init}
 use Rattle.ceal_norm.proofs.RunValues.{expr-same, exprs-same, arg-same}
 use Rattle.ceal_norm.proofs.RunWords.{instead, woven-map, values-map, values-own, set-word, set-long}
@@ -127,7 +127,7 @@ not-same n v h = elim (eqb_tells n v) [ inl p ↦ absurd (h (sym p.1)) | inr p �
 -- a step of the graph from a memory to a state is this step of a stack
 pub record Stepped (p : Typed) (sets : List (List ℕ)) (m : Blocks) (a : CodeAct) (t : State) : Type 0 where
   pub after : Stack
-  pub goes_on : (again : Blocks → Stack → Option Finished) (k : ℕ) → ran (code p sets) again k m a ≡ again t.memory after
+  pub goes_on : (again : Blocks → Stack → Option Finished) (k : ℕ) → ran (code_for p sets) again k m a ≡ again t.memory after
   pub steps : (k : ℕ) → only_over k m a ≡ None
   pub along : AllAlong p sets t.points after
 
@@ -152,7 +152,7 @@ module _ (p : Typed) (sets : List (List ℕ)) (typed : WellTyped p) (kept : Keep
   live_at b = set_at sets b
 
   -- a core function
-  core-function : (k : ℕ) → IsCore (slice_get p.functions k) → Function p k
+  pub core-function : (k : ℕ) → IsCore (slice_get p.functions k) → Function p k
   core-function k u =
       let h = found (slice_get p.functions k) (λ x. IsNone x.initialiser) u in
       function-of p typed kept k h.function h.is (none-is h.function.initialiser h.holds)
@@ -281,15 +281,15 @@ module _ (p : Typed) (sets : List (List ℕ)) (typed : WellTyped p) (kept : Keep
           (part-behind the_code u i c (jump_at next (i + 1)) (part-is (c ∷ jump_at next (i + 1)) (part-there ∙ e)))
 
       module _ (n : ℕ) (kind : Kind) (assigned : stmt_assigns st ≡ Some n) (has : slice_get along.spot.function.f.kinds n ≡ Some kind) where
-        within : n < length q.env
-        within = let wide = along.wide in let l = get-within along.spot.function.f.kinds n kind has in omega (arith, wide, l)
+        has-room : n < length q.env
+        has-room = let wide = along.wide in let l = get-within along.spot.function.f.kinds n kind has in omega (arith, wide, l)
 
         set-along : (c : Cmd) (w w' : Word) → stmt_code source jump_at next i st ≡ c ∷ jump_at next (i + 1) → w ≡ w'
             → AllAlong p sets (record { block = next; env = slice_set q.env n w' } ∷ points) (Run u (i + 1) (set_variable env n w) below)
         set-along c w w' e same =
             let long = set-long q.env n w' in
             next-along next (i + 1) (slice_set q.env n w') (set_variable env n w) after stands (omega (arith, long))
-            (λ v h. set-is env n w v ∙ after-set (Act st next) look next n w w' leads next-there assigned within same v h)
+            (λ v h. set-is env n w v ∙ after-set (Act st next) look next n w w' leads next-there assigned has-room same v h)
             (part-behind the_code u i c (jump_at next (i + 1)) (part-is (c ∷ jump_at next (i + 1)) (part-there ∙ e)))
 
         -- what a read through null gives
@@ -315,7 +315,7 @@ module _ (p : Typed) (sets : List (List ℕ)) (typed : WellTyped p) (kept : Keep
             let wide = along.wide in
             let long = set-long q.env n value' in
             (inl (enter-along p sets (record { block = next; env = slice_set q.env n value' }) spot (omega (arith, wide, long)) e (code_given the_code x n args value) (instead n value env) words
-            (after-set (Act st next) look next n value value' leads next-there assigned within value_same)), others)
+            (after-set (Act st next) look next n value value' leads next-there assigned has-room value_same)), others)
 
         value-step : (value : TypedValue) → stmt_uses st ≡ value_mentions value → has_closure st ≡ is_read value → stmt_code source jump_at next i st ≡ value_code source jump_at next i n value
             → ValueTyped (context p along.spot.function.f) inner kind value → ValueUsage p.functions value
