@@ -1,17 +1,16 @@
 -- An initialiser of trace code makes the block that the program's makes.
-use Rattle.std.proofs.Common.{◌≡◌, ℕ, ◌+◌, Bool, true, false, Option, Some, None, IsSome, IfSome, MatchOption, if◌then◌else◌, List, [], ◌∷◌, ◌++◌, slice_get, slice_set, unwrap_or, All, refl, sym, ap, ◌∙◌, subst}
+use Rattle.std.proofs.Common.{◌≡◌, ℕ, ◌+◌, Bool, Option, Some, None, IfSome, MatchOption, if◌then◌else◌, List, [], ◌∷◌, ◌++◌, slice_set, All, refl, sym, ap, ◌∙◌, subst}
 use Rattle.std.proofs.lemmas.List.Elements.{All-head, All-tail}
 use Rattle.ceal_base.specs.Access.{holds}
-use Rattle.ceal_base.specs.Block.{Block, Blocks, block_at}
+use Rattle.ceal_base.specs.Block.{Blocks, block_at}
 use Rattle.ceal_base.specs.Usage.{InitUsage, RowInitUsage}
-use Rattle.ceal_base.specs.WellTyped.{Context, FormTyped, ExprTyped, ExprSuits, StmtTyped, RowTyped, StmtsTyped, seen_after, declarations, plain_kind}
+use Rattle.ceal_base.specs.WellTyped.{Context, FormTyped, ExprSuits, StmtTyped, RowTyped, StmtsTyped, seen_after, declarations, plain_kind}
 use Rattle.ceal_base.specs.declared.kind.FieldKind.{FieldKind}
 use Rattle.ceal_base.specs.declared.kind.FieldKind.TheVariants.{Plain as PlainField, CellInt, CellPtr}
 use Rattle.ceal_base.specs.declared.kind.Kind.{Kind}
 use Rattle.ceal_base.specs.declared.kind.Kind.TheVariants.{Ptr}
 use Rattle.ceal_base.specs.declared.kind.Shape.TheVariants.{Struct}
 use Rattle.ceal_base.specs.declared.typed.StructInfo.{StructInfo}
-use Rattle.ceal_base.specs.declared.typed.TypedExpr.{TypedExpr}
 use Rattle.ceal_base.specs.declared.typed.TypedForm.{TypedForm, Own}
 use Rattle.ceal_base.specs.declared.typed.TypedStmt.{TypedStmt, Declare, Assign, SetField, Write, Call, If', While', Return, Row_of-TypedStmt, end_of-TypedStmt, more_of-TypedStmt}
 use Rattle.ceal_base.specs.declared.word.Word.{Word}
@@ -23,9 +22,9 @@ use Rattle.ceal_code.specs.declared.function.InitStmt.TheBlock.{hidden-the_row-I
 use Rattle.ceal_code.specs.declared.function.InitStmt.TheVariants.{Set}
 use Rattle.ceal_code.specs.declared.function.InitStmt.TheViews as init
 use Rattle.ceal_mean.specs.Init.{set_by, set_by_row, set_by_all}
-use Rattle.ceal_mean.specs.Value.{variable_of, value_of}
+use Rattle.ceal_mean.specs.Value.{variable_of}
 use Rattle.ceal_norm.specs.Expressions.{expr_code, init_code, row_init_code, all_init_code}
-use Rattle.ceal_norm.proofs.Lives.{Match, match}
+use Rattle.ceal_norm.proofs.Lives.{match}
 use Rattle.ceal_norm.proofs.RunValues.{expr-same}
 
 module _ (structs : List StructInfo) (x : Plain) (env : Variables) (s : ℕ) where

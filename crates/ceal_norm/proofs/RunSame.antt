@@ -1,14 +1,13 @@
 -- The code of a graph runs as the graph does.
-use Rattle.std.proofs.Common.{◌≡◌, inl, inr, ℕ, zero, suc, ◌+◌, Option, None, List, [], ◌∷◌, slice_get, map, refl, sym, ap, ◌∙◌, subst}
-use Rattle.ceal_base.specs.Block.{Block, Blocks, block_at}
-use Rattle.ceal_base.specs.Finished.{Finished}
+use Rattle.std.proofs.Common.{◌≡◌, inl, inr, ℕ, zero, suc, ◌+◌, List, [], ◌∷◌, slice_get, map, refl, sym, ap, ◌∙◌, subst}
+use Rattle.ceal_base.specs.Block.{Blocks, block_at}
 use Rattle.ceal_base.specs.Usage.{KeepsUsage, IsCore}
 use Rattle.ceal_base.specs.WellTyped.{WellTyped}
 use Rattle.ceal_base.specs.declared.typed.Typed.{Typed}
 use Rattle.ceal_base.specs.declared.word.Word.{Word}
 use Rattle.ceal_code.specs.Fresh.{ran, only_over, run as code_run, fresh as code_fresh}
 use Rattle.ceal_code.specs.Program.{Code}
-use Rattle.ceal_code.specs.Step.{Stack, Empty, Run, Over, act, acted, bound, chosen, command_at, entry_of, started, unit_at, next as code_next, settled as code_settled}
+use Rattle.ceal_code.specs.Step.{Stack, Empty, Over, act, acted, chosen, command_at, entry_of, started, unit_at, next as code_next, settled as code_settled}
 use Rattle.ceal_flow.specs.Fresh.{Point, entered, point_in, settled, stepped, run_settled}
 use Rattle.ceal_flow.specs.Live.{AreLiveSets}
 use Rattle.ceal_flow.specs.Lowering.{first_of, graph_of}
@@ -20,7 +19,7 @@ use Rattle.ceal_norm.specs.Units.{code_of}
 use Rattle.ceal_norm.proofs.Closed.{graph-closed}
 use Rattle.ceal_norm.proofs.Forward.{graph-forward}
 use Rattle.ceal_norm.proofs.RunFrames.{AllAlong, Running, settle, params-are, spot-there, first-spot, first-is_entry, entry-unit, called_point, call-along}
-use Rattle.ceal_norm.proofs.RunSteps.{Stepped, core-function, step-along}
+use Rattle.ceal_norm.proofs.RunSteps.{core-function, step-along}
 use Rattle.ceal_norm.proofs.RunWords.{chosen-map}
 
 module _ (p : Typed) (sets : List (List ℕ)) (typed : WellTyped p) (kept : KeepsUsage p) (live : AreLiveSets (graph_of p).blocks sets)

@@ -1,14 +1,13 @@
 -- One block is one step of its unit.
-use Rattle.std.proofs.Common.{◌≡◌, ◌⊎◌, inl, inr, ℕ, ◌+◌, ◌-◌, ◌<◌, ◌≤◌, ◌==◌, not, Bool, true, false, if◌then◌else◌, Option, Some, None, IsSome, IsSomeAnd, IsNone, IsTrue, MatchOption, List, [], ◌∷◌, ◌++◌, length, map, slice_get, slice_set, unwrap_or, replicate, Contains, All, refl, sym, ap, ap₂, ◌∙◌, subst, arith}
+use Rattle.std.proofs.Common.{◌≡◌, inl, inr, ℕ, ◌+◌, ◌<◌, ◌≤◌, ◌==◌, not, Bool, true, false, if◌then◌else◌, Option, Some, None, IsSome, IsSomeAnd, IsNone, List, [], ◌∷◌, ◌++◌, length, map, slice_get, slice_set, unwrap_or, Contains, All, refl, sym, ap, ap₂, ◌∙◌, subst, arith}
 use Rattle.std.proofs.lemmas.Bool.Decides.{eqb_tells}
 use Rattle.std.proofs.lemmas.List.Elements.{Contains-push, Contains-append_left, Contains-append_right}
 use Rattle.ceal_base.specs.Access.{content_of, written, holds}
-use Rattle.ceal_base.specs.Block.{Block, Blocks, block_at}
+use Rattle.ceal_base.specs.Block.{Blocks, block_at}
 use Rattle.ceal_base.specs.Finished.{Finished, with_block}
 use Rattle.ceal_base.specs.Shapes.{default_of_kind, default_block}
-use Rattle.ceal_base.specs.Usage.{CoreUsage, InitUsage, FunctionUsage, ValueUsage, KeepsUsage, IsCore, IsInitialiser}
-use Rattle.ceal_base.specs.WellTyped.{Context, ExprTyped, ExprSuits, ValueTyped, StmtTyped, FunctionTyped, WellTyped, kind_held, numbers_below}
-use Rattle.ceal_base.specs.declared.forest.Key.{Key}
+use Rattle.ceal_base.specs.Usage.{CoreUsage, FunctionUsage, ValueUsage, KeepsUsage, IsCore, IsInitialiser}
+use Rattle.ceal_base.specs.WellTyped.{ExprTyped, ExprSuits, ValueTyped, StmtTyped, FunctionTyped, WellTyped, kind_held, numbers_below}
 use Rattle.ceal_base.specs.declared.forest.Key.TheVariants.{Init as InitKey, ModInt as IntKey, ModPtr as PtrKey}
 use Rattle.ceal_base.specs.declared.forest.UnitId.{UnitId}
 use Rattle.ceal_base.specs.declared.kind.Kind.{Kind}
@@ -26,33 +25,32 @@ use Rattle.ceal_base.specs.declared.word.Word.TheVariants.{Num, Null, Block as B
 use Rattle.ceal_code.specs.Fresh.{ran, only_over}
 use Rattle.ceal_code.specs.Init.{made, made_by as code_made_by, arguments}
 use Rattle.ceal_code.specs.Program.{Code}
-use Rattle.ceal_code.specs.Step.{Stack, Empty, Run, Act as CodeAct, bound, unit_at, command_at, entry_of, kinds_of, kind_default, variable_default, entered as code_entered, given as code_given, woven, place_of, reads_at, writes_at, act}
+use Rattle.ceal_code.specs.Step.{Stack, Run, Act as CodeAct, command_at, entry_of, kind_default, variable_default, entered as code_entered, given as code_given, woven, place_of, reads_at, writes_at, act}
 use Rattle.ceal_code.specs.Value.{Variables, set as set_variable, expr_value, values}
 use Rattle.ceal_code.specs.declared.command.Cmd.{Cmd}
 use Rattle.ceal_code.specs.declared.command.Cmd.TheVariants.{Move, Alloc, Modref, Write as WriteCmd, If, Read, Call as CallCmd}
 use Rattle.ceal_flow.specs.Fresh.{Point, State, initialiser_in, taken, entered, given, is_over, acted, stepped, point_in}
 use Rattle.ceal_flow.specs.Laws.{IsSimple}
 use Rattle.ceal_flow.specs.Live.{AreLiveSets, mentions, all_mentions, value_mentions, stmt_uses, uses, stmt_assigns, assigns, keeps}
-use Rattle.ceal_flow.specs.Lowering.{end_of, first_of, core_at, function_at, graph_of}
+use Rattle.ceal_flow.specs.Lowering.{first_of, graph_of}
 use Rattle.ceal_flow.specs.Paths.{jumps}
 use Rattle.ceal_flow.specs.Program.{Graph}
 use Rattle.ceal_flow.specs.Sets.{is_in, is_that, set_at}
 use Rattle.ceal_flow.specs.declared.block.GraphBlock.{GraphBlock}
-use Rattle.ceal_flow.specs.declared.block.GraphBlock.TheVariants.{Done, Test, Act}
-use Rattle.ceal_flow.specs.declared.function.GraphFunction.{GraphFunction}
-use Rattle.ceal_flow.specs.declared.function.GraphFunction.TheVariants.{Core, Init}
+use Rattle.ceal_flow.specs.declared.block.GraphBlock.TheVariants.{Test, Act}
+use Rattle.ceal_flow.specs.declared.function.GraphFunction.TheVariants.{Init}
 use Rattle.ceal_flow.proofs.ListFacts.{get-within}
 use Rattle.ceal_flow.proofs.Placing.{made-at, all-at}
-use Rattle.ceal_mean.specs.Exec.{Taken, content_default}
+use Rattle.ceal_mean.specs.Exec.{content_default}
 use Rattle.ceal_mean.specs.Init.{made_by}
 use Rattle.ceal_mean.specs.Value.{variable_of, value_of, values_of}
 use Rattle.ceal_norm.specs.Entries.{is_entry, has_closure, is_read}
 use Rattle.ceal_norm.specs.Expressions.{variable, expr_code}
 use Rattle.ceal_norm.specs.Laws.{IsClosed, IsForward, source_of}
-use Rattle.ceal_norm.specs.Units.{Source, Placed, block_code, code_of, unit_of, args_of, own_args, without, closure_args, arg_at, call_args, entry_set, test_code, value_code, stmt_code, function_code}
+use Rattle.ceal_norm.specs.Units.{Source, Placed, block_code, code_of, unit_of, args_of, without, closure_args, arg_at, call_args, entry_set, value_code, stmt_code, function_code}
 use Rattle.ceal_norm.proofs.Facts.{get-map, in-left, in-right}
-use Rattle.ceal_norm.proofs.Lives.{Match, match, used-live, jump-live}
-use Rattle.ceal_norm.proofs.RunFrames.{PartAt, command-is, part-behind, part-left, part-right, code as code_for, T, J, set, over, entry_unit, T-is, params-are, Standing, Sight, sight, spot-there, unit-kinds, Along, Either, AllAlong, enter-along, called_point, call-along}
+use Rattle.ceal_norm.proofs.Lives.{match, used-live, jump-live}
+use Rattle.ceal_norm.proofs.RunFrames.{PartAt, command-is, part-behind, part-left, part-right, code as code_for, T, J, over, entry_unit, T-is, params-are, Standing, Sight, sight, spot-there, unit-kinds, Along, AllAlong, enter-along, called_point, call-along}
 use Rattle.ceal_norm.proofs.RunInit.{all-init}
 use Rattle.ceal_norm.proofs.RunValues.{expr-same, exprs-same, arg-same}
 use Rattle.ceal_norm.proofs.RunWords.{instead, woven-map, values-map, values-own, set-word, set-long}
@@ -313,9 +311,11 @@ module _ (p : Typed) (sets : List (List ℕ)) (typed : WellTyped p) (kept : Keep
             ∙ ap (woven (map variable (live_at next)) n value) (values-own p.structs (block_at m) env (without n (live_at next)))
             ∙ woven-map (live_at next) n value env in
             let wide = along.wide in
-            let long = set-long q.env n value' in
-            (inl (enter-along p sets (record { block = next; env = slice_set q.env n value' }) spot (omega (arith, wide, long)) e (code_given the_code x n args value) (instead n value env) words
-            (after-set (Act st next) look next n value value' leads next-there assigned has-room value_same)), others)
+            let long = set-long q.env n value' in (
+              inl (enter-along p sets (record { block = next; env = slice_set q.env n value' }) spot (omega (arith, wide, long)) e (code_given the_code x n args value) (instead n value env) words
+                  (after-set (Act st next) look next n value value' leads next-there assigned has-room value_same)),
+              others,
+            )
 
         value-step : (value : TypedValue) → stmt_uses st ≡ value_mentions value → has_closure st ≡ is_read value → stmt_code source jump_at next i st ≡ value_code source jump_at next i n value
             → ValueTyped (context p along.spot.function.f) inner kind value → ValueUsage p.functions value
@@ -391,10 +391,12 @@ module _ (p : Typed) (sets : List (List ℕ)) (typed : WellTyped p) (kept : Keep
       rest-along : is_entry graph next ≡ true → stmt_assigns st ≡ None
           → AllAlong p sets (record { block = next; env = q.env } ∷ points)
           (code_entered the_code (entry_unit p sets next) (values p.structs (block_at m) env (args_of source next)) below)
-      rest-along e none =
-          (inl (enter-along p sets (record { block = next; env = q.env }) (spot-at next after stands) along.wide e (values p.structs (block_at m) env (args_of source next)) env
-          (values-own p.structs (block_at m) env (live_at next))
-          (λ v h. after-kept (Act st next) look next v leads next-there (ap (λ o. not (is_that o v)) none) h)), others)
+      rest-along e none = (
+        inl (enter-along p sets (record { block = next; env = q.env }) (spot-at next after stands) along.wide e (values p.structs (block_at m) env (args_of source next)) env
+            (values-own p.structs (block_at m) env (live_at next))
+            (λ v h. after-kept (Act st next) look next v leads next-there (ap (λ o. not (is_that o v)) none) h)),
+        others,
+      )
 
       call-step : (f : ℕ) (args : List TypedExpr) → stmt_uses st ≡ all_mentions args → stmt_assigns st ≡ None → has_closure st ≡ true
           → stmt_code source jump_at next i st ≡ CallCmd f (call_args args (entry_set source (slice_get graph.functions f))) (unit_of source next) (args_of source next) ∷ []

@@ -1,7 +1,7 @@
 -- An expression of trace code gives what the program's expression gives.
-use Rattle.std.proofs.Common.{◌≡◌, ℕ, zero, suc, ℤ, ◌==◌, Bool, true, false, ◌&&◌, Option, Some, None, IsSome, is_some, if◌then◌else◌, List, [], ◌∷◌, ◌++◌, length, map, slice_get, slice_set, unwrap_or, All, refl, sym, ap, ap₂, ◌∙◌, subst}
+use Rattle.std.proofs.Common.{◌≡◌, ℕ, zero, suc, ℤ, true, ◌&&◌, Option, Some, None, IsSome, is_some, if◌then◌else◌, List, [], ◌∷◌, map, slice_get, unwrap_or, All, refl, sym, ap, ap₂, ◌∙◌, subst}
 use Rattle.std.proofs.lemmas.List.Elements.{All-head, All-tail}
-use Rattle.ceal_base.specs.Access.{pointed, word_in, place_in, address_of}
+use Rattle.ceal_base.specs.Access.{pointed, word_in, place_in}
 use Rattle.ceal_base.specs.Block.{Block, Blocks, block_at}
 use Rattle.ceal_base.specs.Operators.{unary_value, binary_value}
 use Rattle.ceal_base.specs.WellTyped.{Context, FormTyped, OperandTyped, ExprTyped, plain_kind, address_kind}
