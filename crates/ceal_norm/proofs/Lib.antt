@@ -3,7 +3,6 @@ pub mod Owners
 pub mod Forward
 pub mod Closed
 pub mod Trees
-
 pub mod Facts
 pub mod Expressions
 pub mod Standing
@@ -12,6 +11,10 @@ pub mod Bodies
 pub mod Lives
 pub mod UnitFacts
 pub mod Spots
+pub mod Fits
+pub mod UnitTrees
+pub mod Initialisers
+pub mod Functions
 pub mod RunValues
 pub mod RunInit
 pub mod RunWords
