@@ -229,13 +229,13 @@ module _ (p : Typed) (sets : List (List ℕ)) (typed : WellTyped p) (kept : Keep
           ]
 
     -- a condition
-    fork : (b b' : Bool) (x y j k : ℕ) (seen : List ℕ) → b ≡ b' → AllAlong p sets (record { block = x; env = q.env } ∷ points) (Run u j env below)
+    fork : (b b' : Bool) (x y j k : ℕ) → b ≡ b' → AllAlong p sets (record { block = x; env = q.env } ∷ points) (Run u j env below)
         → AllAlong p sets (record { block = y; env = q.env } ∷ points) (Run u k env below)
         → AllAlong p sets (record { block = (if b' then x else y); env = q.env } ∷ points) (Run u (if b then j else k) env below)
-    fork true true x y j k seen e one two = one
-    fork false false x y j k seen e one two = two
-    fork true false x y j k seen e one two = cc
-    fork false true x y j k seen e one two = cc
+    fork true true x y j k e one two = one
+    fork false false x y j k e one two = two
+    fork true false x y j k e one two = cc
+    fork false true x y j k e one two = cc
 
     test-step : (test : TypedExpr) (x y : ℕ) (inner : List ℕ) → slice_get graph.blocks q.block ≡ Some (Test test x y) → ExprTyped (context p along.spot.function.f) inner test
         → Stand inner x → Stand inner y
@@ -253,7 +253,7 @@ module _ (p : Typed) (sets : List (List ℕ)) (typed : WellTyped p) (kept : Keep
           after = Run u (if holds (expr_value p.structs (block_at m) env (expr_code test)) then i + 1 else i + 1 + length first) env below;
           goes_on = λ again k. refl;
           steps = λ k. refl;
-          along = fork _ _ x y (i + 1) (i + 1 + length first) inner (ap holds same)
+          along = fork _ _ x y (i + 1) (i + 1 + length first) (ap holds same)
               (next-along x (i + 1) q.env env inner one (omega arith)
               (λ v h. after-kept (Test test x y) look x v a (spot-there p sets x (spot-at x inner one)) refl h) (part-left the_code u (i + 1) first second rest))
               (next-along y (i + 1 + length first) q.env env inner two (omega arith)
