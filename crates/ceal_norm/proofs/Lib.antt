@@ -15,3 +15,9 @@ pub mod Fits
 pub mod UnitTrees
 pub mod Initialisers
 pub mod Functions
+pub mod RunValues
+pub mod RunInit
+pub mod RunWords
+pub mod RunFrames
+pub mod RunSteps
+pub mod RunSame

@@ -1,6 +1,6 @@
 // The laws of units, each the contract of a function that does nothing.
 
-ghost use Rattle.ceal_norm.specs.Laws.{Closed_law, Forward_law, Valid_law};
+ghost use Rattle.ceal_norm.specs.Laws.{Closed_law, Forward_law, Run_law, Valid_law};
 
 /// A jump leads to a block that is there.
 pub fn closed_law()
@@ -16,4 +16,9 @@ pub fn forward_law()
 /// no run of it is stuck.
 pub fn valid_law()
     ensures law { Valid_law }
+{}
+
+/// It runs as the graph does, of which it is the code.
+pub fn run_law()
+    ensures law { Run_law }
 {}
