@@ -29,9 +29,9 @@ use Rattle.ceal_norm.proofs.Facts.{get-map}
 use Rattle.ceal_norm.proofs.Lives.{stands-there}
 use Rattle.ceal_norm.proofs.RunWords.{bound-map, values-own, start-word, start-long}
 use Rattle.ceal_norm.proofs.Spots.{Function, Spot, context}
-use Rattle.ceal_norm.proofs.Standing.{Stands, View, view, within-blocks}
+use Rattle.ceal_norm.proofs.Standing.{within-blocks}
 use Rattle.ceal_norm.proofs.Trees.{tree-block}
-use Rattle.ceal_norm.proofs.UnitFacts.{unit-at, first-entry}
+use Rattle.ceal_norm.proofs.UnitFacts.{unit-at, function-entry}
 
 -- a command that takes a step
 abbrev pub Steps : Cmd → Type 0
@@ -171,17 +171,6 @@ module _ (p : Typed) (sets : List (List ℕ)) where
   pub unit-part : (b : ℕ) → is_entry g b ≡ true → b < length g.blocks → PartAt code (entry_unit b) 0 (T b 0)
   unit-part b e l = record { before = []; after = []; body = ap (λ u. u.body) (unit-is b e l) ∙ sym (append-nil (T b 0)); at = refl }
 
-  abbrev pub Standing : (k : ℕ) → Function p k → List ℕ → ℕ → Type 0
-  Standing k fn seen b = Stands p.functions (context p fn.f) g.blocks fn.home.start (end_of fn.f.body fn.home.start) seen b
-
-  abbrev pub Sight : (k : ℕ) → (fn : Function p k) → List ℕ → ℕ → Type 0
-  Sight k fn seen b = View p.functions (context p fn.f) g.blocks fn.home.start (end_of fn.f.body fn.home.start) fn.over fn.room seen b
-
-  pub sight : (b : ℕ) (spot : Spot p b) → Sight spot.k spot.function spot.seen b
-  sight b spot =
-      let fn = spot.function in
-      view p.functions (context p fn.f) g.blocks fn.home.start (end_of fn.f.body fn.home.start) fn.over fn.room spot.seen b spot.stands
-
   pub spot-there : (b : ℕ) → Spot p b → b < length g.blocks
   spot-there b spot =
       let fn = spot.function in
@@ -238,7 +227,7 @@ module _ (p : Typed) (sets : List (List ℕ)) where
   first-spot k fn = record { k = k; function = fn; seen = _; stands = fn.first }
 
   pub first-is_entry : (k : ℕ) (fn : Function p k) → is_entry g (first_of fn.f.body fn.home.start) ≡ true
-  first-is_entry k fn = first-entry g k fn.f.name.text (first_of fn.f.body fn.home.start) fn.f.params fn.f.kinds fn.home.function
+  first-is_entry k fn = function-entry g k fn.f.name.text (first_of fn.f.body fn.home.start) fn.f.params fn.f.kinds fn.home.function
 
   pub entry-unit : (k : ℕ) (fn : Function p k) → entry_of code k ≡ entry_unit (first_of fn.f.body fn.home.start)
   entry-unit k fn = ap (entry_in code) (get-map (function_code s) g.functions k (core_at fn.f fn.home.start) fn.home.function)

@@ -50,11 +50,11 @@ use Rattle.ceal_norm.specs.Laws.{IsClosed, IsForward, source_of}
 use Rattle.ceal_norm.specs.Units.{Source, Placed, block_code, code_of, unit_of, args_of, without, closure_args, arg_at, call_args, entry_set, value_code, stmt_code, function_code}
 use Rattle.ceal_norm.proofs.Facts.{get-map, in-left, in-right}
 use Rattle.ceal_norm.proofs.Lives.{match, used-live, jump-live}
-use Rattle.ceal_norm.proofs.RunFrames.{PartAt, command-is, part-behind, part-left, part-right, code as code_for, T, J, over, entry_unit, T-is, params-are, Standing, Sight, sight, spot-there, unit-kinds, Along, AllAlong, enter-along, called_point, call-along}
+use Rattle.ceal_norm.proofs.RunFrames.{PartAt, command-is, part-behind, part-left, part-right, code as code_for, T, J, over, entry_unit, T-is, params-are, spot-there, unit-kinds, Along, AllAlong, enter-along, called_point, call-along}
 use Rattle.ceal_norm.proofs.RunInit.{all-init}
 use Rattle.ceal_norm.proofs.RunValues.{expr-same, exprs-same, arg-same}
 use Rattle.ceal_norm.proofs.RunWords.{instead, woven-map, values-map, values-own, set-word, set-long}
-use Rattle.ceal_norm.proofs.Spots.{Function, Spot, context, function-of, init-usage, init-function}
+use Rattle.ceal_norm.proofs.Spots.{Function, StandsIn, ViewIn, view-in, Spot, context, function-of, init-usage, init-function}
 use Rattle.ceal_norm.proofs.Standing.{over as is_end, tests, acts}
 use Rattle.ceal_norm.proofs.UnitFacts.{behind-entry}
 
@@ -198,7 +198,7 @@ module _ (p : Typed) (sets : List (List ℕ)) (typed : WellTyped p) (kept : Keep
     part-is part e = subst (λ cs. PartAt the_code u i cs) e along.part
 
     abbrev Stand : List ℕ → ℕ → Type 0
-    Stand seen b = Standing p sets along.spot.k along.spot.function seen b
+    Stand seen b = StandsIn p along.spot.k along.spot.function seen b
 
     abbrev spot-at : (b : ℕ) (seen : List ℕ) → Stand seen b → Spot p b
     spot-at b seen st = record { k = along.spot.k; function = along.spot.function; seen = seen; stands = st }
@@ -441,7 +441,7 @@ module _ (p : Typed) (sets : List (List ℕ)) (typed : WellTyped p) (kept : Keep
     act-step (While' at test _ body) next nx inner after look t usage simple stands = absurd simple
     act-step (Return at) next nx inner after look t usage simple stands = absurd simple
 
-    step-seen : Sight p sets along.spot.k along.spot.function along.spot.seen q.block → over p sets q.block ≡ false
+    step-seen : ViewIn p along.spot.k along.spot.function along.spot.seen q.block → over p sets q.block ≡ false
         → Step (now (command_at the_code u i)) (stepped graph m q.env points (slice_get graph.blocks q.block))
     step-seen (is_end look) runs = let ends : true ≡ false = sym (ap is_over look) ∙ runs in cc
     step-seen (tests test x y inner look within t int one two) runs =
@@ -450,4 +450,4 @@ module _ (p : Typed) (sets : List (List ℕ)) (typed : WellTyped p) (kept : Keep
         subst (λ o. Step (now (command_at the_code u i)) (stepped graph m q.env points o)) (sym look) (act-step st next nx inner _ look t usage simple stands)
 
     pub step-along : over p sets q.block ≡ false → Step (now (command_at the_code u i)) (stepped graph m q.env points (slice_get graph.blocks q.block))
-    step-along runs = step-seen (sight p sets q.block along.spot) runs
+    step-along runs = step-seen (view-in p along.spot.k along.spot.function along.spot.seen q.block along.spot.stands) runs
