@@ -28,7 +28,7 @@ use Rattle.ceal_norm.specs.Expressions.{variable, expr_code}
 use Rattle.ceal_norm.specs.Laws.{source_of}
 use Rattle.ceal_norm.specs.Units.{Source, own_args, args_of, without, closure_args, arg_at, call_args, entry_set, owner, unit_code, function_code, kinds_code, code_of}
 use Rattle.ceal_norm.proofs.Counts.{contains-none, contains-cases}
-use Rattle.ceal_norm.proofs.Expressions.{Seen, Has, kind-refl, suits-fits, form-seen, form-without, form-type, args-fit, exprs-seen}
+use Rattle.ceal_norm.proofs.ExprFacts.{Seen, Has, kind-refl, suits-fits, form-seen, form-without, form-type, args-fit, exprs-seen}
 use Rattle.ceal_norm.proofs.Facts.{get-map, there, in-first, in-later, in-left, in-right, Knows}
 use Rattle.ceal_norm.proofs.Lives.{Match, stands-there, live-seen}
 use Rattle.ceal_norm.proofs.Spots.{Function, StandsIn, function-of, context, init-function}

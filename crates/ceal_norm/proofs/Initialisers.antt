@@ -20,7 +20,7 @@ use Rattle.ceal_code.specs.Valid.{Typing, type_of, fits, set_ok, stmt_ok, stmts_
 use Rattle.ceal_code.specs.Value.{field_kind}
 use Rattle.ceal_code.specs.declared.function.InitStmt.{InitStmt}
 use Rattle.ceal_norm.specs.Expressions.{expr_code, init_code, row_init_code, all_init_code}
-use Rattle.ceal_norm.proofs.Expressions.{Has, form-seen, form-type, suits-fits}
+use Rattle.ceal_norm.proofs.ExprFacts.{Has, form-seen, form-type, suits-fits}
 use Rattle.ceal_norm.proofs.Facts.{there, Knows}
 use Rattle.ceal_norm.proofs.Fits.{numbers-less, get-take}
 use Rattle.ceal_norm.proofs.Lives.{match}

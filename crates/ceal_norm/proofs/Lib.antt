@@ -10,7 +10,7 @@ pub mod PlanSteps
 pub mod BodySteps
 pub mod UnitSteps
 pub mod Facts
-pub mod Expressions
+pub mod ExprFacts
 pub mod Standing
 pub mod Numbers
 pub mod Bodies
@@ -20,7 +20,7 @@ pub mod Spots
 pub mod Fits
 pub mod UnitTrees
 pub mod Initialisers
-pub mod Functions
+pub mod FunctionFacts
 pub mod RunValues
 pub mod RunInit
 pub mod RunWords

@@ -16,7 +16,7 @@ use Rattle.ceal_flow.specs.declared.block.GraphBlock.{GraphBlock}
 use Rattle.ceal_flow.specs.declared.block.GraphBlock.TheVariants.{Done, Test, Act}
 use Rattle.ceal_flow.proofs.ListFacts.{get-within}
 use Rattle.ceal_norm.proofs.Counts.{contains-none, contains-one, contains-cases}
-use Rattle.ceal_norm.proofs.Expressions.{Seen, form-seen, exprs-seen}
+use Rattle.ceal_norm.proofs.ExprFacts.{Seen, form-seen, exprs-seen}
 use Rattle.ceal_norm.proofs.Facts.{in-either}
 use Rattle.ceal_norm.proofs.Standing.{Within, Stands, View, over, tests, acts, view}
 

@@ -25,7 +25,7 @@ use Rattle.ceal_flow.proofs.Placing.{made-at, all-at}
 use Rattle.ceal_norm.specs.Expressions.{all_init_code}
 use Rattle.ceal_norm.specs.Laws.{IsForward, source_of}
 use Rattle.ceal_norm.specs.Units.{Source, function_code, kinds_code, code_of}
-use Rattle.ceal_norm.proofs.Expressions.{kind-refl}
+use Rattle.ceal_norm.proofs.ExprFacts.{kind-refl}
 use Rattle.ceal_norm.proofs.Facts.{all-below}
 use Rattle.ceal_norm.proofs.Fits.{seen-live, owner-is, unit-is, entry-of, entry-is, numbers-less}
 use Rattle.ceal_norm.proofs.Initialisers.{body-right}
