@@ -11,6 +11,6 @@ mod expressions;
 mod functions;
 mod initialiser;
 pub mod laws;
-mod normalise;
+pub mod normalise;
 mod plan;
 mod units;
