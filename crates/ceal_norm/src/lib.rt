@@ -5,4 +5,4 @@
 //! valid and runs as the graph does.
 #![tactic(auto)]
 
-mod normalise;
+pub mod normalise;
