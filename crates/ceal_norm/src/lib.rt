@@ -11,6 +11,10 @@ mod expressions;
 mod functions;
 mod initialiser;
 pub mod laws;
-mod normalise;
+pub mod normalise;
 mod plan;
+#[cfg(test)]
+mod programs;
+#[cfg(test)]
+mod tests;
 mod units;
