@@ -9,12 +9,11 @@ use Rattle.ceal_base.specs.declared.typed.TypedValue.TheVariants.{Plain, Read, A
 use Rattle.ceal_code.specs.declared.command.Cmd.{Cmd}
 use Rattle.ceal_code.specs.declared.command.Cmd.TheVariants as command
 use Rattle.ceal_code.specs.declared.expr.CodeExpr.{CodeExpr}
-use Rattle.ceal_flow.specs.declared.block.GraphBlock.{GraphBlock}
-use Rattle.ceal_flow.specs.declared.block.GraphBlock.TheVariants.{Done, Test, Act, Unreached}
+use Rattle.ceal_flow.specs.declared.block.GraphBlock.TheVariants.{Test}
 use Rattle.ceal_norm.specs.Body.{onward, value_command, stmt_command, tail_command, with_second, patched, begun, finished, following, parts, AllBelow}
 use Rattle.ceal_norm.specs.Entries.{is_read, has_closure, is_entry}
 use Rattle.ceal_norm.specs.Expressions.{expr_code}
-use Rattle.ceal_norm.specs.Units.{Source, Placed, unit_of, args_of, jump_code, test_code, value_code, stmt_code, block_code, tree}
+use Rattle.ceal_norm.specs.Units.{Source, Placed, value_code, stmt_code, block_code, tree}
 use Rattle.ceal_norm.specs.declared.body.Pending.{Pending}
 
 pub reverse-push : (ps : List Pending) (p : Pending) → reverse (ps ++ p ∷ []) ≡ p ∷ reverse ps
@@ -61,7 +60,7 @@ module _ (s : Source) where
   one-command body c next true ps =
       finished-cons (body ++ c ∷ []) (record { block = next; test = None }) ps
       ∙ ap (λ xs. finished s xs ps)
-          (ap (λ k. (body ++ c ∷ []) ++ onward s next k) (length-more body c) ∙ append_assoc body (c ∷ []) (onward s next (length body + 1)))
+      (ap (λ k. (body ++ c ∷ []) ++ onward s next k) (length-more body c) ∙ append_assoc body (c ∷ []) (onward s next (length body + 1)))
   one-command body c next false ps = refl
 
   pub act-same : (body : List Cmd) (st : TypedStmt) (next : ℕ) (ps : List Pending)
@@ -76,7 +75,7 @@ module _ (s : Source) where
       → patched (body ++ command.If test i j ∷ more) (length body) k ≡ body ++ command.If test i k ∷ more
   patched-if body more test i j k =
       ap (λ c. slice_set (body ++ command.If test i j ∷ more) (length body) (with_second c k))
-          (get_or-append_seam body (command.If test i j) more command.Done)
+      (get_or-append_seam body (command.If test i j) more command.Done)
       ∙ set-append_seam body (command.If test i j) more (command.If test i k)
 
   pub test-same : (body : List Cmd) (test : TypedExpr) (first second : ℕ) (ps : List Pending)
@@ -90,10 +89,10 @@ module _ (s : Source) where
       let p : Pending = record { block = first; test = None } in
       let q : Pending = record { block = second; test = Some (length body) } in
       let joined : (body ++ start ∷ []) ++ onward s first (length (body ++ start ∷ [])) ≡ body ++ start ∷ xs =
-          ap (λ n. (body ++ start ∷ []) ++ onward s first n) (length-more body start) ∙ append_assoc body (start ∷ []) xs in
+      ap (λ n. (body ++ start ∷ []) ++ onward s first n) (length-more body start) ∙ append_assoc body (start ∷ []) xs in
       let long : length (body ++ start ∷ xs) ≡ k = length-append body (start ∷ xs) ∙ omega arith in
       let second_at : begun (body ++ start ∷ xs) (Some (length body)) ≡ body ++ command.If (expr_code test) i k ∷ xs =
-          ap (patched (body ++ start ∷ xs) (length body)) long ∙ patched-if body xs (expr_code test) i 0 k in
+      ap (patched (body ++ start ∷ xs) (length body)) long ∙ patched-if body xs (expr_code test) i 0 k in
       let long_too : length (body ++ command.If (expr_code test) i k ∷ xs) ≡ k = length-append body (command.If (expr_code test) i k ∷ xs) ∙ omega arith in
       finished-cons (body ++ start ∷ []) p (q ∷ ps)
       ∙ ap (λ b. finished s b (q ∷ ps)) joined

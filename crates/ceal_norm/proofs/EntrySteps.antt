@@ -9,8 +9,7 @@ use Rattle.ceal_flow.specs.Program.{Graph}
 use Rattle.ceal_flow.specs.Sets.{is_in}
 use Rattle.ceal_flow.specs.declared.block.GraphBlock.{GraphBlock}
 use Rattle.ceal_norm.specs.Entries.{behind, all_behind, all_jumps, count, is_entry, entries_before}
-use Rattle.ceal_norm.specs.Table.{is_marked, entry_at, table}
-use Rattle.ceal_norm.specs.declared.entries.Entry.{Entry}
+use Rattle.ceal_norm.specs.Table.{is_marked, table}
 use Rattle.ceal_norm.proofs.Counts.{count-append}
 
 pub behind-none : all_behind [] ≡ []

@@ -7,7 +7,7 @@ use Rattle.ceal_base.specs.declared.typed.TypedExpr.{TypedExpr}
 use Rattle.ceal_base.specs.declared.typed.TypedForm.{Num as NumForm, Null as NullForm, Var as VarForm, Own}
 use Rattle.ceal_base.specs.declared.typed.TypedForm.TheBlock.{hidden-the_row-TypedExpr-0, shape-the_row-TypedExpr-0}
 use Rattle.ceal_base.specs.declared.typed.TypedForm.TheViews.{Unary, Binary, Field, Address}
-use Rattle.ceal_code.specs.declared.expr.CodeExpr.{CodeExpr, Num, Null, Var}
+use Rattle.ceal_code.specs.declared.expr.CodeExpr.{Num, Null, Var}
 use Rattle.ceal_code.specs.declared.expr.CodeExpr.TheViews as code
 use Rattle.ceal_norm.specs.Expressions.{variable, form_code, expr_code}
 use Rattle.ceal_norm.specs.Units.{own_args, without}

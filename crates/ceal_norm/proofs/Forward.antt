@@ -94,9 +94,9 @@ module _ (g : Graph) where
     seq-left : on ≡ true → (start ≡ after) ⊎ Left n (n + (k + m)) after
     seq-left e = elim (two.left e) [
       | inl q ↦ elim (one.left refl) [
-          | inl r ↦ inl (r ∙ q)
-          | inr r ↦ inr (r.0, r.1, (let l = r.2 in omega (arith, l)), subst (λ x. Jumps r.0 x) q r.3)
-        ]
+        | inl r ↦ inl (r ∙ q)
+        | inr r ↦ inr (r.0, r.1, (let l = r.2 in omega (arith, l)), subst (λ x. Jumps r.0 x) q r.3)
+      ]
       | inr r ↦ inr (r.0, (let l = r.1 in omega (arith, l)), (let l = r.2 in omega (arith, l)), r.3)
     ]
 
@@ -250,15 +250,15 @@ module _ (g : Graph) where
         let to_a = jumps-by n a (Test test a b) look (Contains-append_left (a ∷ []) (b ∷ []) a (Contains-push [] a)) in
         let to_b = jumps-by n b (Test test a b) look (Contains-append_right (a ∷ []) (b ∷ []) b (Contains-push [] b)) in
         let one = row-laws first (n + 1) after done (placed-left g.blocks (n + 1) xs ys parts) (omega (arith, l))
-            (after-within n (n + (1 + k + m)) (n + 1) (n + 1 + k) after (omega arith) (omega arith) behind)
-            (inr (n, inl (omega arith), to_a)) in
+        (after-within n (n + (1 + k + m)) (n + 1) (n + 1 + k) after (omega arith) (omega arith) behind)
+        (inr (n, inl (omega arith), to_a)) in
         let two = row-laws second (n + 1 + k) after done (placed-right g.blocks (n + 1) xs ys k (sym long) parts) (omega (arith, l))
-            (after-within n (n + (1 + k + m)) (n + 1 + k) (n + 1 + k + m) after (omega arith) (omega arith) behind)
-            (inr (n, inl (omega arith), to_b)) in
+        (after-within n (n + (1 + k + m)) (n + 1 + k) (n + 1 + k + m) after (omega arith) (omega arith) behind)
+        (inr (n, inl (omega arith), to_b)) in
         let good_a = row-good first (n + 1) after done n (omega arith) (omega (arith, l))
-            (λ e. behind n (omega arith) (omega arith) (subst (λ x. Jumps n x) e to_a)) in
+        (λ e. behind n (omega arith) (omega arith) (subst (λ x. Jumps n x) e to_a)) in
         let good_b = row-good second (n + 1 + k) after done n (omega arith) (omega (arith, l))
-            (λ e. behind n (omega arith) (omega arith) (subst (λ x. Jumps n x) e to_b)) in
+        (λ e. behind n (omega arith) (omega arith) (subst (λ x. Jumps n x) e to_b)) in
         if-laws test a b xs ys n k m after (row_goes_on first) (row_goes_on second) long look good_a good_b one two
     stmt-laws (While' at test _ body) n after done h l behind into =
         let k = row_size body in
@@ -269,10 +269,10 @@ module _ (g : Graph) where
         let to_a = jumps-by n a (Test test a after) look (Contains-append_left (a ∷ []) (after ∷ []) a (Contains-push [] a)) in
         let back : After n (n + (1 + k)) n = λ b p q j. back-good n (n + (1 + k)) n b p q j into in
         let one = row-laws body (n + 1) n done part (omega (arith, l))
-            (after-within n (n + (1 + k)) (n + 1) (n + 1 + k) n (omega arith) (omega arith) back)
-            (inr (n, inl (omega arith), to_a)) in
+        (after-within n (n + (1 + k)) (n + 1) (n + 1 + k) n (omega arith) (omega arith) back)
+        (inr (n, inl (omega arith), to_a)) in
         let good_a = row-good body (n + 1) n done n (omega arith) (omega (arith, l))
-            (λ e. back n (omega arith) (omega arith) (subst (λ x. Jumps n x) e to_a)) in
+        (λ e. back n (omega arith) (omega arith) (subst (λ x. Jumps n x) e to_a)) in
         while-laws test a xs n k after (row_goes_on body) look good_a behind one
     stmt-laws (Return at) n after done h l behind into = return-laws done n after
 
@@ -289,13 +289,13 @@ module _ (g : Graph) where
         let long = blocks-length s n mid done in
         let here = placed-left g.blocks n xs (if goes_on s then ys else replicate m Unreached) h in
         let to_mid : After n (n + k) mid = λ b p q j. row-good rest (n + k) after done b q (omega (arith, l))
-            (λ e. behind b p (omega (arith, q)) (subst (λ x. Jumps b x) e j)) in
+        (λ e. behind b p (omega (arith, q)) (subst (λ x. Jumps b x) e j)) in
         let one = stmt-laws s n mid done here (omega (arith, l)) to_mid
-            (entered-within n (n + (k + m)) n (n + k) (target s n done) (omega arith) (omega arith) into) in
+        (entered-within n (n + (k + m)) n (n + k) (target s n done) (omega arith) (omega arith) into) in
         cons-laws (target s n done) mid xs ys n k m after (goes_on s) (row_goes_on rest) long one
         (λ e. row-laws rest (n + k) after done (behind-placed xs ys n k m (goes_on s) long e h) (omega (arith, l))
-            (after-within n (n + (k + m)) (n + k) (n + k + m) after (omega arith) (omega arith) behind)
-            (mid-entered (target s n done) mid n k m (one.left e) into))
+        (after-within n (n + (k + m)) (n + k) (n + k + m) after (omega arith) (omega arith) behind)
+        (mid-entered (target s n done) mid n k m (one.left e) into))
 
   all-laws : (ss : List TypedStmt) (n after done : ℕ) → Placed g.blocks n (all_blocks ss n after done) → n + sizes ss ≤ done
       → After n (n + sizes ss) after → Entered n (n + sizes ss) (entry ss n after done)

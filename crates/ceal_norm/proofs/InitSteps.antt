@@ -9,7 +9,7 @@ use Rattle.ceal_base.specs.declared.typed.TypedStmt.TheBlock.{hidden-the_row-Typ
 use Rattle.ceal_base.specs.declared.typed.TypedStmt.TheVariants.{Declare, Assign, SetField, Write, Call, Return}
 use Rattle.ceal_base.specs.declared.typed.TypedStmt.TheViews.{If, While}
 use Rattle.ceal_base.specs.declared.typed.TypedValue.{TypedValue}
-use Rattle.ceal_code.specs.declared.function.InitStmt.{InitStmt, Set}
+use Rattle.ceal_code.specs.declared.function.InitStmt.{Set}
 use Rattle.ceal_code.specs.declared.function.InitStmt.TheViews as init
 use Rattle.ceal_norm.specs.Expressions.{expr_code, init_code, row_init_code, all_init_code}
 

@@ -1,14 +1,13 @@
 -- What is looked up in a plan.
-use Rattle.std.proofs.Common.{◌≡◌, ◌⊎◌, inl, inr, ℕ, zero, suc, ◌+◌, ◌<◌, ◌≤◌, Option, Some, None, List, [], ◌∷◌, ◌++◌, length, slice_get, Contains, refl, ap, sym, subst, ◌∙◌, arith, length-append}
+use Rattle.std.proofs.Common.{◌≡◌, ◌⊎◌, inl, inr, ℕ, zero, suc, ◌<◌, ◌≤◌, Some, List, [], ◌∷◌, ◌++◌, length, slice_get, Contains, refl, ap, sym, subst, ◌∙◌, arith, length-append}
 use Rattle.std.proofs.lemmas.List.Elements.{Contains-push, Contains-append_left, Contains-append_right}
 use Rattle.ceal_flow.specs.Laws.{firsts}
-use Rattle.ceal_flow.specs.Paths.{jumps}
 use Rattle.ceal_flow.specs.Program.{Graph}
 use Rattle.ceal_flow.specs.declared.block.GraphBlock.{GraphBlock}
 use Rattle.ceal_flow.specs.declared.block.GraphBlock.TheVariants.{Done, Test, Act, Unreached}
 use Rattle.ceal_flow.specs.declared.function.GraphFunction.{GraphFunction}
 use Rattle.ceal_flow.specs.declared.function.GraphFunction.TheVariants.{Core, Init}
-use Rattle.ceal_flow.proofs.ListFacts.{get-within, get-append_left, get-append_right}
+use Rattle.ceal_flow.proofs.ListFacts.{get-append_left, get-append_right}
 use Rattle.ceal_norm.specs.Body.{onward}
 use Rattle.ceal_norm.specs.Laws.{IsClosed, IsGraph}
 use Rattle.ceal_norm.specs.Table.{entry_at, table, JumpsBelow, BeginsBelow, Planned}
@@ -52,9 +51,10 @@ module _ (g : Graph) (entries : List Entry) (p : Planned g entries) (b : ℕ) wh
 
   pub jumps-below : (block : GraphBlock) → slice_get g.blocks b ≡ Some block → JumpsBelow (length g.blocks) block
   jumps-below Done h = tt
-  jumps-below (Test test first second) h =
-      (p.closed b first (rw h (Contains-append_left (first ∷ []) (second ∷ []) first (Contains-push [] first))),
-      p.closed b second (rw h (Contains-append_right (first ∷ []) (second ∷ []) second (Contains-push [] second))))
+  jumps-below (Test test first second) h = (
+    p.closed b first (rw h (Contains-append_left (first ∷ []) (second ∷ []) first (Contains-push [] first))),
+    p.closed b second (rw h (Contains-append_right (first ∷ []) (second ∷ []) second (Contains-push [] second))),
+  )
   jumps-below (Act s next) h = p.closed b next (rw h (Contains-push [] next))
   jumps-below Unreached h = tt
 

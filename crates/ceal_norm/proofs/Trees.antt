@@ -66,8 +66,8 @@ module _ (s : Source) where
     same-tree (suc d) (suc e) b i l h k =
         block-same (jump_code s (tree s d)) (jump_code s (tree s e)) i (slice_get s.graph.blocks b)
         (λ c j m. jump-same (tree s d) (tree s e) c m
-            (λ q. let ahead = forward b c j q in
-                same-tree d e c m (closed b c j) (omega (arith, ahead, h)) (omega (arith, ahead, k))))
+        (λ q. let ahead = forward b c j q in
+        same-tree d e c m (closed b c j) (omega (arith, ahead, h)) (omega (arith, ahead, k))))
 
     -- the tree of a block that is there
     pub tree-block : (b i : ℕ) → b < length s.graph.blocks

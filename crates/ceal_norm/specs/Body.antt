@@ -1,5 +1,5 @@
 -- A unit's body command by command: the command of each block, and the blocks whose code is still to come.
-use Rattle.std.specs.Prelude.{ℕ, ◌+◌, ◌<◌, Bool, true, false, Option, Some, None, List, [], ◌∷◌, ◌++◌, length, map, slice_get, slice_set, slice_index_or}
+use Rattle.std.specs.Prelude.{ℕ, ◌<◌, Bool, true, false, Option, Some, None, List, [], ◌∷◌, ◌++◌, length, map, slice_get, slice_set, slice_index_or}
 use Rattle.ceal_base.specs.declared.kind.Shape.TheVariants.{ModInt, ModPtr}
 use Rattle.ceal_base.specs.declared.typed.TypedStmt.{TypedStmt, Declare, Assign, Write, Call}
 use Rattle.ceal_base.specs.declared.typed.TypedValue.{TypedValue}

@@ -39,10 +39,11 @@ fn read_command(
     let place = expr_of(alloc, place)?;
     let vs = plan.variables(alloc, next)?;
     let args = other_args_of(alloc, n, vs.as_slice())?;
+    let unit = plan.unit(next);
     Ok(Cmd::Read {
         var: VarId(n),
         place,
-        unit: plan.unit(next),
+        unit,
         args,
     })
 }
@@ -111,21 +112,17 @@ fn call_command(
     let args = call_args_of(alloc, args, vs.as_slice())?;
     let live = plan.variables(alloc, next)?;
     let rest = own_args_of(alloc, live.as_slice())?;
+    let after = plan.unit(next);
     Ok(Cmd::Call {
         function,
         args,
-        unit: plan.unit(next),
+        unit: after,
         rest,
     })
 }
 
 /// The command of a statement, from which a jump leads to `next`.
-fn command_of(
-    alloc: Global,
-    plan: &Plan<'_>,
-    next: u32,
-    s: &TypedStmt,
-) -> Result<Cmd, NoMemory>
+fn command_of(alloc: Global, plan: &Plan<'_>, next: u32, s: &TypedStmt) -> Result<Cmd, NoMemory>
     requires there { next < length plan.now.graph.blocks }
     ensures { IfOk result (λ c. c ≡ stmt_command plan.now next s.now) }
 {

@@ -39,11 +39,7 @@ fn init_of(alloc: Global, f: &TypedFunction) -> Result<FunctionCode, NoMemory>
     })
 }
 
-fn function_of(
-    alloc: Global,
-    plan: &Plan<'_>,
-    f: &GraphFunction,
-) -> Result<FunctionCode, NoMemory>
+fn function_of(alloc: Global, plan: &Plan<'_>, f: &GraphFunction) -> Result<FunctionCode, NoMemory>
     requires begins { BeginsBelow (length plan.now.graph.blocks) f.now }
     ensures { IfOk result (λ c. c ≡ function_code plan.now f.now) }
 {

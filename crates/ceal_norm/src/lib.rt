@@ -13,4 +13,8 @@ mod initialiser;
 pub mod laws;
 pub mod normalise;
 mod plan;
+#[cfg(test)]
+mod programs;
+#[cfg(test)]
+mod tests;
 mod units;

@@ -6,4 +6,4 @@ pub returns-clause-same : goal.returns-clause-same
 returns-clause-same c =
     c.in_ok-put_block.ensures.same
     ∙ ap (λ xs. finished c.args.plan.now (c.args.body.now.items ++ xs) (reverse c.args.pending.now.items))
-        (sym (c.block.ensures.tree (length c.args.body.now.items)))
+    (sym (c.block.ensures.tree (length c.args.body.now.items)))

@@ -1,4 +1,4 @@
-use Rattle.std.proofs.Common.{◌≡◌, length}
+use Rattle.std.proofs.Common.{◌≡◌}
 use Rattle.ceal_norm.specs.Entries.{entries_before}
 use Rattle.ceal_norm.specs.Table.{table}
 use Rattle.ceal_norm.proofs.entries.entry_table.Given as goal

@@ -1,4 +1,4 @@
-use Rattle.std.proofs.Common.{◌≡◌, ◌+◌, ◌∷◌, [], ◌++◌, Some, map, take, slice_get, ap, sym, ◌∙◌}
+use Rattle.std.proofs.Common.{◌∷◌, [], ◌++◌, map, take, ap, sym, ◌∙◌}
 use Rattle.ceal_norm.specs.Units.{function_code}
 use Rattle.ceal_norm.proofs.UnitSteps.{map-more}
 use Rattle.ceal_norm.proofs.functions.functions_of.Goals as goal
