@@ -49,7 +49,21 @@ fn the_earliest_read_between(rt: HostRuntime) -> Result<(), Fail> {
         memo.first_read(&order, &read_key(alloc, 3, 0)?, first, third),
         None
     );
+    Ok(())
+}
+
+#[test]
+fn a_removed_read_is_not_found(rt: HostRuntime) -> Result<(), Fail> {
+    let alloc = rt.alloc();
+    let mut order = Order::new(alloc)?;
+    order.reserve(2)?;
+    let first = order.first();
+    let third = order.insert_after(first);
+    let second = order.insert_after(first);
+    let mut memo = Memo::new(alloc)?;
+    memo.add_read(&order, read_key(alloc, 3, 4)?, second)?;
     memo.remove(second);
+    let key = read_key(alloc, 3, 4)?;
     assert_eq!(rt; memo.first_read(&order, &key, first, third), None);
     Ok(())
 }
