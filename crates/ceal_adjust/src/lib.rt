@@ -5,4 +5,14 @@
 //! function), and what the laws are (`Laws`). `laws` has each law as the contract of a function that does nothing.
 #![tactic(auto)]
 
+pub mod adjust;
+mod begin;
+mod contents;
+mod evaluate;
+mod initialise;
+mod known;
 pub mod laws;
+mod machine;
+mod search;
+mod stack;
+mod step;
