@@ -1,7 +1,7 @@
 -- The contents of modifiables as the code keeps them.
 use Rattle.std.proofs.Common.{◌≡◌, ℕ, zero, suc, ◌+◌, ◌-◌, ◌<◌, ◌==◌, ◌&&◌, ◌⊎◌, inl, inr, Bool, true, false, cond, if◌then◌else◌, Option, Some, None, List, [], ◌∷◌, ◌++◌, length, replicate, get_or, set as put_at, refl, sym, ap, ◌∙◌, subst, unwrap_or, arith}
 use Rattle.std.specs.HashMap.{get}
-use Rattle.std.proofs.lemmas.Bool.{cases_Bool}
+use Rattle.std.proofs.Math.Path.{fun_ext}
 use Rattle.std.proofs.lemmas.List.{get_or-set_same, get_or-set_other}
 use Rattle.ceal_base.specs.Block.{Block}
 use Rattle.ceal_base.specs.Operators.{same_block, same_place}

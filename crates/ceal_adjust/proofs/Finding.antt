@@ -1,5 +1,5 @@
 -- To take from old items is to find in a part of their flat list.
-use Rattle.std.proofs.Common.{◌≡◌, ℕ, zero, suc, Bool, true, false, if◌then◌else◌, ◌==◌, ◌&&◌, Option, Some, None, List, [], ◌∷◌, ◌++◌, append_assoc, append-nil, refl, sym, ap, ◌∙◌, subst}
+use Rattle.std.proofs.Common.{◌≡◌, ℕ, zero, suc, ◌<◌, ◌≤◌, length, arith, Bool, true, false, if◌then◌else◌, ◌==◌, ◌&&◌, Option, Some, None, List, [], ◌∷◌, ◌++◌, append_assoc, append-nil, refl, sym, ap, ◌∙◌, subst}
 use Rattle.ceal_base.specs.Operators.{same_place}
 use Rattle.ceal_base.specs.Trace.{Trace, Nothing, Stepped, Allocated, Wrote, Was_read, flat, followed}
 use Rattle.ceal_base.specs.declared.forest.Item.{Item}
@@ -11,7 +11,7 @@ use Rattle.ceal_base.specs.declared.word.Place.{Place}
 use Rattle.ceal_base.specs.declared.word.Word.{Word}
 use Rattle.ceal_code.proofs.Same.{some-same, none-some}
 use Rattle.ceal_adjust.specs.Take.{same_key, TakenAlloc, TakenRead, alloc_then, take_alloc, read_then, take_read}
-use Rattle.ceal_adjust.specs.Levels.{first, around, levels, loose, beyond, skipped, FoundAlloc, alloc_or, find_alloc, FoundRead, read_or, same_read, find_read, taken_alloc, taken_read}
+use Rattle.ceal_adjust.specs.Levels.{first, around, levels, loose, beyond, after_item, block_of_key, value_of_read, skipped, FoundAlloc, alloc_or, find_alloc, FoundRead, read_or, same_read, find_read, taken_alloc, taken_read}
 
 pub followed-nothing : (f : Trace) → followed f Nothing ≡ f
 followed-nothing Nothing = refl
@@ -189,3 +189,68 @@ skipped-levels (suc n) (Alloc b k ∷ is) = skipped-levels (suc n) is
 skipped-levels (suc n) (Write p v ∷ is) = skipped-levels (suc n) is
 skipped-levels (suc n) (Read p v u x args ∷ is) = skipped-levels (suc (suc n)) is
 skipped-levels (suc n) (End ∷ is) = skipped-levels n is
+
+-- the search in code, item by item
+pub found-zero : (key : Key) (n : ℕ) (is : List Item) → n ≤ 0 → find_alloc key n is ≡ None
+unfolding find_alloc
+found-zero key zero is h = refl
+found-zero key (suc n) is h = absurd (omega (arith, h))
+
+pub found-empty : (key : Key) (n : ℕ) (is : List Item) → length is ≡ 0 → find_alloc key n is ≡ None
+unfolding find_alloc
+found-empty key zero is h = refl
+found-empty key (suc n) [] h = refl
+found-empty key (suc n) (i ∷ is) h = absurd (omega (arith, h))
+
+pub found-here : (key : Key) (n : ℕ) (is : List Item) (i : Item) (later : List Item) (o : Option BlockId) (b : BlockId) → is ≡ i ∷ later → 0 < n → o ≡ block_of_key i key → o ≡ Some b
+    → find_alloc key n is ≡ Some (record { block = b; rest = later; levels = n })
+unfolding find_alloc
+found-here key zero is i later o b e h k w = absurd (omega (arith, h))
+found-here key (suc n) is i later o b e h k w = rw (e, ← k, w) refl
+
+pub found-next : (key : Key) (n m : ℕ) (is : List Item) (i : Item) (later : List Item) (o : Option BlockId) → is ≡ i ∷ later → 0 < n → o ≡ block_of_key i key → o ≡ None
+    → m ≡ after_item i n → find_alloc key m later ≡ find_alloc key n is
+unfolding find_alloc
+found-next key zero m is i later o e h k w l = absurd (omega (arith, h))
+found-next key (suc n) m is i later o e h k w l = rw (e, l, ← k, w) refl
+
+module _ (p : Place) (u : UnitId) (v : ℕ) (args : List Word) where
+  pub read-zero : (n : ℕ) (is : List Item) → n ≤ 0 → find_read p u v args n is ≡ None
+  unfolding find_read
+  read-zero zero is h = refl
+  read-zero (suc n) is h = absurd (omega (arith, h))
+
+  pub read-empty : (n : ℕ) (is : List Item) → length is ≡ 0 → find_read p u v args n is ≡ None
+  unfolding find_read
+  read-empty zero is h = refl
+  read-empty (suc n) [] h = refl
+  read-empty (suc n) (i ∷ is) h = absurd (omega (arith, h))
+
+  pub read-here : (n : ℕ) (is : List Item) (i : Item) (later : List Item) (o : Option Word) (w : Word) → is ≡ i ∷ later → 0 < n → o ≡ value_of_read i p u v args → o ≡ Some w
+      → find_read p u v args n is ≡ Some (record { value = w; rest = later; levels = n })
+  unfolding find_read
+  read-here zero is i later o w e h k l = absurd (omega (arith, h))
+  read-here (suc n) is i later o w e h k l = rw (e, ← k, l) refl
+
+  pub read-next : (n m : ℕ) (is : List Item) (i : Item) (later : List Item) (o : Option Word) → is ≡ i ∷ later → 0 < n → o ≡ value_of_read i p u v args → o ≡ None
+      → m ≡ after_item i n → find_read p u v args m later ≡ find_read p u v args n is
+  unfolding find_read
+  read-next zero m is i later o e h k w l = absurd (omega (arith, h))
+  read-next (suc n) m is i later o e h k w l = rw (e, l, ← k, w) refl
+
+pub skipped-zero : (n : ℕ) (is : List Item) → n ≤ 0 → is ≡ skipped n is
+unfolding skipped
+skipped-zero zero is h = refl
+skipped-zero (suc n) is h = absurd (omega (arith, h))
+
+pub skipped-empty : (n : ℕ) (is : List Item) → length is ≡ 0 → [] ≡ skipped n is
+unfolding skipped
+skipped-empty zero [] h = refl
+skipped-empty zero (i ∷ is) h = absurd (omega (arith, h))
+skipped-empty (suc n) [] h = refl
+skipped-empty (suc n) (i ∷ is) h = absurd (omega (arith, h))
+
+pub skipped-next : (n m : ℕ) (is : List Item) (i : Item) (later : List Item) → is ≡ i ∷ later → 0 < n → m ≡ after_item i n → skipped m later ≡ skipped n is
+unfolding skipped
+skipped-next zero m is i later e h l = absurd (omega (arith, h))
+skipped-next (suc n) m is i later e h l = rw (e, l) refl

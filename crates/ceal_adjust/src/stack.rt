@@ -7,7 +7,7 @@ ghost use Rattle.ceal_code.specs.Init.{arguments};
 ghost use Rattle.ceal_code.specs.Step.{unit_at, command_at, entry_in, entry_of, bound, chosen, first_word, later_words, woven};
 ghost use Rattle.ceal_code.specs.Value.{set, unset};
 ghost use Rattle.ceal_code.specs.declared.command.Cmd.TheVariants.{Done};
-ghost use Rattle.std.specs.Prelude.{slice_get, ◌==◌};
+ghost use Rattle.std.specs.Prelude.{slice_get, Some, min, ◌==◌};
 
 use ceal_base::no_memory::NoMemory;
 use ceal_base::word::Word;
@@ -45,16 +45,38 @@ pub fn set_variable(env: &mut Vec<Word>, v: u32, word: Word) -> Result<(), NoMem
     Ok(())
 }
 
+fn param_at(params: &[VarId], i: usize) -> VarId
+    requires { i < length params.now }
+    ensures { slice_get params.now i ≡ Some result }
+{
+    params[i]
+}
+
+fn argument_at(words: &[Word], i: usize) -> Word
+    requires { i < length words.now }
+    ensures { slice_get words.now i ≡ Some result }
+{
+    words[i]
+}
+
+fn smaller(a: usize, b: usize) -> usize
+    ensures { result ≡ min a b }
+{
+    if a < b { a } else { b }
+}
+
 /// The words of parameters.
 #[tactic(auto, using(crate::proofs::StackSteps::bind_steps))]
 fn bind(alloc: Global, params: &[VarId], words: &[Word]) -> Result<Vec<Word>, NoMemory>
     ensures { IfOk result (λ env. arguments env.items ≡ bound params.now words.now) }
 {
     let mut env = Vec::new(alloc);
-    let mut i = params.len().min(words.len());
+    let mut i = smaller(params.len(), words.len());
     while i > 0 {
         i -= 1;
-        set_variable(&mut env, params[i].0, words[i])?;
+        let p = param_at(params, i);
+        let word = argument_at(words, i);
+        set_variable(&mut env, p.0, word)?;
     }
     Ok(env)
 }

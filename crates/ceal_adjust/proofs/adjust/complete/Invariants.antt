@@ -3,5 +3,5 @@ use Rattle.ceal_adjust.specs.Answers.{Comes_to}
 use Rattle.ceal_adjust.specs.Machines.{machine_in}
 use Rattle.ceal_adjust.proofs.adjust.complete.Given as goal
 
-abbrev pub invariant-loop-_turn : goal.invariant-loop-_turn
-invariant-loop-_turn l = Comes_to l.code (bases l.code l.inputs) l.fuel (machine_in l.code (bases l.code l.inputs) l.fn.machine) l.repair
+abbrev pub invariant-loop-turn : goal.invariant-loop-turn
+invariant-loop-turn l = Comes_to l.code (bases l.code l.inputs) l.fuel (machine_in l.code (bases l.code l.inputs) l.fn.machine) l.repair
