@@ -89,13 +89,13 @@ input-none code = fun_ext (λ b. go b)
     go (Input i) = refl
     go (Core c) = refl
 
-drop-nil : {A : Type 0} (n : ℕ) → drop n ([] {A = A}) ≡ []
+drop-nil : (n : ℕ) → drop {A = FieldKind} n [] ≡ []
 drop-nil zero = refl
 drop-nil (suc n) = refl
 
 words-suc : (kinds : List FieldKind) (words : List Word) (i : ℕ) (d : Word) → i < length words
     → plain_words (drop i kinds) (drop i words) ≡ plain_field_word (slice_get kinds i) (get_or words i d) ∷ plain_words (drop (suc i) kinds) (drop (suc i) words)
-words-suc [] words i d h = rw (drop-nil {A = FieldKind} i, drop-nil {A = FieldKind} (suc i)) (drop-cons words i d h)
+words-suc [] words i d h = rw (drop-nil i) (drop-cons words i d h)
 words-suc (kind ∷ kinds) [] i d h = absurd (omega (arith, h))
 words-suc (kind ∷ kinds) (w ∷ words) zero d h = refl
 words-suc (kind ∷ kinds) (w ∷ words) (suc i) d h = words-suc kinds words i d (omega (arith, h))
@@ -104,8 +104,8 @@ words-suc (kind ∷ kinds) (w ∷ words) (suc i) d h = words-suc kinds words i d
 pub words-more : (kinds : List FieldKind) (words : List Word) (i : ℕ) (d : Word) → i < length words
     → plain_words (drop i kinds) (drop i words) ≡ plain_field_word (slice_get kinds i) (get_or words i d) ∷ plain_words (drop (i + 1) kinds) (drop (i + 1) words)
 words-more kinds words i d h =
-    subst (λ n. plain_words (drop i kinds) (drop i words) ≡ plain_field_word (slice_get kinds i) (get_or words i d) ∷ plain_words (drop n kinds) (drop n words))
-    (omega arith) (words-suc kinds words i d h)
+    let e : suc i ≡ i + 1 = omega arith in
+    subst (λ n. plain_words (drop i kinds) (drop i words) ≡ plain_field_word (slice_get kinds i) (get_or words i d) ∷ plain_words (drop n kinds) (drop n words)) e (words-suc kinds words i d h)
 
 -- in code, word by word
 pub words-next : (kinds : List FieldKind) (all : List Word) (i : ℕ) (d w : Word) (out next : List Word) → i < length all → next ≡ out ++ w ∷ []

@@ -37,6 +37,9 @@ module _ (code : Code) (fuel : ℕ) where
     within = omega arith;
   }
 
+  pub comes-begin : (m : Machine) (out : List Item) → out ≡ [] → Comes code fuel m m out 0
+  comes-begin m out e = rw e (comes-first m)
+
   -- after one turn more
   pub comes-more : (start m m' : Machine) (out written : List Item) (steps more : ℕ) → Comes code fuel start m out steps
       → turn code m ≡ Went written m' → more ≡ steps_in written → steps + more ≤ fuel → Comes code fuel start m' (out ++ written) (steps + more)

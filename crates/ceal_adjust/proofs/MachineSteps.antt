@@ -88,3 +88,9 @@ pub acts-reads : (code : Code) (s : State) (fs : Frames) (is : List Item) (n : �
     → a ≡ Reads p u v args below
     → t ≡ reading code s fs p u v args below (loose n (levels is)) (taken_read (find_read p u v args n is)) → t ≡ acting code s fs (loose n (levels is)) a
 acts-reads code s fs is n p u v args below t a e k = rw (e, take-found-read p u v args is n) k
+
+-- the machine's state
+pub machine-work : (s : State) (mode : CodeMode) (fs : List Frame) (is : List Item) → (machine_of s mode fs is).state.work ≡ s.work
+unfolding machine_of
+machine-work s IsFixing fs is = refl
+machine-work s (IsRunning stack n) fs is = refl

@@ -136,9 +136,10 @@ module _ (code : Code) (x : Plain) where
   unfolding settled
   settle-found old new top a e h = rw (e, stack-push new top) (h (stack_in new) (settled code x (stack_in new)))
 
-  pub settle-none : (old : List Activation) → old ≡ [] → settled code x (stack_in old) ≡ Empty
+  pub settle-none : (old : List Activation) → length old ≡ 0 → settled code x (stack_in old) ≡ Empty
   unfolding settled
-  settle-none old e = rw (e, stack-nil) refl
+  settle-none [] e = rw stack-nil refl
+  settle-none (a ∷ more) e = absurd (omega (arith, e))
 
 -- in code, word by word
 pub choose-next : (out next : List Word) (params more : List VarId) (p : VarId) (args all : List Word) (w : Word) → next ≡ out ++ w ∷ [] → w ≡ unwrap_or (slice_get args p.0) Null

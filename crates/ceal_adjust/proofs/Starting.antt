@@ -24,7 +24,7 @@ pub first-begins : (code : Code) (inputs : List Block) (f : ℕ) (args : List Wo
     → s ≡ bases code inputs → x ≡ input_plain code inputs → stack_in stack.items ≡ started code f args → mode ≡ IsRunning stack 0 → frames ≡ [] → is ≡ []
     → machine_of (record { store = s; plain = x; number = 0; work = 0 }) mode frames is ≡ begin code inputs f args
 unfolding machine_of
-first-begins code inputs f args x s stack mode frames is e k l m n o = rw (m, n, o, e, k, l) refl
+first-begins code inputs f args x s stack mode frames is e k l m n o = rw (m, n, e, k, l) refl
 
 pub fix-begins : (code : Code) (inputs : List Block) (l : Trace) (number : ℕ) (forest : List Item) (x y : Plain) (s : Store) (frames : List Frame) → frames ≡ [] → forest ≡ flat l → s ≡ bases code inputs
     → y ≡ input_plain code inputs → x ≡ plain_flat code y forest

@@ -43,13 +43,10 @@ fn one_more(n: u32) -> Result<u32, NoMemory>
 }
 
 /// The plain words of a block.
-fn plain_copy(
-    alloc: Global,
-    structs: &[StructInfo],
-    block: &BlockWords,
-) -> Result<BlockWords, NoMemory>
-    ensures { IfOk result (λ b. b ≡ plain_block structs.now block.now) }
+fn plain_copy(alloc: Global, code: &Code, block: &BlockWords) -> Result<BlockWords, NoMemory>
+    ensures { IfOk result (λ b. b ≡ plain_block code.now.structs block.now) }
 {
+    let structs = code.structs.items();
     let words = plain_copies(alloc, structs, block.shape, block.items())?;
     Ok(BlockWords::new(block.shape, words))
 }
@@ -78,7 +75,7 @@ pub fn known_inputs(alloc: Global, code: &Code, inputs: &[BlockWords]) -> Result
     let mut known = Known::new(alloc);
     let mut n = 0;
     for block in inputs {
-        let block = plain_copy(alloc, code.structs.items(), block)?;
+        let block = plain_copy(alloc, code, block)?;
         known.learn(BlockId::Input(n), block)?;
         n = one_more(n)?;
     }

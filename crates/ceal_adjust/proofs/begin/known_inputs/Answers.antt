@@ -10,5 +10,5 @@ pub loop-block-preserved : goal.loop-block-preserved
 loop-block-preserved c = record {
   counted = omega (arith, c.in_ok-n.ensures, c.loop-block.invariant.counted);
   same = inputs-next c.args.code.now c.args.inputs.now c.loop-block.block-index c.loop-block.n c.block-item.result c.in_ok-block.block (plain_in c.loop-block.known) (plain_in c.learn.new.self)
-      (omega arith) c.loop-block.invariant.counted c.loop-block.invariant.same c.block-item.is (rw c.items.ensures.value at c.in_ok-block.ensures) c.in_ok-learn.ensures.learnt;
+      (omega arith) c.loop-block.invariant.counted c.loop-block.invariant.same c.block-item.is c.in_ok-block.ensures c.in_ok-learn.ensures.learnt;
 }

@@ -1,4 +1,4 @@
-use Rattle.std.proofs.Common.{sym, ◌∙◌}
+use Rattle.std.proofs.Common.{sym, ◌∙◌, arith}
 use Rattle.ceal_adjust.proofs.StackSteps.{settle-next, settle-found, settle-none}
 use Rattle.ceal_adjust.specs.Tables.{plain_in}
 use Rattle.ceal_adjust.proofs.step.settle.Goals as goal
@@ -16,4 +16,4 @@ returns-in-Some-2 c =
         (λ below rest. rw c.in-Some-2.is at (c.in_ok-arrive.ensures below rest))
 
 pub returns : goal.returns
-returns c = sym c.loop-top.invariant ∙ settle-none c.args.code.now (plain_in c.args.known.now) c.loop-top.stack.items c.in_default.ensures.cases
+returns c = sym c.loop-top.invariant ∙ settle-none c.args.code.now (plain_in c.args.known.now) c.loop-top.stack.items (omega (arith, c.loop-top.stack.ok.0, c.in_default.ensures.cases.0))
