@@ -6,7 +6,7 @@ use Rattle.std.specs.Option.{option_map}
 use Rattle.ceal_base.specs.Block.{Block}
 use Rattle.ceal_base.specs.Trace.{Trace, Nothing, Stepped, Allocated, Wrote, Was_read, flat}
 use Rattle.ceal_base.specs.declared.forest.Item.{Item}
-use Rattle.ceal_base.specs.declared.forest.Item.TheVariants.{Step, Alloc, Write, Read, End}
+use Rattle.ceal_base.specs.declared.forest.Item.TheVariants.{End}
 use Rattle.ceal_base.specs.declared.kind.FieldKind.{FieldKind}
 use Rattle.ceal_base.specs.declared.word.BlockId.{BlockId}
 use Rattle.ceal_base.specs.declared.word.BlockId.TheVariants.{Input, Core}
@@ -14,7 +14,7 @@ use Rattle.ceal_base.specs.declared.word.Word.{Word}
 use Rattle.ceal_code.specs.Init.{made}
 use Rattle.ceal_code.specs.Program.{Code}
 use Rattle.ceal_code.specs.Replay.{learnt, plain_words, plain_block, input_plain, plain_after, plain_of}
-use Rattle.ceal_code.specs.Value.{Plain, is_cell}
+use Rattle.ceal_code.specs.Value.{Plain}
 use Rattle.ceal_adjust.specs.Plain.{plain_item, plain_flat, plain_field_word}
 
 pub plain-none : (code : Code) (x : Plain) → plain_flat code x [] ≡ x

@@ -1,10 +1,9 @@
 -- What a machine that is turned until it has ended, or has written more steps than the fuel allows, comes to.
-use Rattle.std.proofs.Common.{◌≡◌, ℕ, ◌+◌, ◌≤◌, ◌<◌, Bool, true, false, Option, Some, None, List, [], ◌∷◌, ◌++◌, append_assoc, append-nil, refl, sym, ap, ◌∙◌, subst, arith}
+use Rattle.std.proofs.Common.{◌≡◌, ℕ, ◌+◌, ◌≤◌, ◌<◌, Option, Some, None, List, [], ◌++◌, append_assoc, append-nil, refl, sym, ap, ◌∙◌, arith}
 use Rattle.ceal_base.specs.Block.{Block}
 use Rattle.ceal_base.specs.Finished.{Finished}
 use Rattle.ceal_base.specs.Trace.{Trace, Nothing, flat, steps_in, steps_of}
 use Rattle.ceal_base.specs.declared.forest.Item.{Item}
-use Rattle.ceal_base.specs.declared.forest.Item.TheVariants.{Step, Alloc, Write, Read, End}
 use Rattle.ceal_base.specs.declared.word.Word.{Word}
 use Rattle.ceal_base.proofs.TraceLemmas.{steps_in-append, steps-flat}
 use Rattle.ceal_code.specs.Fitting.{Fits}
@@ -17,13 +16,13 @@ use Rattle.ceal_adjust.proofs.FromScratch.{scratch-first}
 use Rattle.ceal_adjust.proofs.Functions.{first-found, adjusted-found, adjusted-sound}
 use Rattle.ceal_adjust.proofs.Honesty.{fix-work}
 use Rattle.ceal_adjust.proofs.Inputs.{fits-more}
-use Rattle.ceal_adjust.proofs.Turning.{at, Kept, turn-kept, Ahead, turn-ahead, finishes-fix, finishes-anew}
+use Rattle.ceal_adjust.proofs.Turning.{at, turn-kept, turn-ahead, finishes-fix, finishes-anew}
 use Rattle.ceal_adjust.specs.Adjust.{Adjusts, Firsts}
 use Rattle.ceal_adjust.specs.Answers.{Comes, Completes, Exceeds, Answered, IsRepair, Is_answer}
-use Rattle.ceal_adjust.specs.Computed.{Repaired, adjusted, first_of}
+use Rattle.ceal_adjust.specs.Computed.{adjusted, first_of}
 use Rattle.ceal_adjust.specs.Laws.{Edited}
-use Rattle.ceal_adjust.specs.Repair.{State, begins, Fix, Anew}
-use Rattle.ceal_adjust.specs.Turns.{Machine, Fixing, Running, Bottom, Turn, Ended, Went, turn, Resumes, Finishes, Goes}
+use Rattle.ceal_adjust.specs.Repair.{State, begins}
+use Rattle.ceal_adjust.specs.Turns.{Machine, Fixing, Running, Bottom, Ended, Went, turn, Resumes, Finishes, Goes}
 use Rattle.ceal_adjust.specs.declared.adjust.Adjusted.{Adjusted}
 use Rattle.ceal_adjust.specs.declared.adjust.Adjusted.TheVariants.{Done, OutOfFuel}
 

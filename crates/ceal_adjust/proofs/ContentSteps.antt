@@ -1,10 +1,10 @@
 -- The contents of modifiables as the code keeps them.
-use Rattle.std.proofs.Common.{◌≡◌, ℕ, zero, suc, ◌+◌, ◌-◌, ◌<◌, ◌==◌, ◌&&◌, ◌⊎◌, inl, inr, Bool, true, false, cond, if◌then◌else◌, Option, Some, None, List, [], ◌∷◌, ◌++◌, length, replicate, get_or, set as put_at, refl, sym, ap, ◌∙◌, subst, unwrap_or, arith}
+use Rattle.std.proofs.Common.{◌≡◌, ℕ, zero, suc, ◌+◌, ◌-◌, ◌<◌, ◌==◌, ◌&&◌, Bool, true, false, cond, if◌then◌else◌, Option, Some, None, List, [], ◌∷◌, ◌++◌, length, replicate, get_or, set as put_at, refl, sym, ap, ◌∙◌, unwrap_or, arith}
 use Rattle.std.specs.HashMap.{get}
 use Rattle.std.proofs.Math.Path.{fun_ext}
 use Rattle.std.proofs.lemmas.List.{get_or-set_same, get_or-set_other}
 use Rattle.ceal_base.specs.Block.{Block}
-use Rattle.ceal_base.specs.Operators.{same_block, same_place}
+use Rattle.ceal_base.specs.Operators.{same_block}
 use Rattle.ceal_base.specs.contracts.word.BlockIdPartialEq.TheImpl.{ghosts}
 use Rattle.ceal_base.specs.declared.forest.Key.{Key}
 use Rattle.ceal_base.specs.declared.kind.Shape.{Shape}
@@ -12,7 +12,7 @@ use Rattle.ceal_base.specs.declared.word.BlockId.{BlockId}
 use Rattle.ceal_base.specs.declared.word.BlockId.TheVariants.{Input, Core}
 use Rattle.ceal_base.specs.declared.word.Place.{Place}
 use Rattle.ceal_base.specs.declared.word.Word.{Word}
-use Rattle.ceal_code.proofs.Same.{nat-same, nat-refl, block-same, block-refl}
+use Rattle.ceal_code.proofs.Same.{nat-same, block-same, block-refl}
 use Rattle.ceal_code.specs.Program.{Code}
 use Rattle.ceal_code.specs.Replay.{Store, learnt, cleared, stored, shape_of, cell_default}
 use Rattle.ceal_code.specs.Value.{field_kind}

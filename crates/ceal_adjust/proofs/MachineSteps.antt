@@ -1,28 +1,26 @@
 -- Steps of the machine as the code keeps it.
-use Rattle.std.proofs.Common.{◌≡◌, ℕ, ◌+◌, Bool, true, false, Option, Some, None, List, [], ◌∷◌, ◌++◌, reverse, refl, sym, ap, ◌∙◌, subst, Vec, Global}
+use Rattle.std.proofs.Common.{◌≡◌, ℕ, Bool, false, Some, None, List, [], ◌∷◌, ◌++◌, reverse, refl, ap, ◌∙◌, Vec, Global}
 use Rattle.std.proofs.lemmas.List.{reverse-append}
 use Rattle.ceal_base.specs.Operators.{same_word}
-use Rattle.ceal_base.specs.Trace.{Trace, Nothing}
 use Rattle.ceal_base.specs.declared.forest.Item.{Item}
 use Rattle.ceal_base.specs.declared.forest.Item.TheVariants.{Step, Alloc, Read}
 use Rattle.ceal_base.specs.declared.forest.Key.{Key}
 use Rattle.ceal_base.specs.declared.forest.UnitId.{UnitId}
-use Rattle.ceal_base.specs.declared.word.BlockId.{BlockId}
 use Rattle.ceal_base.specs.declared.word.Place.{Place}
 use Rattle.ceal_base.specs.declared.word.Word.{Word}
 use Rattle.ceal_code.specs.Init.{pointer}
 use Rattle.ceal_code.specs.Program.{Code}
-use Rattle.ceal_code.specs.Step.{Stack, Run, Empty, Act, Makes, Reads, entered, given}
+use Rattle.ceal_code.specs.Step.{Stack, Run, Act, Makes, Reads, entered, given}
 use Rattle.ceal_code.specs.Value.{Variables, set}
 use Rattle.ceal_adjust.proofs.Finding.{loose-one, skipped-levels, take-found, take-found-read, found-beyond, found-beyond-read}
 use Rattle.ceal_adjust.proofs.StackSteps.{stack-nil}
-use Rattle.ceal_adjust.specs.Levels.{first, around, levels, loose, beyond, skipped, FoundAlloc, find_alloc, FoundRead, find_read, taken_alloc, taken_read}
-use Rattle.ceal_adjust.specs.Machines.{frames_in, machine_at, machine_of}
+use Rattle.ceal_adjust.specs.Levels.{first, around, levels, loose, beyond, FoundAlloc, find_alloc, FoundRead, find_read, taken_alloc, taken_read}
+use Rattle.ceal_adjust.specs.Machines.{frames_in, machine_of}
 use Rattle.ceal_adjust.specs.Repair.{State, clears, works, resumed}
 use Rattle.ceal_adjust.specs.Stacks.{stack_in}
 use Rattle.ceal_adjust.specs.Turns.{Frames, Machine, Turn, Went, opened, making, reading, acting}
 use Rattle.ceal_adjust.specs.declared.machine.Frame.{Frame}
-use Rattle.ceal_adjust.specs.declared.machine.Frame.TheVariants.{Fix, Mend, Run as RunFrame}
+use Rattle.ceal_adjust.specs.declared.machine.Frame.TheVariants.{Mend, Run as RunFrame}
 use Rattle.ceal_adjust.specs.declared.machine.Mode.{Mode as CodeMode}
 use Rattle.ceal_adjust.specs.declared.machine.Mode.TheVariants.{Fixing as IsFixing, Running as IsRunning}
 use Rattle.ceal_adjust.specs.declared.stack.Activation.{Activation}

@@ -1,5 +1,5 @@
 -- Stacks as the code keeps them, and the words with which units begin.
-use Rattle.std.proofs.Common.{◌≡◌, ℕ, zero, suc, ◌+◌, ◌-◌, ◌<◌, ◌≤◌, ◌==◌, Option, Some, None, ◌⊎◌, inl, inr, Bool, true, false, if◌then◌else◌, List, [], ◌∷◌, ◌++◌, length, map, reverse, replicate, take, drop, get_or, set as put_at, drop-cons, append-nil, append_assoc, refl, sym, ap, ◌∙◌, subst, slice_get, slice_set, unwrap_or, arith, min}
+use Rattle.std.proofs.Common.{◌≡◌, ℕ, zero, suc, ◌+◌, ◌-◌, ◌<◌, ◌≤◌, ◌==◌, Some, ◌⊎◌, inl, inr, Bool, true, false, if◌then◌else◌, List, [], ◌∷◌, ◌++◌, length, replicate, drop, get_or, set as put_at, drop-cons, append-nil, append_assoc, refl, sym, ap, ◌∙◌, slice_get, unwrap_or, arith, min}
 use Rattle.std.proofs.Math.Path.{fun_ext}
 use Rattle.std.proofs.lemmas.List.{reverse-append, get_or-set_same, get_or-set_other, length-append, length-replicate}
 use Rattle.std.proofs.lemmas.Option.{unwrap_or-slice_get, slice_get_within, get_or_from_slice_get}
@@ -7,7 +7,7 @@ use Rattle.ceal_base.specs.declared.word.Word.{Word}
 use Rattle.ceal_base.specs.declared.word.Word.TheVariants.{Null}
 use Rattle.ceal_code.proofs.Same.{nat-same}
 use Rattle.ceal_code.specs.Init.{arguments}
-use Rattle.ceal_code.specs.Step.{Stack, Empty, Run, bound, chosen, woven, first_word, later_words, command_at, settled_at, settled}
+use Rattle.ceal_code.specs.Step.{Stack, Empty, bound, chosen, woven, first_word, later_words, command_at, settled_at, settled}
 use Rattle.ceal_code.specs.Program.{Code}
 use Rattle.ceal_code.specs.Value.{Plain, Variables, unset, set}
 use Rattle.ceal_code.specs.declared.expr.VarId.{VarId}

@@ -1,7 +1,7 @@
 -- The machine at the beginning, as the code makes it.
-use Rattle.std.proofs.Common.{◌≡◌, ℕ, List, [], ◌∷◌, refl, ap, ◌∙◌, Vec, Global}
+use Rattle.std.proofs.Common.{◌≡◌, ℕ, List, [], refl, ◌∙◌, Vec, Global}
 use Rattle.ceal_base.specs.Block.{Block}
-use Rattle.ceal_base.specs.Trace.{Trace, Nothing, flat}
+use Rattle.ceal_base.specs.Trace.{Trace, flat}
 use Rattle.ceal_base.specs.declared.forest.Item.{Item}
 use Rattle.ceal_base.specs.declared.word.Word.{Word}
 use Rattle.ceal_code.specs.Program.{Code}
@@ -10,10 +10,9 @@ use Rattle.ceal_code.specs.Step.{started}
 use Rattle.ceal_code.specs.Value.{Plain}
 use Rattle.ceal_adjust.proofs.BeginSteps.{plain-of-flat}
 use Rattle.ceal_adjust.proofs.Completing.{begin, begin-fix}
-use Rattle.ceal_adjust.proofs.Finding.{first-of-flat, around-of-flat}
-use Rattle.ceal_adjust.specs.Machines.{state_in, machine_of}
+use Rattle.ceal_adjust.proofs.Finding.{first-of-flat}
+use Rattle.ceal_adjust.specs.Machines.{machine_of}
 use Rattle.ceal_adjust.specs.Plain.{plain_flat}
-use Rattle.ceal_adjust.specs.Repair.{State, begins}
 use Rattle.ceal_adjust.specs.Stacks.{stack_in}
 use Rattle.ceal_adjust.specs.declared.machine.Frame.{Frame}
 use Rattle.ceal_adjust.specs.declared.machine.Mode.{Mode as CodeMode}

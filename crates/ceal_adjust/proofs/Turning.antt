@@ -17,7 +17,7 @@ use Rattle.ceal_code.specs.Value.{Variables, set}
 use Rattle.ceal_adjust.specs.Turns.{Goes}
 use Rattle.ceal_adjust.specs.Repair.{State, clears, puts, works, grows, resumed, Fix, Mend, Anew}
 use Rattle.ceal_adjust.specs.Take.{TakenAlloc, TakenRead, take_alloc, take_read}
-use Rattle.ceal_adjust.specs.Turns.{Mode, Fixing, Running, Frames, Bottom, After_fix, After_mend, After_run, Machine, Turn, Ended, Went, goes_on, closed, opened, fixing, making, reading, acting, moving, turn, Resumes, Finishes}
+use Rattle.ceal_adjust.specs.Turns.{Mode, Fixing, Running, Frames, Bottom, After_fix, After_mend, After_run, Machine, Turn, Ended, Went, closed, opened, fixing, making, reading, acting, moving, turn, Resumes, Finishes}
 
 abbrev pub at : State → Mode → Frames → Machine
 at s mode fs = record { state = s; mode = mode; frames = fs }

@@ -57,4 +57,5 @@ module _ (structs : List StructInfo) (x : Plain) (env : Variables) where
   values-take es i d h = rw (take_more es i d h) (values-push (take i es) (get_or es i d))
 
 pub ruleset value_steps = (value-num, value-null, value-var, value-unary, value-binary, value-field, value-address)
+
 pub ruleset values_steps = (values-none, values-push)

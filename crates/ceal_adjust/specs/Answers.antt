@@ -1,15 +1,11 @@
 -- What a repair in code answers.
-use Rattle.std.specs.Prelude.{◌≡◌, ℕ, ◌+◌, ◌≤◌, ◌<◌, Option, Some, None, List, ◌++◌}
-use Rattle.ceal_base.specs.Block.{Block}
+use Rattle.std.specs.Prelude.{◌≡◌, ℕ, ◌≤◌, ◌<◌, Option, Some, None, List, ◌++◌}
 use Rattle.ceal_base.specs.Finished.{Finished}
 use Rattle.ceal_base.specs.Trace.{Trace, flat, steps_in}
 use Rattle.ceal_base.specs.declared.forest.Item.{Item}
-use Rattle.ceal_base.specs.declared.word.Word.{Word}
-use Rattle.ceal_code.specs.Fresh.{fresh}
 use Rattle.ceal_code.specs.Program.{Code}
 use Rattle.ceal_code.specs.Replay.{Store}
-use Rattle.ceal_adjust.specs.Computed.{Repaired, adjusted, first_of}
-use Rattle.ceal_adjust.specs.Laws.{Edited}
+use Rattle.ceal_adjust.specs.Computed.{Repaired}
 use Rattle.ceal_adjust.specs.Machines.{machine_in}
 use Rattle.ceal_adjust.specs.Repair.{State}
 use Rattle.ceal_adjust.specs.Turns.{Machine, Finishes, Goes}

@@ -1,14 +1,12 @@
 -- The contents of modifiables as the code keeps them.
-use Rattle.std.specs.Prelude.{ℕ, pos, Option, Some, None, List, get_or, unwrap_or, slice_get}
+use Rattle.std.specs.Prelude.{Option, Some, None, get_or, unwrap_or}
 use Rattle.std.specs.HashMap.{get}
-use Rattle.ceal_base.specs.Block.{Block}
-use Rattle.ceal_base.specs.Shapes.{kinds_of_shape}
 use Rattle.ceal_base.specs.contracts.word.BlockIdPartialEq.TheImpl.{ghosts}
 use Rattle.ceal_base.specs.declared.kind.Shape.{Shape}
 use Rattle.ceal_base.specs.declared.word.Place.{Place}
 use Rattle.ceal_base.specs.declared.word.Word.{Word}
 use Rattle.ceal_code.specs.Program.{Code}
-use Rattle.ceal_code.specs.Replay.{Store, bases, cell_default}
+use Rattle.ceal_code.specs.Replay.{Store, cell_default}
 use Rattle.ceal_code.specs.Value.{field_kind}
 use Rattle.ceal_adjust.specs.declared.contents.Contents.{Contents}
 use Rattle.ceal_adjust.specs.declared.contents.Fields.{Fields}

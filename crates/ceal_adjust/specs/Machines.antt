@@ -1,6 +1,5 @@
 -- The machine of repair as the code keeps it.
-use Rattle.std.specs.Prelude.{ℕ, Bool, true, false, Option, Some, None, List, [], ◌∷◌, ◌++◌, reverse}
-use Rattle.std.specs.Borrow.{Bor}
+use Rattle.std.specs.Prelude.{Bool, true, false, Option, Some, None, List, [], ◌∷◌, reverse}
 use Rattle.ceal_base.specs.Trace.{Trace}
 use Rattle.ceal_base.specs.declared.forest.Item.{Item}
 use Rattle.ceal_base.specs.declared.forest.Item.TheVariants.{Step}
@@ -11,7 +10,7 @@ use Rattle.ceal_adjust.specs.Levels.{first, around, levels, loose, beyond}
 use Rattle.ceal_adjust.specs.Repair.{State}
 use Rattle.ceal_adjust.specs.Stacks.{stack_in}
 use Rattle.ceal_adjust.specs.Tables.{plain_in}
-use Rattle.ceal_adjust.specs.Turns.{Mode, Fixing, Running, Frames, Bottom, After_fix, After_mend, After_run, Machine, Turn, Ended, Went}
+use Rattle.ceal_adjust.specs.Turns.{Fixing, Running, Frames, Bottom, After_fix, After_mend, After_run, Machine, Turn, Ended, Went}
 use Rattle.ceal_adjust.specs.declared.machine.State.{State as CodeState}
 use Rattle.ceal_adjust.specs.declared.machine.Mode.{Mode as CodeMode}
 use Rattle.ceal_adjust.specs.declared.machine.Mode.TheVariants.{Fixing as IsFixing, Running as IsRunning}

@@ -1,5 +1,4 @@
 -- The tables of a repair, seen as the functions that they stand for.
-use Rattle.std.specs.Prelude.{ℕ, Option, Some, None, List, slice_get, unwrap_or}
 use Rattle.std.specs.HashMap.{get}
 use Rattle.ceal_base.specs.contracts.word.BlockIdPartialEq.TheImpl.{ghosts}
 use Rattle.ceal_code.specs.Value.{Plain}

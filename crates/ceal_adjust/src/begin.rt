@@ -83,12 +83,7 @@ pub fn known_inputs(alloc: Global, code: &Code, inputs: &[BlockWords]) -> Result
 }
 
 /// With the block of the item, if it is an allocation.
-fn learn_item(
-    alloc: Global,
-    code: &Code,
-    known: &mut Known,
-    item: &Item,
-) -> Result<(), NoMemory>
+fn learn_item(alloc: Global, code: &Code, known: &mut Known, item: &Item) -> Result<(), NoMemory>
     ensures { OnOk result (plain_in known.new ≡ plain_item code.now (plain_in known.old) item.now) }
 {
     match item {

@@ -172,8 +172,7 @@ fn made_by_function(
         }
         Some(found) => match found {
             FunctionCode::Init { shape, body, .. } => {
-                let block =
-                    initialised_block(alloc, structs, known, *shape, args, body.items())?;
+                let block = initialised_block(alloc, structs, known, *shape, args, body.items())?;
                 Ok(block)
             }
             FunctionCode::Core { .. } => {
@@ -186,12 +185,7 @@ fn made_by_function(
 
 /// The block that is made for a key.
 #[tactic(auto, unfolding(ceal_code::specs::Init::made))]
-pub fn make(
-    alloc: Global,
-    code: &Code,
-    known: &Known,
-    key: &Key,
-) -> Result<BlockWords, NoMemory>
+pub fn make(alloc: Global, code: &Code, known: &Known, key: &Key) -> Result<BlockWords, NoMemory>
     ensures { IfOk result (λ block. block ≡ made code.now (plain_in known.now) key.now) }
 {
     match key {

@@ -15,9 +15,9 @@ ghost use Rattle.ceal_adjust.specs.Tables.{plain_in};
 ghost use Rattle.ceal_adjust.specs.Turns.{closed, opened, fixing, making, reading, acting, turn};
 
 use crate::contents::{Contents, shape_for};
-use crate::search::{find_block, find_value, skip};
 use crate::initialise::make;
 use crate::known::Known;
+use crate::search::{find_block, find_value, skip};
 use crate::stack::{Activation, set_variable};
 use crate::step::{Act, advance, resume};
 use ceal_base::forest::{Item, Key, UnitId};
@@ -58,7 +58,9 @@ pub enum Frame {
         levels: usize,
     },
     /// the read was not taken: units run, with what the read's unit leaves over
-    Run { below: Vec<Activation> },
+    Run {
+        below: Vec<Activation>,
+    },
 }
 
 /// A repair that is under way: the old items that are still to come, and what follows, the next last.
@@ -247,10 +249,12 @@ fn close_run<'a>(
                 },
             })
         }
-        Some(Frame::Mend {
-            below,
-            levels: outer,
-        }) => {
+        Some(
+            Frame::Mend {
+                below,
+                levels: outer,
+            },
+        ) => {
             let rest = skip(rest, levels)?;
             Ok(Turn::Went {
                 stepped: false,
@@ -664,9 +668,7 @@ fn run<'a>(
 {
     let mut stack = stack;
     let act = advance(alloc, code, &state.known, &mut stack)?;
-    let t = perform(
-        alloc, code, inputs, state, frames, rest, levels, act, stack,
-    )?;
+    let t = perform(alloc, code, inputs, state, frames, rest, levels, act, stack)?;
     Ok(t)
 }
 

@@ -97,13 +97,7 @@ fn allocated(item: &Item, key: &Key) -> Option<BlockId>
     ensures { result ≡ block_of_key item.now key.now }
 {
     match item {
-        Item::Alloc { block, key: k } => {
-            if is_key(k, key) {
-                Some(*block)
-            } else {
-                None
-            }
-        }
+        Item::Alloc { block, key: k } => { if is_key(k, key) { Some(*block) } else { None } }
         Item::Step => None,
         Item::Write { .. } => None,
         Item::Read { .. } => None,

@@ -291,7 +291,15 @@ fn perform(
         } => {
             let args = evaluate_all(alloc, structs, known, top.env.as_slice(), args.items())?;
             let rest = evaluate_all(alloc, structs, known, top.env.as_slice(), rest.items())?;
-            call(alloc, code, stack, *function, args.items(), *unit, rest.items())?;
+            call(
+                alloc,
+                code,
+                stack,
+                *function,
+                args.items(),
+                *unit,
+                rest.items(),
+            )?;
             Ok(Act::Quiet)
         }
     }

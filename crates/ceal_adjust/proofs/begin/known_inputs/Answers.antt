@@ -1,4 +1,4 @@
-use Rattle.std.proofs.Common.{◌+◌, ◌∙◌, refl, arith}
+use Rattle.std.proofs.Common.{◌∙◌, refl, arith}
 use Rattle.ceal_adjust.proofs.BeginSteps.{inputs-next, input-none}
 use Rattle.ceal_adjust.specs.Tables.{plain_in}
 use Rattle.ceal_adjust.proofs.begin.known_inputs.Goals as goal

@@ -1,4 +1,4 @@
-use Rattle.std.proofs.Common.{◌+◌, arith}
+use Rattle.std.proofs.Common.{arith}
 use Rattle.ceal_base.specs.Shapes.{kinds_of_shape}
 use Rattle.ceal_adjust.proofs.BeginSteps.{words-next, words-end}
 use Rattle.ceal_adjust.proofs.begin.plain_copies.Goals as goal

@@ -1,4 +1,3 @@
-use Rattle.std.proofs.Common.{ap, ◌∙◌}
 use Rattle.ceal_code.specs.Init.{arguments}
 use Rattle.ceal_code.specs.Replay.{bases}
 use Rattle.ceal_adjust.proofs.MachineSteps.{make-taken}

@@ -9,7 +9,7 @@ pub returns-in-Some-allocated : goal.returns-in-Some-allocated
 returns-in-Some-allocated c = record {
   value = sym c.loop-levels.invariant
       ∙ found-here c.args.key.now c.loop-levels.levels c.loop-levels.items.now c.in-Some.item.now c.in-Some.later.now c.allocated.result c.in-Some-allocated.block
-          c.in-Some.ensures.cases.0 c.loop-levels-test.true c.allocated.ensures c.in-Some-allocated.is;
+      c.in-Some.ensures.cases.0 c.loop-levels-test.true c.allocated.ensures c.in-Some-allocated.is;
 }
 
 pub loop-levels-preserved : goal.loop-levels-preserved

@@ -11,7 +11,7 @@ pub returns-in-Some-was_read : goal.returns-in-Some-was_read
 returns-in-Some-was_read c = record {
   value = sym c.loop-levels.invariant
       ∙ read-here c.args.p c.args.u c.args.v c.args.args.now c.loop-levels.levels c.loop-levels.items.now c.in-Some.item.now c.in-Some.later.now c.was_read.result c.in-Some-was_read.value
-          c.in-Some.ensures.cases.0 c.loop-levels-test.true c.was_read.ensures c.in-Some-was_read.is;
+      c.in-Some.ensures.cases.0 c.loop-levels-test.true c.was_read.ensures c.in-Some-was_read.is;
 }
 
 pub loop-levels-preserved : goal.loop-levels-preserved

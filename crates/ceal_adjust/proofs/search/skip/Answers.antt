@@ -1,4 +1,4 @@
-use Rattle.std.proofs.Common.{sym, ◌∙◌}
+use Rattle.std.proofs.Common.{◌∙◌}
 use Rattle.ceal_adjust.proofs.Finding.{skipped-zero, skipped-empty, skipped-next}
 use Rattle.ceal_adjust.proofs.search.skip.Goals as goal
 

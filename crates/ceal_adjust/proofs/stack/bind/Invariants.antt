@@ -1,4 +1,4 @@
-use Rattle.std.proofs.Common.{◌≡◌, ◌≤◌, ℕ, length, drop}
+use Rattle.std.proofs.Common.{◌≡◌, ◌≤◌, length, drop}
 use Rattle.ceal_code.specs.Init.{arguments}
 use Rattle.ceal_code.specs.Step.{bound}
 use Rattle.ceal_adjust.proofs.stack.bind.Given as goal
