@@ -11,9 +11,9 @@ use Rattle.ceal_adjust.specs.Repair.{State}
 use Rattle.ceal_adjust.specs.Turns.{Machine, Finishes, Goes}
 use Rattle.ceal_adjust.specs.declared.adjust.Adjusted.{Adjusted}
 use Rattle.ceal_adjust.specs.declared.adjust.Adjusted.TheVariants.{Done, OutOfFuel}
-use Rattle.ceal_adjust.specs.declared.adjust.Repair.{Repair}
-use Rattle.ceal_adjust.specs.declared.adjust.Progress.{Progress}
-use Rattle.ceal_adjust.specs.declared.adjust.Progress.TheVariants.{Answer, Under}
+use Rattle.ceal_adjust.specs.declared.progress.Repair.{Repair}
+use Rattle.ceal_adjust.specs.declared.progress.Progress.{Progress}
+use Rattle.ceal_adjust.specs.declared.progress.Progress.TheVariants.{Answer, Under}
 
 -- The machine that began has come to this one, and has written these items with so many steps among them. Whatever the
 -- one finishes with, the other does.

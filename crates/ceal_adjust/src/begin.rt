@@ -11,6 +11,7 @@ ghost use Rattle.ceal_adjust.specs.Tables.{plain_in};
 use crate::contents::shape_field;
 use crate::initialise::make;
 use crate::known::Known;
+use crate::machine::one_more;
 use crate::stack::{Activation, choose, enter, entry_unit, params_of};
 use ceal_base::forest::Item;
 use ceal_base::kind::{FieldKind, Shape};
@@ -30,15 +31,6 @@ fn plain_word(kind: Option<FieldKind>, word: Word) -> Word
         Some(FieldKind::Plain(_)) => word,
         Some(FieldKind::CellInt) => Word::Num(0),
         Some(FieldKind::CellPtr(_)) => Word::Null,
-    }
-}
-
-fn one_more(n: u32) -> Result<u32, NoMemory>
-    ensures { IfOk result (λ m. m ≡ n + 1) }
-{
-    match n.checked_add(1) {
-        None => Err(NoMemory),
-        Some(m) => Ok(m),
     }
 }
 

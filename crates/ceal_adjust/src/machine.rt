@@ -83,7 +83,8 @@ pub enum Turn<'a> {
     },
 }
 
-fn one_more(n: u32) -> Result<u32, NoMemory>
+/// The next number.
+pub fn one_more(n: u32) -> Result<u32, NoMemory>
     ensures { IfOk result (λ m. m ≡ n + 1) }
 {
     match n.checked_add(1) {

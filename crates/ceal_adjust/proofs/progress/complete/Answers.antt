@@ -1,7 +1,7 @@
 use Rattle.ceal_code.specs.Replay.{bases}
 use Rattle.ceal_adjust.proofs.Completing.{comes-begin}
 use Rattle.ceal_adjust.specs.Machines.{machine_in}
-use Rattle.ceal_adjust.proofs.adjust.complete.Goals as goal
+use Rattle.ceal_adjust.proofs.progress.complete.Goals as goal
 
 pub loop-turn-init : goal.loop-turn-init
 loop-turn-init c = comes-begin c.args.code.now c.args.fuel (machine_in c.args.code.now (bases c.args.code.now c.args.inputs.now) c.args.machine) c.new.result.items c.new.ensures.items

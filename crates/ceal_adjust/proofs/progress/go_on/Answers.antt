@@ -3,7 +3,7 @@ use Rattle.ceal_code.specs.Replay.{bases}
 use Rattle.ceal_adjust.proofs.Completing.{comes-more, comes-done, comes-out}
 use Rattle.ceal_adjust.proofs.MachineSteps.{machine-work}
 use Rattle.ceal_adjust.specs.Machines.{state_in, machine_in, written}
-use Rattle.ceal_adjust.proofs.adjust.go_on.Goals as goal
+use Rattle.ceal_adjust.proofs.progress.go_on.Goals as goal
 
 pub returns-then-from : goal.returns-then-from
 returns-then-from c = λ start come.
