@@ -83,7 +83,7 @@ pub enum Turn<'a> {
     },
 }
 
-/// The next number.
+/// The next number; where it has no room in 32 bits, there is no memory for so many steps or blocks.
 pub fn one_more(n: u32) -> Result<u32, NoMemory>
     ensures { IfOk result (λ m. m ≡ n + 1) }
 {

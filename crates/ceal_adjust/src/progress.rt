@@ -111,7 +111,8 @@ fn go_on<'a>(
     }
 }
 
-/// Turns the machine until it has ended, or has written more steps than the fuel allows.
+/// Turns the machine until it has ended, or has written more steps than the fuel allows. No forest that fits into memory
+/// comes to 2^64 turns; a repair that did would be told as want of memory.
 pub fn complete<'a>(
     alloc: Global,
     code: &Code,

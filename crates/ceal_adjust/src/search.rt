@@ -54,6 +54,7 @@ fn is_read(
     place == p && unit.0 == u.0 && var == v && are_words(words, args)
 }
 
+/// No forest that fits into memory has so many levels that the next number is not there.
 fn one_more(levels: usize) -> Result<usize, NoMemory>
     ensures { IfOk result (λ n. n ≡ levels + 1) }
 {
