@@ -1,5 +1,5 @@
 -- Pairs the other way round.
-use Rattle.std.proofs.Common.{◌≡◌, ℕ, List, [], ◌∷◌, sym}
+use Rattle.std.proofs.Common.{ℕ, List, [], ◌∷◌, sym}
 use Rattle.ceal_base.specs.Trace.{Trace}
 use Rattle.ceal_base.specs.declared.forest.Key.{Key}
 use Rattle.ceal_base.specs.declared.word.BlockId.{BlockId}

@@ -1,41 +1,40 @@
 -- A run from scratch that ends leaves a trace: the first one.
-use Rattle.std.proofs.Common.{◌≡◌, ℕ, pos, zero, suc, ◌+◌, ◌≤◌, ◌<◌, ◌==◌, ◌&&◌, Bool, true, false, if◌then◌else◌, Option, Some, None, List, [], ◌∷◌, length, slice_get, slice_set, unwrap_or, is_some, refl, sym, ap, ◌∙◌, subst, arith}
+use Rattle.std.proofs.Common.{◌≡◌, ℕ, pos, zero, suc, ◌+◌, ◌≤◌, ◌<◌, ◌==◌, ◌&&◌, Bool, true, false, if◌then◌else◌, Option, Some, None, List, [], ◌∷◌, length, slice_get, slice_set, is_some, refl, sym, ap, ◌∙◌, subst, arith}
 use Rattle.std.specs.Option.{option_map}
 use Rattle.ceal_base.specs.Access.{of_struct, is_struct, place_in, content_of}
 use Rattle.ceal_base.specs.Block.{Block, Blocks, block_at, written_at}
 use Rattle.ceal_base.specs.Finished.{Finished, with_block}
-use Rattle.ceal_base.specs.Fitting.{kind_in, inputs_fit}
-use Rattle.ceal_base.specs.Operators.{same_block, same_place}
+use Rattle.ceal_base.specs.Fitting.{kind_in}
+use Rattle.ceal_base.specs.Operators.{same_block}
 use Rattle.ceal_base.specs.Shapes.{kinds_of_shape}
 use Rattle.ceal_base.specs.Trace.{Trace, Nothing, Stepped, Allocated, Wrote, Was_read}
 use Rattle.ceal_base.specs.declared.forest.Key.{Key}
 use Rattle.ceal_base.specs.declared.forest.UnitId.{UnitId}
 use Rattle.ceal_base.specs.declared.kind.FieldKind.{FieldKind}
 use Rattle.ceal_base.specs.declared.kind.FieldKind.TheVariants.{Plain as PlainField, CellInt, CellPtr}
-use Rattle.ceal_base.specs.declared.kind.Shape.{Shape}
-use Rattle.ceal_base.specs.declared.kind.Shape.TheVariants.{Struct, ModInt, ModPtr}
+use Rattle.ceal_base.specs.declared.kind.Shape.TheVariants.{Struct}
 use Rattle.ceal_base.specs.declared.typed.StructInfo.{StructInfo}
 use Rattle.ceal_base.specs.declared.word.BlockId.{BlockId}
 use Rattle.ceal_base.specs.declared.word.BlockId.TheVariants.{Input, Core}
 use Rattle.ceal_base.specs.declared.word.Place.{Place}
 use Rattle.ceal_base.specs.declared.word.Word.{Word}
 use Rattle.ceal_base.specs.declared.word.Word.TheVariants.{Num, Block as BlockWord, At, Null}
-use Rattle.ceal_code.proofs.Closed.{Each, Of_stack, Of_key, Of_act, Equal, next-of, next-equal, set-of, given-of, entered-of, chosen-of}
+use Rattle.ceal_code.proofs.Closed.{Of_stack, Of_key, Of_act, Equal, next-of, next-equal, set-of, given-of, entered-of, chosen-of}
 use Rattle.ceal_code.proofs.ClosedInit.{made-equal}
 use Rattle.ceal_code.proofs.Determined.{over-on, one-step, no-step}
 use Rattle.ceal_code.proofs.FittingLemmas.{begun-placed, input-full, args-placed}
 use Rattle.ceal_code.proofs.Memory.{contents, Cell_there, content-read, altered, got, get-set_other, get-push_other, length-set, written-here, written-other, written-count, written-contents, grown-here, grown-count, grown-contents, made-full}
 use Rattle.ceal_code.proofs.Placed.{Placed, Well_placed, Keeps, placed-keeps, stack-keeps, placed-closed, content-placed, written-keeps, written-well, grown-keeps, grown-well, pointer-placed}
 use Rattle.ceal_code.proofs.Replayed.{empty-run}
-use Rattle.ceal_code.proofs.Same.{block-same, nat-same, some-same, none-some, struct-shape}
+use Rattle.ceal_code.proofs.Same.{block-same, some-same, none-some, struct-shape}
 use Rattle.ceal_code.specs.Fitting.{Fits}
 use Rattle.ceal_code.specs.Fresh.{ran, only_over, run, fresh}
 use Rattle.ceal_code.specs.Init.{made, pointer}
 use Rattle.ceal_code.specs.Over.{on, act_on}
 use Rattle.ceal_code.specs.Program.{Code}
-use Rattle.ceal_code.specs.Replay.{Store, learnt, plain_block, plain_words, input_plain, content_in, input_block, cleared, stored, bases}
+use Rattle.ceal_code.specs.Replay.{learnt, plain_block, plain_words, input_plain, content_in, input_block, bases}
 use Rattle.ceal_code.specs.Step.{Stack, Empty, Run, Act, Over, Quiet, Makes, Writes, Reads, variable_default, chosen, started, entered, unit_at, entry_of, given, next}
-use Rattle.ceal_code.specs.Value.{Plain, Variables, set, field_kind, is_cell, field_in, plain_word, field_value, address_value}
+use Rattle.ceal_code.specs.Value.{set, field_kind, is_cell, field_in, plain_word, field_value, address_value}
 use Rattle.ceal_adjust.proofs.Honesty.{anew-rises}
 use Rattle.ceal_adjust.proofs.Stored.{stored-equal, cleared-equal}
 use Rattle.ceal_adjust.specs.Adjust.{Firsts}

@@ -1,5 +1,5 @@
 -- The function gives what the rules give, and all of it that its bound allows.
-use Rattle.std.proofs.Common.{◌≡◌, ℕ, zero, suc, ◌+◌, ◌≤◌, ◌<◌, Bool, true, false, ◌==◌, nat_le, if◌then◌else◌, Option, Some, None, List, refl, sym, subst, arith}
+use Rattle.std.proofs.Common.{◌≡◌, ℕ, zero, suc, ◌+◌, ◌≤◌, ◌<◌, Bool, true, false, nat_le, if◌then◌else◌, Option, Some, None, List, refl, sym, subst, arith}
 use Rattle.ceal_base.specs.Block.{Block}
 use Rattle.ceal_base.specs.Operators.{same_word}
 use Rattle.ceal_base.specs.Trace.{Trace, Nothing, Stepped, Allocated, Wrote, Was_read}
@@ -12,7 +12,7 @@ use Rattle.ceal_code.proofs.Same.{word-same, word-refl, some-same, none-some}
 use Rattle.ceal_code.specs.Init.{pointer}
 use Rattle.ceal_code.specs.Program.{Code}
 use Rattle.ceal_code.specs.Replay.{input_plain, plain_of}
-use Rattle.ceal_code.specs.Step.{Stack, Empty, Run, Act, Over, Quiet, Makes, Writes, Reads, started, next}
+use Rattle.ceal_code.specs.Step.{Stack, Run, Act, Over, Quiet, Makes, Writes, Reads, started, next}
 use Rattle.ceal_code.specs.Value.{Variables, set}
 use Rattle.ceal_adjust.proofs.Honesty.{fix-rises, mend-rises, anew-rises}
 use Rattle.ceal_adjust.specs.Adjust.{Adjusts, Firsts}

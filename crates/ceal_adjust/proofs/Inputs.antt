@@ -1,33 +1,28 @@
 -- What fitting inputs know at the beginning, and what more inputs keep.
-use Rattle.std.proofs.Common.{◌≡◌, ℕ, pos, zero, suc, ◌≤◌, ◌<◌, ◌-◌, ◌==◌, ◌&&◌, Bool, true, false, if◌then◌else◌, Option, Some, None, List, [], ◌∷◌, length, slice_get, unwrap_or, is_some, refl, sym, ap, ◌∙◌, subst, arith}
+use Rattle.std.proofs.Common.{◌≡◌, ℕ, pos, zero, suc, ◌≤◌, ◌<◌, Bool, true, false, if◌then◌else◌, Option, Some, None, List, [], ◌∷◌, length, slice_get, unwrap_or, refl, sym, ap, ◌∙◌, arith}
 use Rattle.std.specs.Option.{option_map}
-use Rattle.ceal_base.specs.Access.{of_struct, is_struct}
-use Rattle.ceal_base.specs.Block.{Block, Blocks, block_at}
-use Rattle.ceal_base.specs.Fitting.{kind_in, kind_at, is_int_cell, is_pointer_cell, fits_kind, words_fit, inputs_fit}
+use Rattle.ceal_base.specs.Block.{Block, Blocks}
+use Rattle.ceal_base.specs.Fitting.{inputs_fit}
 use Rattle.ceal_base.specs.Shapes.{kinds_of_shape}
-use Rattle.ceal_base.specs.Trace.{Trace, blocks_of}
 use Rattle.ceal_base.specs.declared.kind.FieldKind.{FieldKind}
 use Rattle.ceal_base.specs.declared.kind.FieldKind.TheVariants.{Plain as PlainField, CellInt, CellPtr}
-use Rattle.ceal_base.specs.declared.kind.Kind.{Kind}
-use Rattle.ceal_base.specs.declared.kind.Kind.TheVariants.{Int, Ptr, ModInt, ModPtr}
-use Rattle.ceal_base.specs.declared.typed.StructInfo.{StructInfo}
 use Rattle.ceal_base.specs.declared.word.BlockId.{BlockId}
 use Rattle.ceal_base.specs.declared.word.BlockId.TheVariants.{Input, Core}
 use Rattle.ceal_base.specs.declared.word.Place.{Place}
 use Rattle.ceal_base.specs.declared.word.Word.{Word}
-use Rattle.ceal_base.specs.declared.word.Word.TheVariants.{Num, Null, Block as BlockWord, At}
-use Rattle.ceal_code.proofs.Closed.{Each, get-of, chosen-of, entered-of, field_default-of}
-use Rattle.ceal_code.proofs.FittingLemmas.{input-known, args-known}
+use Rattle.ceal_base.specs.declared.word.Word.TheVariants.{Num}
+use Rattle.ceal_code.proofs.Closed.{get-of, chosen-of, entered-of, field_default-of}
+use Rattle.ceal_code.proofs.FittingLemmas.{input-known}
 use Rattle.ceal_code.proofs.Kept.{Shapes_kept, words-kept}
-use Rattle.ceal_code.proofs.Local.{each-words, words-each, stack-of}
+use Rattle.ceal_code.proofs.Local.{each-words, stack-of}
 use Rattle.ceal_code.proofs.Memory.{get-within, got}
-use Rattle.ceal_code.proofs.Same.{both, some-same, none-some}
+use Rattle.ceal_code.proofs.Same.{some-same, none-some}
 use Rattle.ceal_code.specs.Fitting.{args_fit, Fits}
 use Rattle.ceal_code.specs.Known.{Holds, Known_stack}
 use Rattle.ceal_code.specs.Program.{Code}
-use Rattle.ceal_code.specs.Replay.{Known_block, Known_word, Known_words, Store, plain_words, plain_block, input_plain, content_in, input_block, bases}
-use Rattle.ceal_code.specs.Step.{Stack, Empty, started, unit_at, entry_of, chosen}
-use Rattle.ceal_code.specs.Value.{Plain, field_kind, field_default, is_cell}
+use Rattle.ceal_code.specs.Replay.{Known_word, Known_words, plain_words, plain_block, input_plain, content_in, input_block, bases}
+use Rattle.ceal_code.specs.Step.{Empty, started, unit_at, entry_of, chosen}
+use Rattle.ceal_code.specs.Value.{field_kind, field_default, is_cell}
 use Rattle.ceal_code.specs.declared.function.FunctionCode.{FunctionCode}
 use Rattle.ceal_code.specs.declared.function.FunctionCode.TheVariants.{Core as CoreFunction, Init as InitFunction}
 use Rattle.ceal_adjust.proofs.Good.{Extends}

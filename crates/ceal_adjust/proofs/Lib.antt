@@ -23,3 +23,14 @@ pub mod RenamedRepair
 pub mod Found
 pub mod Main
 pub mod Samples
+pub mod ValueSteps
+pub mod InitSteps
+pub mod StackSteps
+pub mod Finding
+pub mod Turning
+pub mod Keys
+pub mod ContentSteps
+pub mod BeginSteps
+pub mod MachineSteps
+pub mod Completing
+pub mod Starting

@@ -1,26 +1,21 @@
 -- The laws of repair.
-use Rattle.std.proofs.Common.{◌≡◌, ◌↔◌, ℕ, ◌≤◌, true, Option, Some, List, length, refl, sym, ap, ◌∙◌, subst, arith}
-use Rattle.ceal_base.specs.Block.{Block, Blocks}
-use Rattle.ceal_base.specs.Finished.{Finished}
+use Rattle.std.proofs.Common.{◌≡◌, ℕ, List, length, sym, ap, ◌∙◌, subst, arith}
+use Rattle.ceal_base.specs.Block.{Block}
 use Rattle.ceal_base.specs.Trace.{Trace, steps_of, blocks_of}
 use Rattle.ceal_base.specs.declared.word.Word.{Word}
 use Rattle.ceal_code.proofs.Replayed.{trace-law}
 use Rattle.ceal_code.proofs.Same.{some-same}
-use Rattle.ceal_code.specs.Alike.{Pairs, Trace_alike, One_to_one}
 use Rattle.ceal_code.specs.Determined.{Determined}
-use Rattle.ceal_code.specs.Fitting.{Fits}
 use Rattle.ceal_code.specs.Program.{Code}
-use Rattle.ceal_code.specs.Replay.{Store, Replays, IsHonest}
-use Rattle.ceal_adjust.proofs.Found.{first-law, repaired, ended}
+use Rattle.ceal_code.specs.Replay.{Store}
+use Rattle.ceal_adjust.proofs.Found.{repaired, ended}
 use Rattle.ceal_adjust.proofs.Functions.{adjusted-sound, adjusted-found, first-sound, first-found}
 use Rattle.ceal_adjust.proofs.Renamed.{renamed-replays, renamed-honest}
 use Rattle.ceal_adjust.proofs.RenamedRepair.{repair-renamed}
 use Rattle.ceal_adjust.proofs.Repaired.{mentions-new, adjust-replays, adjust-honest, adjust-old}
 use Rattle.ceal_adjust.proofs.Unchanged.{adjust-same}
 use Rattle.ceal_adjust.proofs.Unique.{same-traces, same-steps}
-use Rattle.ceal_adjust.specs.Laws.{Memory_after, Updated, Equal_traces, Repair_law, Unique_law, Renamed_law, Renamed_repair_law, End_law, Unchanged_law, First_law, Function_law}
-use Rattle.ceal_adjust.specs.Computed.{Repaired}
-use Rattle.ceal_adjust.specs.Adjust.{Adjusts, Firsts}
+use Rattle.ceal_adjust.specs.Laws.{Memory_after, Repair_law, Unique_law, Renamed_law, Renamed_repair_law, End_law, Unchanged_law, Function_law}
 
 pub repair-law : Repair_law
 repair-law code old new f args l m number work e a = record {

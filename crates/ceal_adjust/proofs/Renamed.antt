@@ -1,12 +1,10 @@
 -- A trace whose core blocks are renamed one to one still replays, and is still honest.
-use Rattle.std.proofs.Common.{◌≡◌, ℕ, zero, suc, ◌+◌, ◌≤◌, ◌<◌, Bool, true, false, ◌==◌, if◌then◌else◌, Option, Some, None, List, [], ◌∷◌, ◌⊎◌, inl, inr, length, refl, sym, ap, ap₂, ◌∙◌, subst, arith}
+use Rattle.std.proofs.Common.{◌≡◌, ℕ, zero, suc, ◌+◌, ◌≤◌, ◌<◌, Bool, true, false, ◌==◌, if◌then◌else◌, Some, None, List, [], ◌∷◌, ◌⊎◌, inl, inr, length, refl, sym, ap, ap₂, ◌∙◌, arith}
 use Rattle.std.specs.Prelude.{⊤}
 use Rattle.ceal_base.specs.Block.{Block}
-use Rattle.ceal_base.specs.Fitting.{inputs_fit}
-use Rattle.ceal_base.specs.Operators.{same_block}
 use Rattle.ceal_base.specs.Trace.{Trace, Nothing, Stepped, Allocated, Wrote, Was_read, blocks_of}
 use Rattle.ceal_base.specs.declared.forest.Key.{Key}
-use Rattle.ceal_base.specs.declared.forest.Key.TheVariants.{Init, ModInt as IntKey, ModPtr as PtrKey}
+use Rattle.ceal_base.specs.declared.forest.Key.TheVariants.{Init}
 use Rattle.ceal_base.specs.declared.word.BlockId.{BlockId}
 use Rattle.ceal_base.specs.declared.word.BlockId.TheVariants.{Input, Core}
 use Rattle.ceal_base.specs.declared.word.Place.{Place}
@@ -18,14 +16,14 @@ use Rattle.ceal_code.proofs.Local.{words-more, made-known, made-same}
 use Rattle.ceal_code.proofs.Pairs.{one_if, one-at, one-within}
 use Rattle.ceal_code.proofs.Replayed.{begin-self, bases-self, started-alike}
 use Rattle.ceal_code.proofs.Same.{block-same, block-refl, word-same, word-refl, nat-same}
-use Rattle.ceal_code.specs.Alike.{Pairs, Tied, Id_alike, Place_alike, Word_alike, Words_alike, Key_alike, Stack_alike, Act_alike, Plain_alike, Store_alike, Trace_alike, Within, One_to_one}
+use Rattle.ceal_code.specs.Alike.{Pairs, Tied, Id_alike, Place_alike, Word_alike, Words_alike, Key_alike, Stack_alike, Act_alike, Plain_alike, Store_alike, Trace_alike, One_to_one}
 use Rattle.ceal_code.specs.Fitting.{Fits}
-use Rattle.ceal_code.specs.Init.{made, pointer}
+use Rattle.ceal_code.specs.Init.{made}
 use Rattle.ceal_code.specs.Known.{Held, Holds}
 use Rattle.ceal_code.specs.Program.{Code}
-use Rattle.ceal_code.specs.Replay.{Yields, In, here, there, Known_block, Known_word, Known_words, Known_key, Mentions, Store, Honest, learnt, count, Distinct, core_numbers, cleared, stored, bases, input_plain, plain_after, plain_of, Replays, IsHonest}
-use Rattle.ceal_code.specs.Step.{Stack, Empty, Run, Act, Over, Quiet, Makes, Writes, Reads, started, next}
-use Rattle.ceal_code.specs.Value.{Plain, set}
+use Rattle.ceal_code.specs.Replay.{Yields, In, here, there, Known_block, Known_word, Known_words, Known_key, Mentions, Store, Honest, learnt, Distinct, core_numbers, cleared, stored, bases, input_plain, plain_after, plain_of, Replays, IsHonest}
+use Rattle.ceal_code.specs.Step.{Stack, Act, started, next}
+use Rattle.ceal_code.specs.Value.{Plain}
 use Rattle.ceal_adjust.proofs.Counting.{uses, one_at, times-cons, times-append}
 use Rattle.ceal_adjust.proofs.Good.{Extends, extends-trans, agrees}
 use Rattle.ceal_adjust.proofs.Growing.{learnt-here}

@@ -2,19 +2,18 @@
 use Rattle.std.proofs.Common.{◌≡◌, ℕ, ◌≤◌, ◌<◌, nat_le, Bool, true, false, Option, Some, None, List, [], length, refl, sym, ◌∙◌, subst, arith}
 use Rattle.ceal_base.specs.Block.{Block}
 use Rattle.ceal_base.specs.Fitting.{inputs_fit}
-use Rattle.ceal_base.specs.Trace.{Trace, blocks_of}
-use Rattle.ceal_base.specs.declared.word.Word.{Word}
+use Rattle.ceal_base.specs.Trace.{Trace}
 use Rattle.ceal_code.proofs.Pairs.{one-within}
 use Rattle.ceal_code.proofs.Replayed.{begin-self, bases-self}
 use Rattle.ceal_code.proofs.Same.{none-some}
-use Rattle.ceal_code.specs.Alike.{Pairs, Tied, Id_alike, Plain_alike, Trace_alike, One_to_one}
+use Rattle.ceal_code.specs.Alike.{Pairs, Id_alike, Plain_alike, Trace_alike, One_to_one}
 use Rattle.ceal_code.specs.Program.{Code}
-use Rattle.ceal_code.specs.Replay.{Mentions, input_plain, plain_after, plain_of, bases}
+use Rattle.ceal_code.specs.Replay.{Mentions, input_plain, plain_after, plain_of}
 use Rattle.ceal_adjust.proofs.Counting.{uses}
 use Rattle.ceal_adjust.proofs.Flipped.{flipped, one-flip, trace-flip}
 use Rattle.ceal_adjust.proofs.Functions.{adjusted-sound, adjusted-found}
 use Rattle.ceal_adjust.proofs.Renamed.{Mentions_too, mentions-renamed}
-use Rattle.ceal_adjust.proofs.RenamedWalk.{Walked_too, walk-too}
+use Rattle.ceal_adjust.proofs.RenamedWalk.{walk-too}
 use Rattle.ceal_adjust.proofs.Renaming.{Fixed_too, fix-too}
 use Rattle.ceal_adjust.specs.Adjust.{Above, Adjusts}
 use Rattle.ceal_adjust.specs.Computed.{Repaired, adjusted}

@@ -1,19 +1,18 @@
 -- The plain words of a trace and of a renamed one.
-use Rattle.std.proofs.Common.{◌≡◌, ℕ, ◌+◌, ◌≤◌, ◌<◌, Bool, true, false, ◌==◌, if◌then◌else◌, Option, Some, None, List, [], ◌∷◌, ◌++◌, ◌⊎◌, inl, inr, refl, sym, ap, ◌∙◌, subst, arith}
+use Rattle.std.proofs.Common.{◌≡◌, ℕ, ◌≤◌, ◌<◌, Bool, true, false, if◌then◌else◌, Some, List, ◌∷◌, ◌⊎◌, inl, inr, refl, subst, arith}
 use Rattle.ceal_base.specs.Block.{Block}
 use Rattle.ceal_base.specs.Operators.{same_block}
-use Rattle.ceal_base.specs.Trace.{Trace, Nothing, Stepped, Allocated, Wrote, Was_read, blocks_of}
+use Rattle.ceal_base.specs.Trace.{Trace, Allocated, Was_read, blocks_of}
 use Rattle.ceal_base.specs.declared.forest.Key.{Key}
-use Rattle.ceal_base.specs.declared.forest.UnitId.{UnitId}
 use Rattle.ceal_base.specs.declared.typed.StructInfo.{StructInfo}
 use Rattle.ceal_base.specs.declared.word.BlockId.{BlockId}
 use Rattle.ceal_base.specs.declared.word.BlockId.TheVariants.{Input, Core}
 use Rattle.ceal_base.specs.declared.word.Place.{Place}
 use Rattle.ceal_base.specs.declared.word.Word.{Word}
-use Rattle.ceal_code.proofs.AlikeLemmas.{id-wider, place-wider, word-wider, words-wider, key-wider, block-wider, maybe-wider, trace-wider, id-both, made-alike}
-use Rattle.ceal_code.proofs.Pairs.{within-trans, one-within, more-pair, tied-with, tied-case, one-at}
+use Rattle.ceal_code.proofs.AlikeLemmas.{place-wider, word-wider, words-wider, key-wider, block-wider, maybe-wider, trace-wider, id-both, made-alike}
+use Rattle.ceal_code.proofs.Pairs.{one-within, more-pair, tied-with, tied-case, one-at}
 use Rattle.ceal_code.proofs.Same.{nat-refl}
-use Rattle.ceal_code.specs.Alike.{Pair, Pairs, Tied, Id_alike, Place_alike, Word_alike, Words_alike, Key_alike, Block_alike, Maybe_alike, Plain_alike, Trace_alike, Within, One_to_one}
+use Rattle.ceal_code.specs.Alike.{Pairs, Tied, Id_alike, Place_alike, Word_alike, Words_alike, Key_alike, Block_alike, Maybe_alike, Plain_alike, Trace_alike, Within, One_to_one}
 use Rattle.ceal_code.specs.Init.{made}
 use Rattle.ceal_code.specs.Program.{Code}
 use Rattle.ceal_code.specs.Replay.{In, here, there, Known_block, Known_word, Known_words, Known_key, Mentions, learnt, plain_after}

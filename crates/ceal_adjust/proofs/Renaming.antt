@@ -1,26 +1,24 @@
 -- To repair a trace whose core blocks are renamed one to one is to rename the repair.
-use Rattle.std.proofs.Common.{◌≡◌, ℕ, ◌+◌, ◌<◌, Bool, true, false, ◌==◌, ◌&&◌, if◌then◌else◌, Option, Some, None, List, [], ◌∷◌, ◌⊎◌, inl, inr, refl, sym, ap, ap₂, ◌∙◌, subst, arith}
+use Rattle.std.proofs.Common.{◌≡◌, ℕ, ◌+◌, ◌<◌, Bool, true, false, ◌==◌, ◌&&◌, if◌then◌else◌, Option, Some, None, List, ◌∷◌, ◌⊎◌, inl, inr, refl, sym, ap, ap₂, ◌∙◌, subst, arith}
 use Rattle.ceal_base.specs.Block.{Block}
 use Rattle.ceal_base.specs.Operators.{same_place, same_word}
 use Rattle.ceal_base.specs.Trace.{Trace, Nothing, Stepped, Allocated, Wrote, Was_read, followed}
 use Rattle.ceal_base.specs.declared.forest.Key.{Key}
-use Rattle.ceal_base.specs.declared.forest.Key.TheVariants.{Init}
 use Rattle.ceal_base.specs.declared.forest.UnitId.{UnitId}
-use Rattle.ceal_base.specs.declared.typed.StructInfo.{StructInfo}
 use Rattle.ceal_base.specs.declared.word.BlockId.{BlockId}
 use Rattle.ceal_base.specs.declared.word.BlockId.TheVariants.{Input, Core}
 use Rattle.ceal_base.specs.declared.word.Place.{Place}
 use Rattle.ceal_base.specs.declared.word.Word.{Word}
 use Rattle.ceal_code.proofs.AlikeActs.{Quiet_too, Makes_too, Writes_too, Reads_too, over-too, quiet-too, makes-too, writes-too, reads-too}
-use Rattle.ceal_code.proofs.AlikeLemmas.{id-wider, place-wider, word-wider, words-wider, key-wider, variables-wider, stack-wider, block-wider, maybe-wider, trace-wider, id-both, place-both, word-both, set-alike, given-alike, pointer-alike, made-alike, next-alike}
+use Rattle.ceal_code.proofs.AlikeLemmas.{id-wider, place-wider, word-wider, words-wider, key-wider, variables-wider, stack-wider, block-wider, maybe-wider, trace-wider, place-both, word-both, set-alike, given-alike, pointer-alike, made-alike, next-alike}
 use Rattle.ceal_code.proofs.AlikeStores.{cleared-alike, cleared-tied, stored-alike}
 use Rattle.ceal_code.proofs.Pairs.{within-trans, more-pair, tied-case}
 use Rattle.ceal_code.proofs.Same.{word-same, word-refl}
-use Rattle.ceal_code.specs.Alike.{Pair, Pairs, Tied, Id_alike, Place_alike, Word_alike, Words_alike, Key_alike, Variables_alike, Stack_alike, Act_alike, Block_alike, Maybe_alike, Plain_alike, Store_alike, Trace_alike, Within, One_to_one}
+use Rattle.ceal_code.specs.Alike.{Pairs, Tied, Id_alike, Place_alike, Word_alike, Words_alike, Key_alike, Variables_alike, Stack_alike, Act_alike, Block_alike, Maybe_alike, Plain_alike, Store_alike, Trace_alike, Within, One_to_one}
 use Rattle.ceal_code.specs.Init.{made, pointer}
 use Rattle.ceal_code.specs.Program.{Code}
 use Rattle.ceal_code.specs.Replay.{learnt}
-use Rattle.ceal_code.specs.Step.{Stack, Empty, Run, Act, Over, Quiet, Makes, Writes, Reads, next}
+use Rattle.ceal_code.specs.Step.{Stack, Run, Act, Over, Quiet, Makes, Writes, Reads, next}
 use Rattle.ceal_code.specs.Value.{Plain, Variables, set}
 use Rattle.ceal_adjust.proofs.Growing.{learnt-here}
 use Rattle.ceal_adjust.specs.Repair.{State, clears, puts, works, grows, resumed, Fix, Mend, Anew}

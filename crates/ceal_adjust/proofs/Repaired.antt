@@ -1,5 +1,5 @@
 -- The main law of repair: what it gives replays the call on the new inputs, and is honest on them.
-use Rattle.std.proofs.Common.{◌≡◌, ℕ, zero, suc, ◌+◌, ◌≤◌, ◌<◌, Bool, true, false, ◌==◌, if◌then◌else◌, Option, Some, None, List, [], ◌∷◌, length, refl, subst, arith}
+use Rattle.std.proofs.Common.{◌≡◌, ℕ, ◌≤◌, ◌<◌, Bool, true, false, ◌==◌, if◌then◌else◌, Some, None, List, [], length, refl, arith}
 use Rattle.ceal_base.specs.Block.{Block}
 use Rattle.ceal_base.specs.Fitting.{inputs_fit}
 use Rattle.ceal_base.specs.Operators.{same_block}
@@ -9,7 +9,7 @@ use Rattle.ceal_base.specs.declared.word.BlockId.TheVariants.{Input, Core}
 use Rattle.ceal_base.specs.declared.word.Word.{Word}
 use Rattle.ceal_code.proofs.FittingLemmas.{args-known}
 use Rattle.ceal_code.proofs.Pairs.{one_if, one-at}
-use Rattle.ceal_code.proofs.Same.{block-same, nat-same}
+use Rattle.ceal_code.proofs.Same.{block-same}
 use Rattle.ceal_code.specs.Fitting.{Fits}
 use Rattle.ceal_code.specs.Init.{made}
 use Rattle.ceal_code.specs.Known.{Holds}
@@ -17,7 +17,7 @@ use Rattle.ceal_code.specs.Program.{Code}
 use Rattle.ceal_code.specs.Replay.{Yields, Mentions, learnt, count, Distinct, core_numbers, input_plain, plain_after, plain_of, bases, Replays, IsHonest}
 use Rattle.ceal_code.specs.Step.{Stack, started}
 use Rattle.ceal_code.specs.Value.{Plain}
-use Rattle.ceal_adjust.proofs.Counting.{times, uses, times-append, fix-distinct, fix-old}
+use Rattle.ceal_adjust.proofs.Counting.{uses, times-append, fix-distinct, fix-old}
 use Rattle.ceal_adjust.proofs.Good.{Extends, extends-trans, Free_from, Good}
 use Rattle.ceal_adjust.proofs.Growing.{fix-grows}
 use Rattle.ceal_adjust.proofs.Honesty.{fix-honest}

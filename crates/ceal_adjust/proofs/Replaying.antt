@@ -1,8 +1,7 @@
 -- What a repair gives is yielded by the same stack, over the plain words at the end.
-use Rattle.std.proofs.Common.{◌≡◌, ℕ, pos, Bool, true, false, if◌then◌else◌, Option, Some, List, [], ◌∷◌, sym, ap, ◌∙◌, subst}
-use Rattle.ceal_base.specs.Block.{Block}
+use Rattle.std.proofs.Common.{◌≡◌, ℕ, pos, Bool, true, false, if◌then◌else◌, Option, Some, List, ◌∷◌, sym, ap, ◌∙◌, subst}
 use Rattle.ceal_base.specs.Operators.{same_block, same_place}
-use Rattle.ceal_base.specs.Trace.{Trace, Nothing, Stepped, Allocated, Wrote, Was_read}
+use Rattle.ceal_base.specs.Trace.{Trace, Stepped, Allocated}
 use Rattle.ceal_base.specs.declared.forest.Key.{Key}
 use Rattle.ceal_base.specs.declared.forest.Key.TheVariants.{Init, ModInt as IntKey, ModPtr as PtrKey}
 use Rattle.ceal_base.specs.declared.forest.UnitId.{UnitId}
@@ -24,7 +23,6 @@ use Rattle.ceal_adjust.proofs.Good.{Extends, extends-trans, agrees, Good, Pieces
 use Rattle.ceal_adjust.proofs.Growing.{learnt-extends, learnt-here, learnt-free, fix-grows, mend-grows, anew-grows, mentions-subset, pieces-more}
 use Rattle.ceal_adjust.proofs.Taking.{take-alloc, take-read}
 use Rattle.ceal_adjust.specs.Repair.{State, clears, puts, works, grows, resumed, Fix, Mend, Anew}
-use Rattle.ceal_adjust.specs.Take.{TakenAlloc, TakenRead}
 
 pub wider : (b : ℕ) (bs : List ℕ) → Subset bs (b ∷ bs)
 wider b bs c h = there h

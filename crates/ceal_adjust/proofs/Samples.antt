@@ -1,6 +1,6 @@
 -- Repairs, computed: INC with a new value, MAP with a new first cell, and BOX, whose revoked block's number is not given
 -- out again.
-use Rattle.std.proofs.Common.{◌≡◌, ℕ, ℤ, pos, ◌+◌, Option, Some, None, List, [], ◌∷◌, refl}
+use Rattle.std.proofs.Common.{◌≡◌, ℕ, pos, Option, Some, None, List, [], ◌∷◌, refl}
 use Rattle.ceal_base.specs.Block.{Block}
 use Rattle.ceal_base.specs.Trace.{Trace, Nothing, Stepped, Wrote, Was_read, steps_of, blocks_of}
 use Rattle.ceal_base.specs.declared.forest.UnitId.{UnitId}
@@ -8,7 +8,6 @@ use Rattle.ceal_base.specs.declared.kind.FieldKind.TheVariants.{Plain as PlainFi
 use Rattle.ceal_base.specs.declared.kind.Kind.TheVariants.{Int, Ptr, ModInt as ModIntKind, ModPtr as ModPtrKind}
 use Rattle.ceal_base.specs.declared.kind.Shape.TheVariants.{Struct, ModInt, ModPtr}
 use Rattle.ceal_base.specs.declared.operators.Binary.TheVariants.{Add, Mul, Same, Differ}
-use Rattle.ceal_base.specs.declared.typed.StructInfo.{StructInfo}
 use Rattle.ceal_base.specs.declared.word.BlockId.TheVariants.{Input}
 use Rattle.ceal_base.specs.declared.word.Place.{Place}
 use Rattle.ceal_base.specs.declared.word.Word.{Word}

@@ -1,5 +1,5 @@
 -- Stores with equal contents have equal contents after a write and after a new block.
-use Rattle.std.proofs.Common.{◌≡◌, Bool, true, false, if◌then◌else◌, ap}
+use Rattle.std.proofs.Common.{◌≡◌, if◌then◌else◌, ap}
 use Rattle.ceal_base.specs.Operators.{same_block, same_place}
 use Rattle.ceal_base.specs.declared.forest.Key.{Key}
 use Rattle.ceal_base.specs.declared.word.BlockId.{BlockId}

@@ -1,5 +1,5 @@
 -- Where some trace of the call is honest on the inputs, there is a repair of each trace of the call.
-use Rattle.std.proofs.Common.{◌≡◌, ℕ, ◌+◌, ◌≤◌, Bool, true, false, ◌==◌, if◌then◌else◌, Option, Some, None, List, [], ◌∷◌, ◌++◌, refl, sym, ap, ◌∙◌, subst, arith}
+use Rattle.std.proofs.Common.{◌≡◌, ℕ, ◌+◌, ◌≤◌, Bool, true, false, ◌==◌, if◌then◌else◌, Option, Some, None, List, [], ◌∷◌, ◌++◌, refl, sym, ap, subst, arith}
 use Rattle.ceal_base.specs.Block.{Block}
 use Rattle.ceal_base.specs.Operators.{same_word}
 use Rattle.ceal_base.specs.Trace.{Trace, Nothing, Stepped, Allocated, Wrote, Was_read, blocks_of}
@@ -12,20 +12,20 @@ use Rattle.ceal_base.specs.declared.word.Place.{Place}
 use Rattle.ceal_base.specs.declared.word.Word.{Word}
 use Rattle.ceal_code.proofs.AlikeLemmas.{variables-wider, key-wider, stack-wider, set-alike, given-alike, pointer-alike, made-alike, next-alike}
 use Rattle.ceal_code.proofs.AlikeStores.{cleared-alike, stored-alike, plain-with}
-use Rattle.ceal_code.proofs.Local.{given-known, next-known}
+use Rattle.ceal_code.proofs.Local.{given-known}
 use Rattle.ceal_code.proofs.Pairs.{one_if, lefts, rights, left-count, pairs-one, within-trans, more-pair}
 use Rattle.ceal_code.proofs.Same.{word-same, word-refl}
-use Rattle.ceal_code.specs.Alike.{Pair, Pairs, Tied, Id_alike, Place_alike, Word_alike, Words_alike, Key_alike, Variables_alike, Stack_alike, Act_alike, Block_alike, Maybe_alike, Plain_alike, Store_alike, Within, One_to_one}
+use Rattle.ceal_code.specs.Alike.{Pairs, Tied, Id_alike, Place_alike, Word_alike, Words_alike, Key_alike, Variables_alike, Stack_alike, Act_alike, Block_alike, Maybe_alike, Plain_alike, Store_alike, Within, One_to_one}
 use Rattle.ceal_code.specs.Init.{made, pointer}
-use Rattle.ceal_code.specs.Known.{Holds, Known_stack, Known_act}
+use Rattle.ceal_code.specs.Known.{Holds, Known_act}
 use Rattle.ceal_code.specs.Program.{Code}
-use Rattle.ceal_code.specs.Replay.{Store, Honest, In, Known_word, Known_words, learnt, count, cleared, stored}
+use Rattle.ceal_code.specs.Replay.{Store, Honest, learnt, count, cleared, stored}
 use Rattle.ceal_code.specs.Step.{Stack, Empty, Run, Act, Quiet, Makes, Writes, Reads, next}
 use Rattle.ceal_code.specs.Value.{Plain, Variables, set}
-use Rattle.ceal_adjust.proofs.Counting.{times, uses, one_at, past, times-append, next-past, alloc-uses, read-uses}
+use Rattle.ceal_adjust.proofs.Counting.{times, one_at, past, times-append, next-past, alloc-uses, read-uses}
 use Rattle.ceal_adjust.proofs.Good.{Extends, Free_from}
 use Rattle.ceal_adjust.proofs.Growing.{learnt-extends, learnt-here, learnt-free, Grown, mend-grows}
-use Rattle.ceal_adjust.proofs.Sure.{Sure, knows, run-known, sure-more, later, SureAlloc, sure-alloc, SureRead, sure-read}
+use Rattle.ceal_adjust.proofs.Sure.{Sure, knows, run-known, sure-more, later, sure-alloc, sure-read}
 use Rattle.ceal_adjust.proofs.Told.{Told}
 use Rattle.ceal_adjust.specs.Repair.{State, clears, puts, works, grows, resumed, Fix, Mend, Anew}
 use Rattle.ceal_adjust.specs.Take.{TakenAlloc, TakenRead, take_alloc, take_read}

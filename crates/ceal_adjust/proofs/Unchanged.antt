@@ -1,9 +1,9 @@
 -- Where the items are honest on the present store, a repair leaves them, with no work.
-use Rattle.std.proofs.Common.{◌≡◌, ℕ, List, refl, sym, ap, ap₂, ◌∙◌, subst}
+use Rattle.std.proofs.Common.{◌≡◌, ℕ, List, refl, ap, ◌∙◌, subst}
 use Rattle.ceal_base.specs.Block.{Block}
-use Rattle.ceal_base.specs.Trace.{Trace, Nothing, Stepped, Allocated, Wrote, Was_read}
+use Rattle.ceal_base.specs.Trace.{Trace, Nothing, Was_read}
 use Rattle.ceal_code.specs.Program.{Code}
-use Rattle.ceal_code.specs.Replay.{Store, Honest, cleared, stored, bases, plain_of, IsHonest}
+use Rattle.ceal_code.specs.Replay.{Store, Honest, cleared, stored, plain_of, IsHonest}
 use Rattle.ceal_adjust.specs.Adjust.{Adjusts}
 use Rattle.ceal_adjust.specs.Repair.{State, begins, clears, puts, Fix, Mend}
 

@@ -1,11 +1,10 @@
 -- Two traces of one call that are honest on the same inputs are one up to the numbers of their blocks.
-use Rattle.std.proofs.Common.{◌≡◌, ℕ, true, Option, Some, None, List, [], ◌∷◌, ◌++◌, length, append_assoc, append-nil, refl, ap, ◌∙◌}
+use Rattle.std.proofs.Common.{◌≡◌, ℕ, true, List, [], ◌∷◌, ◌++◌, length, append_assoc, append-nil, ap, ◌∙◌}
 use Rattle.ceal_base.specs.Block.{Block}
 use Rattle.ceal_base.specs.Fitting.{inputs_fit}
-use Rattle.ceal_base.specs.Trace.{Trace, Nothing, Stepped, Allocated, Wrote, Was_read, blocks_of, steps_of}
+use Rattle.ceal_base.specs.Trace.{Trace, blocks_of, steps_of}
 use Rattle.ceal_base.specs.declared.word.BlockId.{BlockId}
-use Rattle.ceal_base.specs.declared.word.BlockId.TheVariants.{Input, Core}
-use Rattle.ceal_base.specs.declared.word.Place.{Place}
+use Rattle.ceal_base.specs.declared.word.BlockId.TheVariants.{Core}
 use Rattle.ceal_base.specs.declared.word.Word.{Word}
 use Rattle.ceal_code.proofs.AlikeLemmas.{place-wider, word-wider, words-wider, key-wider, variables-wider, stack-wider, trace-wider, steps-alike, set-alike, given-alike, pointer-alike, made-alike, next-alike}
 use Rattle.ceal_code.proofs.AlikeStores.{cleared-alike, stored-alike, plain-with}
@@ -13,15 +12,14 @@ use Rattle.ceal_code.proofs.Determined.{cores-append}
 use Rattle.ceal_code.proofs.FittingLemmas.{args-known}
 use Rattle.ceal_code.proofs.Pairs.{within-trans, one-within, more-pair, tied-with, zip-one}
 use Rattle.ceal_code.proofs.Replayed.{begin-self, bases-self, input-after, started-alike}
-use Rattle.ceal_code.specs.Alike.{Pair, Pairs, Tied, Id_alike, Place_alike, Word_alike, Words_alike, Stack_alike, Act_alike, Plain_alike, Store_alike, Trace_alike, Within, One_to_one, zipped}
+use Rattle.ceal_code.specs.Alike.{Pairs, Tied, Id_alike, Word_alike, Stack_alike, Act_alike, Plain_alike, Store_alike, Trace_alike, Within, One_to_one, zipped}
 use Rattle.ceal_code.specs.Fitting.{Fits}
 use Rattle.ceal_code.specs.Init.{made, pointer}
 use Rattle.ceal_code.specs.Program.{Code}
-use Rattle.ceal_code.specs.Replay.{Yields, Store, Honest, cleared, stored, core_numbers, input_plain, plain_of, bases, Replays, IsHonest}
-use Rattle.ceal_code.specs.Step.{Stack, Empty, Run, Act, Over, Quiet, Makes, Writes, Reads, started, next}
+use Rattle.ceal_code.specs.Replay.{Yields, Store, Honest, core_numbers, input_plain, plain_of, Replays, IsHonest}
+use Rattle.ceal_code.specs.Step.{Stack, Run, Act, next}
 use Rattle.ceal_code.specs.Value.{Plain, set}
 use Rattle.ceal_adjust.proofs.Told.{Told, yields-told}
-use Rattle.ceal_adjust.specs.Repair.{resumed}
 
 -- the pairs of blocks of items and of what follows them
 both-lists : (is ls : List BlockId) (bs : List ℕ) → core_numbers (is ++ ls) ++ bs ≡ core_numbers is ++ (core_numbers ls ++ bs)

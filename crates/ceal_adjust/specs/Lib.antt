@@ -3,3 +3,11 @@ pub mod Repair
 pub mod Adjust
 pub mod Computed
 pub mod Laws
+pub mod Tables
+pub mod Stacks
+pub mod Levels
+pub mod Turns
+pub mod Contents
+pub mod Plain
+pub mod Machines
+pub mod Answers

@@ -1,5 +1,5 @@
 -- The repair of a trace, as rules.
-use Rattle.std.specs.Prelude.{◌≡◌, ℕ, ◌+◌, Option, Some, None, List}
+use Rattle.std.specs.Prelude.{◌≡◌, ℕ, ◌+◌, Some, None, List}
 use Rattle.ceal_base.specs.Block.{Block}
 use Rattle.ceal_base.specs.Trace.{Trace, Nothing, Stepped, Allocated, Wrote, Was_read}
 use Rattle.ceal_base.specs.declared.forest.Key.{Key}

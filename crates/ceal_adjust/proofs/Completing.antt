@@ -1,0 +1,146 @@
+-- What a machine that is turned until it has ended, or has written more steps than the fuel allows, comes to.
+use Rattle.std.proofs.Common.{◌≡◌, ℕ, ◌+◌, ◌≤◌, ◌<◌, Option, Some, None, List, [], ◌++◌, append_assoc, append-nil, refl, sym, ap, ◌∙◌, arith}
+use Rattle.ceal_base.specs.Block.{Block}
+use Rattle.ceal_base.specs.Finished.{Finished}
+use Rattle.ceal_base.specs.Trace.{Trace, Nothing, flat, steps_in, steps_of}
+use Rattle.ceal_base.specs.declared.forest.Item.{Item}
+use Rattle.ceal_base.specs.declared.word.Word.{Word}
+use Rattle.ceal_base.proofs.TraceLemmas.{steps_in-append, steps-flat}
+use Rattle.ceal_code.specs.Fitting.{Fits}
+use Rattle.ceal_code.specs.Fresh.{fresh}
+use Rattle.ceal_code.specs.Program.{Code}
+use Rattle.ceal_code.specs.Replay.{input_plain, plain_of}
+use Rattle.ceal_code.specs.Step.{started}
+use Rattle.ceal_adjust.proofs.Found.{first-steps, first-run, repaired, ended}
+use Rattle.ceal_adjust.proofs.FromScratch.{scratch-first}
+use Rattle.ceal_adjust.proofs.Functions.{first-found, adjusted-found, adjusted-sound}
+use Rattle.ceal_adjust.proofs.Honesty.{fix-work}
+use Rattle.ceal_adjust.proofs.Inputs.{fits-more}
+use Rattle.ceal_adjust.proofs.Turning.{at, turn-kept, turn-ahead, finishes-fix, finishes-anew}
+use Rattle.ceal_adjust.specs.Adjust.{Adjusts, Firsts}
+use Rattle.ceal_adjust.specs.Answers.{Comes, Completes, Exceeds, Answered, IsRepair, Is_answer}
+use Rattle.ceal_adjust.specs.Computed.{adjusted, first_of}
+use Rattle.ceal_adjust.specs.Laws.{Edited}
+use Rattle.ceal_adjust.specs.Repair.{State, begins}
+use Rattle.ceal_adjust.specs.Turns.{Machine, Fixing, Running, Bottom, Ended, Went, turn, Resumes, Finishes, Goes}
+use Rattle.ceal_adjust.specs.declared.adjust.Adjusted.{Adjusted}
+use Rattle.ceal_adjust.specs.declared.adjust.Adjusted.TheVariants.{Done, OutOfFuel}
+
+module _ (code : Code) (fuel : ℕ) where
+  -- at the beginning
+  pub comes-first : (m : Machine) → Comes code fuel m m [] 0
+  comes-first m = record {
+    back = λ s' rest h. h;
+    ahead = λ s' items h. record { rest = items; same = refl; finishes = h };
+    counted = refl;
+    within = omega arith;
+  }
+
+  pub comes-begin : (m : Machine) (out : List Item) → out ≡ [] → Comes code fuel m m out 0
+  comes-begin m out e = rw e (comes-first m)
+
+  -- after one turn more
+  pub comes-more : (start m m' : Machine) (out written : List Item) (steps more : ℕ) → Comes code fuel start m out steps
+      → turn code m ≡ Went written m' → more ≡ steps_in written → steps + more ≤ fuel → Comes code fuel start m' (out ++ written) (steps + more)
+  comes-more start m m' out written steps more c e k l = record {
+    back = λ s' rest h. rw (append_assoc out written rest) (c.back s' (written ++ rest) (kept s' rest h));
+    ahead = λ s' items h. after s' items (c.ahead s' items h);
+    counted = rw (steps_in-append out written) (omega (arith, c.counted, k));
+    within = l;
+  }
+    where
+      kept : (s' : State) (rest : List Item) → Finishes code m' s' rest → Finishes code m s' (written ++ rest)
+      kept = rw e at (turn-kept code m)
+
+      after : (s' : State) (items : List Item) → Goes code m s' out items → Goes code m' s' (out ++ written) items
+      after s' items g =
+          let a : Goes code m' s' written g.rest = rw e at (turn-ahead code g.finishes) in
+          record { rest = a.rest; same = g.same ∙ (ap (λ r. out ++ r) a.same ∙ sym (append_assoc out written a.rest)); finishes = a.finishes }
+
+  -- where the machine has ended
+  pub comes-done : (start m : Machine) (out : List Item) (steps work : ℕ) → Comes code fuel start m out steps
+      → turn code m ≡ Ended → m.state.work ≡ work → Completes code fuel start out work
+  comes-done start m out steps work c e k = record {
+    after = m.state;
+    finishes = rw (append-nil out) at (c.back m.state [] (rw e at (turn-kept code m)));
+    counted = k;
+    within = omega (arith, c.counted, c.within);
+  }
+
+  -- where it writes more steps than the fuel allows
+  pub comes-out : (start m m' : Machine) (out written : List Item) (steps more : ℕ) → Comes code fuel start m out steps
+      → turn code m ≡ Went written m' → more ≡ steps_in written → fuel < steps + more → Exceeds code fuel start
+  comes-out start m m' out written steps more c e k l s' items h =
+      let g = c.ahead s' items h in
+      let a : Goes code m' s' written g.rest = rw e at (turn-ahead code g.finishes) in
+      let n : steps_in items ≡ steps_in out + (steps_in written + steps_in a.rest) =
+      ap steps_in g.same ∙ (steps_in-append out g.rest ∙ ap (λ r. steps_in out + r) (ap steps_in a.same ∙ steps_in-append written a.rest)) in
+      omega (arith, n, k, l, c.counted)
+
+-- the machine at the beginning of a first trace
+abbrev pub begin : Code → List Block → ℕ → List Word → Machine
+begin code inputs f args = at (begins code inputs (input_plain code inputs) 0) (Running (started code f args) Nothing) Bottom
+
+-- and of a repair
+abbrev pub begin-fix : Code → List Block → Trace → ℕ → Machine
+begin-fix code new l number = at (begins code new (plain_of code new l) number) (Fixing l) Bottom
+
+-- a first trace
+module _ (code : Code) (inputs : List Block) (f : ℕ) (args : List Word) (fits : Fits code inputs f args) (fuel : ℕ) where
+  pub first-done : (forest : List Item) (work : ℕ) → Completes code fuel (begin code inputs f args) forest work
+      → IsRepair forest work (first_of code inputs fuel f args) (fresh code f args inputs fuel)
+  first-done forest work c =
+      let r = finishes-anew code (begins code inputs (input_plain code inputs) 0) (started code f args) Nothing c.after forest c.finishes in
+      let firsts : Firsts code inputs f args r.items work = record { after = c.after; left = r.left; anew = r.anew; counted = c.counted } in
+      let steps : steps_of r.items ≡ work = first-steps code inputs f args fits r.items work firsts in
+      let few : work ≤ fuel = omega (arith, steps, c.within, ap steps_in r.same ∙ steps-flat r.items) in
+      let found = first-found code inputs fuel f args r.items work firsts few in
+      let d = first-run code inputs f args fits r.items work firsts in
+      record { items = r.items; flat_form = r.same; same = found; finished = _; ends = d.ends fuel (omega (arith, few, steps)) }
+
+  pub first-out : Exceeds code fuel (begin code inputs f args) → fresh code f args inputs fuel ≡ None
+  first-out h = go (fresh code f args inputs fuel) refl
+    where
+      go : (o : Option Finished) → fresh code f args inputs fuel ≡ o → o ≡ None
+      go None e = refl
+      go (Some q) e =
+          let s = scratch-first code inputs f args fits fuel q e in
+          let steps : steps_of s.0 ≡ q.steps = first-steps code inputs f args fits s.0 q.steps s.1 in
+          let firsts = s.1 in
+          let over = h firsts.after (flat s.0 ++ []) (Finishes.runs firsts.anew Resumes.bottom) in
+          absurd (omega (arith, over, ap steps_in (append-nil (flat s.0)) ∙ steps-flat s.0, steps, s.2))
+
+-- a repair
+module _ (code : Code) (old new : List Block) (f : ℕ) (args : List Word) (l : Trace) (number : ℕ) (e : Edited code old new f args l number) (fuel : ℕ) where
+  pub adjust-done : (forest : List Item) (work : ℕ) → Completes code fuel (begin-fix code new l number) forest work
+      → IsRepair forest work (adjusted code new number fuel l) (fresh code f args new fuel)
+  adjust-done forest work c =
+      let r = finishes-fix code (begins code new (plain_of code new l) number) l c.after forest c.finishes in
+      let adjusts : Adjusts code new number l r.items work = record { after = c.after; fix = r.fix; counted = c.counted } in
+      let steps : steps_of r.items ≤ fuel = omega (arith, c.within, ap steps_in r.same ∙ steps-flat r.items) in
+      let few : work ≤ fuel = omega (arith, steps, fix-work r.fix, c.counted) in
+      let found = adjusted-found code new number fuel l r.items work adjusts few in
+      let q = ended code old new f args e.call e.fit e.extended l e.trace number e.above fuel (record { items = r.items; work = work }) found steps in
+      record { items = r.items; flat_form = r.same; same = found; finished = q.0; ends = q.1 }
+
+  pub adjust-out : Exceeds code fuel (begin-fix code new l number) → fresh code f args new fuel ≡ None
+  adjust-out h = go (fresh code f args new fuel) refl
+    where
+      go : (o : Option Finished) → fresh code f args new fuel ≡ o → o ≡ None
+      go None k = refl
+      go (Some q) k =
+          let s = scratch-first code new f args (fits-more code old new e.extended f args e.call e.fit) fuel q k in
+          let a = repaired code old new f args e.call e.fit e.extended l e.trace number e.above fuel q k in
+          let adjusts = (adjusted-sound code new number fuel l a.0 a.1).0 in
+          let over = h adjusts.after (flat a.0.items ++ []) (Finishes.fixes adjusts.fix Resumes.bottom) in
+          absurd (omega (arith, over, ap steps_in (append-nil (flat a.0.items)) ∙ steps-flat a.0.items, a.2, s.2))
+
+module _ (code : Code) (inputs : List Block) (f : ℕ) (args : List Word) (fits : Fits code inputs f args) (fuel : ℕ) where
+  pub first-answer : (a : Adjusted) → Answered code fuel (begin code inputs f args) a → Is_answer (first_of code inputs fuel f args) (fresh code f args inputs fuel) a
+  first-answer (Done forest work) c = first-done code inputs f args fits fuel forest work c
+  first-answer OutOfFuel h = first-out code inputs f args fits fuel h
+
+module _ (code : Code) (old new : List Block) (f : ℕ) (args : List Word) (l : Trace) (number : ℕ) (e : Edited code old new f args l number) (fuel : ℕ) where
+  pub adjust-answer : (a : Adjusted) → Answered code fuel (begin-fix code new l number) a → Is_answer (adjusted code new number fuel l) (fresh code f args new fuel) a
+  adjust-answer (Done forest work) c = adjust-done code old new f args l number e fuel forest work c
+  adjust-answer OutOfFuel h = adjust-out code old new f args l number e fuel h

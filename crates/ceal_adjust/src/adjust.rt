@@ -1,0 +1,99 @@
+// The first trace of a call, and the repair of a trace.
+
+ghost use Rattle.std.specs.Prelude.{◌≡◌, ◌+◌, ◌<◌, ◌^◌, ℕ, true, List, IfOk};
+ghost use Rattle.ceal_base.specs.Block.{Block};
+ghost use Rattle.ceal_base.specs.Trace.{Trace, flat};
+ghost use Rattle.ceal_base.specs.declared.word.Word.{Word as WordOf};
+ghost use Rattle.ceal_code.specs.Fitting.{Fits};
+ghost use Rattle.ceal_code.specs.Fresh.{fresh};
+ghost use Rattle.ceal_code.specs.Valid.{valid};
+ghost use Rattle.ceal_adjust.specs.Answers.{Is_answer};
+ghost use Rattle.ceal_adjust.specs.Computed.{adjusted, first_of};
+ghost use Rattle.ceal_adjust.specs.Laws.{Edited};
+
+use crate::begin::{first_stack, known_inputs, learn_items};
+use crate::contents::Contents;
+use crate::machine::{Machine, Mode, State, running};
+use crate::progress::complete;
+use ceal_base::forest::Forest;
+use ceal_base::memory::Inputs;
+use ceal_base::no_memory::NoMemory;
+use ceal_base::word::Word;
+use ceal_code::code::Code;
+use std::alloc::Global;
+
+/// What a repair comes to.
+#[derive(Drop)]
+pub enum Adjusted {
+    /// the flat items of the trace, and how many steps were run anew
+    Done { forest: Forest, work: u32 },
+    /// a run from scratch needs more steps than the fuel allows
+    OutOfFuel,
+}
+
+/// The first trace of a call of a core function: it is run anew with nothing left over, and its blocks have the numbers
+/// from 0 on. It is out of fuel exactly where the run from scratch needs more steps than the fuel allows.
+pub fn first_forest(
+    alloc: Global,
+    code: &Code,
+    function: u32,
+    args: &[Word],
+    inputs: &Inputs,
+    fuel: u32,
+) -> Result<Adjusted, NoMemory>
+    requires valid { valid code.now ≡ true }
+    requires fits { Fits code.now inputs.now function args.now }
+    ensures answer { IfOk result (λ a. Is_answer (first_of code.now inputs.now fuel function args.now) (fresh code.now function args.now inputs.now fuel) a) }
+{
+    let known = known_inputs(alloc, code, inputs.items())?;
+    let stack = first_stack(alloc, code, function, args)?;
+    let state = State {
+        contents: Contents::new(alloc),
+        known,
+        number: 0,
+        work: 0,
+    };
+    let machine = Machine {
+        state,
+        mode: running(stack, 0),
+        frames: Vec::new(alloc),
+        rest: &[],
+    };
+    let answer = complete(alloc, code, inputs, fuel, machine)?;
+    Ok(answer)
+}
+
+/// The repair of a trace on other inputs: change propagation, by one walk over the old items. The forest is the flat
+/// form of a trace of a call of this code, on inputs that the given ones extend with any bases; new blocks have the
+/// numbers from `next` on. It is out of fuel exactly where a run from scratch on the given inputs needs more steps than
+/// the fuel allows, although only a part is run anew.
+pub fn adjust(
+    alloc: Global,
+    code: &Code,
+    forest: &Forest,
+    inputs: &Inputs,
+    next: u32,
+    fuel: u32,
+) -> Result<Adjusted, NoMemory>
+    requires valid { valid code.now ≡ true }
+    requires trace { (old : List Block) × (f : ℕ) × (args : List WordOf) × (l : Trace) × (forest.now ≡ flat l) × Edited code.now old inputs.now f args l next }
+    requires room { next + fuel < 2 ^ 32 }
+    ensures answer { IfOk result (λ a. (old : List Block) (f : ℕ) (args : List WordOf) (l : Trace) → forest.now ≡ flat l → Edited code.now old inputs.now f args l next → Is_answer (adjusted code.now inputs.now next fuel l) (fresh code.now f args inputs.now fuel) a) }
+{
+    let known = known_inputs(alloc, code, inputs.items())?;
+    let known = learn_items(alloc, code, known, forest.items())?;
+    let state = State {
+        contents: Contents::new(alloc),
+        known,
+        number: next,
+        work: 0,
+    };
+    let machine = Machine {
+        state,
+        mode: Mode::Fixing,
+        frames: Vec::new(alloc),
+        rest: forest.items(),
+    };
+    let answer = complete(alloc, code, inputs, fuel, machine)?;
+    Ok(answer)
+}
