@@ -1,5 +1,5 @@
 -- The mode that the parser's answer chooses is the one that the words ask for.
-use Rattle.std.proofs.Common.{◌≡◌, ◌∙◌, ⊎_elim, inl, inr, ℕ, refl, sym, ap, subst, List, [], ◌∷◌, map, Option, Some, None, MatchOption, option_map, unwrap_or}
+use Rattle.std.proofs.Common.{◌≡◌, ◌∙◌, refl, sym, ap, subst, List, [], ◌∷◌, map, Option, Some, None, MatchOption, option_map, unwrap_or}
 use Rattle.std.specs.Prelude.{option_and_then, slice_get}
 use Rattle.std.specs.Borrow.{Bor}
 use Rattle.std.specs.List.{find}
@@ -10,7 +10,7 @@ use Rattle.clap.specs.Simple.{matches_of}
 use Rattle.ceal_cli.specs.Modes.{AreDefined, Asks, Text}
 use Rattle.ceal_cli.specs.CommandLine.{Chooses, ChoosesNone, ceal_command}
 use Rattle.ceal_cli.specs.declared.words.Mode.{Mode}
-use Rattle.ceal_cli.proofs.Found.{HasValues, Rows, plain_of, read_of}
+use Rattle.ceal_cli.proofs.Found.{HasValues, plain_of, read_of}
 use Rattle.ceal_cli.proofs.Table.{asked_for, first_value}
 use Rattle.ceal_cli.proofs.Taken.{taken}
 use Rattle.ceal_cli.proofs.Turns.{FUEL}

@@ -1,8 +1,8 @@
 -- What the parser has found at the end of the words that it takes.
-use Rattle.std.proofs.Common.{◌≡◌, ◌∙◌, ◌||◌, ◌&&◌, ◌⊎◌, inl, inr, ℕ, Bool, cond, true, false, refl, sym, ap, ap₂, subst, List, [], ◌∷◌, ◌++◌, Option, Some, None, is_some, unwrap_or, true≢false, append-nil, append_assoc, fold}
+use Rattle.std.proofs.Common.{◌≡◌, ◌∙◌, ◌||◌, ◌&&◌, ◌⊎◌, inl, inr, Bool, cond, true, false, refl, sym, ap, subst, List, [], ◌∷◌, ◌++◌, Option, Some, None, is_some, unwrap_or, true≢false, append-nil, append_assoc, fold}
 use Rattle.std.specs.Str.{bytes_eq}
 use Rattle.std.proofs.lemmas.Slice.Eq.{bytes_eq-Decides}
-use Rattle.clap.specs.Walk.{Held, Row, Step, Text, Waiting, Walk, all_of, finished, has_row, idle, is_pending, nothing_held, option, plain_word, positional, reading_by, settled, settled_rows, subcommand_met, takes_several, to_positional, used, value, values_or_missing, walked, with_default, with_values, without}
+use Rattle.clap.specs.Walk.{Held, Row, Text, Waiting, Walk, all_of, finished, has_row, idle, is_pending, nothing_held, option, plain_word, positional, reading_by, settled, settled_rows, subcommand_met, to_positional, used, value, values_or_missing, walked, with_default, with_values, without}
 use Rattle.clap.specs.Faults.{fault_of, settle_fault, walk_fault}
 use Rattle.clap.specs.Simple.{built, matches_of}
 use Rattle.clap.proofs.FaultLemmas.{leaf_fault}

@@ -1,5 +1,5 @@
 -- Words ask for one thing at most.
-use Rattle.std.proofs.Common.{◌≡◌, ◌∙◌, List, [], ◌∷◌, ℕ, Option, Some, None, refl, sym, ap, codes, if◌then◌else◌}
+use Rattle.std.proofs.Common.{◌≡◌, ◌∙◌, List, [], ◌∷◌, ℕ, Option, Some, None, sym, ap, codes, if◌then◌else◌}
 use Rattle.std.specs.Str.{bytes_eq}
 use Rattle.std.specs.Str.Parse.{digits_value}
 use Rattle.ceal_cli.specs.CommandLine.{Chooses, IsFuel}
@@ -9,7 +9,7 @@ use Rattle.ceal_cli.specs.declared.words.Mode.{Mode}
 use Rattle.ceal_cli.specs.declared.words.Mode.TheVariants.{Check, Run}
 use Rattle.ceal_cli.proofs.Taken.{taken}
 
-fuel_of : Option (List ℕ) → ℕ
+abbrev fuel_of : Option (List ℕ) → ℕ
 fuel_of None = DEFAULT_FUEL
 fuel_of (Some text) = digits_value 10 text
 
@@ -18,7 +18,7 @@ fuel_is None n h = h
 fuel_is (Some text) n h = h.value
 
 -- the mode of words that choose one
-named : List (List ℕ) → Option (List ℕ) → Mode
+abbrev named : List (List ℕ) → Option (List ℕ) → Mode
 named (word ∷ []) value = if bytes_eq word (codes "check") then Check else Run (fuel_of value)
 named words value = Check
 

@@ -1,11 +1,11 @@
 -- The parser takes the words that ask for a mode, and finds them.
-use Rattle.std.proofs.Common.{◌≡◌, ◌∙◌, ◌<◌, ◌⊎◌, inl, inr, ℕ, Bool, true, false, refl, sym, ap, subst, List, [], ◌∷◌, ◌++◌, Option, Some, None, codes, eqb, arith, length}
+use Rattle.std.proofs.Common.{◌≡◌, ◌∙◌, ◌<◌, inl, inr, ℕ, Bool, true, false, refl, sym, ap, subst, List, [], ◌∷◌, ◌++◌, Option, Some, None, codes, eqb, arith}
 use Rattle.std.specs.Char.{digit_value}
 use Rattle.clap.specs.Walk.{first_of}
 use Rattle.clap.specs.Faults.{fault_of, is_simple_and_free}
 use Rattle.clap.specs.Simple.{is_simple, matches_of}
 use Rattle.clap.proofs.OnLiterals.{clap_on_literals}
-use Rattle.ceal_cli.specs.Modes.{AreMarked, Asks, HaveOption, IsOption, Text}
+use Rattle.ceal_cli.specs.Modes.{AreMarked, Asks, HaveOption, Text}
 use Rattle.ceal_cli.specs.Fuel.{SpellsFuel}
 use Rattle.ceal_cli.specs.CommandLine.{Chooses, ceal_command}
 use Rattle.ceal_cli.specs.declared.words.Mode.{Mode}

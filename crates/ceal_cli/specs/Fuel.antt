@@ -1,5 +1,5 @@
 -- The value of the option `--fuel`.
-use Rattle.std.specs.Prelude.{◌≡◌, ◌≤◌, ℕ, List, Option, Some, None, length}
+use Rattle.std.specs.Prelude.{◌≡◌, ◌≤◌, ℕ, List, length}
 use Rattle.std.specs.Str.Parse.{IsNumeral, digits_value}
 
 -- how many steps a run may take: at most, and where the words do not say it

@@ -1,9 +1,9 @@
-use Rattle.std.proofs.Common.{rules, ap, ap₂, refl, codes, true, ◌≡◌, ◌∙◌, Option, Some, None, IsSomeAnd, List, ◌∷◌}
+use Rattle.std.proofs.Common.{rules, ap, ap₂, codes, true, ◌≡◌, ◌∙◌, Option, Some, None, IsSomeAnd}
 use Rattle.std.proofs.lemmas.Result.{IfOk-weaker}
-use Rattle.clap.specs.Words.{App, Rule, app_of, rule_of, with_rule, new_app, new_rule}
+use Rattle.clap.specs.Words.{App, Rule, app_of, rule_of, with_rule, new_app}
 use Rattle.clap.specs.Simple.{app_of_fields}
 use Rattle.clap.specs.declared.builder.range.ValueRange.{ValueRange}
-use Rattle.ceal_cli.specs.CommandLine.{ceal_command, bare, fuel_option, plain_words}
+use Rattle.ceal_cli.specs.CommandLine.{bare, fuel_option, plain_words}
 use Rattle.ceal_cli.proofs.command_line.command_line.Goals as goal
 
 is_range : (o : Option ValueRange) (v : ValueRange) → IsSomeAnd o (λ r. r ≡ v) → o ≡ Some v

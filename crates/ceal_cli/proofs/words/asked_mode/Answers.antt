@@ -1,7 +1,6 @@
-use Rattle.std.proofs.Common.{◌≡◌, ◌∙◌, rules, refl, sym, ap, ap₂, true, List, ℕ, map, codes, inl, inr, [], Option, unwrap_or}
+use Rattle.std.proofs.Common.{◌≡◌, ◌∙◌, refl, sym, ap, ap₂, List, map, inl, inr, [], Option, unwrap_or}
 use Rattle.std.specs.Prelude.{string_bytes}
-use Rattle.clap.specs.Words.{app_of, rows_of, found_of, fault_of, is_simple_and_free, is_simple, matches_of}
-use Rattle.clap.specs.Kinds.{IsAmong}
+use Rattle.clap.specs.Words.{app_of, found_of, fault_of, is_simple_and_free, is_simple, matches_of}
 use Rattle.clap.proofs.WalkLemmas.{first_value-rows, raw_values-rows}
 use Rattle.clap.specs.Walk.{all_of, first_of}
 use Rattle.ceal_cli.specs.Modes.{Text, texts}
