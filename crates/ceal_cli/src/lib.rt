@@ -5,6 +5,8 @@
 #![tactic(auto)]
 
 mod answer;
+mod command_line;
+mod fuel;
 mod lines;
 mod replies;
 mod top;
