@@ -1,3 +1,4 @@
 pub mod Phases
 pub mod Source
 pub mod FaultLine
+pub mod Compiled

@@ -51,7 +51,7 @@ fn programs_are_accepted(rt: HostRuntime) -> Result<(), Fail> {
     let alloc = rt.alloc();
     for (input, count) in [("%%", 0), ("ceal f() { }\n%%\n", 1)] {
         match compile(alloc, input.as_bytes()) {
-            Ok(program) => assert_eq!(rt; program.functions.items().len(), count),
+            Ok(program) => assert_eq!(rt; program.typed.functions.items().len(), count),
             Err(_) => assert!(rt; false, "{input} is refused"),
         }
     }

@@ -1,0 +1,52 @@
+-- Laws of units.
+use Rattle.std.specs.Prelude.{◌≡◌, ℕ, ◌<◌, true, false, List, slice_get, Contains}
+use Rattle.ceal_base.specs.Block.{Block}
+use Rattle.ceal_base.specs.Usage.{IsCore, KeepsUsage}
+use Rattle.ceal_base.specs.WellTyped.{WellTyped}
+use Rattle.ceal_base.specs.declared.typed.Typed.{Typed}
+use Rattle.ceal_base.specs.declared.word.Word.{Word}
+use Rattle.ceal_code.specs.Fresh.{fresh as code_fresh}
+use Rattle.ceal_code.specs.Program.{Code}
+use Rattle.ceal_code.specs.Valid.{valid}
+use Rattle.ceal_flow.specs.Fresh.{fresh}
+use Rattle.ceal_flow.specs.Live.{AreLiveSets}
+use Rattle.ceal_flow.specs.Lowering.{graph_of}
+use Rattle.ceal_flow.specs.Paths.{jumps_at}
+use Rattle.ceal_flow.specs.Program.{Graph}
+use Rattle.ceal_norm.specs.Entries.{is_entry}
+use Rattle.ceal_norm.specs.Units.{Source, code_of}
+
+-- it is the graph of a program
+abbrev pub IsGraph : Graph → Type 0
+IsGraph g = (p : Typed) × (g ≡ graph_of p)
+
+-- a jump that leads to no entry leads forwards
+abbrev pub IsForward : Graph → Type 0
+IsForward g = (b c : ℕ) → Contains (jumps_at (slice_get g.blocks b)) c → is_entry g c ≡ false → b < c
+
+abbrev pub Forward_law : Type 0
+Forward_law = (p : Typed) → IsForward (graph_of p)
+
+-- every run of a core function comes to the same memory as that of the graph, in as many steps and with as many new blocks
+abbrev pub RunsAs : Code → Typed → Type 0
+RunsAs code p = (f : ℕ) (args : List Word) (inputs : List Block) (fuel : ℕ) → IsCore (slice_get p.functions f)
+    → code_fresh code f args inputs fuel ≡ fresh (graph_of p) f args inputs fuel
+
+abbrev pub source_of : Typed → List (List ℕ) → Source
+source_of p sets = record { graph = graph_of p; live = sets }
+
+-- the code of a program that is well typed and keeps the rules of usage is valid
+abbrev pub Valid_law : Type 0
+Valid_law = (p : Typed) (sets : List (List ℕ)) → WellTyped p → KeepsUsage p → AreLiveSets (graph_of p).blocks sets
+    → valid (code_of (source_of p sets)) ≡ true
+
+-- and runs as its graph does
+abbrev pub Run_law : Type 0
+Run_law = (p : Typed) (sets : List (List ℕ)) → WellTyped p → KeepsUsage p → AreLiveSets (graph_of p).blocks sets
+    → RunsAs (code_of (source_of p sets)) p
+
+-- the code is that of the program, by its graph and the variables that are live there
+pub record IsCodeOf (p : Typed) (code : Code) : Type 0 where
+  pub live : List (List ℕ)
+  pub exact_live : AreLiveSets (graph_of p).blocks live
+  pub same : code ≡ code_of (source_of p live)

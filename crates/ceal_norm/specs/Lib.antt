@@ -1,0 +1,4 @@
+pub mod Entries
+pub mod Expressions
+pub mod Units
+pub mod Laws

@@ -1,0 +1,8 @@
+//! From the graph of a program to trace code.
+//!
+//! Each entry of the graph (`specs/Entries`) heads a tree of blocks, which becomes a unit (`specs/Units`). A unit's
+//! parameters are exactly the variables that are live at its entry. `normalise` makes the code; `laws` says that it is
+//! valid and runs as the graph does.
+#![tactic(auto)]
+
+pub mod normalise;
