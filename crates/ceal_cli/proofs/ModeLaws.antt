@@ -6,7 +6,7 @@ use Rattle.ceal_cli.specs.CommandLine.{Chooses, IsFuel}
 use Rattle.ceal_cli.specs.Fuel.{DEFAULT_FUEL}
 use Rattle.ceal_cli.specs.Modes.{Asks}
 use Rattle.ceal_cli.specs.declared.words.Mode.{Mode}
-use Rattle.ceal_cli.specs.declared.words.Mode.TheVariants.{Check, Run}
+use Rattle.ceal_cli.specs.declared.words.Mode.TheVariants.{Check, List as Listing, Run}
 use Rattle.ceal_cli.proofs.Taken.{taken}
 
 abbrev fuel_of : Option (List ℕ) → ℕ
@@ -19,11 +19,12 @@ fuel_is (Some text) n h = h.value
 
 -- the mode of words that choose one
 abbrev named : List (List ℕ) → Option (List ℕ) → Mode
-named (word ∷ []) value = if bytes_eq word (codes "check") then Check else Run (fuel_of value)
+named (word ∷ []) value = if bytes_eq word (codes "check") then Check else if bytes_eq word (codes "list") then Listing else Run (fuel_of value)
 named words value = Check
 
 is_named : (plain : List (List ℕ)) (value : Option (List ℕ)) (mode : Mode) → Chooses plain value mode → mode ≡ named plain value
 is_named plain value Check h = ap (λ (l : List (List ℕ)). named l value) (sym h.0)
+is_named plain value Listing h = ap (λ (l : List (List ℕ)). named l value) (sym h.0)
 is_named plain value (Run n) h = ap Run (fuel_is value n h.1) ∙ ap (λ (l : List (List ℕ)). named l value) (sym h.0)
 
 pub one_mode : (words : List (List ℕ)) (a b : Mode) → Asks words a → Asks words b → a ≡ b

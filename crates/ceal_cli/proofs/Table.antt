@@ -4,7 +4,7 @@ use Rattle.ceal_cli.specs.Modes.{AreMarked, Asks, HaveOption, Text}
 use Rattle.ceal_cli.specs.Fuel.{SpellsFuel}
 use Rattle.ceal_cli.specs.CommandLine.{Chooses}
 use Rattle.ceal_cli.specs.declared.words.Mode.{Mode}
-use Rattle.ceal_cli.specs.declared.words.Mode.TheVariants.{Check, Run}
+use Rattle.ceal_cli.specs.declared.words.Mode.TheVariants.{Check, List as Listing, Run}
 use Rattle.ceal_cli.proofs.Found.{Reads}
 
 -- the first of the values
@@ -99,6 +99,8 @@ none_is (x ∷ more) e = absurd (cc e)
 pub asked_for : (words plain values : List Text) (mode : Mode) → Reads false words plain values → ((x y : Text) (more : List Text) → values ≡ x ∷ y ∷ more → ⊥)
     → Chooses plain (first_value values) mode → Asks words mode
 asked_for words plain values Check reads few (is, none) =
+    subst (λ (l : List Text). AreMarked l words) is (marked words plain values (none_is values none) reads)
+asked_for words plain values Listing reads few (is, none) =
     subst (λ (l : List Text). AreMarked l words) is (marked words plain values (none_is values none) reads)
 asked_for words plain [] (Run fuel) reads few (is, default) =
     inl (subst (λ (l : List Text). AreMarked l words) is (marked words plain [] refl reads), default)

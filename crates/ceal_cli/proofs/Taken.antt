@@ -9,7 +9,7 @@ use Rattle.ceal_cli.specs.Modes.{AreMarked, Asks, HaveOption, Text}
 use Rattle.ceal_cli.specs.Fuel.{SpellsFuel}
 use Rattle.ceal_cli.specs.CommandLine.{Chooses, ceal_command}
 use Rattle.ceal_cli.specs.declared.words.Mode.{Mode}
-use Rattle.ceal_cli.specs.declared.words.Mode.TheVariants.{Check, Run}
+use Rattle.ceal_cli.specs.declared.words.Mode.TheVariants.{Check, List as Listing, Run}
 use Rattle.ceal_cli.proofs.Found.{plain_of}
 use Rattle.ceal_cli.proofs.Table.{head_is, tail_is}
 use Rattle.ceal_cli.proofs.Turns.{DASHES, FUEL, JOINED, OPTION}
@@ -42,12 +42,22 @@ no_word P a b words (inr (x ∷ more, back, is, e)) = absurd (cc is)
 abbrev CHECK : Text
 CHECK = codes "check"
 
+abbrev LIST : Text
+LIST = codes "list"
+
 abbrev RUN : Text
 RUN = codes "run"
 
 check_alone : (words : List Text) → AreMarked (CHECK ∷ []) words → Takes (CHECK ∷ []) None words
 unfolding clap_on_literals
 check_alone = one_word (Takes (CHECK ∷ []) None) CHECK
+    (record { taken = refl; plain_words = refl; value_is = refl })
+    (record { taken = refl; plain_words = refl; value_is = refl })
+    (record { taken = refl; plain_words = refl; value_is = refl })
+
+list_alone : (words : List Text) → AreMarked (LIST ∷ []) words → Takes (LIST ∷ []) None words
+unfolding clap_on_literals
+list_alone = one_word (Takes (LIST ∷ []) None) LIST
     (record { taken = refl; plain_words = refl; value_is = refl })
     (record { taken = refl; plain_words = refl; value_is = refl })
     (record { taken = refl; plain_words = refl; value_is = refl })
@@ -117,6 +127,9 @@ pub record Taken (words : List Text) (mode : Mode) : Type 0 where
 pub taken : (words : List Text) (mode : Mode) → Asks words mode → Taken words mode
 taken words Check asks =
     let t = check_alone words asks in
+    record { none = t.taken; chooses = (t.plain_words, t.value_is) }
+taken words Listing asks =
+    let t = list_alone words asks in
     record { none = t.taken; chooses = (t.plain_words, t.value_is) }
 taken words (Run fuel) (inl (marked, default)) =
     let t = run_alone words marked in

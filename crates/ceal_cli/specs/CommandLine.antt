@@ -4,7 +4,7 @@ use Rattle.clap.specs.Words.{App, Rule, new_app, new_rule, with_rule}
 use Rattle.clap.specs.Lexer.{usize_max}
 use Rattle.ceal_cli.specs.Fuel.{DEFAULT_FUEL, SpellsFuel}
 use Rattle.ceal_cli.specs.declared.words.Mode.{Mode}
-use Rattle.ceal_cli.specs.declared.words.Mode.TheVariants.{Check, Run}
+use Rattle.ceal_cli.specs.declared.words.Mode.TheVariants.{Check, List as Listing, Run}
 
 -- the option `--fuel` with one value
 abbrev pub fuel_option : Rule
@@ -32,6 +32,7 @@ HasNoFuelIn option = (fuel : ℕ) → ¬ IsFuel option fuel
 -- The words without the option, and the value of the option, ask for this.
 abbrev pub Chooses : List (List ℕ) → Option (List ℕ) → Mode → Type 0
 Chooses words option Check = (words ≡ codes "check" ∷ []) × (option ≡ None)
+Chooses words option Listing = (words ≡ codes "list" ∷ []) × (option ≡ None)
 Chooses words option (Run fuel) = (words ≡ codes "run" ∷ []) × IsFuel option fuel
 
 abbrev pub ChoosesNone : List (List ℕ) → Option (List ℕ) → Type 0

@@ -3,7 +3,7 @@ use Rattle.std.specs.Prelude.{◌≡◌, ◌⊎◌, ℕ, List, [], ◌∷◌, �
 use Rattle.std.specs.declared.alloc.Global.{Global}
 use Rattle.ceal_cli.specs.Fuel.{DEFAULT_FUEL, SpellsFuel}
 use Rattle.ceal_cli.specs.declared.words.Mode.{Mode}
-use Rattle.ceal_cli.specs.declared.words.Mode.TheVariants.{Check, Run}
+use Rattle.ceal_cli.specs.declared.words.Mode.TheVariants.{Check, List as Listing, Run}
 
 abbrev pub Text : Type 0
 Text = List ℕ
@@ -34,6 +34,7 @@ HaveOption fuel word words =
 -- What the words ask for.
 abbrev pub Asks : List Text → Mode → Type 0
 Asks words Check = AreMarked (codes "check" ∷ []) words
+Asks words Listing = AreMarked (codes "list" ∷ []) words
 Asks words (Run fuel) =
     (AreMarked (codes "run" ∷ []) words × (fuel ≡ DEFAULT_FUEL)) ⊎ HaveOption fuel (codes "run") words
 

@@ -15,6 +15,8 @@ use std::alloc::Global;
 pub enum Mode {
     /// whether the source part is accepted, and else its first fault
     Check,
+    /// the trace code of the source part, and else its first fault
+    List,
     /// the replies to the script, where a run may take so many steps
     Run(u32),
 }
@@ -40,6 +42,7 @@ fn chosen(words: &[&str], option: Option<&str>) -> Option<Mode>
 {
     match (words, option) {
         (["check"], None) => Some(Mode::Check),
+        (["list"], None) => Some(Mode::List),
         (["run"], option) => Some(Mode::Run(fuel(option)?)),
         _ => None,
     }
