@@ -1,5 +1,5 @@
 -- Laws of units.
-use Rattle.std.specs.Prelude.{◌≡◌, ℕ, ◌<◌, true, false, List, slice_get, Contains}
+use Rattle.std.specs.Prelude.{◌≡◌, ℕ, ◌<◌, true, false, List, length, slice_get, Contains}
 use Rattle.ceal_base.specs.Block.{Block}
 use Rattle.ceal_base.specs.Usage.{IsCore, KeepsUsage}
 use Rattle.ceal_base.specs.WellTyped.{WellTyped}
@@ -20,9 +20,16 @@ use Rattle.ceal_norm.specs.Units.{Source, code_of}
 abbrev pub IsGraph : Graph → Type 0
 IsGraph g = (p : Typed) × (g ≡ graph_of p)
 
+-- a jump leads to a block that is there
+abbrev pub IsClosed : Graph → Type 0
+IsClosed g = (b c : ℕ) → Contains (jumps_at (slice_get g.blocks b)) c → c < length g.blocks
+
 -- a jump that leads to no entry leads forwards
 abbrev pub IsForward : Graph → Type 0
 IsForward g = (b c : ℕ) → Contains (jumps_at (slice_get g.blocks b)) c → is_entry g c ≡ false → b < c
+
+abbrev pub Closed_law : Type 0
+Closed_law = (p : Typed) → IsClosed (graph_of p)
 
 abbrev pub Forward_law : Type 0
 Forward_law = (p : Typed) → IsForward (graph_of p)

@@ -5,4 +5,12 @@
 //! valid and runs as the graph does.
 #![tactic(auto)]
 
+mod body;
+mod entries;
+mod expressions;
+mod functions;
+mod initialiser;
+pub mod laws;
 pub mod normalise;
+mod plan;
+mod units;

@@ -10,6 +10,11 @@ ghost use Rattle.ceal_flow.specs.Lowering.{graph_of};
 ghost use Rattle.ceal_norm.specs.Laws.{IsGraph, RunsAs};
 ghost use Rattle.ceal_norm.specs.Units.{Source, code_of};
 
+use crate::functions::{all_kinds, functions_of};
+use crate::laws::{run_law, valid_law};
+use crate::plan::Plan;
+use crate::units::units_of;
+use ceal_base::copies::copied_structs;
 use ceal_base::no_memory::NoMemory;
 use ceal_code::code::Code;
 use ceal_flow::graph::Graph;
@@ -25,5 +30,12 @@ pub fn normalise(alloc: Global, graph: &Graph, live: &LiveSets) -> Result<Code, 
     ensures valid { (p : Program) → graph.now ≡ graph_of p → WellTyped p → KeepsUsage p → IfOk result (λ code. is_valid code ≡ true) }
     ensures same_run { (p : Program) → graph.now ≡ graph_of p → WellTyped p → KeepsUsage p → IfOk result (λ code. RunsAs code p) }
 {
-    Err(NoMemory)
+    let plan = Plan::new(alloc, graph, live)?;
+    let functions = functions_of(alloc, &plan)?;
+    let units = units_of(alloc, &plan)?;
+    let kinds = all_kinds(alloc, graph.functions())?;
+    let structs = copied_structs(alloc, graph.structs.items())?;
+    valid_law();
+    run_law();
+    Ok(Code::new(structs, functions, units, kinds))
 }

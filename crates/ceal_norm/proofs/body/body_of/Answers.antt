@@ -1,0 +1,32 @@
+use Rattle.std.proofs.Common.{◌≡◌, ◌+◌, ◌≤◌, ◌++◌, ◌∷◌, [], length, reverse, refl, ap, sym, ◌∙◌, arith, rules}
+use Rattle.ceal_norm.specs.Body.{finished}
+use Rattle.ceal_norm.specs.Units.{tree}
+use Rattle.ceal_norm.proofs.BodySteps.{finished-none, finished-length, reverse-push}
+use Rattle.ceal_norm.proofs.body.body_of.Goals as goal
+
+pub loop-next-init : goal.loop-next-init
+loop-next-init c = record {
+  same = c.in_ok-put_tree.ensures.same
+      ∙ (rw (c.new-body.ensures.items, c.new-pending.ensures.items)
+          (finished-none c.args.plan.now (tree c.args.plan.now (length c.args.plan.now.graph.blocks) c.args.b 0)));
+  below = c.in_ok-put_tree.ensures.below;
+}
+
+pub loop-next-smaller : goal.loop-next-smaller
+loop-next-smaller c =
+    let popped : c.loop-next.pending.items ≡ c.pop.new.self.items ++ c.in-Some.next ∷ [] = c.pop.ensures.items ∙ (rw c.in-Some.is refl) in
+    let turned : reverse c.loop-next.pending.items ≡ c.in-Some.next ∷ reverse c.pop.new.self.items =
+        ap reverse popped ∙ reverse-push c.pop.new.self.items c.in-Some.next in
+    let whole : finished c.args.plan.now c.put_pending.new.body.items (reverse c.put_pending.new.pending.items)
+        ≡ tree c.args.plan.now (length c.args.plan.now.graph.blocks) c.args.b 0 =
+        c.in_ok-put_pending.ensures.same ∙ ap (finished c.args.plan.now c.loop-next.body.items) (sym turned) ∙ c.loop-next.invariant.same in
+    let long = ap length whole in
+    let within = finished-length c.args.plan.now c.put_pending.new.body.items (reverse c.put_pending.new.pending.items) in
+    let more : length c.put_pending.new.body.items ≡ length c.loop-next.body.items + 1 = c.in_ok-put_pending.ensures.longer in
+    omega (arith, long, within, more)
+
+pub returns : goal.returns
+returns c =
+    let empty : c.loop-next.pending.items ≡ [] = search rules in
+    record { value = sym (finished-none c.args.plan.now c.loop-next.body.items)
+        ∙ ap (λ ps. finished c.args.plan.now c.loop-next.body.items (reverse ps)) (sym empty) ∙ c.loop-next.invariant.same }

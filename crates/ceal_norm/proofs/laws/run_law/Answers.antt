@@ -1,0 +1,5 @@
+use Rattle.ceal_norm.proofs.RunSame.{run-law}
+use Rattle.ceal_norm.proofs.laws.run_law.Goals as goal
+
+pub returns : goal.returns
+returns c = record { law = run-law }

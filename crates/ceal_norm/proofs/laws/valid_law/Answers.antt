@@ -1,0 +1,6 @@
+use Rattle.ceal_norm.proofs.Forward.{graph-forward}
+use Rattle.ceal_norm.proofs.FunctionFacts.{code-valid}
+use Rattle.ceal_norm.proofs.laws.valid_law.Goals as goal
+
+pub returns : goal.returns
+returns c = record { law = λ p sets typed kept live. code-valid p typed kept sets live (graph-forward p) }
