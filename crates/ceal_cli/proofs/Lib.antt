@@ -1,6 +1,13 @@
+pub mod Asked
+pub mod Found
 pub mod Growing
 pub mod LineEnds
 pub mod ModeLaws
+pub mod OptionText
 pub mod OutputLaws
+pub mod RowLaws
 pub mod ScriptLines
+pub mod Table
+pub mod Taken
 pub mod TopLaws
+pub mod Turns

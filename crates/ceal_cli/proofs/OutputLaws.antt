@@ -3,24 +3,41 @@ use Rattle.std.proofs.Common.{◌≡◌, ◌⊎◌, inl, inr, ℕ, List, [], ◌
 use Rattle.std.specs.Io.KnownBytes.{Appends}
 use Rattle.ceal_base.specs.declared.fault.Fault.{Fault}
 use Rattle.ceal_base.specs.declared.typed.Typed.{Typed}
+use Rattle.ceal_code.specs.Listing.{listing_text}
+use Rattle.ceal_code.specs.Program.{Code}
 use Rattle.ceal_compile.specs.FaultLine.{fault_line}
 use Rattle.ceal_compile.specs.Source.{Comes, IsAccepted, IsProgram, IsFirstFault}
 use Rattle.ceal_io.specs.Streams.{GrowsByPrefix}
 use Rattle.ceal_lex.specs.Parts.{IsSplit}
 use Rattle.ceal_lex.specs.declared.parts.Split.{Split}
+use Rattle.ceal_norm.specs.Laws.{IsCodeOf}
 use Rattle.ceal_session.specs.Runs.{begun}
 use Rattle.ceal_session.specs.declared.state.State.{State}
 use Rattle.ceal_cli.specs.Growth.{Grows, WritesOutput, WritesPrefix, WritesReplies, BeginsToReply}
 use Rattle.ceal_cli.specs.Lines.{script_of, script_lines}
-use Rattle.ceal_cli.specs.Output.{IsPrefix, Programmed, accepted_text}
+use Rattle.ceal_cli.specs.Output.{IsPrefix, IsListing, Programmed, accepted_text}
 use Rattle.ceal_cli.specs.declared.words.Mode.{Mode}
-use Rattle.ceal_cli.specs.declared.words.Mode.TheVariants.{Check, Run}
+use Rattle.ceal_cli.specs.declared.words.Mode.TheVariants.{Check, List as Listing, Run}
 use Rattle.ceal_cli.proofs.Growing.{of_prefix, weaker}
 
 module _ (a b : Option (List ℕ)) (input : List ℕ) where
   -- of the word `accepted`
   pub accepted_part : (program : Typed) → IsProgram input program → GrowsByPrefix a b accepted_text → WritesPrefix a b Check input
   accepted_part program is grows = weaker (λ out prefix. inr (inl ((program, is), prefix))) (of_prefix a b accepted_text grows)
+
+  -- of the text of trace code
+  module _ (program : Typed) (reads : IsProgram input program) (code : Code) (is : IsCodeOf program code) (text : List ℕ) (same : text ≡ listing_text code) where
+    listing : IsListing input text
+    listing = record { program = program; reads = reads; code = code; is_code = is; text = same }
+
+    pub listed : {E : Type 0} (r : Result (Unit {0}) E) → OnOk r (Appends a b text) → OnOk r (WritesOutput a b Listing input)
+    unfolding listing
+    listed (Ok u) h = record { out = text; is = inl listing; appends = h }
+    listed (Err e) h = tt
+
+    pub listed_part : GrowsByPrefix a b text → WritesPrefix a b Listing input
+    unfolding listing
+    listed_part grows = weaker (λ out prefix. inr (inl (text, listing, prefix))) (of_prefix a b text grows)
 
   -- of the line of the first fault
   pub refused_part : (mode : Mode) (fault : Fault) → IsFirstFault input fault → (text : List ℕ) → text ≡ fault_line input fault → GrowsByPrefix a b text → WritesPrefix a b mode input

@@ -1,27 +1,42 @@
--- The words of the command line.
-use Rattle.std.specs.Prelude.{◌≡◌, ℕ, List, [], ◌∷◌, Vec, String, string_bytes, map, codes, Bool, false, bytes_eq}
+-- The words of the command line, and what they ask for.
+use Rattle.std.specs.Prelude.{◌≡◌, ◌⊎◌, ℕ, List, [], ◌∷◌, ◌++◌, Vec, String, string_bytes, map, codes}
 use Rattle.std.specs.declared.alloc.Global.{Global}
+use Rattle.ceal_cli.specs.Fuel.{DEFAULT_FUEL, SpellsFuel}
 use Rattle.ceal_cli.specs.declared.words.Mode.{Mode}
-use Rattle.ceal_cli.specs.declared.words.Mode.TheVariants.{Check, Run}
+use Rattle.ceal_cli.specs.declared.words.Mode.TheVariants.{Check, List as Listing, Run}
+
+abbrev pub Text : Type 0
+Text = List ℕ
 
 -- the texts of words
-abbrev pub texts : Vec (String Global) Global → List (List ℕ)
+abbrev pub texts : Vec (String Global) Global → List Text
 texts words = map string_bytes words.items
 
--- how many steps a run may take where the words do not say it
-abbrev pub DEFAULT_FUEL : ℕ
-DEFAULT_FUEL = 1000000
+-- These words, and one word `--` before, between or behind them, or none.
+abbrev pub AreMarked : List Text → List Text → Type 0
+AreMarked plain words =
+    (words ≡ plain)
+    ⊎ (front : List Text) × (back : List Text) × (plain ≡ front ++ back) × (words ≡ front ++ codes "--" ∷ back)
 
--- The words ask for this: `check`, or `run`.
-abbrev pub Asks : List (List ℕ) → Mode → Type 0
-Asks words Check = words ≡ codes "check" ∷ []
-Asks words (Run fuel) = (words ≡ codes "run" ∷ []) × (fuel ≡ DEFAULT_FUEL)
+-- The option with a fuel: `--fuel N` or `--fuel=N`.
+abbrev pub IsOption : ℕ → List Text → Type 0
+IsOption fuel option =
+    (text : Text) × SpellsFuel text fuel
+    × ((option ≡ codes "--fuel" ∷ text ∷ []) ⊎ (option ≡ (codes "--fuel=" ++ text) ∷ []))
 
-abbrev pub AreDefined : List (List ℕ) → Type 0
+-- The option stands before the word, or behind it; what is behind a `--` is no option.
+abbrev pub HaveOption : ℕ → Text → List Text → Type 0
+HaveOption fuel word words =
+    (option : List Text) × (rest : List Text) × IsOption fuel option
+    × (((words ≡ option ++ rest) × AreMarked (word ∷ []) rest)
+    ⊎ ((words ≡ word ∷ option ++ rest) × AreMarked [] rest))
+
+-- What the words ask for.
+abbrev pub Asks : List Text → Mode → Type 0
+Asks words Check = AreMarked (codes "check" ∷ []) words
+Asks words Listing = AreMarked (codes "list" ∷ []) words
+Asks words (Run fuel) =
+    (AreMarked (codes "run" ∷ []) words × (fuel ≡ DEFAULT_FUEL)) ⊎ HaveOption fuel (codes "run") words
+
+abbrev pub AreDefined : List Text → Type 0
 AreDefined words = (mode : Mode) × Asks words mode
-
--- the words are this one word
-abbrev pub is_one : List ℕ → List (List ℕ) → Bool
-is_one text (word ∷ []) = bytes_eq word text
-is_one text [] = false
-is_one text (word ∷ other ∷ more) = false

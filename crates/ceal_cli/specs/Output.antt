@@ -2,16 +2,19 @@
 use Rattle.std.specs.Prelude.{◌≡◌, ◌⊎◌, ℕ, List, [], ◌∷◌, ◌++◌, codes}
 use Rattle.ceal_base.specs.declared.fault.Fault.{Fault}
 use Rattle.ceal_base.specs.declared.typed.Typed.{Typed}
+use Rattle.ceal_code.specs.Listing.{listing_text}
+use Rattle.ceal_code.specs.Program.{Code}
 use Rattle.ceal_compile.specs.FaultLine.{fault_line}
 use Rattle.ceal_compile.specs.Source.{IsProgram, IsFirstFault, IsAccepted}
 use Rattle.ceal_lex.specs.Parts.{IsSplit}
 use Rattle.ceal_lex.specs.declared.parts.Split.{Split}
+use Rattle.ceal_norm.specs.Laws.{IsCodeOf}
 use Rattle.ceal_session.specs.Replies.{Answers, AreReplies}
 use Rattle.ceal_session.specs.Runs.{begun}
 use Rattle.ceal_session.specs.declared.state.State.{State}
 use Rattle.ceal_cli.specs.Lines.{script_of, script_lines}
 use Rattle.ceal_cli.specs.declared.words.Mode.{Mode}
-use Rattle.ceal_cli.specs.declared.words.Mode.TheVariants.{Check, Run}
+use Rattle.ceal_cli.specs.declared.words.Mode.TheVariants.{Check, List as Listing, Run}
 
 -- The one text is the beginning of the other.
 pub record IsPrefix (part whole : List ℕ) : Type 0 where
@@ -43,13 +46,23 @@ lines_behind {input} p = script_lines (script_of input p.part)
 abbrev pub accepted_text : List ℕ
 accepted_text = codes "accepted\n"
 
--- What is written for an accepted input: `accepted`, or the replies to the lines of its script, from a state without inputs.
+-- The text of the trace code of an accepted program.
+pub record IsListing (input out : List ℕ) : Type 0 where
+  pub program : Typed
+  pub reads : IsProgram input program
+  pub code : Code
+  pub is_code : IsCodeOf program code
+  pub text : out ≡ listing_text code
+
+-- What is written for an accepted input: `accepted`, the text of its trace code, or the replies to the lines of its script, from a state without inputs.
 abbrev pub IsAnswer : Mode → List ℕ → List ℕ → Type 0
 IsAnswer Check input out = IsAccepted input × (out ≡ accepted_text)
+IsAnswer Listing input out = IsListing input out
 IsAnswer (Run fuel) input out = (p : Programmed input) × AreReplies (first_state p fuel) (lines_behind p) out
 
 abbrev pub BeginsAnswer : Mode → List ℕ → List ℕ → Type 0
 BeginsAnswer Check input out = IsAccepted input × IsPrefix out accepted_text
+BeginsAnswer Listing input out = (text : List ℕ) × IsListing input text × IsPrefix out text
 BeginsAnswer (Run fuel) input out = (p : Programmed input) × BeginReplies (first_state p fuel) (lines_behind p) out
 
 -- What is written for an input that is not accepted: the line of its first fault.

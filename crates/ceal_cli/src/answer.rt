@@ -2,6 +2,7 @@
 
 ghost use Rattle.std.specs.Prelude.{◌≡◌, ◌<◌, ◌≤◌, ◌^◌, ◌↔◌, IsTrue, length, IfOk, OnOk, IsErrOf};
 ghost use Rattle.ceal_base.specs.Answers.{IfFault};
+ghost use Rattle.ceal_compile.specs.Compiled.{IsCompiled};
 ghost use Rattle.ceal_compile.specs.Source.{IsAccepted, IsFirstFault, IsProgram};
 ghost use Rattle.ceal_io.specs.Streams.{Rose};
 ghost use Rattle.ceal_cli.specs.Growth.{WritesOutput, WritesPrefix};
@@ -12,8 +13,10 @@ use crate::words::Mode;
 use ceal_base::fault::{Fault, FrontError};
 use ceal_base::no_memory::NoMemory;
 use ceal_base::typed::Typed;
+use ceal_code::listing::listing;
 use ceal_compile::compile::{compile, one_answer};
 use ceal_compile::fault_line::fault_line;
+use ceal_compile::program::Program;
 use ceal_io::{Sink, Stopped, write_all};
 use ceal_lex::split::split;
 use ceal_session::session::Session;
@@ -48,16 +51,36 @@ fn accept<K: Sink>(input: &[u8], program: &Typed, sink: &mut K) -> Result<(), St
     write_all(sink, b"accepted\n")
 }
 
+// Writes the text of the program's trace code.
+fn list<K: Sink>(
+    alloc: Global,
+    input: &[u8],
+    program: &Program,
+    sink: &mut K,
+) -> Result<(), Stopped>
+    requires program { IsProgram input.now program.now.typed }
+    requires compiled { IsCompiled program.now }
+    ensures all { OnOk result (WritesOutput (K.written sink.old) (K.written sink.new) Mode.List input.now) }
+    ensures part { WritesPrefix (K.written sink.old) (K.written sink.new) Mode.List input.now }
+    ensures fault { IsErrOf result Stopped.Failed → Rose (K.faults sink.old) (K.faults sink.new) }
+{
+    match listing(alloc, &program.code) {
+        Ok(text) => write_all(sink, text.items()),
+        Err(NoMemory) => Err(Stopped::Memory),
+    }
+}
+
 // Writes the replies to the script behind the mark.
 fn run<K: Sink>(
     alloc: Global,
     fuel: u32,
     input: &[u8],
-    program: Typed,
+    program: Program,
     sink: &mut K,
 ) -> Result<(), Stopped>
     requires small { length input.now < 2 ^ 32 }
-    requires program { IsProgram input.now program }
+    requires program { IsProgram input.now program.typed }
+    requires compiled { IsCompiled program }
     ensures all { OnOk result (WritesOutput (K.written sink.old) (K.written sink.new) (Mode.Run fuel) input.now) }
     ensures part { WritesPrefix (K.written sink.old) (K.written sink.new) (Mode.Run fuel) input.now }
     ensures fault { IsErrOf result Stopped.Failed → Rose (K.faults sink.old) (K.faults sink.new) }
@@ -75,17 +98,19 @@ fn answer<K: Sink>(
     alloc: Global,
     mode: Mode,
     input: &[u8],
-    program: Typed,
+    program: Program,
     sink: &mut K,
 ) -> Result<(), Stopped>
     requires small { length input.now < 2 ^ 32 }
-    requires program { IsProgram input.now program }
+    requires program { IsProgram input.now program.typed }
+    requires compiled { IsCompiled program }
     ensures all { OnOk result (WritesOutput (K.written sink.old) (K.written sink.new) mode input.now) }
     ensures part { WritesPrefix (K.written sink.old) (K.written sink.new) mode input.now }
     ensures fault { IsErrOf result Stopped.Failed → Rose (K.faults sink.old) (K.faults sink.new) }
 {
     match mode {
-        Mode::Check => accept(input, &program, sink),
+        Mode::Check => accept(input, &program.typed, sink),
+        Mode::List => list(alloc, input, &program, sink),
         Mode::Run(fuel) => run(alloc, fuel, input, program, sink),
     }
 }

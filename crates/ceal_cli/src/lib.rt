@@ -1,10 +1,12 @@
 //! The top call of the program: all that `ceal` does with its words, its input and its output.
 //!
 //! An input is a source part, a line `%%` and the lines of a script. `ceal check` says whether the source part is
-//! accepted, and `ceal run` replies to the script.
+//! accepted, `ceal list` writes its trace code, and `ceal run` replies to the script.
 #![tactic(auto)]
 
 mod answer;
+mod command_line;
+mod fuel;
 mod lines;
 mod replies;
 mod top;

@@ -20,12 +20,19 @@ fn words_of(alloc: Global, line: &str) -> Result<Vec<String>, AllocError> {
 fn answers(rt: HostRuntime) -> Result<(), Fail> {
     let alloc = rt.alloc();
     let replies = "ok\nok\nok\n5\nok\nok\n10\n";
+    let short =
+        "ok\nok\nout of fuel\nrefused C7: no finished run\nok\nout of fuel\nrefused C7: no finished run\n";
     let refused = "fault S5 at 1:13: unexpected end\n";
     let rows = [
         ("run", INC, Status::Done, replies),
         ("check", INC, Status::Done, "accepted\n"),
         ("run", "ceal f() { }", Status::Refused, refused),
         ("check", "ceal f() { }", Status::Refused, refused),
+        ("--fuel 2 run", INC, Status::Done, replies),
+        ("run -- --fuel=2", INC, Status::Usage, ""),
+        ("run --fuel=1 --", INC, Status::Done, short),
+        ("run --fuel 0", INC, Status::Usage, ""),
+        ("check --fuel 5", INC, Status::Usage, ""),
         ("", INC, Status::Usage, ""),
         ("run run", INC, Status::Usage, ""),
         ("checks", INC, Status::Usage, ""),

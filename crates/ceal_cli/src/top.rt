@@ -1,6 +1,6 @@
 // The top call.
 
-ghost use Rattle.std.specs.Prelude.{◌≡◌, ◌≤◌, ◌⊎◌, ◌+◌, ◌↔◌, length, IfSome};
+ghost use Rattle.std.specs.Prelude.{◌≡◌, ◌≤◌, ◌⊎◌, ◌+◌, length, IfSome};
 ghost use Rattle.std.specs.Io.KnownBytes.{Keeps, IsAtEnd};
 ghost use Rattle.ceal_io.specs.Streams.{Rose, LosesCount};
 ghost use Rattle.ceal_cli.specs.Answers.{IsWhole, IsSilent, status_text};
@@ -11,6 +11,7 @@ ghost use Rattle.ceal_cli.specs.declared.words.Mode.{Mode as ModeOf};
 
 use crate::answer::write_answer;
 use crate::words::asked_mode;
+use ceal_base::no_memory::NoMemory;
 use ceal_io::{ReadError, Sink, Source, Stopped, read_all};
 use std::alloc::Global;
 
@@ -55,10 +56,14 @@ pub fn ceal_main<S: Source, K: Sink>(
     // When each answer comes.
     ensures done { result ≡ Status.Done → IfSome (S.left source.old) (λ input. IsAccepted input) }
     ensures refused { result ≡ Status.Refused → IfSome (S.left source.old) (λ input. ¬ IsAccepted input) }
-    ensures usage { result ≡ Status.Usage ↔ ¬ AreDefined (texts words.now) }
+    ensures usage { result ≡ Status.Usage → ¬ AreDefined (texts words.now) }
     ensures too_long { result ≡ Status.TooLong → LosesCount (S.left source.old) (S.left source.new) (INPUT_LIMIT + 1) }
     ensures read_fault { result ≡ Status.ReadFault → Rose (S.faults source.old) (S.faults source.new) }
     ensures write_fault { result ≡ Status.WriteFault → Rose (K.faults sink.old) (K.faults sink.new) }
+
+    // Where the words ask for nothing, that is the answer, but for want of memory, and nothing is written.
+    ensures undefined { ¬ AreDefined (texts words.now) → (result ≡ Status.Usage) ⊎ (result ≡ Status.Memory) }
+    ensures untouched { ¬ AreDefined (texts words.now) → Keeps (K.written sink.old) (K.written sink.new) }
 
     // Where no read and no write failed, an input within the limit is answered by whether it is accepted.
     ensures complete { AreDefined (texts words.now) → IfSome (S.left source.old) (λ input. length input ≤ INPUT_LIMIT → IsAccepted input
@@ -68,8 +73,10 @@ pub fn ceal_main<S: Source, K: Sink>(
         → ¬ Rose (S.faults source.old) (S.faults source.new) → ¬ Rose (K.faults sink.old) (K.faults sink.new)
         → (result ≡ Status.Refused) ⊎ (result ≡ Status.Memory)) }
 {
-    let Some(mode) = asked_mode(words) else {
-        return Status::Usage;
+    let mode = match asked_mode(alloc, words) {
+        Ok(Some(mode)) => mode,
+        Ok(None) => return Status::Usage,
+        Err(NoMemory) => return Status::Memory,
     };
     let input = match read_all(alloc, source, INPUT_LIMIT) {
         Ok(input) => input,

@@ -3,10 +3,10 @@ use Rattle.ceal_cli.proofs.answer.run.Goals as goal
 
 pub returns-in-Ok-clause-all : goal.returns-in-Ok-clause-all
 returns-in-Ok-clause-all g c =
-    replied _ _ c.args.input.now c.split.result c.split.ensures.parts c.args.program c.requires.program c.args.fuel c.reply_all.result
+    replied _ _ c.args.input.now c.split.result c.split.ensures.parts c.args.program.typed c.requires.program c.args.fuel c.reply_all.result
     (rw (← c.script.ensures, ← c.in-Ok.ensures.state) c.reply_all.ensures.all)
 
 pub returns-in-Ok-clause-part : goal.returns-in-Ok-clause-part
 returns-in-Ok-clause-part g c =
-    replied_part _ _ c.args.input.now c.split.result c.split.ensures.parts c.args.program c.requires.program c.args.fuel
+    replied_part _ _ c.args.input.now c.split.result c.split.ensures.parts c.args.program.typed c.requires.program c.args.fuel
     (rw (← c.script.ensures, ← c.in-Ok.ensures.state) c.reply_all.ensures.part)

@@ -6,7 +6,7 @@ use Rattle.ceal_cli.proofs.top.ceal_main.Goals as goal
 pub returns-in-Ok-true-clause-headline : goal.returns-in-Ok-true-clause-headline
 returns-in-Ok-true-clause-headline g c =
     λ _ mode asks.
-    rw (one_mode _ mode c.in-Some.mode asks c.in-Some.ensures)
+    rw (one_mode _ mode c.in-Ok-Some.mode asks (rw (c.in-Ok-Some.field-0-is) at c.in-Ok-Some.ensures))
     (output_for _ _ _ _ c.in-Ok.ensures.all c.in-Ok.ensures.end c.deref.ensures.value _ _ _ c.in-Ok-true.ensures.all)
 
 pub returns-in-Ok-true-clause-within : goal.returns-in-Ok-true-clause-within
@@ -16,7 +16,7 @@ returns-in-Ok-true-clause-within g c =
 pub returns-in-Ok-true-clause-prefix : goal.returns-in-Ok-true-clause-prefix
 returns-in-Ok-true-clause-prefix g c =
     λ mode asks.
-    rw (one_mode _ mode c.in-Some.mode asks c.in-Some.ensures)
+    rw (one_mode _ mode c.in-Ok-Some.mode asks (rw (c.in-Ok-Some.field-0-is) at c.in-Ok-Some.ensures))
     (prefix_for _ _ _ _ c.in-Ok.ensures.all c.in-Ok.ensures.end c.deref.ensures.value _ _ _ c.write_answer.ensures.part)
 
 pub returns-in-Ok-true-clause-done : goal.returns-in-Ok-true-clause-done
@@ -30,7 +30,7 @@ returns-in-Ok-true-clause-refuses g c =
 pub returns-in-Ok-false-clause-prefix : goal.returns-in-Ok-false-clause-prefix
 returns-in-Ok-false-clause-prefix g c =
     λ mode asks.
-    rw (one_mode _ mode c.in-Some.mode asks c.in-Some.ensures)
+    rw (one_mode _ mode c.in-Ok-Some.mode asks (rw (c.in-Ok-Some.field-0-is) at c.in-Ok-Some.ensures))
     (prefix_for _ _ _ _ c.in-Ok.ensures.all c.in-Ok.ensures.end c.deref.ensures.value _ _ _ c.write_answer.ensures.part)
 
 pub returns-in-Ok-false-clause-refused : goal.returns-in-Ok-false-clause-refused
@@ -42,3 +42,21 @@ pub returns-in-Ok-false-clause-complete : goal.returns-in-Ok-false-clause-comple
 returns-in-Ok-false-clause-complete g c =
     λ _. not_done_for _ _ _ _ c.in-Ok.ensures.all c.in-Ok.ensures.end c.deref.ensures.value _ _
     (λ h. let t = c.in-Ok-false.ensures.accepted.1 h in let f = c.in-Ok-false.field-0-test in absurd (cc (t, f)))
+
+pub returns-in-Ok-false-clause-headline : goal.returns-in-Ok-false-clause-headline
+returns-in-Ok-false-clause-headline g c =
+    λ _ mode asks.
+    rw (one_mode _ mode c.in-Ok-Some.mode asks (rw (c.in-Ok-Some.field-0-is) at c.in-Ok-Some.ensures))
+    (output_for _ _ _ _ c.in-Ok.ensures.all c.in-Ok.ensures.end c.deref.ensures.value _ _ _ c.in-Ok-false.ensures.all)
+
+pub returns-in-Err-Memory-write_answer-clause-prefix : goal.returns-in-Err-Memory-write_answer-clause-prefix
+returns-in-Err-Memory-write_answer-clause-prefix g c =
+    λ mode asks.
+    rw (one_mode _ mode c.in-Ok-Some.mode asks (rw (c.in-Ok-Some.field-0-is) at c.in-Ok-Some.ensures))
+    (prefix_for _ _ _ _ c.in-Ok.ensures.all c.in-Ok.ensures.end c.deref.ensures.value _ _ _ c.write_answer.ensures.part)
+
+pub returns-clause-prefix : goal.returns-clause-prefix
+returns-clause-prefix g c =
+    λ mode asks.
+    rw (one_mode _ mode c.in-Ok-Some.mode asks (rw (c.in-Ok-Some.field-0-is) at c.in-Ok-Some.ensures))
+    (prefix_for _ _ _ _ c.in-Ok.ensures.all c.in-Ok.ensures.end c.deref.ensures.value _ _ _ c.write_answer.ensures.part)

@@ -1,0 +1,142 @@
+-- The parser takes the words that ask for a mode, and finds them.
+use Rattle.std.proofs.Common.{◌≡◌, ◌∙◌, ◌<◌, inl, inr, ℕ, Bool, true, false, refl, sym, ap, subst, List, [], ◌∷◌, ◌++◌, Option, Some, None, codes, eqb, arith}
+use Rattle.std.specs.Char.{digit_value}
+use Rattle.clap.specs.Walk.{first_of}
+use Rattle.clap.specs.Faults.{fault_of, is_simple_and_free}
+use Rattle.clap.specs.Simple.{is_simple, matches_of}
+use Rattle.clap.proofs.OnLiterals.{clap_on_literals}
+use Rattle.ceal_cli.specs.Modes.{AreMarked, Asks, HaveOption, Text}
+use Rattle.ceal_cli.specs.Fuel.{SpellsFuel}
+use Rattle.ceal_cli.specs.CommandLine.{Chooses, ceal_command}
+use Rattle.ceal_cli.specs.declared.words.Mode.{Mode}
+use Rattle.ceal_cli.specs.declared.words.Mode.TheVariants.{Check, List as Listing, Run}
+use Rattle.ceal_cli.proofs.Found.{plain_of}
+use Rattle.ceal_cli.proofs.Table.{head_is, tail_is}
+use Rattle.ceal_cli.proofs.Turns.{DASHES, FUEL, JOINED, OPTION}
+
+pub simple : is_simple ceal_command ≡ true
+simple = refl
+
+pub free : is_simple_and_free ceal_command ≡ true
+free = refl
+
+-- the parser takes the words, and finds these
+record Takes (plain : List Text) (value : Option Text) (words : List Text) : Type 0 where
+  taken : fault_of ceal_command words ≡ []
+  plain_words : plain_of (matches_of ceal_command words) ≡ plain
+  value_is : first_of FUEL (matches_of ceal_command words) ≡ value
+
+-- one word, with `--` or without
+one_word : (P : List Text → Type 0) (word : Text) → P (word ∷ []) → P (DASHES ∷ word ∷ []) → P (word ∷ DASHES ∷ []) → (words : List Text) → AreMarked (word ∷ []) words → P words
+one_word P word a b c words (inl e) = subst P (sym e) a
+one_word P word a b c words (inr ([], back, is, e)) = subst P (ap (λ (l : List Text). DASHES ∷ l) is ∙ sym e) b
+one_word P word a b c words (inr (x ∷ [], back, is, e)) =
+    subst P (ap (λ (y : Text). y ∷ DASHES ∷ []) (head_is word x [] back is) ∙ ap (λ (l : List Text). x ∷ DASHES ∷ l) (tail_is word x [] back is) ∙ sym e) c
+one_word P word a b c words (inr (x ∷ y ∷ more, back, is, e)) = absurd (cc (tail_is word x [] (y ∷ (more ++ back)) is))
+
+no_word : (P : List Text → Type 0) → P [] → P (DASHES ∷ []) → (words : List Text) → AreMarked [] words → P words
+no_word P a b words (inl e) = subst P (sym e) a
+no_word P a b words (inr ([], back, is, e)) = subst P (ap (λ (l : List Text). DASHES ∷ l) is ∙ sym e) b
+no_word P a b words (inr (x ∷ more, back, is, e)) = absurd (cc is)
+
+abbrev CHECK : Text
+CHECK = codes "check"
+
+abbrev LIST : Text
+LIST = codes "list"
+
+abbrev RUN : Text
+RUN = codes "run"
+
+check_alone : (words : List Text) → AreMarked (CHECK ∷ []) words → Takes (CHECK ∷ []) None words
+unfolding clap_on_literals
+check_alone = one_word (Takes (CHECK ∷ []) None) CHECK
+    (record { taken = refl; plain_words = refl; value_is = refl })
+    (record { taken = refl; plain_words = refl; value_is = refl })
+    (record { taken = refl; plain_words = refl; value_is = refl })
+
+list_alone : (words : List Text) → AreMarked (LIST ∷ []) words → Takes (LIST ∷ []) None words
+unfolding clap_on_literals
+list_alone = one_word (Takes (LIST ∷ []) None) LIST
+    (record { taken = refl; plain_words = refl; value_is = refl })
+    (record { taken = refl; plain_words = refl; value_is = refl })
+    (record { taken = refl; plain_words = refl; value_is = refl })
+
+run_alone : (words : List Text) → AreMarked (RUN ∷ []) words → Takes (RUN ∷ []) None words
+unfolding clap_on_literals
+run_alone = one_word (Takes (RUN ∷ []) None) RUN
+    (record { taken = refl; plain_words = refl; value_is = refl })
+    (record { taken = refl; plain_words = refl; value_is = refl })
+    (record { taken = refl; plain_words = refl; value_is = refl })
+
+-- the option with its value, before the word and behind it
+joined_before : (text : Text) (rest : List Text) → AreMarked (RUN ∷ []) rest → Takes (RUN ∷ []) (Some text) ((JOINED ++ text) ∷ rest)
+unfolding clap_on_literals
+joined_before text = one_word (λ rest. Takes (RUN ∷ []) (Some text) ((JOINED ++ text) ∷ rest)) RUN
+    (record { taken = refl; plain_words = refl; value_is = refl })
+    (record { taken = refl; plain_words = refl; value_is = refl })
+    (record { taken = refl; plain_words = refl; value_is = refl })
+
+joined_behind : (text : Text) (rest : List Text) → AreMarked [] rest → Takes (RUN ∷ []) (Some text) (RUN ∷ (JOINED ++ text) ∷ rest)
+unfolding clap_on_literals
+joined_behind text = no_word (λ rest. Takes (RUN ∷ []) (Some text) (RUN ∷ (JOINED ++ text) ∷ rest))
+    (record { taken = refl; plain_words = refl; value_is = refl })
+    (record { taken = refl; plain_words = refl; value_is = refl })
+
+-- the value does not begin with `-`
+module _ (d : ℕ) (ds : List ℕ) (no : eqb d 45 ≡ false) where
+  apart_before : (rest : List Text) → AreMarked (RUN ∷ []) rest → Takes (RUN ∷ []) (Some (d ∷ ds)) (OPTION ∷ (d ∷ ds) ∷ rest)
+  unfolding clap_on_literals
+  apart_before = one_word (λ rest. Takes (RUN ∷ []) (Some (d ∷ ds)) (OPTION ∷ (d ∷ ds) ∷ rest)) RUN
+      (record { taken = simp no refl; plain_words = simp no refl; value_is = simp no refl })
+      (record { taken = simp no refl; plain_words = simp no refl; value_is = simp no refl })
+      (record { taken = simp no refl; plain_words = simp no refl; value_is = simp no refl })
+
+  apart_behind : (rest : List Text) → AreMarked [] rest → Takes (RUN ∷ []) (Some (d ∷ ds)) (RUN ∷ OPTION ∷ (d ∷ ds) ∷ rest)
+  unfolding clap_on_literals
+  apart_behind = no_word (λ rest. Takes (RUN ∷ []) (Some (d ∷ ds)) (RUN ∷ OPTION ∷ (d ∷ ds) ∷ rest))
+      (record { taken = simp no refl; plain_words = simp no refl; value_is = simp no refl })
+      (record { taken = simp no refl; plain_words = simp no refl; value_is = simp no refl })
+
+no_hyphen : (d : ℕ) → digit_value d < 10 → eqb d 45 ≡ false
+no_hyphen d h = go (eqb d 45) refl
+  where
+    go : (b : Bool) → eqb d 45 ≡ b → b ≡ false
+    go false e = refl
+    go true e =
+        let is : d ≡ 45 = grind (arith, e) in
+        let bad : digit_value 45 < 10 = subst (λ (x : ℕ). digit_value x < 10) is h in
+        absurd (omega (arith, bad))
+
+with_option : (fuel : ℕ) (words : List Text) → HaveOption fuel RUN words → (text : Text) × SpellsFuel text fuel × Takes (RUN ∷ []) (Some text) words
+with_option fuel words (option, rest, (text, spells, inr is), inl (same, marked)) =
+    (text, spells, subst (Takes (RUN ∷ []) (Some text)) (ap (λ (l : List Text). l ++ rest) (sym is) ∙ sym same) (joined_before text rest marked))
+with_option fuel words (option, rest, (text, spells, inr is), inr (same, marked)) =
+    (text, spells, subst (Takes (RUN ∷ []) (Some text)) (ap (λ (l : List Text). RUN ∷ l ++ rest) (sym is) ∙ sym same) (joined_behind text rest marked))
+with_option fuel words (option, rest, ([], spells, inl is), place) = absurd (omega (arith, spells.numeral.0))
+with_option fuel words (option, rest, (d ∷ ds, spells, inl is), inl (same, marked)) =
+    (d ∷ ds, spells, subst (Takes (RUN ∷ []) (Some (d ∷ ds))) (ap (λ (l : List Text). l ++ rest) (sym is) ∙ sym same) (apart_before d ds (no_hyphen d spells.numeral.1.0) rest marked))
+with_option fuel words (option, rest, (d ∷ ds, spells, inl is), inr (same, marked)) =
+    (d ∷ ds, spells, subst (Takes (RUN ∷ []) (Some (d ∷ ds))) (ap (λ (l : List Text). RUN ∷ l ++ rest) (sym is) ∙ sym same) (apart_behind d ds (no_hyphen d spells.numeral.1.0) rest marked))
+
+-- what words ask for is what the parser's answer chooses
+pub record Taken (words : List Text) (mode : Mode) : Type 0 where
+  pub none : fault_of ceal_command words ≡ []
+  pub chooses : Chooses (plain_of (matches_of ceal_command words)) (first_of FUEL (matches_of ceal_command words)) mode
+
+pub taken : (words : List Text) (mode : Mode) → Asks words mode → Taken words mode
+taken words Check asks =
+    let t = check_alone words asks in
+    record { none = t.taken; chooses = (t.plain_words, t.value_is) }
+taken words Listing asks =
+    let t = list_alone words asks in
+    record { none = t.taken; chooses = (t.plain_words, t.value_is) }
+taken words (Run fuel) (inl (marked, default)) =
+    let t = run_alone words marked in
+    record { none = t.taken; chooses = subst (λ (o : Option Text). Chooses (plain_of (matches_of ceal_command words)) o (Run fuel)) (sym t.value_is) (t.plain_words, default) }
+taken words (Run fuel) (inr option) =
+    let found = with_option fuel words option in
+    record {
+      none = found.2.taken;
+      chooses = subst (λ (o : Option Text). Chooses (plain_of (matches_of ceal_command words)) o (Run fuel)) (sym found.2.value_is) (found.2.plain_words, found.1);
+    }
