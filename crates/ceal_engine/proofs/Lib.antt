@@ -1,0 +1,11 @@
+pub mod ValueSteps
+pub mod InitSteps
+pub mod Variables
+pub mod ActSteps
+pub mod SettleSteps
+pub mod RunLemmas
+pub mod Longer
+pub mod Numbered
+pub mod Present
+pub mod Inputs
+pub mod Keeping

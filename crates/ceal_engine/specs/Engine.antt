@@ -1,0 +1,138 @@
+-- What an engine has, and when it is the run from scratch on the present inputs.
+use Rattle.std.specs.Prelude.{◌≡◌, ℕ, ◌<◌, ◌^◌, ◌&&◌, Bool, true, false, Option, Some, None, IfSome, Result, Ok, Err, List, [], slice_get, is_some, ⊤}
+use Rattle.ceal_base.specs.Block.{Block, Blocks, written_at}
+use Rattle.ceal_base.specs.Finished.{Finished}
+use Rattle.ceal_base.specs.Fitting.{kind_in, kind_at, fits_field, block_fits, memory_fits, inputs_fit}
+use Rattle.ceal_base.specs.Same.{Same}
+use Rattle.ceal_base.specs.declared.kind.FieldKind.{FieldKind}
+use Rattle.ceal_base.specs.declared.kind.FieldKind.TheVariants.{Plain}
+use Rattle.ceal_base.specs.declared.typed.StructInfo.{StructInfo}
+use Rattle.ceal_base.specs.declared.word.BlockId.{BlockId}
+use Rattle.ceal_base.specs.declared.word.BlockId.TheVariants.{Input, Core}
+use Rattle.ceal_base.specs.declared.word.Place.{Place}
+use Rattle.ceal_base.specs.declared.word.Word.{Word}
+use Rattle.ceal_code.specs.Fitting.{Fits}
+use Rattle.ceal_code.specs.Fresh.{fresh}
+use Rattle.ceal_code.specs.Program.{Code}
+use Rattle.ceal_code.specs.Valid.{valid}
+use Rattle.ceal_code.specs.Value.{is_cell}
+use Rattle.ceal_engine.specs.declared.call.Call.{Call}
+use Rattle.ceal_engine.specs.declared.phase.Phase.{Phase}
+use Rattle.ceal_engine.specs.declared.phase.Phase.TheVariants.{New, Finished as IsFinished, Pending, Dropped}
+use Rattle.ceal_engine.specs.declared.run_error.RunError.{RunError}
+use Rattle.ceal_engine.specs.declared.run_error.RunError.TheVariants.{Memory, OutOfFuel}
+
+-- the memory of a finished run: its input blocks, and its core blocks by their numbers, which may be any
+pub record Store : Type 0 where
+  pub inputs : List Block
+  pub cores : List (Option Block)
+
+abbrev pub at_number : Option (Option Block) → Option Block
+at_number None = None
+at_number (Some block) = block
+
+-- the core block of this number
+abbrev pub core : Store → ℕ → Option Block
+core m n = at_number (slice_get m.cores n)
+
+abbrev pub stored_at : Store → BlockId → Option Block
+stored_at m (Input n) = slice_get m.inputs n
+stored_at m (Core n) = core m n
+
+-- `inputs` are the input blocks with their present bases. The last three say something in Finished alone
+pub record EngineState : Type 0 where
+  pub code : Code
+  pub fuel : ℕ
+  pub inputs : List Block
+  pub call : Option Call
+  pub phase : Phase
+  pub memory : Store
+  pub steps : ℕ
+  pub live : ℕ
+
+-- input blocks as a memory without core blocks
+abbrev pub alone : List Block → Blocks
+alone inputs = record { inputs = inputs; made = [] }
+
+-- the block of an input with its bases, or a core block of the memory
+abbrev pub block_of : List Block → Store → BlockId → Option Block
+block_of inputs m (Input n) = slice_get inputs n
+block_of inputs m (Core n) = core m n
+
+abbrev pub block_in : EngineState → BlockId → Option Block
+block_in e block = block_of e.inputs e.memory block
+
+-- the run from scratch of the call on the present inputs
+abbrev pub fresh_call : Code → List Block → ℕ → Option Call → Option Finished
+fresh_call code inputs fuel None = None
+fresh_call code inputs fuel (Some call) = fresh code call.function call.args inputs fuel
+
+abbrev pub fresh_of : EngineState → Option Finished
+fresh_of e = fresh_call e.code e.inputs e.fuel e.call
+
+-- What the engine has is this run, up to a one-to-one renaming of core blocks.
+pub record IsRun (e : EngineState) (r : Finished) : Type 0 where
+  pub numbers : List ℕ
+  pub same : Same numbers e.memory.inputs (core e.memory) r.memory
+  pub steps : e.steps ≡ r.steps
+  pub live : e.live ≡ r.blocks
+  pub fits : memory_fits e.code.structs r.memory ≡ true
+
+-- What the engine has is the run from scratch on the present inputs.
+pub record IsPresent (e : EngineState) : Type 0 where
+  pub run : Finished
+  pub fresh : fresh_of e ≡ Some run
+  pub is : IsRun e run
+
+-- What is true of every engine.
+pub record IsEngine (e : EngineState) : Type 0 where
+  pub valid : valid e.code ≡ true
+  -- the inputs fit, and so does the call
+  pub inputs : inputs_fit e.code.structs e.inputs ≡ true
+  pub call : IfSome e.call (λ call. Fits e.code e.inputs call.function call.args)
+  -- New is the phase where nothing was called
+  pub uncalled : e.phase ≡ New → e.call ≡ None
+  pub new : e.call ≡ None → e.phase ≡ New
+  pub present : e.phase ≡ IsFinished → IsPresent e
+  -- in Dropped there is no core block
+  pub none_left : e.phase ≡ Dropped → (n : ℕ) → core e.memory n ≡ None
+
+-- the phase after an edit
+abbrev pub edited : Phase → Phase
+edited New = New
+edited IsFinished = Pending
+edited Pending = Pending
+edited Dropped = Dropped
+
+abbrev pub fits_in : List StructInfo → Blocks → Option FieldKind → Word → Bool
+fits_in structs m None word = false
+fits_in structs m (Some kind) word = fits_field structs m kind word
+
+-- the place is that of a modifiable of an input, and the word fits it
+abbrev pub takes : EngineState → Place → Word → Bool
+takes e p word =
+    is_cell (kind_at e.code.structs (alone e.inputs) p) && fits_in e.code.structs (alone e.inputs) (kind_at e.code.structs (alone e.inputs) p) word
+
+-- the inputs with another base
+abbrev pub with_base : List Block → Place → Word → List Block
+with_base inputs p word = (written_at (alone inputs) p.block p.field word).inputs
+
+abbrev pub is_plain : Option FieldKind → Bool
+is_plain (Some (Plain kind)) = true
+is_plain _ = false
+
+-- the block may be looked at: core blocks in Finished alone
+abbrev pub Shows : EngineState → BlockId → Type 0
+Shows e (Input n) = ⊤
+Shows e (Core n) = e.phase ≡ IsFinished
+
+-- what holds where a run was out of fuel, and where there was no memory for it
+abbrev pub IfOutOfFuel : {A : Type 0} → Result A RunError → Type 0 → Type 0
+IfOutOfFuel (Ok x) P = ⊤
+IfOutOfFuel (Err Memory) P = ⊤
+IfOutOfFuel (Err OutOfFuel) P = P
+
+abbrev pub IfNoMemory : {A : Type 0} → Result A RunError → Type 0 → Type 0
+IfNoMemory (Ok x) P = ⊤
+IfNoMemory (Err Memory) P = P
+IfNoMemory (Err OutOfFuel) P = ⊤
