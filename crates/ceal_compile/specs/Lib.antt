@@ -1,4 +1,1 @@
-pub mod Phases
-pub mod Source
-pub mod FaultLine
 pub mod Compiled

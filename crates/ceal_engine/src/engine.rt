@@ -291,7 +291,7 @@ impl Engine {
     /// The content of a modifiable at the end of the run.
     pub fn value(&self, place: Place) -> Word
         requires finished { self.now.phase ≡ Finished }
-        requires there { is_cell (kind_in self.now.code.structs (stored_at self.now.memory place.block) place.field) ≡ true }
+        requires there { is_cell (kind_in self.now.code.structs (block_in self.now place.block) place.field) ≡ true }
         ensures value { result ≡ word_in (stored_at self.now.memory place.block) place.field Word.Null }
     {
         let block = stored(&self.memory, &self.inputs, place.block);

@@ -4,7 +4,7 @@ use Rattle.ceal_session.specs.Steps.{IsQuiet}
 use Rattle.ceal_session.specs.Texts.{IsText}
 use Rattle.ceal_session.specs.declared.reply.Reply.{Reply}
 use Rattle.ceal_session.specs.declared.reply.Reply.TheVariants.{Nothing, Ok as Done, OutOfFuel, Refused, Told}
-use Rattle.ceal_session.specs.declared.state.State.{State}
+use Rattle.ceal_session.specs.State.{State}
 
 -- a reply that no change stands behind is that of the state before
 pub text-back : (s t : State) (reply : Reply) (text : List ℕ) → (IsQuiet reply → t ≡ s) → IsText t reply text → IsText s reply text

@@ -10,14 +10,10 @@ mod fits;
 mod numbers;
 pub mod refusal;
 pub mod reply;
-mod run;
 pub mod sense;
 mod senses;
 pub mod session;
 pub mod state;
 mod steps;
-#[cfg(test)]
-mod tests;
 mod texts;
 mod view;
-mod whole;
