@@ -1,13 +1,14 @@
 -- What an engine keeps stays sound.
 use Rattle.std.proofs.Common.{◌≡◌, ℕ, ◌<◌, ◌≤◌, ◌^◌, ◌&&◌, true, Option, Some, None, List, [], ◌∷◌, ◌++◌, length, refl, sym, ap, ◌∙◌, subst, arith}
 use Rattle.std.specs.Option.{option_map}
-use Rattle.std.specs.Prelude.{IsSome}
+use Rattle.std.specs.Prelude.{IfSome}
 use Rattle.ceal_base.specs.Block.{Block, Blocks}
 use Rattle.ceal_base.specs.Finished.{Finished}
 use Rattle.ceal_base.specs.Fitting.{kind_at, block_fits, inputs_fit}
 use Rattle.ceal_base.specs.declared.word.Place.{Place}
 use Rattle.ceal_base.specs.declared.word.Word.{Word}
 use Rattle.ceal_code.proofs.Same.{none-some}
+use Rattle.ceal_code.specs.Fitting.{Fits}
 use Rattle.ceal_code.specs.Program.{Code}
 use Rattle.ceal_code.specs.Value.{is_cell}
 use Rattle.ceal_engine.proofs.Inputs.{kept-longer, longer-fits, edit-fits, call-kept, later-push}
@@ -32,7 +33,7 @@ module _ (code : Code) (fuel : ℕ) (inputs : List Block) (call : Option Call) (
         ≡ Some (record { memory = record { inputs = with_later m.inputs (inputs ++ b ∷ []); made = m.made }; steps = steps; blocks = length m.made })
     ran-longer e = go call s.calls (s.ran e)
       where
-        go : (call : Option Call) → _ → fresh_call code inputs fuel call ≡ Some (record { memory = record { inputs = with_later m.inputs inputs; made = m.made }; steps = steps; blocks = length m.made })
+        go : (call : Option Call) → IfSome call (λ call. Fits code inputs call.function call.args) → fresh_call code inputs fuel call ≡ Some (record { memory = record { inputs = with_later m.inputs inputs; made = m.made }; steps = steps; blocks = length m.made })
             → fresh_call code (inputs ++ b ∷ []) fuel call ≡ Some (record { memory = record { inputs = with_later m.inputs (inputs ++ b ∷ []); made = m.made }; steps = steps; blocks = length m.made })
         go None h r = none-some _ r
         go (Some call) h r =

@@ -1,6 +1,7 @@
 -- Commands that take no step, and the next step, over units of which the code keeps the running one at the end.
-use Rattle.std.proofs.Common.{◌≡◌, ℕ, true, false, List, [], ◌∷◌, ◌++◌, reverse, refl, sym, ap, ◌∙◌, arith}
+use Rattle.std.proofs.Common.{◌≡◌, ℕ, true, false, Option, Some, None, List, [], ◌∷◌, ◌++◌, reverse, refl, sym, ap, ◌∙◌, arith}
 use Rattle.std.proofs.lemmas.List.{reverse-append}
+use Rattle.ceal_base.specs.Block.{Blocks}
 use Rattle.ceal_base.specs.declared.word.Word.{Word}
 use Rattle.ceal_code.specs.Init.{arguments}
 use Rattle.ceal_code.specs.Program.{Code}
@@ -8,7 +9,8 @@ use Rattle.ceal_code.specs.Step.{Stack, Empty, Run, Act, Over, command_at, lande
 use Rattle.ceal_code.specs.Value.{Plain, Variables}
 use Rattle.ceal_code.specs.declared.command.Cmd.{Cmd}
 use Rattle.ceal_code.specs.declared.command.Cmd.TheVariants.{Move, Tick, Alloc, Modref, Write, If, Done, Tail, Read, Call}
-use Rattle.ceal_engine.specs.Frames.{Frame, framed, is_step}
+use Rattle.ceal_engine.specs.Frames.{Frame, State, framed, stacked, on_top, after_act, done_by, is_step}
+use Rattle.ceal_engine.specs.Seen.{seen}
 
 pub reverse-push : (fs : List Frame) (f : Frame) → reverse (fs ++ f ∷ []) ≡ f ∷ reverse fs
 reverse-push fs f = reverse-append fs (f ∷ [])
@@ -71,6 +73,25 @@ module _ (code : Code) (x : Plain) where
   pub next-act : (st below : Stack) (f : Frame) → settled code x st ≡ framed f below → next code x st ≡ act code x (command_at code f.unit f.index) f.unit f.index (arguments f.words) below
   unfolding next
   next-act st below f h = ap (acted code x) h
+
+-- a step of the unit that has the next one, which was taken from the others, and with the units that then run put back
+module _ (code : Code) (m m' : Blocks) (old new : List Frame) (f f' : Frame) (called : Option Frame) (pushed : List Frame)
+    (first : settled code (seen m) (stacked (reverse old)) ≡ framed f (stacked (reverse new)))
+    (does : (below : Stack) → done_by code m (command_at code f.unit f.index) f below ≡ Some (record { memory = m'; stack = on_top called (framed f' below) }))
+    (back : pushed ≡ new ++ f' ∷ []) where
+  stepped : after_act code m (next code (seen m) (stacked (reverse old))) ≡ Some (record { memory = m'; stack = on_top called (framed f' (stacked (reverse new))) })
+  stepped = ap (after_act code m) (next-act code (seen m) (stacked (reverse old)) (stacked (reverse new)) f first) ∙ does (stacked (reverse new))
+
+  pub stepped-alone : called ≡ None → after_act code m (next code (seen m) (stacked (reverse old))) ≡ Some (record { memory = m'; stack = stacked (reverse pushed) })
+  stepped-alone e =
+      stepped ∙ ap (λ o. Some (record { memory = m'; stack = on_top o (framed f' (stacked (reverse new))) })) e
+      ∙ ap (λ fs. Some (record { memory = m'; stack = stacked fs })) (sym (ap reverse back ∙ reverse-push new f'))
+
+  pub stepped-called : (g : Frame) (all : List Frame) → called ≡ Some g → all ≡ pushed ++ g ∷ []
+      → after_act code m (next code (seen m) (stacked (reverse old))) ≡ Some (record { memory = m'; stack = stacked (reverse all) })
+  stepped-called g all e more =
+      stepped ∙ ap (λ o. Some (record { memory = m'; stack = on_top o (framed f' (stacked (reverse new))) })) e
+      ∙ ap (λ fs. Some (record { memory = m'; stack = stacked fs })) (sym (ap reverse more ∙ reverse-push pushed g ∙ ap (λ fs. g ∷ fs) (ap reverse back ∙ reverse-push new f')))
 
 pub ruleset land_steps = (landed-here, landed-over)
 

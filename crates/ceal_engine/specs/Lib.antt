@@ -3,3 +3,4 @@ pub mod Laws
 pub mod Seen
 pub mod Frames
 pub mod Keeping
+pub mod Sample

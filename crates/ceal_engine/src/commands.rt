@@ -281,7 +281,14 @@ pub fn act(
             rest,
         } => {
             let env = frame.variables();
-            let called = enter(alloc, code, memory, env, entry(code, *function), args.items())?;
+            let called = enter(
+                alloc,
+                code,
+                memory,
+                env,
+                entry(code, *function),
+                args.items(),
+            )?;
             let after = enter(alloc, code, memory, env, unit.0 as usize, rest.items())?;
             *frame = after;
             Ok(Some(called))

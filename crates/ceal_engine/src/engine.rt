@@ -71,14 +71,7 @@ fn anew(
     ensures few { IfOk result (λ run. length run.memory.made < 2 ^ 32) }
     ensures out { IfOutOfFuel result (fresh_call code.now inputs.now fuel (Some call.now) ≡ None) }
 {
-    let run = interpret(
-        alloc,
-        code,
-        call.function,
-        call.args.items(),
-        inputs,
-        fuel,
-    )?;
+    let run = interpret(alloc, code, call.function, call.args.items(), inputs, fuel)?;
     match run {
         Some(run) => Ok(run),
         None => Err(RunError::OutOfFuel),
@@ -272,7 +265,7 @@ impl Engine {
         ensures dropped { OnErr result (self.new.phase ≡ Dropped) }
     {
         progress_law();
-        if self.phase == Phase::Finished {
+        if let Phase::Finished = self.phase {
             return Ok(());
         }
         let outcome = self.outcome();

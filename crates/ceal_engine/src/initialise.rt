@@ -4,7 +4,6 @@ ghost use Rattle.std.specs.Prelude.{◌≡◌, ◌∷◌, [], map, slice_get, sl
 ghost use Rattle.ceal_base.specs.Shapes.{default_of_field, kind_of_field, field_kinds};
 ghost use Rattle.ceal_base.specs.declared.forest.Key.TheVariants.{Init};
 ghost use Rattle.ceal_code.specs.Init.{arguments, set_plain, set_by, set_by_all, initialised, made};
-
 ghost use Rattle.ceal_code.specs.Step.{key_of};
 ghost use Rattle.ceal_engine.specs.Seen.{seen};
 
@@ -39,11 +38,7 @@ fn first_words(alloc: Global, fields: &[FieldInfo]) -> Result<Vec<Word>, NoMemor
     Ok(words)
 }
 
-fn words_of_struct(
-    alloc: Global,
-    structs: &[StructInfo],
-    s: u32,
-) -> Result<Vec<Word>, NoMemory>
+fn words_of_struct(alloc: Global, structs: &[StructInfo], s: u32) -> Result<Vec<Word>, NoMemory>
     ensures { IfOk result (λ words. words.items ≡ map default_of_field (field_kinds (slice_get structs.now s))) }
 {
     match structs.get(s as usize) {
