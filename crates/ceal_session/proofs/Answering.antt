@@ -1,5 +1,5 @@
 -- Which questions come to be answered, and about what.
-use Rattle.std.proofs.Common.{◌≡◌, ℕ, ◌<◌, ◌||◌, Bool, true, false, Option, Some, None, Result, Ok, Err, List, [], ◌∷◌, length, map, is_some, is_none, if◌then◌else◌, position, refl, sym, ap, ◌∙◌, subst, slice_get, arith}
+use Rattle.std.proofs.Common.{◌≡◌, ℕ, ◌<◌, ◌||◌, Bool, true, false, Option, Some, None, Result, Ok, Err, IfOk, List, [], ◌∷◌, length, map, is_some, is_none, if◌then◌else◌, position, refl, sym, ap, ◌∙◌, subst, slice_get, arith}
 use Rattle.std.specs.List.{list_any}
 use Rattle.std.specs.Option.{option_map}
 use Rattle.std.specs.Prelude.{bytes_eq}
@@ -24,7 +24,7 @@ use Rattle.ceal_script.specs.declared.command.Command.{Command}
 use Rattle.ceal_script.specs.declared.command.Command.TheVariants.{Blank, Mod, New, Set, Run, Propagate, Get, Show, Blocks, Steps, Work}
 use Rattle.ceal_script.specs.declared.command.PlaceWord.{PlaceWord}
 use Rattle.ceal_session.specs.Asking.{IsReady, IsCellOf, IsCellSense, IsFor, CanTell}
-use Rattle.ceal_session.specs.Runs.{memory_of, run_of}
+use Rattle.ceal_session.specs.Runs.{memory_of, run_of, with_run}
 use Rattle.ceal_session.specs.Senses.{fields_of, fields_numbered, field_named, input_named, block_sense, kind_sense, field_sense, member_sense, part_sense, shape_in, shape_at, input_sense, found_sense, place_sense, value_sense, is_unknown, words_of, mod_shape, struct_shape, struct_named, function_named}
 use Rattle.ceal_session.specs.State.{State}
 use Rattle.ceal_session.specs.Steps.{Step, stays, refuses, made_if, made_with, made, made_of, fits_cell, set_base, set_word, set, fits_function, IsCall, IsFirst, called_with, called_function, called, called_again, run_reply, runs, has_no_run, asked, got, shown, answered, block_of}
@@ -125,7 +125,7 @@ module _ (s : State) where
   runs-tells (Err r) = tt
   runs-tells (Ok call) = go (run_of s call)
     where
-      go : (o : Option Finished) → CanTell _ (run_reply o)
+      go : (o : Option Finished) → CanTell (with_run s call (is_none (run_of s call))) (run_reply o)
       go None = tt
       go (Some f) = tt
 
@@ -177,7 +177,7 @@ module _ (s : State) where
       go true true i j k = absurd (grind (arith, k))
       go true false i j k =
           let is : record { function = n; args = words } ≡ call = grind (arith, k) in
-          subst (IsFirst s) is (record { call = rw e i; none = none s.call j })
+          subst (IsFirst s) is (record { fits = rw e i; none = none s.call j })
 
   function-first : (n : ℕ) (o : Option TypedFunction) (senses : List Sense) (call : Call) → slice_get s.program.functions n ≡ o → called_function s n o senses ≡ Ok call → IsFirst s call
   function-first n None senses call e h = absurd (grind (arith, h))
@@ -190,3 +190,7 @@ module _ (s : State) where
   pub called-first : (o : Option ℕ) (senses : List Sense) (call : Call) → called s o senses ≡ Ok call → IsFirst s call
   called-first None senses call h = absurd (grind (arith, h))
   called-first (Some n) senses call h = function-first n (slice_get s.program.functions n) senses call refl h
+
+  pub accepted-first : (o : Option ℕ) (senses : List Sense) (r : Result Call Refusal) → r ≡ called s o senses → IfOk r (λ call. IsFirst s call)
+  accepted-first o senses (Ok call) e = called-first o senses call (sym e)
+  accepted-first o senses (Err r) e = tt

@@ -7,3 +7,5 @@ pub mod SourceRun
 pub mod Store
 pub mod Seen
 pub mod Answering
+pub mod Telling
+pub mod EmptyProgram

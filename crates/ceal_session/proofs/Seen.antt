@@ -11,6 +11,7 @@ use Rattle.ceal_base.specs.Same.{renamed_id, renamed_word, renamed_block}
 use Rattle.ceal_base.specs.Shapes.{kinds_of_shape}
 use Rattle.ceal_base.specs.declared.kind.FieldKind.{FieldKind}
 use Rattle.ceal_base.specs.declared.kind.FieldKind.TheVariants.{Plain, CellInt, CellPtr}
+use Rattle.ceal_base.specs.declared.kind.Shape.{Shape}
 use Rattle.ceal_base.specs.declared.typed.StructInfo.{StructInfo}
 use Rattle.ceal_base.specs.declared.word.BlockId.{BlockId}
 use Rattle.ceal_base.specs.declared.word.BlockId.TheVariants.{Input, Core}
@@ -30,7 +31,7 @@ use Rattle.ceal_engine.specs.declared.phase.Phase.TheVariants.{New, Finished as 
 use Rattle.ceal_session.proofs.KeptInputs.{Kept, kept-fresh}
 use Rattle.ceal_session.proofs.Store.{input-renamed, plain-back}
 use Rattle.ceal_session.specs.Shown.{is_finished, seen}
-use Rattle.ceal_show.specs.Shown.{shape_in, words_in, shape_at, word_at}
+use Rattle.ceal_show.specs.Shown.{IsWhole, shape_in, words_in, shape_at, word_at}
 
 finished-is : (phase : Phase) → is_finished phase ≡ true → phase ≡ IsFinished
 finished-is New h = absurd (grind (arith, h))
@@ -95,3 +96,83 @@ module _ (e : EngineState) (k : IsEngine e) (law : Progress_law) (fin : e.phase 
   pub shown-as : (b : BlockId) (block : Block) → stored_at e.memory b ≡ Some block → Shown_as e.code.structs block (block_in e b)
   shown-as (Input n) block i = input-shown n block i
   shown-as (Core n) block i = record { found = block; there = i; shape = refl; plain = λ f h. refl }
+
+-- a block that is seen, in the memory and among the inputs
+pub record Seen_block (e : EngineState) (b : BlockId) : Type 0 where
+  pub fin : e.phase ≡ IsFinished
+  pub block : Block
+  pub stored : stored_at e.memory b ≡ Some block
+  pub seen_as : seen e b ≡ Some block
+  pub shown : Shown_as e.code.structs block (block_in e b)
+
+pub shows-finished : (e : EngineState) → e.phase ≡ IsFinished → (b : BlockId) → Shows e b
+shows-finished e h (Input n) = tt
+shows-finished e h (Core n) = h
+
+module _ (e : EngineState) (k : IsEngine e) (law : Progress_law) where
+  pub seen-block : (b : BlockId) → IsSome (seen e b) → Seen_block e b
+  seen-block b h = go (seen e b) refl h
+    where
+      go : (o : Option Block) → seen e b ≡ o → IsSome o → Seen_block e b
+      go None i some = absurd (grind (arith, some))
+      go (Some block) i some =
+          let fin = seen-finished e b h in
+          let s : stored_at e.memory b ≡ Some block = sym (seen-is e b fin) ∙ i in
+          record { fin = fin; block = block; stored = s; seen_as = i; shown = shown-as e k law fin b block s }
+
+  pub word-seen : (b : BlockId) (field : ℕ) → IsSome (word_at (seen e) b field) → IsSome (seen e b)
+  word-seen b field h = go (seen e b) h
+    where
+      go : (o : Option Block) → IsSome (slice_get (words_in o) field) → IsSome o
+      go None i = absurd (grind (arith, i))
+      go (Some block) i = refl
+
+  -- the word of a seen field
+  module _ (b : BlockId) (field : ℕ) (h : IsSome (word_at (seen e) b field)) where
+    abbrev sb : Seen_block e b
+    sb = seen-block b (word-seen b field h)
+
+    is-word : (o : Option Word) → IsSome o → o ≡ Some (unwrap_or o Null)
+    is-word None i = absurd (grind (arith, i))
+    is-word (Some w) i = refl
+
+    word-there : word_at (seen e) b field ≡ slice_get sb.block.words field
+    word-there = ap (λ o. slice_get (words_in o) field) sb.seen_as
+
+    some-word : IsSome (slice_get sb.block.words field)
+    some-word = subst IsSome word-there h
+
+    pub word-stored : word_at (seen e) b field ≡ Some (word_in (stored_at e.memory b) field Null)
+    word-stored = word-there ∙ is-word (slice_get sb.block.words field) some-word ∙ ap (λ o. Some (word_in o field Null)) (sym sb.stored)
+
+    pub word-plain : is_plain (kind_in e.code.structs (block_in e b) field) ≡ true → word_at (seen e) b field ≡ Some (word_in (block_in e b) field Null)
+    word-plain p =
+        let q : is_plain (slice_get (kinds_of_shape e.code.structs sb.shown.found.shape) field) ≡ true = subst (λ o. is_plain (kind_in e.code.structs o field) ≡ true) sb.shown.there p in
+        word-there ∙ is-word (slice_get sb.block.words field) some-word ∙ ap (λ o. Some (unwrap_or o Null)) (sb.shown.plain field q) ∙ ap (λ o. Some (word_in o field Null)) (sym sb.shown.there)
+
+    cell-else : (o : Option FieldKind) → IsSome o → is_plain o ≡ false → is_cell o ≡ true
+    cell-else None i p = absurd (grind (arith, i))
+    cell-else (Some (Plain kind)) i p = absurd (grind (arith, p))
+    cell-else (Some CellInt) i p = refl
+    cell-else (Some (CellPtr s)) i p = refl
+
+    some-in : (o : Option Word) (ws : List Word) → slice_get ws field ≡ o → IsSome o → field < length ws
+    some-in None ws i j = absurd (grind (arith, j))
+    some-in (Some w) ws i j = slice_get_within ws field w i
+
+    pub kind-there : IsWhole e.code.structs (stored_at e.memory) → is_plain (kind_in e.code.structs (block_in e b) field) ≡ false → is_cell (kind_in e.code.structs (block_in e b) field) ≡ true
+    kind-there whole p =
+        let n : length sb.block.words ≡ length (kinds_of_shape e.code.structs sb.block.shape) = whole.fields b sb.block sb.stored in
+        let l : field < length sb.block.words = some-in (slice_get sb.block.words field) sb.block.words refl some-word in
+        let g = got (kinds_of_shape e.code.structs sb.block.shape) field (subst (λ n. field < n) n l) in
+        let s : kind_in e.code.structs (block_in e b) field ≡ Some g.0 = ap (λ o. kind_in e.code.structs o field) sb.shown.there ∙ ap (λ s. slice_get (kinds_of_shape e.code.structs s) field) sb.shown.shape ∙ g.1 in
+        cell-else (kind_in e.code.structs (block_in e b) field) (ap is_some s) p
+
+pub seen-same : (e : EngineState) → e.phase ≡ IsFinished → seen e ≡ stored_at e.memory
+unfolding seen
+seen-same e h = rw h refl
+
+-- the kind of a field by the shape of its block
+pub kind-by : (structs : List StructInfo) (o : Option Block) (shape : Shape) (field : ℕ) → option_map (λ b. b.shape) o ≡ Some shape → kind_in structs o field ≡ slice_get (kinds_of_shape structs shape) field
+kind-by structs None shape field h = none-some shape h
+kind-by structs (Some block) shape field h = ap (λ s. slice_get (kinds_of_shape structs s) field) (some-same block.shape shape h)

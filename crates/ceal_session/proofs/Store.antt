@@ -44,11 +44,11 @@ one-block bs b = ap (λ words. record { shape = b.shape; words = words }) (one-w
 -- the number at the index of a number
 at-index : (bs : List ℕ) (n : ℕ) → index_of bs n < length bs → slice_index bs (index_of bs n) ≡ n
 at-index [] n h = absurd (grind (arith, h))
-at-index (b ∷ bs) n h = go (b == n) refl
+at-index (b ∷ bs) n h = go (b == n) refl (at-index bs n)
   where
-    go : (t : Bool) → (b == n) ≡ t → slice_index (b ∷ bs) (index_of (b ∷ bs) n) ≡ n
-    go true e = let i : b ≡ n = grind (arith, e) in rw e i
-    go false e = let l : index_of bs n < length bs = grind (arith, rw e at h) in rw e (at-index bs n l)
+    go : (t : Bool) → (b == n) ≡ t → (index_of bs n < length bs → slice_index bs (index_of bs n) ≡ n) → slice_index (b ∷ bs) (index_of (b ∷ bs) n) ≡ n
+    go true e again = let i : b ≡ n = grind (arith, e) in rw e i
+    go false e again = let l : index_of bs n + 1 < suc (length bs) = rw e at h in let s : index_of bs n + 1 ≡ suc (index_of bs n) = omega arith in rw e (rw s (again (omega (arith, l))))
 
 some-of : {A B : Type 0} (f : A → B) (o : Option A) (y : B) → option_map f o ≡ Some y → (x : A) × (o ≡ Some x) × (f x ≡ y)
 some-of f None y e = none-some y e
@@ -58,7 +58,7 @@ module _ (e : EngineState) (r : Finished) (is : IsRun e r) where
   abbrev bs : List ℕ
   bs = is.numbers
 
-  input-renamed : (n : ℕ) → option_map (renamed_block bs) (slice_get e.memory.inputs n) ≡ slice_get r.memory.inputs n
+  pub input-renamed : (n : ℕ) → option_map (renamed_block bs) (slice_get e.memory.inputs n) ≡ slice_get r.memory.inputs n
   input-renamed n = sym (slice_get-map (renamed_block bs) e.memory.inputs n) ∙ ap (λ xs. slice_get xs n) is.same.each_input
 
   core-renamed : (n : ℕ) → index_of bs n < length bs → option_map (renamed_block bs) (core e.memory n) ≡ slice_get r.memory.made (index_of bs n)

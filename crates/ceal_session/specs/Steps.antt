@@ -115,7 +115,7 @@ IsCall s call = is_call_of s (slice_get s.program.functions call.function) call.
 
 -- such a call, where none was accepted before
 pub record IsFirst (s : State) (call : Call) : Type 0 where
-  pub call : IsCall s call
+  pub fits : IsCall s call
   pub none : s.call ≡ None
 
 -- `propagate`: the call of the accepted `run`

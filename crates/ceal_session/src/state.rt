@@ -1,6 +1,7 @@
 // The state between two lines.
 
-ghost use Rattle.std.specs.Prelude.{◌≡◌, ◌<◌, ◌∷◌, [], true, false, Some, Ok as OkOf, length, is_some, list_any, bytes_eq, IfOk, IfSome, OnOk, OnErr};
+ghost use Rattle.std.specs.Prelude.{◌≡◌, ◌<◌, ◌∷◌, [], true, false, Some, Ok as OkOf, length, is_some, bytes_eq, IfOk, IfSome, OnOk, OnErr};
+ghost use Rattle.std.specs.List.{list_any};
 ghost use Rattle.ceal_base.specs.Fitting.{block_fits, kind_at};
 ghost use Rattle.ceal_compile.specs.Compiled.{IsCompiled};
 ghost use Rattle.ceal_session.specs.Asking.{IsReady, IsCellOf, steps_in, blocks_in, content_text};
@@ -10,7 +11,9 @@ ghost use Rattle.ceal_session.specs.Runs.{begun, memory_of, present_run};
 ghost use Rattle.ceal_session.specs.Senses.{input_named};
 ghost use Rattle.ceal_session.specs.Steps.{IsFirst, with_input, with_base, block_of, fits_cell, has_no_run, runs, called_again};
 ghost use Rattle.ceal_session.specs.Texts.{value_text, TellsOf};
+ghost use Rattle.ceal_engine.specs.Engine.{IfOutOfFuel, IfNoMemory};
 ghost use Rattle.ceal_session.specs.declared.reply.Query.TheVariants.{Show};
+ghost use Rattle.ceal_session.specs.declared.reply.Reply.TheVariants.{Ok as Done, OutOfFuel};
 
 use crate::reply::Reply;
 use crate::view::graph;
@@ -65,6 +68,19 @@ fn still_pending(pending: bool, phase: Phase) -> bool
         Phase::Finished => false,
         Phase::Pending => false,
         Phase::Dropped => false,
+    }
+}
+
+/// The reply to a run that came out so.
+fn reply_of(outcome: Result<(), RunError>) -> Result<Reply, NoMemory>
+    ensures ok { OnOk outcome (result ≡ OkOf Done) }
+    ensures out { IfOutOfFuel outcome (result ≡ OkOf OutOfFuel) }
+    ensures memory { IfNoMemory outcome (OnOk result ⊥) }
+{
+    match outcome {
+        Ok(()) => Ok(Reply::Ok),
+        Err(RunError::OutOfFuel) => Ok(Reply::OutOfFuel),
+        Err(RunError::Memory) => Err(NoMemory),
     }
 }
 
@@ -156,6 +172,9 @@ impl State {
         ensures err { OnErr result (self.new ≡ self.old) }
     {
         let count = self.names.len();
+        if count >= 4_294_967_295 {
+            return Err(NoMemory);
+        }
         self.names.add(name)?;
         match self.engine.add_input(shape, words) {
             Ok(_) => Ok(()),
@@ -187,11 +206,7 @@ impl State {
         let _before = self.engine.phase();
         let outcome = self.engine.run(call.function, call.args.items());
         self.pending = still_pending(self.pending, self.engine.phase());
-        match outcome {
-            Ok(()) => Ok(Reply::Ok),
-            Err(RunError::OutOfFuel) => Ok(Reply::OutOfFuel),
-            Err(RunError::Memory) => Err(NoMemory),
-        }
+        reply_of(outcome)
     }
 
     /// The run of the accepted call on the present inputs.
@@ -203,11 +218,7 @@ impl State {
         let _before = self.engine.phase();
         let outcome = self.engine.propagate();
         self.pending = false;
-        match outcome {
-            Ok(()) => Ok(Reply::Ok),
-            Err(RunError::OutOfFuel) => Ok(Reply::OutOfFuel),
-            Err(RunError::Memory) => Err(NoMemory),
-        }
+        reply_of(outcome)
     }
 
     /// What a modifiable of an input has at the end of the run.

@@ -1,9 +1,9 @@
 // The graph of a finished run.
 
-ghost use Rattle.std.specs.Prelude.{◌≡◌, Some, IsSome, IfOk};
+ghost use Rattle.std.specs.Prelude.{◌≡◌, Some, IsSome, IfOk, slice_get};
+ghost use Rattle.ceal_base.specs.Shapes.{kinds_of_shape};
 ghost use Rattle.ceal_base.specs.declared.word.BlockId.TheVariants.{Input};
-ghost use Rattle.ceal_engine.specs.Engine.{stored_at};
-ghost use Rattle.ceal_engine.specs.declared.phase.Phase.TheVariants.{Finished};
+ghost use Rattle.ceal_engine.specs.Engine.{is_plain as plain};
 ghost use Rattle.ceal_session.specs.Shown.{seen, label};
 ghost use Rattle.ceal_show.specs.Graph.{IsGraphText};
 ghost use Rattle.ceal_show.specs.Shown.{IsWhole, shape_at, word_at};
@@ -17,6 +17,7 @@ use ceal_base::word::{BlockId, Place, Word};
 use ceal_code::laws::progress_law;
 use ceal_engine::engine::Engine;
 use ceal_show::graph::graph_text;
+use ceal_show::laws::fitting_is_whole;
 use ceal_show::view::View;
 use ceal_types::names::Names;
 use std::alloc::Global;
@@ -39,17 +40,36 @@ fn block_shape(engine: &Engine, block: BlockId) -> Shape
     engine.shape(block)
 }
 
+fn kind_of(engine: &Engine, shape: Shape, field: u32) -> Option<FieldKind>
+    ensures { result ≡ slice_get (kinds_of_shape engine.now.code.structs shape) field }
+{
+    field_kind(engine.code().structs.items(), shape, field)
+}
+
+fn is_plain(kind: Option<FieldKind>) -> bool
+    ensures { result ≡ plain kind }
+{
+    match kind {
+        Some(FieldKind::Plain(_)) => true,
+        Some(FieldKind::CellInt) => false,
+        Some(FieldKind::CellPtr(_)) => false,
+        None => false,
+    }
+}
+
 /// The word of a field of the run: a plain field never changes, and a modifiable has a content.
 fn field_word(engine: &Engine, block: BlockId, field: u32) -> Word
     requires { IsSome (word_at (seen engine.now) block field) }
     ensures { word_at (seen engine.now) block field ≡ Some result }
 {
     progress_law();
+    fitting_is_whole();
     let _phase = engine.phase();
     let shape = engine.shape(block);
-    match field_kind(engine.code().structs.items(), shape, field) {
-        Some(FieldKind::Plain(_)) => engine.field(block, field),
-        _ => engine.value(Place { block, field }),
+    if is_plain(kind_of(engine, shape, field)) {
+        engine.field(block, field)
+    } else {
+        engine.value(Place { block, field })
     }
 }
 
