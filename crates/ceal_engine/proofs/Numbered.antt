@@ -2,6 +2,7 @@
 use Rattle.std.proofs.Common.{◌≡◌, ℕ, zero, suc, ◌+◌, ◌<◌, ◌≤◌, ◌==◌, Bool, true, false, Option, Some, None, List, [], ◌∷◌, length, map, refl, sym, ap, ap₂, ◌∙◌, slice_get, slice_index, is_some, arith}
 use Rattle.std.specs.List.{list_all}
 use Rattle.std.specs.Option.{option_map}
+use Rattle.std.specs.Prelude.{IsSome}
 use Rattle.ceal_base.specs.Access.{of_struct}
 use Rattle.ceal_base.specs.Block.{Block, Blocks, block_at}
 use Rattle.ceal_base.specs.Fitting.{kind_in, kind_at, fits_kind, fits_field, fields_fit, block_fits, memory_fits}
@@ -132,3 +133,14 @@ module _ (structs : List StructInfo) (m : Blocks) where
           let z : 0 + i ≡ i = omega arith in
           let n : slice_index numbers i ≡ i = index-upto (length m.made) 0 i (omega (arith, l, length-upto (length m.made) 0)) ∙ z in
           rw (n, stored-made m.made i) (sym (get-map (renamed_block numbers) m.made i) ∙ ap (λ blocks. slice_get blocks i) e)
+
+  -- a number that has a block is one of these
+  pub numbered-only : (n : ℕ) → IsSome (core (record { inputs = m.inputs; cores = map Some m.made }) n) → index_of numbers n < length numbers
+  numbered-only n h = go (slice_get m.made n) refl
+    where
+      go : (o : Option Block) → slice_get m.made n ≡ o → index_of numbers n < length numbers
+      go None e = absurd (grind (arith, h, stored-made m.made n, e))
+      go (Some block) e =
+          let z : 0 + n ≡ n = omega arith in
+          let p : index_of numbers n ≡ n = rw z at (place-upto (length m.made) 0 n (get-within m.made n block e)) in
+          omega (arith, p, length-upto (length m.made) 0, get-within m.made n block e)

@@ -16,7 +16,7 @@ use Rattle.ceal_code.specs.Running.{Steps, Reaches}
 use Rattle.ceal_code.specs.Step.{Stack, Act, Over, Quiet, Makes, Writes, Reads, started, next}
 use Rattle.ceal_code.specs.Valid.{valid}
 use Rattle.ceal_engine.proofs.Longer.{length-with}
-use Rattle.ceal_engine.proofs.Numbered.{numbers, numbered-same}
+use Rattle.ceal_engine.proofs.Numbered.{numbers, numbered-same, numbered-only}
 use Rattle.ceal_engine.specs.Engine.{IsPresent, IsEngine, at_number}
 use Rattle.ceal_engine.specs.Keeping.{with_later, state_of, Sound}
 use Rattle.ceal_engine.specs.declared.call.Call.{Call}
@@ -24,7 +24,7 @@ use Rattle.ceal_engine.specs.declared.phase.Phase.{Phase}
 use Rattle.ceal_engine.specs.declared.phase.Phase.TheVariants.{New, Finished as IsFinished, Pending, Dropped}
 
 module _ (code : Code) (m0 : Blocks) (st0 : Stack) where
-  record Ended (r : Finished) : Type 0 where
+  pub record Ended (r : Finished) : Type 0 where
     pub stack : Stack
     pub reaches : Reaches code m0 st0 r.memory stack
 
@@ -67,7 +67,7 @@ module _ (code : Code) where
   inputs-reached (Reaches.step r s) = inputs-step s ∙ inputs-reached r
 
 module _ (code : Code) (inputs : List Block) (f : ℕ) (args : List Word) (fuel : ℕ) (r : Finished) (h : fresh code f args inputs fuel ≡ Some r) where
-  fresh-ends : Ended code (record { inputs = inputs; made = [] }) (started code f args) r
+  pub fresh-ends : Ended code (record { inputs = inputs; made = [] }) (started code f args) r
   unfolding fresh
   fresh-ends = run-ends code (record { inputs = inputs; made = [] }) (started code f args) fuel 0 (record { inputs = inputs; made = [] }) (started code f args) r Reaches.begin h
 
@@ -95,7 +95,7 @@ module _ (law : Progress_law) where
       record {
         run = record { memory = kept; steps = steps; blocks = length m.made };
         fresh = s.ran e;
-        is = record { numbers = numbers code.structs kept; same = numbered-same code.structs kept fits; steps = refl; live = refl; fits = fits };
+        is = record { numbers = numbers code.structs kept; same = numbered-same code.structs kept fits; only = numbered-only code.structs kept; steps = refl; live = refl; fits = fits };
       }
 
   dropped-other : (phase : Phase) → phase ≡ Dropped → phase ≡ IsFinished → ⊥

@@ -1,9 +1,9 @@
 -- What an engine has, and when it is the run from scratch on the present inputs.
-use Rattle.std.specs.Prelude.{◌≡◌, ℕ, ◌&&◌, Bool, true, false, Option, Some, None, IfSome, Result, Ok, Err, List, [], slice_get, ⊤}
+use Rattle.std.specs.Prelude.{◌≡◌, ℕ, ◌&&◌, Bool, true, false, Option, Some, None, IfSome, IsSome, Result, Ok, Err, List, [], length, slice_get, ⊤}
 use Rattle.ceal_base.specs.Block.{Block, Blocks, written_at}
 use Rattle.ceal_base.specs.Finished.{Finished}
 use Rattle.ceal_base.specs.Fitting.{kind_at, fits_field, memory_fits, inputs_fit}
-use Rattle.ceal_base.specs.Same.{Same}
+use Rattle.ceal_base.specs.Same.{Same, index_of}
 use Rattle.ceal_base.specs.declared.kind.FieldKind.{FieldKind}
 use Rattle.ceal_base.specs.declared.kind.FieldKind.TheVariants.{Plain}
 use Rattle.ceal_base.specs.declared.typed.StructInfo.{StructInfo}
@@ -74,6 +74,8 @@ fresh_of e = fresh_call e.code e.inputs e.fuel e.call
 pub record IsRun (e : EngineState) (r : Finished) : Type 0 where
   pub numbers : List ℕ
   pub same : Same numbers e.memory.inputs (core e.memory) r.memory
+  -- no other number has a block
+  pub only : (n : ℕ) → IsSome (core e.memory n) → index_of numbers n < length numbers
   pub steps : e.steps ≡ r.steps
   pub live : e.live ≡ r.blocks
   pub fits : memory_fits e.code.structs r.memory ≡ true

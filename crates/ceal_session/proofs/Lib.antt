@@ -1,4 +1,11 @@
 pub mod FitsSteps
 pub mod SenseSteps
 pub mod ReplySteps
-pub mod WholeSteps
+pub mod KeptInputs
+pub mod Compiled
+pub mod SourceRun
+pub mod Store
+pub mod Seen
+pub mod Answering
+pub mod Telling
+pub mod EmptyProgram

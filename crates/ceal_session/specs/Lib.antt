@@ -1,7 +1,10 @@
+pub mod State
+pub mod Refusals
 pub mod Runs
 pub mod Senses
-pub mod Refusals
 pub mod Steps
-pub mod Whole
 pub mod Texts
 pub mod Replies
+pub mod Keeping
+pub mod Asking
+pub mod Shown

@@ -5,8 +5,9 @@ use Rattle.ceal_script.specs.declared.command.Command.{Command}
 use Rattle.ceal_session.specs.Runs.{with_run}
 use Rattle.ceal_session.specs.Steps.{answered_line, call_of}
 use Rattle.ceal_session.specs.Texts.{IsText}
-use Rattle.ceal_session.specs.declared.state.Call.{Call}
-use Rattle.ceal_session.specs.declared.state.State.{State}
+use Rattle.ceal_engine.specs.declared.call.Call.{Call}
+use Rattle.ceal_session.specs.State.{State}
+use Rattle.ceal_session.specs.declared.refusal.Refusal.{Refusal}
 
 -- The line is this command's, or no command's.
 abbrev pub Reads : List ℕ → Option Command → Type 0
@@ -31,6 +32,10 @@ pub record Drops (s : State) (line : List ℕ) (next : State) : Type 0 where
 -- what is left of the state where there was no memory for the answer
 abbrev pub IsLeft : State → List ℕ → State → Type 0
 IsLeft s line next = (next ≡ s) ⊎ Drops s line next
+
+-- The same, where `call` is the call of the line, if it is one that runs.
+abbrev pub IsLeftBy : State → Result Call Refusal → State → Type 0
+IsLeftBy s called next = (next ≡ s) ⊎ ((call : Call) × (called ≡ Ok call) × (next ≡ with_run s call true))
 
 -- The replies to the lines, one after another, are these bytes.
 unfoldable pub AreReplies : State → List (List ℕ) → List ℕ → Type 0

@@ -4,8 +4,8 @@ use Rattle.ceal_base.specs.Block.{Block, Blocks}
 use Rattle.ceal_base.specs.Finished.{Finished}
 use Rattle.ceal_base.specs.declared.typed.Typed.{Typed}
 use Rattle.ceal_mean.specs.Fresh.{fresh}
-use Rattle.ceal_session.specs.declared.state.Call.{Call}
-use Rattle.ceal_session.specs.declared.state.State.{State}
+use Rattle.ceal_engine.specs.declared.call.Call.{Call}
+use Rattle.ceal_session.specs.State.{State}
 
 -- no inputs, and no run
 abbrev pub begun : Typed → ℕ → State
@@ -41,8 +41,3 @@ present_run s = run_of_call s s.call
 -- the state after a run or propagate
 abbrev pub with_run : State → Call → Bool → State
 with_run s call out_of_fuel = record s { call = Some call; out_of_fuel = out_of_fuel; pending = false }
-
--- A run that is kept beside the state is that of this moment.
-abbrev pub Keeps : State → Option Finished → Type 0
-Keeps s None = Unit {0}
-Keeps s (Some run) = present_run s ≡ Some run

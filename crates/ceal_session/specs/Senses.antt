@@ -16,7 +16,7 @@ use Rattle.ceal_script.specs.declared.command.KindWord.TheVariants.{Int as IntWo
 use Rattle.ceal_script.specs.declared.command.PlaceWord.{PlaceWord}
 use Rattle.ceal_script.specs.declared.command.ValueWord.{ValueWord}
 use Rattle.ceal_script.specs.declared.command.ValueWord.TheVariants.{Num as NumWord, Null as NullWord, At}
-use Rattle.ceal_session.specs.declared.state.State.{State}
+use Rattle.ceal_session.specs.State.{State}
 use Rattle.ceal_session.specs.declared.sense.Sense.{Sense}
 use Rattle.ceal_session.specs.declared.sense.Sense.TheVariants.{Unknown, Plain, Word as IsWord}
 

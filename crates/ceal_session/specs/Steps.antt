@@ -1,5 +1,5 @@
 -- What each command is answered, and the state after it.
-use Rattle.std.specs.Prelude.{ℕ, Bool, true, false, ◌||◌, ◌&&◌, Option, Some, None, is_some, is_none, Result, Ok, Err, List, [], ◌∷◌, ◌++◌, map, take, slice_get, bytes_eq, if◌then◌else◌}
+use Rattle.std.specs.Prelude.{◌≡◌, ℕ, Bool, true, false, ◌||◌, ◌&&◌, Option, Some, None, is_some, is_none, Result, Ok, Err, List, [], ◌∷◌, ◌++◌, map, take, slice_get, bytes_eq, if◌then◌else◌}
 use Rattle.std.specs.List.{list_any}
 use Rattle.ceal_base.specs.Block.{Block, written_at}
 use Rattle.ceal_base.specs.Finished.{Finished}
@@ -23,8 +23,8 @@ use Rattle.ceal_session.specs.declared.reply.Reply.{Reply}
 use Rattle.ceal_session.specs.declared.reply.Reply.TheVariants.{Nothing, Ok as Done, OutOfFuel, Refused, Told}
 use Rattle.ceal_session.specs.declared.sense.Sense.{Sense}
 use Rattle.ceal_session.specs.declared.sense.Sense.TheVariants.{Word as IsWord}
-use Rattle.ceal_session.specs.declared.state.Call.{Call}
-use Rattle.ceal_session.specs.declared.state.State.{State}
+use Rattle.ceal_engine.specs.declared.call.Call.{Call}
+use Rattle.ceal_session.specs.State.{State}
 
 -- a reply, and the state after it
 pub record Step : Type 0 where
@@ -104,6 +104,19 @@ called_function s n (Some f) senses = if list_any is_unknown senses then Err C2 
 abbrev pub called : State → Option ℕ → List Sense → Result Call Refusal
 called s None senses = Err C2
 called s (Some n) senses = called_function s n (slice_get s.program.functions n) senses
+
+-- the call is that of a core function, on words that fit
+abbrev pub is_call_of : State → Option TypedFunction → List Word → Bool
+is_call_of s None words = false
+is_call_of s (Some f) words = fits_function s f words
+
+abbrev pub IsCall : State → Call → Type 0
+IsCall s call = is_call_of s (slice_get s.program.functions call.function) call.args ≡ true
+
+-- such a call, where none was accepted before
+pub record IsFirst (s : State) (call : Call) : Type 0 where
+  pub fits : IsCall s call
+  pub none : s.call ≡ None
 
 -- `propagate`: the call of the accepted `run`
 abbrev pub called_again : Option Call → Result Call Refusal

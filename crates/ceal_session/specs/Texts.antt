@@ -16,7 +16,7 @@ use Rattle.ceal_session.specs.declared.reply.Query.{Query}
 use Rattle.ceal_session.specs.declared.reply.Query.TheVariants.{Get, Show, Blocks, Steps}
 use Rattle.ceal_session.specs.declared.reply.Reply.{Reply}
 use Rattle.ceal_session.specs.declared.reply.Reply.TheVariants.{Nothing, Ok, OutOfFuel, Refused, Told}
-use Rattle.ceal_session.specs.declared.state.State.{State}
+use Rattle.ceal_session.specs.State.{State}
 
 -- the name of an input
 abbrev pub input_name : State → ℕ → List ℕ

@@ -25,7 +25,7 @@ fn block(inputs: &Inputs, id: BlockId) -> Option<&BlockWords>
 }
 
 /// The type of a field of a shape.
-fn field_kind(structs: &[StructInfo], shape: Shape, field: u32) -> Option<FieldKind>
+pub fn field_kind(structs: &[StructInfo], shape: Shape, field: u32) -> Option<FieldKind>
     ensures { result ≡ slice_get (kinds_of_shape structs.now shape) field }
 {
     match shape {

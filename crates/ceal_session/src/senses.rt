@@ -65,7 +65,7 @@ fn named_sense(input: u32, fields: &[FieldInfo], name: &Text) -> Result<Sense, N
 fn fields(state: &State, number: u32) -> &[FieldInfo]
     ensures { result.now ≡ fields_of (slice_get state.now.program.structs number) }
 {
-    match state.program.structs.items().get(number as usize) {
+    match state.structs().get(number as usize) {
         None => &[],
         Some(info) => info.fields.items(),
     }
@@ -86,7 +86,7 @@ fn part(state: &State, input: u32, name: &Text, shape: Option<Shape>) -> Result<
 fn shape_of(state: &State, input: u32) -> Option<Shape>
     ensures { result ≡ shape_at state.now input }
 {
-    match state.inputs.items().get(input as usize) {
+    match state.inputs().items().get(input as usize) {
         None => None,
         Some(block) => Some(block.shape),
     }
@@ -106,7 +106,7 @@ fn sense_in(state: &State, input: u32, field: &Option<Text>) -> Result<Sense, No
 pub fn place_sense(state: &State, place: &PlaceWord) -> Result<Sense, NoMemory>
     ensures { IfOk result (λ sense. sense ≡ sense_of_place state.now place.now) }
 {
-    match state.names.number(&place.name) {
+    match state.input(&place.name) {
         None => Ok(Sense::Unknown),
         Some(input) => sense_in(state, input, &place.field),
     }
@@ -185,7 +185,7 @@ fn pointer_shape(number: Option<u32>) -> Option<Shape>
 fn named_shape(state: &State, name: &Text) -> Result<Option<Shape>, NoMemory>
     ensures { IfOk result (λ shape. shape ≡ shape_of_pointer (struct_named state.now name.now)) }
 {
-    let number = struct_number(state.program.structs.items(), name)?;
+    let number = struct_number(state.structs(), name)?;
     Ok(pointer_shape(number))
 }
 
@@ -203,7 +203,7 @@ pub fn mod_shape(state: &State, kind: &KindWord) -> Result<Option<Shape>, NoMemo
 pub fn struct_shape(state: &State, name: &Text) -> Result<Option<Shape>, NoMemory>
     ensures { IfOk result (λ shape. shape ≡ shape_of_struct (struct_named state.now name.now)) }
 {
-    match struct_number(state.program.structs.items(), name)? {
+    match struct_number(state.structs(), name)? {
         None => Ok(None),
         Some(number) => Ok(Some(Shape::Struct(number))),
     }

@@ -1,40 +1,36 @@
 // A session.
 
 ghost use Rattle.std.specs.Prelude.{◌≡◌, codes, IfOk, OnOk, OnErr};
-ghost use Rattle.ceal_session.specs.Replies.{Answers, IsLeft};
-ghost use Rattle.ceal_session.specs.Runs.{begun, Keeps};
-ghost use Rattle.ceal_session.specs.Steps.{IsQuiet, answered};
-ghost use Rattle.ceal_session.specs.Texts.{IsText, TellsOf};
-ghost use Rattle.ceal_session.specs.Runs.{present_run};
+ghost use Rattle.ceal_compile.specs.Compiled.{IsCompiled};
+ghost use Rattle.ceal_session.specs.Asking.{CanTell};
+ghost use Rattle.ceal_session.specs.Replies.{Answers, IsLeft, IsLeftBy};
+ghost use Rattle.ceal_session.specs.Runs.{begun};
+ghost use Rattle.ceal_session.specs.Steps.{IsQuiet, answered, call_of};
+ghost use Rattle.ceal_session.specs.Texts.{IsText};
 
 use crate::commands::reply_to;
 use crate::refusal::{Refusal, text as refusal_line};
-use crate::reply::{Query, Reply};
-use crate::run::{Run, run_again};
+use crate::reply::Reply;
 use crate::state::State;
 use crate::texts::answer;
-use ceal_base::memory::Inputs;
 use ceal_base::no_memory::NoMemory;
 use ceal_base::text::Text;
-use ceal_base::typed::Typed;
+use ceal_compile::program::Program;
 use ceal_script::command::Command;
 use ceal_script::line::read_line;
 use ceal_script::line_error::LineError;
-use ceal_types::names::Names;
 use std::alloc::Global;
 use std::marker::Model;
 
-/// A program, and what the lines so far have left. Beside the state a session may keep the run of this moment.
+/// A program, and what the lines so far have left.
 #[derive(Drop)]
 pub struct Session {
     state: State,
-    kept: Option<Run>,
     alloc: Global,
 }
 
 impl Model for Session {
-    ghost use Rattle.ceal_session.specs.Runs.{Keeps};
-    ghost use Rattle.ceal_session.specs.declared.state.State.{State};
+    ghost use Rattle.ceal_session.specs.State.{State};
     ghost use Rattle.ceal_base.specs.contracts.typed.TypedStmt as statement;
     ghost use Rattle.std.specs.Coded.{codes};
 
@@ -43,8 +39,6 @@ impl Model for Session {
     ghost coded = { Prim.hlevel (codes, statement.the_row.coded) };
 
     ghost view = { λ s. s.state };
-
-    ghost invariant = { λ s. Keeps s.state s.kept };
 }
 
 /// The replies behind which a change stands. They are made before it.
@@ -63,79 +57,55 @@ fn prepare(alloc: Global) -> Result<Ready, NoMemory>
     Ok(Ready { done, out_of_fuel })
 }
 
-/// The answer to a question, by the run of this moment.
-fn told(
-    alloc: Global,
-    state: &State,
-    kept: &mut Option<Run>,
-    query: Query,
-) -> Result<Text, NoMemory>
-    requires { Keeps state.now kept.old }
-    ensures ok { IfOk result (λ text. TellsOf state.now query (present_run state.now) text) }
-    ensures keeps { Keeps state.now kept.new }
-{
-    if kept.is_none() {
-        *kept = run_again(alloc, state)?;
-    }
-    answer(alloc, state, query, kept.as_ref())
-}
-
 /// The text of a reply.
 fn text(
     alloc: Global,
     state: &State,
-    kept: &mut Option<Run>,
     reply: Reply,
     ready: Ready,
 ) -> Result<Text, NoMemory>
-    requires kept { Keeps state.now kept.old }
+    requires asked { CanTell state.now reply }
     requires done { ready.done ≡ codes "ok\n" }
     requires out_of_fuel { ready.out_of_fuel ≡ codes "out of fuel\n" }
     ensures ok { IfOk result (λ text. IsText state.now reply text) }
     ensures err { OnErr result (IsQuiet reply) }
-    ensures keeps { Keeps state.now kept.new }
 {
     match reply {
         Reply::Nothing => Ok(Text::empty(alloc)),
         Reply::Ok => Ok(ready.done),
         Reply::OutOfFuel => Ok(ready.out_of_fuel),
         Reply::Refused(refusal) => Text::from_slice(alloc, refusal_line(refusal).as_bytes()),
-        Reply::Told(query) => told(alloc, state, kept, query),
+        Reply::Told(query) => answer(alloc, state, query),
     }
 }
 
-/// The answer to a command. Where there is no memory, the state is as before.
+/// The answer to a command.
 fn answer_command(
     alloc: Global,
     state: &mut State,
-    kept: &mut Option<Run>,
     command: &Command,
 ) -> Result<Text, NoMemory>
-    requires { Keeps state.old kept.old }
     ensures reply { IfOk result (λ text. IsText state.old (answered state.old command.now).reply text) }
     ensures state { OnOk result (state.new ≡ (answered state.old command.now).state) }
-    ensures err { OnErr result (state.new ≡ state.old) }
-    ensures keeps { Keeps state.new kept.new }
+    ensures err { OnErr result (IsLeftBy state.old (call_of state.old command.now) state.new) }
 {
+    let _names = state.names();
     let ready = prepare(alloc)?;
-    let reply = reply_to(alloc, state, kept, command)?;
-    text(alloc, state, kept, reply, ready)
+    let reply = reply_to(alloc, state, command)?;
+    text(alloc, state, reply, ready)
 }
 
-/// The answer to a line. Where there is no memory, the state is as before.
+/// The answer to a line.
 fn answer_line(
     alloc: Global,
     state: &mut State,
-    kept: &mut Option<Run>,
     line: &[u8],
 ) -> Result<Text, NoMemory>
-    requires { Keeps state.old kept.old }
     ensures reply { IfOk result (λ text. Answers state.old line.now text state.new) }
-    ensures err { OnErr result (state.new ≡ state.old) }
-    ensures keeps { Keeps state.new kept.new }
+    ensures left { OnErr result (IsLeft state.old line.now state.new) }
 {
     match read_line(alloc, line) {
-        Ok(command) => answer_command(alloc, state, kept, &command),
+        Ok(command) => answer_command(alloc, state, &command),
         Err(LineError::Memory) => Err(NoMemory),
         Err(LineError::Unreadable) => {
             Text::from_slice(alloc, refusal_line(Refusal::C1).as_bytes())
@@ -145,23 +115,12 @@ fn answer_line(
 
 impl Session {
     /// A session without inputs and without a run. A run may take `fuel` steps.
-    pub fn new(alloc: Global, program: Typed, fuel: u32) -> Result<Session, NoMemory>
-        ensures state { IfOk result (λ session. session ≡ begun program fuel) }
+    pub fn new(alloc: Global, program: Program, fuel: u32) -> Result<Session, NoMemory>
+        requires { IsCompiled program }
+        ensures state { IfOk result (λ session. session ≡ begun program.typed fuel) }
     {
-        let state = State {
-            program,
-            fuel,
-            names: Names::new(alloc),
-            inputs: Inputs::new(Vec::new(alloc)),
-            call: None,
-            out_of_fuel: false,
-            pending: false,
-        };
-        Ok(Session {
-            state,
-            kept: None,
-            alloc,
-        })
+        let state = State::new(alloc, program, fuel)?;
+        Ok(Session { state, alloc })
     }
 
     /// The reply to a line, which has no line end, with the reply's line feed; the empty text for a blank line. After
@@ -171,6 +130,6 @@ impl Session {
         ensures reply { IfOk result (λ text. Answers self.old line.now text self.new) }
         ensures left { OnErr result (IsLeft self.old line.now self.new) }
     {
-        answer_line(self.alloc, &mut self.state, &mut self.kept, line)
+        answer_line(self.alloc, &mut self.state, line)
     }
 }

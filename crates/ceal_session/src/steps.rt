@@ -1,9 +1,10 @@
 // What a command that asks for no run is answered, and the state after it.
 
-ghost use Rattle.std.specs.Prelude.{◌≡◌, Some, false, slice_get, IfOk, OnOk, OnErr, bytes_eq};
+ghost use Rattle.std.specs.Prelude.{◌≡◌, Some, false, slice_get, IfOk, OnErr, bytes_eq};
 ghost use Rattle.std.specs.List.{list_any};
+ghost use Rattle.ceal_session.specs.Asking.{IsCellOf, IsCellSense};
 ghost use Rattle.ceal_session.specs.Senses.{function_named};
-ghost use Rattle.ceal_session.specs.Steps.{IsQuiet, made, made_of, made_with, set as set_of, set_word as set_sense, set_base as based, fits_function, called_with, called_function, called as called_of, asked, has_no_run, got, shown as shown_of, with_input, with_base, fits_cell, block_of};
+ghost use Rattle.ceal_session.specs.Steps.{IsQuiet, made, made_of, made_with, set as set_of, set_word as set_sense, set_base as based, fits_function, called_with, called_function, called as called_of, asked, has_no_run, got, shown as shown_of, fits_cell};
 
 use crate::fits::{field_fits, new_block_fits, place_kind, words_fit};
 use crate::numbers::function_number;
@@ -11,44 +12,18 @@ use crate::refusal::Refusal;
 use crate::reply::{Query, Reply};
 use crate::sense::Sense;
 use crate::senses::{has_unknown, is_unknown, words};
-use crate::state::{Call, State};
+use crate::state::State;
 use ceal_base::kind::{FieldKind, Shape};
-use ceal_base::memory::BlockWords;
 use ceal_base::no_memory::NoMemory;
 use ceal_base::text::Text;
 use ceal_base::typed::TypedFunction;
-use ceal_base::word::{BlockId, Place, Word};
+use ceal_base::word::{Place, Word};
 use ceal_base::words::Words;
+use ceal_engine::call::Call;
 use std::alloc::Global;
-
-/// A new block of these words.
-fn new_block(alloc: Global, shape: Shape, words: &[Word]) -> Result<BlockWords, NoMemory>
-    ensures { IfOk result (λ block. block ≡ block_of shape words.now) }
-{
-    let words = Vec::from_slice(alloc, words)?;
-    Ok(BlockWords::new(shape, words))
-}
-
-/// One more input, of a new name.
-fn add_input(state: &mut State, name: &Text, block: BlockWords) -> Result<(), NoMemory>
-    requires { list_any (bytes_eq name.now) state.old.names ≡ false }
-    ensures ok { OnOk result (state.new ≡ with_input state.old name.now block) }
-    ensures err { OnErr result (state.new ≡ state.old) }
-{
-    let count = state.names.len();
-    state.names.add(name)?;
-    match state.inputs.push(block) {
-        Ok(()) => Ok(()),
-        Err(NoMemory) => {
-            state.names.truncate(count);
-            Err(NoMemory)
-        }
-    }
-}
 
 /// An input of these words, where they fit.
 fn make_if(
-    alloc: Global,
     state: &mut State,
     name: &Text,
     shape: Shape,
@@ -59,11 +34,10 @@ fn make_if(
     ensures quiet { IfOk result (λ reply. IsQuiet reply → state.new ≡ state.old) }
     ensures err { OnErr result (state.new ≡ state.old) }
 {
-    if !new_block_fits(state.program.structs.items(), &state.inputs, shape, words) {
+    if !new_block_fits(state.structs(), state.inputs(), shape, words) {
         return Ok(Reply::Refused(Refusal::C4));
     }
-    let block = new_block(alloc, shape, words)?;
-    add_input(state, name, block)?;
+    state.add_input(name, shape, words)?;
     Ok(Reply::Ok)
 }
 
@@ -82,12 +56,12 @@ fn make_with(
     if unknown {
         return Ok(Reply::Refused(Refusal::C2));
     }
-    if state.names.has(name) {
+    if state.names().has(name) {
         return Ok(Reply::Refused(Refusal::C3));
     }
     match words(alloc, senses)? {
         None => Ok(Reply::Refused(Refusal::C4)),
-        Some(words) => make_if(alloc, state, name, shape, words.items()),
+        Some(words) => make_if(state, name, shape, words.items()),
     }
 }
 
@@ -115,49 +89,45 @@ fn fits(state: &State, kind: Option<FieldKind>, word: Word) -> bool
 {
     match kind {
         None => false,
-        Some(kind) => field_fits(state.program.structs.items(), &state.inputs, kind, word),
+        Some(kind) => field_fits(state.structs(), state.inputs(), kind, word),
     }
 }
 
-/// Another base for an input's modifiable.
-fn put(state: &mut State, place: Place, word: Word)
-    ensures { state.new ≡ with_base state.old place word }
+fn set_base(state: &mut State, place: Place, word: Word) -> Result<Reply, NoMemory>
+    requires { IsCellOf state.old place }
+    ensures step { IfOk result (λ reply. record { reply = reply; state = state.new } ≡ based state.old place word) }
+    ensures quiet { IfOk result (λ reply. IsQuiet reply → state.new ≡ state.old) }
+    ensures err { OnErr result (state.new ≡ state.old) }
 {
-    if let BlockId::Input(input) = place.block {
-        state.inputs.set(input, place.field, word);
-    }
-    state.pending = true;
-}
-
-fn set_base(state: &mut State, place: Place, word: Word) -> Reply
-    ensures step { record { reply = result; state = state.new } ≡ based state.old place word }
-    ensures quiet { IsQuiet result → state.new ≡ state.old }
-{
-    let kind = place_kind(state.program.structs.items(), &state.inputs, place);
+    let kind = place_kind(state.structs(), state.inputs(), place);
     if !fits(state, kind, word) {
-        return Reply::Refused(Refusal::C4);
+        return Ok(Reply::Refused(Refusal::C4));
     }
-    put(state, place, word);
-    Reply::Ok
+    state.edit(place, word)?;
+    Ok(Reply::Ok)
 }
 
-fn set_word(state: &mut State, place: Sense, value: Sense) -> Reply
-    ensures step { record { reply = result; state = state.new } ≡ set_sense state.old place value }
-    ensures quiet { IsQuiet result → state.new ≡ state.old }
+fn set_word(state: &mut State, place: Sense, value: Sense) -> Result<Reply, NoMemory>
+    requires { IsCellSense state.old place }
+    ensures step { IfOk result (λ reply. record { reply = reply; state = state.new } ≡ set_sense state.old place value) }
+    ensures quiet { IfOk result (λ reply. IsQuiet reply → state.new ≡ state.old) }
+    ensures err { OnErr result (state.new ≡ state.old) }
 {
     match (place, value) {
         (Sense::Word(Word::At(place)), Sense::Word(word)) => set_base(state, place, word),
-        _ => Reply::Refused(Refusal::C4),
+        _ => Ok(Reply::Refused(Refusal::C4)),
     }
 }
 
 /// `set`: another base, unless it is refused.
-pub fn set(state: &mut State, place: Sense, value: Sense) -> Reply
-    ensures step { record { reply = result; state = state.new } ≡ set_of state.old place value }
-    ensures quiet { IsQuiet result → state.new ≡ state.old }
+pub fn set(state: &mut State, place: Sense, value: Sense) -> Result<Reply, NoMemory>
+    requires { IsCellSense state.old place }
+    ensures step { IfOk result (λ reply. record { reply = reply; state = state.new } ≡ set_of state.old place value) }
+    ensures quiet { IfOk result (λ reply. IsQuiet reply → state.new ≡ state.old) }
+    ensures err { OnErr result (state.new ≡ state.old) }
 {
     if is_unknown(place) || is_unknown(value) {
-        return Reply::Refused(Refusal::C2);
+        return Ok(Reply::Refused(Refusal::C2));
     }
     set_word(state, place, value)
 }
@@ -172,8 +142,8 @@ fn fits_call(state: &State, function: &TypedFunction, words: &[Word]) -> bool
     let kinds = function.kinds.items();
     let count = (function.params as usize).min(kinds.len());
     words_fit(
-        state.program.structs.items(),
-        &state.inputs,
+        state.structs(),
+        state.inputs(),
         &kinds[..count],
         words,
     )
@@ -193,7 +163,7 @@ fn call_with(
     if !fits_call(state, function, args.items()) {
         return Err(Refusal::C5);
     }
-    if state.call.is_some() {
+    if state.has_call() {
         return Err(Refusal::C6);
     }
     Ok(Call {
@@ -210,7 +180,7 @@ fn call_function(
 ) -> Result<Result<Call, Refusal>, NoMemory>
     ensures { IfOk result (λ call. call ≡ called_function state.now number (slice_get state.now.program.functions number) senses.now) }
 {
-    let Some(function) = state.program.functions.items().get(number as usize) else {
+    let Some(function) = state.functions().get(number as usize) else {
         return Ok(Err(Refusal::C2));
     };
     if has_unknown(senses) {
@@ -229,7 +199,7 @@ pub fn call(
 ) -> Result<Result<Call, Refusal>, NoMemory>
     ensures { IfOk result (λ call. call ≡ called_of state.now (function_named state.now function.now) senses.now) }
 {
-    match function_number(state.program.functions.items(), function)? {
+    match function_number(state.functions(), function)? {
         None => Ok(Err(Refusal::C2)),
         Some(number) => call_function(alloc, state, number, senses),
     }
@@ -239,10 +209,10 @@ pub fn call(
 pub fn ask(state: &State, query: Query) -> Reply
     ensures { result ≡ asked state.now query }
 {
-    if state.out_of_fuel || state.call.is_none() {
+    if state.has_no_run() {
         return Reply::Refused(Refusal::C7);
     }
-    if state.pending {
+    if state.is_pending() {
         return Reply::Refused(Refusal::C8);
     }
     Reply::Told(query)

@@ -1,84 +1,123 @@
-// The graph of a memory.
+// The graph of a finished run.
 
-ghost use Rattle.std.specs.Prelude.{◌≡◌, IfOk};
-ghost use Rattle.ceal_base.specs.Block.{block_at};
+ghost use Rattle.std.specs.Prelude.{◌≡◌, Some, IsSome, IfOk, slice_get};
+ghost use Rattle.ceal_base.specs.Shapes.{kinds_of_shape};
 ghost use Rattle.ceal_base.specs.declared.word.BlockId.TheVariants.{Input};
-ghost use Rattle.ceal_session.specs.Texts.{input_name};
+ghost use Rattle.ceal_engine.specs.Engine.{is_plain as plain};
+ghost use Rattle.ceal_session.specs.Shown.{seen, label};
 ghost use Rattle.ceal_show.specs.Graph.{IsGraphText};
+ghost use Rattle.ceal_show.specs.Shown.{IsWhole, shape_at, word_at};
 
-use crate::run::Run;
-use crate::state::State;
-use crate::whole::{is_there, is_whole};
-use ceal_base::kind::Shape;
-use ceal_base::memory::Memory;
+use crate::fits::field_kind;
+use ceal_base::kind::{FieldKind, Shape};
 use ceal_base::no_memory::NoMemory;
 use ceal_base::text::Text;
 use ceal_base::typed::Structs;
-use ceal_base::word::{BlockId, Word};
+use ceal_base::word::{BlockId, Place, Word};
+use ceal_code::laws::progress_law;
+use ceal_engine::engine::Engine;
 use ceal_show::graph::graph_text;
+use ceal_show::laws::fitting_is_whole;
 use ceal_show::view::View;
+use ceal_types::names::Names;
 use std::alloc::Global;
 
-/// A memory with the names of a session; `none` stands for a name that is not there.
+/// An engine with the names of its inputs; `none` stands for a name that is not there.
 #[derive(Clone, Copy)]
 struct Scene<'a> {
-    state: &'a State,
-    memory: &'a Memory,
+    engine: &'a Engine,
+    names: &'a Names,
     none: &'a Text,
+}
+
+/// The shape of a block of the run.
+fn block_shape(engine: &Engine, block: BlockId) -> Shape
+    requires { IsSome (seen engine.now block) }
+    ensures { shape_at (seen engine.now) block ≡ Some result }
+{
+    progress_law();
+    let _phase = engine.phase();
+    engine.shape(block)
+}
+
+fn kind_of(engine: &Engine, shape: Shape, field: u32) -> Option<FieldKind>
+    ensures { result ≡ slice_get (kinds_of_shape engine.now.code.structs shape) field }
+{
+    field_kind(engine.code().structs.items(), shape, field)
+}
+
+fn is_plain(kind: Option<FieldKind>) -> bool
+    ensures { result ≡ plain kind }
+{
+    match kind {
+        Some(FieldKind::Plain(_)) => true,
+        Some(FieldKind::CellInt) => false,
+        Some(FieldKind::CellPtr(_)) => false,
+        None => false,
+    }
+}
+
+/// The word of a field of the run: a plain field never changes, and a modifiable has a content.
+fn field_word(engine: &Engine, block: BlockId, field: u32) -> Word
+    requires { IsSome (word_at (seen engine.now) block field) }
+    ensures { word_at (seen engine.now) block field ≡ Some result }
+{
+    progress_law();
+    fitting_is_whole();
+    let _phase = engine.phase();
+    let shape = engine.shape(block);
+    if is_plain(kind_of(engine, shape, field)) {
+        engine.field(block, field)
+    } else {
+        engine.value(Place { block, field })
+    }
 }
 
 impl<'a> View for Scene<'a> {
     ghost use Rattle.std.specs.Prelude.{slice_get, unwrap_or};
-    ghost use Rattle.ceal_base.specs.Block.{block_at};
+    ghost use Rattle.ceal_session.specs.Shown.{seen};
 
-    ghost memory = { λ v. block_at v.memory.now };
+    ghost memory = { λ v. seen v.engine.now };
 
-    ghost name = { λ v n. unwrap_or (slice_get v.state.now.names n) v.none.now };
+    ghost name = { λ v n. unwrap_or (slice_get v.names.now n) v.none.now };
 
-    ghost declared = { λ v. v.state.now.program.structs };
+    ghost declared = { λ v. v.engine.now.code.structs };
 
     fn shape(&self, block: BlockId) -> Shape {
-        let memory = self.memory;
-        let block = match block {
-            BlockId::Input(n) => &memory.inputs.items()[n as usize],
-            BlockId::Core(n) => &memory.items()[n as usize],
-        };
-        block.shape
+        block_shape(self.engine, block)
     }
 
     fn word(&self, block: BlockId, field: u32) -> Word {
-        let memory = self.memory;
-        match block {
-            BlockId::Input(n) => memory.inputs.items()[n as usize].items()[field as usize],
-            BlockId::Core(n) => memory.items()[n as usize].items()[field as usize],
-        }
+        field_word(self.engine, block, field)
     }
 
     fn label(&self, input: u32) -> &Text {
-        match self.state.names.at(input) {
+        match self.names.at(input) {
             Some(name) => name,
             None => self.none,
         }
     }
 
     fn structs(&self) -> &Structs {
-        &self.state.program.structs
+        &self.engine.code().structs
     }
 }
 
-/// The graph from an input. A run of a checked program leaves a memory that can be shown; that it does is looked at
-/// before, and a memory that could not be shown is answered as want of memory.
-pub fn graph(alloc: Global, state: &State, run: &Run, input: u32) -> Result<Text, NoMemory>
-    ensures { IfOk result (λ text. IsGraphText state.now.program.structs (block_at run.now.memory) (input_name state.now) (Input input) text) }
+/// The graph from an input, of an engine that has a finished run.
+pub fn graph(
+    alloc: Global,
+    engine: &Engine,
+    names: &Names,
+    input: u32,
+) -> Result<Text, NoMemory>
+    requires whole { IsWhole engine.now.code.structs (seen engine.now) }
+    requires there { IsSome (seen engine.now (Input input)) }
+    ensures { IfOk result (λ text. IsGraphText engine.now.code.structs (seen engine.now) (label names.now) (Input input) text) }
 {
-    let root = BlockId::Input(input);
-    if !is_there(&run.memory, root) || !is_whole(state.program.structs.items(), &run.memory) {
-        return Err(NoMemory);
-    }
     let scene = Scene {
-        state,
-        memory: &run.memory,
+        engine,
+        names,
         none: &Text::empty(alloc),
     };
-    graph_text(alloc, &scene, root)
+    graph_text(alloc, &scene, BlockId::Input(input))
 }

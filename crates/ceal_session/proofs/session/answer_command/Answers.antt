@@ -1,5 +1,13 @@
+use Rattle.std.proofs.Common.{sym, subst}
+use Rattle.ceal_session.proofs.Answering.{can-tell}
 use Rattle.ceal_session.proofs.ReplySteps.{text-back, if-ok}
+use Rattle.ceal_session.specs.Asking.{CanTell}
+use Rattle.ceal_session.specs.Steps.{Step}
 use Rattle.ceal_session.proofs.session.answer_command.Goals as goal
+
+pub text-requires-clause-asked : goal.text-requires-clause-asked
+text-requires-clause-asked c =
+    subst (λ (step : Step). CanTell step.state step.reply) (sym c.in_ok-reply.ensures.ok) (can-tell c.args.state.now c.names-names.ensures.counted c.args.command.now)
 
 pub returns-clause-reply : goal.returns-clause-reply
 returns-clause-reply c =

@@ -1,5 +1,5 @@
-use Rattle.std.proofs.Common.{◌∙◌, None, Some, Err, ap, refl}
-use Rattle.ceal_session.proofs.ReplySteps.{if-ok, if-ok-too}
+use Rattle.std.proofs.Common.{◌∙◌, inl, inr, None, Some, Err, ap, refl}
+use Rattle.ceal_session.proofs.ReplySteps.{if-ok, if-ok-too, on-err}
 use Rattle.ceal_session.proofs.session.answer_line.Goals as goal
 
 pub returns-in-Ok-clause-reply : goal.returns-in-Ok-clause-reply
@@ -7,6 +7,12 @@ returns-in-Ok-clause-reply c =
     if-ok-too c.answer_command.result
     (λ text h s. record { command = Some c.in-Ok.command; reads = c.in-Ok.ensures.found; reply = h; state = s })
     c.answer_command.ensures.reply c.answer_command.ensures.state
+
+pub returns-in-Ok-clause-left : goal.returns-in-Ok-clause-left
+returns-in-Ok-clause-left c =
+    on-err c.answer_command.result
+    (λ h. elim h [ inl same ↦ inl same | inr d ↦ inr (record { command = c.in-Ok.command; reads = c.in-Ok.ensures.found; call = d.0; runs = d.1; state = d.2 }) ])
+    c.answer_command.ensures.err
 
 pub returns-in-Err-Unreadable-clause-reply : goal.returns-in-Err-Unreadable-clause-reply
 returns-in-Err-Unreadable-clause-reply c =

@@ -1,0 +1,196 @@
+-- Which questions come to be answered, and about what.
+use Rattle.std.proofs.Common.{◌≡◌, ℕ, ◌<◌, ◌||◌, Bool, true, false, Option, Some, None, Result, Ok, Err, IfOk, List, [], ◌∷◌, length, map, is_some, is_none, if◌then◌else◌, position, refl, sym, ap, ◌∙◌, subst, slice_get, arith}
+use Rattle.std.specs.List.{list_any}
+use Rattle.std.specs.Option.{option_map}
+use Rattle.std.specs.Prelude.{bytes_eq}
+use Rattle.std.proofs.lemmas.Option.{slice_get-map}
+use Rattle.ceal_base.specs.Block.{Block}
+use Rattle.ceal_base.specs.Finished.{Finished}
+use Rattle.ceal_base.specs.Fitting.{kind_in, kind_at, block_fits}
+use Rattle.ceal_base.specs.Shapes.{kinds_of_shape, field_kinds, kind_of_field}
+use Rattle.ceal_base.specs.declared.kind.FieldKind.{FieldKind}
+use Rattle.ceal_base.specs.declared.kind.FieldKind.TheVariants.{Plain as PlainField, CellInt, CellPtr}
+use Rattle.ceal_base.specs.declared.kind.Shape.{Shape}
+use Rattle.ceal_base.specs.declared.kind.Shape.TheVariants.{Struct, ModInt, ModPtr}
+use Rattle.ceal_base.specs.declared.typed.FieldInfo.{FieldInfo}
+use Rattle.ceal_base.specs.declared.typed.StructInfo.{StructInfo}
+use Rattle.ceal_base.specs.declared.typed.TypedFunction.{TypedFunction}
+use Rattle.ceal_base.specs.declared.word.Place.{Place}
+use Rattle.ceal_base.specs.declared.word.Word.{Word}
+use Rattle.ceal_base.specs.declared.word.Word.TheVariants.{Num, Null, Block as BlockWord, At}
+use Rattle.ceal_code.specs.Value.{is_cell}
+use Rattle.ceal_engine.specs.declared.call.Call.{Call}
+use Rattle.ceal_script.specs.declared.command.Command.{Command}
+use Rattle.ceal_script.specs.declared.command.Command.TheVariants.{Blank, Mod, New, Set, Run, Propagate, Get, Show, Blocks, Steps, Work}
+use Rattle.ceal_script.specs.declared.command.PlaceWord.{PlaceWord}
+use Rattle.ceal_session.specs.Asking.{IsReady, IsCellOf, IsCellSense, IsFor, CanTell}
+use Rattle.ceal_session.specs.Runs.{memory_of, run_of, with_run}
+use Rattle.ceal_session.specs.Senses.{fields_of, fields_numbered, field_named, input_named, block_sense, kind_sense, field_sense, member_sense, part_sense, shape_in, shape_at, input_sense, found_sense, place_sense, value_sense, is_unknown, words_of, mod_shape, struct_shape, struct_named, function_named}
+use Rattle.ceal_session.specs.State.{State}
+use Rattle.ceal_session.specs.Steps.{Step, stays, refuses, made_if, made_with, made, made_of, fits_cell, set_base, set_word, set, fits_function, IsCall, IsFirst, called_with, called_function, called, called_again, run_reply, runs, has_no_run, asked, got, shown, answered, block_of}
+use Rattle.ceal_session.specs.declared.refusal.Refusal.{Refusal}
+use Rattle.ceal_session.specs.declared.refusal.Refusal.TheVariants.{C2, C3, C4, C5, C6, C7, C8}
+use Rattle.ceal_session.specs.declared.reply.Query.{Query}
+use Rattle.ceal_session.specs.declared.reply.Query.TheVariants.{Get as GetOf, Show as ShowOf, Blocks as BlocksOf, Steps as StepsOf}
+use Rattle.ceal_session.specs.declared.reply.Reply.{Reply}
+use Rattle.ceal_session.specs.declared.reply.Reply.TheVariants.{Refused, Told}
+use Rattle.ceal_session.specs.declared.sense.Sense.{Sense}
+use Rattle.ceal_session.specs.declared.sense.Sense.TheVariants.{Unknown, Plain, Word as IsWord}
+
+-- what passes is within the list
+position-within : {A : Type 0} (test : A → Bool) (xs : List A) (n : ℕ) → position test xs ≡ Some n → n < length xs
+position-within test xs n h = grind (arith, h)
+
+module _ (s : State) where
+  -- a place stands for a modifiable of an input
+  kind-cell : (n : ℕ) (field : ℕ) (kind : FieldKind) → kind_in s.program.structs (slice_get s.inputs n) field ≡ Some kind → IsCellSense s (kind_sense n field kind)
+  kind-cell n field (PlainField kind) h = tt
+  kind-cell n field CellInt h = ap is_cell h
+  kind-cell n field (CellPtr t) h = ap is_cell h
+
+  block-cell : (n : ℕ) (o : Option Block) → slice_get s.inputs n ≡ o → IsCellSense s (block_sense n (shape_in o))
+  block-cell n None h = tt
+  block-cell n (Some block) h = go block.shape refl
+    where
+      go : (shape : Shape) → block.shape ≡ shape → IsCellSense s (block_sense n (Some shape))
+      go (Struct t) i = tt
+      go ModInt i = rw (h, i) refl
+      go (ModPtr t) i = rw (h, i) refl
+
+  get-field : (n number : ℕ) (block : Block) → slice_get s.inputs n ≡ Some block → block.shape ≡ Struct number → (field : ℕ)
+      → kind_in s.program.structs (slice_get s.inputs n) field ≡ option_map kind_of_field (slice_get (fields_numbered s number) field)
+  get-field n number block h i field = rw (h, i) (go (slice_get s.program.structs number))
+    where
+      go : (o : Option StructInfo) → slice_get (field_kinds o) field ≡ option_map kind_of_field (slice_get (fields_of o) field)
+      go None = refl
+      go (Some info) = slice_get-map kind_of_field info.fields field
+
+  field-cell : (n field : ℕ) (o : Option FieldInfo) → kind_in s.program.structs (slice_get s.inputs n) field ≡ option_map kind_of_field o → IsCellSense s (field_sense n field o)
+  field-cell n field None h = tt
+  field-cell n field (Some info) h = kind-cell n field info.kind h
+
+  member-cell : (n number : ℕ) (block : Block) → slice_get s.inputs n ≡ Some block → block.shape ≡ Struct number → (o : Option ℕ) → IsCellSense s (member_sense n (fields_numbered s number) o)
+  member-cell n number block h i None = tt
+  member-cell n number block h i (Some field) = field-cell n field (slice_get (fields_numbered s number) field) (get-field n number block h i field)
+
+  part-cell : (n : ℕ) (name : List ℕ) (o : Option Block) → slice_get s.inputs n ≡ o → IsCellSense s (part_sense s n name (shape_in o))
+  part-cell n name None h = tt
+  part-cell n name (Some block) h = go block.shape refl
+    where
+      go : (shape : Shape) → block.shape ≡ shape → IsCellSense s (part_sense s n name (Some shape))
+      go (Struct number) i = member-cell n number block h i (field_named (fields_numbered s number) name)
+      go ModInt i = tt
+      go (ModPtr t) i = tt
+
+  found-cell : (o : Option ℕ) (field : Option (List ℕ)) → IsCellSense s (found_sense s o field)
+  found-cell None field = tt
+  found-cell (Some n) None = block-cell n (slice_get s.inputs n) refl
+  found-cell (Some n) (Some name) = part-cell n name (slice_get s.inputs n) refl
+
+  pub cell-sense : (place : PlaceWord) → IsCellSense s (place_sense s place)
+  cell-sense place = found-cell (input_named s place.name) place.field
+
+-- the reply can be told from the state
+abbrev Tells : Step → Type 0
+Tells step = CanTell step.state step.reply
+
+either : (b : Bool) (x y : Step) → Tells x → Tells y → Tells (if b then x else y)
+either true x y h k = h
+either false x y h k = k
+
+module _ (s : State) where
+  made-with-tells : (name : List ℕ) (shape : Shape) (o : Option (List Word)) → Tells (made_with s name shape o)
+  made-with-tells name shape None = tt
+  made-with-tells name shape (Some words) = either (block_fits s.program.structs (memory_of s) (block_of shape words)) _ (refuses s C4) tt tt
+
+  made-tells : (name : List ℕ) (o : Option Shape) (senses : List Sense) → Tells (made_of s name o senses)
+  made-tells name None senses = tt
+  made-tells name (Some shape) senses =
+      either (list_any is_unknown senses) (refuses s C2) _ tt (either (list_any (bytes_eq name) s.names) (refuses s C3) _ tt (made-with-tells name shape (words_of senses)))
+
+  set-word-tells : (place value : Sense) → Tells (set_word s place value)
+  set-word-tells (IsWord (At p)) (IsWord word) = either (fits_cell s (kind_at s.program.structs (memory_of s) p) word) _ (refuses s C4) tt tt
+  set-word-tells (IsWord (At p)) Unknown = tt
+  set-word-tells (IsWord (At p)) Plain = tt
+  set-word-tells (IsWord (Num n)) value = tt
+  set-word-tells (IsWord Null) value = tt
+  set-word-tells (IsWord (BlockWord b)) value = tt
+  set-word-tells Unknown value = tt
+  set-word-tells Plain value = tt
+
+  set-tells : (place value : Sense) → Tells (set s place value)
+  set-tells place value = either (is_unknown place || is_unknown value) (refuses s C2) _ tt (set-word-tells place value)
+
+  runs-tells : (r : Result Call Refusal) → Tells (runs s r)
+  runs-tells (Err r) = tt
+  runs-tells (Ok call) = go (run_of s call)
+    where
+      go : (o : Option Finished) → CanTell (with_run s call (is_none (run_of s call))) (run_reply o)
+      go None = tt
+      go (Some f) = tt
+
+  asked-tells : (q : Query) → IsFor s q → CanTell s (asked s q)
+  asked-tells q h = go (has_no_run s) s.pending refl refl
+    where
+      go : (a b : Bool) → has_no_run s ≡ a → s.pending ≡ b → CanTell s (if a then Refused C7 else if b then Refused C8 else Told q)
+      go true b i j = tt
+      go false true i j = tt
+      go false false i j = (record { run = i; edited = j }, h)
+
+  got-tells : (sense : Sense) → IsCellSense s sense → CanTell s (got s sense)
+  got-tells (IsWord (At p)) h = asked-tells (GetOf p) h
+  got-tells (IsWord (Num n)) h = tt
+  got-tells (IsWord Null) h = tt
+  got-tells (IsWord (BlockWord b)) h = tt
+  got-tells Unknown h = tt
+  got-tells Plain h = tt
+
+  shown-tells : length s.names ≡ length s.inputs → (name : List ℕ) (o : Option ℕ) → input_named s name ≡ o → CanTell s (shown s o)
+  shown-tells c name None e = tt
+  shown-tells c name (Some n) e = asked-tells (ShowOf n) (subst (λ k. n < k) c (position-within (bytes_eq name) s.names n e))
+
+  pub can-tell : length s.names ≡ length s.inputs → (command : Command) → CanTell (answered s command).state (answered s command).reply
+  can-tell c Blank = tt
+  can-tell c (Mod name kind value) = made-tells name (mod_shape s kind) (value_sense s value ∷ [])
+  can-tell c (New name shape values) = made-tells name (struct_shape (struct_named s shape)) (map (value_sense s) values)
+  can-tell c (Set place value) = set-tells (place_sense s place) (value_sense s value)
+  can-tell c (Run function args) = runs-tells (called s (function_named s function) (map (value_sense s) args))
+  can-tell c Propagate = runs-tells (called_again s.call)
+  can-tell c (Get place) = got-tells (place_sense s place) (cell-sense s place)
+  can-tell c (Show name) = shown-tells c name (input_named s name) refl
+  can-tell c Blocks = asked-tells BlocksOf tt
+  can-tell c Steps = asked-tells StepsOf tt
+  can-tell c Work = tt
+
+  -- a call that is accepted is a first one
+  with-first : (n : ℕ) (f : TypedFunction) (o : Option (List Word)) (call : Call) → slice_get s.program.functions n ≡ Some f → called_with s n f o ≡ Ok call → IsFirst s call
+  with-first n f None call e h = absurd (grind (arith, h))
+  with-first n f (Some words) call e h = go (fits_function s f words) (is_some s.call) refl refl h
+    where
+      none : (o : Option Call) → is_some o ≡ false → o ≡ None
+      none None i = refl
+      none (Some c) i = absurd (grind (arith, i))
+
+      go : (a b : Bool) → fits_function s f words ≡ a → is_some s.call ≡ b
+          → (if a then if b then Err C6 else Ok (record { function = n; args = words }) else Err C5) ≡ Ok call → IsFirst s call
+      go false b i j k = absurd (grind (arith, k))
+      go true true i j k = absurd (grind (arith, k))
+      go true false i j k =
+          let is : record { function = n; args = words } ≡ call = grind (arith, k) in
+          subst (IsFirst s) is (record { fits = rw e i; none = none s.call j })
+
+  function-first : (n : ℕ) (o : Option TypedFunction) (senses : List Sense) (call : Call) → slice_get s.program.functions n ≡ o → called_function s n o senses ≡ Ok call → IsFirst s call
+  function-first n None senses call e h = absurd (grind (arith, h))
+  function-first n (Some f) senses call e h = go (list_any is_unknown senses) h
+    where
+      go : (a : Bool) → (if a then Err C2 else called_with s n f (words_of senses)) ≡ Ok call → IsFirst s call
+      go true k = absurd (grind (arith, k))
+      go false k = with-first n f (words_of senses) call e k
+
+  pub called-first : (o : Option ℕ) (senses : List Sense) (call : Call) → called s o senses ≡ Ok call → IsFirst s call
+  called-first None senses call h = absurd (grind (arith, h))
+  called-first (Some n) senses call h = function-first n (slice_get s.program.functions n) senses call refl h
+
+  pub accepted-first : (o : Option ℕ) (senses : List Sense) (r : Result Call Refusal) → r ≡ called s o senses → IfOk r (λ call. IsFirst s call)
+  accepted-first o senses (Ok call) e = called-first o senses call (sym e)
+  accepted-first o senses (Err r) e = tt

@@ -1,0 +1,10 @@
+use Rattle.std.proofs.Common.{◌≡◌, Some, sym, subst}
+use Rattle.ceal_session.proofs.Telling.{told-blocks}
+use Rattle.ceal_session.specs.Asking.{IsReady, blocks_in}
+use Rattle.ceal_session.specs.Runs.{present_run}
+use Rattle.ceal_session.proofs.state.State.blocks.Goals as goal
+
+pub returns : goal.returns
+returns c =
+    subst (λ s. blocks_in (present_run s) ≡ Some c.live_blocks.result) c.self.view_is
+    (told-blocks c.self.inside.program c.self.inside.names c.self.inside.engine c.self.inside.pending c.self.invariant c.phase-phase.ensures.whole (subst IsReady (sym c.self.view_is) c.requires) c.live_blocks.result c.live_blocks.ensures.value)

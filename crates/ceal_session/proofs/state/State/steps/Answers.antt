@@ -1,0 +1,10 @@
+use Rattle.std.proofs.Common.{◌≡◌, Some, sym, subst}
+use Rattle.ceal_session.proofs.Telling.{told-steps}
+use Rattle.ceal_session.specs.Asking.{IsReady, steps_in}
+use Rattle.ceal_session.specs.Runs.{present_run}
+use Rattle.ceal_session.proofs.state.State.steps.Goals as goal
+
+pub returns : goal.returns
+returns c =
+    subst (λ s. steps_in (present_run s) ≡ Some c.steps.result) c.self.view_is
+    (told-steps c.self.inside.program c.self.inside.names c.self.inside.engine c.self.inside.pending c.self.invariant c.phase-phase.ensures.whole (subst IsReady (sym c.self.view_is) c.requires) c.steps.result c.steps.ensures.value)
