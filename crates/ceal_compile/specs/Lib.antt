@@ -1,1 +1,4 @@
+pub mod Phases
+pub mod Source
+pub mod FaultLine
 pub mod Compiled

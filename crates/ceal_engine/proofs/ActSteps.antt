@@ -1,8 +1,7 @@
 -- What commands do, where a word says which step it is.
-use Rattle.std.proofs.Common.{◌≡◌, ℕ, true, Option, Some, None, List, refl, arith}
+use Rattle.std.proofs.Common.{◌≡◌, ℕ, Some, List, refl}
 use Rattle.ceal_base.specs.Access.{content_of, written}
 use Rattle.ceal_base.specs.Block.{Blocks}
-use Rattle.ceal_base.specs.Finished.{Finished}
 use Rattle.ceal_base.specs.declared.forest.UnitId.{UnitId}
 use Rattle.ceal_base.specs.declared.kind.Shape.{Shape}
 use Rattle.ceal_base.specs.declared.kind.Shape.TheVariants.{Struct, ModInt, ModPtr}

@@ -1,9 +1,8 @@
 -- What an engine keeps stays sound.
-use Rattle.std.proofs.Common.{◌≡◌, ℕ, ◌<◌, ◌≤◌, ◌^◌, ◌&&◌, true, Option, Some, None, List, [], ◌∷◌, ◌++◌, length, refl, sym, ap, ◌∙◌, subst, arith}
+use Rattle.std.proofs.Common.{◌≡◌, ℕ, ◌<◌, ◌≤◌, ◌^◌, ◌&&◌, true, Option, Some, None, List, [], ◌∷◌, ◌++◌, length, refl, sym, ap, ◌∙◌, arith}
 use Rattle.std.specs.Option.{option_map}
 use Rattle.std.specs.Prelude.{IfSome}
 use Rattle.ceal_base.specs.Block.{Block, Blocks}
-use Rattle.ceal_base.specs.Finished.{Finished}
 use Rattle.ceal_base.specs.Fitting.{kind_at, block_fits, inputs_fit}
 use Rattle.ceal_base.specs.declared.word.Place.{Place}
 use Rattle.ceal_base.specs.declared.word.Word.{Word}
@@ -13,7 +12,7 @@ use Rattle.ceal_code.specs.Program.{Code}
 use Rattle.ceal_code.specs.Value.{is_cell}
 use Rattle.ceal_engine.proofs.Inputs.{kept-longer, longer-fits, edit-fits, call-kept, later-push}
 use Rattle.ceal_engine.proofs.Present.{fresh-count, none-later}
-use Rattle.ceal_engine.specs.Engine.{EngineState, alone, fits_in, takes, with_base, edited, fresh_call}
+use Rattle.ceal_engine.specs.Engine.{alone, fits_in, with_base, edited, fresh_call}
 use Rattle.ceal_engine.specs.Keeping.{with_later, Sound}
 use Rattle.ceal_engine.specs.Laws.{longer_run, Input_law}
 use Rattle.ceal_engine.specs.declared.call.Call.{Call}

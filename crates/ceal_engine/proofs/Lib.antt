@@ -9,3 +9,4 @@ pub mod Numbered
 pub mod Present
 pub mod Inputs
 pub mod Keeping
+pub mod Samples

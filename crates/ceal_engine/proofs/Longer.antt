@@ -3,7 +3,7 @@ use Rattle.std.proofs.Common.{◌≡◌, ◌⊎◌, inl, inr, ℕ, zero, suc, �
 use Rattle.std.specs.Option.{option_map}
 use Rattle.ceal_base.specs.Access.{word_in, content_of}
 use Rattle.ceal_base.specs.Block.{Block, Blocks, block_at, with_word, written_at}
-use Rattle.ceal_base.specs.Finished.{Finished, with_block}
+use Rattle.ceal_base.specs.Finished.{with_block}
 use Rattle.ceal_base.specs.Operators.{same_block}
 use Rattle.ceal_base.specs.declared.forest.Key.{Key}
 use Rattle.ceal_base.specs.declared.forest.Key.TheVariants.{Init, ModInt as IntKey, ModPtr as PtrKey}
@@ -14,18 +14,18 @@ use Rattle.ceal_base.specs.declared.word.Word.{Word}
 use Rattle.ceal_base.specs.declared.word.Word.TheVariants.{At}
 use Rattle.ceal_code.proofs.Closed.{kind_default-of, chosen-of, entered-of}
 use Rattle.ceal_code.proofs.FittingLemmas.{input-known, args-known}
-use Rattle.ceal_code.proofs.Local.{block-more, words-more, variables-more, stack-more, each-words, stack-of, set-known, given-known}
-use Rattle.ceal_code.proofs.Memory.{get-before, get-within, got, altered, written-here, written-other, written-count, length-set, grown-here, grown-other, grown-count}
-use Rattle.ceal_code.proofs.Same.{block-same, nat-same, none-some}
+use Rattle.ceal_code.proofs.Local.{words-more, variables-more, stack-more, each-words, stack-of, set-known, given-known}
+use Rattle.ceal_code.proofs.Memory.{get-before, got, altered, written-here, written-other, written-count, length-set, grown-here, grown-other, grown-count}
+use Rattle.ceal_code.proofs.Same.{block-same, nat-same}
 use Rattle.ceal_code.specs.Fitting.{Fits}
 use Rattle.ceal_code.specs.Fresh.{ran, only_over, run, fresh}
 use Rattle.ceal_code.specs.Init.{made, pointer}
 use Rattle.ceal_code.specs.Known.{Subset, Held, Holds, Agree, Known_variables, Known_stack, Known_act}
 use Rattle.ceal_code.specs.Laws.{Step_law, Block_law}
 use Rattle.ceal_code.specs.Program.{Code}
-use Rattle.ceal_code.specs.Replay.{In, Known_block, Known_word, Known_words, Known_key}
+use Rattle.ceal_code.specs.Replay.{In, Known_block, Known_word, Known_words}
 use Rattle.ceal_code.specs.Step.{Stack, Empty, Run, Act, Over, Quiet, Makes, Writes, Reads, unit_at, entry_of, kinds_of, variable_default, chosen, entered, started, given, next}
-use Rattle.ceal_code.specs.Value.{Variables, set}
+use Rattle.ceal_code.specs.Value.{set}
 use Rattle.ceal_engine.specs.Laws.{longer, longer_run, Input_law}
 
 -- the numbers below this one

@@ -1,11 +1,11 @@
 -- A memory whose words fit is the same up to the numbers of its core blocks as itself, where each keeps its number.
-use Rattle.std.proofs.Common.{◌≡◌, ℕ, zero, suc, ◌+◌, ◌<◌, ◌≤◌, ◌==◌, ◌&&◌, nat_eq, Bool, true, false, if◌then◌else◌, Option, Some, None, List, [], ◌∷◌, length, map, refl, sym, ap, ap₂, ◌∙◌, subst, slice_get, slice_index, is_some, arith}
-use Rattle.std.specs.List.{list_all, IsDistinct}
+use Rattle.std.proofs.Common.{◌≡◌, ℕ, zero, suc, ◌+◌, ◌<◌, ◌≤◌, ◌==◌, Bool, true, false, Option, Some, None, List, [], ◌∷◌, length, map, refl, sym, ap, ap₂, ◌∙◌, slice_get, slice_index, is_some, arith}
+use Rattle.std.specs.List.{list_all}
 use Rattle.std.specs.Option.{option_map}
 use Rattle.std.specs.Prelude.{IsSome}
 use Rattle.ceal_base.specs.Access.{of_struct}
 use Rattle.ceal_base.specs.Block.{Block, Blocks, block_at}
-use Rattle.ceal_base.specs.Fitting.{kind_in, kind_at, is_int_cell, is_pointer_cell, fits_kind, fits_field, fields_fit, block_fits, memory_fits}
+use Rattle.ceal_base.specs.Fitting.{kind_in, kind_at, fits_kind, fits_field, fields_fit, block_fits, memory_fits}
 use Rattle.ceal_base.specs.Same.{Same, index_of, renamed_id, renamed_word, renamed_block}
 use Rattle.ceal_base.specs.Shapes.{kinds_of_shape}
 use Rattle.ceal_base.specs.declared.kind.FieldKind.{FieldKind}
@@ -22,9 +22,9 @@ use Rattle.ceal_code.proofs.FinalMemory.{is-distinct, get-map}
 use Rattle.ceal_code.proofs.FittingLemmas.{int-is_cell, pointer-is_cell}
 use Rattle.ceal_code.proofs.Memory.{get-within}
 use Rattle.ceal_code.proofs.Same.{both, nat-same}
-use Rattle.ceal_code.specs.Replay.{count, Distinct}
+use Rattle.ceal_code.specs.Replay.{count}
 use Rattle.ceal_code.specs.Value.{is_cell}
-use Rattle.ceal_engine.specs.Engine.{Store, core, at_number}
+use Rattle.ceal_engine.specs.Engine.{core, at_number}
 
 -- so many numbers, from one on
 abbrev pub upto : ℕ → ℕ → List ℕ

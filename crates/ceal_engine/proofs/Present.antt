@@ -1,10 +1,9 @@
 -- What an engine keeps is the run from scratch on its present inputs.
-use Rattle.std.proofs.Common.{◌≡◌, ℕ, zero, suc, ◌+◌, ◌<◌, ◌≤◌, Bool, true, false, Option, Some, None, List, [], ◌∷◌, ◌++◌, length, drop, map, refl, sym, ap, ◌∙◌, subst, append-nil, slice_get, arith}
-use Rattle.std.specs.Prelude.{IfSome}
+use Rattle.std.proofs.Common.{◌≡◌, ℕ, zero, suc, ◌+◌, true, Option, Some, None, List, [], length, map, refl, ap, ◌∙◌, subst, append-nil, slice_get, arith}
 use Rattle.std.proofs.lemmas.List.{drop_all}
 use Rattle.ceal_base.specs.Block.{Block, Blocks, block_at, written_at}
-use Rattle.ceal_base.specs.Finished.{Finished, with_block}
-use Rattle.ceal_base.specs.Fitting.{memory_fits, inputs_fit}
+use Rattle.ceal_base.specs.Finished.{Finished}
+use Rattle.ceal_base.specs.Fitting.{memory_fits}
 use Rattle.ceal_base.specs.declared.word.BlockId.{BlockId}
 use Rattle.ceal_base.specs.declared.word.BlockId.TheVariants.{Input, Core}
 use Rattle.ceal_base.specs.declared.word.Word.{Word}
@@ -17,8 +16,8 @@ use Rattle.ceal_code.specs.Running.{Steps, Reaches}
 use Rattle.ceal_code.specs.Step.{Stack, Act, Over, Quiet, Makes, Writes, Reads, started, next}
 use Rattle.ceal_code.specs.Valid.{valid}
 use Rattle.ceal_engine.proofs.Longer.{length-with}
-use Rattle.ceal_engine.proofs.Numbered.{numbers, numbered-same, numbered-only, stored-made}
-use Rattle.ceal_engine.specs.Engine.{EngineState, IsRun, IsPresent, IsEngine, core, at_number, fresh_call}
+use Rattle.ceal_engine.proofs.Numbered.{numbers, numbered-same, numbered-only}
+use Rattle.ceal_engine.specs.Engine.{IsPresent, IsEngine, at_number}
 use Rattle.ceal_engine.specs.Keeping.{with_later, state_of, Sound}
 use Rattle.ceal_engine.specs.declared.call.Call.{Call}
 use Rattle.ceal_engine.specs.declared.phase.Phase.{Phase}

@@ -2,14 +2,13 @@
 use Rattle.std.proofs.Common.{◌≡◌, ℕ, true, false, Option, Some, None, List, [], ◌∷◌, ◌++◌, reverse, refl, sym, ap, ◌∙◌, arith}
 use Rattle.std.proofs.lemmas.List.{reverse-append}
 use Rattle.ceal_base.specs.Block.{Blocks}
-use Rattle.ceal_base.specs.declared.word.Word.{Word}
 use Rattle.ceal_code.specs.Init.{arguments}
 use Rattle.ceal_code.specs.Program.{Code}
-use Rattle.ceal_code.specs.Step.{Stack, Empty, Run, Act, Over, command_at, landed, settled_at, settled, acted, act, next}
+use Rattle.ceal_code.specs.Step.{Stack, Empty, Run, Over, command_at, landed, settled_at, settled, acted, act, next}
 use Rattle.ceal_code.specs.Value.{Plain, Variables}
 use Rattle.ceal_code.specs.declared.command.Cmd.{Cmd}
 use Rattle.ceal_code.specs.declared.command.Cmd.TheVariants.{Move, Tick, Alloc, Modref, Write, If, Done, Tail, Read, Call}
-use Rattle.ceal_engine.specs.Frames.{Frame, State, framed, stacked, on_top, after_act, done_by, is_step}
+use Rattle.ceal_engine.specs.Frames.{Frame, framed, stacked, on_top, after_act, done_by, is_step}
 use Rattle.ceal_engine.specs.Seen.{seen}
 
 pub reverse-push : (fs : List Frame) (f : Frame) → reverse (fs ++ f ∷ []) ≡ f ∷ reverse fs

@@ -1,7 +1,7 @@
 -- The value of an expression, at each form, and of expressions one by one.
-use Rattle.std.proofs.Common.{◌≡◌, Option, ℕ, ℤ, ◌+◌, ◌<◌, List, [], ◌∷◌, ◌++◌, length, take, get_or, refl, ap, slice_get, unwrap_or}
+use Rattle.std.proofs.Common.{◌≡◌, ℕ, ℤ, ◌+◌, ◌<◌, List, [], ◌∷◌, ◌++◌, length, take, get_or, refl, ap, slice_get, unwrap_or}
 use Rattle.std.proofs.lemmas.List.{take_more}
-use Rattle.ceal_base.specs.Block.{Block, Blocks, block_at}
+use Rattle.ceal_base.specs.Block.{Blocks, block_at}
 use Rattle.ceal_base.specs.Operators.{unary_value, binary_value}
 use Rattle.ceal_base.specs.declared.operators.Binary.{Binary as BinaryOp}
 use Rattle.ceal_base.specs.declared.operators.Unary.{Unary as UnaryOp}

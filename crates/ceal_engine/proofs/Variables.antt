@@ -1,12 +1,12 @@
 -- The words of variables, by number, and those of parameters.
-use Rattle.std.proofs.Common.{◌≡◌, ℕ, zero, suc, ◌+◌, ◌-◌, ◌<◌, ◌≤◌, ◌==◌, Bool, true, false, List, [], ◌∷◌, ◌++◌, length, take, drop, get_or, replicate, refl, sym, ap, ◌∙◌, slice_get, slice_set, unwrap_or, if◌then◌else◌, append_assoc, append-nil, arith}
+use Rattle.std.proofs.Common.{◌≡◌, ℕ, zero, suc, ◌+◌, ◌<◌, ◌≤◌, ◌==◌, false, List, [], ◌∷◌, ◌++◌, length, take, drop, get_or, replicate, refl, sym, ap, ◌∙◌, slice_get, slice_set, unwrap_or, if◌then◌else◌, append_assoc, append-nil, arith}
 use Rattle.std.proofs.Math.Path.{fun_ext}
 use Rattle.std.proofs.lemmas.List.{take_more, drop_all}
 use Rattle.ceal_base.specs.declared.word.Word.{Word}
 use Rattle.ceal_base.specs.declared.word.Word.TheVariants.{Null}
 use Rattle.ceal_code.specs.Init.{arguments}
-use Rattle.ceal_code.specs.Step.{bound, chosen, first_word, later_words, woven}
-use Rattle.ceal_code.specs.Value.{Variables, unset, set}
+use Rattle.ceal_code.specs.Step.{bound, chosen, woven}
+use Rattle.ceal_code.specs.Value.{unset, set}
 use Rattle.ceal_code.specs.declared.expr.VarId.{VarId}
 
 -- nulls at the end are as none

@@ -1,8 +1,8 @@
 -- What an engine has, and when it is the run from scratch on the present inputs.
-use Rattle.std.specs.Prelude.{◌≡◌, ℕ, ◌<◌, ◌^◌, ◌&&◌, Bool, true, false, Option, Some, None, IfSome, IsSome, Result, Ok, Err, List, [], length, slice_get, is_some, ⊤}
+use Rattle.std.specs.Prelude.{◌≡◌, ℕ, ◌<◌, ◌&&◌, Bool, true, false, Option, Some, None, IfSome, IsSome, Result, Ok, Err, List, [], length, slice_get, ⊤}
 use Rattle.ceal_base.specs.Block.{Block, Blocks, written_at}
 use Rattle.ceal_base.specs.Finished.{Finished}
-use Rattle.ceal_base.specs.Fitting.{kind_in, kind_at, fits_field, block_fits, memory_fits, inputs_fit}
+use Rattle.ceal_base.specs.Fitting.{kind_at, fits_field, memory_fits, inputs_fit}
 use Rattle.ceal_base.specs.Same.{Same, index_of}
 use Rattle.ceal_base.specs.declared.kind.FieldKind.{FieldKind}
 use Rattle.ceal_base.specs.declared.kind.FieldKind.TheVariants.{Plain}

@@ -2,11 +2,10 @@
 
 ghost use Rattle.std.specs.Prelude.{◌≡◌, ◌∷◌, [], slice_get, IfOk};
 ghost use Rattle.ceal_base.specs.declared.kind.Kind.TheVariants.{ModInt};
+ghost use Rattle.ceal_base.specs.declared.word.BlockId.TheVariants.{Input};
 ghost use Rattle.ceal_engine.specs.Sample.{kinds_asked};
 
 use crate::engine::Engine;
-use crate::phase::Phase;
-use crate::run_error::RunError;
 use ceal_base::boxed::Boxed;
 use ceal_base::forest::UnitId;
 use ceal_base::items::Items;
@@ -25,7 +24,9 @@ use std::alloc::Global;
 use std::test::Fail;
 
 /// The place of the modifiable that is an input.
-fn place(n: u32) -> Place {
+fn place(n: u32) -> Place
+    ensures { result ≡ record { block = Input n; field = 0 } }
+{
     Place {
         block: BlockId::Input(n),
         field: 0,

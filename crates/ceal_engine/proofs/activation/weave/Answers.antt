@@ -1,4 +1,4 @@
-use Rattle.std.proofs.Common.{◌<◌, ◌∙◌, ◌++◌, [], ◌∷◌, length, arith}
+use Rattle.std.proofs.Common.{◌<◌, ◌∙◌, length, arith}
 use Rattle.ceal_engine.proofs.Variables.{woven-step, woven-end}
 use Rattle.ceal_engine.proofs.activation.weave.Goals as goal
 

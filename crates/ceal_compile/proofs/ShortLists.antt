@@ -1,0 +1,133 @@
+-- A program within the limits has short lists of fields and of parameters.
+use Rattle.std.proofs.Common.{◌≡◌, ◌≤◌, ℕ, suc, ◌+◌, List, [], ◌∷◌, length, All, refl}
+use Rattle.ceal_base.specs.declared.syntax.Tree.{Tree}
+use Rattle.ceal_base.specs.declared.syntax.Entry.{Entry}
+use Rattle.ceal_base.specs.declared.fault.Span.{Span}
+use Rattle.ceal_lex.specs.declared.token.Token.{Token}
+use Rattle.ceal_parse.specs.Faults.{AllWithin, Accepts}
+use Rattle.ceal_parse.specs.Grammar.{Phrase, number, null, variable, own, parens, arrow, prefix, address, binary, Written, int, pointer, mod_int, mod_pointer, cell_int, cell_pointer, Arguments, no_arguments, arguments, Given, plainly, reading, allocation, modref_int, modref, Statement, declare, assign, set, store, call, branch, loop, exit, Branch, when, Otherwise, nothing, otherwise, chained, Block, block, Statements, ended, followed, Parameter, Parameters, no_parameters, parameters, Signature, core, init, Member, Part, structure, function, Program}
+use Rattle.ceal_parse.specs.Spelled.{Mark, spelled, spelled_type, spelled_more, spelled_arguments, spelled_given, spelled_statement, spelled_branch, spelled_otherwise, spelled_block, spelled_statements, spelled_parameter, spelled_others, spelled_parameters, spelled_signature, spelled_members, spelled_part, spelled_parts, spelled_program}
+use Rattle.ceal_parse.specs.Trees.{member_trees, other_trees, parameter_trees, part_trees}
+use Rattle.ceal_types.specs.Limits.{IsShort, HasShortLists}
+
+-- what stands behind a phrase is within the limits too
+after_phrase : (d i n : ℕ) (a : Phrase) (rest : List Mark) → AllWithin (spelled d i n a rest) → AllWithin rest
+after_phrase d i n (number v s) rest h = h.1
+after_phrase d i n (null s) rest h = h.1
+after_phrase d i n (variable x) rest h = h.1
+after_phrase d i n (own s) rest h = h.1
+after_phrase d i n (parens l a r) rest h = (after_phrase (suc d) 0 n a _ h.1).1
+after_phrase d i n (arrow a s x) rest h = (after_phrase d i n a _ h).1.1
+after_phrase d i n (prefix op s a) rest h = after_phrase d 0 (suc n) a rest h.1
+after_phrase d i n (address s a) rest h = after_phrase d 0 (suc n) a rest h.1
+after_phrase d i n (binary op a s b) rest h = after_phrase d 0 _ b rest (after_phrase d i n a _ h).1
+
+after_type : (d i : ℕ) (w : Written) (rest : List Mark) → AllWithin (spelled_type d i w rest) → AllWithin rest
+after_type d i (int s) rest h = h.1
+after_type d i (pointer s x t) rest h = h.1.1.1
+after_type d i (mod_int s k t) rest h = h.1.1.1
+after_type d i (mod_pointer s k x t) rest h = h.1.1.1.1
+after_type d i (cell_int s k) rest h = h.1.1
+after_type d i (cell_pointer s k x) rest h = h.1.1.1
+
+-- its first token begins the item of this number
+type_item : (d i : ℕ) (w : Written) (rest : List Mark) → AllWithin (spelled_type d i w rest) → i ≤ 255
+type_item d i (int s) rest h = h.0.item
+type_item d i (pointer s x t) rest h = h.0.item
+type_item d i (mod_int s k t) rest h = h.0.item
+type_item d i (mod_pointer s k x t) rest h = h.0.item
+type_item d i (cell_int s k) rest h = h.0.item
+type_item d i (cell_pointer s k x) rest h = h.0.item
+
+after_more : (d i : ℕ) (more : List (Span × Phrase)) (rest : List Mark) → AllWithin (spelled_more d i more rest) → AllWithin rest
+after_more d i [] rest h = h
+after_more d i (a ∷ more) rest h = after_more d (suc i) more rest (after_phrase d i 0 a.1 _ h.1)
+
+after_arguments : (d : ℕ) (args : Arguments) (rest : List Mark) → AllWithin (spelled_arguments d args rest) → AllWithin rest
+after_arguments d no_arguments rest h = h
+after_arguments d (arguments e more) rest h = after_more d 2 more rest (after_phrase d 1 0 e _ h)
+
+after_given : (d : ℕ) (g : Given) (rest : List Mark) → AllWithin (spelled_given d g rest) → AllWithin rest
+after_given d (plainly e) rest h = after_phrase d 0 0 e rest h
+after_given d (reading s l e r) rest h = (after_phrase (suc d) 0 0 e _ h.1.1).1
+after_given d (allocation s y x l args r) rest h = (after_arguments (suc d) args _ h.1.1.1.1).1
+after_given d (modref_int s k l r) rest h = h.1.1.1.1
+after_given d (modref s y l r) rest h = h.1.1.1.1
+
+mutual
+  after_statement : (d : ℕ) (s : Statement) (rest : List Mark) → AllWithin (spelled_statement d s rest) → AllWithin rest
+  after_statement d (declare w x q g semi) rest h = (after_given d g _ (after_type d 0 w _ h).1.1).1
+  after_statement d (assign x q g semi) rest h = (after_given d g _ h.1.1).1
+  after_statement d (set p s x q e semi) rest h = (after_phrase d 0 0 e _ (after_phrase d 0 0 p _ h).1.1.1).1
+  after_statement d (store s l a c e r semi) rest h = (after_phrase (suc d) 0 0 e _ (after_phrase (suc d) 0 0 a _ h.1.1).1).1.1
+  after_statement d (call x l args r semi) rest h = (after_arguments (suc d) args _ h.1.1).1.1
+  after_statement d (branch b) rest h = after_branch d b rest h
+  after_statement d (loop s l e r b) rest h = after_block d b rest (after_phrase (suc d) 0 0 e _ h.1.1).1
+  after_statement d (exit s semi) rest h = h.1.1
+
+  after_branch : (d : ℕ) (b : Branch) (rest : List Mark) → AllWithin (spelled_branch d b rest) → AllWithin rest
+  after_branch d (when s l e r b other) rest h =
+      after_otherwise d other rest (after_block d b _ (after_phrase (suc d) 0 0 e _ h.1.1).1)
+
+  after_otherwise : (d : ℕ) (o : Otherwise) (rest : List Mark) → AllWithin (spelled_otherwise d o rest) → AllWithin rest
+  after_otherwise d nothing rest h = h
+  after_otherwise d (otherwise s b) rest h = after_block d b rest h.1
+  after_otherwise d (chained s b) rest h = after_branch (suc d) b rest h.1
+
+  after_block : (d : ℕ) (b : Block) (rest : List Mark) → AllWithin (spelled_block d b rest) → AllWithin rest
+  after_block d (block l ss r) rest h = (after_statements (suc d) ss _ h.1).1
+
+  after_statements : (d : ℕ) (ss : Statements) (rest : List Mark) → AllWithin (spelled_statements d ss rest) → AllWithin rest
+  after_statements d ended rest h = h
+  after_statements d (followed s ss) rest h = after_statements d ss rest (after_statement d s _ h)
+
+-- fields are items, from the number i on
+members_short : (i : ℕ) (ms : List Member) (rest : List Mark) → i ≤ 256 → AllWithin (spelled_members i ms rest) → i + length (member_trees ms) ≤ 256
+members_short i [] rest few h = omega (arith, few)
+members_short i (m ∷ ms) rest few h =
+    let item = type_item 1 i m.type _ h in
+    let more = members_short (suc i) ms rest (omega (arith, item)) (after_type 1 i m.type _ h).1.1 in omega (arith, more)
+
+after_members : (i : ℕ) (ms : List Member) (rest : List Mark) → AllWithin (spelled_members i ms rest) → AllWithin rest
+after_members i [] rest h = h
+after_members i (m ∷ ms) rest h = after_members (suc i) ms rest (after_type 1 i m.type _ h).1.1
+
+-- so are parameters
+others_short : (i : ℕ) (more : List (Span × Parameter)) (rest : List Mark) → i ≤ 256 → AllWithin (spelled_others i more rest) → i + length (other_trees more) ≤ 256
+others_short i [] rest few h = omega (arith, few)
+others_short i (p ∷ more) rest few h =
+    let item = type_item 1 i p.1.type _ h.1 in
+    let others = others_short (suc i) more rest (omega (arith, item)) (after_type 1 i p.1.type _ h.1).1 in omega (arith, others)
+
+after_others : (i : ℕ) (more : List (Span × Parameter)) (rest : List Mark) → AllWithin (spelled_others i more rest) → AllWithin rest
+after_others i [] rest h = h
+after_others i (p ∷ more) rest h = after_others (suc i) more rest (after_type 1 i p.1.type _ h.1).1
+
+parameters_short : (ps : Parameters) (rest : List Mark) → AllWithin (spelled_parameters ps rest) → length (parameter_trees ps) ≤ 255
+parameters_short no_parameters rest h = omega arith
+parameters_short (parameters p more) rest h =
+    let others = others_short 2 more rest (omega arith) (after_type 1 1 p.type _ h).1 in omega (arith, others)
+
+after_parameters : (ps : Parameters) (rest : List Mark) → AllWithin (spelled_parameters ps rest) → AllWithin rest
+after_parameters no_parameters rest h = h
+after_parameters (parameters p more) rest h = after_others 2 more rest (after_type 1 1 p.type _ h).1
+
+after_signature : (s : Signature) (rest : List Mark) → AllWithin (spelled_signature s rest) → AllWithin rest
+after_signature (core s x l ps r) rest h = (after_parameters ps _ h.1.1.1).1
+after_signature (init s x l k y t o more r) rest h = (after_others 1 more _ h.1.1.1.1.1.1.1).1
+
+after_part : (p : Part) (rest : List Mark) → AllWithin (spelled_part p rest) → AllWithin rest
+after_part (structure s x l ms r semi) rest h = (after_members 1 ms _ h.1.1.1).1.1
+after_part (function head b) rest h = after_block 0 b rest (after_signature head _ h)
+
+part_short : (p : Part) (rest : List Mark) → AllWithin (spelled_part p rest) → All IsShort (part_trees (p ∷ []))
+part_short (structure s x l ms r semi) rest h = (let few = members_short 1 ms _ (omega arith) h.1.1.1 in omega (arith, few)) , tt
+part_short (function (core s x l ps r) b) rest h = parameters_short ps _ h.1.1.1 , tt
+part_short (function (init s x l k y t o more r) b) rest h = (let few = others_short 1 more _ (omega arith) h.1.1.1.1.1.1.1 in omega (arith, few)) , tt
+
+parts_short : (ps : List Part) (rest : List Mark) → AllWithin (spelled_parts ps rest) → All IsShort (part_trees ps)
+parts_short [] rest h = tt
+parts_short (p ∷ ps) rest h = (part_short p _ h).0 , parts_short ps rest (after_part p _ h)
+
+pub short_lists : (ts : List Token) (tree : Tree) → Accepts ts tree → HasShortLists tree
+short_lists ts tree a = rw (← a.same) (parts_short a.program.parts _ a.within)

@@ -1,0 +1,8 @@
+use Rattle.ceal_compile.proofs.Answering.{tree_only, tree_fault}
+use Rattle.ceal_compile.proofs.compile.read_tokens.Goals as goal
+
+pub returns-in-Ok-clause-only : goal.returns-in-Ok-clause-only
+returns-in-Ok-clause-only c = tree_only c.args.tokens.now c.in-Ok.tree c.settle.result c.in-Ok.ensures.all c.in-Ok.ensures.only c.settle.ensures
+
+pub returns-in-Err-clause-only : goal.returns-in-Err-clause-only
+returns-in-Err-clause-only c = tree_fault c.args.tokens.now c.in-Err.error c.in-Err.ensures.all c.in-Err.ensures.only

@@ -1,0 +1,39 @@
+-- What the phases behind the grammar make of a tree, and what all make of tokens.
+use Rattle.std.specs.Prelude.{◌≡◌, ◌⊎◌, Result, Ok, Err, List}
+use Rattle.ceal_base.specs.declared.fault.Fault.{Fault}
+use Rattle.ceal_base.specs.declared.syntax.Tree.{Tree}
+use Rattle.ceal_base.specs.declared.typed.Typed.{Typed}
+use Rattle.ceal_flow.specs.Lowering.{lowered}
+use Rattle.ceal_lex.specs.declared.token.Token.{Token}
+use Rattle.ceal_parse.specs.Faults.{Accepts, IsFirstFault}
+use Rattle.ceal_types.specs.Checked.{checked}
+use Rattle.ceal_usage.specs.Faults.{usage_faults}
+use Rattle.ceal_usage.specs.Verdict.{verdict}
+
+-- the program where its graph has no more blocks than are allowed, and else the first place past the limit
+abbrev pub counted : Typed → Result Typed Fault
+counted p = elim (lowered p) [ Ok g ↦ Ok p | Err f ↦ Err f ]
+
+-- the program where it keeps the rules of usage as well, and else the first place where it breaks one
+abbrev pub ruled : Typed → Result Typed Fault
+ruled p = elim (verdict (usage_faults p)) [ Ok u ↦ counted p | Err f ↦ Err f ]
+
+-- names and types first, then the rules of usage, then the limit
+abbrev pub settled : Tree → Result Typed Fault
+settled tree = elim (checked tree) [ Ok p ↦ ruled p | Err f ↦ Err f ]
+
+-- The tokens have this first fault of the grammar.
+pub record IsMisplaced (ts : List Token) (r : Result Typed Fault) : Type 0 where
+  pub fault : Fault
+  pub stands : IsFirstFault ts fault
+  pub same : r ≡ Err fault
+
+-- The tokens are those of a tree, and it comes to this.
+pub record IsParsed (ts : List Token) (r : Result Typed Fault) : Type 0 where
+  pub tree : Tree
+  pub accepted : Accepts ts tree
+  pub same : r ≡ settled tree
+
+-- what tokens come to: a program, or their first fault
+abbrev pub TokensCome : List Token → Result Typed Fault → Type 0
+TokensCome ts r = IsMisplaced ts r ⊎ IsParsed ts r
