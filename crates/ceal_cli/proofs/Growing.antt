@@ -4,7 +4,7 @@ use Rattle.std.specs.Io.KnownBytes.{Appends}
 use Rattle.std.proofs.KnownBytes.{Appends-trans, Appends-nil}
 use Rattle.ceal_io.specs.Streams.{GrowsByPrefix}
 use Rattle.ceal_session.specs.Replies.{Answers, AreReplies}
-use Rattle.ceal_session.specs.declared.state.State.{State}
+use Rattle.ceal_session.specs.State.{State}
 use Rattle.ceal_cli.specs.Growth.{Grows, WritesReply, WritesPart, BeginsReply, WritesReplies, BeginsToReply}
 use Rattle.ceal_cli.specs.Output.{IsPrefix, BeginReplies}
 

@@ -12,7 +12,7 @@ use Rattle.ceal_lex.specs.Parts.{IsSplit}
 use Rattle.ceal_lex.specs.declared.parts.Split.{Split}
 use Rattle.ceal_norm.specs.Laws.{IsCodeOf}
 use Rattle.ceal_session.specs.Runs.{begun}
-use Rattle.ceal_session.specs.declared.state.State.{State}
+use Rattle.ceal_session.specs.State.{State}
 use Rattle.ceal_cli.specs.Growth.{Grows, WritesOutput, WritesPrefix, WritesReplies, BeginsToReply}
 use Rattle.ceal_cli.specs.Lines.{script_of, script_lines}
 use Rattle.ceal_cli.specs.Output.{IsPrefix, IsListing, Programmed, accepted_text}

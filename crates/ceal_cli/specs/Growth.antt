@@ -2,7 +2,7 @@
 use Rattle.std.specs.Prelude.{◌≡◌, ◌⊎◌, List, [], ℕ, Option}
 use Rattle.std.specs.Io.KnownBytes.{Appends}
 use Rattle.ceal_session.specs.Replies.{Answers, AreReplies}
-use Rattle.ceal_session.specs.declared.state.State.{State}
+use Rattle.ceal_session.specs.State.{State}
 use Rattle.ceal_cli.specs.Output.{IsPrefix, IsOutput, BeginsOutput, BeginReplies}
 use Rattle.ceal_cli.specs.declared.words.Mode.{Mode}
 

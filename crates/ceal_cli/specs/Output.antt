@@ -11,7 +11,7 @@ use Rattle.ceal_lex.specs.declared.parts.Split.{Split}
 use Rattle.ceal_norm.specs.Laws.{IsCodeOf}
 use Rattle.ceal_session.specs.Replies.{Answers, AreReplies}
 use Rattle.ceal_session.specs.Runs.{begun}
-use Rattle.ceal_session.specs.declared.state.State.{State}
+use Rattle.ceal_session.specs.State.{State}
 use Rattle.ceal_cli.specs.Lines.{script_of, script_lines}
 use Rattle.ceal_cli.specs.declared.words.Mode.{Mode}
 use Rattle.ceal_cli.specs.declared.words.Mode.TheVariants.{Check, List as Listing, Run}

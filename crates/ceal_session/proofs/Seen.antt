@@ -90,7 +90,7 @@ module _ (e : EngineState) (k : IsEngine e) (law : Progress_law) (fin : e.phase 
         there = g.1;
         shape = shape;
         plain = λ f h. plain-back e.code.structs e.inputs is.numbers (kinds_of_shape e.code.structs g.0.shape) g.0.words block.words f
-        (input-fits e.code.structs e.inputs k.inputs n g.0 g.1) (sym (ap (λ b. slice_get b.words f) same) ∙ l.plain f h);
+            (input-fits e.code.structs e.inputs k.inputs n g.0 g.1) (sym (ap (λ b. slice_get b.words f) same) ∙ l.plain f h);
       }
 
   pub shown-as : (b : BlockId) (block : Block) → stored_at e.memory b ≡ Some block → Shown_as e.code.structs block (block_in e b)

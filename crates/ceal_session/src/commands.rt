@@ -52,11 +52,7 @@ fn make_block(
 }
 
 /// `set`
-fn edit(
-    state: &mut State,
-    place: &PlaceWord,
-    value: &ValueWord,
-) -> Result<Reply, NoMemory>
+fn edit(state: &mut State, place: &PlaceWord, value: &ValueWord) -> Result<Reply, NoMemory>
     ensures ok { IfOk result (λ reply. record { reply = reply; state = state.new } ≡ set_of state.old (sense_of_place state.old place.now) (sense_of_value state.old value.now)) }
     ensures quiet { IfOk result (λ reply. IsQuiet reply → state.new ≡ state.old) }
     ensures err { OnErr result (state.new ≡ state.old) }
@@ -108,29 +104,21 @@ fn start_again(state: &mut State) -> Result<Reply, NoMemory>
 }
 
 /// The reply to a command. Where there is no memory, the state is as before, or as after a run that was out of fuel.
-pub fn reply_to(
-    alloc: Global,
-    state: &mut State,
-    command: &Command,
-) -> Result<Reply, NoMemory>
+pub fn reply_to(alloc: Global, state: &mut State, command: &Command) -> Result<Reply, NoMemory>
     ensures ok { IfOk result (λ reply. record { reply = reply; state = state.new } ≡ answered state.old command.now) }
     ensures quiet { IfOk result (λ reply. IsQuiet reply → state.new ≡ state.old) }
     ensures err { OnErr result (IsLeftBy state.old (call_of state.old command.now) state.new) }
 {
     match command {
         Command::Blank => Ok(Reply::Nothing),
-        Command::Mod { name, kind, value } => {
-            make_modifiable(alloc, state, name, kind, value)
-        }
+        Command::Mod { name, kind, value } => { make_modifiable(alloc, state, name, kind, value) }
         Command::New {
             name,
             shape,
             values,
         } => make_block(alloc, state, name, shape, values.items()),
         Command::Set { place, value } => edit(state, place, value),
-        Command::Run { function, args } => {
-            start_first(alloc, state, function, args.items())
-        }
+        Command::Run { function, args } => { start_first(alloc, state, function, args.items()) }
         Command::Propagate => start_again(state),
         Command::Get { place } => Ok(get(state, place_sense(state, place)?)),
         Command::Show { name } => Ok(show(state, state.input(name))),

@@ -58,12 +58,7 @@ fn prepare(alloc: Global) -> Result<Ready, NoMemory>
 }
 
 /// The text of a reply.
-fn text(
-    alloc: Global,
-    state: &State,
-    reply: Reply,
-    ready: Ready,
-) -> Result<Text, NoMemory>
+fn text(alloc: Global, state: &State, reply: Reply, ready: Ready) -> Result<Text, NoMemory>
     requires asked { CanTell state.now reply }
     requires done { ready.done ≡ codes "ok\n" }
     requires out_of_fuel { ready.out_of_fuel ≡ codes "out of fuel\n" }
@@ -80,11 +75,7 @@ fn text(
 }
 
 /// The answer to a command.
-fn answer_command(
-    alloc: Global,
-    state: &mut State,
-    command: &Command,
-) -> Result<Text, NoMemory>
+fn answer_command(alloc: Global, state: &mut State, command: &Command) -> Result<Text, NoMemory>
     ensures reply { IfOk result (λ text. IsText state.old (answered state.old command.now).reply text) }
     ensures state { OnOk result (state.new ≡ (answered state.old command.now).state) }
     ensures err { OnErr result (IsLeftBy state.old (call_of state.old command.now) state.new) }
@@ -96,11 +87,7 @@ fn answer_command(
 }
 
 /// The answer to a line.
-fn answer_line(
-    alloc: Global,
-    state: &mut State,
-    line: &[u8],
-) -> Result<Text, NoMemory>
+fn answer_line(alloc: Global, state: &mut State, line: &[u8]) -> Result<Text, NoMemory>
     ensures reply { IfOk result (λ text. Answers state.old line.now text state.new) }
     ensures left { OnErr result (IsLeft state.old line.now state.new) }
 {

@@ -23,12 +23,7 @@ use ceal_engine::call::Call;
 use std::alloc::Global;
 
 /// An input of these words, where they fit.
-fn make_if(
-    state: &mut State,
-    name: &Text,
-    shape: Shape,
-    words: &[Word],
-) -> Result<Reply, NoMemory>
+fn make_if(state: &mut State, name: &Text, shape: Shape, words: &[Word]) -> Result<Reply, NoMemory>
     requires { list_any (bytes_eq name.now) state.old.names ≡ false }
     ensures ok { IfOk result (λ reply. record { reply = reply; state = state.new } ≡ made_with state.old name.now shape (Some words.now)) }
     ensures quiet { IfOk result (λ reply. IsQuiet reply → state.new ≡ state.old) }
@@ -141,12 +136,7 @@ fn fits_call(state: &State, function: &TypedFunction, words: &[Word]) -> bool
     }
     let kinds = function.kinds.items();
     let count = (function.params as usize).min(kinds.len());
-    words_fit(
-        state.structs(),
-        state.inputs(),
-        &kinds[..count],
-        words,
-    )
+    words_fit(state.structs(), state.inputs(), &kinds[..count], words)
 }
 
 fn call_with(
