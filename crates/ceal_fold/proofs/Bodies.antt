@@ -60,6 +60,20 @@ module _ (structs : List StructInfo) where
   facts-root [] = refl
   facts-root (c ∷ cs) = refl
 
+  pub facts-here : (at : ℕ → Copies) (n : ℕ) (c : Cmd) (cs : List Cmd) (i : ℕ) → i ≡ n → facts at n (c ∷ cs) i ≡ at n
+  unfolding facts
+  facts-here at n c cs i e =
+      let r : (i == n) ≡ true = subst (λ n. (i == n) ≡ true) e (is-first i) in
+      ap (λ b. if b then at n else facts (handed at n (folded_command structs (at n) c)) (n + 1) cs i) r
+
+  pub facts-later : (at : ℕ → Copies) (n : ℕ) (c : Cmd) (cs : List Cmd) (i : ℕ) → (i == n) ≡ false → facts at n (c ∷ cs) i ≡ facts (handed at n (folded_command structs (at n) c)) (n + 1) cs i
+  unfolding facts
+  facts-later at n c cs i r = ap (λ b. if b then at n else facts (handed at n (folded_command structs (at n) c)) (n + 1) cs i) r
+
+  handed-among : (at : ℕ → Copies) (i : ℕ) (c : Cmd) (j : ℕ) → is_among j (followers c i) ≡ true → handed at i c j ≡ copies_after (at i) c
+  unfolding handed
+  handed-among at i c j m = ap (λ b. if b then copies_after (at i) c else at j) m
+
   -- where no command leads there, it is as before
   facts-absent : (at : ℕ → Copies) (n : ℕ) (cs : List Cmd) (j : ℕ) → is_among j (all_followers cs n) ≡ false → facts at n cs j ≡ at j
   unfolding facts all_followers handed
@@ -74,21 +88,26 @@ module _ (structs : List StructInfo) where
       go false e g = g
 
   module _ (c : Cmd) (after : List Cmd) where
+    facts-first : (at : ℕ → Copies) (i j : ℕ) → i < j → is_among j (followers c i) ≡ true → is_among j (all_followers after (i + 1)) ≡ false
+        → facts at i (c ∷ after) j ≡ copies_after (facts at i (c ∷ after) i) (folded_command structs (facts at i (c ∷ after) i) c)
+    facts-first at i j lo m a =
+        let d = folded_command structs (at i) c in
+        let m' : is_among j (followers d i) ≡ true = ap (is_among j) (folded-followers (at i) c i) ∙ m in
+        facts-later at i c after j (not-first i j lo) ∙ facts-absent (handed at i d) (i + 1) after j a ∙ handed-among at i d j m'
+        ∙ ap (λ k. copies_after k (folded_command structs k c)) (sym (facts-here at i c after i refl))
+
     -- the command at an index, and what is known at those that follow it
     pub facts-follow : (at : ℕ → Copies) (n : ℕ) (before : List Cmd) (i : ℕ) → i ≡ n + length before
         → (j : ℕ) → i < j → is_among j (followers c i) ≡ true → is_among j (all_followers after (i + 1)) ≡ false
         → facts at n (before ++ c ∷ after) j ≡ copies_after (facts at n (before ++ c ∷ after) i) (folded_command structs (facts at n (before ++ c ∷ after) i) c)
-    unfolding facts handed
     facts-follow at n [] i e j lo m a =
-        let z : n ≡ i = omega (arith, e) in
-        let q : (j == i) ≡ false = not-first i j lo in
-        let r : (i == i) ≡ true = is-first i in
-        rw (z, q, r) (facts-absent (handed at i (folded_command structs (at i) c)) (i + 1) after j a ∙ rw (folded-followers (at i) c i, m) refl)
+        let z : i ≡ n = omega (arith, e) in
+        subst (λ n. facts at n (c ∷ after) j ≡ copies_after (facts at n (c ∷ after) i) (folded_command structs (facts at n (c ∷ after) i) c)) z (facts-first at i j lo m a)
     facts-follow at n (d ∷ before) i e j lo m a =
         let s : n < i = omega (arith, e) in
-        let q : (j == n) ≡ false = not-first n j (omega (arith, s, lo)) in
-        let r : (i == n) ≡ false = not-first n i s in
-        rw (q, r) (facts-follow (handed at n (folded_command structs (at n) d)) (n + 1) before i (omega (arith, e)) j lo m a)
+        facts-later at n d (before ++ c ∷ after) j (not-first n j (omega (arith, s, lo)))
+        ∙ facts-follow (handed at n (folded_command structs (at n) d)) (n + 1) before i (omega (arith, e)) j lo m a
+        ∙ ap (λ k. copies_after k (folded_command structs k c)) (sym (facts-later at n d (before ++ c ∷ after) i (not-first n i s)))
 
     pub record Replaced_around (at : ℕ → Copies) (n : ℕ) (before : List Cmd) (i : ℕ) : Type 0 where
       pub before' : List Cmd
@@ -158,22 +177,23 @@ ticked-around c after n (d ∷ before) i e =
     }
 
 -- what is used from an index on, where it stands behind others
-used-behind : (n : ℕ) (before rest : List Cmd) (j u : ℕ) → n + length before ≤ j → used n (before ++ rest) j u ≡ used (n + length before) rest j u
+used-first : (n : ℕ) (c : Cmd) (cs : List Cmd) (u : ℕ) → used n (c ∷ cs) n u ≡ used_by (used (n + 1) cs) c n u
 unfolding used
-used-behind n [] rest j u h = let e : n + 0 ≡ n = omega arith in rw e refl
-used-behind n (d ∷ before) rest j u h =
-    let q : (j == n) ≡ false = not-first n j (omega (arith, h)) in
-    let e : n + length (d ∷ before) ≡ (n + 1) + length before = omega arith in
-    rw (q, e) (used-behind (n + 1) before rest j u (omega (arith, h)))
+used-first n c cs u = ap (λ b. if b then used_by (used (n + 1) cs) c n u else used (n + 1) cs n u) (is-first n)
+
+used-more : (n : ℕ) (c : Cmd) (cs : List Cmd) (j u : ℕ) → (j == n) ≡ false → used n (c ∷ cs) j u ≡ used (n + 1) cs j u
+unfolding used
+used-more n c cs j u e = ap (λ b. if b then used_by (used (n + 1) cs) c n u else used (n + 1) cs j u) e
+
+used-behind : (n : ℕ) (before rest : List Cmd) (m j u : ℕ) → m ≡ n + length before → m ≤ j → used n (before ++ rest) j u ≡ used m rest j u
+used-behind n [] rest m j u e h = let z : n ≡ m = omega (arith, e) in ap (λ n. used n rest j u) z
+used-behind n (d ∷ before) rest m j u e h =
+    let s : n < m = omega (arith, e) in
+    used-more n d (before ++ rest) j u (not-first n j (omega (arith, s, h))) ∙ used-behind (n + 1) before rest m j u (omega (arith, e)) h
 
 pub used-later : (before : List Cmd) (c : Cmd) (after : List Cmd) (j u : ℕ) → length before < j → used 0 (before ++ c ∷ after) j u ≡ used (length before + 1) after j u
-unfolding used
 used-later before c after j u h =
-    let q : (j == length before) ≡ false = not-first (length before) j h in
-    used-behind 0 before (c ∷ after) j u (omega (arith, h)) ∙ rw q refl
+    used-behind 0 before (c ∷ after) (length before) j u (omega arith) (omega (arith, h)) ∙ used-more (length before) c after j u (not-first (length before) j h)
 
 pub used-here : (before : List Cmd) (c : Cmd) (after : List Cmd) (u : ℕ) → used 0 (before ++ c ∷ after) (length before) u ≡ used_by (used (length before + 1) after) c (length before) u
-unfolding used
-used-here before c after u =
-    let q : (length before == length before) ≡ true = is-first (length before) in
-    used-behind 0 before (c ∷ after) (length before) u (omega arith) ∙ rw q refl
+used-here before c after u = used-behind 0 before (c ∷ after) (length before) (length before) u (omega arith) (omega arith) ∙ used-first (length before) c after u

@@ -130,6 +130,16 @@ flag-join xs ys zs i u h k = flag-set xs i (flag_at xs i || flag_at ys i) u h �
             lt-case true f false g = absurd (grind (arith, f, g))
             lt-case false f true g = absurd (grind (arith, e, f, g))
 
+pub flag-joined : (xs ys zs : List Bool) (i u : ℕ) → length ys ≤ i → ((v : ℕ) → flag_at xs v ≡ (flag_at zs v || (nat_lt v i && flag_at ys v))) → flag_at xs u ≡ (flag_at zs u || flag_at ys u)
+flag-joined xs ys zs i u h k = k u ∙ go (nat_lt u i) refl
+  where
+    go : (b : Bool) → nat_lt u i ≡ b → (flag_at zs u || (b && flag_at ys u)) ≡ (flag_at zs u || flag_at ys u)
+    go true e = refl
+    go false e =
+        let lo : i ≤ u = grind (arith, e) in
+        let w : flag_at ys u ≡ false = flag-past ys u (omega (arith, h, lo)) in
+        rw w refl
+
 -- copies left after an assignment up to an index, and one more
 pub copy-forget : (xs zs : List (Option Copied)) (n i u : ℕ) → i < length xs
     → ((v : ℕ) → copy_at xs v ≡ (if nat_lt v i then copy_without n (copy_at zs v) else copy_at zs v))

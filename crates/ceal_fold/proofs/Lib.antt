@@ -8,4 +8,7 @@ pub mod Bodies
 pub mod Values
 pub mod Simulated
 pub mod Runs
+pub mod Validity
+pub mod Types
+pub mod UnitTrees
 pub mod UnitSteps

@@ -89,6 +89,23 @@ module _ (structs : List StructInfo) where
   replaced-end at i [] h = refl
   replaced-end at i (c ∷ cs) h = absurd (omega (arith, h))
 
+pub replicate-length : {A : Type 0} (n : ℕ) (x : A) → length (Rattle.std.specs.Prelude.replicate n x) ≡ n
+replicate-length zero x = refl
+replicate-length (suc n) x = ap suc (replicate-length n x)
+
+pub walk-on : (structs : List StructInfo) (states states' : List (List (Option Copied))) (i : ℕ) (c command : Cmd) (cs rest done done' whole : List Cmd)
+    → rest ≡ c ∷ cs → done' ≡ done ++ command ∷ [] → command ≡ folded_command structs (copies_at states i) c → i + length rest ≡ length states
+    → ((j : ℕ) → i < j → j < length states → copies_at states' j ≡ handed (copies_at states) i command j)
+    → (done ++ replaced structs (copies_at states) i rest) ≡ whole → (done' ++ replaced structs (copies_at states') (i + 1) cs) ≡ whole
+walk-on structs states states' i c command cs rest done done' whole r p e n h w =
+    let long : i + length (c ∷ cs) ≡ length states = ap (λ rest. i + length rest) (sym r) ∙ n in
+    let step = replaced-step structs (copies_at states) (copies_at states') i c cs (λ j lo hi. h j lo (omega (arith, hi, long)) ∙ ap (λ d. handed (copies_at states) i d j) e) in
+    ap (λ ds. ds ++ replaced structs (copies_at states') (i + 1) cs) p
+    ∙ append_assoc done (command ∷ []) (replaced structs (copies_at states') (i + 1) cs)
+    ∙ ap (λ d. done ++ d ∷ replaced structs (copies_at states') (i + 1) cs) e
+    ∙ ap (λ ds. done ++ ds) (sym step)
+    ∙ ap (λ rest. done ++ replaced structs (copies_at states) i rest) (sym r) ∙ w
+
 pub ruleset take_steps = (states-same)
 
 pub ruleset hand_steps = (hand-none, hand-one, hand-two)

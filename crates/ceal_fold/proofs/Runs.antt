@@ -43,6 +43,10 @@ unfolding folded_units
 units-length structs [] = refl
 units-length structs (unit ∷ units) = ap suc (units-length structs units)
 
+ended : (structs : List StructInfo) (i : ℕ) → unwrap_or (slice_get (folded_unit structs none).body i) Done ≡ Done
+unfolding replaced without_unused
+ended structs i = refl
+
 pub unit-tree : (code : Code) (unit : CodeUnit) → unit_ok code unit ≡ true → is_tree unit.body ≡ true
 unfolding unit_ok
 unit-tree code unit h =
@@ -91,12 +95,8 @@ module _ (code : Code) (ok : valid code ≡ true) where
   command-tied u i env env' (nowhere e) =
       let p : unit_at code u ≡ none = ap (λ o. unwrap_or o none) e in
       let a : command_at code u i ≡ Done = ap (λ unit. unwrap_or (slice_get unit.body i) Done) p in
-      let b : command_at after u i ≡ Done = ap (λ unit. unwrap_or (slice_get unit.body i) Done) (unit-is u ∙ ap (folded_unit code.structs) p) ∙ ended in
+      let b : command_at after u i ≡ Done = ap (λ unit. unwrap_or (slice_get unit.body i) Done) (unit-is u ∙ ap (folded_unit code.structs) p) ∙ ended code.structs i in
       subst (λ c. Cmds_tied code ok u i env env' c (command_at after u i)) (sym a) (subst (Cmds_tied code ok u i env env' Done) (sym b) done)
-    where
-      ended : unwrap_or (slice_get (folded_unit code.structs none).body i) Done ≡ Done
-      unfolding replaced without_unused
-      ended = refl
   command-tied u i env env' (inside unit fuel flags stepped is path known same) = go fuel path
     where
       at : (c : Cmd) → slice_get unit.body i ≡ Some c → (n : ℕ) → onward (paths_ok code unit.function unit.body n) c i flags ≡ true → Cmds_tied code ok u i env env' (command_at code u i) (command_at after u i)

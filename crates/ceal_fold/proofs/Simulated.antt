@@ -80,11 +80,11 @@ or-right false b h = h
 pub used-follower : (later : ℕ → ℕ → Bool) (js : List ℕ) (j v : ℕ) → is_among j js ≡ true → later j v ≡ true → used_in later js v ≡ true
 unfolding used_in is_among
 used-follower later [] j v m h = absurd (grind (arith, m))
-used-follower later (k ∷ js) j v m h = go (j == k) refl m
+used-follower later (k ∷ js) j v m h = go (j == k) refl m (λ m. used-follower later js j v m h)
   where
-    go : (b : Bool) → (j == k) ≡ b → (b || is_among j js) ≡ true → (later k v || used_in later js v) ≡ true
-    go true e m = let i : j ≡ k = nat-same j k e in or-left (later k v) (used_in later js v) (ap (λ k. later k v) (sym i) ∙ h)
-    go false e m = or-right (later k v) (used_in later js v) (used-follower later js j v m h)
+    go : (b : Bool) → (j == k) ≡ b → (b || is_among j js) ≡ true → (is_among j js ≡ true → used_in later js v ≡ true) → (later k v || used_in later js v) ≡ true
+    go true e m again = let i : j ≡ k = nat-same j k e in or-left (later k v) (used_in later js v) (ap (λ k. later k v) (sym i) ∙ h)
+    go false e m again = or-right (later k v) (used_in later js v) (again m)
 
 pub among-next : (i : ℕ) → is_among (i + 1) ((i + 1) ∷ []) ≡ true
 unfolding is_among

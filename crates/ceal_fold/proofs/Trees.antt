@@ -40,24 +40,24 @@ marked-apart (k ∷ ks) marks j h m =
 among-later : (j : ℕ) (js ks : List ℕ) → is_among j (js ++ ks) ≡ false → is_among j ks ≡ false
 unfolding is_among
 among-later j [] ks h = h
-among-later j (k ∷ js) ks h = go (j == k) h
+among-later j (k ∷ js) ks h = go (j == k) h (λ h. among-later j js ks h)
   where
-    go : (b : Bool) → (b || is_among j (js ++ ks)) ≡ false → is_among j ks ≡ false
-    go true h = absurd (grind (arith, h))
-    go false h = among-later j js ks h
+    go : (b : Bool) → (b || is_among j (js ++ ks)) ≡ false → (is_among j (js ++ ks) ≡ false → is_among j ks ≡ false) → is_among j ks ≡ false
+    go true h again = absurd (grind (arith, h))
+    go false h again = again h
 
 pub reached-apart : (js ks : List ℕ) (marks : List Bool) (j : ℕ) → is_some (reached marks (js ++ ks)) ≡ true → is_among j js ≡ true → is_among j ks ≡ false
 unfolding reached is_among
 reached-apart [] ks marks j h m = absurd (grind (arith, m))
 reached-apart (k ∷ js) ks marks j h m =
     let p = marked-not (unwrap_or (slice_get marks k) true) (reached (slice_set marks k true) (js ++ ks)) h in
-    go (j == k) refl p.1 m
+    go (j == k) refl p.1 m (λ n. reached-apart js ks (slice_set marks k true) j p.1 n)
   where
-    go : (b : Bool) → (j == k) ≡ b → is_some (reached (slice_set marks k true) (js ++ ks)) ≡ true → (b || is_among j js) ≡ true → is_among j ks ≡ false
-    go true e g n =
+    go : (b : Bool) → (j == k) ≡ b → is_some (reached (slice_set marks k true) (js ++ ks)) ≡ true → (b || is_among j js) ≡ true → (is_among j js ≡ true → is_among j ks ≡ false) → is_among j ks ≡ false
+    go true e g n again =
         let i : j ≡ k = nat-same j k e in
         among-later j js ks (marked-apart (js ++ ks) (slice_set marks k true) j g (rw i (mark-set marks k)))
-    go false e g n = reached-apart js ks (slice_set marks k true) j g n
+    go false e g n again = again n
 
 -- the indices that are reached after some others
 pub reached-later : (js ks : List ℕ) (marks : List Bool) → is_some (reached marks (js ++ ks)) ≡ true → (marks' : List Bool) × (is_some (reached marks' ks) ≡ true)
@@ -74,6 +74,9 @@ all-append (c ∷ cs) ds i =
     let e : (i + 1) + length cs ≡ i + length (c ∷ cs) = omega arith in
     rw (append_assoc) (ap (λ js. followers c i ++ js) (all-append cs ds (i + 1) ∙ ap (λ n. all_followers cs (i + 1) ++ all_followers ds n) e))
 
+pub all-after : (cs ds : List Cmd) → all_followers (cs ++ ds) 0 ≡ all_followers cs 0 ++ all_followers ds (length cs)
+all-after cs ds = let e : 0 + length cs ≡ length cs = omega arith in all-append cs ds 0 ∙ ap (λ n. all_followers cs 0 ++ all_followers ds n) e
+
 tree-some : (o : Option (List Bool)) → all_but_first o ≡ true → is_some o ≡ true
 tree-some None h = absurd (grind (arith, h))
 tree-some (Some marks) h = refl
@@ -89,7 +92,7 @@ unfolding is_tree
 tree-apart cs c ds h j m =
     let body = cs ++ c ∷ ds in
     let some = tree-some (reached (replicate (length body) false) (all_followers body 0)) h in
-    let parts = subst (λ js. is_some (reached (replicate (length body) false) js) ≡ true) (all-append cs (c ∷ ds) 0) some in
+    let parts = subst (λ js. is_some (reached (replicate (length body) false) js) ≡ true) (all-after cs (c ∷ ds)) some in
     let later = reached-later (all_followers cs 0) (all_followers (c ∷ ds) (length cs)) (replicate (length body) false) parts in
     reached-apart (followers c (length cs)) (all_followers ds (length cs + 1)) later.0 j (all-cons c ds (length cs) later.0 later.1) m
 

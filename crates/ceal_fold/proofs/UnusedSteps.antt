@@ -1,13 +1,13 @@
 -- The pass from the leaves up.
 use Rattle.std.proofs.Common.{◌≡◌, ℕ, zero, suc, ◌+◌, ◌<◌, ◌==◌, ◌||◌, ◌&&◌, not, Bool, true, false, if◌then◌else◌, List, [], ◌∷◌, ◌++◌, refl, sym, ap, ap₂, ◌∙◌, subst, length, replicate, reverse, arith, append_assoc, slice_get, slice_set, unwrap_or}
-use Rattle.std.proofs.lemmas.List.{append-nil}
+use Rattle.std.proofs.lemmas.List.{append-nil, reverse-append}
 use Rattle.std.proofs.Math.Path.{fun_ext}
 use Rattle.ceal_code.proofs.Same.{nat-same}
 use Rattle.ceal_code.specs.Valid.{followers, all_followers, is_tree}
 use Rattle.ceal_code.specs.declared.command.Cmd.{Cmd}
 use Rattle.ceal_code.specs.declared.command.Cmd.TheVariants.{Move, Tick, Alloc, Modref, Write, If, Done, Tail, Read, Call}
 use Rattle.ceal_fold.proofs.CopySteps.{at-same, at-other}
-use Rattle.ceal_fold.proofs.Trees.{all-append, same-tree, tree-apart}
+use Rattle.ceal_fold.proofs.Trees.{all-after, same-tree, tree-apart}
 use Rattle.ceal_fold.specs.Folding.{is_among, ticked, used, used_in, used_by, without_unused}
 use Rattle.ceal_fold.specs.States.{flag_at, flags_at}
 
@@ -147,13 +147,25 @@ used-same later later' (j ∷ js) u h = ap₂ (λ a b. a || b) (h j (first j)) (
         go true = refl
         go false = m
 
-among-part : (j : ℕ) (js ks : List ℕ) → is_among j (js ++ ks) ≡ false → (is_among j js ≡ false) × (is_among j ks ≡ false)
+pub among-part : (j : ℕ) (js ks : List ℕ) → is_among j (js ++ ks) ≡ false → (is_among j js ≡ false) × (is_among j ks ≡ false)
 unfolding is_among
 among-part j [] ks h = (refl, h)
 among-part j (k ∷ js) ks h =
     let p = among-not (j == k) (is_among j (js ++ ks)) h in
     let q = among-part j js ks p.1 in
     (rw (p.0, q.0) refl, q.1)
+
+middle-length : (cs : List Cmd) (c d : Cmd) (done : List Cmd) → length (cs ++ d ∷ done) ≡ length (cs ++ c ∷ done)
+middle-length [] c d done = refl
+middle-length (b ∷ cs) c d done = ap suc (middle-length cs c d done)
+
+push-length : (cs : List Cmd) (c : Cmd) → length (cs ++ c ∷ []) ≡ length cs + 1
+push-length [] c = refl
+push-length (b ∷ cs) c = ap suc (push-length cs c) ∙ omega arith
+
+replicate-length : {A : Type 0} (n : ℕ) (x : A) → length (replicate n x) ≡ n
+replicate-length zero x = refl
+replicate-length (suc n) x = ap suc (replicate-length n x)
 
 -- the sets that are still there are right
 abbrev pub Sets_right : List (List Bool) → ℕ → List Cmd → Type 0
@@ -187,10 +199,71 @@ module _ (cs : List Cmd) (c : Cmd) (done : List Cmd) (tree : is_tree (cs ++ c �
   pub tree-right : (d : Cmd) → ((i : ℕ) → followers d i ≡ followers c i) → is_tree (cs ++ d ∷ done) ≡ true
   unfolding all_followers
   tree-right d same =
-      let long : length (cs ++ d ∷ done) ≡ length (cs ++ c ∷ done) = grind arith in
-      same-tree (cs ++ d ∷ done) (cs ++ c ∷ done) long
-      (all-append cs (d ∷ done) 0 ∙ ap (λ js. all_followers cs 0 ++ (js ++ all_followers done (length cs + 1))) (same (length cs)) ∙ sym (all-append cs (c ∷ done) 0))
+      same-tree (cs ++ d ∷ done) (cs ++ c ∷ done) (middle-length cs c d done)
+      (all-after cs (d ∷ done) ∙ ap (λ js. all_followers cs 0 ++ (js ++ all_followers done (length cs + 1))) (same (length cs)) ∙ sym (all-after cs (c ∷ done)))
       ∙ tree
+
+used-past : (n j u : ℕ) → used n [] j u ≡ false
+unfolding used
+used-past n j u = refl
+
+-- the pass from the leaves up, where these commands are left and the others are done, the last one first
+pub record Underway (body left done : List Cmd) (sets : List (List Bool)) : Type 0 where
+  pub whole : onto 0 left (reverse done) ≡ without_unused 0 body
+  pub right : Sets_right sets (length left) (reverse done)
+  pub tree : is_tree (left ++ reverse done) ≡ true
+  pub long : length sets ≡ length left + length done
+
+begun : (body : List Cmd) (n : ℕ) → n ≡ length body → is_tree body ≡ true → Underway body body [] (replicate n [])
+begun body n e tree = record {
+  whole = onto-none 0 body;
+  right = λ j u m. root-sets n j u ∙ sym (used-past (length body) j u);
+  tree = rw (append-nil body) tree;
+  long = replicate-length n [] ∙ e ∙ omega arith;
+}
+
+pub underway-begun : (body done : List Cmd) (sets : List (List Bool)) (n : ℕ) → done ≡ [] → sets ≡ replicate n [] → n ≡ length body → is_tree body ≡ true → Underway body body done sets
+underway-begun body done sets n d s e tree =
+    subst (λ done. Underway body body done sets) (sym d) (subst (λ sets. Underway body body [] sets) (sym s) (begun body n e tree))
+
+no-more : (cs : List Cmd) → length cs ≡ 0 → cs ≡ []
+no-more [] h = refl
+no-more (c ∷ cs) h = absurd (omega (arith, h))
+
+pub underway-over : (body left done : List Cmd) (sets : List (List Bool)) → Underway body left done sets → length left ≡ 0 → reverse done ≡ without_unused 0 body
+unfolding onto
+underway-over body left done sets w e = ap (λ left. onto 0 left (reverse done)) (sym (no-more left e)) ∙ w.whole
+
+module _ (body cs : List Cmd) (c d : Cmd) (done : List Cmd) (sets sets' : List (List Bool)) where
+  on-command : Underway body (cs ++ c ∷ []) done sets → d ≡ ticked (used_in (flags_at sets) (followers c (length cs))) c
+      → ((u : ℕ) → flags_at sets' (length cs) u ≡ used_by (flags_at sets) d (length cs) u)
+      → ((j u : ℕ) → (j ≡ length cs → ⊥) → is_among j (followers c (length cs)) ≡ false → flags_at sets' j u ≡ flags_at sets j u)
+      → length sets' ≡ length sets → Underway body cs (done ++ d ∷ []) sets'
+  on-command w e here others long =
+      let D = reverse done in
+      let back : reverse (done ++ d ∷ []) ≡ d ∷ reverse done = reverse-append done (d ∷ []) in
+      let tree : is_tree (cs ++ c ∷ reverse done) ≡ true = subst (λ ds. is_tree ds ≡ true) (append_assoc cs (c ∷ []) (reverse done)) (w.tree) in
+      let right : Sets_right sets (length cs + 1) (reverse done) = subst (λ n. Sets_right sets n (reverse done)) (push-length cs c) (w.right) in
+      let same : (i : ℕ) → followers d i ≡ followers c i = λ i. ap (λ d. followers d i) e ∙ ticked-followers (used_in (flags_at sets) (followers c (length cs))) c i in
+      let is : d ≡ ticked (used_in (used (length cs + 1) (reverse done)) (followers c (length cs))) c = e ∙ ticked-right cs c (reverse done) tree sets right in
+      record {
+        whole = ap (onto 0 cs) back ∙ ap (λ d. onto 0 cs (d ∷ reverse done)) is ∙ sym (onto-push 0 cs c (reverse done) (length cs) (omega arith)) ∙ w.whole;
+        right = subst (Sets_right sets' (length cs)) (sym back) (sets-right cs c (reverse done) tree sets right d sets' same here others);
+        tree = subst (λ ds. is_tree (cs ++ ds) ≡ true) (sym back) (tree-right cs c (reverse done) tree sets right d same);
+        long = long ∙ w.long ∙ omega (arith, push-length cs c, push-length done d);
+      }
+
+  pub underway-on : (left done' : List Cmd) (n : ℕ) → left ≡ cs ++ c ∷ [] → done' ≡ done ++ d ∷ [] → n ≡ length cs → Underway body left done sets
+      → d ≡ ticked (used_in (flags_at sets) (followers c n)) c
+      → ((u : ℕ) → flags_at sets' n u ≡ used_by (flags_at sets) d n u)
+      → ((j u : ℕ) → (j ≡ n → ⊥) → is_among j (followers c n) ≡ false → flags_at sets' j u ≡ flags_at sets j u)
+      → length sets' ≡ length sets → Underway body cs done' sets'
+  underway-on left done' n l p i w e here others long =
+      subst (λ done. Underway body cs done sets') (sym p)
+      (on-command (subst (λ left. Underway body left done sets) l w)
+      (subst (λ n. d ≡ ticked (used_in (flags_at sets) (followers c n)) c) i e)
+      (subst (λ n. (u : ℕ) → flags_at sets' n u ≡ used_by (flags_at sets) d n u) i here)
+      (subst (λ n. (j u : ℕ) → (j ≡ n → ⊥) → is_among j (followers c n) ≡ false → flags_at sets' j u ≡ flags_at sets j u) i others) long)
 
 pub ruleset take_steps = (sets-same, past-set, past-take, flag-none)
 

@@ -40,6 +40,7 @@ fn fold_unit(alloc: Global, structs: &[StructInfo], unit: &Unit) -> Result<Unit,
     Ok(Unit::new(unit.function, params, body))
 }
 
+#[tactic(auto, using(crate::proofs::UnitSteps::unit_steps))]
 fn fold_units(alloc: Global, structs: &[StructInfo], units: &[Unit]) -> Result<Vec<Unit>, NoMemory>
     requires trees { are_trees units.now ≡ true }
     ensures value { IfOk result (λ v. v.items ≡ folded_units structs.now units.now) }
@@ -47,10 +48,22 @@ fn fold_units(alloc: Global, structs: &[StructInfo], units: &[Unit]) -> Result<V
     let mut folded = Vec::new(alloc);
     let mut rest = units;
     while let Some((unit, more)) = rest.split_first() {
-        folded.push(fold_unit(alloc, structs, unit)?)?;
+        let after = fold_unit(alloc, structs, unit)?;
+        folded.push(after)?;
         rest = more;
     }
     Ok(folded)
+}
+
+fn fold_code(alloc: Global, code: &Code) -> Result<Code, NoMemory>
+    requires trees { are_trees code.now.units ≡ true }
+    ensures exact { IfOk result (λ c. c ≡ folded code.now) }
+{
+    let structs = copied_structs(alloc, code.structs.items())?;
+    let functions = copied_functions(alloc, code.functions())?;
+    let kinds = copied_kinds(alloc, code.all_kinds())?;
+    let units = fold_units(alloc, code.structs.items(), code.units())?;
+    Ok(Code::new(structs, functions, units, kinds))
 }
 
 /// Replaces copies and operators on constants in each unit from the root down, and then makes each move that nothing
@@ -63,9 +76,6 @@ pub fn fold(alloc: Global, code: Code) -> Result<Code, NoMemory>
     ensures same_run { IfOk result (λ c. (f : ℕ) (args : List Word) (inputs : List Block) (fuel : ℕ)
         → fresh c f args inputs fuel ≡ fresh code f args inputs fuel) }
 {
-    let structs = copied_structs(alloc, code.structs.items())?;
-    let functions = copied_functions(alloc, code.functions())?;
-    let kinds = copied_kinds(alloc, code.all_kinds())?;
-    let units = fold_units(alloc, code.structs.items(), code.units())?;
-    Ok(Code::new(structs, functions, units, kinds))
+    let after = fold_code(alloc, &code)?;
+    Ok(after)
 }

@@ -1,6 +1,6 @@
 // From the leaves of a body up: each move that nothing later uses becomes a step that does nothing.
 
-ghost use Rattle.std.specs.Prelude.{◌≡◌, ◌<◌, ◌^◌, ◌||◌, ℕ, [], true, false, length, replicate, slice_set, IfOk};
+ghost use Rattle.std.specs.Prelude.{◌≡◌, ◌<◌, ◌≤◌, ◌^◌, ◌||◌, ℕ, [], true, false, length, replicate, slice_set, IfOk};
 ghost use Rattle.ceal_code.specs.Valid.{followers, is_tree};
 ghost use Rattle.ceal_fold.specs.Folding.{is_among, ticked, used_in, used_by, without_unused};
 ghost use Rattle.ceal_fold.specs.States.{flag_at, flags_at};
@@ -39,17 +39,48 @@ fn take_set(alloc: Global, sets: &mut Vec<Flags>, at: usize) -> Flags
     }
 }
 
-/// Adds the other flags.
+/// Makes room for so many flags.
 #[tactic(auto, using(crate::proofs::CopySteps::put_steps))]
+fn grow_to(flags: &mut Vec<bool>, n: usize) -> Result<(), NoMemory>
+    ensures room { IfOk result (λ _. n ≤ length flags.new.items) }
+    ensures same { IfOk result (λ _. (u : ℕ) → flag_at flags.new.items u ≡ flag_at flags.old.items u) }
+{
+    while flags.len() < n {
+        flags.push(false)?;
+    }
+    Ok(())
+}
+
+#[tactic(auto, unfolding(crate::specs::States::flag_at))]
+fn flag(flags: &[bool], at: usize) -> bool
+    ensures value { result ≡ flag_at flags.now at }
+{
+    flags.get(at).copied().unwrap_or(false)
+}
+
+fn join_at(flags: &mut Vec<bool>, other: &[bool], at: usize)
+    requires there { at < length flags.old.items }
+    ensures value { flags.new.items ≡ slice_set flags.old.items at (flag_at flags.old.items at || flag_at other.now at) }
+{
+    let joined = flag(flags.as_slice(), at) | flag(other, at);
+    flags[at] = joined;
+}
+
+fn join_all(flags: &mut Vec<bool>, other: &[bool])
+    requires room { length other.now ≤ length flags.old.items }
+    ensures value { (u : ℕ) → flag_at flags.new.items u ≡ (flag_at flags.old.items u || flag_at other.now u) }
+{
+    for at in 0..other.len() {
+        join_at(flags, other, at);
+    }
+}
+
+/// Adds the other flags.
 fn join(flags: &mut Vec<bool>, other: &[bool]) -> Result<(), NoMemory>
     ensures value { IfOk result (λ _. (u : ℕ) → flag_at flags.new.items u ≡ (flag_at flags.old.items u || flag_at other.now u)) }
 {
-    while flags.len() < other.len() {
-        flags.push(false)?;
-    }
-    for at in 0..other.len() {
-        flags[at] = flags[at] || other[at];
-    }
+    grow_to(flags, other.len())?;
+    join_all(flags, other);
     Ok(())
 }
 
@@ -87,11 +118,10 @@ fn take_later(
     }
 }
 
-#[tactic(auto, unfolding(crate::specs::States::flag_at))]
 fn is_flagged(flags: &[bool], v: VarId) -> bool
     ensures { result ≡ flag_at flags.now v.0 }
 {
-    flags.get(v.0 as usize).copied().unwrap_or(false)
+    flag(flags, v.0 as usize)
 }
 
 /// The command, or a tick for a move of a variable that is not among these.
