@@ -1,5 +1,5 @@
 -- The pass from the root down.
-use Rattle.std.proofs.Common.{◌≡◌, ℕ, zero, suc, ◌+◌, ◌<◌, ◌≤◌, ◌==◌, ◌||◌, Bool, true, false, if◌then◌else◌, Option, List, [], ◌∷◌, ◌++◌, refl, sym, ap, ap₂, ◌∙◌, length, arith, append_assoc, slice_get, slice_set, unwrap_or}
+use Rattle.std.proofs.Common.{◌≡◌, ℕ, zero, suc, ◌+◌, ◌<◌, ◌≤◌, ◌==◌, ◌||◌, Bool, true, false, if◌then◌else◌, Option, List, [], ◌∷◌, ◌++◌, refl, sym, ap, ap₂, ◌∙◌, length, replicate, arith, append_assoc, slice_get, slice_set, unwrap_or}
 use Rattle.std.proofs.lemmas.List.{append-nil}
 use Rattle.ceal_base.specs.declared.typed.StructInfo.{StructInfo}
 use Rattle.ceal_code.proofs.Same.{nat-same}
@@ -52,7 +52,7 @@ hand-two states i k s j h = go (j == i) refl (j == k) refl
         states-other (slice_set states i s) k s j (λ z. grind (arith, f, z)) ∙ rw (← m) (states-same states j s h)
     go false e false f = states-other (slice_set states i s) k s j (λ z. grind (arith, f, z)) ∙ states-other states i s j (λ z. grind (arith, e, z))
 
-pub root-none : (n : ℕ) (j : ℕ) → copies_at (Rattle.std.specs.Prelude.replicate n []) j ≡ no_copies
+pub root-none : (n : ℕ) (j : ℕ) → copies_at (replicate n []) j ≡ no_copies
 unfolding copies_at copy_at no_copies
 root-none zero j = refl
 root-none (suc n) zero = refl
@@ -89,7 +89,7 @@ module _ (structs : List StructInfo) where
   replaced-end at i [] h = refl
   replaced-end at i (c ∷ cs) h = absurd (omega (arith, h))
 
-pub replicate-length : {A : Type 0} (n : ℕ) (x : A) → length (Rattle.std.specs.Prelude.replicate n x) ≡ n
+pub replicate-length : {A : Type 0} (n : ℕ) (x : A) → length (replicate n x) ≡ n
 replicate-length zero x = refl
 replicate-length (suc n) x = ap suc (replicate-length n x)
 

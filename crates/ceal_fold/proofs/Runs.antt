@@ -28,7 +28,7 @@ use Rattle.ceal_fold.proofs.Simulated.{final, Spot, spot, Frame_tied, Cmds_tied,
 use Rattle.ceal_fold.proofs.Values.{Holds, holds-none}
 use Rattle.ceal_fold.specs.Folding.{no_copies, at_root, replaced, used, used_in, used_by, without_unused, folded_unit, folded_units, folded}
 
-none : CodeUnit
+abbrev none : CodeUnit
 none = record { function = 0; params = []; body = [] }
 
 pub unit-folded : (structs : List StructInfo) (units : List CodeUnit) (u : ℕ)
@@ -83,7 +83,7 @@ module _ (code : Code) (ok : valid code ≡ true) where
   given-is : (u v : ℕ) (args : List Word) (w : Word) → given after u v args w ≡ given code u v args w
   given-is u v args w = ap (λ unit. woven unit.params v w args) (unit-is u)
 
-  made-is : (x : Plain) (key : Key) → made after x key ≡ made code x key
+  pub made-is : (x : Plain) (key : Key) → made after x key ≡ made code x key
   unfolding made
   made-is x (Init f args) = refl
   made-is x IntKey = refl
@@ -92,12 +92,12 @@ module _ (code : Code) (ok : valid code ≡ true) where
   -- the commands at which tied frames stand
   pub command-tied : (u i : ℕ) (env env' : Variables) → Frame_tied code ok u i env env' → Cmds_tied code ok u i env env' (command_at code u i) (command_at after u i)
   unfolding paths_ok
-  command-tied u i env env' (nowhere e) =
+  command-tied u i env env' (Frame_tied.nowhere e) =
       let p : unit_at code u ≡ none = ap (λ o. unwrap_or o none) e in
       let a : command_at code u i ≡ Done = ap (λ unit. unwrap_or (slice_get unit.body i) Done) p in
       let b : command_at after u i ≡ Done = ap (λ unit. unwrap_or (slice_get unit.body i) Done) (unit-is u ∙ ap (folded_unit code.structs) p) ∙ ended code.structs i in
-      subst (λ c. Cmds_tied code ok u i env env' c (command_at after u i)) (sym a) (subst (Cmds_tied code ok u i env env' Done) (sym b) done)
-  command-tied u i env env' (inside unit fuel flags stepped is path known same) = go fuel path
+      subst (λ c. Cmds_tied code ok u i env env' c (command_at after u i)) (sym a) (subst (Cmds_tied code ok u i env env' Done) (sym b) Cmds_tied.done)
+  command-tied u i env env' (Frame_tied.inside unit fuel flags stepped is path known same) = go fuel path
     where
       at : (c : Cmd) → slice_get unit.body i ≡ Some c → (n : ℕ) → onward (paths_ok code unit.function unit.body n) c i flags ≡ true → Cmds_tied code ok u i env env' (command_at code u i) (command_at after u i)
       at c e n h =
@@ -122,19 +122,19 @@ module _ (code : Code) (ok : valid code ≡ true) where
   enter-tied u env = go (slice_get code.units u) refl
     where
       go : (o : Option CodeUnit) → slice_get code.units u ≡ o → Frame_tied code ok u 0 env env
-      go None e = nowhere e
+      go None e = Frame_tied.nowhere e
       go (Some unit) e =
-          inside unit (length unit.body) (with_params (replicate (length (kinds_of code unit.function)) false) unit.params) false e (unit-path code unit (unit-valid code ok u unit e))
+          Frame_tied.inside unit (length unit.body) (with_params (replicate (length (kinds_of code unit.function)) false) unit.params) false e (unit-path code unit (unit-valid code ok u unit e))
           (subst (λ k. Holds k env) (sym (facts-root code.structs unit.body)) (holds-none env)) (λ v m. refl)
 
   pub data Tied : Stack → Stack → Type 0 where
     empty : Tied Empty Empty
-    run : {u i : ℕ} {env env' : Variables} {below below' : Stack} → Frame_tied code ok u i env env' → Tied below below' → Tied (Run u i env below) (Run u i env' below')
+    frame : {u i : ℕ} {env env' : Variables} {below below' : Stack} → Frame_tied code ok u i env env' → Tied below below' → Tied (Run u i env below) (Run u i env' below')
 
   entered-tied : (u : ℕ) (words : List Word) (below below' : Stack) → Tied below below' → Tied (entered code u words below) (entered after u words below')
   entered-tied u words below below' t =
       let e : (unit_at after u).params ≡ (unit_at code u).params = ap (λ unit. unit.params) (unit-is u) in
-      rw e (run (enter-tied u (bound (unit_at code u).params words)) t)
+      rw e (Tied.frame (enter-tied u (bound (unit_at code u).params words)) t)
 
   pub data Acts_tied : Act → Act → Type 0 where
     over : Acts_tied Over Over
@@ -145,10 +145,10 @@ module _ (code : Code) (ok : valid code ≡ true) where
     reads : {p : Place} {u : UnitId} {v : ℕ} {args : List Word} {below below' : Stack} → Tied below below' → Acts_tied (Reads p u v args below) (Reads p u v args below')
 
   writes-tied : (w value : Word) (st st' : Stack) → Tied st st' → Acts_tied (writes_at (place_of w) value st) (writes_at (place_of w) value st')
-  writes-tied (Num n) value st st' t = quiet t
-  writes-tied Null value st st' t = quiet t
-  writes-tied (BlockWord b) value st st' t = quiet t
-  writes-tied (At p) value st st' t = writes t
+  writes-tied (Num n) value st st' t = Acts_tied.quiet t
+  writes-tied Null value st st' t = Acts_tied.quiet t
+  writes-tied (BlockWord b) value st st' t = Acts_tied.quiet t
+  writes-tied (At p) value st st' t = Acts_tied.writes t
 
   -- a unit goes on with the same word
   pub given-tied : (u v : ℕ) (args : List Word) (w w' : Word) → w' ≡ w → (st st' : Stack) → Tied st st' → Tied (entered code u (given code u v args w) st) (entered after u (given after u v args w') st')
@@ -157,111 +157,110 @@ module _ (code : Code) (ok : valid code ≡ true) where
       (entered-tied u (given code u v args w) st st' t)
 
   reads-tied : (w : Word) (u : UnitId) (v : ℕ) (args : List Word) (st st' : Stack) → Tied st st' → Acts_tied (reads_at code (place_of w) u v args st) (reads_at after (place_of w) u v args st')
-  reads-tied (Num n) u v args st st' t = quiet (given-tied u.0 v args (variable_default code u.0 v) (variable_default after u.0 v) (default-is u.0 v) st st' t)
-  reads-tied Null u v args st st' t = quiet (given-tied u.0 v args (variable_default code u.0 v) (variable_default after u.0 v) (default-is u.0 v) st st' t)
-  reads-tied (BlockWord b) u v args st st' t = quiet (given-tied u.0 v args (variable_default code u.0 v) (variable_default after u.0 v) (default-is u.0 v) st st' t)
-  reads-tied (At p) u v args st st' t = reads t
+  reads-tied (Num n) u v args st st' t = Acts_tied.quiet (given-tied u.0 v args (variable_default code u.0 v) (variable_default after u.0 v) (default-is u.0 v) st st' t)
+  reads-tied Null u v args st st' t = Acts_tied.quiet (given-tied u.0 v args (variable_default code u.0 v) (variable_default after u.0 v) (default-is u.0 v) st st' t)
+  reads-tied (BlockWord b) u v args st st' t = Acts_tied.quiet (given-tied u.0 v args (variable_default code u.0 v) (variable_default after u.0 v) (default-is u.0 v) st st' t)
+  reads-tied (At p) u v args st st' t = Acts_tied.reads t
 
   module _ (x : Plain) where
-    act-tied : (u i : ℕ) (env env' : Variables) (c c' : Cmd) (below below' : Stack) → Cmds_tied code ok u i env env' c c' → Tied below below' → Acts_tied (act code x c u i env below) (act after x c' u i env' below')
-    act-tied u i env env' c c' below below' (move h) t = quiet (run (h x) t)
-    act-tied u i env env' c c' below below' (dropped h) t = quiet (run (h x) t)
-    act-tied u i env env' c c' below below' (tick h) t = quiet (run h t)
-    act-tied u i env env' c c' below below' (alloc a h) t = rw (a x) (makes (λ w. run (h w) t))
-    act-tied u i env env' c c' below below' (modref h) t = makes (λ w. run (h w) t)
-    act-tied u i env env' c c' below below' (write {p} {p'} {e} {e'} a b h) t =
-        rw (a x, b x) (writes-tied (expr_value code.structs x env p) (expr_value code.structs x env e) (Run u (i + 1) env below) (Run u (i + 1) env' below') (run h t))
-    act-tied u i env env' c c' below below' (test {e} {e'} {first} {second} a h k) t = rw (a x) (quiet (run (go (holds (expr_value code.structs x env e))) t))
+    act-tied : (u i : ℕ) (env env' : Variables) {c c' : Cmd} (below below' : Stack) → Cmds_tied code ok u i env env' c c' → Tied below below' → Acts_tied (act code x c u i env below) (act after x c' u i env' below')
+    act-tied u i env env' below below' (Cmds_tied.move h) t = Acts_tied.quiet (Tied.frame (h x) t)
+    act-tied u i env env' below below' (Cmds_tied.dropped h) t = Acts_tied.quiet (Tied.frame (h x) t)
+    act-tied u i env env' below below' (Cmds_tied.tick h) t = Acts_tied.quiet (Tied.frame h t)
+    act-tied u i env env' below below' (Cmds_tied.alloc a h) t = rw (a x) (Acts_tied.makes (λ w. Tied.frame (h w) t))
+    act-tied u i env env' below below' (Cmds_tied.modref h) t = Acts_tied.makes (λ w. Tied.frame (h w) t)
+    act-tied u i env env' below below' (Cmds_tied.write {p = p} {e = e} a b h) t =
+        rw (a x, b x) (writes-tied (expr_value code.structs x env p) (expr_value code.structs x env e) (Run u (i + 1) env below) (Run u (i + 1) env' below') (Tied.frame h t))
+    act-tied u i env env' below below' (Cmds_tied.test {t = e} {first = first} {second = second} a h k) t = rw (a x) (Acts_tied.quiet (Tied.frame (go (holds (expr_value code.structs x env e))) t))
       where
         go : (b : Bool) → Frame_tied code ok u (if b then first else second) env env'
         go true = h
         go false = k
-    act-tied u i env env' c c' below below' done t = over
-    act-tied u i env env' c c' below below' (tail a) t = over
-    act-tied u i env env' c c' below below' (read {v} {p} {p'} {w} {args} {args'} a b) t =
+    act-tied u i env env' below below' Cmds_tied.done t = Acts_tied.over
+    act-tied u i env env' below below' (Cmds_tied.tail a) t = Acts_tied.over
+    act-tied u i env env' below below' (Cmds_tied.read {v = v} {p = p} {w = w} {args = args} a b) t =
         rw (a x, b x) (reads-tied (expr_value code.structs x env p) w v.0 (values code.structs x env args) below below' t)
-    act-tied u i env env' c c' below below' (call {g} {args} {args'} {w} {rest} {rest'} a b) t =
+    act-tied u i env env' below below' (Cmds_tied.call {g = g} {args = args} {w = w} {rest = rest} a b) t =
         rw (a x, b x, entry-is g)
-        (quiet (entered-tied (entry_of code g) (values code.structs x env args) (entered code w.0 (values code.structs x env rest) below) (entered after w.0 (values code.structs x env rest) below')
+        (Acts_tied.quiet (entered-tied (entry_of code g) (values code.structs x env args) (entered code w.0 (values code.structs x env rest) below) (entered after w.0 (values code.structs x env rest) below')
         (entered-tied w.0 (values code.structs x env rest) below below' t)))
 
-    landed-tied : (u i : ℕ) (env env' : Variables) (c c' : Cmd) → Cmds_tied code ok u i env env' c c' → (a a' rest rest' : Stack) → Tied a a' → Tied rest rest' → Tied (landed c a rest) (landed c' a' rest')
-    landed-tied u i env env' c c' (move h) a a' rest rest' s t = s
-    landed-tied u i env env' c c' (dropped h) a a' rest rest' s t = s
-    landed-tied u i env env' c c' (tick h) a a' rest rest' s t = s
-    landed-tied u i env env' c c' (alloc b h) a a' rest rest' s t = s
-    landed-tied u i env env' c c' (modref h) a a' rest rest' s t = s
-    landed-tied u i env env' c c' (write b d h) a a' rest rest' s t = s
-    landed-tied u i env env' c c' (test b h k) a a' rest rest' s t = s
-    landed-tied u i env env' c c' done a a' rest rest' s t = t
-    landed-tied u i env env' c c' (tail b) a a' rest rest' s t = t
-    landed-tied u i env env' c c' (read b d) a a' rest rest' s t = s
-    landed-tied u i env env' c c' (call b d) a a' rest rest' s t = s
+    landed-tied : (u i : ℕ) (env env' : Variables) {c c' : Cmd} → Cmds_tied code ok u i env env' c c' → (a a' rest rest' : Stack) → Tied a a' → Tied rest rest' → Tied (landed c a rest) (landed c' a' rest')
+    landed-tied u i env env' (Cmds_tied.move h) a a' rest rest' s t = s
+    landed-tied u i env env' (Cmds_tied.dropped h) a a' rest rest' s t = s
+    landed-tied u i env env' (Cmds_tied.tick h) a a' rest rest' s t = s
+    landed-tied u i env env' (Cmds_tied.alloc b h) a a' rest rest' s t = s
+    landed-tied u i env env' (Cmds_tied.modref h) a a' rest rest' s t = s
+    landed-tied u i env env' (Cmds_tied.write b d h) a a' rest rest' s t = s
+    landed-tied u i env env' (Cmds_tied.test b h k) a a' rest rest' s t = s
+    landed-tied u i env env' Cmds_tied.done a a' rest rest' s t = t
+    landed-tied u i env env' (Cmds_tied.tail b) a a' rest rest' s t = t
+    landed-tied u i env env' (Cmds_tied.read b d) a a' rest rest' s t = s
+    landed-tied u i env env' (Cmds_tied.call b d) a a' rest rest' s t = s
 
     tail-tied : (w : ℕ) (words : List Word) (below below' rest rest' : Stack) → Tied below below' → Tied rest rest'
         → Tied (landed (command_at code w 0) (entered code w words below) rest) (landed (command_at after w 0) (entered after w words below') rest')
     tail-tied w words below below' rest rest' t r =
         let env = bound (unit_at code w).params words in
-        landed-tied w 0 env env (command_at code w 0) (command_at after w 0) (command-tied w 0 env env (enter-tied w env)) (entered code w words below) (entered after w words below') rest rest'
+        landed-tied w 0 env env (command-tied w 0 env env (enter-tied w env)) (entered code w words below) (entered after w words below') rest rest'
         (entered-tied w words below below' t) r
 
-    settled_at-tied : (u i : ℕ) (env env' : Variables) (c c' : Cmd) (below below' rest rest' : Stack) → Cmds_tied code ok u i env env' c c' → Frame_tied code ok u i env env' → Tied below below' → Tied rest rest'
+    settled_at-tied : (u i : ℕ) (env env' : Variables) {c c' : Cmd} (below below' rest rest' : Stack) → Cmds_tied code ok u i env env' c c' → Frame_tied code ok u i env env' → Tied below below' → Tied rest rest'
         → Tied (settled_at code x c u i env below rest) (settled_at after x c' u i env' below' rest')
-    settled_at-tied u i env env' c c' below below' rest rest' (move h) f t r = run f t
-    settled_at-tied u i env env' c c' below below' rest rest' (dropped h) f t r = run f t
-    settled_at-tied u i env env' c c' below below' rest rest' (tick h) f t r = run f t
-    settled_at-tied u i env env' c c' below below' rest rest' (alloc b h) f t r = run f t
-    settled_at-tied u i env env' c c' below below' rest rest' (modref h) f t r = run f t
-    settled_at-tied u i env env' c c' below below' rest rest' (write b d h) f t r = run f t
-    settled_at-tied u i env env' c c' below below' rest rest' (test b h k) f t r = run f t
-    settled_at-tied u i env env' c c' below below' rest rest' done f t r = r
-    settled_at-tied u i env env' c c' below below' rest rest' (tail {w} {args} {args'} b) f t r =
+    settled_at-tied u i env env' below below' rest rest' (Cmds_tied.move h) f t r = Tied.frame f t
+    settled_at-tied u i env env' below below' rest rest' (Cmds_tied.dropped h) f t r = Tied.frame f t
+    settled_at-tied u i env env' below below' rest rest' (Cmds_tied.tick h) f t r = Tied.frame f t
+    settled_at-tied u i env env' below below' rest rest' (Cmds_tied.alloc b h) f t r = Tied.frame f t
+    settled_at-tied u i env env' below below' rest rest' (Cmds_tied.modref h) f t r = Tied.frame f t
+    settled_at-tied u i env env' below below' rest rest' (Cmds_tied.write b d h) f t r = Tied.frame f t
+    settled_at-tied u i env env' below below' rest rest' (Cmds_tied.test b h k) f t r = Tied.frame f t
+    settled_at-tied u i env env' below below' rest rest' Cmds_tied.done f t r = r
+    settled_at-tied u i env env' below below' rest rest' (Cmds_tied.tail {w = w} {args = args} b) f t r =
         rw (b x) (tail-tied w.0 (values code.structs x env args) below below' rest rest' t r)
-    settled_at-tied u i env env' c c' below below' rest rest' (read b d) f t r = run f t
-    settled_at-tied u i env env' c c' below below' rest rest' (call b d) f t r = run f t
+    settled_at-tied u i env env' below below' rest rest' (Cmds_tied.read b d) f t r = Tied.frame f t
+    settled_at-tied u i env env' below below' rest rest' (Cmds_tied.call b d) f t r = Tied.frame f t
 
-    settled-tied : (st st' : Stack) → Tied st st' → Tied (settled code x st) (settled after x st')
+    settled-tied : {st st' : Stack} → Tied st st' → Tied (settled code x st) (settled after x st')
     unfolding settled
-    settled-tied Empty Empty empty = empty
-    settled-tied (Run u i env below) (Run _ _ env' below') (run f t) =
-        settled_at-tied u i env env' (command_at code u i) (command_at after u i) below below' (settled code x below) (settled after x below') (command-tied u i env env' f) f t (settled-tied below below' t)
+    settled-tied Tied.empty = Tied.empty
+    settled-tied (Tied.frame {u = u} {i = i} {env = env} {env' = env'} {below = below} {below' = below'} f t) =
+        settled_at-tied u i env env' below below' (settled code x below) (settled after x below') (command-tied u i env env' f) f t (settled-tied t)
 
-    acted-tied : (st st' : Stack) → Tied st st' → Acts_tied (acted code x st) (acted after x st')
-    acted-tied Empty Empty empty = over
-    acted-tied (Run u i env below) (Run _ _ env' below') (run f t) = act-tied u i env env' (command_at code u i) (command_at after u i) below below' (command-tied u i env env' f) t
+    acted-tied : {st st' : Stack} → Tied st st' → Acts_tied (acted code x st) (acted after x st')
+    acted-tied Tied.empty = Acts_tied.over
+    acted-tied (Tied.frame {u = u} {i = i} {env = env} {env' = env'} {below = below} {below' = below'} f t) = act-tied u i env env' below below' (command-tied u i env env' f) t
 
     pub next-tied : (st st' : Stack) → Tied st st' → Acts_tied (next code x st) (next after x st')
     unfolding next
-    next-tied st st' t = acted-tied (settled code x st) (settled after x st') (settled-tied st st' t)
+    next-tied st st' t = acted-tied (settled-tied t)
 
-  over-same : (steps : ℕ) (m : Blocks) (a a' : Act) → Acts_tied a a' → only_over steps m a' ≡ only_over steps m a
-  over-same steps m a a' over = refl
-  over-same steps m a a' (quiet t) = refl
-  over-same steps m a a' (makes t) = refl
-  over-same steps m a a' (writes t) = refl
-  over-same steps m a a' (reads t) = refl
+  over-same : (steps : ℕ) (m : Blocks) {a a' : Act} → Acts_tied a a' → only_over steps m a' ≡ only_over steps m a
+  over-same steps m Acts_tied.over = refl
+  over-same steps m (Acts_tied.quiet t) = refl
+  over-same steps m (Acts_tied.makes t) = refl
+  over-same steps m (Acts_tied.writes t) = refl
+  over-same steps m (Acts_tied.reads t) = refl
 
-  ran-same : (again again' : Blocks → Stack → Option Finished) → ((m : Blocks) (st st' : Stack) → Tied st st' → again' m st' ≡ again m st) → (steps : ℕ) (m : Blocks) (a a' : Act) → Acts_tied a a'
+  ran-same : (again again' : Blocks → Stack → Option Finished) → ((m : Blocks) (st st' : Stack) → Tied st st' → again' m st' ≡ again m st) → (steps : ℕ) (m : Blocks) {a a' : Act} → Acts_tied a a'
       → ran after again' steps m a' ≡ ran code again steps m a
-  ran-same again again' h steps m a a' over = refl
-  ran-same again again' h steps m a a' (quiet {st} {st'} t) = h m st st' t
-  ran-same again again' h steps m a a' (makes {key} {v} {u} {i} {env} {env'} {below} {below'} t) =
+  ran-same again again' h steps m Acts_tied.over = refl
+  ran-same again again' h steps m (Acts_tied.quiet {st = st} {st' = st'} t) = h m st st' t
+  ran-same again again' h steps m (Acts_tied.makes {key = key} {v = v} {u = u} {i = i} {env = env} {env' = env'} {below = below} {below' = below'} t) =
       let w = pointer key (Core (length m.made)) in
       ap (λ b. again' (with_block m b) (Run u i (set env' v w) below')) (made-is (block_at m) key)
       ∙ h (with_block m (made code (block_at m) key)) (Run u i (set env v w) below) (Run u i (set env' v w) below') (t w)
-  ran-same again again' h steps m a a' (writes {p} {value} {st} {st'} t) = h (written_at m p.block p.field value) st st' t
-  ran-same again again' h steps m a a' (reads {p} {u} {v} {args} {below} {below'} t) =
+  ran-same again again' h steps m (Acts_tied.writes {p = p} {value = value} {st = st} {st' = st'} t) = h (written_at m p.block p.field value) st st' t
+  ran-same again again' h steps m (Acts_tied.reads {p = p} {u = u} {v = v} {args = args} {below = below} {below' = below'} t) =
       let w = content_of m (At p) (variable_default code u.0 v) in
       let w' = content_of m (At p) (variable_default after u.0 v) in
       h m (entered code u.0 (given code u.0 v args w) below) (entered after u.0 (given after u.0 v args w') below')
       (given-tied u.0 v args w w' (ap (content_of m (At p)) (default-is u.0 v)) below below' t)
 
-  run-same : (fuel steps : ℕ) (m : Blocks) (st st' : Stack) → Tied st st' → Rattle.ceal_code.specs.Fresh.run after fuel steps m st' ≡ Rattle.ceal_code.specs.Fresh.run code fuel steps m st
-  unfolding Rattle.ceal_code.specs.Fresh.run
-  run-same zero steps m st st' t = over-same steps m (next code (block_at m) st) (next after (block_at m) st') (next-tied (block_at m) st st' t)
+  run-same : (fuel steps : ℕ) (m : Blocks) (st st' : Stack) → Tied st st' → run after fuel steps m st' ≡ run code fuel steps m st
+  unfolding run
+  run-same zero steps m st st' t = over-same steps m (next-tied (block_at m) st st' t)
   run-same (suc fuel) steps m st st' t =
-      ran-same (Rattle.ceal_code.specs.Fresh.run code fuel (steps + 1)) (Rattle.ceal_code.specs.Fresh.run after fuel (steps + 1)) (λ m st st' t. run-same fuel (steps + 1) m st st' t) steps m
-      (next code (block_at m) st) (next after (block_at m) st') (next-tied (block_at m) st st' t)
+      ran-same (run code fuel (steps + 1)) (run after fuel (steps + 1)) (λ m st st' t. run-same fuel (steps + 1) m st st' t) steps m (next-tied (block_at m) st st' t)
 
   pub started-tied : (f : ℕ) (args : List Word) → Tied (started code f args) (started after f args)
   started-tied f args =
@@ -269,7 +268,7 @@ module _ (code : Code) (ok : valid code ≡ true) where
       let e : (unit_at after u).params ≡ (unit_at code u).params = ap (λ unit. unit.params) (unit-is u) in
       let words : List Word = chosen (unit_at code u).params args in
       subst (λ w. Tied (started code f args) (entered after w (chosen (unit_at after w).params args) Empty)) (sym (entry-is f))
-      (subst (λ ps. Tied (started code f args) (entered after u (chosen ps args) Empty)) (sym e) (entered-tied u words Empty Empty empty))
+      (subst (λ ps. Tied (started code f args) (entered after u (chosen ps args) Empty)) (sym e) (entered-tied u words Empty Empty Tied.empty))
 
   -- the folding runs as the code does
   pub fresh-same : (f : ℕ) (args : List Word) (inputs : List Block) (fuel : ℕ) → fresh after f args inputs fuel ≡ fresh code f args inputs fuel

@@ -102,9 +102,6 @@ pub lt-true : (a b : ℕ) → nat_lt a b ≡ true → a < b
 lt-true a b h = grind (arith, h)
 
 module _ (code : Code) (ok : valid code ≡ true) where
-  structs' : List StructInfo
-  structs' = code.structs
-
   -- a frame of the code and one of its folding
   pub data Frame_tied (u i : ℕ) (env env' : Variables) : Type 0 where
     inside : (unit : CodeUnit) (fuel : ℕ) (known : List Bool) (stepped : Bool) → slice_get code.units u ≡ Some unit
@@ -171,7 +168,7 @@ module _ (code : Code) (ok : valid code ≡ true) where
     -- the next frames
     frame-on : (envn envn' : Variables) (j fuel : ℕ) (flags : List Bool) → paths_ok code unit.function unit.body fuel j flags true ≡ true → i < j
         → Holds (F j) envn → ((v : ℕ) → later j v ≡ true → envn' v ≡ envn v) → Frame_tied u j envn envn'
-    frame-on envn envn' j fuel flags p lo h k = inside unit fuel flags true is p h (λ v m. k v (sym (ahead j v lo) ∙ m))
+    frame-on envn envn' j fuel flags p lo h k = Frame_tied.inside unit fuel flags true is p h (λ v m. k v (sym (ahead j v lo) ∙ m))
 
     -- after an assignment of the same word, on both sides
     set-tied : (n : ℕ) (w w' : Word) → w' ≡ w → ((v : ℕ) → (n == v) ≡ false → later (i + 1) v ≡ true → env' v ≡ env v) → (v : ℕ) → later (i + 1) v ≡ true → set env' n w' v ≡ set env n w v
@@ -209,10 +206,10 @@ module _ (code : Code) (ok : valid code ≡ true) where
 
         go : (b : Bool) → used_in later ((i + 1) ∷ []) v.0 ≡ b → ((z : ℕ) → used 0 (final code.structs unit.body) i z ≡ used_by later (if b then Move v e' else Tick) i z)
             → Cmds_tied u i env env' (Move v e) (if b then Move v e' else Tick)
-        go true f here = move (λ x. frame-on (set env v.0 (expr_value code.structs x env e)) (set env' v.0 (expr_value code.structs x env' e')) (i + 1) fuel (slice_set flags v.0 true) p next-up (copied x)
+        go true f here = Cmds_tied.move (λ x. frame-on (set env v.0 (expr_value code.structs x env e)) (set env' v.0 (expr_value code.structs x env' e')) (i + 1) fuel (slice_set flags v.0 true) p next-up (copied x)
             (set-tied v.0 (expr_value code.structs x env e) (expr_value code.structs x env' e') (expr-tied e (λ z m. used-tied (Move v e) (Move v e') here z m) x)
             (λ z g m. kept-tied (Move v e) (Move v e') here z g (used-follower later ((i + 1) ∷ []) (i + 1) z (among-next i) m))))
-        go false f here = dropped (λ x. frame-on (set env v.0 (expr_value code.structs x env e)) env' (i + 1) fuel (slice_set flags v.0 true) p next-up (copied x) (λ z m. unset x z m))
+        go false f here = Cmds_tied.dropped (λ x. frame-on (set env v.0 (expr_value code.structs x env e)) env' (i + 1) fuel (slice_set flags v.0 true) p next-up (copied x) (λ z m. unset x z m))
           where
             unset : (x : Plain) (z : ℕ) → later (i + 1) z ≡ true → env' z ≡ set env v.0 (expr_value code.structs x env e) z
             unset x z m = which (z == v.0) refl
@@ -224,22 +221,22 @@ module _ (code : Code) (ok : valid code ≡ true) where
                 which true g = let n : z ≡ v.0 = nat-same z v.0 g in let k : used_in later ((i + 1) ∷ []) v.0 ≡ true = ap (λ z. used_in later ((i + 1) ∷ []) z) (sym n) ∙ used' in absurd (grind (arith, f, k))
                 which false g = kept-tied (Move v e) Tick here z refl used' ∙ sym (set-other env v.0 z (expr_value code.structs x env e) g)
     cmd-tied Tick here follow fuel flags p =
-        tick (frame-on env env' (i + 1) fuel flags p next-up (subst (λ k. Holds k env) (sym (follow (i + 1) next-up (among-next i))) known)
+        Cmds_tied.tick (frame-on env env' (i + 1) fuel flags p next-up (subst (λ k. Holds k env) (sym (follow (i + 1) next-up (among-next i))) known)
         (λ z m. kept-tied Tick Tick here z refl (used-follower later ((i + 1) ∷ []) (i + 1) z (among-next i) m)))
     cmd-tied (Alloc v g args) here follow fuel flags p =
         let d = Alloc v g (folded_exprs code.structs (F i) args) in
-        alloc (exprs-tied args (λ z m. used-tied d d here z m))
+        Cmds_tied.alloc (exprs-tied args (λ z m. used-tied d d here z m))
         (λ w. frame-on (set env v.0 w) (set env' v.0 w) (i + 1) fuel (slice_set flags v.0 true) p next-up
         (subst (λ k. Holds k (set env v.0 w)) (sym (follow (i + 1) next-up (among-next i))) (holds-set (F i) env v.0 w None known tt))
         (set-tied v.0 w w refl (λ z g m. kept-tied d d here z g (used-follower later ((i + 1) ∷ []) (i + 1) z (among-next i) m))))
     cmd-tied (Modref v shape) here follow fuel flags p =
-        modref (λ w. frame-on (set env v.0 w) (set env' v.0 w) (i + 1) fuel (slice_set flags v.0 true) p next-up
+        Cmds_tied.modref (λ w. frame-on (set env v.0 w) (set env' v.0 w) (i + 1) fuel (slice_set flags v.0 true) p next-up
         (subst (λ k. Holds k (set env v.0 w)) (sym (follow (i + 1) next-up (among-next i))) (holds-set (F i) env v.0 w None known tt))
         (set-tied v.0 w w refl (λ z g m. kept-tied (Modref v shape) (Modref v shape) here z g (used-follower later ((i + 1) ∷ []) (i + 1) z (among-next i) m))))
     cmd-tied (Write q e) here follow fuel flags p =
         let q' = folded_expr code.structs (F i) q in
         let e' = folded_expr code.structs (F i) e in
-        write (expr-tied q (λ z m. used-tied (Write q e) (Write q' e') here z (or-left (mentions q' z) (mentions e' z) m)))
+        Cmds_tied.write (expr-tied q (λ z m. used-tied (Write q e) (Write q' e') here z (or-left (mentions q' z) (mentions e' z) m)))
         (expr-tied e (λ z m. used-tied (Write q e) (Write q' e') here z (or-right (mentions q' z) (mentions e' z) m)))
         (frame-on env env' (i + 1) fuel flags p next-up (subst (λ k. Holds k env) (sym (follow (i + 1) next-up (among-next i))) known)
         (λ z m. kept-tied (Write q e) (Write q' e') here z refl (used-follower later ((i + 1) ∷ []) (i + 1) z (among-next i) m)))
@@ -251,23 +248,23 @@ module _ (code : Code) (ok : valid code ≡ true) where
         let d = If t' first second in
         let lo = lt-true i first b.0 in
         let hi = lt-true i second b.1 in
-        test (expr-tied t (λ z m. used-tied d d here z m))
+        Cmds_tied.test (expr-tied t (λ z m. used-tied d d here z m))
         (frame-on env env' first fuel flags c.0 lo (subst (λ k. Holds k env) (sym (follow first lo (among-first first second))) known)
         (λ z m. kept-tied d d here z refl (used-follower later (first ∷ second ∷ []) first z (among-first first second) m)))
         (frame-on env env' second fuel flags c.1 hi (subst (λ k. Holds k env) (sym (follow second hi (among-second first second))) known)
         (λ z m. kept-tied d d here z refl (used-follower later (first ∷ second ∷ []) second z (among-second first second) m)))
-    cmd-tied Done here follow fuel flags p = done
+    cmd-tied Done here follow fuel flags p = Cmds_tied.done
     cmd-tied (Tail w args) here follow fuel flags p =
-        let d = Tail w (folded_exprs code.structs (F i) args) in tail (exprs-tied args (λ z m. used-tied d d here z m))
+        let d = Tail w (folded_exprs code.structs (F i) args) in Cmds_tied.tail (exprs-tied args (λ z m. used-tied d d here z m))
     cmd-tied (Read v q w args) here follow fuel flags p =
         let q' = folded_expr code.structs (F i) q in
         let args' = folded_exprs code.structs (F i) args in
         let d = Read v q' w args' in
-        read (expr-tied q (λ z m. used-tied d d here z (or-left (mentions q' z) (all_mention args' z) m)))
+        Cmds_tied.read (expr-tied q (λ z m. used-tied d d here z (or-left (mentions q' z) (all_mention args' z) m)))
         (exprs-tied args (λ z m. used-tied d d here z (or-right (mentions q' z) (all_mention args' z) m)))
     cmd-tied (Call g args w rest) here follow fuel flags p =
         let args' = folded_exprs code.structs (F i) args in
         let rest' = folded_exprs code.structs (F i) rest in
         let d = Call g args' w rest' in
-        call (exprs-tied args (λ z m. used-tied d d here z (or-left (all_mention args' z) (all_mention rest' z) m)))
+        Cmds_tied.call (exprs-tied args (λ z m. used-tied d d here z (or-left (all_mention args' z) (all_mention rest' z) m)))
         (exprs-tied rest (λ z m. used-tied d d here z (or-right (all_mention args' z) (all_mention rest' z) m)))

@@ -1,5 +1,5 @@
 -- The type of a folded expression: that of the expression, or that of null where the expression is a pointer.
-use Rattle.std.proofs.Common.{◌≡◌, ℕ, zero, suc, ◌==◌, ◌||◌, ◌&&◌, Bool, true, false, if◌then◌else◌, Option, Some, None, List, [], ◌∷◌, ◌⊎◌, inl, inr, refl, sym, ap, ap₂, ◌∙◌, subst, slice_get, slice_set, unwrap_or, arith}
+use Rattle.std.proofs.Common.{◌≡◌, ℕ, ℤ, zero, suc, ◌==◌, ◌||◌, ◌&&◌, Bool, true, false, if◌then◌else◌, Option, Some, None, List, [], ◌∷◌, ◌⊎◌, inl, inr, refl, sym, ap, ap₂, ◌∙◌, subst, slice_get, slice_set, unwrap_or, arith}
 use Rattle.std.specs.Prelude.{⊤}
 use Rattle.ceal_base.specs.Operators.{unary_value, binary_value, truth}
 use Rattle.ceal_base.specs.declared.kind.FieldKind.{FieldKind}
@@ -13,6 +13,7 @@ use Rattle.ceal_base.specs.declared.operators.Unary.{Unary as UnaryOp}
 use Rattle.ceal_base.specs.declared.operators.Unary.TheVariants.{Neg, Not}
 use Rattle.ceal_base.specs.declared.typed.StructInfo.{StructInfo}
 use Rattle.ceal_base.specs.declared.word.Word.{Word}
+use Rattle.ceal_base.specs.declared.word.Word.TheVariants.{Num as NumWord}
 use Rattle.ceal_code.proofs.Same.{both, both-true, nat-same}
 use Rattle.ceal_code.proofs.Typed.{kind-same}
 use Rattle.ceal_code.proofs.TypeSteps.{type-unary, type-binary, type-field, type-address}
@@ -235,19 +236,22 @@ module _ (structs : List StructInfo) (kinds : List Kind) (known : List Bool) whe
   abbrev pub Copies_typed : Copies → Type 0
   Copies_typed copies = (v : VarId) → Refined (variable_type (slice_get kinds v.0) (known_at known v.0)) (type_of structs kinds known (use_of v (copies v.0)))
 
-  constant-int : (w : Word) → ((z : _) × (w ≡ Rattle.ceal_base.specs.declared.word.Word.TheVariants.Num z)) → type_of structs kinds known (constant_expr w) ≡ Some (Some Int)
+  abbrev Is_num : Word → Type 0
+  Is_num w = (z : ℤ) × (w ≡ NumWord z)
+
+  constant-int : (w : Word) → Is_num w → type_of structs kinds known (constant_expr w) ≡ Some (Some Int)
   unfolding type_of
   constant-int w h = rw (h.1) refl
 
-  truth-num : (b : Bool) → (z : _) × (truth b ≡ Rattle.ceal_base.specs.declared.word.Word.TheVariants.Num z)
+  truth-num : (b : Bool) → Is_num (truth b)
   truth-num true = (_, refl)
   truth-num false = (_, refl)
 
-  unary-num : (op : UnaryOp) (w : Word) → (z : _) × (unary_value op w ≡ Rattle.ceal_base.specs.declared.word.Word.TheVariants.Num z)
+  unary-num : (op : UnaryOp) (w : Word) → Is_num (unary_value op w)
   unary-num Neg w = (_, refl)
   unary-num Not w = truth-num _
 
-  binary-num : (op : BinaryOp) (v w : Word) → (z : _) × (binary_value op v w ≡ Rattle.ceal_base.specs.declared.word.Word.TheVariants.Num z)
+  binary-num : (op : BinaryOp) (v w : Word) → Is_num (binary_value op v w)
   binary-num Add v w = (_, refl)
   binary-num Sub v w = (_, refl)
   binary-num Mul v w = (_, refl)

@@ -8,7 +8,7 @@ use Rattle.ceal_code.specs.declared.command.Cmd.{Cmd}
 use Rattle.ceal_code.specs.declared.command.Cmd.TheVariants.{Move, Tick, Alloc, Modref, Write, If, Done, Tail, Read, Call}
 use Rattle.ceal_fold.proofs.CopySteps.{at-same, at-other}
 use Rattle.ceal_fold.proofs.Trees.{all-after, same-tree, tree-apart}
-use Rattle.ceal_fold.specs.Folding.{is_among, ticked, used, used_in, used_by, without_unused}
+use Rattle.ceal_fold.specs.Folding.{is_among, ticked, uses, assigns, used, used_in, used_by, without_unused}
 use Rattle.ceal_fold.specs.States.{flag_at, flags_at}
 
 pub sets-same : (sets : List (List Bool)) (i : ℕ) (s : List Bool) (u : ℕ) → i < length sets → flags_at (slice_set sets i s) i u ≡ flag_at s u
@@ -193,7 +193,7 @@ module _ (cs : List Cmd) (c : Cmd) (done : List Cmd) (tree : is_tree (cs ++ c �
       go true e f g =
           let i : j ≡ length cs = nat-same j (length cs) e in
           ap (λ j. flags_at sets' j u) i ∙ here u
-          ∙ ap (λ b. Rattle.ceal_fold.specs.Folding.uses d u || (not (Rattle.ceal_fold.specs.Folding.assigns d u) && b)) (ap (λ js. used_in (flags_at sets) js u) (same (length cs)) ∙ later-right u ∙ ap (λ js. used_in (used (length cs + 1) done) js u) (sym (same (length cs))))
+          ∙ ap (λ b. uses d u || (not (assigns d u) && b)) (ap (λ js. used_in (flags_at sets) js u) (same (length cs)) ∙ later-right u ∙ ap (λ js. used_in (used (length cs + 1) done) js u) (sym (same (length cs))))
       go false e f g = others j u (λ i. grind (arith, e, i)) f ∙ right j u g
 
   pub tree-right : (d : Cmd) → ((i : ℕ) → followers d i ≡ followers c i) → is_tree (cs ++ d ∷ done) ≡ true

@@ -22,7 +22,7 @@ use Rattle.ceal_fold.proofs.ReplaceSteps.{set-length}
 use Rattle.ceal_fold.proofs.Runs.{unit-tree, unit-path}
 use Rattle.ceal_fold.proofs.Simulated.{final, Spot, spot, used-follower, among-next, among-first, among-second, lt-true}
 use Rattle.ceal_fold.proofs.Types.{Refined, refined-refl, refined-fits, refined-maybe, refined-place, refined-write, known_at, Copies_typed, type-folded, type-final, all-final, params-final}
-use Rattle.ceal_fold.specs.Folding.{Copies, no_copies, at_root, use_of, copies_after, copy_by, copy_without, assigned, folded_expr, folded_exprs, folded_command, replaced, mentions, all_mention, uses, assigns, used, used_in, used_by, ticked, without_unused, folded_unit, folded_units, folded}
+use Rattle.ceal_fold.specs.Folding.{Copies, no_copies, at_root, use_of, copies_after, copy_by, copy_without, assigned, is_among, folded_expr, folded_exprs, folded_command, replaced, mentions, all_mention, uses, assigns, used, used_in, used_by, ticked, without_unused, folded_unit, folded_units, folded}
 use Rattle.ceal_fold.specs.declared.copies.Copied.{Copied}
 use Rattle.ceal_fold.specs.declared.copies.Copied.TheVariants.{Num as CopiedNum, Null as CopiedNull, Var as CopiedVar}
 
@@ -277,11 +277,11 @@ module _ (code : Code) (ok : valid code ≡ true) where
               turn false g = refl
               turn true g = absurd (grind (arith, e, g))
 
-      keep-live : (d : Cmd) (here : (z : ℕ) → U i z ≡ used_by later d i z) → ((z : ℕ) → assigns d z ≡ false) → (j : ℕ) → i < j → Rattle.ceal_fold.specs.Folding.is_among j (followers d i) ≡ true → Live j known known'
+      keep-live : (d : Cmd) (here : (z : ℕ) → U i z ≡ used_by later d i z) → ((z : ℕ) → assigns d z ≡ false) → (j : ℕ) → i < j → is_among j (followers d i) ≡ true → Live j known known'
       keep-live d here a j lo m z g k = kept-known d here z (a z) (used-follower later (followers d i) j z m (sym (ahead j z lo) ∙ g)) k
 
       cmd-go : (c : Cmd) → ((v : ℕ) → U i v ≡ used_by later (ticked (used_in later (followers c i)) (fold-it c)) i v)
-          → ((j : ℕ) → i < j → Rattle.ceal_fold.specs.Folding.is_among j (followers c i) ≡ true → F j ≡ copies_after (F i) (fold-it c))
+          → ((j : ℕ) → i < j → is_among j (followers c i) ≡ true → F j ≡ copies_after (F i) (fold-it c))
           → command_ok code f known stepped c ≡ true → onward (paths_ok code f body n) c i known ≡ true → Goes (ticked (used_in later (followers c i)) (fold-it c))
       cmd-go (Move v e) here follow k p = go (used_in later ((i + 1) ∷ []) v.0) refl here
         where
