@@ -189,7 +189,7 @@ module _ (code : Code) (ok : valid code ≡ true) where
     next-up : i < i + 1
     next-up = omega arith
 
-    cmd-tied : (c : Cmd) → ((v : ℕ) → used 0 (final code.structs unit.body) i v ≡ used_by later (ticked (used_in later (followers c i)) (folds c)) i v)
+    pub cmd-tied : (c : Cmd) → ((v : ℕ) → used 0 (final code.structs unit.body) i v ≡ used_by later (ticked (used_in later (followers c i)) (folds c)) i v)
         → ((j : ℕ) → i < j → is_among j (followers c i) ≡ true → F j ≡ copies_after (F i) (folds c))
         → (fuel : ℕ) (flags : List Bool) → onward (paths_ok code unit.function unit.body fuel) c i flags ≡ true
         → Cmds_tied u i env env' c (ticked (used_in later (followers c i)) (folds c))

@@ -141,7 +141,7 @@ module _ (structs : List StructInfo) (kinds : List Kind) (known : List Bool) whe
   unfolding type_of no_copies
   none-typed w = refined-refl (variable_type (slice_get kinds w.0) (known_at known w.0))
 
-map-unit : List StructInfo → Option CodeUnit → Option CodeUnit
+abbrev map-unit : List StructInfo → Option CodeUnit → Option CodeUnit
 map-unit structs None = None
 map-unit structs (Some unit) = Some (folded_unit structs unit)
 

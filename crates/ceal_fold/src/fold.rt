@@ -68,7 +68,7 @@ fn fold_code(alloc: Global, code: &Code) -> Result<Code, NoMemory>
 
 /// Replaces copies and operators on constants in each unit from the root down, and then makes each move that nothing
 /// later uses a step that does nothing. Initialisers stay, and so do the indices of a body. It takes time in
-/// proportion to the commands and the variables of each function (the definition is our own).
+/// proportion to the commands times the variables that a function's paths assign (the definition is our own).
 pub fn fold(alloc: Global, code: Code) -> Result<Code, NoMemory>
     requires valid { valid code ≡ true }
     ensures exact { IfOk result (λ c. c ≡ folded code) }

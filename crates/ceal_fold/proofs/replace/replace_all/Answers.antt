@@ -22,7 +22,7 @@ loop-command-preserved c =
     record {
       whole = walk-on c.args.structs.now c.loop-command.states.items c.replace_at.new.states.items c.loop-command.index c.in-Some.command.now c.in_ok-command.command c.in-Some.more.now
           c.loop-command.rest.now c.loop-command.done.items c.push.new.self.items _
-          c.in-Some.ensures.cases c.in_ok-push.ensures.items c.in_ok-command.ensures.command (omega (arith, w.left, w.long)) c.in_ok-command.ensures.handed w.whole;
+          c.in-Some.ensures.cases.0 c.in_ok-push.ensures.items c.in_ok-command.ensures.command (omega (arith, w.left, w.long)) c.in_ok-command.ensures.handed w.whole;
       long = c.in_ok-command.ensures.length ∙ w.long;
-      left = omega (arith, w.left, ap length c.in-Some.ensures.cases);
+      left = omega (arith, w.left, ap length c.in-Some.ensures.cases.0);
     }
