@@ -26,7 +26,7 @@ use Rattle.ceal_code.specs.declared.function.FunctionCode.TheVariants.{Core as C
 use Rattle.ceal_fold.proofs.Bodies.{facts, facts-root}
 use Rattle.ceal_fold.proofs.Simulated.{final, Spot, spot, Frame_tied, Cmds_tied, cmd-tied}
 use Rattle.ceal_fold.proofs.Values.{Holds, holds-none}
-use Rattle.ceal_fold.specs.Folding.{no_copies, at_root, replaced, used, used_in, used_by, without_unused, folded_unit, folded_units, folded}
+use Rattle.ceal_fold.specs.Folding.{no_copies, at_root, folded_command, ticked, replaced, used, used_in, used_by, without_unused, folded_unit, folded_units, folded}
 
 abbrev none : CodeUnit
 none = record { function = 0; params = []; body = [] }
@@ -104,7 +104,7 @@ module _ (code : Code) (ok : valid code ≡ true) where
           let s = spot code.structs unit.body i c (unit-tree code unit (unit-valid code ok u unit is)) e in
           let p : unit_at code u ≡ unit = ap (λ o. unwrap_or o none) is in
           let a : command_at code u i ≡ c = ap (λ unit. unwrap_or (slice_get unit.body i) Done) p ∙ ap (λ o. unwrap_or o Done) e in
-          let b : command_at after u i ≡ _ = ap (λ unit. unwrap_or (slice_get unit.body i) Done) (unit-is u ∙ ap (folded_unit code.structs) p) ∙ ap (λ o. unwrap_or o Done) s.there in
+          let b : command_at after u i ≡ ticked (used_in s.later (followers c i)) (folded_command code.structs (facts code.structs at_root 0 unit.body i) c) = ap (λ unit. unwrap_or (slice_get unit.body i) Done) (unit-is u ∙ ap (folded_unit code.structs) p) ∙ ap (λ o. unwrap_or o Done) s.there in
           subst (λ c. Cmds_tied code ok u i env env' c (command_at after u i)) (sym a)
           (subst (Cmds_tied code ok u i env env' c) (sym b) (cmd-tied code ok u i env env' unit is known same s.later s.ahead c s.here s.follow n flags h))
 
