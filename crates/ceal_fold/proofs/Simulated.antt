@@ -54,7 +54,7 @@ spot-around structs before c after tree =
     let long : length t.before' ≡ i = t.long ∙ q.long in
     let is : followers d i ≡ followers c i = folded-followers structs k c i in
     let whole : final structs body ≡ t.before' ++ ticked (used_in (used (i + 1) t.after') (followers c i)) d ∷ t.after' =
-        ap (without_unused 0) q.whole ∙ t.whole ∙ ap (λ js. t.before' ++ ticked (used_in (used (i + 1) t.after') js) d ∷ t.after') is in
+    ap (without_unused 0) q.whole ∙ t.whole ∙ ap (λ js. t.before' ++ ticked (used_in (used (i + 1) t.after') js) d ∷ t.after') is in
     let e = ticked (used_in (used (i + 1) t.after') (followers c i)) d in
     record {
       later = used (i + 1) t.after';

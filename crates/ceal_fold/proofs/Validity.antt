@@ -389,9 +389,9 @@ module _ (code : Code) (ok : valid code ≡ true) where
       let r = both (is_tree unit.body) (paths_ok code f unit.body (length unit.body) 0 begun false) q.1 in
       let tree : is_tree B ≡ true = ticked-tree (replaced code.structs at_root 0 unit.body) ∙ replaced-tree code.structs unit.body ∙ r.0 in
       let paths : paths_ok folds f B (length B) 0 begun false ≡ true =
-          ap (λ n. paths_ok folds f B n 0 begun false) (folded-length code.structs unit.body)
-          ∙ paths-go f unit.body r.0 (length unit.body) 0 begun begun false refl r.1
-          (subst (Copies_typed code.structs (kinds_of code f) begun) (sym (facts-root code.structs unit.body)) (none-typed code.structs (kinds_of code f) begun)) (λ v m k. k) in
+      ap (λ n. paths_ok folds f B n 0 begun false) (folded-length code.structs unit.body)
+      ∙ paths-go f unit.body r.0 (length unit.body) 0 begun begun false refl r.1
+      (subst (Copies_typed code.structs (kinds_of code f) begun) (sym (facts-root code.structs unit.body)) (none-typed code.structs (kinds_of code f) begun)) (λ v m k. k) in
       both-true (is_core (slice_get code.functions f)) (below (length (kinds_of code f)) unit.params && body_ok folds f unit.params B) p.0
       (both-true (below (length (kinds_of code f)) unit.params) (body_ok folds f unit.params B) q.0
       (both-true (is_tree B) (paths_ok folds f B (length B) 0 begun false) tree paths))
