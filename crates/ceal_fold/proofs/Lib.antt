@@ -1,0 +1,14 @@
+pub mod ExprSteps
+pub mod CopySteps
+pub mod Trees
+pub mod ReplaceSteps
+pub mod UseSteps
+pub mod UnusedSteps
+pub mod Bodies
+pub mod Values
+pub mod Simulated
+pub mod Runs
+pub mod Validity
+pub mod Types
+pub mod UnitTrees
+pub mod UnitSteps

@@ -1,0 +1,113 @@
+-- The pass from the root down.
+use Rattle.std.proofs.Common.{◌≡◌, ℕ, zero, suc, ◌+◌, ◌<◌, ◌≤◌, ◌==◌, ◌||◌, Bool, true, false, if◌then◌else◌, Option, List, [], ◌∷◌, ◌++◌, refl, sym, ap, ap₂, ◌∙◌, length, replicate, arith, append_assoc, slice_get, slice_set, unwrap_or}
+use Rattle.std.proofs.lemmas.List.{append-nil}
+use Rattle.ceal_base.specs.declared.typed.StructInfo.{StructInfo}
+use Rattle.ceal_code.proofs.Same.{nat-same}
+use Rattle.ceal_code.specs.Valid.{followers}
+use Rattle.ceal_code.specs.declared.command.Cmd.{Cmd}
+use Rattle.ceal_fold.proofs.CopySteps.{at-same, at-other}
+use Rattle.ceal_fold.specs.Folding.{Copies, at_root, no_copies, copies_after, folded_command, is_among, handed, replaced}
+use Rattle.ceal_fold.specs.States.{copy_at, copies_at}
+use Rattle.ceal_fold.specs.declared.copies.Copied.{Copied}
+
+pub set-length : {A : Type 0} (xs : List A) (i : ℕ) (x : A) → length (slice_set xs i x) ≡ length xs
+set-length [] i x = refl
+set-length (y ∷ xs) zero x = refl
+set-length (y ∷ xs) (suc i) x = ap suc (set-length xs i x)
+
+pub states-same : (states : List (List (Option Copied))) (i : ℕ) (s : List (Option Copied)) → i < length states → copies_at (slice_set states i s) i ≡ copy_at s
+unfolding copies_at
+states-same states i s h = ap copy_at (at-same [] states i s h)
+
+pub states-other : (states : List (List (Option Copied))) (i : ℕ) (s : List (Option Copied)) (j : ℕ) → (j ≡ i → ⊥) → copies_at (slice_set states i s) j ≡ copies_at states j
+unfolding copies_at
+states-other states i s j h = ap copy_at (at-other [] states i s j h)
+
+pub hand-none : (states : List (List (Option Copied))) (k : Copies) (j : ℕ) → copies_at states j ≡ (if is_among j [] then k else copies_at states j)
+unfolding is_among
+hand-none states k j = refl
+
+pub hand-one : (states : List (List (Option Copied))) (i : ℕ) (s : List (Option Copied)) (j : ℕ) → j < length states
+    → copies_at (slice_set states i s) j ≡ (if is_among j (i ∷ []) then copy_at s else copies_at states j)
+unfolding is_among
+hand-one states i s j h = go (j == i) refl
+  where
+    go : (b : Bool) → (j == i) ≡ b → copies_at (slice_set states i s) j ≡ (if b || false then copy_at s else copies_at states j)
+    go true e = let k : j ≡ i = nat-same j i e in rw (← k) (states-same states j s h)
+    go false e = states-other states i s j (λ k. grind (arith, e, k))
+
+pub hand-two : (states : List (List (Option Copied))) (i k : ℕ) (s : List (Option Copied)) (j : ℕ) → j < length states
+    → copies_at (slice_set (slice_set states i s) k s) j ≡ (if is_among j (i ∷ k ∷ []) then copy_at s else copies_at states j)
+unfolding is_among
+hand-two states i k s j h = go (j == i) refl (j == k) refl
+  where
+    long : length (slice_set states i s) ≡ length states
+    long = set-length states i s
+
+    go : (a : Bool) → (j == i) ≡ a → (b : Bool) → (j == k) ≡ b → copies_at (slice_set (slice_set states i s) k s) j ≡ (if a || (b || false) then copy_at s else copies_at states j)
+    go true e true f = let m : j ≡ k = nat-same j k f in rw (← m) (states-same (slice_set states i s) j s (omega (arith, h, long)))
+    go false e true f = let m : j ≡ k = nat-same j k f in rw (← m) (states-same (slice_set states i s) j s (omega (arith, h, long)))
+    go true e false f =
+        let m : j ≡ i = nat-same j i e in
+        states-other (slice_set states i s) k s j (λ z. grind (arith, f, z)) ∙ rw (← m) (states-same states j s h)
+    go false e false f = states-other (slice_set states i s) k s j (λ z. grind (arith, f, z)) ∙ states-other states i s j (λ z. grind (arith, e, z))
+
+pub root-none : (n : ℕ) (j : ℕ) → copies_at (replicate n []) j ≡ no_copies
+unfolding copies_at copy_at no_copies
+root-none zero j = refl
+root-none (suc n) zero = refl
+root-none (suc n) (suc j) = root-none n j
+
+-- what the followers of a command are handed
+pub handed-is : (states : List (List (Option Copied))) (i : ℕ) (c : Cmd) (state : List (Option Copied)) (j : ℕ) (new : Copies)
+    → new ≡ (if is_among j (followers c i) then copy_at state else copies_at (slice_set states i []) j)
+    → copy_at state ≡ copies_after (copies_at states i) c → i < j → new ≡ handed (copies_at states) i c j
+unfolding handed
+handed-is states i c state j new e k lo =
+    e ∙ ap₂ (λ a b. if is_among j (followers c i) then a else b) k (states-other states i [] j (λ h. omega (arith, lo, h)))
+
+module _ (structs : List StructInfo) where
+  pub replaced-same : (at at' : ℕ → Copies) (i : ℕ) (cs : List Cmd) → ((j : ℕ) → i ≤ j → j < i + length cs → at j ≡ at' j) → replaced structs at i cs ≡ replaced structs at' i cs
+  unfolding replaced handed
+  replaced-same at at' i [] h = refl
+  replaced-same at at' i (c ∷ cs) h =
+      let e : at i ≡ at' i = h i (omega arith) (omega arith) in
+      ap₂ (λ k rest. folded_command structs k c ∷ rest) e
+      (replaced-same (handed at i (folded_command structs (at i) c)) (handed at' i (folded_command structs (at' i) c)) (i + 1) cs
+      (λ j lo hi. ap₂ (λ k l. if is_among j (followers (folded_command structs k c) i) then copies_after k (folded_command structs k c) else l) e (h j (omega (arith, lo)) (omega (arith, hi)))))
+
+  pub replaced-step : (at at' : ℕ → Copies) (i : ℕ) (c : Cmd) (cs : List Cmd)
+      → ((j : ℕ) → i < j → j < i + length (c ∷ cs) → at' j ≡ handed at i (folded_command structs (at i) c) j)
+      → replaced structs at i (c ∷ cs) ≡ folded_command structs (at i) c ∷ replaced structs at' (i + 1) cs
+  unfolding replaced
+  replaced-step at at' i c cs h =
+      ap (λ rest. folded_command structs (at i) c ∷ rest)
+      (sym (replaced-same at' (handed at i (folded_command structs (at i) c)) (i + 1) cs (λ j lo hi. h j (omega (arith, lo)) (omega (arith, hi)))))
+
+  pub replaced-end : (at : ℕ → Copies) (i : ℕ) (cs : List Cmd) → length cs ≡ 0 → replaced structs at i cs ≡ []
+  unfolding replaced
+  replaced-end at i [] h = refl
+  replaced-end at i (c ∷ cs) h = absurd (omega (arith, h))
+
+pub replicate-length : {A : Type 0} (n : ℕ) (x : A) → length (replicate n x) ≡ n
+replicate-length zero x = refl
+replicate-length (suc n) x = ap suc (replicate-length n x)
+
+pub walk-on : (structs : List StructInfo) (states states' : List (List (Option Copied))) (i : ℕ) (c command : Cmd) (cs rest done done' whole : List Cmd)
+    → rest ≡ c ∷ cs → done' ≡ done ++ command ∷ [] → command ≡ folded_command structs (copies_at states i) c → i + length rest ≡ length states
+    → ((j : ℕ) → i < j → j < length states → copies_at states' j ≡ handed (copies_at states) i command j)
+    → (done ++ replaced structs (copies_at states) i rest) ≡ whole → (done' ++ replaced structs (copies_at states') (i + 1) cs) ≡ whole
+walk-on structs states states' i c command cs rest done done' whole r p e n h w =
+    let long : i + length (c ∷ cs) ≡ length states = ap (λ rest. i + length rest) (sym r) ∙ n in
+    let step = replaced-step structs (copies_at states) (copies_at states') i c cs (λ j lo hi. h j lo (omega (arith, hi, long)) ∙ ap (λ d. handed (copies_at states) i d j) e) in
+    ap (λ ds. ds ++ replaced structs (copies_at states') (i + 1) cs) p
+    ∙ append_assoc done (command ∷ []) (replaced structs (copies_at states') (i + 1) cs)
+    ∙ ap (λ d. done ++ d ∷ replaced structs (copies_at states') (i + 1) cs) e
+    ∙ ap (λ ds. done ++ ds) (sym step)
+    ∙ ap (λ rest. done ++ replaced structs (copies_at states) i rest) (sym r) ∙ w
+
+pub ruleset take_steps = (states-same)
+
+pub ruleset hand_steps = (hand-none, hand-one, hand-two)
+
+pub ruleset walk_steps = (replaced-end, append_assoc, append-nil)

@@ -1,0 +1,81 @@
+// Folding of a whole program.
+
+ghost use Rattle.std.specs.Prelude.{◌≡◌, ℕ, true, List, IfOk};
+ghost use Rattle.ceal_base.specs.Block.{Block};
+ghost use Rattle.ceal_base.specs.declared.word.Word.{Word};
+ghost use Rattle.ceal_code.specs.Fresh.{fresh};
+ghost use Rattle.ceal_code.specs.Valid.{valid, is_tree};
+ghost use Rattle.ceal_fold.specs.Folding.{folded, folded_unit, folded_units};
+ghost use Rattle.ceal_fold.specs.Trees.{are_trees};
+
+use crate::copied_code::{copied_functions, copied_kinds};
+use crate::replace::replace_all;
+use crate::unused::tick_all;
+use ceal_base::copies::copied_structs;
+use ceal_base::no_memory::NoMemory;
+use ceal_base::typed::StructInfo;
+use ceal_code::code::Code;
+use ceal_code::command::Cmd;
+use ceal_code::expr::VarId;
+use ceal_code::unit::Unit;
+use std::alloc::Global;
+
+fn copied_params(alloc: Global, params: &[VarId]) -> Result<Vec<VarId>, NoMemory>
+    ensures equal { IfOk result (λ copy. copy.items ≡ params.now) }
+{
+    let mut copies = Vec::new(alloc);
+    for p in params {
+        copies.push(*p)?;
+    }
+    Ok(copies)
+}
+
+fn fold_unit(alloc: Global, structs: &[StructInfo], unit: &Unit) -> Result<Unit, NoMemory>
+    requires tree { is_tree unit.now.body ≡ true }
+    ensures value { IfOk result (λ u. u ≡ folded_unit structs.now unit.now) }
+{
+    let params = copied_params(alloc, unit.params())?;
+    let body = replace_all(alloc, structs, unit.body())?;
+    let body = tick_all(alloc, body)?;
+    Ok(Unit::new(unit.function, params, body))
+}
+
+#[tactic(auto, using(crate::proofs::UnitSteps::unit_steps))]
+fn fold_units(alloc: Global, structs: &[StructInfo], units: &[Unit]) -> Result<Vec<Unit>, NoMemory>
+    requires trees { are_trees units.now ≡ true }
+    ensures value { IfOk result (λ v. v.items ≡ folded_units structs.now units.now) }
+{
+    let mut folded = Vec::new(alloc);
+    let mut rest = units;
+    while let Some((unit, more)) = rest.split_first() {
+        let after = fold_unit(alloc, structs, unit)?;
+        folded.push(after)?;
+        rest = more;
+    }
+    Ok(folded)
+}
+
+fn fold_code(alloc: Global, code: &Code) -> Result<Code, NoMemory>
+    requires trees { are_trees code.now.units ≡ true }
+    ensures exact { IfOk result (λ c. c ≡ folded code.now) }
+{
+    let structs = copied_structs(alloc, code.structs.items())?;
+    let functions = copied_functions(alloc, code.functions())?;
+    let kinds = copied_kinds(alloc, code.all_kinds())?;
+    let units = fold_units(alloc, code.structs.items(), code.units())?;
+    Ok(Code::new(structs, functions, units, kinds))
+}
+
+/// Replaces copies and operators on constants in each unit from the root down, and then makes each move that nothing
+/// later uses a step that does nothing. Initialisers stay, and so do the indices of a body. It takes time in
+/// proportion to the commands times the variables that a function's paths assign (the definition is our own).
+pub fn fold(alloc: Global, code: Code) -> Result<Code, NoMemory>
+    requires valid { valid code ≡ true }
+    ensures exact { IfOk result (λ c. c ≡ folded code) }
+    ensures valid { IfOk result (λ c. valid c ≡ true) }
+    ensures same_run { IfOk result (λ c. (f : ℕ) (args : List Word) (inputs : List Block) (fuel : ℕ)
+        → fresh c f args inputs fuel ≡ fresh code f args inputs fuel) }
+{
+    let after = fold_code(alloc, &code)?;
+    Ok(after)
+}

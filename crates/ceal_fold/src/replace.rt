@@ -1,0 +1,149 @@
+// From the root of a body down: each command with its expressions folded.
+
+ghost use Rattle.std.specs.Prelude.{◌≡◌, ◌<◌, ◌^◌, ℕ, [], length, slice_get, slice_set, replicate, if◌then◌else◌, IfOk};
+ghost use Rattle.ceal_code.specs.Valid.{followers};
+ghost use Rattle.ceal_fold.specs.Folding.{at_root, copies_after, is_among, folded_command, handed, replaced};
+ghost use Rattle.ceal_fold.specs.States.{copy_at, copies_at};
+
+use crate::copies::{Copied, pass};
+use crate::expr::fold_command;
+use ceal_base::items::Items;
+use ceal_base::no_memory::NoMemory;
+use ceal_base::typed::StructInfo;
+use ceal_code::command::Cmd;
+use std::alloc::Global;
+use std::mem;
+
+/// What each variable is a copy of, by its number.
+type State = Items<Option<Copied>>;
+
+fn no_states(alloc: Global, n: usize) -> Result<Vec<State>, NoMemory>
+    ensures { IfOk result (λ v. v.items ≡ replicate n []) }
+{
+    let mut states = Vec::new(alloc);
+    for i in 0..n {
+        states.push(Items::empty(alloc))?;
+    }
+    Ok(states)
+}
+
+/// Takes the state at an index out, and leaves an empty one there.
+#[tactic(auto, using(crate::proofs::ReplaceSteps::take_steps), unfolding(crate::specs::States::copies_at))]
+fn take_state(alloc: Global, states: &mut Vec<State>, at: usize) -> State
+    requires there { at < length states.old.items }
+    ensures state { copy_at result ≡ copies_at states.old.items at }
+    ensures left { states.new.items ≡ slice_set states.old.items at [] }
+{
+    mem::replace(&mut states[at], Items::empty(alloc))
+}
+
+/// Hands a state to an index, if it is there.
+fn hand(states: &mut Vec<State>, at: usize, state: State)
+    ensures { states.new.items ≡ slice_set states.old.items at state }
+{
+    if at < states.len() {
+        states[at] = state;
+    }
+}
+
+fn copied_state(alloc: Global, state: &[Option<Copied>]) -> Result<State, NoMemory>
+    ensures equal { IfOk result (λ copy. copy ≡ state.now) }
+{
+    let mut copies = Vec::new(alloc);
+    for copy in state {
+        copies.push(*copy)?;
+    }
+    Ok(Items::new(copies))
+}
+
+/// Hands a state to the followers of a command.
+#[tactic(auto, using(crate::proofs::ReplaceSteps::hand_steps))]
+fn hand_on(
+    alloc: Global,
+    states: &mut Vec<State>,
+    state: State,
+    command: &Cmd,
+    index: usize,
+) -> Result<(), NoMemory>
+    requires room { index < 2 ^ 63 }
+    ensures length { IfOk result (λ _. length states.new.items ≡ length states.old.items) }
+    ensures value { IfOk result (λ _. (j : ℕ) → j < length states.old.items → copies_at states.new.items j
+        ≡ (if is_among j (followers command.now index) then copy_at state else copies_at states.old.items j)) }
+{
+    match command {
+        Cmd::Move { .. } => {
+            hand(states, index + 1, state);
+            Ok(())
+        }
+        Cmd::Tick => {
+            hand(states, index + 1, state);
+            Ok(())
+        }
+        Cmd::Alloc { .. } => {
+            hand(states, index + 1, state);
+            Ok(())
+        }
+        Cmd::Modref { .. } => {
+            hand(states, index + 1, state);
+            Ok(())
+        }
+        Cmd::Write { .. } => {
+            hand(states, index + 1, state);
+            Ok(())
+        }
+        Cmd::If { yes, no, .. } => {
+            let other = copied_state(alloc, state.items())?;
+            hand(states, *yes as usize, other);
+            hand(states, *no as usize, state);
+            Ok(())
+        }
+        Cmd::Done => Ok(()),
+        Cmd::Tail { .. } => Ok(()),
+        Cmd::Read { .. } => Ok(()),
+        Cmd::Call { .. } => Ok(()),
+    }
+}
+
+/// Folds the command at an index, and hands what is known after it to its followers.
+fn replace_at(
+    alloc: Global,
+    structs: &[StructInfo],
+    states: &mut Vec<State>,
+    command: &Cmd,
+    index: usize,
+) -> Result<Cmd, NoMemory>
+    requires there { index < length states.old.items }
+    requires room { index < 2 ^ 63 }
+    ensures command { IfOk result (λ c. c ≡ folded_command structs.now (copies_at states.old.items index) command.now) }
+    ensures length { IfOk result (λ c. length states.new.items ≡ length states.old.items) }
+    ensures handed { IfOk result (λ c. (j : ℕ) → index < j → j < length states.old.items
+        → copies_at states.new.items j ≡ handed (copies_at states.old.items) index c j) }
+{
+    let mut known = take_state(alloc, states, index).into_vec();
+    let command = fold_command(alloc, structs, known.as_slice(), command)?;
+    pass(&mut known, &command)?;
+    hand_on(alloc, states, Items::new(known), &command, index)?;
+    Ok(command)
+}
+
+/// The commands of a body, each with its expressions folded.
+#[tactic(auto, using(crate::proofs::ReplaceSteps::walk_steps))]
+pub fn replace_all(
+    alloc: Global,
+    structs: &[StructInfo],
+    body: &[Cmd],
+) -> Result<Vec<Cmd>, NoMemory>
+    ensures value { IfOk result (λ done. done.items ≡ replaced structs.now at_root 0 body.now) }
+{
+    let mut states = no_states(alloc, body.len())?;
+    let mut done = Vec::new(alloc);
+    let mut rest = body;
+    let mut index = 0;
+    while let Some((command, more)) = rest.split_first() {
+        let command = replace_at(alloc, structs, &mut states, command, index)?;
+        done.push(command)?;
+        index += 1;
+        rest = more;
+    }
+    Ok(done)
+}
