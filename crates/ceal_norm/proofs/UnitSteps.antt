@@ -10,8 +10,7 @@ use Rattle.ceal_flow.specs.declared.block.GraphBlock.TheVariants.{Done, Test, Ac
 use Rattle.ceal_flow.specs.declared.function.GraphFunction.{GraphFunction}
 use Rattle.ceal_flow.specs.declared.function.GraphFunction.TheVariants.{Core, Init}
 use Rattle.ceal_norm.specs.Entries.{is_entry}
-use Rattle.ceal_norm.specs.Numbers.{is_done}
-use Rattle.ceal_norm.specs.Units.{Source, core_numbers, ends_before, unit_code, units_before}
+use Rattle.ceal_norm.specs.Units.{Source, core_numbers, ends_before, is_done, unit_code, units_before}
 
 pub cores-end : (n : ℕ) (fs : List GraphFunction) → length fs ≡ 0 → core_numbers n fs ≡ []
 unfolding core_numbers

@@ -52,8 +52,8 @@ abbrev pub Run_law : Type 0
 Run_law = (p : Typed) (sets : List (List ℕ)) → WellTyped p → KeepsUsage p → AreLiveSets (graph_of p).blocks sets
     → RunsAs (code_of (source_of p sets)) p
 
--- the code is that of the program, by its graph and the variables that are live there
-pub record IsCodeOf (p : Typed) (code : Code) : Type 0 where
+-- the code of the program's units, by its graph and the variables that are live there
+pub record AreUnitsOf (p : Typed) (code : Code) : Type 0 where
   pub live : List (List ℕ)
   pub exact_live : AreLiveSets (graph_of p).blocks live
   pub same : code ≡ code_of (source_of p live)

@@ -4,4 +4,3 @@ pub mod Units
 pub mod Laws
 pub mod Table
 pub mod Body
-pub mod Numbers

@@ -1,6 +1,6 @@
 -- The units of a graph (our own). Each entry heads a tree of blocks, of which its unit is made: a path ends where a jump
 -- leads to an entry, and at a read, a call and the end of the function.
-use Rattle.std.specs.Prelude.{ℕ, zero, suc, ◌+◌, ◌==◌, Option, Some, None, List, [], ◌∷◌, ◌++◌, length, map, take, slice_get, slice_index_or, unwrap_or, if◌then◌else◌}
+use Rattle.std.specs.Prelude.{ℕ, zero, suc, ◌+◌, ◌==◌, Bool, true, false, Option, Some, None, List, [], ◌∷◌, ◌++◌, length, map, take, slice_get, slice_index_or, unwrap_or, if◌then◌else◌}
 use Rattle.ceal_base.specs.declared.forest.UnitId.{UnitId}
 use Rattle.ceal_base.specs.declared.kind.Kind.{Kind}
 use Rattle.ceal_base.specs.declared.kind.Shape.TheVariants.{ModInt, ModPtr}
@@ -33,9 +33,12 @@ pub record Source : Type 0 where
 abbrev pub unit_of : Source → ℕ → UnitId
 unit_of s b = record { 0 = entries_before s.graph b }
 
+abbrev pub variables : List ℕ → List VarId
+variables vs = map variable vs
+
 -- the parameters of the unit of an entry: exactly the variables that are live there
 abbrev pub params_of : Source → ℕ → List VarId
-params_of s b = map variable (set_at s.live b)
+params_of s b = variables (set_at s.live b)
 
 -- each variable stands for itself
 abbrev pub own_args : List ℕ → List CodeExpr
@@ -100,6 +103,11 @@ block_code s onward i _ = command.Done ∷ []
 unfoldable pub tree : Source → ℕ → Placed
 tree s zero b i = []
 tree s (suc depth) b i = block_code s (jump_code s (tree s depth)) i (slice_get s.graph.blocks b)
+
+-- the end of a function
+abbrev pub is_done : GraphBlock → Bool
+is_done Done = true
+is_done _ = false
 
 -- how many functions end before the block: the blocks of each end with its end
 unfoldable pub ends_before : List GraphBlock → ℕ → ℕ

@@ -10,6 +10,7 @@ ghost use Rattle.ceal_norm.specs.Units.{unit_of, args_of, closure_args, call_arg
 
 use crate::entries::ends_unit;
 use crate::expressions::{call_args_of, expr_of, exprs_of, other_args_of, own_args_of};
+use crate::number::{next_number, number};
 use crate::plan::Plan;
 use ceal_base::kind::Shape;
 use ceal_base::no_memory::NoMemory;
@@ -151,25 +152,6 @@ fn tail(alloc: Global, plan: &Plan<'_>, b: u32) -> Result<Cmd, NoMemory>
     })
 }
 
-/// An index of a body; memory for so many commands that there is none does not exist.
-fn index(n: usize) -> Result<u32, NoMemory>
-    ensures { IfOk result (λ i. i ≡ n) }
-{
-    match u32::try_from(n) {
-        Err(_) => Err(NoMemory),
-        Ok(i) => Ok(i),
-    }
-}
-
-fn next_index(i: u32) -> Result<u32, NoMemory>
-    ensures { IfOk result (λ j. j ≡ i + 1) }
-{
-    match i.checked_add(1) {
-        None => Err(NoMemory),
-        Some(j) => Ok(j),
-    }
-}
-
 /// Puts the block that follows, if the path goes on.
 fn put_following(pending: &mut Vec<Pending>, on: bool, next: u32) -> Result<(), NoMemory>
     ensures { OnOk result (reverse pending.new.items ≡ following on next ++ reverse pending.old.items) }
@@ -241,8 +223,8 @@ fn put_test(
     ensures longer { OnOk result (length body.new.items ≡ length body.old.items + 1) }
 {
     let test = expr_of(alloc, test)?;
-    let at = index(body.len())?;
-    let yes = next_index(at)?;
+    let at = number(body.len())?;
+    let yes = next_number(at)?;
     body.push(Cmd::If { test, yes, no: 0 })?;
     put_parts(pending, at, first, second)?;
     Ok(())
@@ -350,7 +332,7 @@ fn begin(body: &mut Vec<Cmd>, test: Option<u32>) -> Result<(), NoMemory>
     ensures same { OnOk result (body.new.items ≡ begun body.old.items test) }
 {
     if let Some(at) = test {
-        let i = index(body.len())?;
+        let i = number(body.len())?;
         patch(body, at, i);
     }
     Ok(())

@@ -7,6 +7,7 @@ ghost use Rattle.ceal_flow.specs.Sets.{is_in};
 ghost use Rattle.ceal_norm.specs.Entries.{is_read, has_closure, behind, all_behind, all_jumps, count, is_entry};
 ghost use Rattle.ceal_norm.specs.Table.{is_marked, table};
 
+use crate::number::one_more;
 use ceal_base::no_memory::NoMemory;
 use ceal_base::typed::{TypedStmt, TypedValue};
 use ceal_flow::block::GraphBlock;
@@ -195,20 +196,6 @@ fn marked_entries(alloc: Global, graph: &Graph) -> Result<Vec<bool>, NoMemory>
     let targets = targets(alloc, blocks)?;
     mark_repeated(&mut once, &mut marks, targets.as_slice());
     Ok(marks)
-}
-
-/// One more, or not; memory for so many that there is no number for the next does not exist.
-pub fn one_more(n: u32, more: bool) -> Result<u32, NoMemory>
-    ensures { IfOk result (λ m. m ≡ (if more then n + 1 else n)) }
-{
-    if more {
-        match n.checked_add(1) {
-            None => Err(NoMemory),
-            Some(n) => Ok(n),
-        }
-    } else {
-        Ok(n)
-    }
 }
 
 /// The table of the entries of a graph.

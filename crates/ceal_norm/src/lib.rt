@@ -12,6 +12,7 @@ mod functions;
 mod initialiser;
 pub mod laws;
 pub mod normalise;
+mod number;
 mod plan;
 #[cfg(test)]
 mod programs;

@@ -1,12 +1,11 @@
 // The units of a graph.
 
-ghost use Rattle.std.specs.Prelude.{◌≡◌, ◌<◌, ◌+◌, ◌++◌, ◌∷◌, [], length, slice_get, slice_index_or, if◌then◌else◌, Some, IfOk, OnOk};
+ghost use Rattle.std.specs.Prelude.{◌≡◌, ◌<◌, ◌++◌, ◌∷◌, [], length, slice_get, slice_index_or, if◌then◌else◌, Some, IfOk, OnOk};
 ghost use Rattle.ceal_norm.specs.Entries.{is_entry};
-ghost use Rattle.ceal_norm.specs.Numbers.{variables, is_done};
-ghost use Rattle.ceal_norm.specs.Units.{core_numbers, owner, unit_code, units_before};
+ghost use Rattle.ceal_norm.specs.Units.{core_numbers, is_done, owner, unit_code, units_before, variables};
 
 use crate::body::body_of;
-use crate::entries::one_more;
+use crate::number::{number, one_more};
 use crate::plan::Plan;
 use ceal_base::no_memory::NoMemory;
 use ceal_code::expr::VarId;
@@ -14,16 +13,6 @@ use ceal_code::unit::Unit;
 use ceal_flow::block::GraphBlock;
 use ceal_flow::function::GraphFunction;
 use std::alloc::Global;
-
-/// A number of a block or function; memory for so many that there is none does not exist.
-fn number(n: usize) -> Result<u32, NoMemory>
-    ensures { IfOk result (λ k. k ≡ n) }
-{
-    match u32::try_from(n) {
-        Err(_) => Err(NoMemory),
-        Ok(k) => Ok(k),
-    }
-}
 
 fn vars_of(alloc: Global, vs: &[u32]) -> Result<Vec<VarId>, NoMemory>
     ensures { IfOk result (λ ps. ps.items ≡ variables vs.now) }

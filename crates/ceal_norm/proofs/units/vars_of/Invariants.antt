@@ -1,5 +1,5 @@
 use Rattle.std.proofs.Common.{◌≡◌, take}
-use Rattle.ceal_norm.specs.Numbers.{variables}
+use Rattle.ceal_norm.specs.Units.{variables}
 use Rattle.ceal_norm.proofs.units.vars_of.Given as goal
 
 abbrev pub invariant-loop-v : goal.invariant-loop-v

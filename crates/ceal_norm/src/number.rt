@@ -1,0 +1,30 @@
+// Numbers of blocks, functions and commands. Memory for so many that there is none does not exist.
+
+ghost use Rattle.std.specs.Prelude.{◌≡◌, ◌+◌, if◌then◌else◌, IfOk};
+
+use ceal_base::no_memory::NoMemory;
+
+pub fn number(n: usize) -> Result<u32, NoMemory>
+    ensures { IfOk result (λ k. k ≡ n) }
+{
+    match u32::try_from(n) {
+        Err(_) => Err(NoMemory),
+        Ok(k) => Ok(k),
+    }
+}
+
+pub fn next_number(n: u32) -> Result<u32, NoMemory>
+    ensures { IfOk result (λ m. m ≡ n + 1) }
+{
+    match n.checked_add(1) {
+        None => Err(NoMemory),
+        Some(m) => Ok(m),
+    }
+}
+
+/// One more, or not.
+pub fn one_more(n: u32, more: bool) -> Result<u32, NoMemory>
+    ensures { IfOk result (λ m. m ≡ (if more then n + 1 else n)) }
+{
+    if more { next_number(n) } else { Ok(n) }
+}
