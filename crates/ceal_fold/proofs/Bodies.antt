@@ -1,13 +1,13 @@
 -- What stands at an index of a folded body, and what is known and used there.
-use Rattle.std.proofs.Common.{◌≡◌, ℕ, zero, suc, ◌+◌, ◌<◌, ◌≤◌, ◌==◌, ◌||◌, ◌&&◌, not, Bool, true, false, if◌then◌else◌, Option, Some, None, List, [], ◌∷◌, ◌++◌, refl, sym, ap, ap₂, ◌∙◌, subst, length, arith, slice_get}
+use Rattle.std.proofs.Common.{◌≡◌, ℕ, zero, suc, ◌+◌, ◌<◌, ◌≤◌, ◌==◌, Bool, true, false, if◌then◌else◌, Some, List, [], ◌∷◌, ◌++◌, refl, sym, ap, ap₂, ◌∙◌, subst, length, arith, slice_get}
 use Rattle.ceal_base.specs.declared.typed.StructInfo.{StructInfo}
 use Rattle.ceal_code.proofs.Same.{nat-same, none-some, some-same}
 use Rattle.ceal_code.specs.Valid.{followers, all_followers, is_tree}
 use Rattle.ceal_code.specs.declared.command.Cmd.{Cmd}
 use Rattle.ceal_code.specs.declared.command.Cmd.TheVariants.{Move, Tick, Alloc, Modref, Write, If, Done, Tail, Read, Call}
-use Rattle.ceal_fold.proofs.Trees.{all-append, same-tree, tree-apart}
+use Rattle.ceal_fold.proofs.Trees.{same-tree}
 use Rattle.ceal_fold.proofs.UnusedSteps.{ticked-followers, among-part}
-use Rattle.ceal_fold.specs.Folding.{Copies, no_copies, at_root, copies_after, is_among, handed, folded_command, replaced, used, used_in, used_by, uses, assigns, ticked, without_unused}
+use Rattle.ceal_fold.specs.Folding.{Copies, no_copies, at_root, copies_after, is_among, handed, folded_command, replaced, used, used_in, used_by, ticked, without_unused}
 
 -- a list around one of its items
 pub record Around (c : Cmd) (cs : List Cmd) (i : ℕ) : Type 0 where

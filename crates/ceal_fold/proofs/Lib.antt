@@ -1,5 +1,7 @@
 pub mod ExprSteps
-pub mod CopySteps
+pub mod ListSteps
+pub mod KnownSteps
+pub mod VarSteps
 pub mod Trees
 pub mod ReplaceSteps
 pub mod UseSteps
@@ -8,6 +10,7 @@ pub mod Bodies
 pub mod Values
 pub mod Simulated
 pub mod Runs
+pub mod Traces
 pub mod Validity
 pub mod Types
 pub mod UnitTrees

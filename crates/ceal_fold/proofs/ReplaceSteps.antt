@@ -5,29 +5,64 @@ use Rattle.ceal_base.specs.declared.typed.StructInfo.{StructInfo}
 use Rattle.ceal_code.proofs.Same.{nat-same}
 use Rattle.ceal_code.specs.Valid.{followers}
 use Rattle.ceal_code.specs.declared.command.Cmd.{Cmd}
-use Rattle.ceal_fold.proofs.CopySteps.{at-same, at-other}
-use Rattle.ceal_fold.specs.Folding.{Copies, at_root, no_copies, copies_after, folded_command, is_among, handed, replaced}
-use Rattle.ceal_fold.specs.States.{copy_at, copies_at}
-use Rattle.ceal_fold.specs.declared.copies.Copied.{Copied}
+use Rattle.ceal_fold.proofs.ListSteps.{at-same, at-other}
+use Rattle.ceal_fold.specs.Folding.{Copies, no_copies, copies_after, folded_command, is_among, handed, replaced}
+use Rattle.ceal_fold.specs.States.{last_of, time, copy_at, state_at, copies_at, Until, All_until}
+use Rattle.ceal_fold.specs.declared.known.Assigned.{Assigned}
 
 pub set-length : {A : Type 0} (xs : List A) (i : ℕ) (x : A) → length (slice_set xs i x) ≡ length xs
 set-length [] i x = refl
 set-length (y ∷ xs) zero x = refl
 set-length (y ∷ xs) (suc i) x = ap suc (set-length xs i x)
 
-pub states-same : (states : List (List (Option Copied))) (i : ℕ) (s : List (Option Copied)) → i < length states → copies_at (slice_set states i s) i ≡ copy_at s
-unfolding copies_at
+pub states-same : (states : List (List (ℕ × Assigned))) (i : ℕ) (s : List (ℕ × Assigned)) → i < length states → copies_at (slice_set states i s) i ≡ copy_at s
+unfolding copies_at state_at
 states-same states i s h = ap copy_at (at-same [] states i s h)
 
-pub states-other : (states : List (List (Option Copied))) (i : ℕ) (s : List (Option Copied)) (j : ℕ) → (j ≡ i → ⊥) → copies_at (slice_set states i s) j ≡ copies_at states j
-unfolding copies_at
+pub states-other : (states : List (List (ℕ × Assigned))) (i : ℕ) (s : List (ℕ × Assigned)) (j : ℕ) → (j ≡ i → ⊥) → copies_at (slice_set states i s) j ≡ copies_at states j
+unfolding copies_at state_at
 states-other states i s j h = ap copy_at (at-other [] states i s j h)
 
-pub hand-none : (states : List (List (Option Copied))) (k : Copies) (j : ℕ) → copies_at states j ≡ (if is_among j [] then k else copies_at states j)
+-- times
+pub copies-is : (states : List (List (ℕ × Assigned))) (i : ℕ) → copies_at states i ≡ copy_at (state_at states i)
+unfolding copies_at
+copies-is states i = refl
+
+pub until-at : (n : ℕ) (states : List (List (ℕ × Assigned))) → All_until n states → (j v : ℕ) → time (last_of (state_at states j) v) ≤ n
+unfolding All_until Until
+until-at n states h j v = h j v
+
+pub until-from : (n : ℕ) (s : List (ℕ × Assigned)) → ((v : ℕ) → time (last_of s v) ≤ n) → Until n s
+unfolding Until
+until-from n s h = h
+
+pub until-none : (n : ℕ) → Until n []
+unfolding Until last_of
+until-none n v = omega arith
+
+pub until-set : (n : ℕ) (states : List (List (ℕ × Assigned))) (i : ℕ) (s : List (ℕ × Assigned)) → All_until n states → Until n s → All_until n (slice_set states i s)
+unfolding All_until state_at
+until-set n [] i s h k j = h j
+until-set n (x ∷ xs) zero s h k zero = k
+until-set n (x ∷ xs) zero s h k (suc j) = h (suc j)
+until-set n (x ∷ xs) (suc i) s h k zero = h zero
+until-set n (x ∷ xs) (suc i) s h k (suc j) = until-set n xs i s (λ j. h (suc j)) k j
+
+pub until-more : (n : ℕ) (states : List (List (ℕ × Assigned))) → All_until n states → All_until (n + 1) states
+unfolding All_until Until
+until-more n states h j v = let lo = h j v in omega (arith, lo)
+
+pub until-begun : (n m : ℕ) → All_until n (replicate m [])
+unfolding All_until state_at
+until-begun n zero j = until-none n
+until-begun n (suc m) zero = until-none n
+until-begun n (suc m) (suc j) = until-begun n m j
+
+pub hand-none : (states : List (List (ℕ × Assigned))) (k : Copies) (j : ℕ) → copies_at states j ≡ (if is_among j [] then k else copies_at states j)
 unfolding is_among
 hand-none states k j = refl
 
-pub hand-one : (states : List (List (Option Copied))) (i : ℕ) (s : List (Option Copied)) (j : ℕ) → j < length states
+pub hand-one : (states : List (List (ℕ × Assigned))) (i : ℕ) (s : List (ℕ × Assigned)) (j : ℕ) → j < length states
     → copies_at (slice_set states i s) j ≡ (if is_among j (i ∷ []) then copy_at s else copies_at states j)
 unfolding is_among
 hand-one states i s j h = go (j == i) refl
@@ -36,7 +71,7 @@ hand-one states i s j h = go (j == i) refl
     go true e = let k : j ≡ i = nat-same j i e in rw (← k) (states-same states j s h)
     go false e = states-other states i s j (λ k. grind (arith, e, k))
 
-pub hand-two : (states : List (List (Option Copied))) (i k : ℕ) (s : List (Option Copied)) (j : ℕ) → j < length states
+pub hand-two : (states : List (List (ℕ × Assigned))) (i k : ℕ) (s : List (ℕ × Assigned)) (j : ℕ) → j < length states
     → copies_at (slice_set (slice_set states i s) k s) j ≡ (if is_among j (i ∷ k ∷ []) then copy_at s else copies_at states j)
 unfolding is_among
 hand-two states i k s j h = go (j == i) refl (j == k) refl
@@ -53,13 +88,13 @@ hand-two states i k s j h = go (j == i) refl (j == k) refl
     go false e false f = states-other (slice_set states i s) k s j (λ z. grind (arith, f, z)) ∙ states-other states i s j (λ z. grind (arith, e, z))
 
 pub root-none : (n : ℕ) (j : ℕ) → copies_at (replicate n []) j ≡ no_copies
-unfolding copies_at copy_at no_copies
+unfolding copies_at state_at copy_at last_of no_copies
 root-none zero j = refl
 root-none (suc n) zero = refl
 root-none (suc n) (suc j) = root-none n j
 
 -- what the followers of a command are handed
-pub handed-is : (states : List (List (Option Copied))) (i : ℕ) (c : Cmd) (state : List (Option Copied)) (j : ℕ) (new : Copies)
+pub handed-is : (states : List (List (ℕ × Assigned))) (i : ℕ) (c : Cmd) (state : List (ℕ × Assigned)) (j : ℕ) (new : Copies)
     → new ≡ (if is_among j (followers c i) then copy_at state else copies_at (slice_set states i []) j)
     → copy_at state ≡ copies_after (copies_at states i) c → i < j → new ≡ handed (copies_at states) i c j
 unfolding handed
@@ -93,7 +128,7 @@ pub replicate-length : {A : Type 0} (n : ℕ) (x : A) → length (replicate n x)
 replicate-length zero x = refl
 replicate-length (suc n) x = ap suc (replicate-length n x)
 
-pub walk-on : (structs : List StructInfo) (states states' : List (List (Option Copied))) (i : ℕ) (c command : Cmd) (cs rest done done' whole : List Cmd)
+pub walk-on : (structs : List StructInfo) (states states' : List (List (ℕ × Assigned))) (i : ℕ) (c command : Cmd) (cs rest done done' whole : List Cmd)
     → rest ≡ c ∷ cs → done' ≡ done ++ command ∷ [] → command ≡ folded_command structs (copies_at states i) c → i + length rest ≡ length states
     → ((j : ℕ) → i < j → j < length states → copies_at states' j ≡ handed (copies_at states) i command j)
     → (done ++ replaced structs (copies_at states) i rest) ≡ whole → (done' ++ replaced structs (copies_at states') (i + 1) cs) ≡ whole
@@ -106,8 +141,8 @@ walk-on structs states states' i c command cs rest done done' whole r p e n h w 
     ∙ ap (λ ds. done ++ ds) (sym step)
     ∙ ap (λ rest. done ++ replaced structs (copies_at states) i rest) (sym r) ∙ w
 
-pub ruleset take_steps = (states-same)
+pub ruleset take_steps = (at-same)
 
-pub ruleset hand_steps = (hand-none, hand-one, hand-two)
+pub ruleset hand_steps = (hand-none, hand-one, hand-two, until-set)
 
 pub ruleset walk_steps = (replaced-end, append_assoc, append-nil)

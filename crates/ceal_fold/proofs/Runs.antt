@@ -1,5 +1,5 @@
 -- Code and its folding run alike.
-use Rattle.std.proofs.Common.{◌≡◌, ℕ, zero, suc, ◌+◌, ◌<◌, ◌==◌, nat_lt, ◌&&◌, Bool, true, false, if◌then◌else◌, Option, Some, None, List, [], ◌∷◌, ◌++◌, refl, sym, ap, ap₂, ◌∙◌, subst, length, replicate, slice_get, unwrap_or, arith}
+use Rattle.std.proofs.Common.{◌≡◌, ℕ, zero, suc, ◌+◌, ◌&&◌, Bool, true, false, if◌then◌else◌, Option, Some, None, List, [], ◌∷◌, refl, sym, ap, ◌∙◌, subst, length, replicate, slice_get, unwrap_or, arith}
 use Rattle.ceal_base.specs.Access.{holds, content_of}
 use Rattle.ceal_base.specs.Block.{Block, Blocks, block_at, written_at}
 use Rattle.ceal_base.specs.Finished.{Finished, with_block}
@@ -11,22 +11,22 @@ use Rattle.ceal_base.specs.declared.word.BlockId.TheVariants.{Core}
 use Rattle.ceal_base.specs.declared.word.Place.{Place}
 use Rattle.ceal_base.specs.declared.word.Word.{Word}
 use Rattle.ceal_base.specs.declared.word.Word.TheVariants.{Num, Null, Block as BlockWord, At}
-use Rattle.ceal_code.proofs.Same.{both, none-some, some-same}
+use Rattle.ceal_code.proofs.Same.{both}
 use Rattle.ceal_code.proofs.TypedInit.{unit-valid}
 use Rattle.ceal_code.specs.Fresh.{ran, only_over, run, fresh}
 use Rattle.ceal_code.specs.Init.{made, pointer}
 use Rattle.ceal_code.specs.Program.{Unit as CodeUnit, Code}
-use Rattle.ceal_code.specs.Step.{Stack, Empty, Run, Act, Over, Quiet, Makes, Writes, Reads, unit_at, command_at, entry_of, entry_in, kinds_of, variable_default, kind_default, bound, entered, chosen, given, woven, started, key_of, place_of, writes_at, reads_at, act, landed, settled_at, settled, acted, next}
+use Rattle.ceal_code.specs.Step.{Stack, Empty, Run, Act, Over, Quiet, Makes, Writes, Reads, unit_at, command_at, entry_of, entry_in, kinds_of, variable_default, kind_default, bound, entered, chosen, given, woven, started, place_of, writes_at, reads_at, act, landed, settled_at, settled, acted, next}
 use Rattle.ceal_code.specs.Valid.{command_ok, onward, path_ok, paths_ok, is_tree, with_params, is_core, below as all_below, body_ok, unit_ok, valid, followers}
 use Rattle.ceal_code.specs.Value.{Plain, Variables, set, expr_value, values}
 use Rattle.ceal_code.specs.declared.command.Cmd.{Cmd}
-use Rattle.ceal_code.specs.declared.command.Cmd.TheVariants.{Move, Tick, Alloc, Modref, Write, If, Done, Tail, Read, Call}
+use Rattle.ceal_code.specs.declared.command.Cmd.TheVariants.{Done}
 use Rattle.ceal_code.specs.declared.function.FunctionCode.{FunctionCode}
 use Rattle.ceal_code.specs.declared.function.FunctionCode.TheVariants.{Core as CoreFunction, Init as InitFunction}
 use Rattle.ceal_fold.proofs.Bodies.{facts, facts-root}
-use Rattle.ceal_fold.proofs.Simulated.{final, Spot, spot, Frame_tied, Cmds_tied, cmd-tied}
+use Rattle.ceal_fold.proofs.Simulated.{spot, Frame_tied, Cmds_tied, cmd-tied}
 use Rattle.ceal_fold.proofs.Values.{Holds, holds-none}
-use Rattle.ceal_fold.specs.Folding.{no_copies, at_root, folded_command, ticked, replaced, used, used_in, used_by, without_unused, folded_unit, folded_units, folded}
+use Rattle.ceal_fold.specs.Folding.{at_root, folded_command, ticked, replaced, used_in, without_unused, folded_unit, folded_units, folded}
 
 abbrev none : CodeUnit
 none = record { function = 0; params = []; body = [] }
@@ -131,7 +131,7 @@ module _ (code : Code) (ok : valid code ≡ true) where
     empty : Tied Empty Empty
     frame : {u i : ℕ} {env env' : Variables} {below below' : Stack} → Frame_tied code ok u i env env' → Tied below below' → Tied (Run u i env below) (Run u i env' below')
 
-  entered-tied : (u : ℕ) (words : List Word) (below below' : Stack) → Tied below below' → Tied (entered code u words below) (entered after u words below')
+  pub entered-tied : (u : ℕ) (words : List Word) (below below' : Stack) → Tied below below' → Tied (entered code u words below) (entered after u words below')
   entered-tied u words below below' t =
       let e : (unit_at after u).params ≡ (unit_at code u).params = ap (λ unit. unit.params) (unit-is u) in
       rw e (Tied.frame (enter-tied u (bound (unit_at code u).params words)) t)

@@ -1,34 +1,21 @@
 -- Code and its folding take the same steps from stacks that agree on the variables that the folding still uses.
-use Rattle.std.proofs.Common.{◌≡◌, ℕ, zero, suc, ◌+◌, ◌<◌, ◌==◌, nat_lt, ◌||◌, ◌&&◌, not, Bool, true, false, if◌then◌else◌, Option, Some, None, List, [], ◌∷◌, ◌++◌, refl, sym, ap, ap₂, ◌∙◌, subst, length, replicate, slice_get, slice_set, unwrap_or, arith}
-use Rattle.ceal_base.specs.Access.{holds}
-use Rattle.ceal_base.specs.Block.{Block, Blocks, block_at}
-use Rattle.ceal_base.specs.Finished.{Finished}
-use Rattle.ceal_base.specs.declared.forest.Key.{Key}
-use Rattle.ceal_base.specs.declared.forest.Key.TheVariants.{Init, ModInt as IntKey, ModPtr as PtrKey}
+use Rattle.std.proofs.Common.{◌≡◌, ℕ, ◌+◌, ◌<◌, ◌==◌, nat_lt, ◌||◌, ◌&&◌, not, Bool, true, false, if◌then◌else◌, Some, None, List, [], ◌∷◌, ◌++◌, refl, sym, ap, ◌∙◌, subst, length, slice_get, slice_set, arith}
 use Rattle.ceal_base.specs.declared.forest.UnitId.{UnitId}
 use Rattle.ceal_base.specs.declared.kind.Shape.{Shape}
 use Rattle.ceal_base.specs.declared.typed.StructInfo.{StructInfo}
-use Rattle.ceal_base.specs.declared.word.Place.{Place}
 use Rattle.ceal_base.specs.declared.word.Word.{Word}
-use Rattle.ceal_base.specs.declared.word.Word.TheVariants.{Num, Null, Block as BlockWord, At}
-use Rattle.ceal_code.proofs.Same.{both, nat-same, none-some, some-same}
-use Rattle.ceal_code.proofs.TypedInit.{unit-valid}
-use Rattle.ceal_code.specs.Fresh.{ran, only_over, run, fresh}
-use Rattle.ceal_code.specs.Init.{made}
+use Rattle.ceal_code.proofs.Same.{both, nat-same}
 use Rattle.ceal_code.specs.Program.{Unit as CodeUnit, Code}
-use Rattle.ceal_code.specs.Step.{Stack, Empty, Run, Act, Over, Quiet, Makes, Writes, Reads, unit_at, command_at, entry_of, entry_in, kinds_of, variable_default, bound, entered, chosen, given, started, key_of, place_of, writes_at, reads_at, act, landed, settled_at, settled, acted, next}
-use Rattle.ceal_code.specs.Valid.{command_ok, onward, path_ok, paths_ok, is_tree, with_params, is_core, below as all_below, body_ok, unit_ok, valid, followers, all_followers}
+use Rattle.ceal_code.specs.Valid.{onward, paths_ok, is_tree, valid, followers}
 use Rattle.ceal_code.specs.Value.{Plain, Variables, set, expr_value, values}
 use Rattle.ceal_code.specs.declared.command.Cmd.{Cmd}
 use Rattle.ceal_code.specs.declared.command.Cmd.TheVariants.{Move, Tick, Alloc, Modref, Write, If, Done, Tail, Read, Call}
 use Rattle.ceal_code.specs.declared.expr.CodeExpr.{CodeExpr}
 use Rattle.ceal_code.specs.declared.expr.VarId.{VarId}
-use Rattle.ceal_code.specs.declared.function.FunctionCode.{FunctionCode}
-use Rattle.ceal_code.specs.declared.function.FunctionCode.TheVariants.{Core as CoreFunction, Init as InitFunction}
-use Rattle.ceal_fold.proofs.Bodies.{Around, around, in-middle, facts, facts-root, facts-follow, Replaced_around, replaced-around, folded-followers, Ticked_around, ticked-around, used-later, used-here}
+use Rattle.ceal_fold.proofs.Bodies.{around, in-middle, facts, facts-follow, replaced-around, folded-followers, ticked-around, used-later, used-here}
 use Rattle.ceal_fold.proofs.Trees.{tree-apart}
-use Rattle.ceal_fold.proofs.Values.{Copy_holds, Holds, holds-none, value-folded, values-folded, value-mentioned, values-mentioned, set-other, holds-set, move-holds}
-use Rattle.ceal_fold.specs.Folding.{Copies, no_copies, at_root, copies_after, copy_by, assigned, is_among, folded_expr, folded_exprs, folded_command, replaced, mentions, all_mention, uses, assigns, used, used_in, used_by, ticked, without_unused, folded_unit, folded_units, folded}
+use Rattle.ceal_fold.proofs.Values.{Copy_holds, Holds, value-folded, values-folded, value-mentioned, values-mentioned, set-other, holds-set, move-holds}
+use Rattle.ceal_fold.specs.Folding.{Copies, at_root, copies_after, copy_by, is_among, folded_expr, folded_exprs, folded_command, replaced, mentions, all_mention, uses, assigns, used, used_in, used_by, ticked, without_unused}
 
 -- the body of a folded unit
 abbrev pub final : List StructInfo → List Cmd → List Cmd

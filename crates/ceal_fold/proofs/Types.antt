@@ -1,5 +1,5 @@
 -- The type of a folded expression: that of the expression, or that of null where the expression is a pointer.
-use Rattle.std.proofs.Common.{◌≡◌, ℕ, ℤ, zero, suc, ◌==◌, ◌||◌, ◌&&◌, Bool, true, false, if◌then◌else◌, Option, Some, None, List, [], ◌∷◌, ◌⊎◌, inl, inr, refl, sym, ap, ap₂, ◌∙◌, subst, slice_get, slice_set, unwrap_or, arith}
+use Rattle.std.proofs.Common.{◌≡◌, ℕ, ℤ, ◌==◌, ◌||◌, ◌&&◌, Bool, true, false, if◌then◌else◌, Option, Some, None, List, [], ◌∷◌, ◌⊎◌, inl, inr, refl, ap, ap₂, subst, slice_get, unwrap_or, arith}
 use Rattle.std.specs.Prelude.{⊤}
 use Rattle.ceal_base.specs.Operators.{unary_value, binary_value, truth}
 use Rattle.ceal_base.specs.declared.kind.FieldKind.{FieldKind}
@@ -14,15 +14,15 @@ use Rattle.ceal_base.specs.declared.operators.Unary.TheVariants.{Neg, Not}
 use Rattle.ceal_base.specs.declared.typed.StructInfo.{StructInfo}
 use Rattle.ceal_base.specs.declared.word.Word.{Word}
 use Rattle.ceal_base.specs.declared.word.Word.TheVariants.{Num as NumWord}
-use Rattle.ceal_code.proofs.Same.{both, both-true, nat-same}
+use Rattle.ceal_code.proofs.Same.{both, both-true}
 use Rattle.ceal_code.proofs.Typed.{kind-same}
 use Rattle.ceal_code.proofs.TypeSteps.{type-unary, type-binary, type-field, type-address}
-use Rattle.ceal_code.specs.Valid.{Typing, is_pointer, same_kind, fits, fits_maybe, one_type, int_if, binary_type, variable_type, points_to, plain_type, cell_type, type_of, operand_type, all_fit, params_fit, place_fits, write_fits}
+use Rattle.ceal_code.specs.Valid.{Typing, is_pointer, fits, fits_maybe, one_type, int_if, binary_type, variable_type, points_to, plain_type, cell_type, type_of, operand_type, all_fit, params_fit, place_fits, write_fits}
 use Rattle.ceal_code.specs.Value.{field_kind, field_default}
 use Rattle.ceal_code.specs.declared.expr.CodeExpr.{CodeExpr, Num as NumExpr, Null as NullExpr, Var, Unary', Binary', Field', Address', Row_of-CodeExpr, end_of-CodeExpr, more_of-CodeExpr}
-use Rattle.ceal_code.specs.declared.expr.CodeExpr.TheViews.{Unary, Binary, Field, Address}
+use Rattle.ceal_code.specs.declared.expr.CodeExpr.TheViews.{Binary, Field, Address}
 use Rattle.ceal_code.specs.declared.expr.VarId.{VarId}
-use Rattle.ceal_fold.specs.Folding.{Copies, use_of, constant, constant_expr, is_null, unary_folded, binary_folded, field_folded, address_folded, folded_expr, folded_operand, folded_exprs, mentions, operand_mentions, all_mention}
+use Rattle.ceal_fold.specs.Folding.{Copies, use_of, constant, constant_expr, is_null, unary_folded, binary_folded, folded_expr, folded_operand, folded_exprs, mentions, operand_mentions, all_mention}
 
 abbrev pub Refined : Typing → Typing → Type 0
 Refined None t = ⊤

@@ -1,5 +1,5 @@
 -- The bodies of valid code are trees.
-use Rattle.std.proofs.Common.{◌≡◌, true, ◌&&◌, List, [], ◌∷◌, refl, ◌∙◌}
+use Rattle.std.proofs.Common.{◌≡◌, true, List, [], ◌∷◌, refl, ◌∙◌}
 use Rattle.ceal_base.specs.declared.typed.StructInfo.{StructInfo}
 use Rattle.ceal_code.proofs.Same.{both, both-true}
 use Rattle.ceal_code.proofs.TypedInit.{units-valid}

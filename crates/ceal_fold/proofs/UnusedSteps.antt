@@ -6,22 +6,22 @@ use Rattle.ceal_code.proofs.Same.{nat-same}
 use Rattle.ceal_code.specs.Valid.{followers, all_followers, is_tree}
 use Rattle.ceal_code.specs.declared.command.Cmd.{Cmd}
 use Rattle.ceal_code.specs.declared.command.Cmd.TheVariants.{Move, Tick, Alloc, Modref, Write, If, Done, Tail, Read, Call}
-use Rattle.ceal_fold.proofs.CopySteps.{at-same, at-other}
+use Rattle.ceal_fold.proofs.ListSteps.{at-same, at-other}
 use Rattle.ceal_fold.proofs.Trees.{all-after, same-tree, tree-apart}
 use Rattle.ceal_fold.specs.Folding.{is_among, ticked, uses, assigns, used, used_in, used_by, without_unused}
-use Rattle.ceal_fold.specs.States.{flag_at, flags_at}
+use Rattle.ceal_fold.specs.States.{has, has_at}
 
-pub sets-same : (sets : List (List Bool)) (i : ℕ) (s : List Bool) (u : ℕ) → i < length sets → flags_at (slice_set sets i s) i u ≡ flag_at s u
-unfolding flags_at
-sets-same sets i s u h = ap (λ f. flag_at f u) (at-same [] sets i s h)
+pub sets-same : (sets : List (List ℕ)) (i : ℕ) (s : List ℕ) (u : ℕ) → i < length sets → has_at (slice_set sets i s) i u ≡ has s u
+unfolding has_at
+sets-same sets i s u h = ap (λ s. has s u) (at-same [] sets i s h)
 
-pub sets-other : (sets : List (List Bool)) (i : ℕ) (s : List Bool) (j u : ℕ) → (j ≡ i → ⊥) → flags_at (slice_set sets i s) j u ≡ flags_at sets j u
-unfolding flags_at
-sets-other sets i s j u h = ap (λ f. flag_at f u) (at-other [] sets i s j h)
+pub sets-other : (sets : List (List ℕ)) (i : ℕ) (s : List ℕ) (j u : ℕ) → (j ≡ i → ⊥) → has_at (slice_set sets i s) j u ≡ has_at sets j u
+unfolding has_at
+sets-other sets i s j u h = ap (λ s. has s u) (at-other [] sets i s j h)
 
-pub flag-none : (u : ℕ) → flag_at [] u ≡ false
-unfolding flag_at
-flag-none u = refl
+pub has-none : (u : ℕ) → has [] u ≡ false
+unfolding has
+has-none u = refl
 
 pub used-none : (later : ℕ → ℕ → Bool) (u : ℕ) → used_in later [] u ≡ false
 unfolding used_in
@@ -35,28 +35,29 @@ used-one later i u = go (later i u)
     go true = refl
     go false = refl
 
-pub past-set : (sets : List (List Bool)) (i u : ℕ) → length sets < i + 1 → flags_at sets i u ≡ false
-unfolding flags_at flag_at
+pub past-set : (sets : List (List ℕ)) (i u : ℕ) → length sets < i + 1 → has_at sets i u ≡ false
+unfolding has_at has
 past-set [] i u h = refl
 past-set (s ∷ sets) zero u h = absurd (omega (arith, h))
 past-set (s ∷ sets) (suc i) u h = past-set sets i u (omega (arith, h))
 
-pub past-take : (sets : List (List Bool)) (i : ℕ) → length sets < i + 1 → slice_set sets i [] ≡ sets
+pub past-take : (sets : List (List ℕ)) (i : ℕ) → length sets < i + 1 → slice_set sets i [] ≡ sets
 past-take [] i h = refl
 past-take (s ∷ sets) zero h = absurd (omega (arith, h))
 past-take (s ∷ sets) (suc i) h = ap (λ rest. s ∷ rest) (past-take sets i (omega (arith, h)))
 
-gone : (sets : List (List Bool)) (i u : ℕ) → unwrap_or (slice_get (unwrap_or (slice_get (slice_set sets i []) i) []) u) false ≡ false
+gone : (sets : List (List ℕ)) (i u : ℕ) → has (unwrap_or (slice_get (slice_set sets i []) i) []) u ≡ false
+unfolding has
 gone [] i u = refl
 gone (s ∷ sets) zero u = refl
 gone (s ∷ sets) (suc i) u = gone sets i u
 
-emptied : (sets : List (List Bool)) (i u : ℕ) → flags_at (slice_set sets i []) i u ≡ false
-unfolding flags_at flag_at
+emptied : (sets : List (List ℕ)) (i u : ℕ) → has_at (slice_set sets i []) i u ≡ false
+unfolding has_at has
 emptied sets i u = gone sets i u
 
 -- what was taken is the same again, or nothing
-pub used-two : (sets : List (List Bool)) (i k u : ℕ) → (flags_at sets i u || flags_at (slice_set sets i []) k u) ≡ used_in (flags_at sets) (i ∷ k ∷ []) u
+pub used-two : (sets : List (List ℕ)) (i k u : ℕ) → (has_at sets i u || has_at (slice_set sets i []) k u) ≡ used_in (has_at sets) (i ∷ k ∷ []) u
 unfolding used_in
 used-two sets i k u = go (k == i) refl
   where
@@ -69,21 +70,21 @@ used-two sets i k u = go (k == i) refl
     or-false false true = refl
     or-false false false = refl
 
-    go : (b : Bool) → (k == i) ≡ b → (flags_at sets i u || flags_at (slice_set sets i []) k u) ≡ (flags_at sets i u || (flags_at sets k u || false))
-    go true e = let j : k ≡ i = nat-same k i e in rw j (or-same (flags_at sets i u) (flags_at (slice_set sets i []) i u) (emptied sets i u))
+    go : (b : Bool) → (k == i) ≡ b → (has_at sets i u || has_at (slice_set sets i []) k u) ≡ (has_at sets i u || (has_at sets k u || false))
+    go true e = let j : k ≡ i = nat-same k i e in rw j (or-same (has_at sets i u) (has_at (slice_set sets i []) i u) (emptied sets i u))
     go false e =
         let o = sets-other sets i [] k u (λ j. grind (arith, e, j)) in
-        rw o (or-false (flags_at sets i u) (flags_at sets k u))
+        rw o (or-false (has_at sets i u) (has_at sets k u))
 
 among-not : (b c : Bool) → (b || c) ≡ false → (b ≡ false) × (c ≡ false)
 among-not true c h = absurd (grind (arith, h))
 among-not false c h = (refl, h)
 
-pub taken-one : (sets : List (List Bool)) (i j u : ℕ) → is_among j (i ∷ []) ≡ false → flags_at (slice_set sets i []) j u ≡ flags_at sets j u
+pub taken-one : (sets : List (List ℕ)) (i j u : ℕ) → is_among j (i ∷ []) ≡ false → has_at (slice_set sets i []) j u ≡ has_at sets j u
 unfolding is_among
 taken-one sets i j u h = let p = among-not (j == i) false h in sets-other sets i [] j u (λ k. grind (arith, p.0, k))
 
-pub taken-two : (sets : List (List Bool)) (i k j u : ℕ) → is_among j (i ∷ k ∷ []) ≡ false → flags_at (slice_set (slice_set sets i []) k []) j u ≡ flags_at sets j u
+pub taken-two : (sets : List (List ℕ)) (i k j u : ℕ) → is_among j (i ∷ k ∷ []) ≡ false → has_at (slice_set (slice_set sets i []) k []) j u ≡ has_at sets j u
 unfolding is_among
 taken-two sets i k j u h =
     let p = among-not (j == i) (j == k || false) h in
@@ -93,8 +94,8 @@ taken-two sets i k j u h =
 pub ticked-ext : (f g : ℕ → Bool) (c : Cmd) → ((u : ℕ) → f u ≡ g u) → ticked f c ≡ ticked g c
 ticked-ext f g c h = ap (λ later. ticked later c) (fun_ext h)
 
-pub root-sets : (n j u : ℕ) → flags_at (replicate n []) j u ≡ false
-unfolding flags_at flag_at
+pub root-sets : (n j u : ℕ) → has_at (replicate n []) j u ≡ false
+unfolding has_at has
 root-sets zero j u = refl
 root-sets (suc n) zero u = refl
 root-sets (suc n) (suc j) u = root-sets n j u
@@ -168,20 +169,20 @@ replicate-length zero x = refl
 replicate-length (suc n) x = ap suc (replicate-length n x)
 
 -- the sets that are still there are right
-abbrev pub Sets_right : List (List Bool) → ℕ → List Cmd → Type 0
-Sets_right sets n done = (j u : ℕ) → is_among j (all_followers done n) ≡ false → flags_at sets j u ≡ used n done j u
+abbrev pub Sets_right : List (List ℕ) → ℕ → List Cmd → Type 0
+Sets_right sets n done = (j u : ℕ) → is_among j (all_followers done n) ≡ false → has_at sets j u ≡ used n done j u
 
-module _ (cs : List Cmd) (c : Cmd) (done : List Cmd) (tree : is_tree (cs ++ c ∷ done) ≡ true) (sets : List (List Bool)) (right : Sets_right sets (length cs + 1) done) where
+module _ (cs : List Cmd) (c : Cmd) (done : List Cmd) (tree : is_tree (cs ++ c ∷ done) ≡ true) (sets : List (List ℕ)) (right : Sets_right sets (length cs + 1) done) where
   -- those of the followers are there
-  pub later-right : (u : ℕ) → used_in (flags_at sets) (followers c (length cs)) u ≡ used_in (used (length cs + 1) done) (followers c (length cs)) u
-  later-right u = used-same (flags_at sets) (used (length cs + 1) done) (followers c (length cs)) u (λ j m. right j u (tree-apart cs c done tree j m))
+  pub later-right : (u : ℕ) → used_in (has_at sets) (followers c (length cs)) u ≡ used_in (used (length cs + 1) done) (followers c (length cs)) u
+  later-right u = used-same (has_at sets) (used (length cs + 1) done) (followers c (length cs)) u (λ j m. right j u (tree-apart cs c done tree j m))
 
-  pub ticked-right : ticked (used_in (flags_at sets) (followers c (length cs))) c ≡ ticked (used_in (used (length cs + 1) done) (followers c (length cs))) c
+  pub ticked-right : ticked (used_in (has_at sets) (followers c (length cs))) c ≡ ticked (used_in (used (length cs + 1) done) (followers c (length cs))) c
   ticked-right = ap (λ later. ticked later c) (fun_ext later-right)
 
-  pub sets-right : (d : Cmd) (sets' : List (List Bool)) → ((i : ℕ) → followers d i ≡ followers c i)
-      → ((u : ℕ) → flags_at sets' (length cs) u ≡ used_by (flags_at sets) d (length cs) u)
-      → ((j u : ℕ) → (j ≡ length cs → ⊥) → is_among j (followers c (length cs)) ≡ false → flags_at sets' j u ≡ flags_at sets j u)
+  pub sets-right : (d : Cmd) (sets' : List (List ℕ)) → ((i : ℕ) → followers d i ≡ followers c i)
+      → ((u : ℕ) → has_at sets' (length cs) u ≡ used_by (has_at sets) d (length cs) u)
+      → ((j u : ℕ) → (j ≡ length cs → ⊥) → is_among j (followers c (length cs)) ≡ false → has_at sets' j u ≡ has_at sets j u)
       → Sets_right sets' (length cs) (d ∷ done)
   unfolding all_followers used
   sets-right d sets' same here others j u m =
@@ -189,11 +190,11 @@ module _ (cs : List Cmd) (c : Cmd) (done : List Cmd) (tree : is_tree (cs ++ c �
       go (j == length cs) refl (subst (λ js. is_among j js ≡ false) (same (length cs)) p.0) p.1
     where
       go : (b : Bool) → (j == length cs) ≡ b → is_among j (followers c (length cs)) ≡ false → is_among j (all_followers done (length cs + 1)) ≡ false
-          → flags_at sets' j u ≡ (if b then used_by (used (length cs + 1) done) d (length cs) u else used (length cs + 1) done j u)
+          → has_at sets' j u ≡ (if b then used_by (used (length cs + 1) done) d (length cs) u else used (length cs + 1) done j u)
       go true e f g =
           let i : j ≡ length cs = nat-same j (length cs) e in
-          ap (λ j. flags_at sets' j u) i ∙ here u
-          ∙ ap (λ b. uses d u || (not (assigns d u) && b)) (ap (λ js. used_in (flags_at sets) js u) (same (length cs)) ∙ later-right u ∙ ap (λ js. used_in (used (length cs + 1) done) js u) (sym (same (length cs))))
+          ap (λ j. has_at sets' j u) i ∙ here u
+          ∙ ap (λ b. uses d u || (not (assigns d u) && b)) (ap (λ js. used_in (has_at sets) js u) (same (length cs)) ∙ later-right u ∙ ap (λ js. used_in (used (length cs + 1) done) js u) (sym (same (length cs))))
       go false e f g = others j u (λ i. grind (arith, e, i)) f ∙ right j u g
 
   pub tree-right : (d : Cmd) → ((i : ℕ) → followers d i ≡ followers c i) → is_tree (cs ++ d ∷ done) ≡ true
@@ -208,7 +209,7 @@ unfolding used
 used-past n j u = refl
 
 -- the pass from the leaves up, where these commands are left and the others are done, the last one first
-pub record Underway (body left done : List Cmd) (sets : List (List Bool)) : Type 0 where
+pub record Underway (body left done : List Cmd) (sets : List (List ℕ)) : Type 0 where
   pub whole : onto 0 left (reverse done) ≡ without_unused 0 body
   pub right : Sets_right sets (length left) (reverse done)
   pub tree : is_tree (left ++ reverse done) ≡ true
@@ -222,7 +223,7 @@ begun body n e tree = record {
   long = replicate-length n [] ∙ e ∙ omega arith;
 }
 
-pub underway-begun : (body done : List Cmd) (sets : List (List Bool)) (n : ℕ) → done ≡ [] → sets ≡ replicate n [] → n ≡ length body → is_tree body ≡ true → Underway body body done sets
+pub underway-begun : (body done : List Cmd) (sets : List (List ℕ)) (n : ℕ) → done ≡ [] → sets ≡ replicate n [] → n ≡ length body → is_tree body ≡ true → Underway body body done sets
 underway-begun body done sets n d s e tree =
     subst (λ done. Underway body body done sets) (sym d) (subst (λ sets. Underway body body [] sets) (sym s) (begun body n e tree))
 
@@ -230,21 +231,21 @@ no-more : (cs : List Cmd) → length cs ≡ 0 → cs ≡ []
 no-more [] h = refl
 no-more (c ∷ cs) h = absurd (omega (arith, h))
 
-pub underway-over : (body left done : List Cmd) (sets : List (List Bool)) → Underway body left done sets → length left ≡ 0 → reverse done ≡ without_unused 0 body
+pub underway-over : (body left done : List Cmd) (sets : List (List ℕ)) → Underway body left done sets → length left ≡ 0 → reverse done ≡ without_unused 0 body
 unfolding onto
 underway-over body left done sets w e = ap (λ left. onto 0 left (reverse done)) (sym (no-more left e)) ∙ w.whole
 
-module _ (body cs : List Cmd) (c d : Cmd) (done : List Cmd) (sets sets' : List (List Bool)) where
-  on-command : Underway body (cs ++ c ∷ []) done sets → d ≡ ticked (used_in (flags_at sets) (followers c (length cs))) c
-      → ((u : ℕ) → flags_at sets' (length cs) u ≡ used_by (flags_at sets) d (length cs) u)
-      → ((j u : ℕ) → (j ≡ length cs → ⊥) → is_among j (followers c (length cs)) ≡ false → flags_at sets' j u ≡ flags_at sets j u)
+module _ (body cs : List Cmd) (c d : Cmd) (done : List Cmd) (sets sets' : List (List ℕ)) where
+  on-command : Underway body (cs ++ c ∷ []) done sets → d ≡ ticked (used_in (has_at sets) (followers c (length cs))) c
+      → ((u : ℕ) → has_at sets' (length cs) u ≡ used_by (has_at sets) d (length cs) u)
+      → ((j u : ℕ) → (j ≡ length cs → ⊥) → is_among j (followers c (length cs)) ≡ false → has_at sets' j u ≡ has_at sets j u)
       → length sets' ≡ length sets → Underway body cs (done ++ d ∷ []) sets'
   on-command w e here others long =
       let D = reverse done in
       let back : reverse (done ++ d ∷ []) ≡ d ∷ reverse done = reverse-append done (d ∷ []) in
       let tree : is_tree (cs ++ c ∷ reverse done) ≡ true = subst (λ ds. is_tree ds ≡ true) (append_assoc cs (c ∷ []) (reverse done)) (w.tree) in
       let right : Sets_right sets (length cs + 1) (reverse done) = subst (λ n. Sets_right sets n (reverse done)) (push-length cs c) (w.right) in
-      let same : (i : ℕ) → followers d i ≡ followers c i = λ i. ap (λ d. followers d i) e ∙ ticked-followers (used_in (flags_at sets) (followers c (length cs))) c i in
+      let same : (i : ℕ) → followers d i ≡ followers c i = λ i. ap (λ d. followers d i) e ∙ ticked-followers (used_in (has_at sets) (followers c (length cs))) c i in
       let is : d ≡ ticked (used_in (used (length cs + 1) (reverse done)) (followers c (length cs))) c = e ∙ ticked-right cs c (reverse done) tree sets right in
       record {
         whole = ap (onto 0 cs) back ∙ ap (λ d. onto 0 cs (d ∷ reverse done)) is ∙ sym (onto-push 0 cs c (reverse done) (length cs) (omega arith)) ∙ w.whole;
@@ -254,19 +255,19 @@ module _ (body cs : List Cmd) (c d : Cmd) (done : List Cmd) (sets sets' : List (
       }
 
   pub underway-on : (left done' : List Cmd) (n : ℕ) → left ≡ cs ++ c ∷ [] → done' ≡ done ++ d ∷ [] → n ≡ length cs → Underway body left done sets
-      → d ≡ ticked (used_in (flags_at sets) (followers c n)) c
-      → ((u : ℕ) → flags_at sets' n u ≡ used_by (flags_at sets) d n u)
-      → ((j u : ℕ) → (j ≡ n → ⊥) → is_among j (followers c n) ≡ false → flags_at sets' j u ≡ flags_at sets j u)
+      → d ≡ ticked (used_in (has_at sets) (followers c n)) c
+      → ((u : ℕ) → has_at sets' n u ≡ used_by (has_at sets) d n u)
+      → ((j u : ℕ) → (j ≡ n → ⊥) → is_among j (followers c n) ≡ false → has_at sets' j u ≡ has_at sets j u)
       → length sets' ≡ length sets → Underway body cs done' sets'
   underway-on left done' n l p i w e here others long =
       subst (λ done. Underway body cs done sets') (sym p)
       (on-command (subst (λ left. Underway body left done sets) l w)
-      (subst (λ n. d ≡ ticked (used_in (flags_at sets) (followers c n)) c) i e)
-      (subst (λ n. (u : ℕ) → flags_at sets' n u ≡ used_by (flags_at sets) d n u) i here)
-      (subst (λ n. (j u : ℕ) → (j ≡ n → ⊥) → is_among j (followers c n) ≡ false → flags_at sets' j u ≡ flags_at sets j u) i others) long)
+      (subst (λ n. d ≡ ticked (used_in (has_at sets) (followers c n)) c) i e)
+      (subst (λ n. (u : ℕ) → has_at sets' n u ≡ used_by (has_at sets) d n u) i here)
+      (subst (λ n. (j u : ℕ) → (j ≡ n → ⊥) → is_among j (followers c n) ≡ false → has_at sets' j u ≡ has_at sets j u) i others) long)
 
-pub ruleset take_steps = (sets-same, past-set, past-take, flag-none)
+pub ruleset take_steps = (sets-same, past-set, past-take, has-none)
 
-pub ruleset later_steps = (flag-none, used-none, used-one, used-two, taken-one, taken-two)
+pub ruleset later_steps = (has-none, used-none, used-one, used-two, taken-one, taken-two)
 
 pub ruleset walk_steps = (append_assoc, append-nil)

@@ -1,15 +1,14 @@
 -- The folding of valid code is valid.
-use Rattle.std.proofs.Common.{◌≡◌, ℕ, zero, suc, ◌+◌, ◌<◌, ◌==◌, nat_lt, ◌||◌, ◌&&◌, not, Bool, true, false, if◌then◌else◌, Option, Some, None, List, [], ◌∷◌, ◌⊎◌, inl, inr, refl, sym, ap, ap₂, ◌∙◌, subst, length, replicate, slice_get, slice_set, unwrap_or, arith}
-use Rattle.std.specs.Prelude.{⊤}
+use Rattle.std.proofs.Common.{◌≡◌, ℕ, zero, suc, ◌+◌, ◌<◌, ◌==◌, nat_lt, ◌||◌, ◌&&◌, not, Bool, true, false, if◌then◌else◌, Option, Some, None, List, [], ◌∷◌, ◌⊎◌, inl, inr, refl, sym, ap, ap₂, ◌∙◌, subst, length, replicate, slice_get, slice_set, arith}
 use Rattle.ceal_base.specs.declared.kind.Kind.{Kind}
-use Rattle.ceal_base.specs.declared.kind.Kind.TheVariants.{Int, Ptr, ModInt, ModPtr}
+use Rattle.ceal_base.specs.declared.kind.Kind.TheVariants.{Int, Ptr}
 use Rattle.ceal_base.specs.declared.typed.StructInfo.{StructInfo}
 use Rattle.ceal_code.proofs.Same.{both, both-true, nat-same}
 use Rattle.ceal_code.proofs.Typed.{kind-same}
-use Rattle.ceal_code.proofs.TypedInit.{units-valid, functions-valid, unit-valid}
+use Rattle.ceal_code.proofs.TypedInit.{units-valid, functions-valid}
 use Rattle.ceal_code.specs.Program.{Unit as CodeUnit, Code}
 use Rattle.ceal_code.specs.Step.{kinds_of}
-use Rattle.ceal_code.specs.Valid.{Typing, is_pointer, same_kind, fits, fits_maybe, variable_type, type_of, place_fits, write_fits, unit_fits, read_fits, entry_fits, call_fits, alloc_fits, modref_fits, others, params_fit, all_fit, command_ok, onward, path_ok, paths_ok, followers, is_tree, with_params, below, is_core, body_ok, unit_ok, units_ok, is_prefix, is_empty, kinds_ok, stmts_ok, entry_ok, function_ok, functions_ok, structs_ok, valid}
+use Rattle.ceal_code.specs.Valid.{Typing, fits, fits_maybe, variable_type, type_of, place_fits, unit_fits, read_fits, entry_fits, call_fits, alloc_fits, others, params_fit, all_fit, command_ok, onward, path_ok, paths_ok, followers, is_tree, with_params, below, is_core, body_ok, unit_ok, units_ok, is_prefix, kinds_ok, entry_ok, function_ok, functions_ok, structs_ok, valid}
 use Rattle.ceal_code.specs.declared.command.Cmd.{Cmd}
 use Rattle.ceal_code.specs.declared.command.Cmd.TheVariants.{Move, Tick, Alloc, Modref, Write, If, Done, Tail, Read, Call}
 use Rattle.ceal_code.specs.declared.expr.CodeExpr.{CodeExpr, Num as NumExpr, Null as NullExpr, Var, Unary', Binary', Field', Address'}
@@ -17,12 +16,11 @@ use Rattle.ceal_code.specs.declared.expr.VarId.{VarId}
 use Rattle.ceal_code.specs.declared.function.FunctionCode.{FunctionCode}
 use Rattle.ceal_code.specs.declared.function.FunctionCode.TheVariants.{Core as CoreFunction, Init as InitFunction}
 use Rattle.ceal_fold.proofs.Bodies.{facts, facts-root, folded-length, replaced-tree, ticked-tree}
-use Rattle.ceal_fold.proofs.CopySteps.{at-same, at-other, at-past}
+use Rattle.ceal_fold.proofs.ListSteps.{at-same, at-other, at-past}
 use Rattle.ceal_fold.proofs.ReplaceSteps.{set-length}
-use Rattle.ceal_fold.proofs.Runs.{unit-tree, unit-path}
-use Rattle.ceal_fold.proofs.Simulated.{final, Spot, spot, used-follower, among-next, among-first, among-second, lt-true}
+use Rattle.ceal_fold.proofs.Simulated.{final, spot, used-follower, among-next, among-first, among-second, lt-true}
 use Rattle.ceal_fold.proofs.Types.{Refined, refined-refl, refined-fits, refined-maybe, refined-place, refined-write, known_at, Copies_typed, type-folded, type-final, all-final, params-final}
-use Rattle.ceal_fold.specs.Folding.{Copies, no_copies, at_root, use_of, copies_after, copy_by, copy_without, assigned, is_among, folded_expr, folded_exprs, folded_command, replaced, mentions, all_mention, uses, assigns, used, used_in, used_by, ticked, without_unused, folded_unit, folded_units, folded}
+use Rattle.ceal_fold.specs.Folding.{Copies, no_copies, at_root, use_of, copies_after, copy_by, copy_without, assigned, is_among, folded_expr, folded_exprs, folded_command, replaced, mentions, all_mention, uses, assigns, used, used_in, used_by, ticked, folded_unit, folded_units, folded}
 use Rattle.ceal_fold.specs.declared.copies.Copied.{Copied}
 use Rattle.ceal_fold.specs.declared.copies.Copied.TheVariants.{Num as CopiedNum, Null as CopiedNull, Var as CopiedVar}
 

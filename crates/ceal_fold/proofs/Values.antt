@@ -1,9 +1,8 @@
 -- A folded expression gives the same word where the copies hold, and so it does where the variables that it mentions
 -- have the same words.
-use Rattle.std.proofs.Common.{◌≡◌, ℕ, ℤ, ◌==◌, ◌||◌, ◌&&◌, Bool, true, false, if◌then◌else◌, Option, Some, None, is_some, List, [], ◌∷◌, refl, sym, ap, ap₂, ◌∙◌, subst, arith}
+use Rattle.std.proofs.Common.{◌≡◌, ℕ, ◌==◌, ◌||◌, ◌&&◌, Bool, true, false, if◌then◌else◌, Option, Some, None, List, [], ◌∷◌, refl, sym, ap, ap₂, ◌∙◌, subst, arith}
 use Rattle.std.specs.Prelude.{⊤}
 use Rattle.ceal_base.specs.Operators.{unary_value, binary_value, truth}
-use Rattle.ceal_base.specs.Shapes.{default_of_field, default_of_kind}
 use Rattle.ceal_base.specs.declared.kind.FieldKind.{FieldKind}
 use Rattle.ceal_base.specs.declared.kind.FieldKind.TheVariants.{Plain as PlainField, CellInt, CellPtr}
 use Rattle.ceal_base.specs.declared.kind.Kind.TheVariants.{Int, Ptr, ModInt, ModPtr}
@@ -21,7 +20,7 @@ use Rattle.ceal_code.specs.declared.expr.CodeExpr.{CodeExpr, Num as NumExpr, Nul
 use Rattle.ceal_code.specs.declared.expr.CodeExpr.TheBlock.{hidden-the_row-CodeExpr-0, shape-the_row-CodeExpr-0}
 use Rattle.ceal_code.specs.declared.expr.CodeExpr.TheViews.{Unary, Binary, Field, Address}
 use Rattle.ceal_code.specs.declared.expr.VarId.{VarId}
-use Rattle.ceal_fold.specs.Folding.{Copies, no_copies, use_of, constant, constant_expr, is_null, unary_folded, binary_folded, field_folded, address_folded, folded_expr, folded_operand, folded_exprs, copy_by, copy_without, assigned, mentions, operand_mentions, all_mention}
+use Rattle.ceal_fold.specs.Folding.{Copies, no_copies, use_of, constant, constant_expr, is_null, unary_folded, binary_folded, folded_expr, folded_operand, folded_exprs, copy_by, copy_without, assigned, mentions, operand_mentions, all_mention}
 use Rattle.ceal_fold.specs.declared.copies.Copied.{Copied}
 use Rattle.ceal_fold.specs.declared.copies.Copied.TheVariants.{Num as CopiedNum, Null as CopiedNull, Var as CopiedVar}
 

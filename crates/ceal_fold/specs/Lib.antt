@@ -1,3 +1,4 @@
 pub mod Folding
 pub mod States
 pub mod Trees
+pub mod Traces

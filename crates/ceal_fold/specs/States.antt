@@ -1,20 +1,56 @@
 -- How the two passes over a body keep what they know at each index.
-use Rattle.std.specs.Prelude.{ℕ, Bool, false, Option, None, List, [], slice_get, unwrap_or}
+use Rattle.std.specs.Prelude.{ℕ, ◌≤◌, Bool, Option, Some, None, List, [], slice_get, unwrap_or, nat_lt, if◌then◌else◌}
+use Rattle.std.specs.List.{list_any}
+use Rattle.std.specs.Map.{lookup}
+use Rattle.std.specs.BTreeMap.{is_at}
+use Rattle.std.specs.Ordering.{nat_cmp}
 use Rattle.ceal_fold.specs.Folding.{Copies}
 use Rattle.ceal_fold.specs.declared.copies.Copied.{Copied}
+use Rattle.ceal_fold.specs.declared.copies.Copied.TheVariants.{Num as CopiedNum, Null as CopiedNull, Var as CopiedVar}
+use Rattle.ceal_fold.specs.declared.known.Assigned.{Assigned}
 
--- what a variable is a copy of, by its number
-unfoldable pub copy_at : List (Option Copied) → Copies
-copy_at known v = unwrap_or (slice_get known v) None
+-- the last assignment of a variable, of those that are kept by the variables' numbers
+unfoldable pub last_of : List (ℕ × Assigned) → ℕ → Option Assigned
+last_of known v = lookup (is_at (nat_cmp v)) known
 
--- and at an index of the body
-unfoldable pub copies_at : List (List (Option Copied)) → ℕ → Copies
-copies_at states j = copy_at (unwrap_or (slice_get states j) [])
+-- when it was; 0 is before all
+abbrev pub time : Option Assigned → ℕ
+time None = 0
+time (Some a) = a.at
 
--- whether a variable is used, by its number
-unfoldable pub flag_at : List Bool → ℕ → Bool
-flag_at flags v = unwrap_or (slice_get flags v) false
+-- what is left of a copy that was made at this time: nothing where its source was assigned since
+abbrev pub still : (ℕ → Option Assigned) → ℕ → Option Copied → Option Copied
+still last at None = None
+still last at (Some (CopiedNum n)) = Some (CopiedNum n)
+still last at (Some CopiedNull) = Some CopiedNull
+still last at (Some (CopiedVar w)) = if nat_lt (time (last w.0)) at then Some (CopiedVar w) else None
 
--- and from an index of the body on
-unfoldable pub flags_at : List (List Bool) → ℕ → ℕ → Bool
-flags_at sets j = flag_at (unwrap_or (slice_get sets j) [])
+abbrev pub standing : (ℕ → Option Assigned) → Option Assigned → Option Copied
+standing last None = None
+standing last (Some a) = still last a.at a.copy
+
+-- what a variable is a copy of
+unfoldable pub copy_at : List (ℕ × Assigned) → Copies
+copy_at known v = standing (last_of known) (last_of known v)
+
+-- what is kept at an index of the body
+unfoldable pub state_at : List (List (ℕ × Assigned)) → ℕ → List (ℕ × Assigned)
+state_at states j = unwrap_or (slice_get states j) []
+
+unfoldable pub copies_at : List (List (ℕ × Assigned)) → ℕ → Copies
+copies_at states j = copy_at (state_at states j)
+
+-- no assignment was after this time
+unfoldable pub Until : ℕ → List (ℕ × Assigned) → Type 0
+Until n known = (v : ℕ) → time (last_of known v) ≤ n
+
+unfoldable pub All_until : ℕ → List (List (ℕ × Assigned)) → Type 0
+All_until n states = (j : ℕ) → Until n (state_at states j)
+
+-- whether a variable is among those that are used
+unfoldable pub has : List ℕ → ℕ → Bool
+has vars v = list_any (is_at (nat_cmp v)) vars
+
+-- and among those from an index of the body on
+unfoldable pub has_at : List (List ℕ) → ℕ → ℕ → Bool
+has_at sets j = has (unwrap_or (slice_get sets j) [])

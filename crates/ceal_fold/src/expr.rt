@@ -6,7 +6,8 @@ ghost use Rattle.ceal_code.specs.Value.{field_kind, field_default};
 ghost use Rattle.ceal_fold.specs.Folding.{use_of, constant, constant_expr, is_null, unary_folded, binary_folded, field_folded, address_folded, folded_expr, folded_exprs, folded_command};
 ghost use Rattle.ceal_fold.specs.States.{copy_at};
 
-use crate::copies::{Copied, copy_of};
+use crate::copies::Copied;
+use crate::known::Known;
 use ceal_base::boxed::Boxed;
 use ceal_base::items::Items;
 use ceal_base::kind::{FieldKind, Kind};
@@ -163,7 +164,7 @@ fn address(alloc: Global, a: CodeExpr, s: u32, field: u32) -> Result<CodeExpr, N
 pub fn fold_expr(
     alloc: Global,
     structs: &[StructInfo],
-    known: &[Option<Copied>],
+    known: &Known,
     e: &CodeExpr,
 ) -> Result<CodeExpr, NoMemory>
     ensures value { IfOk result (λ f. f ≡ folded_expr structs.now (copy_at known.now) e.now) }
@@ -171,7 +172,7 @@ pub fn fold_expr(
     match e {
         CodeExpr::Num(n) => Ok(CodeExpr::Num(*n)),
         CodeExpr::Null => Ok(CodeExpr::Null),
-        CodeExpr::Var(v) => Ok(used_as(*v, copy_of(known, *v))),
+        CodeExpr::Var(v) => Ok(used_as(*v, known.copy_of(*v))),
         CodeExpr::Unary(op, a) => {
             let a = fold_expr(alloc, structs, known, a.get())?;
             let e = unary(alloc, *op, a)?;
@@ -200,7 +201,7 @@ pub fn fold_expr(
 fn fold_exprs(
     alloc: Global,
     structs: &[StructInfo],
-    known: &[Option<Copied>],
+    known: &Known,
     es: &[CodeExpr],
 ) -> Result<CodeExprs, NoMemory>
     ensures value { IfOk result (λ list. list ≡ folded_exprs structs.now (copy_at known.now) es.now) }
@@ -219,7 +220,7 @@ fn fold_exprs(
 pub fn fold_command(
     alloc: Global,
     structs: &[StructInfo],
-    known: &[Option<Copied>],
+    known: &Known,
     command: &Cmd,
 ) -> Result<Cmd, NoMemory>
     ensures value { IfOk result (λ c. c ≡ folded_command structs.now (copy_at known.now) command.now) }

@@ -6,6 +6,7 @@ ghost use Rattle.ceal_base.specs.declared.word.Word.{Word};
 ghost use Rattle.ceal_code.specs.Fresh.{fresh};
 ghost use Rattle.ceal_code.specs.Valid.{valid, is_tree};
 ghost use Rattle.ceal_fold.specs.Folding.{folded, folded_unit, folded_units};
+ghost use Rattle.ceal_fold.specs.Traces.{SameTraces, SameReplays};
 ghost use Rattle.ceal_fold.specs.Trees.{are_trees};
 
 use crate::copied_code::{copied_functions, copied_kinds};
@@ -67,14 +68,18 @@ fn fold_code(alloc: Global, code: &Code) -> Result<Code, NoMemory>
 }
 
 /// Replaces copies and operators on constants in each unit from the root down, and then makes each move that nothing
-/// later uses a step that does nothing. Initialisers stay, and so do the indices of a body. It takes time in
-/// proportion to the commands times the variables that a function's paths assign (the definition is our own).
+/// later uses a step that does nothing. Initialisers stay, and so do the indices of a body. So a run takes the same
+/// steps, and a trace of the one code is a trace of the other. It takes time in proportion to the size of the code times
+/// the logarithm of the variables, and at each `If` the time to copy what is known of the variables that are assigned
+/// before it in its unit (the definition is our own).
 pub fn fold(alloc: Global, code: Code) -> Result<Code, NoMemory>
     requires valid { valid code ≡ true }
     ensures exact { IfOk result (λ c. c ≡ folded code) }
     ensures valid { IfOk result (λ c. valid c ≡ true) }
     ensures same_run { IfOk result (λ c. (f : ℕ) (args : List Word) (inputs : List Block) (fuel : ℕ)
         → fresh c f args inputs fuel ≡ fresh code f args inputs fuel) }
+    ensures same_traces { IfOk result (λ c. SameTraces c code) }
+    ensures replays { IfOk result (λ c. SameReplays c code) }
 {
     let after = fold_code(alloc, &code)?;
     Ok(after)

@@ -1,44 +1,40 @@
 // From the root of a body down: each command with its expressions folded.
 
-ghost use Rattle.std.specs.Prelude.{◌≡◌, ◌<◌, ◌^◌, ℕ, [], length, slice_get, slice_set, replicate, if◌then◌else◌, IfOk};
+ghost use Rattle.std.specs.Prelude.{◌≡◌, ◌<◌, ◌+◌, ◌^◌, ℕ, [], length, slice_get, slice_set, replicate, if◌then◌else◌, IfOk};
 ghost use Rattle.ceal_code.specs.Valid.{followers};
 ghost use Rattle.ceal_fold.specs.Folding.{at_root, copies_after, is_among, folded_command, handed, replaced};
-ghost use Rattle.ceal_fold.specs.States.{copy_at, copies_at};
+ghost use Rattle.ceal_fold.specs.States.{copy_at, state_at, copies_at, Until, All_until};
 
-use crate::copies::{Copied, pass};
 use crate::expr::fold_command;
-use ceal_base::items::Items;
+use crate::known::Known;
 use ceal_base::no_memory::NoMemory;
 use ceal_base::typed::StructInfo;
 use ceal_code::command::Cmd;
 use std::alloc::Global;
 use std::mem;
 
-/// What each variable is a copy of, by its number.
-type State = Items<Option<Copied>>;
-
-fn no_states(alloc: Global, n: usize) -> Result<Vec<State>, NoMemory>
+fn no_states(alloc: Global, n: usize) -> Result<Vec<Known>, NoMemory>
     ensures { IfOk result (λ v. v.items ≡ replicate n []) }
 {
     let mut states = Vec::new(alloc);
     for i in 0..n {
-        states.push(Items::empty(alloc))?;
+        states.push(Known::new(alloc))?;
     }
     Ok(states)
 }
 
 /// Takes the state at an index out, and leaves an empty one there.
-#[tactic(auto, using(crate::proofs::ReplaceSteps::take_steps), unfolding(crate::specs::States::copies_at))]
-fn take_state(alloc: Global, states: &mut Vec<State>, at: usize) -> State
+#[tactic(auto, using(crate::proofs::ReplaceSteps::take_steps), unfolding(crate::specs::States::state_at))]
+fn take_state(alloc: Global, states: &mut Vec<Known>, at: usize) -> Known
     requires there { at < length states.old.items }
-    ensures state { copy_at result ≡ copies_at states.old.items at }
+    ensures state { result ≡ state_at states.old.items at }
     ensures left { states.new.items ≡ slice_set states.old.items at [] }
 {
-    mem::replace(&mut states[at], Items::empty(alloc))
+    mem::replace(&mut states[at], Known::new(alloc))
 }
 
 /// Hands a state to an index, if it is there.
-fn hand(states: &mut Vec<State>, at: usize, state: State)
+fn hand(states: &mut Vec<Known>, at: usize, state: Known)
     ensures { states.new.items ≡ slice_set states.old.items at state }
 {
     if at < states.len() {
@@ -46,26 +42,18 @@ fn hand(states: &mut Vec<State>, at: usize, state: State)
     }
 }
 
-fn copied_state(alloc: Global, state: &[Option<Copied>]) -> Result<State, NoMemory>
-    ensures equal { IfOk result (λ copy. copy ≡ state.now) }
-{
-    let mut copies = Vec::new(alloc);
-    for copy in state {
-        copies.push(*copy)?;
-    }
-    Ok(Items::new(copies))
-}
-
 /// Hands a state to the followers of a command.
 #[tactic(auto, using(crate::proofs::ReplaceSteps::hand_steps))]
 fn hand_on(
-    alloc: Global,
-    states: &mut Vec<State>,
-    state: State,
+    states: &mut Vec<Known>,
+    state: Known,
     command: &Cmd,
     index: usize,
 ) -> Result<(), NoMemory>
     requires room { index < 2 ^ 63 }
+    requires state { Until (index + 1) state }
+    requires earlier { All_until (index + 1) states.old.items }
+    ensures times { IfOk result (λ _. All_until (index + 1) states.new.items) }
     ensures length { IfOk result (λ _. length states.new.items ≡ length states.old.items) }
     ensures value { IfOk result (λ _. (j : ℕ) → j < length states.old.items → copies_at states.new.items j
         ≡ (if is_among j (followers command.now index) then copy_at state else copies_at states.old.items j)) }
@@ -92,7 +80,7 @@ fn hand_on(
             Ok(())
         }
         Cmd::If { yes, no, .. } => {
-            let other = copied_state(alloc, state.items())?;
+            let other = state.copy()?;
             hand(states, *yes as usize, other);
             hand(states, *no as usize, state);
             Ok(())
@@ -108,21 +96,23 @@ fn hand_on(
 fn replace_at(
     alloc: Global,
     structs: &[StructInfo],
-    states: &mut Vec<State>,
+    states: &mut Vec<Known>,
     command: &Cmd,
     index: usize,
 ) -> Result<Cmd, NoMemory>
     requires there { index < length states.old.items }
     requires room { index < 2 ^ 63 }
+    requires earlier { All_until index states.old.items }
+    ensures times { IfOk result (λ c. All_until (index + 1) states.new.items) }
     ensures command { IfOk result (λ c. c ≡ folded_command structs.now (copies_at states.old.items index) command.now) }
     ensures length { IfOk result (λ c. length states.new.items ≡ length states.old.items) }
     ensures handed { IfOk result (λ c. (j : ℕ) → index < j → j < length states.old.items
         → copies_at states.new.items j ≡ handed (copies_at states.old.items) index c j) }
 {
-    let mut known = take_state(alloc, states, index).into_vec();
-    let command = fold_command(alloc, structs, known.as_slice(), command)?;
-    pass(&mut known, &command)?;
-    hand_on(alloc, states, Items::new(known), &command, index)?;
+    let mut known = take_state(alloc, states, index);
+    let command = fold_command(alloc, structs, &known, command)?;
+    known.pass(&command, index + 1)?;
+    hand_on(states, known, &command, index)?;
     Ok(command)
 }
 

@@ -4,7 +4,7 @@ use crate::fold::fold;
 use ceal_base::boxed::Boxed;
 use ceal_base::forest::UnitId;
 use ceal_base::items::Items;
-use ceal_base::kind::{FieldKind, Kind, Kinds};
+use ceal_base::kind::{FieldKind, Kind, Kinds, Shape};
 use ceal_base::no_memory::NoMemory;
 use ceal_base::operators::Binary;
 use ceal_base::text::Text;
@@ -123,6 +123,52 @@ fn nulls(alloc: Global) -> Result<Code, NoMemory> {
     with_body(alloc, Kind::Ptr(0), body)
 }
 
+// o = m; m = modref(); write(o, 1): o is no copy of m any more
+fn moved(alloc: Global) -> Result<Code, NoMemory> {
+    let mut body = Vec::new(alloc);
+    body.push(Cmd::Move {
+        var: VarId(1),
+        value: var(0),
+    })?;
+    body.push(Cmd::Modref {
+        var: VarId(0),
+        shape: Shape::ModInt,
+    })?;
+    body.push(Cmd::Write {
+        place: var(1),
+        value: CodeExpr::Num(1),
+    })?;
+    body.push(Cmd::Done)?;
+    with_body(alloc, Kind::ModInt, body)
+}
+
+// int x = m == null; int y = m == null; if (x) write(m, 1); else write(m, y);
+fn branched(alloc: Global) -> Result<Code, NoMemory> {
+    let mut body = Vec::new(alloc);
+    for v in 1..3 {
+        body.push(Cmd::Move {
+            var: VarId(v),
+            value: binary(alloc, Binary::Same, var(0), CodeExpr::Null)?,
+        })?;
+    }
+    body.push(Cmd::If {
+        test: var(1),
+        yes: 3,
+        no: 5,
+    })?;
+    body.push(Cmd::Write {
+        place: var(0),
+        value: CodeExpr::Num(1),
+    })?;
+    body.push(Cmd::Done)?;
+    body.push(Cmd::Write {
+        place: var(0),
+        value: var(2),
+    })?;
+    body.push(Cmd::Done)?;
+    with_body(alloc, Kind::Int, body)
+}
+
 #[test]
 fn folds_constants(rt: HostRuntime) -> Result<(), NoMemory> {
     let alloc = rt.alloc();
@@ -146,6 +192,34 @@ fn folds_null(rt: HostRuntime) -> Result<(), NoMemory> {
     assert!(rt;
         text.items()
             == b"fn f u0\nu0(v0)\n  tick\n  tick\n  write(null, 0)\n  write(v0, 1)\n  done\n".as_slice()
+    );
+    Ok(())
+}
+
+#[test]
+fn leaves_a_copy_whose_source_is_assigned(rt: HostRuntime) -> Result<(), NoMemory> {
+    let alloc = rt.alloc();
+    let code = moved(alloc)?;
+    assert!(rt; validate(alloc, &code)?);
+    let after = fold(alloc, code)?;
+    let text = listing(alloc, &after)?;
+    assert!(rt;
+        text.items()
+            == b"fn f u0\nu0(v0)\n  v1 = v0\n  v0 = modref int\n  write(v1, 1)\n  done\n".as_slice()
+    );
+    Ok(())
+}
+
+#[test]
+fn leaves_what_one_branch_uses(rt: HostRuntime) -> Result<(), NoMemory> {
+    let alloc = rt.alloc();
+    let code = branched(alloc)?;
+    assert!(rt; validate(alloc, &code)?);
+    let after = fold(alloc, code)?;
+    let text = listing(alloc, &after)?;
+    assert!(rt;
+        text.items()
+            == b"fn f u0\nu0(v0)\n  v1 = (v0 == null)\n  v2 = (v0 == null)\n  if v1\n    write(v0, 1)\n    done\n  else\n    write(v0, v2)\n    done\n".as_slice()
     );
     Ok(())
 }

@@ -1,7 +1,7 @@
-use Rattle.std.proofs.Common.{[], ◌++◌, length, ap, ◌∙◌, arith}
+use Rattle.std.proofs.Common.{[], ◌++◌, length, ap, ◌∙◌, sym, subst, arith}
 use Rattle.ceal_fold.specs.Folding.{at_root, replaced}
-use Rattle.ceal_fold.specs.States.{copies_at}
-use Rattle.ceal_fold.proofs.ReplaceSteps.{replaced-same, root-none, replicate-length, walk-on}
+use Rattle.ceal_fold.specs.States.{copies_at, All_until}
+use Rattle.ceal_fold.proofs.ReplaceSteps.{replaced-same, root-none, replicate-length, until-begun, walk-on}
 use Rattle.ceal_fold.proofs.replace.replace_all.Goals as goal
 
 pub loop-command-init : goal.loop-command-init
@@ -14,6 +14,7 @@ loop-command-init c =
           ∙ replaced-same structs (copies_at states) at_root 0 body (λ j lo hi. ap (λ s. copies_at s j) c.in_ok-states.ensures ∙ root-none _ j);
       long = ap length c.in_ok-states.ensures ∙ replicate-length _ [];
       left = omega arith;
+      times = subst (All_until 0) (sym c.in_ok-states.ensures) (until-begun 0 _);
     }
 
 pub loop-command-preserved : goal.loop-command-preserved
@@ -25,4 +26,5 @@ loop-command-preserved c =
           c.in-Some.ensures.cases.0 c.in_ok-push.ensures.items c.in_ok-command.ensures.command (omega (arith, w.left, w.long)) c.in_ok-command.ensures.handed w.whole;
       long = c.in_ok-command.ensures.length ∙ w.long;
       left = omega (arith, w.left, ap length c.in-Some.ensures.cases.0);
+      times = c.in_ok-command.ensures.times;
     }

@@ -1,4 +1,4 @@
-use Rattle.std.proofs.Common.{rules, ◌≡◌, length, ◌∙◌, arith}
+use Rattle.std.proofs.Common.{rules, ◌≡◌, length, ◌∙◌}
 use Rattle.ceal_fold.proofs.UnusedSteps.{underway-begun, underway-on, underway-over}
 use Rattle.ceal_fold.proofs.unused.tick_all.Goals as goal
 
