@@ -18,6 +18,7 @@ use ceal_base::fault::FrontError;
 use ceal_base::syntax::Tree;
 use ceal_base::typed::Typed;
 use ceal_flow::lower::lower;
+use ceal_fold::fold::fold;
 use ceal_lex::lex::lex;
 use ceal_lex::parts::Split;
 use ceal_lex::split::{one_split, split};
@@ -39,7 +40,8 @@ fn coded(alloc: Global, program: Typed) -> Result<Program, FrontError>
     match lower(alloc, &program) {
         Ok(graph) => {
             let live = live(alloc, &graph)?;
-            let code = normalise(alloc, &graph, &live)?;
+            let units = normalise(alloc, &graph, &live)?;
+            let code = fold(alloc, units)?;
             Ok(Program {
                 typed: program,
                 code,

@@ -13,8 +13,9 @@ use Rattle.ceal_code.proofs.Same.{both, none-some, some-same}
 use Rattle.ceal_code.specs.Fitting.{args_fit, Fits}
 use Rattle.ceal_code.specs.Program.{Code}
 use Rattle.ceal_code.specs.declared.function.FunctionCode.{FunctionCode}
+use Rattle.ceal_compile.specs.Compiled.{IsCodeOf}
 use Rattle.ceal_flow.specs.Lowering.{function_size, function_in, function_at, functions_from}
-use Rattle.ceal_norm.specs.Laws.{IsCodeOf, source_of}
+use Rattle.ceal_norm.specs.Laws.{source_of}
 use Rattle.ceal_norm.specs.Units.{Source, function_code}
 use Rattle.ceal_session.specs.Runs.{inputs_alone}
 use Rattle.ceal_session.specs.State.{State}
@@ -35,13 +36,13 @@ from-none n (h ∷ fs) (suc f) e = from-none (n + function_size h) fs f e
 
 module _ (p : Typed) (code : Code) (c : IsCodeOf p code) where
   pub same-structs : code.structs ≡ p.structs
-  same-structs = ap (λ k. k.structs) c.same
+  same-structs = ap (λ k. k.structs) c.same ∙ ap (λ k. k.structs) c.units.same
 
   abbrev source : Source
-  source = source_of p c.live
+  source = source_of p c.units.live
 
   get-code : (f : ℕ) → slice_get code.functions f ≡ option_map (function_code source) (slice_get (functions_from 0 p.functions) f)
-  get-code f = ap (λ k. slice_get k.functions f) c.same ∙ get-map (function_code source) (functions_from 0 p.functions) f
+  get-code f = ap (λ k. slice_get k.functions f) c.same ∙ ap (λ k. slice_get k.functions f) c.units.same ∙ get-map (function_code source) (functions_from 0 p.functions) f
 
   code-some : (f : ℕ) (g : TypedFunction) → slice_get p.functions f ≡ Some g → (m : ℕ) × (slice_get code.functions f ≡ Some (function_code source (function_at g m)))
   code-some f g e = let h = from-some 0 p.functions f g e in (h.0, get-code f ∙ ap (option_map (function_code source)) h.1)

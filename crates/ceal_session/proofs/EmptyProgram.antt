@@ -11,7 +11,9 @@ use Rattle.ceal_compile.specs.Compiled.{IsCompiled}
 use Rattle.ceal_flow.specs.Live.{AreLiveSets}
 use Rattle.ceal_flow.specs.Lowering as Lowering
 use Rattle.ceal_flow.specs.Lowering.{graph_of}
-use Rattle.ceal_norm.specs.Laws.{IsCodeOf, source_of}
+use Rattle.ceal_fold.specs.Folding as Folding
+use Rattle.ceal_fold.specs.Folding.{folded}
+use Rattle.ceal_norm.specs.Laws.{source_of}
 use Rattle.ceal_norm.specs.Units as Units
 use Rattle.ceal_norm.specs.Units.{code_of}
 
@@ -36,6 +38,10 @@ same-code : no_code ≡ code_of (source_of no_program [])
 unfolding Lowering.functions_from Units.units_before Lowering.blocks_from
 same-code = refl
 
+same-folded : no_code ≡ folded no_code
+unfolding Folding.folded_units
+same-folded = refl
+
 live : AreLiveSets (graph_of no_program).blocks []
 unfolding Lowering.blocks_from
 live = record { each = refl; ascending = λ b. tt; exact = λ b v h. absurd (omega (arith, h)) }
@@ -44,7 +50,7 @@ pub empty-compiled : IsCompiled (record { typed = no_program; code = no_code })
 empty-compiled = record {
   typed = typed;
   usage = usage;
-  code = record { live = []; exact_live = live; same = same-code };
+  code = record { unfolded = no_code; units = record { live = []; exact_live = live; same = same-code }; same = same-folded };
   valid = is-valid;
   means = λ f args inputs fuel core. absurd core;
 }

@@ -80,6 +80,7 @@ fn answer_command(alloc: Global, state: &mut State, command: &Command) -> Result
     ensures state { OnOk result (state.new ≡ (answered state.old command.now).state) }
     ensures err { OnErr result (IsLeftBy state.old (call_of state.old command.now) state.new) }
 {
+    // for the proof: each input has a name, by the clause `counted`
     let _names = state.names();
     let ready = prepare(alloc)?;
     let reply = reply_to(alloc, state, command)?;

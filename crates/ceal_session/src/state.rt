@@ -203,6 +203,7 @@ impl State {
         ensures ok { IfOk result (λ reply. record { reply = reply; state = self.new } ≡ runs self.old (OkOf call.now)) }
         ensures err { OnErr result (IsLeftBy self.old (OkOf call.now) self.new) }
     {
+        // for the proof: it is an engine, by the clause `whole`
         let _before = self.engine.phase();
         let outcome = self.engine.run(call.function, call.args.items());
         self.pending = still_pending(self.pending, self.engine.phase());
@@ -215,6 +216,7 @@ impl State {
         ensures ok { IfOk result (λ reply. record { reply = reply; state = self.new } ≡ runs self.old (called_again self.old.call)) }
         ensures err { OnErr result (IsLeftBy self.old (called_again self.old.call) self.new) }
     {
+        // for the proof: it is an engine, by the clause `whole`
         let _before = self.engine.phase();
         let outcome = self.engine.propagate();
         self.pending = false;
@@ -227,6 +229,7 @@ impl State {
         requires cell { IsCellOf self.now place }
         ensures { content_text self.now place (present_run self.now) ≡ Some (value_text self.now result) }
     {
+        // for the proof: it is an engine, by the clause `whole`
         let _phase = self.engine.phase();
         self.engine.value(place)
     }
@@ -236,6 +239,7 @@ impl State {
         requires { IsReady self.now }
         ensures { blocks_in (present_run self.now) ≡ Some result }
     {
+        // for the proof: it is an engine, by the clause `whole`
         let _phase = self.engine.phase();
         self.engine.live_blocks()
     }
@@ -245,6 +249,7 @@ impl State {
         requires { IsReady self.now }
         ensures { steps_in (present_run self.now) ≡ Some result }
     {
+        // for the proof: it is an engine, by the clause `whole`
         let _phase = self.engine.phase();
         self.engine.steps()
     }
@@ -258,6 +263,7 @@ impl State {
         progress_law();
         fitting_is_whole();
         same_text();
+        // for the proof: it is an engine, by the clause `whole`
         let _phase = self.engine.phase();
         graph(alloc, &self.engine, &self.names, input)
     }

@@ -36,6 +36,7 @@ fn block_shape(engine: &Engine, block: BlockId) -> Shape
     ensures { shape_at (seen engine.now) block ≡ Some result }
 {
     progress_law();
+    // for the proof: it is an engine, by the clause `whole`
     let _phase = engine.phase();
     engine.shape(block)
 }
@@ -64,6 +65,7 @@ fn field_word(engine: &Engine, block: BlockId, field: u32) -> Word
 {
     progress_law();
     fitting_is_whole();
+    // for the proof: it is an engine, by the clause `whole`
     let _phase = engine.phase();
     let shape = engine.shape(block);
     if is_plain(kind_of(engine, shape, field)) {
