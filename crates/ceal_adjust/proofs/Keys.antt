@@ -7,11 +7,11 @@ use Rattle.ceal_code.proofs.Same.{both-true, nat-refl, word-refl}
 use Rattle.ceal_adjust.proofs.Taking.{words-same, key-same}
 use Rattle.ceal_adjust.specs.Take.{same_words, same_key}
 
-words-refl : (ws : List Word) → same_words ws ws ≡ true
+pub words-refl : (ws : List Word) → same_words ws ws ≡ true
 words-refl [] = refl
 words-refl (w ∷ ws) = both-true _ _ (word-refl w) (words-refl ws)
 
-key-refl : (k : Key) → same_key k k ≡ true
+pub key-refl : (k : Key) → same_key k k ≡ true
 key-refl (Init f ws) = both-true _ _ (nat-refl f) (words-refl ws)
 key-refl IntKey = refl
 key-refl (PtrKey s) = nat-refl s

@@ -29,8 +29,11 @@ pub mod StackSteps
 pub mod Finding
 pub mod Turning
 pub mod Keys
+pub mod MarkSteps
+pub mod Spotting
 pub mod ContentSteps
 pub mod BeginSteps
 pub mod MachineSteps
 pub mod Completing
 pub mod Starting
+pub mod Edits

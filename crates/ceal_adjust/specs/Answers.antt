@@ -39,12 +39,12 @@ Answered code fuel start (Done forest work) = Completes code fuel start forest w
 Answered code fuel start OutOfFuel = Exceeds code fuel start
 
 -- how far a repair has come
-abbrev pub Comes_to : Code → Store → ℕ → Machine → Repair → Type 0
-Comes_to code bases fuel start r = Comes code fuel start (machine_in code bases r.machine) r.out.items r.steps
+abbrev pub Comes_to : Code → Store → List Item → ℕ → Machine → Repair → Type 0
+Comes_to code bases old fuel start r = Comes code fuel start (machine_in code bases old r.machine) r.out.items r.steps
 
-abbrev pub Progresses : Code → Store → ℕ → Machine → Progress → Type 0
-Progresses code bases fuel start (Answer a) = Answered code fuel start a
-Progresses code bases fuel start (Under r) = Comes_to code bases fuel start r
+abbrev pub Progresses : Code → Store → List Item → ℕ → Machine → Progress → Type 0
+Progresses code bases old fuel start (Answer a) = Answered code fuel start a
+Progresses code bases old fuel start (Under r) = Comes_to code bases old fuel start r
 
 -- the flat form of the repair that the definition gives, with its work, where the run from scratch ends
 pub record IsRepair (forest : List Item) (work : ℕ) (defined : Option Repaired) (run : Option Finished) : Type 0 where

@@ -1,5 +1,5 @@
--- The machine of repair as the code keeps it.
-use Rattle.std.specs.Prelude.{Bool, true, false, Option, Some, None, List, [], ◌∷◌, reverse}
+-- The machine of repair as the code keeps it, which has a place in the old items.
+use Rattle.std.specs.Prelude.{Bool, true, false, Option, Some, None, List, [], ◌∷◌, drop, reverse}
 use Rattle.ceal_base.specs.Trace.{Trace}
 use Rattle.ceal_base.specs.declared.forest.Item.{Item}
 use Rattle.ceal_base.specs.declared.forest.Item.TheVariants.{Step}
@@ -43,8 +43,8 @@ machine_at s (IsRunning stack n) fs ts = record { state = s; mode = Running (sta
 unfoldable pub machine_of : State → CodeMode → List Frame → List Item → Machine
 machine_of s mode fs is = machine_at s mode (reverse fs) (levels is)
 
-abbrev pub machine_in : Code → Store → CodeMachine → Machine
-machine_in code bases m = machine_of (state_in code bases m.state) m.mode m.frames.items m.rest.now
+abbrev pub machine_in : Code → Store → List Item → CodeMachine → Machine
+machine_in code bases old m = machine_of (state_in code bases m.state) m.mode m.frames.items (drop m.rest old)
 
 abbrev pub item_list : Option Item → List Item
 item_list None = []
@@ -54,6 +54,6 @@ abbrev pub written : Bool → Option Item → List Item
 written true i = Step ∷ item_list i
 written false i = item_list i
 
-abbrev pub turn_in : Code → Store → CodeTurn → Turn
-turn_in code bases HasEnded = Ended
-turn_in code bases (HasGone stepped i m) = Went (written stepped i) (machine_in code bases m)
+abbrev pub turn_in : Code → Store → List Item → CodeTurn → Turn
+turn_in code bases old HasEnded = Ended
+turn_in code bases old (HasGone stepped i m) = Went (written stepped i) (machine_in code bases old m)

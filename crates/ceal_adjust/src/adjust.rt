@@ -14,6 +14,7 @@ ghost use Rattle.ceal_adjust.specs.Laws.{Edited};
 use crate::begin::{first_stack, known_inputs, learn_items};
 use crate::contents::Contents;
 use crate::machine::{Machine, Mode, State, running};
+use crate::old::Old;
 use crate::progress::complete;
 use ceal_base::forest::Forest;
 use ceal_base::memory::Inputs;
@@ -45,6 +46,7 @@ pub fn first_forest(
     requires fits { Fits code.now inputs.now function args.now }
     ensures answer { IfOk result (λ a. Is_answer (first_of code.now inputs.now fuel function args.now) (fresh code.now function args.now inputs.now fuel) a) }
 {
+    let old = Old::new(alloc, &[])?;
     let known = known_inputs(alloc, code, inputs.items())?;
     let stack = first_stack(alloc, code, function, args)?;
     let state = State {
@@ -57,16 +59,17 @@ pub fn first_forest(
         state,
         mode: running(stack, 0),
         frames: Vec::new(alloc),
-        rest: &[],
+        rest: 0,
     };
-    let answer = complete(alloc, code, inputs, fuel, machine)?;
+    let answer = complete(alloc, code, inputs, fuel, &old, machine)?;
     Ok(answer)
 }
 
-/// The repair of a trace on other inputs: change propagation, by one walk over the old items. The forest is the flat
-/// form of a trace of a call of this code, on inputs that the given ones extend with any bases; new blocks have the
-/// numbers from `next` on. It is out of fuel exactly where a run from scratch on the given inputs needs more steps than
-/// the fuel allows, although only a part is run anew.
+/// The repair of a trace on other inputs: change propagation, by one walk over the old items. Two passes before it
+/// make the tables by which what is taken is found, and one learns the plain words; a look-up by a table is a binary
+/// search among the old items with that key. The forest is the flat form of a trace of a call of this code, on inputs
+/// that the given ones extend with any bases; new blocks have the numbers from `next` on. It is out of fuel exactly
+/// where a run from scratch on the given inputs needs more steps than the fuel allows, although only a part is run anew.
 pub fn adjust(
     alloc: Global,
     code: &Code,
@@ -80,6 +83,7 @@ pub fn adjust(
     requires room { next + fuel < 2 ^ 32 }
     ensures answer { IfOk result (λ a. (old : List Block) (f : ℕ) (args : List WordOf) (l : Trace) → forest.now ≡ flat l → Edited code.now old inputs.now f args l next → Is_answer (adjusted code.now inputs.now next fuel l) (fresh code.now f args inputs.now fuel) a) }
 {
+    let old = Old::new(alloc, forest.items())?;
     let known = known_inputs(alloc, code, inputs.items())?;
     let known = learn_items(alloc, code, known, forest.items())?;
     let state = State {
@@ -92,8 +96,8 @@ pub fn adjust(
         state,
         mode: Mode::Fixing,
         frames: Vec::new(alloc),
-        rest: forest.items(),
+        rest: 0,
     };
-    let answer = complete(alloc, code, inputs, fuel, machine)?;
+    let answer = complete(alloc, code, inputs, fuel, &old, machine)?;
     Ok(answer)
 }

@@ -1,6 +1,6 @@
 // The machine of repair: it goes through the old items once, and writes the new ones.
 
-ghost use Rattle.std.specs.Prelude.{◌≡◌, ◌+◌, ◌∷◌, reverse, Some, IfOk};
+ghost use Rattle.std.specs.Prelude.{◌≡◌, ◌+◌, ◌∷◌, drop, reverse, Some, IfOk};
 ghost use Rattle.ceal_base.specs.Operators.{same_word};
 ghost use Rattle.ceal_base.specs.Trace.{Nothing, Was_read};
 ghost use Rattle.ceal_code.specs.Init.{pointer, arguments};
@@ -17,7 +17,8 @@ ghost use Rattle.ceal_adjust.specs.Turns.{closed, opened, fixing, making, readin
 use crate::contents::{Contents, shape_for};
 use crate::initialise::make;
 use crate::known::Known;
-use crate::search::{find_block, find_value, skip};
+use crate::old::Old;
+use crate::search::{find_block, find_value};
 use crate::stack::{Activation, set_variable};
 use crate::step::{Act, advance, resume};
 use ceal_base::forest::{Item, Key, UnitId};
@@ -63,23 +64,23 @@ pub enum Frame {
     },
 }
 
-/// A repair that is under way: the old items that are still to come, and what follows, the next last.
+/// A repair that is under way: the place from which the old items are still to come, and what follows, the next last.
 #[derive(Drop)]
-pub struct Machine<'a> {
+pub struct Machine {
     pub state: State,
     pub mode: Mode,
     pub frames: Vec<Frame>,
-    pub rest: &'a [Item],
+    pub rest: usize,
 }
 
 /// The machine has ended, or it has taken a step or not, writes an item or not, and goes on.
 #[derive(Drop)]
-pub enum Turn<'a> {
+pub enum Turn {
     Ended,
     Went {
         stepped: bool,
         item: Option<Item>,
-        machine: Machine<'a>,
+        machine: Machine,
     },
 }
 
@@ -171,14 +172,15 @@ fn pointer_to(key: &Key, block: BlockId) -> Word
 
 /// A level of old items is over; what follows it is left.
 #[tactic(auto, using(crate::proofs::MachineSteps::frame_steps), unfolding(crate::specs::Machines::machine_of))]
-fn close_fixed<'a>(
+fn close_fixed(
     code: &Code,
     inputs: &Inputs,
     state: State,
     frames: Vec<Frame>,
-    rest: &'a [Item],
-) -> Turn<'a>
-    ensures { turn_in code.now (bases code.now inputs.now) result ≡ closed (state_in code.now (bases code.now inputs.now) state) Nothing (frames_in (reverse frames.items) (levels_of rest.now)) }
+    old: &Old,
+    rest: usize,
+) -> Turn
+    ensures { turn_in code.now (bases code.now inputs.now) old.now result ≡ closed (state_in code.now (bases code.now inputs.now) state) Nothing (frames_in (reverse frames.items) (levels_of (drop rest old.now))) }
 {
     let mut frames = frames;
     match frames.pop() {
@@ -224,21 +226,22 @@ pub fn running(stack: Vec<Activation>, levels: usize) -> Mode
 
 /// A stack is over, with so many levels of old items left over.
 #[tactic(auto, using(crate::proofs::MachineSteps::frame_steps), unfolding(crate::specs::Machines::machine_of))]
-fn close_run<'a>(
+fn close_run(
     code: &Code,
     inputs: &Inputs,
     state: State,
     frames: Vec<Frame>,
-    rest: &'a [Item],
+    old: &Old,
+    rest: usize,
     levels: usize,
-) -> Result<Turn<'a>, NoMemory>
-    ensures { IfOk result (λ t. turn_in code.now (bases code.now inputs.now) t ≡ closed (state_in code.now (bases code.now inputs.now) state) (loose levels (levels_of rest.now)) (frames_in (reverse frames.items) (beyond levels (levels_of rest.now)))) }
+) -> Result<Turn, NoMemory>
+    ensures { IfOk result (λ t. turn_in code.now (bases code.now inputs.now) old.now t ≡ closed (state_in code.now (bases code.now inputs.now) state) (loose levels (levels_of (drop rest old.now))) (frames_in (reverse frames.items) (beyond levels (levels_of (drop rest old.now))))) }
 {
     let mut frames = frames;
     match frames.pop() {
         None => Ok(Turn::Ended),
         Some(Frame::Fix) => {
-            let rest = skip(rest, levels)?;
+            let rest = old.skip(rest, levels);
             Ok(Turn::Went {
                 stepped: false,
                 item: Some(Item::End),
@@ -256,7 +259,7 @@ fn close_run<'a>(
                 levels: outer,
             },
         ) => {
-            let rest = skip(rest, levels)?;
+            let rest = old.skip(rest, levels);
             Ok(Turn::Went {
                 stepped: false,
                 item: Some(Item::End),
@@ -283,20 +286,21 @@ fn close_run<'a>(
 
 /// The machine inside a read: where the content is the same its old items are gone through, else its unit runs.
 #[tactic(auto, using(crate::proofs::MachineSteps::frame_steps), unfolding(crate::specs::Machines::machine_of))]
-fn open<'a>(
+fn open(
     alloc: Global,
     code: &Code,
     inputs: &Inputs,
     state: State,
     frames: Vec<Frame>,
-    rest: &'a [Item],
+    old: &Old,
+    rest: usize,
     same: bool,
     unit: UnitId,
     var: u32,
     args: &Words,
     now: Word,
-) -> Result<Machine<'a>, NoMemory>
-    ensures { IfOk result (λ m. machine_in code.now (bases code.now inputs.now) m ≡ record { state = (state_in code.now (bases code.now inputs.now) state); mode = opened code.now same unit var args.now now (first (levels_of rest.now)); frames = frames_in (reverse frames.items) (around (levels_of rest.now)) }) }
+) -> Result<Machine, NoMemory>
+    ensures { IfOk result (λ m. machine_in code.now (bases code.now inputs.now) old.now m ≡ record { state = (state_in code.now (bases code.now inputs.now) state); mode = opened code.now same unit var args.now now (first (levels_of (drop rest old.now))); frames = frames_in (reverse frames.items) (around (levels_of (drop rest old.now))) }) }
 {
     if same {
         return Ok(Machine {
@@ -316,20 +320,21 @@ fn open<'a>(
     })
 }
 
-fn fix_read<'a>(
+fn fix_read(
     alloc: Global,
     code: &Code,
     inputs: &Inputs,
     state: State,
     frames: Vec<Frame>,
-    rest: &'a [Item],
+    old: &Old,
+    rest: usize,
     place: Place,
     value: Word,
     unit: UnitId,
     var: u32,
     args: &Words,
-) -> Result<Turn<'a>, NoMemory>
-    ensures { IfOk result (λ t. turn_in code.now (bases code.now inputs.now) t ≡ fixing code.now (state_in code.now (bases code.now inputs.now) state) (frames_in (reverse frames.items) (around (around (levels_of rest.now)))) (Was_read place value unit var args.now (first (levels_of rest.now)) (first (around (levels_of rest.now))))) }
+) -> Result<Turn, NoMemory>
+    ensures { IfOk result (λ t. turn_in code.now (bases code.now inputs.now) old.now t ≡ fixing code.now (state_in code.now (bases code.now inputs.now) state) (frames_in (reverse frames.items) (around (around (levels_of (drop rest old.now))))) (Was_read place value unit var args.now (first (levels_of (drop rest old.now))) (first (around (levels_of (drop rest old.now)))))) }
 {
     let now = state.contents.value(code, inputs, place);
     let item = Item::Read {
@@ -343,7 +348,7 @@ fn fix_read<'a>(
     frames.push(Frame::Fix)?;
     let same = is_same(now, value);
     let machine = open(
-        alloc, code, inputs, state, frames, rest, same, unit, var, args, now,
+        alloc, code, inputs, state, frames, old, rest, same, unit, var, args, now,
     )?;
     Ok(Turn::Went {
         stepped: false,
@@ -361,16 +366,17 @@ fn copied(item: &Item) -> Result<Option<Item>, NoMemory>
 
 /// An old item that is gone through.
 #[tactic(auto, using(crate::proofs::MachineSteps::frame_steps), unfolding(crate::specs::Machines::machine_of))]
-fn fix_item<'a>(
+fn fix_item(
     alloc: Global,
     code: &Code,
     inputs: &Inputs,
     state: State,
     frames: Vec<Frame>,
+    old: &Old,
     item: &Item,
-    rest: &'a [Item],
-) -> Result<Turn<'a>, NoMemory>
-    ensures { IfOk result (λ t. turn_in code.now (bases code.now inputs.now) t ≡ fixing code.now (state_in code.now (bases code.now inputs.now) state) (frames_in (reverse frames.items) (around (levels_of (item.now ∷ rest.now)))) (first (levels_of (item.now ∷ rest.now)))) }
+    rest: usize,
+) -> Result<Turn, NoMemory>
+    ensures { IfOk result (λ t. turn_in code.now (bases code.now inputs.now) old.now t ≡ fixing code.now (state_in code.now (bases code.now inputs.now) state) (frames_in (reverse frames.items) (around (levels_of (item.now ∷ (drop rest old.now))))) (first (levels_of (item.now ∷ (drop rest old.now))))) }
 {
     match item {
         Item::Step => Ok(Turn::Went {
@@ -419,30 +425,31 @@ fn fix_item<'a>(
             args,
         } => {
             let t = fix_read(
-                alloc, code, inputs, state, frames, rest, *place, *value, *unit, *var, args,
+                alloc, code, inputs, state, frames, old, rest, *place, *value, *unit, *var, args,
             )?;
             Ok(t)
         }
-        Item::End => Ok(close_fixed(code, inputs, state, frames, rest)),
+        Item::End => Ok(close_fixed(code, inputs, state, frames, old, rest)),
     }
 }
 
 /// The next old item.
 #[tactic(auto, using(crate::proofs::MachineSteps::frame_steps), unfolding(crate::specs::Machines::machine_of))]
-fn fix<'a>(
+fn fix(
     alloc: Global,
     code: &Code,
     inputs: &Inputs,
     state: State,
     frames: Vec<Frame>,
-    rest: &'a [Item],
-) -> Result<Turn<'a>, NoMemory>
-    ensures { IfOk result (λ t. turn_in code.now (bases code.now inputs.now) t ≡ fixing code.now (state_in code.now (bases code.now inputs.now) state) (frames_in (reverse frames.items) (around (levels_of rest.now))) (first (levels_of rest.now))) }
+    old: &Old,
+    rest: usize,
+) -> Result<Turn, NoMemory>
+    ensures { IfOk result (λ t. turn_in code.now (bases code.now inputs.now) old.now t ≡ fixing code.now (state_in code.now (bases code.now inputs.now) state) (frames_in (reverse frames.items) (around (levels_of (drop rest old.now)))) (first (levels_of (drop rest old.now)))) }
 {
-    match rest.split_first() {
-        None => Ok(close_fixed(code, inputs, state, frames, rest)),
-        Some((item, later)) => {
-            let t = fix_item(alloc, code, inputs, state, frames, item, later)?;
+    match old.item(rest) {
+        None => Ok(close_fixed(code, inputs, state, frames, old, rest)),
+        Some(item) => {
+            let t = fix_item(alloc, code, inputs, state, frames, old, item, rest + 1)?;
             Ok(t)
         }
     }
@@ -468,23 +475,24 @@ fn give(
 
 /// The unit makes a block: one that is left over with its key, or a new one.
 #[tactic(auto, using(crate::proofs::MachineSteps::frame_steps), unfolding(crate::specs::Machines::machine_of))]
-fn make_block<'a>(
+fn make_block(
     alloc: Global,
     code: &Code,
     inputs: &Inputs,
     state: State,
     frames: Vec<Frame>,
-    rest: &'a [Item],
+    old: &Old,
+    rest: usize,
     levels: usize,
     key: Key,
     var: u32,
     unit: Activation,
     stack: Vec<Activation>,
-) -> Result<Turn<'a>, NoMemory>
-    ensures { IfOk result (λ t. turn_in code.now (bases code.now inputs.now) t ≡ making code.now (state_in code.now (bases code.now inputs.now) state) (frames_in (reverse frames.items) (beyond levels (levels_of rest.now))) key var unit.unit unit.index (arguments unit.env.items) (stack_in stack.items) (loose levels (levels_of rest.now)) (taken_alloc (find_alloc key levels rest.now))) }
+) -> Result<Turn, NoMemory>
+    ensures { IfOk result (λ t. turn_in code.now (bases code.now inputs.now) old.now t ≡ making code.now (state_in code.now (bases code.now inputs.now) state) (frames_in (reverse frames.items) (beyond levels (levels_of (drop rest old.now)))) key var unit.unit unit.index (arguments unit.env.items) (stack_in stack.items) (loose levels (levels_of (drop rest old.now))) (taken_alloc (find_alloc key levels (drop rest old.now)))) }
 {
     let state = with_step(code, inputs, state)?;
-    match find_block(rest, levels, &key)? {
+    match find_block(old, rest, levels, &key)? {
         Some(found) => {
             let block = found.block;
             let rest = found.rest;
@@ -521,27 +529,28 @@ fn make_block<'a>(
 
 /// The unit reads: a read that is left over is taken with the items inside it, or the unit of the read runs anew.
 #[tactic(auto, using(crate::proofs::MachineSteps::frame_steps), unfolding(crate::specs::Machines::machine_of))]
-fn read<'a>(
+fn read(
     alloc: Global,
     code: &Code,
     inputs: &Inputs,
     state: State,
     frames: Vec<Frame>,
-    rest: &'a [Item],
+    old: &Old,
+    rest: usize,
     levels: usize,
     place: Place,
     unit: UnitId,
     var: u32,
     args: Words,
     below: Vec<Activation>,
-) -> Result<Turn<'a>, NoMemory>
-    ensures { IfOk result (λ t. turn_in code.now (bases code.now inputs.now) t ≡ reading code.now (state_in code.now (bases code.now inputs.now) state) (frames_in (reverse frames.items) (beyond levels (levels_of rest.now))) place unit var args (stack_in below.items) (loose levels (levels_of rest.now)) (taken_read (find_read place unit var args levels rest.now))) }
+) -> Result<Turn, NoMemory>
+    ensures { IfOk result (λ t. turn_in code.now (bases code.now inputs.now) old.now t ≡ reading code.now (state_in code.now (bases code.now inputs.now) state) (frames_in (reverse frames.items) (beyond levels (levels_of (drop rest old.now)))) place unit var args (stack_in below.items) (loose levels (levels_of (drop rest old.now))) (taken_read (find_read place unit var args levels (drop rest old.now)))) }
 {
     let now = state.contents.value(code, inputs, place);
     let state = with_step(code, inputs, state)?;
     let copy = args.copy()?;
     let mut frames = frames;
-    match find_value(rest, levels, place, unit, var, &args)? {
+    match find_value(old, rest, levels, place, unit, var, &args)? {
         Some(found) => {
             frames.push(Frame::Mend {
                 below,
@@ -549,7 +558,7 @@ fn read<'a>(
             })?;
             let same = is_same(now, found.value);
             let machine = open(
-                alloc, code, inputs, state, frames, found.rest, same, unit, var, &args, now,
+                alloc, code, inputs, state, frames, old, found.rest, same, unit, var, &args, now,
             )?;
             Ok(Turn::Went {
                 stepped: true,
@@ -589,22 +598,23 @@ fn read<'a>(
 
 /// What the running unit does.
 #[tactic(auto, using(crate::proofs::MachineSteps::frame_steps), unfolding(crate::specs::Machines::machine_of))]
-fn perform<'a>(
+fn perform(
     alloc: Global,
     code: &Code,
     inputs: &Inputs,
     state: State,
     frames: Vec<Frame>,
-    rest: &'a [Item],
+    old: &Old,
+    rest: usize,
     levels: usize,
     act: Act,
     stack: Vec<Activation>,
-) -> Result<Turn<'a>, NoMemory>
-    ensures { IfOk result (λ t. turn_in code.now (bases code.now inputs.now) t ≡ acting code.now (state_in code.now (bases code.now inputs.now) state) (frames_in (reverse frames.items) (beyond levels (levels_of rest.now))) (loose levels (levels_of rest.now)) (act_in act (stack_in stack.items))) }
+) -> Result<Turn, NoMemory>
+    ensures { IfOk result (λ t. turn_in code.now (bases code.now inputs.now) old.now t ≡ acting code.now (state_in code.now (bases code.now inputs.now) state) (frames_in (reverse frames.items) (beyond levels (levels_of (drop rest old.now)))) (loose levels (levels_of (drop rest old.now))) (act_in act (stack_in stack.items))) }
 {
     match act {
         Act::Over => {
-            let t = close_run(code, inputs, state, frames, rest, levels)?;
+            let t = close_run(code, inputs, state, frames, old, rest, levels)?;
             Ok(t)
         }
         Act::Quiet => {
@@ -622,7 +632,7 @@ fn perform<'a>(
         }
         Act::Makes { key, var, unit } => {
             let t = make_block(
-                alloc, code, inputs, state, frames, rest, levels, key, var, unit, stack,
+                alloc, code, inputs, state, frames, old, rest, levels, key, var, unit, stack,
             )?;
             Ok(t)
         }
@@ -647,7 +657,8 @@ fn perform<'a>(
             args,
         } => {
             let t = read(
-                alloc, code, inputs, state, frames, rest, levels, place, unit, var, args, stack,
+                alloc, code, inputs, state, frames, old, rest, levels, place, unit, var, args,
+                stack,
             )?;
             Ok(t)
         }
@@ -655,33 +666,37 @@ fn perform<'a>(
 }
 
 /// The next step of the running unit.
-fn run<'a>(
+fn run(
     alloc: Global,
     code: &Code,
     inputs: &Inputs,
     state: State,
     frames: Vec<Frame>,
-    rest: &'a [Item],
+    old: &Old,
+    rest: usize,
     levels: usize,
     stack: Vec<Activation>,
-) -> Result<Turn<'a>, NoMemory>
-    ensures { IfOk result (λ t. turn_in code.now (bases code.now inputs.now) t ≡ acting code.now (state_in code.now (bases code.now inputs.now) state) (frames_in (reverse frames.items) (beyond levels (levels_of rest.now))) (loose levels (levels_of rest.now)) (next code.now (plain_in state.known) (stack_in stack.items))) }
+) -> Result<Turn, NoMemory>
+    ensures { IfOk result (λ t. turn_in code.now (bases code.now inputs.now) old.now t ≡ acting code.now (state_in code.now (bases code.now inputs.now) state) (frames_in (reverse frames.items) (beyond levels (levels_of (drop rest old.now)))) (loose levels (levels_of (drop rest old.now))) (next code.now (plain_in state.known) (stack_in stack.items))) }
 {
     let mut stack = stack;
     let act = advance(alloc, code, &state.known, &mut stack)?;
-    let t = perform(alloc, code, inputs, state, frames, rest, levels, act, stack)?;
+    let t = perform(
+        alloc, code, inputs, state, frames, old, rest, levels, act, stack,
+    )?;
     Ok(t)
 }
 
 /// One turn: it writes a step, moves on in the old items, or ends a read.
 #[tactic(auto, unfolding(crate::specs::Machines::machine_of, crate::specs::Turns::turn))]
-pub fn take_turn<'a>(
+pub fn take_turn(
     alloc: Global,
     code: &Code,
     inputs: &Inputs,
-    machine: Machine<'a>,
-) -> Result<Turn<'a>, NoMemory>
-    ensures turn { IfOk result (λ t. turn code.now (machine_in code.now (bases code.now inputs.now) machine.entry) ≡ turn_in code.now (bases code.now inputs.now) t) }
+    old: &Old,
+    machine: Machine,
+) -> Result<Turn, NoMemory>
+    ensures turn { IfOk result (λ t. turn code.now (machine_in code.now (bases code.now inputs.now) old.now machine) ≡ turn_in code.now (bases code.now inputs.now) old.now t) }
 {
     let Machine {
         state,
@@ -691,11 +706,11 @@ pub fn take_turn<'a>(
     } = machine;
     match mode {
         Mode::Fixing => {
-            let t = fix(alloc, code, inputs, state, frames, rest)?;
+            let t = fix(alloc, code, inputs, state, frames, old, rest)?;
             Ok(t)
         }
         Mode::Running { stack, levels } => {
-            let t = run(alloc, code, inputs, state, frames, rest, levels, stack)?;
+            let t = run(alloc, code, inputs, state, frames, old, rest, levels, stack)?;
             Ok(t)
         }
     }

@@ -9,6 +9,7 @@ ghost use Rattle.ceal_adjust.specs.Turns.{Machine as TreeMachine};
 
 use crate::adjust::Adjusted;
 use crate::machine::{Machine, Turn, take_turn};
+use crate::old::Old;
 use ceal_base::forest::{Forest, Item};
 use ceal_base::memory::Inputs;
 use ceal_base::no_memory::NoMemory;
@@ -17,17 +18,17 @@ use std::alloc::Global;
 
 /// A repair that is under way: the items that it has written, and how many steps are among them.
 #[derive(Drop)]
-pub struct Repair<'a> {
-    machine: Machine<'a>,
+pub struct Repair {
+    machine: Machine,
     out: Vec<Item>,
     steps: u32,
 }
 
 /// A repair has an answer, or it is under way.
 #[derive(Drop)]
-pub enum Progress<'a> {
+pub enum Progress {
     Answer(Adjusted),
-    Under(Repair<'a>),
+    Under(Repair),
 }
 
 /// Writes a step, if one was taken, and an item, if there is one.
@@ -71,14 +72,15 @@ fn steps_among(stepped: bool, item: &Option<Item>) -> u32
 }
 
 /// One turn of a repair.
-fn go_on<'a>(
+fn go_on(
     alloc: Global,
     code: &Code,
     inputs: &Inputs,
     fuel: u32,
-    repair: Repair<'a>,
-) -> Result<Progress<'a>, NoMemory>
-    ensures { IfOk result (λ p. (start : TreeMachine) → Comes_to code.now (bases code.now inputs.now) fuel start repair.entry → Progresses code.now (bases code.now inputs.now) fuel start p) }
+    old: &Old,
+    repair: Repair,
+) -> Result<Progress, NoMemory>
+    ensures { IfOk result (λ p. (start : TreeMachine) → Comes_to code.now (bases code.now inputs.now) old.now fuel start repair → Progresses code.now (bases code.now inputs.now) old.now fuel start p) }
 {
     let Repair {
         machine,
@@ -87,7 +89,7 @@ fn go_on<'a>(
     } = repair;
     let mut out = out;
     let work = machine.state.work;
-    match take_turn(alloc, code, inputs, machine)? {
+    match take_turn(alloc, code, inputs, old, machine)? {
         Turn::Ended => Ok(Progress::Answer(Adjusted::Done {
             forest: Forest::new(out),
             work,
@@ -113,14 +115,15 @@ fn go_on<'a>(
 
 /// Turns the machine until it has ended, or has written more steps than the fuel allows. No forest that fits into memory
 /// comes to 2^64 turns; a repair that did would be told as want of memory.
-pub fn complete<'a>(
+pub fn complete(
     alloc: Global,
     code: &Code,
     inputs: &Inputs,
     fuel: u32,
-    machine: Machine<'a>,
+    old: &Old,
+    machine: Machine,
 ) -> Result<Adjusted, NoMemory>
-    ensures { IfOk result (λ a. Answered code.now fuel (machine_in code.now (bases code.now inputs.now) machine.entry) a) }
+    ensures { IfOk result (λ a. Answered code.now fuel (machine_in code.now (bases code.now inputs.now) old.now machine) a) }
 {
     let mut repair = Repair {
         machine,
@@ -128,7 +131,7 @@ pub fn complete<'a>(
         steps: 0,
     };
     for _turn in 0..u64::MAX {
-        match go_on(alloc, code, inputs, fuel, repair)? {
+        match go_on(alloc, code, inputs, fuel, old, repair)? {
             Progress::Answer(answer) => return Ok(answer),
             Progress::Under(next) => repair = next,
         }

@@ -1,27 +1,31 @@
-// What is found in a part of flat items.
+// What is found in the old items that are left over.
 
-ghost use Rattle.std.specs.Prelude.{◌≡◌, ◌+◌, ◌<◌, Some, None, MatchOption, IfOk};
-ghost use Rattle.ceal_adjust.specs.Levels.{skipped, after_item, block_of_key, find_alloc, same_read, value_of_read, find_read};
+ghost use Rattle.std.specs.Prelude.{◌≡◌, ◌+◌, ◌<◌, ◌^◌, ⊤, Some, None, drop, MatchOption, IfOk};
+ghost use Rattle.ceal_adjust.specs.Levels.{block_of_key, find_alloc, same_read, value_of_read, find_read};
+ghost use Rattle.ceal_adjust.specs.Spots.{Absent, Found};
 ghost use Rattle.ceal_adjust.specs.Take.{same_key, same_words};
+ghost use Rattle.ceal_adjust.specs.declared.mark.Mark.TheVariants.{Made, Taken};
 
+use crate::mark::Mark;
+use crate::old::{Old, Spot};
 use ceal_base::forest::{Item, Key, UnitId};
 use ceal_base::no_memory::NoMemory;
 use ceal_base::word::{BlockId, Place, Word};
 use ceal_base::words::Words;
 
-/// An allocation: its block, the items after it, and how many of their levels are left over.
+/// An allocation: its block, the place after it, and how many levels are left over there.
 #[derive(Clone, Copy)]
-pub struct FoundBlock<'a> {
+pub struct FoundBlock {
     pub block: BlockId,
-    pub rest: &'a [Item],
+    pub rest: usize,
     pub levels: usize,
 }
 
-/// A read: its value, the items after it, and how many levels around the first of them are left over.
+/// A read: its value, the place after it, and how many levels around the first one there are left over.
 #[derive(Clone, Copy)]
-pub struct FoundValue<'a> {
+pub struct FoundValue {
     pub value: Word,
-    pub rest: &'a [Item],
+    pub rest: usize,
     pub levels: usize,
 }
 
@@ -54,46 +58,6 @@ fn is_read(
     place == p && unit.0 == u.0 && var == v && are_words(words, args)
 }
 
-/// No forest that fits into memory has so many levels that the next number is not there.
-fn one_more(levels: usize) -> Result<usize, NoMemory>
-    ensures { IfOk result (λ n. n ≡ levels + 1) }
-{
-    match levels.checked_add(1) {
-        None => Err(NoMemory),
-        Some(n) => Ok(n),
-    }
-}
-
-/// The items after the End that closes the last of so many levels.
-pub fn skip(items: &[Item], levels: usize) -> Result<&[Item], NoMemory>
-    ensures value { IfOk result (λ rest. rest.now ≡ skipped levels items.now) }
-{
-    let mut items = items;
-    let mut levels = levels;
-    while levels > 0 {
-        let Some((item, later)) = items.split_first() else {
-            return Ok(&[]);
-        };
-        levels = levels_after(item, levels)?;
-        items = later;
-    }
-    Ok(items)
-}
-
-/// How many levels an item leaves of so many.
-fn levels_after(item: &Item, levels: usize) -> Result<usize, NoMemory>
-    requires { 0 < levels }
-    ensures { IfOk result (λ n. n ≡ after_item item.now levels) }
-{
-    match item {
-        Item::Step => Ok(levels),
-        Item::Alloc { .. } => Ok(levels),
-        Item::Write { .. } => Ok(levels),
-        Item::Read { .. } => one_more(levels),
-        Item::End => Ok(levels - 1),
-    }
-}
-
 fn allocated(item: &Item, key: &Key) -> Option<BlockId>
     ensures { result ≡ block_of_key item.now key.now }
 {
@@ -106,31 +70,38 @@ fn allocated(item: &Item, key: &Key) -> Option<BlockId>
     }
 }
 
-/// The earliest allocation with this key in so many levels.
-pub fn find_block<'a>(
-    items: &'a [Item],
+fn seek_block(old: &Old, rest: usize, levels: usize, key: &Key) -> Result<Option<Spot>, NoMemory>
+    ensures found { IfOk result (λ o. MatchOption o (Absent old.now (Made key.now) rest levels) (λ s. Found old.now (Made key.now) rest levels s.at s.levels)) }
+    ensures small { IfOk result (λ o. MatchOption o ⊤ (λ s. s.at + 1 < 2 ^ 64)) }
+{
+    let mark = Mark::Made(key.copy()?);
+    let spot = old.find(&mark, rest, levels)?;
+    Ok(spot)
+}
+
+/// The earliest allocation with this key in so many levels from a place on.
+pub fn find_block(
+    old: &Old,
+    rest: usize,
     levels: usize,
     key: &Key,
-) -> Result<Option<FoundBlock<'a>>, NoMemory>
-    ensures value { IfOk result (λ found. MatchOption found (find_alloc key.now levels items.now ≡ None) (λ f. find_alloc key.now levels items.now ≡ Some (record { block = f.block; rest = f.rest.now; levels = f.levels }))) }
+) -> Result<Option<FoundBlock>, NoMemory>
+    ensures value { IfOk result (λ found. MatchOption found (find_alloc key.now levels (drop rest old.now) ≡ None) (λ f. find_alloc key.now levels (drop rest old.now) ≡ Some (record { block = f.block; rest = drop f.rest old.now; levels = f.levels }))) }
 {
-    let mut items = items;
-    let mut levels = levels;
-    while levels > 0 {
-        let Some((item, later)) = items.split_first() else {
-            return Ok(None);
-        };
-        if let Some(block) = allocated(item, key) {
-            return Ok(Some(FoundBlock {
-                block,
-                rest: later,
-                levels,
-            }));
-        }
-        levels = levels_after(item, levels)?;
-        items = later;
+    let Some(spot) = seek_block(old, rest, levels, key)? else {
+        return Ok(None);
+    };
+    let Some(item) = old.item(spot.at) else {
+        return Ok(None);
+    };
+    match allocated(item, key) {
+        None => Ok(None),
+        Some(block) => Ok(Some(FoundBlock {
+            block,
+            rest: spot.at + 1,
+            levels: spot.levels,
+        })),
     }
-    Ok(None)
 }
 
 fn was_read(item: &Item, p: Place, u: UnitId, v: u32, args: &Words) -> Option<Word>
@@ -157,32 +128,52 @@ fn was_read(item: &Item, p: Place, u: UnitId, v: u32, args: &Words) -> Option<Wo
     }
 }
 
-/// The earliest read of this place with this unit, variable and arguments in so many levels.
-pub fn find_value<'a>(
-    items: &'a [Item],
+fn seek_value(
+    old: &Old,
+    rest: usize,
     levels: usize,
     p: Place,
     u: UnitId,
     v: u32,
     args: &Words,
-) -> Result<Option<FoundValue<'a>>, NoMemory>
-    ensures value { IfOk result (λ found. MatchOption found (find_read p u v args.now levels items.now ≡ None) (λ f. find_read p u v args.now levels items.now ≡ Some (record { value = f.value; rest = f.rest.now; levels = f.levels }))) }
+) -> Result<Option<Spot>, NoMemory>
+    ensures found { IfOk result (λ o. MatchOption o (Absent old.now (Taken p u v args.now) rest levels) (λ s. Found old.now (Taken p u v args.now) rest levels s.at s.levels)) }
+    ensures small { IfOk result (λ o. MatchOption o ⊤ (λ s. s.at + 1 < 2 ^ 64)) }
 {
-    let mut items = items;
-    let mut levels = levels;
-    while levels > 0 {
-        let Some((item, later)) = items.split_first() else {
-            return Ok(None);
-        };
-        if let Some(value) = was_read(item, p, u, v, args) {
-            return Ok(Some(FoundValue {
-                value,
-                rest: later,
-                levels,
-            }));
-        }
-        levels = levels_after(item, levels)?;
-        items = later;
+    let mark = Mark::Taken {
+        place: p,
+        unit: u,
+        var: v,
+        args: args.copy()?,
+    };
+    let spot = old.find(&mark, rest, levels)?;
+    Ok(spot)
+}
+
+/// The earliest read of this place with this unit, variable and arguments in so many levels from a place on.
+pub fn find_value(
+    old: &Old,
+    rest: usize,
+    levels: usize,
+    p: Place,
+    u: UnitId,
+    v: u32,
+    args: &Words,
+) -> Result<Option<FoundValue>, NoMemory>
+    ensures value { IfOk result (λ found. MatchOption found (find_read p u v args.now levels (drop rest old.now) ≡ None) (λ f. find_read p u v args.now levels (drop rest old.now) ≡ Some (record { value = f.value; rest = drop f.rest old.now; levels = f.levels }))) }
+{
+    let Some(spot) = seek_value(old, rest, levels, p, u, v, args)? else {
+        return Ok(None);
+    };
+    let Some(item) = old.item(spot.at) else {
+        return Ok(None);
+    };
+    match was_read(item, p, u, v, args) {
+        None => Ok(None),
+        Some(value) => Ok(Some(FoundValue {
+            value,
+            rest: spot.at + 1,
+            levels: spot.levels,
+        })),
     }
-    Ok(None)
 }

@@ -1,4 +1,4 @@
-use Rattle.std.proofs.Common.{subst, [], refl}
+use Rattle.std.proofs.Common.{subst}
 use Rattle.ceal_code.specs.Replay.{bases}
 use Rattle.ceal_adjust.proofs.Completing.{first-answer}
 use Rattle.ceal_adjust.proofs.Starting.{first-begins}
@@ -11,7 +11,7 @@ pub returns : goal.returns
 returns c = record {
   answer = first-answer c.args.code.now c.args.inputs.now c.args.function c.args.args.now c.requires.fits c.args.fuel c.in_ok-answer.answer
       (subst (λ m. Answered c.args.code.now c.args.fuel m c.in_ok-answer.answer)
-      (first-begins c.args.code.now c.args.inputs.now c.args.function c.args.args.now (plain_in c.in_ok-known.known) (store_in c.args.code.now (bases c.args.code.now c.args.inputs.now) c.new.result)
-      c.in_ok-stack.stack c.running.result c.new-2.result.items [] (c.new.ensures.value c.args.code.now (bases c.args.code.now c.args.inputs.now))
-      (rw c.items.ensures.value at c.in_ok-known.ensures) c.in_ok-stack.ensures c.running.ensures c.new-2.ensures.items refl) c.in_ok-answer.ensures);
+      (first-begins c.args.code.now c.args.inputs.now c.args.function c.args.args.now (plain_in c.in_ok-known.known) (store_in c.args.code.now (bases c.args.code.now c.args.inputs.now) c.new-2.result)
+      c.in_ok-stack.stack c.running.result c.new-3.result.items c.in_ok-old.old (c.new-2.ensures.value c.args.code.now (bases c.args.code.now c.args.inputs.now))
+      (rw c.items.ensures.value at c.in_ok-known.ensures) c.in_ok-stack.ensures c.running.ensures c.new-3.ensures.items c.in_ok-old.ensures.value) c.in_ok-answer.ensures);
 }

@@ -1,22 +1,24 @@
-use Rattle.std.proofs.Common.{sym, ◌∙◌}
-use Rattle.ceal_adjust.proofs.Finding.{found-zero, found-empty, found-here, found-next}
+use Rattle.std.proofs.Common.{◌+◌, drop}
+use Rattle.ceal_adjust.proofs.Spotting.{found-some, alloc-absent, alloc-found}
+use Rattle.ceal_adjust.specs.declared.mark.Mark.TheVariants.{Made}
 use Rattle.ceal_adjust.proofs.search.find_block.Goals as goal
 
 pub returns-in_default : goal.returns-in_default
-returns-in_default c = record { value = sym c.loop-levels.invariant ∙ found-empty c.args.key.now c.loop-levels.levels c.loop-levels.items.now c.in_default.ensures.cases }
+returns-in_default c = record { value = alloc-absent c.args.old.now c.args.rest c.args.levels c.args.key.now (rw c.in_default.is at c.in_ok-spot.ensures.found) }
+
+pub returns-in_default-item : goal.returns-in_default-item
+returns-in_default-item c = record {
+  value = found-some c.args.old.now c.args.rest c.args.levels (Made c.args.key.now) c.in-Some.spot.at c.in-Some.spot.levels (rw c.in-Some.is at c.in_ok-spot.ensures.found) c.in_default-item.ensures.value;
+}
+
+pub returns-in-None : goal.returns-in-None
+returns-in-None c = record {
+  value = rw c.in-None.is at (alloc-found c.args.old.now c.args.rest c.args.levels c.args.key.now c.in-Some.spot.at c.in-Some.spot.levels (rw c.in-Some.is at c.in_ok-spot.ensures.found)
+      c.in-Some-item.item.now (drop (c.in-Some.spot.at + 1) c.args.old.now) c.in-Some-item.ensures.value c.allocated.result c.allocated.ensures);
+}
 
 pub returns-in-Some-allocated : goal.returns-in-Some-allocated
 returns-in-Some-allocated c = record {
-  value = sym c.loop-levels.invariant
-      ∙ found-here c.args.key.now c.loop-levels.levels c.loop-levels.items.now c.in-Some.item.now c.in-Some.later.now c.allocated.result c.in-Some-allocated.block
-      c.in-Some.ensures.cases.0 c.loop-levels-test.true c.allocated.ensures c.in-Some-allocated.is;
+  value = rw c.in-Some-allocated.is at (alloc-found c.args.old.now c.args.rest c.args.levels c.args.key.now c.in-Some.spot.at c.in-Some.spot.levels (rw c.in-Some.is at c.in_ok-spot.ensures.found)
+      c.in-Some-item.item.now (drop (c.in-Some.spot.at + 1) c.args.old.now) c.in-Some-item.ensures.value c.allocated.result c.allocated.ensures);
 }
-
-pub loop-levels-preserved : goal.loop-levels-preserved
-loop-levels-preserved c =
-    found-next c.args.key.now c.loop-levels.levels c.in_ok-levels.levels c.loop-levels.items.now c.in-Some.item.now c.in-Some.later.now c.allocated.result
-    c.in-Some.ensures.cases.0 c.loop-levels-test.true c.allocated.ensures c.in_default-allocated.is c.in_ok-levels.ensures
-    ∙ c.loop-levels.invariant
-
-pub returns : goal.returns
-returns c = record { value = sym c.loop-levels.invariant ∙ found-zero c.args.key.now c.loop-levels.levels c.loop-levels.items.now c.loop-levels-test.false }
