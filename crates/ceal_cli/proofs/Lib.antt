@@ -1,10 +1,13 @@
+pub mod Accepted
 pub mod Asked
 pub mod Found
+pub mod FromRun
 pub mod Growing
 pub mod LineEnds
 pub mod ModeLaws
 pub mod OptionText
 pub mod OutputLaws
+pub mod PlainWords
 pub mod RowLaws
 pub mod ScriptLines
 pub mod Table

@@ -5,17 +5,19 @@ use Rattle.ceal_base.specs.declared.fault.Fault.{Fault}
 use Rattle.ceal_base.specs.declared.typed.Typed.{Typed}
 use Rattle.ceal_code.specs.Listing.{listing_text}
 use Rattle.ceal_code.specs.Program.{Code}
+use Rattle.ceal_compile.specs.Compiled.{IsCodeOf}
 use Rattle.ceal_compile.specs.FaultLine.{fault_line}
 use Rattle.ceal_compile.specs.Source.{Comes, IsAccepted, IsProgram, IsFirstFault}
 use Rattle.ceal_io.specs.Streams.{GrowsByPrefix}
 use Rattle.ceal_lex.specs.Parts.{IsSplit}
 use Rattle.ceal_lex.specs.declared.parts.Split.{Split}
-use Rattle.ceal_norm.specs.Laws.{IsCodeOf}
 use Rattle.ceal_session.specs.Runs.{begun}
 use Rattle.ceal_session.specs.State.{State}
-use Rattle.ceal_cli.specs.Growth.{Grows, WritesOutput, WritesPrefix, WritesReplies, BeginsToReply}
+use Rattle.ceal_cli.specs.Fuel.{DEFAULT_FUEL}
+use Rattle.ceal_cli.specs.Growth.{Grows, WritesOutput, WritesPrefix, WritesReplies, BeginsToReply, WritesFromRun, BeginsFromRun}
 use Rattle.ceal_cli.specs.Lines.{script_of, script_lines}
-use Rattle.ceal_cli.specs.Output.{IsPrefix, IsListing, Programmed, accepted_text}
+use Rattle.ceal_cli.specs.Modes.{ReadsInput}
+use Rattle.ceal_cli.specs.Output.{IsPrefix, IsListing, Programmed, accepted_text, IsOutputFromRun, BeginsOutputFromRun}
 use Rattle.ceal_cli.specs.declared.words.Mode.{Mode}
 use Rattle.ceal_cli.specs.declared.words.Mode.TheVariants.{Check, List as Listing, Run}
 use Rattle.ceal_cli.proofs.Growing.{of_prefix, weaker}
@@ -40,23 +42,34 @@ module _ (a b : Option (List ℕ)) (input : List ℕ) where
     listed_part grows = weaker (λ out prefix. inr (inl (text, listing, prefix))) (of_prefix a b text grows)
 
   -- of the line of the first fault
-  pub refused_part : (mode : Mode) (fault : Fault) → IsFirstFault input fault → (text : List ℕ) → text ≡ fault_line input fault → GrowsByPrefix a b text → WritesPrefix a b mode input
-  refused_part mode fault is text same grows =
-      weaker (λ out prefix. inr (inr (fault, is, subst (IsPrefix out) same prefix))) (of_prefix a b text grows)
+  pub refused_part : (mode : Mode) → ReadsInput mode → (fault : Fault) → IsFirstFault input fault → (text : List ℕ) → text ≡ fault_line input fault → GrowsByPrefix a b text → WritesPrefix a b mode input
+  refused_part mode reads fault is text same grows =
+      weaker (λ out prefix. inr (inr (reads, fault, is, subst (IsPrefix out) same prefix))) (of_prefix a b text grows)
 
-  module _ (part : Split) (split : IsSplit input part) (program : Typed) (reads : IsProgram input program) (fuel : ℕ) where
+  module _ (part : Split) (split : IsSplit input part) (program : Typed) (reads : IsProgram input program) where
     programmed : Programmed input
     programmed = record { part = part; split = split; program = program; reads = reads }
 
-    -- of the replies
-    pub replied : {E : Type 0} (r : Result (Unit {0}) E) → OnOk r (WritesReplies a b (begun program fuel) (script_lines (script_of input part))) → OnOk r (WritesOutput a b (Run fuel) input)
-    unfolding programmed
-    replied (Ok u) h = weaker (λ out replies. inl (programmed, replies)) h
-    replied (Err e) h = tt
+    module _ (fuel : ℕ) where
+      -- of the replies
+      pub replied : {E : Type 0} (r : Result (Unit {0}) E) → OnOk r (WritesReplies a b (begun program fuel) (script_lines (script_of input part))) → OnOk r (WritesOutput a b (Run fuel) input)
+      unfolding programmed
+      replied (Ok u) h = weaker (λ out replies. inl (programmed, replies)) h
+      replied (Err e) h = tt
 
-    pub replied_part : BeginsToReply a b (begun program fuel) (script_lines (script_of input part)) → WritesPrefix a b (Run fuel) input
+      pub replied_part : BeginsToReply a b (begun program fuel) (script_lines (script_of input part)) → WritesPrefix a b (Run fuel) input
+      unfolding programmed
+      replied_part h = weaker (λ out begins. inr (inl (programmed, begins))) h
+
+    -- of the replies from that of the first run on
+    pub from_run : {E : Type 0} (r : Result (Unit {0}) E) → OnOk r (WritesFromRun a b (begun program DEFAULT_FUEL) (script_lines (script_of input part))) → OnOk r (Grows a b (IsOutputFromRun input))
     unfolding programmed
-    replied_part h = weaker (λ out begins. inr (inl (programmed, begins))) h
+    from_run (Ok u) h = weaker (λ out replies. (programmed, replies)) h
+    from_run (Err e) h = tt
+
+    pub from_run_part : BeginsFromRun a b (begun program DEFAULT_FUEL) (script_lines (script_of input part)) → Grows a b (BeginsOutputFromRun input)
+    unfolding programmed
+    from_run_part h = weaker (λ out begins. inr (programmed, begins)) h
 
 -- a refused input is not accepted
 pub not_accepted : (input : List ℕ) (fault : Fault) → ((a b : Result Typed Fault) → Comes input a → Comes input b → a ≡ b)

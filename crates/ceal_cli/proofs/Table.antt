@@ -4,7 +4,7 @@ use Rattle.ceal_cli.specs.Modes.{AreMarked, Asks, HaveOption, Text}
 use Rattle.ceal_cli.specs.Fuel.{SpellsFuel}
 use Rattle.ceal_cli.specs.CommandLine.{Chooses}
 use Rattle.ceal_cli.specs.declared.words.Mode.{Mode}
-use Rattle.ceal_cli.specs.declared.words.Mode.TheVariants.{Check, List as Listing, Run}
+use Rattle.ceal_cli.specs.declared.words.Mode.TheVariants.{Check, List as Listing, Run, Gen}
 use Rattle.ceal_cli.proofs.Found.{Reads}
 
 -- the first of the values
@@ -107,3 +107,4 @@ asked_for words plain [] (Run fuel) reads few (is, default) =
 asked_for words plain (x ∷ []) (Run fuel) reads few (is, spells) =
     inr (in_table fuel x (codes "run") words spells (with_option words plain (x ∷ []) x (codes "run") (sym is) refl reads))
 asked_for words plain (x ∷ y ∷ more) (Run fuel) reads few chosen = absurd (few x y more refl)
+asked_for words plain values (Gen kind seed size) reads few (names, none) = (plain, names, marked words plain values (none_is values none) reads)

@@ -7,10 +7,14 @@ use Rattle.clap.specs.Simple.{is_simple, matches_of}
 use Rattle.clap.proofs.OnLiterals.{clap_on_literals}
 use Rattle.ceal_cli.specs.Modes.{AreMarked, Asks, HaveOption, Text}
 use Rattle.ceal_cli.specs.Fuel.{SpellsFuel}
+use Rattle.ceal_cli.specs.Workloads.{NamesWorkload, SpellsSeed, SpellsSize, kind_word}
 use Rattle.ceal_cli.specs.CommandLine.{Chooses, ceal_command}
 use Rattle.ceal_cli.specs.declared.words.Mode.{Mode}
-use Rattle.ceal_cli.specs.declared.words.Mode.TheVariants.{Check, List as Listing, Run}
+use Rattle.ceal_cli.specs.declared.words.Mode.TheVariants.{Check, List as Listing, Run, Gen}
+use Rattle.ceal_gen.specs.declared.kind.Workload.{Workload}
+use Rattle.ceal_gen.specs.declared.kind.Workload.TheVariants.{List as OfList, Tree as OfTree}
 use Rattle.ceal_cli.proofs.Found.{plain_of}
+use Rattle.ceal_cli.proofs.PlainWords.{IsNoOption, Takes, takes_plain}
 use Rattle.ceal_cli.proofs.Table.{head_is, tail_is}
 use Rattle.ceal_cli.proofs.Turns.{DASHES, FUEL, JOINED, OPTION}
 
@@ -19,12 +23,6 @@ simple = refl
 
 pub free : is_simple_and_free ceal_command ≡ true
 free = refl
-
--- the parser takes the words, and finds these
-record Takes (plain : List Text) (value : Option Text) (words : List Text) : Type 0 where
-  taken : fault_of ceal_command words ≡ []
-  plain_words : plain_of (matches_of ceal_command words) ≡ plain
-  value_is : first_of FUEL (matches_of ceal_command words) ≡ value
 
 -- one word, with `--` or without
 one_word : (P : List Text → Type 0) (word : Text) → P (word ∷ []) → P (DASHES ∷ word ∷ []) → P (word ∷ DASHES ∷ []) → (words : List Text) → AreMarked (word ∷ []) words → P words
@@ -50,24 +48,15 @@ RUN = codes "run"
 
 check_alone : (words : List Text) → AreMarked (CHECK ∷ []) words → Takes (CHECK ∷ []) None words
 unfolding clap_on_literals
-check_alone = one_word (Takes (CHECK ∷ []) None) CHECK
-    (record { taken = refl; plain_words = refl; value_is = refl })
-    (record { taken = refl; plain_words = refl; value_is = refl })
-    (record { taken = refl; plain_words = refl; value_is = refl })
+check_alone = takes_plain CHECK [] refl refl refl (record { dashes = refl; long = refl; short = refl }, tt)
 
 list_alone : (words : List Text) → AreMarked (LIST ∷ []) words → Takes (LIST ∷ []) None words
 unfolding clap_on_literals
-list_alone = one_word (Takes (LIST ∷ []) None) LIST
-    (record { taken = refl; plain_words = refl; value_is = refl })
-    (record { taken = refl; plain_words = refl; value_is = refl })
-    (record { taken = refl; plain_words = refl; value_is = refl })
+list_alone = takes_plain LIST [] refl refl refl (record { dashes = refl; long = refl; short = refl }, tt)
 
 run_alone : (words : List Text) → AreMarked (RUN ∷ []) words → Takes (RUN ∷ []) None words
 unfolding clap_on_literals
-run_alone = one_word (Takes (RUN ∷ []) None) RUN
-    (record { taken = refl; plain_words = refl; value_is = refl })
-    (record { taken = refl; plain_words = refl; value_is = refl })
-    (record { taken = refl; plain_words = refl; value_is = refl })
+run_alone = takes_plain RUN [] refl refl refl (record { dashes = refl; long = refl; short = refl }, tt)
 
 -- the option with its value, before the word and behind it
 joined_before : (text : Text) (rest : List Text) → AreMarked (RUN ∷ []) rest → Takes (RUN ∷ []) (Some text) ((JOINED ++ text) ∷ rest)
@@ -119,6 +108,32 @@ with_option fuel words (option, rest, (d ∷ ds, spells, inl is), inl (same, mar
 with_option fuel words (option, rest, (d ∷ ds, spells, inl is), inr (same, marked)) =
     (d ∷ ds, spells, subst (Takes (RUN ∷ []) (Some (d ∷ ds))) (ap (λ (l : List Text). RUN ∷ l ++ rest) (sym is) ∙ sym same) (apart_behind d ds (no_hyphen d spells.numeral.1.0) rest marked))
 
+abbrev GEN : Text
+GEN = codes "gen"
+
+no_option : (d : ℕ) (ds : List ℕ) → eqb d 45 ≡ false → IsNoOption (d ∷ ds)
+no_option d ds other = record { dashes = simp other refl; long = simp other refl; short = simp other refl }
+
+no_kind_option : (kind : Workload) → IsNoOption (kind_word kind)
+no_kind_option OfList = record { dashes = refl; long = refl; short = refl }
+no_kind_option OfTree = record { dashes = refl; long = refl; short = refl }
+
+gen_alone : (kind : Workload) (s z : Text) → IsNoOption s → IsNoOption z → (words : List Text) → AreMarked (GEN ∷ kind_word kind ∷ s ∷ z ∷ []) words
+    → Takes (GEN ∷ kind_word kind ∷ s ∷ z ∷ []) None words
+unfolding clap_on_literals
+gen_alone kind s z seed size = takes_plain GEN (kind_word kind ∷ s ∷ z ∷ []) refl refl refl (record { dashes = refl; long = refl; short = refl }, (no_kind_option kind, (seed, (size, tt))))
+
+generated : (words plain : List Text) (kind : Workload) (seed size : ℕ) → NamesWorkload plain kind seed size → AreMarked plain words → Takes plain None words
+generated words plain kind seed size names marked = go names.seed_text names.size_text names.same names.seed_is names.size_is
+  where
+    go : (s z : Text) → plain ≡ GEN ∷ kind_word kind ∷ s ∷ z ∷ [] → SpellsSeed s seed → SpellsSize z size → Takes plain None words
+    go [] z same seed_is size_is = absurd (omega (arith, seed_is.numeral.0))
+    go (s ∷ ss) [] same seed_is size_is = absurd (omega (arith, size_is.numeral.0))
+    go (s ∷ ss) (z ∷ zs) same seed_is size_is =
+        subst (λ (l : List Text). Takes l None words) (sym same)
+        (gen_alone kind (s ∷ ss) (z ∷ zs) (no_option s ss (no_hyphen s seed_is.numeral.1.0)) (no_option z zs (no_hyphen z size_is.numeral.1.0)) words
+        (subst (λ (l : List Text). AreMarked l words) same marked))
+
 -- what words ask for is what the parser's answer chooses
 pub record Taken (words : List Text) (mode : Mode) : Type 0 where
   pub none : fault_of ceal_command words ≡ []
@@ -140,3 +155,6 @@ taken words (Run fuel) (inr option) =
       none = found.2.taken;
       chooses = subst (λ (o : Option Text). Chooses (plain_of (matches_of ceal_command words)) o (Run fuel)) (sym found.2.value_is) (found.2.plain_words, found.1);
     }
+taken words (Gen kind seed size) (plain, names, marked) =
+    let t = generated words plain kind seed size names marked in
+    record { none = t.taken; chooses = (subst (λ (l : List Text). NamesWorkload l kind seed size) (sym t.plain_words) names, t.value_is) }

@@ -1,10 +1,14 @@
 -- From the bytes that were read to the input that the source told.
-use Rattle.std.proofs.Common.{◌≡◌, ◌≤◌, ◌⊎◌, inl, ℕ, Option, Some, None, List, ◌++◌, length, IfSome, refl, sym, ap, ◌∙◌, subst, append-nil}
+use Rattle.std.proofs.Common.{◌≡◌, ◌≤◌, ◌⊎◌, inl, inr, ℕ, Option, Some, None, List, ◌++◌, length, IfSome, refl, sym, ap, ◌∙◌, subst, append-nil}
 use Rattle.std.specs.Io.KnownBytes.{Consumes, IsAtEnd}
 use Rattle.ceal_compile.specs.Source.{IsAccepted}
-use Rattle.ceal_cli.specs.Growth.{WritesOutput, WritesPrefix}
+use Rattle.ceal_cli.specs.Growth.{WritesOutput, WritesPrefix, WritesGenerated, WritesGeneratedPrefix}
+use Rattle.ceal_cli.specs.Output.{BeginsOutput}
 use Rattle.ceal_cli.specs.declared.top.TheConstants.{INPUT_LIMIT}
 use Rattle.ceal_cli.specs.declared.words.Mode.{Mode}
+use Rattle.ceal_cli.specs.declared.words.Mode.TheVariants.{Gen}
+use Rattle.ceal_gen.specs.declared.kind.Workload.{Workload}
+use Rattle.ceal_cli.proofs.Growing.{nothing, weaker}
 use Rattle.ceal_cli.specs.declared.top.Status.TheVariants.{Done, Refused, Memory}
 
 -- what was read up to the end is the input
@@ -17,6 +21,10 @@ whole_input (Some xs) (Some ys) bytes text all at_end same =
 carried : (old : Option (List ℕ)) (text : List ℕ) (P : List ℕ → Type 0) → IfSome old (λ input. text ≡ input) → P text → IfSome old P
 carried None text P e h = tt
 carried (Some xs) text P e h = subst P e h
+
+for_any : (old : Option (List ℕ)) (P : List ℕ → Type 0) → ((input : List ℕ) → P input) → IfSome old P
+for_any None P h = tt
+for_any (Some xs) P h = h xs
 
 module _ (old new : Option (List ℕ)) (bytes text : List ℕ) (all : Consumes old new bytes) (at_end : IsAtEnd new) (same : text ≡ bytes) where
   for_input : (P : List ℕ → Type 0) → P text → IfSome old P
@@ -49,3 +57,15 @@ module _ (old new : Option (List ℕ)) (bytes text : List ℕ) (all : Consumes o
       → IfSome old (λ input. length input ≤ INPUT_LIMIT → IsAccepted input → R → S → (Refused ≡ Done) ⊎ (Refused ≡ Memory))
   not_done_for R S none =
       for_input (λ input. length input ≤ INPUT_LIMIT → IsAccepted input → R → S → (Refused ≡ Done) ⊎ (Refused ≡ Memory)) (λ short h r s. absurd (none h))
+
+-- what was written while nothing was
+pub none_for : (left a : Option (List ℕ)) (mode : Mode) → IfSome left (λ input. WritesPrefix a a mode input)
+none_for left a mode = for_any left (λ input. WritesPrefix a a mode input) (λ input. nothing a (λ out. BeginsOutput mode input out) (inl refl))
+
+-- What is written for a workload is the output for any input.
+module _ (left a b : Option (List ℕ)) (kind : Workload) (seed size : ℕ) where
+  pub any_output : WritesGenerated a b kind seed size → IfSome left (λ input. WritesOutput a b (Gen kind seed size) input)
+  any_output h = for_any left (λ input. WritesOutput a b (Gen kind seed size) input) (λ input. weaker (λ out is. inl is) h)
+
+  pub any_prefix : WritesGeneratedPrefix a b kind seed size → IfSome left (λ input. WritesPrefix a b (Gen kind seed size) input)
+  any_prefix h = for_any left (λ input. WritesPrefix a b (Gen kind seed size) input) (λ input. weaker (λ out begins. inr (inl begins)) h)

@@ -168,3 +168,14 @@ module _ (r : List Row) (p : Pending) (q : Waiting) (word : Text) (none : subcom
   -- a word that is not refused is one of these
   pub turn_of : turn_fault S [] (at r p q false) word ≡ [] → Turn r p q word (walked C [] (at r p q false) word)
   turn_of h = subst (Turn r p q word) (sym walked_is) (turn _ _ refl refl (sym turn_is ∙ h))
+
+  -- a word without hyphens at its front is no option
+  pub plain_turn : bytes_eq word DASHES ≡ false → long_of word ≡ None → short_of word ≡ None
+      → (turn_fault S [] (at r p q false) word ≡ step_fault S 1 (plain_word C q word (held r p)).0 (plain_word C q word (held r p)).1)
+      × (walked C [] (at r p q false) word ≡ then_ (plain_word C q word (held r p)))
+  plain_turn dashes long_ short_ = (
+    turn_is ∙ ap₂ (λ (d : Bool) (l : Option (Text × Option Text)). whole (fault d l) (met d l)) dashes long_
+        ∙ ap (λ (f : Option Text). whole (option_map_or (λ flags. bundle_fault C false flags (held r p)) f []) (short_or_plain C q word f (held r p))) short_,
+    walked_is ∙ ap₂ (λ (d : Bool) (l : Option (Text × Option Text)). then_ (met d l)) dashes long_
+        ∙ ap (λ (f : Option Text). then_ (short_or_plain C q word f (held r p))) short_,
+  )

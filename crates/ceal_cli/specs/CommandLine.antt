@@ -3,8 +3,9 @@ use Rattle.std.specs.Prelude.{◌≡◌, ℕ, List, [], ◌∷◌, Option, Some,
 use Rattle.clap.specs.Words.{App, Rule, new_app, new_rule, with_rule}
 use Rattle.clap.specs.Lexer.{usize_max}
 use Rattle.ceal_cli.specs.Fuel.{DEFAULT_FUEL, SpellsFuel}
+use Rattle.ceal_cli.specs.Workloads.{NamesWorkload}
 use Rattle.ceal_cli.specs.declared.words.Mode.{Mode}
-use Rattle.ceal_cli.specs.declared.words.Mode.TheVariants.{Check, List as Listing, Run}
+use Rattle.ceal_cli.specs.declared.words.Mode.TheVariants.{Check, List as Listing, Run, Gen}
 
 -- the option `--fuel` with one value
 abbrev pub fuel_option : Rule
@@ -34,6 +35,7 @@ abbrev pub Chooses : List (List ℕ) → Option (List ℕ) → Mode → Type 0
 Chooses words option Check = (words ≡ codes "check" ∷ []) × (option ≡ None)
 Chooses words option Listing = (words ≡ codes "list" ∷ []) × (option ≡ None)
 Chooses words option (Run fuel) = (words ≡ codes "run" ∷ []) × IsFuel option fuel
+Chooses words option (Gen kind seed size) = NamesWorkload words kind seed size × (option ≡ None)
 
 abbrev pub ChoosesNone : List (List ℕ) → Option (List ℕ) → Type 0
 ChoosesNone words option = (mode : Mode) → ¬ Chooses words option mode

@@ -2,6 +2,9 @@ pub mod Answers
 pub mod CommandLine
 pub mod Fuel
 pub mod Growth
+pub mod Laws
 pub mod Lines
 pub mod Modes
+pub mod Numerals
 pub mod Output
+pub mod Workloads

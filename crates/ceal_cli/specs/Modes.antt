@@ -2,8 +2,10 @@
 use Rattle.std.specs.Prelude.{◌≡◌, ◌⊎◌, ℕ, List, [], ◌∷◌, ◌++◌, Vec, String, string_bytes, map, codes}
 use Rattle.std.specs.declared.alloc.Global.{Global}
 use Rattle.ceal_cli.specs.Fuel.{DEFAULT_FUEL, SpellsFuel}
+use Rattle.ceal_cli.specs.Workloads.{NamesWorkload}
 use Rattle.ceal_cli.specs.declared.words.Mode.{Mode}
-use Rattle.ceal_cli.specs.declared.words.Mode.TheVariants.{Check, List as Listing, Run}
+use Rattle.ceal_cli.specs.declared.words.Mode.TheVariants.{Check, List as Listing, Run, Gen}
+use Rattle.ceal_gen.specs.declared.kind.Workload.{Workload}
 
 abbrev pub Text : Type 0
 Text = List ℕ
@@ -37,6 +39,22 @@ Asks words Check = AreMarked (codes "check" ∷ []) words
 Asks words Listing = AreMarked (codes "list" ∷ []) words
 Asks words (Run fuel) =
     (AreMarked (codes "run" ∷ []) words × (fuel ≡ DEFAULT_FUEL)) ⊎ HaveOption fuel (codes "run") words
+Asks words (Gen kind seed size) = (plain : List Text) × NamesWorkload plain kind seed size × AreMarked plain words
 
 abbrev pub AreDefined : List Text → Type 0
 AreDefined words = (mode : Mode) × Asks words mode
+
+-- the modes that read the input; what `gen` writes is the same for each input
+abbrev pub ReadsInput : Mode → Type 0
+ReadsInput Check = Unit {0}
+ReadsInput Listing = Unit {0}
+ReadsInput (Run fuel) = Unit {0}
+ReadsInput (Gen kind seed size) = ⊥
+
+-- The words ask for an answer to the input.
+abbrev pub AskToRead : List Text → Type 0
+AskToRead words = (mode : Mode) × Asks words mode × ReadsInput mode
+
+-- The words ask for a workload.
+abbrev pub AskToGenerate : List Text → Type 0
+AskToGenerate words = (kind : Workload) × (seed : ℕ) × (size : ℕ) × Asks words (Gen kind seed size)

@@ -6,6 +6,7 @@ ghost use Rattle.ceal_compile.specs.Compiled.{IsCompiled};
 ghost use Rattle.ceal_compile.specs.Source.{IsAccepted, IsFirstFault, IsProgram};
 ghost use Rattle.ceal_io.specs.Streams.{Rose};
 ghost use Rattle.ceal_cli.specs.Growth.{WritesOutput, WritesPrefix};
+ghost use Rattle.ceal_cli.specs.Modes.{ReadsInput};
 
 use crate::lines::script;
 use crate::replies::reply_all;
@@ -30,7 +31,8 @@ fn refuse<K: Sink>(
     fault: Fault,
     sink: &mut K,
 ) -> Result<(), Stopped>
-    requires { IsFirstFault input.now fault }
+    requires reads { ReadsInput mode }
+    requires first { IsFirstFault input.now fault }
     ensures all { OnOk result (WritesOutput (K.written sink.old) (K.written sink.new) mode input.now) }
     ensures part { WritesPrefix (K.written sink.old) (K.written sink.new) mode input.now }
     ensures fault { IsErrOf result Stopped.Failed → Rose (K.faults sink.old) (K.faults sink.new) }
@@ -104,6 +106,7 @@ fn answer<K: Sink>(
     requires small { length input.now < 2 ^ 32 }
     requires program { IsProgram input.now program.typed }
     requires compiled { IsCompiled program }
+    requires reads { ReadsInput mode }
     ensures all { OnOk result (WritesOutput (K.written sink.old) (K.written sink.new) mode input.now) }
     ensures part { WritesPrefix (K.written sink.old) (K.written sink.new) mode input.now }
     ensures fault { IsErrOf result Stopped.Failed → Rose (K.faults sink.old) (K.faults sink.new) }
@@ -112,17 +115,19 @@ fn answer<K: Sink>(
         Mode::Check => accept(input, &program.typed, sink),
         Mode::List => list(alloc, input, &program, sink),
         Mode::Run(fuel) => run(alloc, fuel, input, program, sink),
+        Mode::Gen { .. } => unreachable!(),
     }
 }
 
-/// Writes the output for an input, and says whether the input is accepted.
+/// Writes the output for an input in a mode that reads, and says whether the input is accepted.
 pub fn write_answer<K: Sink>(
     alloc: Global,
     mode: Mode,
     input: &[u8],
     sink: &mut K,
 ) -> Result<bool, Stopped>
-    requires { length input.now < 2 ^ 32 }
+    requires small { length input.now < 2 ^ 32 }
+    requires reads { ReadsInput mode }
     ensures accepted { IfOk result (λ accepted. IsTrue accepted ↔ IsAccepted input.now) }
     ensures all { OnOk result (WritesOutput (K.written sink.old) (K.written sink.new) mode input.now) }
     ensures part { WritesPrefix (K.written sink.old) (K.written sink.new) mode input.now }

@@ -1,23 +1,23 @@
-// The value of the option `--fuel`.
+// The fuel of a run.
 
-ghost use Rattle.std.specs.Prelude.{MatchOption};
-ghost use Rattle.ceal_cli.specs.Fuel.{SpellsFuel, HasNoFuel};
+ghost use Rattle.std.specs.Prelude.{MatchOption, option_map};
+ghost use Rattle.ceal_cli.specs.CommandLine.{IsFuel, HasNoFuelIn};
+
+use crate::numerals::spelled;
 
 /// How many steps a run may take at most.
 const LARGEST_FUEL: u32 = 4_194_304;
 
-/// How many digits the value of the option has at most.
-const MOST_DIGITS: usize = 10;
+/// How many steps a run may take where the words do not say it.
+pub const DEFAULT_FUEL: u32 = 1_000_000;
 
-/// The fuel that a text spells, if it spells one.
-pub fn spelled_fuel(text: &str) -> Option<u32>
-    ensures { MatchOption result (HasNoFuel text.now) (λ fuel. SpellsFuel text.now fuel) }
+/// The fuel of a run with this value of `--fuel`.
+pub fn fuel(option: Option<&str>) -> Option<u32>
+    ensures { MatchOption result (HasNoFuelIn (option_map (λ text. text.now) option.entry))
+        (λ fuel. IsFuel (option_map (λ text. text.now) option.entry) fuel) }
 {
-    if MOST_DIGITS < text.len() || text.starts_with('+') {
-        return None;
-    }
-    match text.parse::<u32>() {
-        Ok(fuel) if 0 < fuel && fuel <= LARGEST_FUEL => Some(fuel),
-        _ => None,
+    match option {
+        None => Some(DEFAULT_FUEL),
+        Some(text) => spelled(text, 1, LARGEST_FUEL),
     }
 }

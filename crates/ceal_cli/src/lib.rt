@@ -1,13 +1,18 @@
 //! The top call of the program: all that `ceal` does with its words, its input and its output.
 //!
 //! An input is a source part, a line `%%` and the lines of a script. `ceal check` says whether the source part is
-//! accepted, `ceal list` writes its trace code, and `ceal run` replies to the script.
+//! accepted, `ceal list` writes its trace code, and `ceal run` replies to the script. `ceal gen` reads no input: it
+//! replies to the script of a workload, an input that a kind, a seed and a size stand for.
 #![tactic(auto)]
 
 mod answer;
 mod command_line;
+mod from_run;
 mod fuel;
+mod generate;
+pub mod laws;
 mod lines;
+mod numerals;
 mod replies;
 mod top;
 mod words;

@@ -48,6 +48,43 @@ fn answers(rt: HostRuntime) -> Result<(), Fail> {
     Ok(())
 }
 
+// `gen` writes the replies from that of the `run` line on, and leaves its input alone.
+#[test]
+fn workloads(rt: HostRuntime) -> Result<(), Fail> {
+    let alloc = rt.alloc();
+    let list = "ok\n18\n3\n\
+        ok\nok\nok\nrefused C1: unreadable line\n\
+        ok\nok\nok\nrefused C1: unreadable line\n\
+        ok\nok\nrefused C1: unreadable line\n23\n4\n";
+    let tree = "ok\n1596\n23\n2\n\
+        ok\nok\n765\nrefused C1: unreadable line\n\
+        ok\nok\nok\n12\nrefused C1: unreadable line\n23\n2\n";
+    let rows = [
+        ("gen list 1 3", Status::Done, list),
+        ("gen list -- 0000000001 03", Status::Done, list),
+        ("gen tree 1 1", Status::Done, tree),
+        ("gen list 1 0", Status::Usage, ""),
+        ("gen list 1 40001", Status::Usage, ""),
+        ("gen list 2147483648 1", Status::Usage, ""),
+        ("gen list +1 1", Status::Usage, ""),
+        ("gen -- list -1 1", Status::Usage, ""),
+        ("gen list 00000000001 1", Status::Usage, ""),
+        ("gen lists 1 1", Status::Usage, ""),
+        ("gen list 1", Status::Usage, ""),
+        ("gen list 1 1 1", Status::Usage, ""),
+        ("gen list 1 1 --fuel 5", Status::Usage, ""),
+    ];
+    for (line, status, output) in rows {
+        let words = words_of(alloc, line)?;
+        let mut source = MemSource::new(Vec::new(alloc), vec![in alloc; 1]?);
+        let mut sink = MemSink::sound(alloc);
+        let answer = ceal_main(alloc, &words, &mut source, &mut sink);
+        assert_eq!(rt; answer, status, "at {line}");
+        assert_eq!(rt; sink.bytes(), output.as_bytes(), "at {line}");
+    }
+    Ok(())
+}
+
 #[test]
 fn failures(rt: HostRuntime) -> Result<(), Fail> {
     let alloc = rt.alloc();

@@ -1,17 +1,20 @@
 // The top call.
 
-ghost use Rattle.std.specs.Prelude.{◌≡◌, ◌≤◌, ◌⊎◌, ◌+◌, length, IfSome};
+ghost use Rattle.std.specs.Prelude.{◌≡◌, ◌≢◌, ◌≤◌, ◌⊎◌, ◌+◌, ◌^◌, ℕ, length, IfSome};
 ghost use Rattle.std.specs.Io.KnownBytes.{Keeps, IsAtEnd};
 ghost use Rattle.ceal_io.specs.Streams.{Rose, LosesCount};
 ghost use Rattle.ceal_cli.specs.Answers.{IsWhole, IsSilent, status_text};
 ghost use Rattle.ceal_compile.specs.Source.{IsAccepted};
-ghost use Rattle.ceal_cli.specs.Growth.{WritesOutput, WritesPrefix};
-ghost use Rattle.ceal_cli.specs.Modes.{texts, Asks, AreDefined};
+ghost use Rattle.ceal_cli.specs.Growth.{WritesOutput, WritesPrefix, WritesGenerated, WritesGeneratedPrefix};
+ghost use Rattle.ceal_cli.specs.Modes.{texts, Asks, AreDefined, AskToRead, AskToGenerate, ReadsInput};
 ghost use Rattle.ceal_cli.specs.declared.words.Mode.{Mode as ModeOf};
+ghost use Rattle.ceal_gen.specs.declared.kind.Workload.{Workload as WorkloadOf};
 
 use crate::answer::write_answer;
-use crate::words::asked_mode;
+use crate::generate::generate;
+use crate::words::{Mode, asked_mode};
 use ceal_base::no_memory::NoMemory;
+use ceal_gen::kind::Workload;
 use ceal_io::{ReadError, Sink, Source, Stopped, read_all};
 use std::alloc::Global;
 
@@ -37,47 +40,33 @@ pub enum Status {
 /// The most bytes that an input has.
 pub const INPUT_LIMIT: usize = 4_194_304;
 
-/// Does all that the program does. `words` are those after the program's name. The source is read whole before
-/// anything is written, and each reply is written as it is made.
-pub fn ceal_main<S: Source, K: Sink>(
+// Reads the input and answers it.
+fn answer_input<S: Source, K: Sink>(
     alloc: Global,
-    words: &Vec<String>,
+    mode: Mode,
     source: &mut S,
     sink: &mut K,
 ) -> Status
-    // Where all went well, the output for the input was written whole, and the source is at its end.
-    ensures headline { IsWhole result → (mode : ModeOf) → Asks (texts words.now) mode → IfSome (S.left source.old) (λ input. WritesOutput (K.written sink.old) (K.written sink.new) mode input) }
+    requires { ReadsInput mode }
+    ensures reads { ReadsInput mode }
+    ensures output { IsWhole result → IfSome (S.left source.old) (λ input. WritesOutput (K.written sink.old) (K.written sink.new) mode input) }
     ensures read { IsWhole result → IsAtEnd (S.left source.new) }
     ensures within { IsWhole result → IfSome (S.left source.old) (λ input. length input ≤ INPUT_LIMIT) }
-    // In every case a prefix of it was written.
-    ensures prefix { (mode : ModeOf) → Asks (texts words.now) mode → IfSome (S.left source.old) (λ input. WritesPrefix (K.written sink.old) (K.written sink.new) mode input) }
+    ensures prefix { IfSome (S.left source.old) (λ input. WritesPrefix (K.written sink.old) (K.written sink.new) mode input) }
     ensures silent { IsSilent result → Keeps (K.written sink.old) (K.written sink.new) }
-
-    // When each answer comes.
     ensures done { result ≡ Status.Done → IfSome (S.left source.old) (λ input. IsAccepted input) }
     ensures refused { result ≡ Status.Refused → IfSome (S.left source.old) (λ input. ¬ IsAccepted input) }
-    ensures usage { result ≡ Status.Usage → ¬ AreDefined (texts words.now) }
+    ensures usage { result ≢ Status.Usage }
     ensures too_long { result ≡ Status.TooLong → LosesCount (S.left source.old) (S.left source.new) (INPUT_LIMIT + 1) }
     ensures read_fault { result ≡ Status.ReadFault → Rose (S.faults source.old) (S.faults source.new) }
     ensures write_fault { result ≡ Status.WriteFault → Rose (K.faults sink.old) (K.faults sink.new) }
-
-    // Where the words ask for nothing, that is the answer, but for want of memory, and nothing is written.
-    ensures undefined { ¬ AreDefined (texts words.now) → (result ≡ Status.Usage) ⊎ (result ≡ Status.Memory) }
-    ensures untouched { ¬ AreDefined (texts words.now) → Keeps (K.written sink.old) (K.written sink.new) }
-
-    // Where no read and no write failed, an input within the limit is answered by whether it is accepted.
-    ensures complete { AreDefined (texts words.now) → IfSome (S.left source.old) (λ input. length input ≤ INPUT_LIMIT → IsAccepted input
+    ensures complete { IfSome (S.left source.old) (λ input. length input ≤ INPUT_LIMIT → IsAccepted input
         → ¬ Rose (S.faults source.old) (S.faults source.new) → ¬ Rose (K.faults sink.old) (K.faults sink.new)
         → (result ≡ Status.Done) ⊎ (result ≡ Status.Memory)) }
-    ensures refuses { AreDefined (texts words.now) → IfSome (S.left source.old) (λ input. length input ≤ INPUT_LIMIT → ¬ IsAccepted input
+    ensures refuses { IfSome (S.left source.old) (λ input. length input ≤ INPUT_LIMIT → ¬ IsAccepted input
         → ¬ Rose (S.faults source.old) (S.faults source.new) → ¬ Rose (K.faults sink.old) (K.faults sink.new)
         → (result ≡ Status.Refused) ⊎ (result ≡ Status.Memory)) }
 {
-    let mode = match asked_mode(alloc, words) {
-        Ok(Some(mode)) => mode,
-        Ok(None) => return Status::Usage,
-        Err(NoMemory) => return Status::Memory,
-    };
     let input = match read_all(alloc, source, INPUT_LIMIT) {
         Ok(input) => input,
         Err(ReadError::Memory) => return Status::Memory,
@@ -89,6 +78,82 @@ pub fn ceal_main<S: Source, K: Sink>(
         Ok(false) => Status::Refused,
         Err(Stopped::Memory) => Status::Memory,
         Err(Stopped::Failed) => Status::WriteFault,
+    }
+}
+
+// Writes the output for a workload.
+fn answer_workload<K: Sink>(
+    alloc: Global,
+    kind: Workload,
+    seed: u32,
+    size: u32,
+    sink: &mut K,
+) -> Status
+    requires { size ≤ 2 ^ 24 }
+    ensures output { IsWhole result → WritesGenerated (K.written sink.old) (K.written sink.new) kind seed size }
+    ensures prefix { WritesGeneratedPrefix (K.written sink.old) (K.written sink.new) kind seed size }
+    ensures answer { (result ≡ Status.Done) ⊎ ((result ≡ Status.Memory) ⊎ (result ≡ Status.WriteFault)) }
+    ensures write_fault { result ≡ Status.WriteFault → Rose (K.faults sink.old) (K.faults sink.new) }
+{
+    match generate(alloc, kind, seed, size, sink) {
+        Ok(()) => Status::Done,
+        Err(Stopped::Memory) => Status::Memory,
+        Err(Stopped::Failed) => Status::WriteFault,
+    }
+}
+
+/// Does all that the program does. `words` are those after the program's name. Where the words ask for an answer to
+/// the input, the source is read whole before anything is written; for a workload it is not read at all. Each reply is
+/// written as it is made.
+pub fn ceal_main<S: Source, K: Sink>(
+    alloc: Global,
+    words: &Vec<String>,
+    source: &mut S,
+    sink: &mut K,
+) -> Status
+    // Where all went well, the output for the input was written whole, and a source that was read is at its end.
+    ensures headline { IsWhole result → (mode : ModeOf) → Asks (texts words.now) mode → IfSome (S.left source.old) (λ input. WritesOutput (K.written sink.old) (K.written sink.new) mode input) }
+    ensures read { IsWhole result → AskToRead (texts words.now) → IsAtEnd (S.left source.new) }
+    ensures within { IsWhole result → AskToRead (texts words.now) → IfSome (S.left source.old) (λ input. length input ≤ INPUT_LIMIT) }
+    // In every case a prefix of it was written.
+    ensures prefix { (mode : ModeOf) → Asks (texts words.now) mode → IfSome (S.left source.old) (λ input. WritesPrefix (K.written sink.old) (K.written sink.new) mode input) }
+    ensures silent { IsSilent result → Keeps (K.written sink.old) (K.written sink.new) }
+
+    // For a workload the source stays as it is, and what is written is the same whatever it has.
+    ensures unread { AskToGenerate (texts words.now) → source.new ≡ source.old }
+    ensures generated { IsWhole result → (kind : WorkloadOf) (seed size : ℕ) → Asks (texts words.now) (Mode.Gen kind seed size)
+        → WritesGenerated (K.written sink.old) (K.written sink.new) kind seed size }
+    ensures generated_prefix { (kind : WorkloadOf) (seed size : ℕ) → Asks (texts words.now) (Mode.Gen kind seed size)
+        → WritesGeneratedPrefix (K.written sink.old) (K.written sink.new) kind seed size }
+
+    // When each answer comes.
+    ensures done { result ≡ Status.Done → AskToRead (texts words.now) → IfSome (S.left source.old) (λ input. IsAccepted input) }
+    ensures refused { result ≡ Status.Refused → IfSome (S.left source.old) (λ input. ¬ IsAccepted input) }
+    ensures asked { result ≡ Status.Refused → AskToRead (texts words.now) }
+    ensures usage { result ≡ Status.Usage → ¬ AreDefined (texts words.now) }
+    ensures too_long { result ≡ Status.TooLong → LosesCount (S.left source.old) (S.left source.new) (INPUT_LIMIT + 1) }
+    ensures read_fault { result ≡ Status.ReadFault → Rose (S.faults source.old) (S.faults source.new) }
+    ensures write_fault { result ≡ Status.WriteFault → Rose (K.faults sink.old) (K.faults sink.new) }
+
+    // Where the words ask for nothing, that is the answer, but for want of memory, and nothing is written.
+    ensures undefined { ¬ AreDefined (texts words.now) → (result ≡ Status.Usage) ⊎ (result ≡ Status.Memory) }
+    ensures untouched { ¬ AreDefined (texts words.now) → Keeps (K.written sink.old) (K.written sink.new) }
+
+    // Where no read and no write failed, an input within the limit is answered by whether it is accepted.
+    ensures complete { AskToRead (texts words.now) → IfSome (S.left source.old) (λ input. length input ≤ INPUT_LIMIT → IsAccepted input
+        → ¬ Rose (S.faults source.old) (S.faults source.new) → ¬ Rose (K.faults sink.old) (K.faults sink.new)
+        → (result ≡ Status.Done) ⊎ (result ≡ Status.Memory)) }
+    ensures refuses { AskToRead (texts words.now) → IfSome (S.left source.old) (λ input. length input ≤ INPUT_LIMIT → ¬ IsAccepted input
+        → ¬ Rose (S.faults source.old) (S.faults source.new) → ¬ Rose (K.faults sink.old) (K.faults sink.new)
+        → (result ≡ Status.Refused) ⊎ (result ≡ Status.Memory)) }
+    // A workload is answered whatever the source has.
+    ensures generates { AskToGenerate (texts words.now) → (result ≡ Status.Done) ⊎ ((result ≡ Status.Memory) ⊎ (result ≡ Status.WriteFault)) }
+{
+    match asked_mode(alloc, words) {
+        Ok(Some(Mode::Gen { kind, seed, size })) => answer_workload(alloc, kind, seed, size, sink),
+        Ok(Some(mode)) => answer_input(alloc, mode, source, sink),
+        Ok(None) => Status::Usage,
+        Err(NoMemory) => Status::Memory,
     }
 }
 

@@ -1,12 +1,15 @@
 // The words of the command line.
 
-ghost use Rattle.std.specs.Prelude.{◌≡◌, IfOk, MatchOption, codes, map, option_map};
+ghost use Rattle.std.specs.Prelude.{◌≡◌, ◌∷◌, [], None, IfOk, MatchOption, codes, map, option_map};
 ghost use Rattle.ceal_cli.specs.Modes.{texts, Asks, AreDefined};
-ghost use Rattle.ceal_cli.specs.CommandLine.{Chooses, ChoosesNone, IsFuel, HasNoFuelIn};
+ghost use Rattle.ceal_cli.specs.CommandLine.{Chooses, ChoosesNone};
+ghost use Rattle.ceal_cli.specs.Workloads.{kind_word, IsNoKind};
 
 use crate::command_line::command_line;
-use crate::fuel::spelled_fuel;
+use crate::fuel::fuel;
+use crate::numerals::spelled;
 use ceal_base::no_memory::NoMemory;
+use ceal_gen::kind::Workload;
 use clap::error::ErrorKind;
 use std::alloc::Global;
 
@@ -19,20 +22,39 @@ pub enum Mode {
     List,
     /// the replies to the script, where a run may take so many steps
     Run(u32),
+    /// the replies of a workload, which no input is read for
+    Gen {
+        kind: Workload,
+        seed: u32,
+        size: u32,
+    },
 }
 
-/// How many steps a run may take where the words do not say it.
-const DEFAULT_FUEL: u32 = 1_000_000;
+/// What the seed and the size of a workload are at most.
+const LARGEST_SEED: u32 = 2_147_483_647;
 
-// The fuel of a run with this value of `--fuel`.
-fn fuel(option: Option<&str>) -> Option<u32>
-    ensures { MatchOption result (HasNoFuelIn (option_map (λ text. text.now) option.entry))
-        (λ fuel. IsFuel (option_map (λ text. text.now) option.entry) fuel) }
+const LARGEST_SIZE: u32 = 40_000;
+
+// The kind of workload that a word names.
+fn kind(word: &str) -> Option<Workload>
+    ensures { MatchOption result (IsNoKind word.now) (λ kind. word.now ≡ kind_word kind) }
 {
-    match option {
-        None => Some(DEFAULT_FUEL),
-        Some(text) => spelled_fuel(text),
+    match word {
+        "list" => Some(Workload::List),
+        "tree" => Some(Workload::Tree),
+        _ => None,
     }
+}
+
+// The mode of the words behind `gen`.
+fn workload(word: &str, seed: &str, size: &str) -> Option<Mode>
+    ensures { MatchOption result (ChoosesNone (codes "gen" ∷ word.now ∷ seed.now ∷ size.now ∷ []) None)
+        (λ mode. Chooses (codes "gen" ∷ word.now ∷ seed.now ∷ size.now ∷ []) None mode) }
+{
+    let kind = kind(word)?;
+    let seed = spelled(seed, 0, LARGEST_SEED)?;
+    let size = spelled(size, 1, LARGEST_SIZE)?;
+    Some(Mode::Gen { kind, seed, size })
 }
 
 // The mode of these words with this value of `--fuel`.
@@ -44,6 +66,7 @@ fn chosen(words: &[&str], option: Option<&str>) -> Option<Mode>
         (["check"], None) => Some(Mode::Check),
         (["list"], None) => Some(Mode::List),
         (["run"], option) => Some(Mode::Run(fuel(option)?)),
+        (["gen", kind, seed, size], None) => workload(kind, seed, size),
         _ => None,
     }
 }

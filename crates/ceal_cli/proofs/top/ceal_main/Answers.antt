@@ -1,62 +1,88 @@
-use Rattle.std.proofs.Common.{arith}
-use Rattle.ceal_cli.proofs.ModeLaws.{one_mode}
-use Rattle.ceal_cli.proofs.TopLaws.{output_for, prefix_for, short_for, accepted_for, refused_for, not_refused_for, not_done_for}
+use Rattle.ceal_cli.specs.Growth.{WritesGenerated, WritesGeneratedPrefix}
+use Rattle.ceal_cli.specs.declared.words.Mode.TheVariants.{Gen}
+use Rattle.ceal_cli.proofs.ModeLaws.{one_mode, one_workload, not_both, small_size}
+use Rattle.ceal_cli.proofs.TopLaws.{any_output, any_prefix}
 use Rattle.ceal_cli.proofs.top.ceal_main.Goals as goal
 
-pub returns-in-Ok-true-clause-headline : goal.returns-in-Ok-true-clause-headline
-returns-in-Ok-true-clause-headline g c =
-    λ _ mode asks.
-    rw (one_mode _ mode c.in-Ok-Some.mode asks (rw (c.in-Ok-Some.field-0-is) at c.in-Ok-Some.ensures))
-    (output_for _ _ _ _ c.in-Ok.ensures.all c.in-Ok.ensures.end c.deref.ensures.value _ _ _ c.in-Ok-true.ensures.all)
+pub returns-in-Ok-Some-Gen-clause-headline : goal.returns-in-Ok-Some-Gen-clause-headline
+returns-in-Ok-Some-Gen-clause-headline g c =
+    let asked = rw (c.in-Ok-Some-Gen.field-0-is, c.in-Ok-Some-Gen.field-0-0-is) at c.in-Ok-Some-Gen.ensures in
+    λ whole mode asks.
+    rw (one_mode _ mode (Gen c.in-Ok-Some-Gen.kind c.in-Ok-Some-Gen.seed c.in-Ok-Some-Gen.size) asks asked)
+    (any_output _ _ _ _ _ _ (c.answer_workload.ensures.output whole))
 
-pub returns-in-Ok-true-clause-within : goal.returns-in-Ok-true-clause-within
-returns-in-Ok-true-clause-within g c =
-    λ _. short_for _ _ _ _ c.in-Ok.ensures.all c.in-Ok.ensures.end c.deref.ensures.value (omega (arith, c.deref.ensures.len, c.in-Ok.ensures.within))
+pub returns-in-Ok-Some-Gen-clause-read : goal.returns-in-Ok-Some-Gen-clause-read
+returns-in-Ok-Some-Gen-clause-read g c =
+    let asked = rw (c.in-Ok-Some-Gen.field-0-is, c.in-Ok-Some-Gen.field-0-0-is) at c.in-Ok-Some-Gen.ensures in
+    λ _ reads. absurd (not_both _ (c.in-Ok-Some-Gen.kind, c.in-Ok-Some-Gen.seed, c.in-Ok-Some-Gen.size, asked) reads)
 
-pub returns-in-Ok-true-clause-prefix : goal.returns-in-Ok-true-clause-prefix
-returns-in-Ok-true-clause-prefix g c =
+pub returns-in-Ok-Some-Gen-clause-within : goal.returns-in-Ok-Some-Gen-clause-within
+returns-in-Ok-Some-Gen-clause-within g c =
+    let asked = rw (c.in-Ok-Some-Gen.field-0-is, c.in-Ok-Some-Gen.field-0-0-is) at c.in-Ok-Some-Gen.ensures in
+    λ _ reads. absurd (not_both _ (c.in-Ok-Some-Gen.kind, c.in-Ok-Some-Gen.seed, c.in-Ok-Some-Gen.size, asked) reads)
+
+pub returns-in-Ok-Some-Gen-clause-prefix : goal.returns-in-Ok-Some-Gen-clause-prefix
+returns-in-Ok-Some-Gen-clause-prefix g c =
+    let asked = rw (c.in-Ok-Some-Gen.field-0-is, c.in-Ok-Some-Gen.field-0-0-is) at c.in-Ok-Some-Gen.ensures in
     λ mode asks.
-    rw (one_mode _ mode c.in-Ok-Some.mode asks (rw (c.in-Ok-Some.field-0-is) at c.in-Ok-Some.ensures))
-    (prefix_for _ _ _ _ c.in-Ok.ensures.all c.in-Ok.ensures.end c.deref.ensures.value _ _ _ c.write_answer.ensures.part)
+    rw (one_mode _ mode (Gen c.in-Ok-Some-Gen.kind c.in-Ok-Some-Gen.seed c.in-Ok-Some-Gen.size) asks asked)
+    (any_prefix _ _ _ _ _ _ c.answer_workload.ensures.prefix)
 
-pub returns-in-Ok-true-clause-done : goal.returns-in-Ok-true-clause-done
-returns-in-Ok-true-clause-done g c =
-    λ _. accepted_for _ _ _ _ c.in-Ok.ensures.all c.in-Ok.ensures.end c.deref.ensures.value (c.in-Ok-true.ensures.accepted.0 c.in-Ok-true.field-0-test)
+pub returns-in-Ok-Some-Gen-clause-generated : goal.returns-in-Ok-Some-Gen-clause-generated
+returns-in-Ok-Some-Gen-clause-generated g c =
+    let asked = rw (c.in-Ok-Some-Gen.field-0-is, c.in-Ok-Some-Gen.field-0-0-is) at c.in-Ok-Some-Gen.ensures in
+    λ whole kind seed size asks.
+    one_workload (WritesGenerated (g.K.Sink.written c.args.sink.now) (g.K.Sink.written c.answer_workload.new.sink)) _ _ _ _ _ _ _ asked asks (c.answer_workload.ensures.output whole)
 
-pub returns-in-Ok-true-clause-refuses : goal.returns-in-Ok-true-clause-refuses
-returns-in-Ok-true-clause-refuses g c =
-    λ _. not_refused_for _ _ _ _ c.in-Ok.ensures.all c.in-Ok.ensures.end c.deref.ensures.value _ _ (c.in-Ok-true.ensures.accepted.0 c.in-Ok-true.field-0-test)
+pub returns-in-Ok-Some-Gen-clause-generated_prefix : goal.returns-in-Ok-Some-Gen-clause-generated_prefix
+returns-in-Ok-Some-Gen-clause-generated_prefix g c =
+    let asked = rw (c.in-Ok-Some-Gen.field-0-is, c.in-Ok-Some-Gen.field-0-0-is) at c.in-Ok-Some-Gen.ensures in
+    λ kind seed size asks.
+    one_workload (WritesGeneratedPrefix (g.K.Sink.written c.args.sink.now) (g.K.Sink.written c.answer_workload.new.sink)) _ _ _ _ _ _ _ asked asks c.answer_workload.ensures.prefix
 
-pub returns-in-Ok-false-clause-prefix : goal.returns-in-Ok-false-clause-prefix
-returns-in-Ok-false-clause-prefix g c =
-    λ mode asks.
-    rw (one_mode _ mode c.in-Ok-Some.mode asks (rw (c.in-Ok-Some.field-0-is) at c.in-Ok-Some.ensures))
-    (prefix_for _ _ _ _ c.in-Ok.ensures.all c.in-Ok.ensures.end c.deref.ensures.value _ _ _ c.write_answer.ensures.part)
+pub returns-in-Ok-Some-Gen-clause-done : goal.returns-in-Ok-Some-Gen-clause-done
+returns-in-Ok-Some-Gen-clause-done g c =
+    let asked = rw (c.in-Ok-Some-Gen.field-0-is, c.in-Ok-Some-Gen.field-0-0-is) at c.in-Ok-Some-Gen.ensures in
+    λ _ reads. absurd (not_both _ (c.in-Ok-Some-Gen.kind, c.in-Ok-Some-Gen.seed, c.in-Ok-Some-Gen.size, asked) reads)
 
-pub returns-in-Ok-false-clause-refused : goal.returns-in-Ok-false-clause-refused
-returns-in-Ok-false-clause-refused g c =
-    λ _. refused_for _ _ _ _ c.in-Ok.ensures.all c.in-Ok.ensures.end c.deref.ensures.value
-    (λ h. let t = c.in-Ok-false.ensures.accepted.1 h in let f = c.in-Ok-false.field-0-test in absurd (cc (t, f)))
+pub returns-in-Ok-Some-Gen-clause-refuses : goal.returns-in-Ok-Some-Gen-clause-refuses
+returns-in-Ok-Some-Gen-clause-refuses g c =
+    let asked = rw (c.in-Ok-Some-Gen.field-0-is, c.in-Ok-Some-Gen.field-0-0-is) at c.in-Ok-Some-Gen.ensures in
+    λ reads. absurd (not_both _ (c.in-Ok-Some-Gen.kind, c.in-Ok-Some-Gen.seed, c.in-Ok-Some-Gen.size, asked) reads)
 
-pub returns-in-Ok-false-clause-complete : goal.returns-in-Ok-false-clause-complete
-returns-in-Ok-false-clause-complete g c =
-    λ _. not_done_for _ _ _ _ c.in-Ok.ensures.all c.in-Ok.ensures.end c.deref.ensures.value _ _
-    (λ h. let t = c.in-Ok-false.ensures.accepted.1 h in let f = c.in-Ok-false.field-0-test in absurd (cc (t, f)))
+pub returns-in-Ok-Some : goal.returns-in-Ok-Some
+returns-in-Ok-Some g c =
+    let asked = rw c.in-Ok-Some.field-0-is at c.in-Ok-Some.ensures in
+    let input = c.answer_input.ensures.reads in
+    record {
+      headline = λ whole mode asks. rw (one_mode _ mode c.in-Ok-Some.mode asks asked) (c.answer_input.ensures.output whole);
+      read = λ whole _. c.answer_input.ensures.read whole;
+      within = λ whole _. c.answer_input.ensures.within whole;
+      prefix = λ mode asks. rw (one_mode _ mode c.in-Ok-Some.mode asks asked) c.answer_input.ensures.prefix;
+      silent = c.answer_input.ensures.silent;
+      unread = λ generates. absurd (not_both _ generates (c.in-Ok-Some.mode, asked, input));
+      generated = λ _ kind seed size asks. absurd (not_both _ (kind, seed, size, asks) (c.in-Ok-Some.mode, asked, input));
+      generated_prefix = λ kind seed size asks. absurd (not_both _ (kind, seed, size, asks) (c.in-Ok-Some.mode, asked, input));
+      done = λ is _. c.answer_input.ensures.done is;
+      refused = c.answer_input.ensures.refused;
+      asked = λ _. (c.in-Ok-Some.mode, asked, input);
+      usage = λ is. absurd (c.answer_input.ensures.usage is);
+      too_long = c.answer_input.ensures.too_long;
+      read_fault = c.answer_input.ensures.read_fault;
+      write_fault = c.answer_input.ensures.write_fault;
+      undefined = λ none. absurd (none (c.in-Ok-Some.mode, asked));
+      untouched = λ none. absurd (none (c.in-Ok-Some.mode, asked));
+      complete = λ _. c.answer_input.ensures.complete;
+      refuses = λ _. c.answer_input.ensures.refuses;
+      generates = λ generates. absurd (not_both _ generates (c.in-Ok-Some.mode, asked, input));
+    }
 
-pub returns-in-Ok-false-clause-headline : goal.returns-in-Ok-false-clause-headline
-returns-in-Ok-false-clause-headline g c =
-    λ _ mode asks.
-    rw (one_mode _ mode c.in-Ok-Some.mode asks (rw (c.in-Ok-Some.field-0-is) at c.in-Ok-Some.ensures))
-    (output_for _ _ _ _ c.in-Ok.ensures.all c.in-Ok.ensures.end c.deref.ensures.value _ _ _ c.in-Ok-false.ensures.all)
+pub returns-in-Ok-None-clause-generates : goal.returns-in-Ok-None-clause-generates
+returns-in-Ok-None-clause-generates g c =
+    let none = rw c.in-Ok-None.field-0-is at c.in-Ok-None.ensures in
+    λ generates. absurd (none (Gen generates.0 generates.1 generates.2, generates.3))
 
-pub returns-in-Err-Memory-write_answer-clause-prefix : goal.returns-in-Err-Memory-write_answer-clause-prefix
-returns-in-Err-Memory-write_answer-clause-prefix g c =
-    λ mode asks.
-    rw (one_mode _ mode c.in-Ok-Some.mode asks (rw (c.in-Ok-Some.field-0-is) at c.in-Ok-Some.ensures))
-    (prefix_for _ _ _ _ c.in-Ok.ensures.all c.in-Ok.ensures.end c.deref.ensures.value _ _ _ c.write_answer.ensures.part)
-
-pub returns-clause-prefix : goal.returns-clause-prefix
-returns-clause-prefix g c =
-    λ mode asks.
-    rw (one_mode _ mode c.in-Ok-Some.mode asks (rw (c.in-Ok-Some.field-0-is) at c.in-Ok-Some.ensures))
-    (prefix_for _ _ _ _ c.in-Ok.ensures.all c.in-Ok.ensures.end c.deref.ensures.value _ _ _ c.write_answer.ensures.part)
+pub answer_workload-requires : goal.answer_workload-requires
+answer_workload-requires g c =
+    let asked = rw (c.in-Ok-Some-Gen.field-0-is, c.in-Ok-Some-Gen.field-0-0-is) at c.in-Ok-Some-Gen.ensures in
+    small_size _ _ _ _ asked

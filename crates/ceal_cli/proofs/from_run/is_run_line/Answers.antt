@@ -1,0 +1,5 @@
+use Rattle.ceal_cli.proofs.FromRun.{run_line}
+use Rattle.ceal_cli.proofs.from_run.is_run_line.Goals as goal
+
+pub returns : goal.returns
+returns c = run_line c.args.line.now c.starts_with.result c.starts_with.ensures.value

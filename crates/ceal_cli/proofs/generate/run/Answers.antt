@@ -1,0 +1,12 @@
+use Rattle.ceal_cli.proofs.OutputLaws.{from_run, from_run_part}
+use Rattle.ceal_cli.proofs.generate.run.Goals as goal
+
+pub returns-in-Ok-clause-all : goal.returns-in-Ok-clause-all
+returns-in-Ok-clause-all g c =
+    from_run _ _ c.args.text.now c.split.result c.split.ensures.parts c.args.program.typed c.requires.program c.reply_from_run.result
+    (rw (← c.script.ensures, ← c.in-Ok.ensures.state) c.reply_from_run.ensures.all)
+
+pub returns-in-Ok-clause-part : goal.returns-in-Ok-clause-part
+returns-in-Ok-clause-part g c =
+    from_run_part _ _ c.args.text.now c.split.result c.split.ensures.parts c.args.program.typed c.requires.program
+    (rw (← c.script.ensures, ← c.in-Ok.ensures.state) c.reply_from_run.ensures.part)

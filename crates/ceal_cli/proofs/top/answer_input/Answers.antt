@@ -1,0 +1,55 @@
+use Rattle.std.proofs.Common.{arith}
+use Rattle.ceal_cli.proofs.TopLaws.{output_for, prefix_for, short_for, accepted_for, refused_for, done_for, not_refused_for, not_done_for, none_for}
+use Rattle.ceal_cli.proofs.top.answer_input.Goals as goal
+
+pub returns-in-Ok-true-clause-output : goal.returns-in-Ok-true-clause-output
+returns-in-Ok-true-clause-output g c =
+    λ _. output_for _ _ _ _ c.in-Ok.ensures.all c.in-Ok.ensures.end c.deref.ensures.value _ _ _ c.in-Ok-true.ensures.all
+
+pub returns-in-Ok-true-clause-within : goal.returns-in-Ok-true-clause-within
+returns-in-Ok-true-clause-within g c =
+    λ _. short_for _ _ _ _ c.in-Ok.ensures.all c.in-Ok.ensures.end c.deref.ensures.value (omega (arith, c.deref.ensures.len, c.in-Ok.ensures.within))
+
+pub returns-in-Ok-true-clause-prefix : goal.returns-in-Ok-true-clause-prefix
+returns-in-Ok-true-clause-prefix g c =
+    prefix_for _ _ _ _ c.in-Ok.ensures.all c.in-Ok.ensures.end c.deref.ensures.value _ _ _ c.write_answer.ensures.part
+
+pub returns-in-Ok-true-clause-done : goal.returns-in-Ok-true-clause-done
+returns-in-Ok-true-clause-done g c =
+    λ _. accepted_for _ _ _ _ c.in-Ok.ensures.all c.in-Ok.ensures.end c.deref.ensures.value (c.in-Ok-true.ensures.accepted.0 c.in-Ok-true.field-0-test)
+
+pub returns-in-Ok-true-clause-refuses : goal.returns-in-Ok-true-clause-refuses
+returns-in-Ok-true-clause-refuses g c =
+    not_refused_for _ _ _ _ c.in-Ok.ensures.all c.in-Ok.ensures.end c.deref.ensures.value _ _ (c.in-Ok-true.ensures.accepted.0 c.in-Ok-true.field-0-test)
+
+pub returns-in-Ok-false-clause-prefix : goal.returns-in-Ok-false-clause-prefix
+returns-in-Ok-false-clause-prefix g c =
+    prefix_for _ _ _ _ c.in-Ok.ensures.all c.in-Ok.ensures.end c.deref.ensures.value _ _ _ c.write_answer.ensures.part
+
+pub returns-in-Ok-false-clause-refused : goal.returns-in-Ok-false-clause-refused
+returns-in-Ok-false-clause-refused g c =
+    λ _. refused_for _ _ _ _ c.in-Ok.ensures.all c.in-Ok.ensures.end c.deref.ensures.value
+    (λ h. let t = c.in-Ok-false.ensures.accepted.1 h in let f = c.in-Ok-false.field-0-test in absurd (cc (t, f)))
+
+pub returns-in-Ok-false-clause-complete : goal.returns-in-Ok-false-clause-complete
+returns-in-Ok-false-clause-complete g c =
+    not_done_for _ _ _ _ c.in-Ok.ensures.all c.in-Ok.ensures.end c.deref.ensures.value _ _
+    (λ h. let t = c.in-Ok-false.ensures.accepted.1 h in let f = c.in-Ok-false.field-0-test in absurd (cc (t, f)))
+
+pub returns-in-Ok-false-clause-output : goal.returns-in-Ok-false-clause-output
+returns-in-Ok-false-clause-output g c =
+    λ _. output_for _ _ _ _ c.in-Ok.ensures.all c.in-Ok.ensures.end c.deref.ensures.value _ _ _ c.in-Ok-false.ensures.all
+
+pub returns-in-Err-Memory-write_answer-clause-prefix : goal.returns-in-Err-Memory-write_answer-clause-prefix
+returns-in-Err-Memory-write_answer-clause-prefix g c =
+    prefix_for _ _ _ _ c.in-Ok.ensures.all c.in-Ok.ensures.end c.deref.ensures.value _ _ _ c.write_answer.ensures.part
+
+pub returns-clause-prefix : goal.returns-clause-prefix
+returns-clause-prefix g c =
+    prefix_for _ _ _ _ c.in-Ok.ensures.all c.in-Ok.ensures.end c.deref.ensures.value _ _ _ c.write_answer.ensures.part
+
+pub returns-in-Ok-true-clause-complete : goal.returns-in-Ok-true-clause-complete
+returns-in-Ok-true-clause-complete g c = done_for _ _ _ _ c.in-Ok.ensures.all c.in-Ok.ensures.end c.deref.ensures.value _ _
+
+pub returns-in-Err-TooLong-clause-prefix : goal.returns-in-Err-TooLong-clause-prefix
+returns-in-Err-TooLong-clause-prefix g c = none_for _ _ c.args.mode

@@ -1,0 +1,57 @@
+// The replies from that of the first run on.
+
+ghost use Rattle.std.specs.Prelude.{◌≡◌, ◌↔◌, ℕ, List, IsTrue, OnOk, IsErrOf};
+ghost use Rattle.ceal_io.specs.Streams.{Rose};
+ghost use Rattle.ceal_session.specs.Replies.{Answers};
+ghost use Rattle.ceal_cli.specs.Growth.{WritesFromRun, BeginsFromRun};
+ghost use Rattle.ceal_cli.specs.Lines.{script_lines};
+ghost use Rattle.ceal_cli.specs.Output.{IsRunLine};
+
+use crate::lines::{cut_line, line};
+use crate::replies::reply_all;
+use ceal_base::no_memory::NoMemory;
+use ceal_io::{Sink, Stopped};
+use ceal_session::session::Session;
+
+// Whether a line begins with `run `.
+fn is_run_line(line: &[u8]) -> bool
+    ensures { IsTrue result ↔ IsRunLine line.now }
+{
+    line.starts_with(b"run ")
+}
+
+// Carries out a line whose reply is not written.
+fn carry_out(session: &mut Session, line: &[u8]) -> Result<(), Stopped>
+    ensures answered { OnOk result ((text : List ℕ) × Answers session.old line.now text session.new) }
+    ensures memory { ¬ IsErrOf result Stopped.Failed }
+{
+    match session.command(line) {
+        Ok(_) => Ok(()),
+        Err(NoMemory) => Err(Stopped::Memory),
+    }
+}
+
+/// Carries out the lines before the first that begins with `run `, and writes the reply to each line from that one on.
+pub fn reply_from_run<K: Sink>(
+    session: &mut Session,
+    script: &[u8],
+    sink: &mut K,
+) -> Result<(), Stopped>
+    ensures all { OnOk result (WritesFromRun (K.written sink.old) (K.written sink.new) session.old (script_lines script.now)) }
+    ensures part { BeginsFromRun (K.written sink.old) (K.written sink.new) session.old (script_lines script.now) }
+    ensures fault { IsErrOf result Stopped.Failed → Rose (K.faults sink.old) (K.faults sink.new) }
+{
+    let mut rest = script;
+    loop {
+        let (piece, after) = cut_line(rest);
+        let line = line(piece, after.is_some());
+        if is_run_line(line) {
+            return reply_all(session, rest, sink);
+        }
+        carry_out(session, line)?;
+        match after {
+            Some(next) => rest = next,
+            None => return Ok(()),
+        }
+    }
+}
