@@ -8,6 +8,7 @@
 
 pub mod access;
 pub mod boxed;
+pub mod call;
 pub mod copies;
 pub mod fault;
 pub mod forest;

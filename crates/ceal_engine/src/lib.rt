@@ -6,7 +6,6 @@
 #![tactic(auto)]
 
 mod activation;
-pub mod call;
 mod commands;
 pub mod engine;
 mod evaluate;
