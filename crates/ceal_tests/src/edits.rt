@@ -1,183 +1,26 @@
 // Whether a call may be run and edited, and the first trace of a call with its repair.
 
-ghost use Rattle.std.specs.Prelude.{◌≡◌, true, map, slice_get, is_some, IsTrue, ◌∷◌, []};
+ghost use Rattle.std.specs.Prelude.{◌≡◌, true, map, slice_get, IsTrue, ◌∷◌, []};
 ghost use Rattle.std.specs.List.{list_all};
-ghost use Rattle.std.specs.Option.{option_map};
-ghost use Rattle.ceal_base.specs.Access.{pointed, is_struct};
-ghost use Rattle.ceal_base.specs.Block.{block_at};
-ghost use Rattle.ceal_base.specs.Fitting.{kind_at, is_int_cell, is_pointer_cell, fits_kind, fits_field, words_fit, fields_fit, block_fits, inputs_fit};
+ghost use Rattle.ceal_base.specs.Block.{alone};
+ghost use Rattle.ceal_base.specs.Fitting.{block_fits, inputs_fit};
 ghost use Rattle.ceal_base.specs.Shapes.{kinds_of_shape, kind_of_field};
-ghost use Rattle.ceal_base.specs.declared.word.Word.TheVariants.{Block as BlockWord};
 ghost use Rattle.ceal_code.specs.Fitting.{Fits, args_fit};
 ghost use Rattle.ceal_code.specs.Replay.{plain_words, plain_block};
 ghost use Rattle.ceal_adjust.specs.Adjust.{Extended};
-ghost use Rattle.ceal_tests.specs.Alone.{alone};
 
 use ceal_adjust::adjust::{Adjusted, adjust, first_forest};
-use ceal_base::kind::{FieldKind, Kind, Shape};
+use ceal_adjust::laws::first_law;
+use ceal_base::fitting::{new_block_fits, words_fit};
+use ceal_base::kind::{FieldKind, Shape};
 use ceal_base::memory::{BlockWords, Inputs};
 use ceal_base::no_memory::NoMemory;
 use ceal_base::typed::{FieldInfo, StructInfo};
-use ceal_base::word::{BlockId, Place, Word};
+use ceal_base::word::Word;
 use ceal_code::code::Code;
 use ceal_code::function::FunctionCode;
 use ceal_code::validate::validate;
 use std::alloc::Global;
-
-fn block(inputs: &Inputs, id: BlockId) -> Option<&BlockWords>
-    ensures { option_map (λ b. b.now) result ≡ block_at (alone inputs.now) id }
-{
-    match id {
-        BlockId::Input(n) => inputs.items().get(n as usize),
-        BlockId::Core(_) => None,
-    }
-}
-
-/// The type of a field of a block of this shape, where there is one.
-fn field_kind(structs: &[StructInfo], shape: Shape, field: u32) -> Option<FieldKind>
-    ensures { result ≡ slice_get (kinds_of_shape structs.now shape) field }
-{
-    match shape {
-        Shape::Struct(number) => {
-            let info = structs.get(number as usize)?;
-            let field = info.fields.items().get(field as usize)?;
-            Some(field.kind)
-        }
-        Shape::ModInt if field == 0 => Some(FieldKind::CellInt),
-        Shape::ModInt => None,
-        Shape::ModPtr(number) if field == 0 => Some(FieldKind::CellPtr(number)),
-        Shape::ModPtr(_) => None,
-    }
-}
-
-fn place_kind(structs: &[StructInfo], inputs: &Inputs, place: Place) -> Option<FieldKind>
-    ensures { result ≡ kind_at structs.now (alone inputs.now) place }
-{
-    let block = block(inputs, place.block)?;
-    field_kind(structs, block.shape, place.field)
-}
-
-fn is_of_struct(shape: Shape, number: u32) -> bool
-    ensures { result ≡ is_struct number shape }
-{
-    match shape {
-        Shape::Struct(n) => number == n,
-        Shape::ModInt => false,
-        Shape::ModPtr(_) => false,
-    }
-}
-
-fn points_to(inputs: &Inputs, number: u32, id: BlockId) -> bool
-    ensures { result ≡ is_some (pointed (alone inputs.now) number (BlockWord id)) }
-{
-    match block(inputs, id) {
-        None => false,
-        Some(block) => is_of_struct(block.shape, number),
-    }
-}
-
-fn is_int(kind: Option<FieldKind>) -> bool
-    ensures { result ≡ is_int_cell kind }
-{
-    match kind {
-        Some(FieldKind::CellInt) => true,
-        Some(FieldKind::Plain(_)) => false,
-        Some(FieldKind::CellPtr(_)) => false,
-        None => false,
-    }
-}
-
-fn is_pointer(number: u32, kind: Option<FieldKind>) -> bool
-    ensures { result ≡ is_pointer_cell number kind }
-{
-    match kind {
-        Some(FieldKind::CellPtr(n)) => number == n,
-        Some(FieldKind::Plain(_)) => false,
-        Some(FieldKind::CellInt) => false,
-        None => false,
-    }
-}
-
-fn word_fits(structs: &[StructInfo], inputs: &Inputs, kind: Kind, word: Word) -> bool
-    ensures { result ≡ fits_kind structs.now (alone inputs.now) kind word }
-{
-    match (kind, word) {
-        (Kind::Int, Word::Num(_)) => true,
-        (Kind::Ptr(_), Word::Null) => true,
-        (Kind::Ptr(number), Word::Block(id)) => points_to(inputs, number, id),
-        (Kind::ModInt, Word::Null) => true,
-        (Kind::ModInt, Word::At(place)) => is_int(place_kind(structs, inputs, place)),
-        (Kind::ModPtr(_), Word::Null) => true,
-        (Kind::ModPtr(number), Word::At(place)) => {
-            is_pointer(number, place_kind(structs, inputs, place))
-        }
-        _ => false,
-    }
-}
-
-fn field_fits(structs: &[StructInfo], inputs: &Inputs, kind: FieldKind, word: Word) -> bool
-    ensures { result ≡ fits_field structs.now (alone inputs.now) kind word }
-{
-    match kind {
-        FieldKind::Plain(kind) => word_fits(structs, inputs, kind, word),
-        FieldKind::CellInt => word_fits(structs, inputs, Kind::Int, word),
-        FieldKind::CellPtr(number) => word_fits(structs, inputs, Kind::Ptr(number), word),
-    }
-}
-
-/// Whether there is one word for each kind, which fits it.
-fn do_words_fit(structs: &[StructInfo], inputs: &Inputs, kinds: &[Kind], words: &[Word]) -> bool
-    ensures { IsTrue result → words_fit structs.now (alone inputs.now) kinds.now words.now ≡ true }
-{
-    let Some((kind, kinds)) = kinds.split_first() else {
-        return words.is_empty();
-    };
-    let Some((word, words)) = words.split_first() else {
-        return false;
-    };
-    word_fits(structs, inputs, *kind, *word) && do_words_fit(structs, inputs, kinds, words)
-}
-
-/// Whether there is one word for each field, which fits it.
-fn do_fields_fit(
-    structs: &[StructInfo],
-    inputs: &Inputs,
-    fields: &[FieldInfo],
-    words: &[Word],
-) -> bool
-    ensures { IsTrue result → fields_fit structs.now (alone inputs.now) (map kind_of_field fields.now) words.now ≡ true }
-{
-    let Some((field, fields)) = fields.split_first() else {
-        return words.is_empty();
-    };
-    let Some((word, words)) = words.split_first() else {
-        return false;
-    };
-    field_fits(structs, inputs, field.kind, *word) && do_fields_fit(structs, inputs, fields, words)
-}
-
-fn does_cell_fit(structs: &[StructInfo], inputs: &Inputs, kind: FieldKind, words: &[Word]) -> bool
-    ensures { IsTrue result → fields_fit structs.now (alone inputs.now) (kind ∷ []) words.now ≡ true }
-{
-    match words {
-        [word] => field_fits(structs, inputs, kind, *word),
-        _ => false,
-    }
-}
-
-fn does_block_fit(structs: &[StructInfo], inputs: &Inputs, block: &BlockWords) -> bool
-    ensures { IsTrue result → block_fits structs.now (alone inputs.now) block.now ≡ true }
-{
-    let words = block.items();
-    match block.shape {
-        Shape::Struct(number) => match structs.get(number as usize) {
-            None => false,
-            Some(info) => do_fields_fit(structs, inputs, info.fields.items(), words),
-        },
-        Shape::ModInt => does_cell_fit(structs, inputs, FieldKind::CellInt, words),
-        Shape::ModPtr(number) => does_cell_fit(structs, inputs, FieldKind::CellPtr(number), words),
-    }
-}
 
 fn do_blocks_fit(structs: &[StructInfo], inputs: &Inputs, blocks: &[BlockWords]) -> bool
     ensures { IsTrue result → list_all (block_fits structs.now (alone inputs.now)) blocks.now ≡ true }
@@ -185,7 +28,8 @@ fn do_blocks_fit(structs: &[StructInfo], inputs: &Inputs, blocks: &[BlockWords])
     match blocks.split_first() {
         None => true,
         Some((block, more)) => {
-            does_block_fit(structs, inputs, block) && do_blocks_fit(structs, inputs, more)
+            new_block_fits(structs, inputs, block.shape, block.items())
+                && do_blocks_fit(structs, inputs, more)
         }
     }
 }
@@ -205,7 +49,7 @@ fn do_args_fit(code: &Code, function: u32, args: &[Word], inputs: &Inputs) -> bo
         Some(found) => match found {
             FunctionCode::Init { .. } => false,
             FunctionCode::Core { params, .. } => {
-                do_words_fit(code.structs.items(), inputs, params.items(), args)
+                words_fit(code.structs.items(), inputs, params.items(), args)
             }
         },
     }
@@ -314,6 +158,7 @@ pub(crate) fn repaired(
     if !is_edit(code, before, after) {
         return Ok(None);
     }
+    first_law();
     let first = first_forest(alloc, code, function, args, before, fuel)?;
     let Adjusted::Done { forest, work } = first else {
         return Ok(None);

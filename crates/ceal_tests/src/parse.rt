@@ -2,7 +2,7 @@
 // back.
 
 ghost use Rattle.std.specs.Prelude.{IfOk};
-ghost use Rattle.ceal_parse.specs.Print.{IsParsed};
+ghost use Rattle.ceal_print.specs.Print.{IsParsed};
 
 use crate::samples::EVAL;
 use ceal_base::syntax::Tree;
@@ -10,7 +10,7 @@ use ceal_base::text::Text;
 use ceal_lex::lex::lex;
 use ceal_lex::split::split;
 use ceal_parse::parse::parse;
-use ceal_parse::print::print_tree;
+use ceal_print::print::print_tree;
 use std::alloc::Global;
 use std::test::Fail;
 
