@@ -14,11 +14,10 @@ use Rattle.ceal_code.specs.Program.{Code}
 use Rattle.ceal_code.specs.Replay.{Yields, count, core_numbers}
 use Rattle.ceal_code.specs.Step.{Stack}
 use Rattle.ceal_code.specs.Value.{Plain}
-use Rattle.ceal_adjust.proofs.Found.{first-law}
 use Rattle.ceal_adjust.specs.Adjust.{Extended}
 use Rattle.ceal_adjust.specs.Answers.{IsRepair}
 use Rattle.ceal_adjust.specs.Computed.{Repaired, first_of}
-use Rattle.ceal_adjust.specs.Laws.{Edited, First_trace, First_outcome, numbers}
+use Rattle.ceal_adjust.specs.Laws.{Edited, First_law, First_trace, First_outcome, numbers}
 
 -- each block has a step of its own
 blocks-steps : {code : Code} {x : Plain} {st : Stack} {l : Trace} → Yields code x st l → length (blocks_of l) ≤ steps_of l
@@ -53,10 +52,10 @@ module _ (code : Code) (inputs : List Block) (f : ℕ) (args : List Word) where
       subst (λ a. First_trace code inputs f args a r) (some-same b a e) (subst (λ r. First_trace code inputs f args b r) (some-same s r g) t)
 
   -- a first trace is one that may be edited, and no block has a number from its work on
-  pub first-edited : (new : List Block) (n : ℕ) (forest : List Item) (work : ℕ) → Fits code inputs f args → inputs_fit code.structs new ≡ true → Extended code inputs new
+  pub first-edited : First_law → (new : List Block) (n : ℕ) (forest : List Item) (work : ℕ) → Fits code inputs f args → inputs_fit code.structs new ≡ true → Extended code inputs new
       → IsRepair forest work (first_of code inputs n f args) (fresh code f args inputs n) → (l : Trace) × (forest ≡ flat l) × Edited code inputs new f args l work
-  first-edited new n forest work fits fit more h =
-      let t = first-told (record { items = h.items; work = work }) h.finished (first-law code inputs f args fits n) h.same h.ends in
+  first-edited law new n forest work fits fit more h =
+      let t = first-told (record { items = h.items; work = work }) h.finished (law code inputs f args fits n) h.same h.ends in
       let few : h.finished.blocks ≤ work = omega (arith, blocks-steps t.replays.yields, all-core t.replays.yields, ap length t.blocks, length-numbers 0 h.finished.blocks, t.work, t.steps) in (
         h.items,
         h.flat_form,

@@ -1,8 +1,5 @@
 // The programs of the tests, and what the compiler makes of them.
 
-ghost use Rattle.std.specs.Prelude.{IfOk};
-ghost use Rattle.ceal_compile.specs.Compiled.{IsCompiled};
-
 use ceal_base::no_memory::NoMemory;
 use ceal_compile::compile::compile;
 use ceal_compile::program::Program;
@@ -136,7 +133,6 @@ ceal eval(mod struct node *root, mod int *res) {
 
 /// The program of a source that is not longer than an input may be, and that has no fault.
 pub(crate) fn compiled(alloc: Global, source: &[u8]) -> Result<Program, Fail>
-    ensures { IfOk result IsCompiled }
 {
     if source.len() > 4_194_304 {
         return Err(Fail::from("too long a source"));
