@@ -1,2 +1,1 @@
 mod FirstEdit
-mod Slots

@@ -1,5 +1,7 @@
-//! The tests of all crates that take public calls alone: a module for each crate, and `samples` with the programs that
-//! several of them run. No crate stands on this one. What is one whole input with its answer is a row of ceal_rows.
+//! The tests that take public calls alone, of all crates but the runtime's containers (ceal_runtime_tests). A module
+//! has the tests of one crate. `samples` has the programs that several of them run, `inputs` their input blocks,
+//! `edits` decides whether a call may be run and edited, and `told` writes a trace as text. No crate stands on this one.
+//! What is one whole input with its answer is no test but a row of ceal_rows.
 #![tactic(auto)]
 
 #[cfg(test)]
@@ -23,15 +25,7 @@ mod live;
 #[cfg(test)]
 mod mean;
 #[cfg(test)]
-mod memo;
-#[cfg(test)]
-mod mods;
-#[cfg(test)]
-mod order;
-#[cfg(test)]
 mod parse;
-#[cfg(test)]
-mod queue;
 #[cfg(test)]
 mod samples;
 #[cfg(test)]
@@ -39,10 +33,6 @@ mod script;
 #[cfg(test)]
 mod told;
 #[cfg(test)]
-mod trace;
-#[cfg(test)]
 mod types;
-#[cfg(test)]
-mod words;
 #[cfg(test)]
 mod workloads;

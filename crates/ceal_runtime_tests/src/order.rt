@@ -1,11 +1,12 @@
-// Orders against plain lists.
+// Orders against plain lists, and a list of stamps by time.
 
 ghost use Rattle.std.specs.Prelude.{IsTrue};
 ghost use Rattle.ceal_order.specs.Stamps.{is_in};
 
-use ceal_order::order::Order;
-use ceal_order::stamp::Stamp;
 use ceal_base::no_memory::NoMemory;
+use ceal_order::order::Order;
+use ceal_order::rising::Rising;
+use ceal_order::stamp::Stamp;
 use std::alloc::Global;
 use std::test::Fail;
 
@@ -120,5 +121,27 @@ fn at_random_as_a_list(rt: HostRuntime) -> Result<(), Fail> {
         assert!(rt; stamps == list, "among {places}");
         assert!(rt; is_rising(&order), "among {places}");
     }
+    Ok(())
+}
+
+#[test]
+fn in_and_out_by_time(rt: HostRuntime) -> Result<(), Fail> {
+    let alloc = rt.alloc();
+    let mut order = Order::new(alloc)?;
+    order.reserve(2)?;
+    let first = order.first();
+    let third = order.insert_after(first);
+    let second = order.insert_after(first);
+    let mut rising = Rising::new(alloc);
+    assert_eq!(rt; rising.insert(&order, third)?, 0);
+    assert_eq!(rt; rising.insert(&order, first)?, 0);
+    assert_eq!(rt; rising.insert(&order, second)?, 1);
+    assert_eq!(rt; rising.count_before(&order, third), 2);
+    assert_eq!(rt; rising.first_after(&order, first), Some(second));
+    assert_eq!(rt; rising.first_after(&order, third), None);
+    assert_eq!(rt; rising.remove(&order, second), 1);
+    rising.take_out(first);
+    assert_eq!(rt; rising.first_after(&order, first), Some(third));
+    assert!(rt; !rising.is_empty());
     Ok(())
 }
