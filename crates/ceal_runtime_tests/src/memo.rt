@@ -1,11 +1,11 @@
-// A few entries.
+// Memo tables with a few entries.
 
-use ceal_memo::key::ReadKey;
-use ceal_memo::memo::Memo;
 use ceal_base::forest::{Key, UnitId};
 use ceal_base::no_memory::NoMemory;
 use ceal_base::word::{BlockId, Place, Word};
 use ceal_base::words::Words;
+use ceal_memo::key::ReadKey;
+use ceal_memo::memo::Memo;
 use ceal_order::order::Order;
 use std::alloc::Global;
 use std::test::Fail;

@@ -1,8 +1,8 @@
 // The queue against a plain list.
 
-use ceal_queue::stale::Stale;
 use ceal_order::order::Order;
 use ceal_order::stamp::Stamp;
+use ceal_queue::stale::Stale;
 use std::test::Fail;
 
 #[test]

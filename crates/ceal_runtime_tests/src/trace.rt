@@ -3,13 +3,13 @@
 ghost use Rattle.std.specs.Prelude.{◌≡◌, ◌≤◌, ◌+◌, IsTrue, IfOk, OnOk};
 ghost use Rattle.ceal_trace.specs.Nodes.{has_node, NoLooseEnd};
 
-use ceal_trace::node::Node;
-use ceal_trace::trace::Trace;
 use ceal_base::forest::{Key, UnitId};
 use ceal_base::no_memory::NoMemory;
 use ceal_base::word::{BlockId, Place, Word};
 use ceal_base::words::Words;
 use ceal_order::stamp::Stamp;
+use ceal_trace::node::Node;
+use ceal_trace::trace::Trace;
 use std::alloc::Global;
 use std::test::Fail;
 

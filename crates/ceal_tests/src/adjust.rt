@@ -127,7 +127,12 @@ work 10
 /// The list 1, 2, 3 with another cell before it.
 fn with_a_first_cell(alloc: Global) -> Result<Inputs, NoMemory> {
     let mut after = list(alloc, &[1, 2, 3])?;
-    add(alloc, &mut after, Shape::Struct(0), &[Word::Num(0), input(2)])?;
+    add(
+        alloc,
+        &mut after,
+        Shape::Struct(0),
+        &[Word::Num(0), input(2)],
+    )?;
     after.set(0, 0, input(5));
     Ok(after)
 }
@@ -207,7 +212,12 @@ work 17
 fn a_stale_read_inside_a_taken_one(rt: HostRuntime) -> Result<(), Fail> {
     let alloc = rt.alloc();
     let mut after = with_a_first_cell(alloc)?;
-    add(alloc, &mut after, Shape::Struct(0), &[Word::Num(4), Word::Null])?;
+    add(
+        alloc,
+        &mut after,
+        Shape::Struct(0),
+        &[Word::Num(4), Word::Null],
+    )?;
     after.set(4, 1, input(6));
     let told = of_map(alloc, &after, 100)?;
     let (_, second) = told.ok_or("it may not be run")?;

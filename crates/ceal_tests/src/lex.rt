@@ -1,10 +1,10 @@
 // Where worked inputs are split, and which tokens they have.
 
+use ceal_base::fault::Span;
+use ceal_base::text::Text;
 use ceal_lex::lex::lex;
 use ceal_lex::split::split;
 use ceal_lex::token::{Reserved, Sign, Token, TokenKind};
-use ceal_base::fault::Span;
-use ceal_base::text::Text;
 use std::test::Fail;
 
 #[test]

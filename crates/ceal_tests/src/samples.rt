@@ -132,8 +132,7 @@ ceal eval(mod struct node *root, mod int *res) {
 ";
 
 /// The program of a source that is not longer than an input may be, and that has no fault.
-pub(crate) fn compiled(alloc: Global, source: &[u8]) -> Result<Program, Fail>
-{
+pub(crate) fn compiled(alloc: Global, source: &[u8]) -> Result<Program, Fail> {
     if source.len() > 4_194_304 {
         return Err(Fail::from("too long a source"));
     }
