@@ -1,6 +1,6 @@
 // Code that is valid, and code by hand that is not.
 
-use crate::samples::{INC, MAP, compiled, repeated};
+use crate::samples::{INC, MAP, compiled};
 use ceal_base::boxed::Boxed;
 use ceal_base::copies::copied_structs;
 use ceal_base::forest::UnitId;
@@ -75,9 +75,13 @@ fn kinds(alloc: Global, list: &[Kind]) -> Result<Kinds, NoMemory> {
     Ok(Kinds::new(Vec::from_slice(alloc, list)?))
 }
 
+fn commands<const N: usize>(alloc: Global, commands: [Cmd; N]) -> Result<Vec<Cmd>, NoMemory> {
+    let commands = Vec::from_array(alloc, commands)?;
+    Ok(commands)
+}
+
 /// A unit of the function that takes both parameters.
-fn unit<const N: usize>(alloc: Global, body: [Cmd; N]) -> Result<Unit, NoMemory> {
-    let body = Vec::from_array(alloc, body)?;
+fn unit(alloc: Global, body: Vec<Cmd>) -> Result<Unit, NoMemory> {
     let params = Vec::from_slice(alloc, &[VarId(0), VarId(1)])?;
     Ok(Unit::new(0, params, body))
 }
@@ -99,18 +103,25 @@ fn function(alloc: Global) -> Result<Code, Fail> {
 }
 
 /// Whether the function is valid with this body in unit 0, where unit 1 is done.
-fn is_valid<const N: usize>(alloc: Global, body: [Cmd; N]) -> Result<bool, Fail> {
+fn is_valid(alloc: Global, body: Vec<Cmd>) -> Result<bool, Fail> {
     let first = unit(alloc, body)?;
+    let second = unit(alloc, commands(alloc, [Cmd::Done])?)?;
     let mut code = function(alloc)?;
     code.push_units(first)?;
-    code.push_units(unit(alloc, [Cmd::Done])?)?;
+    code.push_units(second)?;
     let ok = validate(alloc, &code)?;
     Ok(ok)
 }
 
+/// Whether it is valid with these commands.
+fn are_right<const N: usize>(alloc: Global, body: [Cmd; N]) -> Result<bool, Fail> {
+    let body = commands(alloc, body)?;
+    is_valid(alloc, body)
+}
+
 /// Whether it is valid with this command before the end.
 fn is_right(alloc: Global, command: Cmd) -> Result<bool, Fail> {
-    is_valid(alloc, [command, Cmd::Done])
+    are_right(alloc, [command, Cmd::Done])
 }
 
 #[test]
@@ -161,7 +172,7 @@ fn is_valid_on_the_other_branch(alloc: Global, value: CodeExpr) -> Result<bool, 
         write(variable(0), value),
         Cmd::Done,
     ];
-    is_valid(alloc, body)
+    are_right(alloc, body)
 }
 
 #[test]
@@ -171,29 +182,26 @@ fn paths(rt: HostRuntime) -> Result<(), Fail> {
     assert!(rt; !is_valid_on_the_other_branch(alloc, variable(2))?);
     assert!(rt; is_valid_on_the_other_branch(alloc, CodeExpr::Num(2))?);
     // a jump backwards, an index that is not there, and a command that nothing reaches
-    assert!(rt; !is_valid(alloc, [branch(0, 1)])?);
-    assert!(rt; !is_valid(alloc, [Cmd::Tick])?);
-    assert!(rt; !is_valid(alloc, [Cmd::Done, Cmd::Done])?);
+    assert!(rt; !are_right(alloc, [branch(0, 1)])?);
+    assert!(rt; !are_right(alloc, [Cmd::Tick])?);
+    assert!(rt; !are_right(alloc, [Cmd::Done, Cmd::Done])?);
     // a tail before any step, and one behind a step
-    assert!(rt; !is_valid(alloc, [tail(alloc, 1, &[0, 1])?])?);
-    assert!(rt; is_valid(alloc, [Cmd::Tick, tail(alloc, 1, &[0, 1])?])?);
+    assert!(rt; !are_right(alloc, [tail(alloc, 1, &[0, 1])?])?);
+    assert!(rt; are_right(alloc, [Cmd::Tick, tail(alloc, 1, &[0, 1])?])?);
     // an argument too few, and a unit that is not there
-    assert!(rt; !is_valid(alloc, [Cmd::Tick, tail(alloc, 1, &[0])?])?);
-    assert!(rt; !is_valid(alloc, [Cmd::Tick, tail(alloc, 2, &[])?])?);
+    assert!(rt; !are_right(alloc, [Cmd::Tick, tail(alloc, 1, &[0])?])?);
+    assert!(rt; !are_right(alloc, [Cmd::Tick, tail(alloc, 2, &[])?])?);
     Ok(())
 }
 
 #[test]
 fn many_commands(rt: HostRuntime) -> Result<(), Fail> {
     let alloc = rt.alloc();
-    let source = repeated(
-        alloc,
-        b"ceal f(mod int *m) { ",
-        b"write(m, 1); ",
-        65_534,
-        b"}\n%%\n",
-    )?;
-    let program = compiled(alloc, source.as_slice())?;
-    assert!(rt; validate(alloc, &program.code)?);
+    let mut body = Vec::new(alloc);
+    for _ in 0..65_534 {
+        body.push(write(variable(0), CodeExpr::Num(1)))?;
+    }
+    body.push(Cmd::Done)?;
+    assert!(rt; is_valid(alloc, body)?);
     Ok(())
 }

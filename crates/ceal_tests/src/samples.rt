@@ -1,6 +1,5 @@
 // The programs of the tests, and what the compiler makes of them.
 
-use ceal_base::no_memory::NoMemory;
 use ceal_compile::compile::compile;
 use ceal_compile::program::Program;
 use std::alloc::Global;
@@ -138,20 +137,4 @@ pub(crate) fn compiled(alloc: Global, source: &[u8]) -> Result<Program, Fail> {
     }
     let program = compile(alloc, source)?;
     Ok(program)
-}
-
-/// The text with the piece so many times in the middle.
-pub(crate) fn repeated(
-    alloc: Global,
-    before: &[u8],
-    piece: &[u8],
-    count: u32,
-    after: &[u8],
-) -> Result<Vec<u8>, NoMemory> {
-    let mut text = Vec::from_slice(alloc, before)?;
-    for _ in 0..count {
-        text.extend_from_slice(piece)?;
-    }
-    text.extend_from_slice(after)?;
-    Ok(text)
 }
