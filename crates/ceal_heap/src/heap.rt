@@ -127,7 +127,7 @@ impl Heap {
         match self.table.release_one() {
             None => false,
             Some(held) => {
-                self.pieces.give(held.slot);
+                self.pieces.give(held.into_slot());
                 true
             }
         }

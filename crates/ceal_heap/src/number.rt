@@ -17,6 +17,14 @@ pub struct Held {
     pub fields: u32,
 }
 
+impl Held {
+    pub fn into_slot(self) -> Slot
+        ensures { result ≡ self.slot }
+    {
+        self.slot
+    }
+}
+
 /// How a number stands.
 #[derive(Drop)]
 pub enum State {
