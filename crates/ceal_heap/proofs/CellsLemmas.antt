@@ -1,11 +1,11 @@
 -- The words of cells, two by two.
-use Rattle.std.proofs.Common.{◌≡◌, ◌≢◌, ℕ, zero, suc, ◌+◌, ◌*◌, ◌<◌, ◌≤◌, List, [], ◌∷◌, ◌++◌, length, get_or, set, take, Option, Some, None, refl, sym, ap, ◌∙◌, subst, arith, slice_get, cond, Bool, inl, inr}
-use Rattle.std.proofs.lemmas.List.{length-set, take_all, take_more_set, take-set, take_more, get_or_default}
+use Rattle.std.proofs.Common.{◌≡◌, ℕ, zero, suc, ◌+◌, ◌*◌, ◌<◌, ◌≤◌, List, [], ◌∷◌, ◌++◌, length, get_or, set, take, Option, Some, None, refl, sym, ap, ◌∙◌, subst, arith, slice_get, cond, Bool}
+use Rattle.std.proofs.lemmas.List.{take_all, take_more_set, take_more}
 use Rattle.std.proofs.lemmas.Option.{none-some, same_Some}
-use Rattle.std.proofs.lemmas.Bool.{cases_eq, eq-eqb, ne_eqb}
+use Rattle.std.proofs.lemmas.Bool.{ne_eqb}
 use Rattle.ceal_base.specs.declared.word.Word.{Word}
 use Rattle.ceal_words.specs.SizeClass.{SizeClass, changed}
-use Rattle.ceal_words.specs.Region.{words_of, KeepsOthers}
+use Rattle.ceal_words.specs.Region.{KeepsOthers}
 use Rattle.ceal_words.specs.declared.slot.Slot.{Slot}
 use Rattle.ceal_heap.specs.Cells.{word_of, words_in, words_read, cells_held, cell_count}
 

@@ -1,19 +1,21 @@
 -- What a change of the table and of the region makes of a heap.
-use Rattle.std.proofs.Common.{◌≡◌, ◌≢◌, ℕ, zero, suc, ◌+◌, ◌*◌, ◌<◌, ◌≤◌, List, [], ◌∷◌, ◌++◌, length, set, Bool, true, false, Option, Some, None, IsSome, refl, sym, ap, ◌∙◌, subst, inl, inr, ◌⊎◌, ⊎_elim, arith, slice_get, rules, IfSome, get_or}
+use Rattle.std.proofs.Common.{◌≡◌, ◌≢◌, ℕ, zero, suc, ◌+◌, ◌≤◌, List, [], ◌∷◌, ◌++◌, length, Option, Some, None, IsSome, refl, sym, ap, ◌∙◌, subst, inl, inr, ◌⊎◌, ⊎_elim, arith, slice_get, rules, IfSome, pos}
+use Rattle.std.specs.Option.{option_map}
 use Rattle.std.proofs.lemmas.List.{get_or_past}
 use Rattle.std.proofs.lemmas.Option.{none-some, same_Some, slice_get_past}
 use Rattle.std.proofs.lemmas.Bool.{cases_eq, false≢true}
-use Rattle.ceal_base.specs.declared.forest.Key.{Key}
 use Rattle.ceal_base.specs.declared.kind.Shape.{Shape}
 use Rattle.ceal_base.specs.declared.word.BlockId.{BlockId}
 use Rattle.ceal_base.specs.declared.word.BlockId.TheVariants.{Input, Core}
+use Rattle.ceal_base.specs.Block.{Block}
 use Rattle.ceal_base.specs.declared.word.Word.{Word}
+use Rattle.ceal_base.specs.declared.word.Word.TheVariants.{Num}
 use Rattle.ceal_words.specs.Region.{words_of, KeepsAll, KeepsOthers}
 use Rattle.ceal_words.specs.SizeClass.{SizeClass}
 use Rattle.ceal_words.specs.declared.slot.Slot.{Slot}
 use Rattle.ceal_heap.specs.Cells.{words_read, cells_held, cell_count}
-use Rattle.ceal_heap.specs.Table.{held_in, held_of, held_at, state_is_live, is_live, is_revoked, state_is_revoked, one_if, tally, IsLiveAt, NoneFree, NoneRevoked, Reuses, Adds, GivesOut, Revokes, Releases}
-use Rattle.ceal_heap.specs.Heap.{Contents, Known, Standing, Unused, Live, Revoked, Released, known_in, state_standing, number_standing, standing, known, block_of, live_count, next, revoked, released, IsLive, IsMade, IsFreeFor, KeepsBlocks, IsUnchanged, HasSlots, IsNew, number_of, IsKept}
+use Rattle.ceal_heap.specs.Table.{held_in, held_of, held_at, is_live, is_revoked, tally, IsLiveAt, NoneFree, NoneRevoked, Reuses, Adds, GivesOut, Revokes, Releases}
+use Rattle.ceal_heap.specs.Heap.{Contents, Known, Live, Revoked, Released, known_in, state_standing, number_standing, standing, known, block_of, plain_block, plain_of, word_at, revoked, released, IsLive, IsMade, IsFreeFor, KeepsBlocks, IsUnchanged, HasSlots, number_of, IsKept}
 use Rattle.ceal_heap.specs.declared.number.Held.{Held}
 use Rattle.ceal_heap.specs.declared.number.Number.{Number}
 use Rattle.ceal_heap.specs.declared.number.State.{State}
@@ -32,12 +34,12 @@ not_none o some none = false≢true (subst IsSome none some)
 slot_cases : (a b : Slot) → (a ≡ b) ⊎ (a ≢ b)
 slot_cases a b = ⊎_elim
     (λ chunk. ⊎_elim
-      (λ at. ⊎_elim
-        (λ len. inl (λ i. record { chunk = chunk i; at = at i; len = len i }))
-        (λ apart. inr (λ e. apart (ap (λ (s : Slot). s.len) e)))
-        (cases_eq a.len b.len))
-      (λ apart. inr (λ e. apart (ap (λ (s : Slot). s.at) e)))
-      (cases_eq a.at b.at))
+    (λ at. ⊎_elim
+    (λ len. inl (λ i. record { chunk = chunk i; at = at i; len = len i }))
+    (λ apart. inr (λ e. apart (ap (λ (s : Slot). s.len) e)))
+    (cases_eq a.len b.len))
+    (λ apart. inr (λ e. apart (ap (λ (s : Slot). s.at) e)))
+    (cases_eq a.at b.at))
     (λ apart. inr (λ e. apart (ap (λ (s : Slot). s.chunk) e)))
     (cases_eq a.chunk b.chunk)
 
@@ -81,21 +83,25 @@ module _ (held : ℕ → Option Held) (region : List SizeClass) (kept : IsKept h
           (cases_eq m n);
       one = λ a b x y first second slots. ⊎_elim
           (λ e. ⊎_elim
-            (λ f. e ∙ sym f)
-            (λ other. absurd (apart b y (sym (others b other) ∙ second) (sym slots ∙ ap (λ (z : Held). z.slot) (sym (same_Some h x (sym here ∙ ap held' (sym e) ∙ first))))))
-            (cases_eq b n))
+          (λ f. e ∙ sym f)
+          (λ other. absurd (apart b y (sym (others b other) ∙ second) (sym slots ∙ ap (λ (z : Held). z.slot) (sym (same_Some h x (sym here ∙ ap held' (sym e) ∙ first))))))
+          (cases_eq b n))
           (λ other. ⊎_elim
-            (λ f. absurd (apart a x (sym (others a other) ∙ first) (slots ∙ ap (λ (z : Held). z.slot) (sym (same_Some h y (sym here ∙ ap held' (sym f) ∙ second))))))
-            (λ another. kept.one a b x y (sym (others a other) ∙ first) (sym (others b another) ∙ second) slots)
-            (cases_eq b n))
+          (λ f. absurd (apart a x (sym (others a other) ∙ first) (slots ∙ ap (λ (z : Held). z.slot) (sym (same_Some h y (sym here ∙ ap held' (sym f) ∙ second))))))
+          (λ another. kept.one a b x y (sym (others a other) ∙ first) (sym (others b another) ∙ second) slots)
+          (cases_eq b n))
           (cases_eq a n);
       all = λ slot some. ⊎_elim
           (λ e. (n, h, here, sym e))
-          (λ other. let found = kept.all slot (subst IsSome (keeps slot other) some) in
-            (found.0, found.1, ⊎_elim
-              (λ e. absurd (none-some found.1 (sym none ∙ ap held (sym e) ∙ found.2)))
-              (λ away. others found.0 away ∙ found.2)
-              (cases_eq found.0 n), found.3))
+          (λ other. let found = kept.all slot (subst IsSome (keeps slot other) some) in (
+            found.0,
+            found.1,
+            ⊎_elim
+                (λ e. absurd (none-some found.1 (sym none ∙ ap held (sym e) ∙ found.2)))
+                (λ away. others found.0 away ∙ found.2)
+                (cases_eq found.0 n),
+            found.3,
+          ))
           (slot_cases slot h.slot);
     }
 
@@ -322,11 +328,11 @@ module _ (before after : List Number) (region region' : List SizeClass) (h : Hel
   release_each kept gone keeps (Input m) = refl
   release_each kept gone keeps (Core m) = ⊎_elim
       (λ e. ap (λ (k : ℕ). released (number_standing region' (slice_get after k))) e ∙ ap (λ (o : Option Number). released (number_standing region' o)) released_here
-        ∙ sym (ap (λ (k : ℕ). released (number_standing region (slice_get before k))) e ∙ ap (λ (o : Option Number). released (number_standing region o)) is.2))
+      ∙ sym (ap (λ (k : ℕ). released (number_standing region (slice_get before k))) e ∙ ap (λ (o : Option Number). released (number_standing region o)) is.2))
       (λ other. ap released (others_same before after region region' is.0 released_there
-        (λ k x apart some. keeps x.slot (away (held_at before) region kept (held_at after) region' is.0 h (ap held_of is.2) (ap held_of released_here)
-          (λ m other. ap held_of (released_there m other)) gone keeps k x apart some))
-        (Core m) (λ e. other (ap number_of e))))
+      (λ k x apart some. keeps x.slot (away (held_at before) region kept (held_at after) region' is.0 h (ap held_of is.2) (ap held_of released_here)
+      (λ m other. ap held_of (released_there m other)) gone keeps k x apart some))
+      (Core m) (λ e. other (ap number_of e))))
       (cases_eq m is.0)
 
   pub release_fewer : tally is_revoked after + 1 ≡ tally is_revoked before
@@ -352,16 +358,20 @@ pub all_stay : (c : Contents) → NoneRevoked c.numbers → (b : BlockId) → st
 all_stay c none (Input n) = refl
 all_stay c none (Core n) = number_stays c.region (slice_get c.numbers n) (none n)
 
--- a block has as many words as were written
-pub if_some : {X : Type 0} (o : Option X) (P : X → Type 0) → ((x : X) → o ≡ Some x → P x) → IfSome o P
-if_some None P all = tt
-if_some (Some x) P all = all x refl
-
-pub words_past : (c : Contents) (b : BlockId) (h : Held) (i : ℕ) (d : Word) → IsKept (held_at c.numbers) c.region → held_at c.numbers (number_of b) ≡ Some h → h.fields ≤ i
-    → (block : Known) → block_of c b ≡ Some block → d ≡ get_or block.words i d
-words_past c b h i d kept held past block some =
+words_past : (c : Contents) (b : BlockId) (h : Held) (i : ℕ) → IsKept (held_at c.numbers) c.region → held_at c.numbers (number_of b) ≡ Some h → h.fields ≤ i
+    → (block : Known) → block_of c b ≡ Some block → Num (pos 0) ≡ word_at block.words i
+words_past c b h i kept held past block some =
     let found = (found_at c b block some).1 in
     let same : found.1 ≡ h = same_Some found.1 h (sym (ap held_of found.2 ∙ found.3) ∙ held) in
     let words = ap (λ (k : Known). k.words) found.4 ∙ ap (λ (x : Held). words_read (words_of c.region x.slot)) same in
     let long = ap length words ∙ length_read (words_of c.region h.slot) h.fields (kept.cells (number_of b) h held) in
-    sym (get_or_past block.words i d (omega (arith, long, past)))
+    sym (get_or_past block.words i (Num (pos 0)) (omega (arith, long, past)))
+
+if_plain : (o : Option Known) (P : Block → Type 0) → ((k : Known) → o ≡ Some k → P (plain_block k)) → IfSome (option_map plain_block o) P
+if_plain None P all = tt
+if_plain (Some k) P all = all k refl
+
+-- past the words of a block each word is 0
+pub none_past : (c : Contents) (b : BlockId) (h : Held) (i : ℕ) → IsKept (held_at c.numbers) c.region → held_at c.numbers (number_of b) ≡ Some h → h.fields ≤ i
+    → IfSome (plain_of c b) (λ block. Num (pos 0) ≡ word_at block.words i)
+none_past c b h i kept held past = if_plain (block_of c b) (λ block. Num (pos 0) ≡ word_at block.words i) (words_past c b h i kept held past)

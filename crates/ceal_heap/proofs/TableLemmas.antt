@@ -1,13 +1,13 @@
 -- A table stays sound as numbers are given out, revoked and released.
-use Rattle.std.proofs.Common.{◌≡◌, ◌≢◌, ℕ, zero, suc, ◌+◌, ◌-◌, ◌*◌, ◌<◌, ◌≤◌, ◌^◌, List, [], ◌∷◌, ◌++◌, length, set, get_or, Bool, true, false, Option, Some, None, refl, sym, ap, ◌∙◌, subst, inl, inr, ◌⊎◌, ⊎_elim, arith, slice_get}
+use Rattle.std.proofs.Common.{◌≡◌, ◌≢◌, ℕ, ◌+◌, ◌-◌, ◌<◌, ◌≤◌, ◌^◌, List, [], ◌∷◌, ◌++◌, length, set, get_or, Bool, true, false, Some, refl, sym, ap, ◌∙◌, subst, ⊎_elim, arith, slice_get}
 use Rattle.std.specs.Prelude.{◌==◌, ◌&&◌}
 use Rattle.std.proofs.lemmas.List.{length-set, length_push, get_or-set_same, get_or-set_other, get_or_past, get_or_read, get_or_append_left, get_or_push}
-use Rattle.std.proofs.lemmas.Option.{none-some, same_Some, slice_get_within, slice_get_read}
+use Rattle.std.proofs.lemmas.Option.{same_Some, slice_get_within, slice_get_read}
 use Rattle.std.proofs.lemmas.Bool.{cases_eq, cases_lt, eq-eqb, ne_eqb, eqb-true, false≢true}
 use Rattle.ceal_base.specs.declared.kind.Shape.{Shape}
 use Rattle.ceal_base.specs.declared.kind.Shape.TheVariants.{Struct, ModInt, ModPtr}
 use Rattle.ceal_heap.specs.Stack.{Pile}
-use Rattle.ceal_heap.specs.Table.{Ledger, shelf_of, state_is_live, state_is_revoked, state_is_released, is_live, is_revoked, is_shaped, is_released, one_if, tally, Tracks, bare, shelf_at, IsSound, HasRoom, SameShelves, NoneFree, NoneRevoked, held_in}
+use Rattle.ceal_heap.specs.Table.{Ledger, shelf_of, state_is_live, state_is_revoked, state_is_released, is_live, is_revoked, is_shaped, is_released, one_if, tally, Tracks, bare, shelf_at, IsSound, HasRoom, SameShelves, NoneFree, NoneRevoked}
 use Rattle.ceal_heap.specs.declared.number.Held.{Held}
 use Rattle.ceal_heap.specs.declared.number.Number.{Number}
 use Rattle.ceal_heap.specs.declared.number.State.{State}
@@ -84,10 +84,10 @@ pub more_shelves : (P : ℕ → Shelf → Type 0) (shelves : List Shelf) (s : Sh
 more_shelves P shelves s here others j = ⊎_elim
     (λ below. subst (P j) (sym (get_or_append_left shelves (s ∷ []) bare j below)) (others j))
     (λ past. ⊎_elim
-      (λ e. subst (λ (i : ℕ). P i (shelf_at (shelves ++ s ∷ []) i)) (sym e) (subst (P (length shelves)) (sym (get_or_push shelves s bare (length shelves) refl)) here))
-      (λ other. let long = length_push shelves s in
-        subst (P j) (get_or_past shelves j bare past ∙ sym (get_or_past (shelves ++ s ∷ []) j bare (omega (arith, past, other, long)))) (others j))
-      (cases_eq j (length shelves)))
+    (λ e. subst (λ (i : ℕ). P i (shelf_at (shelves ++ s ∷ []) i)) (sym e) (subst (P (length shelves)) (sym (get_or_push shelves s bare (length shelves) refl)) here))
+    (λ other. let long = length_push shelves s in
+    subst (P j) (get_or_past shelves j bare past ∙ sym (get_or_past (shelves ++ s ∷ []) j bare (omega (arith, past, other, long)))) (others j))
+    (cases_eq j (length shelves)))
     (cases_lt j (length shelves))
 
 -- the parts of a sound table
@@ -96,7 +96,7 @@ module _ (t : Ledger) (sound : IsSound t) where
   pub shelf_there : (n : ℕ) (x : Number) → slice_get t.numbers n ≡ Some x → shelf_of x.shape < length t.shelves
   shelf_there n x some = ⊎_elim (λ within. within)
       (λ past. let none = ap (λ (s : Shelf). s.made) (get_or_past t.shelves (shelf_of x.shape) bare past) in let made = sound.made (shelf_of x.shape) in
-        let one = tally_some (is_shaped (shelf_of x.shape)) t.numbers n x some (shaped (shelf_of x.shape) x refl) in absurd (omega (arith, none, made, one)))
+      let one = tally_some (is_shaped (shelf_of x.shape)) t.numbers n x some (shaped (shelf_of x.shape) x refl) in absurd (omega (arith, none, made, one)))
       (cases_lt (shelf_of x.shape) (length t.shelves))
 
   -- one with something on it is there
@@ -126,11 +126,12 @@ module _ (t : Ledger) (sound : IsSound t) where
       let s : Shelf = record { free = free; made = 0 } in
       subst (λ (ss : List Shelf). IsSound (record { numbers = t.numbers; room = room; limbo = t.limbo; shelves = ss; live = t.live })) (sym is)
       (roomier room t.limbo (t.shelves ++ s ∷ []) refl (omega arith)
-        (more_shelves (λ j z. (z.free.items ≡ (shelf_at t.shelves j).free.items) × (z.made ≡ (shelf_at t.shelves j).made)) t.shelves s
-          (items ∙ sym (ap (λ (z : Shelf). z.free.items) (get_or_past t.shelves (length t.shelves) bare (omega arith))),
-            sym (ap (λ (z : Shelf). z.made) (get_or_past t.shelves (length t.shelves) bare (omega arith))))
-          (λ j. (refl, refl)))
-        (more_shelves (λ j z. z.made ≤ z.free.room) t.shelves s (omega arith) sound.room))
+      (more_shelves (λ j z. (z.free.items ≡ (shelf_at t.shelves j).free.items) × (z.made ≡ (shelf_at t.shelves j).made)) t.shelves s (
+        items ∙ sym (ap (λ (z : Shelf). z.free.items) (get_or_past t.shelves (length t.shelves) bare (omega arith))),
+        sym (ap (λ (z : Shelf). z.made) (get_or_past t.shelves (length t.shelves) bare (omega arith))),
+      )
+      (λ j. (refl, refl)))
+      (more_shelves (λ j z. z.made ≤ z.free.room) t.shelves s (omega arith) sound.room))
 
   -- a number changes its state
   module _ (n : ℕ) (x y : Number) (some : slice_get t.numbers n ≡ Some x) (shape : y.shape ≡ x.shape) where
@@ -170,10 +171,10 @@ module _ (t : Ledger) (sound : IsSound t) where
         (tracks_keep is_revoked t.limbo.items t.numbers n x y sound.limbo some (ap state_is_revoked now ∙ sym (ap state_is_revoked was)))
         (omega arith)
         (at_shelf (λ j s. Tracks (is_released j) s.free.items (set t.numbers n y)) t.shelves k shelf inside
-          (tracks_out (is_released k) free.items t.numbers n x y (subst (λ (ns : List ℕ). Tracks (is_released k) ns t.numbers) items (sound.free k)) some
-            (held_unreleased k y (ap state_is_released now)))
-          (λ j other. tracks_keep (is_released j) (shelf_at t.shelves j).free.items t.numbers n x y (sound.free j) some
-            (unshaped j y (λ e. other (sym e ∙ ap shelf_of shape ∙ sym here)) ∙ sym (unshaped j x (λ e. other (sym e ∙ sym here))))))
+        (tracks_out (is_released k) free.items t.numbers n x y (subst (λ (ns : List ℕ). Tracks (is_released k) ns t.numbers) items (sound.free k)) some
+        (held_unreleased k y (ap state_is_released now)))
+        (λ j other. tracks_keep (is_released j) (shelf_at t.shelves j).free.items t.numbers n x y (sound.free j) some
+        (unshaped j y (λ e. other (sym e ∙ ap shelf_of shape ∙ sym here)) ∙ sym (unshaped j x (λ e. other (sym e ∙ sym here))))))
         (at_shelf (λ j s. s.made ≡ (shelf_at t.shelves j).made) t.shelves k shelf inside many (λ j other. refl))
         (at_shelf (λ j s. (shelf_at t.shelves j).free.room ≤ s.free.room) t.shelves k shelf inside (omega (arith, wide)) (λ j other. omega arith))
 
@@ -184,10 +185,10 @@ module _ (t : Ledger) (sound : IsSound t) where
         changed limbo t.shelves (t.live - 1)
         (let counted = live_after true false (ap state_is_live was) (ap state_is_live now) in omega (arith, counted))
         (subst (λ (ns : List ℕ). Tracks is_revoked ns (set t.numbers n y)) (sym items)
-          (tracks_in is_revoked t.limbo.items t.numbers n x y sound.limbo some (ap state_is_revoked was) (ap state_is_revoked now)))
+        (tracks_in is_revoked t.limbo.items t.numbers n x y sound.limbo some (ap state_is_revoked was) (ap state_is_revoked now)))
         wide
         (λ j. tracks_keep (is_released j) (shelf_at t.shelves j).free.items t.numbers n x y (sound.free j) some
-          (held_unreleased j y (ap state_is_released now) ∙ sym (held_unreleased j x (ap state_is_released was))))
+        (held_unreleased j y (ap state_is_released now) ∙ sym (held_unreleased j x (ap state_is_released was))))
         (λ j. refl)
         (λ j. omega arith)
 
@@ -204,12 +205,12 @@ module _ (t : Ledger) (sound : IsSound t) where
         (tracks_out is_revoked limbo.items t.numbers n x y (subst (λ (ns : List ℕ). Tracks is_revoked ns t.numbers) items sound.limbo) some (ap state_is_revoked now))
         (omega (arith, same))
         (at_shelf (λ j s. Tracks (is_released j) s.free.items (set t.numbers n y)) t.shelves k shelf inside
-          (subst (λ (ns : List ℕ). Tracks (is_released k) ns (set t.numbers n y)) (sym more_items)
-            (tracks_in (is_released k) (shelf_at t.shelves k).free.items t.numbers n x y (sound.free k) some
-              (held_unreleased k x (ap state_is_released was))
-              (ap (λ (b : Bool). b && state_is_released y.state) (shaped k y (ap shelf_of shape ∙ sym here)) ∙ ap state_is_released now)))
-          (λ j other. tracks_keep (is_released j) (shelf_at t.shelves j).free.items t.numbers n x y (sound.free j) some
-            (unshaped j y (λ e. other (sym e ∙ ap shelf_of shape ∙ sym here)) ∙ sym (unshaped j x (λ e. other (sym e ∙ sym here))))))
+        (subst (λ (ns : List ℕ). Tracks (is_released k) ns (set t.numbers n y)) (sym more_items)
+        (tracks_in (is_released k) (shelf_at t.shelves k).free.items t.numbers n x y (sound.free k) some
+        (held_unreleased k x (ap state_is_released was))
+        (ap (λ (b : Bool). b && state_is_released y.state) (shaped k y (ap shelf_of shape ∙ sym here)) ∙ ap state_is_released now)))
+        (λ j other. tracks_keep (is_released j) (shelf_at t.shelves j).free.items t.numbers n x y (sound.free j) some
+        (unshaped j y (λ e. other (sym e ∙ ap shelf_of shape ∙ sym here)) ∙ sym (unshaped j x (λ e. other (sym e ∙ sym here))))))
         (at_shelf (λ j s. s.made ≡ (shelf_at t.shelves j).made) t.shelves k shelf inside many (λ j other. refl))
         (at_shelf (λ j s. (shelf_at t.shelves j).free.room ≤ s.free.room) t.shelves k shelf inside more (λ j other. omega arith))
 
@@ -241,12 +242,12 @@ module _ (t : Ledger) (sound : IsSound t) where
         limbo_room = omega (arith, long, ready.limbo);
         free = at_shelf (λ j s. Tracks (is_released j) s.free.items (t.numbers ++ y ∷ [])) t.shelves k shelf ready.shelf
             (subst (λ (s : Shelf). Tracks (is_released k) s.free.items (t.numbers ++ y ∷ [])) (sym is)
-              (tracks_more (is_released k) (shelf_at t.shelves k).free.items t.numbers y (sound.free k) (held_unreleased k y (ap state_is_released now))))
+            (tracks_more (is_released k) (shelf_at t.shelves k).free.items t.numbers y (sound.free k) (held_unreleased k y (ap state_is_released now))))
             (λ j other. tracks_more (is_released j) (shelf_at t.shelves j).free.items t.numbers y (sound.free j) (held_unreleased j y (ap state_is_released now)));
         made = at_shelf (λ j s. s.made ≡ tally (is_shaped j) (t.numbers ++ y ∷ [])) t.shelves k shelf ready.shelf
             (let counted = tally_push (is_shaped k) t.numbers y in let one = ap one_if (shaped k y (sym here)) in let made = sound.made k in omega (arith, counted, one, made, many))
             (λ j other. let counted = tally_push (is_shaped j) t.numbers y in let one = ap one_if (ne_eqb (shelf_of y.shape) j (λ e. other (sym e ∙ sym here))) in
-              let made = sound.made j in omega (arith, counted, one, made));
+            let made = sound.made j in omega (arith, counted, one, made));
         room = at_shelf (λ j s. s.made ≤ s.free.room) t.shelves k shelf ready.shelf (let e = ready.free in omega (arith, e, many, wide)) (λ j other. sound.room j);
       }
 

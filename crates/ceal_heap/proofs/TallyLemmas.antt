@@ -1,9 +1,9 @@
 -- Numbers that pass a test: how many there are, and lists of them.
-use Rattle.std.proofs.Common.{◌≡◌, ◌≢◌, ℕ, zero, suc, ◌+◌, ◌<◌, ◌≤◌, List, [], ◌∷◌, ◌++◌, length, set, Bool, true, false, Option, Some, None, refl, sym, ap, ◌∙◌, subst, inl, inr, ◌⊎◌, ⊎_elim, arith, slice_get}
-use Rattle.std.specs.Prelude.{◌==◌, ◌&&◌}
-use Rattle.std.proofs.lemmas.List.{length-set, length_push, length-append}
-use Rattle.std.proofs.lemmas.Option.{none-some, same_Some, slice_get_within, slice_get_past}
-use Rattle.std.proofs.lemmas.Bool.{cases_eq, cases_Bool, eq-eqb, ne_eqb, false≢true}
+use Rattle.std.proofs.Common.{◌≡◌, ◌≢◌, ℕ, zero, suc, ◌+◌, ◌<◌, ◌≤◌, List, [], ◌∷◌, ◌++◌, length, set, Bool, true, false, Option, Some, None, refl, sym, ap, ◌∙◌, ⊎_elim, arith, slice_get}
+use Rattle.std.specs.Prelude.{◌==◌}
+use Rattle.std.proofs.lemmas.List.{length_push}
+use Rattle.std.proofs.lemmas.Option.{none-some, same_Some, slice_get_past}
+use Rattle.std.proofs.lemmas.Bool.{cases_eq, eq-eqb, ne_eqb}
 use Rattle.ceal_heap.specs.Table.{one_if, mark, tally, times, Tracks}
 use Rattle.ceal_heap.specs.declared.number.Number.{Number}
 
@@ -116,7 +116,7 @@ module _ (test : Number → Bool) where
   tracks_in ns xs i x y tracks some fails passes = record {
     each = λ n. times_push n i ns ∙ ⊎_elim
         (λ e. let was = tracks.each n ∙ mark_was xs i n x some e ∙ ap one_if fails in let here = mark_here xs i n x y some e ∙ ap one_if passes in
-          let one = one_same n i (sym e) in omega (arith, was, here, one))
+        let one = one_same n i (sym e) in omega (arith, was, here, one))
         (λ other. let was = tracks.each n in let there = mark_there xs i n y other in let one = one_other n i (λ e. other (sym e)) in omega (arith, was, there, one))
         (cases_eq n i);
     all = let counted = tally_set test xs i x y some in let f = ap one_if fails in let p = ap one_if passes in let long = length_push ns i in
@@ -135,9 +135,9 @@ module _ (test : Number → Bool) where
   tracks_out ns xs i x y tracks some fails = record {
     each = λ n. ⊎_elim
         (λ e. let was = sym (times_push n i ns) ∙ tracks.each n ∙ mark_was xs i n x some e in let here = mark_here xs i n x y some e ∙ ap one_if fails in
-          let one = one_same n i (sym e) in let most = one_most (test x) in omega (arith, was, here, one, most))
+        let one = one_same n i (sym e) in let most = one_most (test x) in omega (arith, was, here, one, most))
         (λ other. let was = sym (times_push n i ns) ∙ tracks.each n in let there = mark_there xs i n y other in let one = one_other n i (λ e. other (sym e)) in
-          omega (arith, was, there, one))
+        omega (arith, was, there, one))
         (cases_eq n i);
     all = let counted = tally_set test xs i x y some in let f = ap one_if fails in let long = length_push ns i in
         let was = sym (times_push i i ns) ∙ tracks.each i ∙ mark_was xs i i x some refl in let one = one_same i i refl in let most = one_most (test x) in

@@ -1,5 +1,5 @@
 -- How words lie in the cells of a slot: a word takes two, of which the first says what it is.
-use Rattle.std.specs.Prelude.{ℕ, ◌+◌, ◌*◌, ◌/◌, ◌%◌, ◌^◌, ◌==◌, if◌then◌else◌, List, [], ◌∷◌, length, Option, Some, None}
+use Rattle.std.specs.Prelude.{ℕ, ◌*◌, ◌/◌, ◌%◌, ◌^◌, ◌==◌, if◌then◌else◌, List, [], ◌∷◌, length, Option, Some, None}
 use Rattle.std.specs.Int.{w64, cast_signed}
 use Rattle.ceal_base.specs.declared.word.BlockId.TheVariants.{Input, Core}
 use Rattle.ceal_base.specs.declared.word.Word.{Word}

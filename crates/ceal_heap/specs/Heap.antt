@@ -1,11 +1,12 @@
 -- A heap: how each block stands, and the slots of the region.
-use Rattle.std.specs.Prelude.{◌≡◌, ◌≢◌, ◌⊎◌, ℕ, ◌≤◌, List, length, Option, Some, None, IsSome, option_map, slice_get}
+use Rattle.std.specs.Prelude.{◌≡◌, ◌≢◌, ◌⊎◌, ℕ, ◌≤◌, List, length, Option, Some, None, IsSome, option_map, pos, slice_get, slice_index_or}
 use Rattle.ceal_base.specs.Block.{Block}
 use Rattle.ceal_base.specs.declared.forest.Key.{Key}
 use Rattle.ceal_base.specs.declared.kind.Shape.{Shape}
 use Rattle.ceal_base.specs.declared.word.BlockId.{BlockId}
 use Rattle.ceal_base.specs.declared.word.BlockId.TheVariants.{Input, Core}
 use Rattle.ceal_base.specs.declared.word.Word.{Word}
+use Rattle.ceal_base.specs.declared.word.Word.TheVariants.{Num}
 use Rattle.ceal_words.specs.Region.{words_of, KeepsAll}
 use Rattle.ceal_words.specs.SizeClass.{SizeClass}
 use Rattle.ceal_words.specs.declared.slot.Slot.{Slot}
@@ -70,6 +71,10 @@ plain_block block = record { shape = block.shape; words = block.words }
 -- the heap as a map from live and revoked blocks to shape and words
 abbrev pub plain_of : Contents → BlockId → Option Block
 plain_of heap b = option_map plain_block (block_of heap b)
+
+-- a word of a block; past its words it is the number 0
+abbrev pub word_at : List Word → ℕ → Word
+word_at words index = slice_index_or words index (Num (pos 0))
 
 -- how many blocks are live
 abbrev pub live_count : Contents → ℕ

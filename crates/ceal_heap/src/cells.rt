@@ -8,10 +8,15 @@ use ceal_base::word::{BlockId, Place, Word};
 
 // What a word is, which its first cell says.
 const NUMBER: u64 = 0;
+
 const NULL: u64 = 1;
+
 const INPUT: u64 = 2;
+
 const CORE: u64 = 3;
+
 const IN_INPUT: u64 = 4;
+
 const IN_CORE: u64 = 5;
 
 // What the upper half of a cell counts.

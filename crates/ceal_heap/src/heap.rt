@@ -1,9 +1,8 @@
 // The heap.
 
-ghost use Rattle.std.specs.Prelude.{◌≡◌, ◌+◌, ◌≤◌, pos, false, length, slice_index_or, IsSome, IfSome, IfOk, OnOk, OnErr, IsTrue};
+ghost use Rattle.std.specs.Prelude.{◌≡◌, ◌+◌, ◌≤◌, false, length, IsSome, IfSome, IfOk, OnOk, OnErr, IsTrue};
 ghost use Rattle.ceal_base.specs.declared.word.BlockId.{BlockId};
-ghost use Rattle.ceal_base.specs.declared.word.Word.TheVariants.{Num};
-ghost use Rattle.ceal_heap.specs.Heap.{standing, block_of, live_count, revoked, released, number_of, IsLive, IsMade, IsFreeFor, KeepsBlocks, IsUnchanged, HasSlots, IsNew};
+ghost use Rattle.ceal_heap.specs.Heap.{standing, block_of, plain_of, word_at, live_count, revoked, released, number_of, IsLive, IsMade, IsFreeFor, KeepsBlocks, IsUnchanged, HasSlots, IsNew};
 ghost use Rattle.ceal_heap.specs.Table.{tally, is_revoked};
 
 use crate::number::Held;
@@ -68,7 +67,7 @@ impl Heap {
     /// A word of a live or revoked block. Past its words it is the number 0.
     pub fn field(&self, block: BlockId, index: u32) -> Word
         requires known { IsSome (block_of self.now block) }
-        ensures word { IfSome (block_of self.now block) (λ b. result ≡ slice_index_or b.words index (Num (pos 0))) }
+        ensures word { IfSome (plain_of self.now block) (λ b. result ≡ word_at b.words index) }
     {
         let held = self.table.held(number_of(block));
         if index < held.fields {
@@ -81,7 +80,7 @@ impl Heap {
     /// The shape of a live or revoked block.
     pub fn shape(&self, block: BlockId) -> Shape
         requires known { IsSome (block_of self.now block) }
-        ensures shape { IfSome (block_of self.now block) (λ b. result ≡ b.shape) }
+        ensures shape { IfSome (plain_of self.now block) (λ b. result ≡ b.shape) }
     {
         self.table.shape(number_of(block))
     }

@@ -9,6 +9,7 @@ use ceal_base::word::{BlockId, Place, Word};
 use std::test::Fail;
 
 const CELL: Shape = Shape::Struct(0);
+
 const NODE: Shape = Shape::Struct(1);
 
 #[test]

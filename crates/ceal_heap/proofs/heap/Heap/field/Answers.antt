@@ -1,8 +1,7 @@
-use Rattle.std.proofs.Common.{◌≡◌, ◌∙◌, ap, sym, subst, pos, get_or}
-use Rattle.ceal_base.specs.declared.word.Word.TheVariants.{Num}
-use Rattle.ceal_heap.specs.Heap.{Contents, Known, block_of}
+use Rattle.std.proofs.Common.{◌∙◌, ap, sym}
+use Rattle.ceal_heap.specs.Heap.{Contents}
 use Rattle.ceal_heap.specs.Table.{held_at}
-use Rattle.ceal_heap.proofs.HeapLemmas.{if_some, words_past}
+use Rattle.ceal_heap.proofs.HeapLemmas.{none_past}
 use Rattle.ceal_heap.proofs.heap.Heap.field.Goals as goal
 
 pub returns-else-index-held : goal.returns-else-index-held
@@ -10,7 +9,4 @@ returns-else-index-held c =
     let v = c.self.inside in
     let heap : Contents = record { numbers = v.table.numbers; region = v.pieces } in
     let held = ap (held_at v.table.numbers) (sym c.number_of.ensures) ∙ c.held-held.ensures in
-    rw (← c.self.view_is) (record {
-      word = if_some (block_of heap c.args.block) (λ (b : Known). Num (pos 0) ≡ get_or b.words c.args.index (Num (pos 0)))
-          (words_past heap c.args.block c.held-held.result.now c.args.index (Num (pos 0)) c.self.invariant held c.if-index-held.false);
-    })
+    rw (← c.self.view_is) (record { word = none_past heap c.args.block c.held-held.result.now c.args.index c.self.invariant held c.if-index-held.false })

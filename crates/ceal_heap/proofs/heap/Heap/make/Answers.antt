@@ -1,6 +1,6 @@
-use Rattle.std.proofs.Common.{◌≡◌, ◌∙◌, ap, sym, subst, List, length}
+use Rattle.std.proofs.Common.{sym, subst, List, length}
 use Rattle.ceal_base.specs.declared.word.BlockId.TheVariants.{Core}
-use Rattle.ceal_heap.specs.Heap.{Contents, HasSlots, IsKept, IsMade, KeepsBlocks, live_count}
+use Rattle.ceal_heap.specs.Heap.{Contents, HasSlots, KeepsBlocks}
 use Rattle.ceal_heap.specs.Table.{held_at, GivesOut}
 use Rattle.ceal_heap.specs.declared.number.Held.{Held}
 use Rattle.ceal_heap.specs.declared.number.Number.{Number}

@@ -1,5 +1,4 @@
-use Rattle.std.proofs.Common.{◌≡◌, ◌∙◌, ap, sym, subst, List, IsSome, None}
-use Rattle.ceal_base.specs.declared.word.BlockId.{BlockId}
+use Rattle.std.proofs.Common.{◌≡◌, sym, subst, List, IsSome, None}
 use Rattle.ceal_words.specs.Region.{words_of, KeepsOthers}
 use Rattle.ceal_words.specs.declared.slot.Slot.{Slot}
 use Rattle.ceal_heap.specs.Heap.{Contents, HasSlots, standing, released}
@@ -38,8 +37,8 @@ returns-in-Some-clause-kept c = λ block.
     let after : Contents = record { numbers = c.release_one.new.self.numbers; region = c.give.new.self } in
     subst (λ (heap : Contents). released (standing after block) ≡ released (standing heap block)) c.self.view_is
     (release_each v.table.numbers c.release_one.new.self.numbers v.pieces c.give.new.self c.in-Some.held c.in-Some.ensures.some c.self.invariant
-      (subst (λ (s : Slot). words_of c.give.new.self s ≡ None) c.into_slot.ensures c.give.ensures.out)
-      (subst (λ (s : Slot). KeepsOthers s v.pieces c.give.new.self) c.into_slot.ensures c.give.ensures.others) block)
+    (subst (λ (s : Slot). words_of c.give.new.self s ≡ None) c.into_slot.ensures c.give.ensures.out)
+    (subst (λ (s : Slot). KeepsOthers s v.pieces c.give.new.self) c.into_slot.ensures c.give.ensures.others) block)
 
 pub returns-in-Some-clause-fewer : goal.returns-in-Some-clause-fewer
 returns-in-Some-clause-fewer c = λ _.
@@ -56,5 +55,5 @@ returns-in-Some-clause-slots c =
     let v = c.self.inside in
     slots_of (record { numbers = c.release_one.new.self.numbers; region = c.give.new.self })
     (release_kept v.table.numbers c.release_one.new.self.numbers v.pieces c.give.new.self c.in-Some.held c.in-Some.ensures.some c.self.invariant
-      (subst (λ (s : Slot). words_of c.give.new.self s ≡ None) c.into_slot.ensures c.give.ensures.out)
-      (subst (λ (s : Slot). KeepsOthers s v.pieces c.give.new.self) c.into_slot.ensures c.give.ensures.others))
+    (subst (λ (s : Slot). words_of c.give.new.self s ≡ None) c.into_slot.ensures c.give.ensures.out)
+    (subst (λ (s : Slot). KeepsOthers s v.pieces c.give.new.self) c.into_slot.ensures c.give.ensures.others))

@@ -7,7 +7,7 @@ use Rattle.ceal_heap.proofs.heap.Heap.release_revoked.Given as goal
 abbrev pub invariant-loop : goal.invariant-loop
 invariant-loop l = record {
   kept : (block : BlockId) → released (standing l.self block) ≡ released (standing l.fn.self block);
-  count : live_count l.self ≡ live_count l.fn.self
+  count : live_count l.self ≡ live_count l.fn.self;
 }
 
 abbrev pub decreases-loop : goal.decreases-loop

@@ -1,7 +1,7 @@
-use Rattle.std.proofs.Common.{◌≡◌, ◌≢◌, ◌∙◌, ap, sym, subst, ℕ, List}
+use Rattle.std.proofs.Common.{◌≡◌, ◌∙◌, ap, sym, subst, ℕ}
 use Rattle.ceal_base.specs.declared.word.BlockId.{BlockId}
 use Rattle.ceal_base.specs.declared.word.BlockId.TheVariants.{Core}
-use Rattle.ceal_heap.specs.Heap.{Contents, IsLive, KeepsBlocks, standing, revoked, number_of}
+use Rattle.ceal_heap.specs.Heap.{Contents, IsLive, KeepsBlocks, standing, revoked}
 use Rattle.ceal_heap.specs.Table.{IsLiveAt}
 use Rattle.ceal_heap.proofs.HeapLemmas.{slots_of, live_at, revoke_kept, revoke_here, revoke_others, revoke_count}
 use Rattle.ceal_heap.proofs.heap.Heap.revoke.Goals as goal

@@ -1,4 +1,4 @@
-use Rattle.std.proofs.Common.{◌∙◌, ap, set, sym}
+use Rattle.std.proofs.Common.{◌∙◌, ap, set}
 use Rattle.ceal_base.specs.declared.word.Word.{Word}
 use Rattle.ceal_words.specs.Region.{words_of}
 use Rattle.ceal_heap.specs.Cells.{words_read}

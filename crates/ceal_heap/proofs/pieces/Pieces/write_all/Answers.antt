@@ -1,7 +1,7 @@
-use Rattle.std.proofs.Common.{◌≡◌, ◌∙◌, ◌<◌, ap, set, sym, arith, length, pos}
+use Rattle.std.proofs.Common.{◌∙◌, arith, length, pos}
 use Rattle.ceal_base.specs.declared.word.Word.TheVariants.{Num}
 use Rattle.ceal_words.specs.Region.{words_of}
-use Rattle.ceal_heap.specs.Cells.{words_read, cells_held, cell_count}
+use Rattle.ceal_heap.specs.Cells.{words_read}
 use Rattle.ceal_heap.proofs.CellsLemmas.{inside, length_read, one_more, all_written, others_then}
 use Rattle.ceal_heap.proofs.pieces.Pieces.write_all.Goals as goal
 

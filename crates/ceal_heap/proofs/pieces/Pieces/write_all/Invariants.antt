@@ -7,5 +7,5 @@ abbrev pub invariant-loop-index : goal.invariant-loop-index
 invariant-loop-index l = record {
   cells : cells_held (words_of l.self l.slot) ≡ cell_count (length l.words);
   same : take l.index (words_read (words_of l.self l.slot)) ≡ take l.index l.words;
-  others : KeepsOthers l.slot l.fn.self l.self
+  others : KeepsOthers l.slot l.fn.self l.self;
 }

@@ -1,5 +1,5 @@
-use Rattle.std.proofs.Common.{◌≡◌, ◌<◌, ◌∙◌, ap, sym, subst, arith, ℕ, length, List, refl, ◌++◌, ◌∷◌, []}
-use Rattle.ceal_heap.specs.Table.{Ledger, HasRoom, IsSound, shelf_at, shelf_of}
+use Rattle.std.proofs.Common.{◌∙◌, ap, sym, subst, arith, ℕ, refl}
+use Rattle.ceal_heap.specs.Table.{Ledger, HasRoom, shelf_of}
 use Rattle.ceal_heap.specs.declared.number.Number.{Number}
 use Rattle.ceal_heap.specs.declared.number.State.TheVariants.{Live}
 use Rattle.ceal_heap.specs.declared.shelf.Shelf.{Shelf}

@@ -1,8 +1,7 @@
-use Rattle.std.proofs.Common.{◌≡◌, ◌<◌, ◌≤◌, ◌∙◌, ap, set, sym, subst, arith, ℕ, length, List, refl, ◌++◌, ◌∷◌, [], Some, slice_get}
-use Rattle.std.proofs.lemmas.Option.{slice_get_within, slice_get_read, same_Some}
-use Rattle.ceal_heap.specs.Table.{Ledger, shelf_at, shelf_of, held_in, state_is_released}
+use Rattle.std.proofs.Common.{◌≡◌, ◌<◌, ◌∙◌, ap, set, sym, subst, arith, length, refl, ◌++◌, ◌∷◌, [], Some}
+use Rattle.std.proofs.lemmas.Option.{slice_get_within}
+use Rattle.ceal_heap.specs.Table.{Ledger, shelf_at, held_in, state_is_released}
 use Rattle.ceal_heap.specs.declared.number.Number.{Number}
-use Rattle.ceal_heap.specs.declared.number.State.TheVariants.{Revoked}
 use Rattle.ceal_heap.specs.declared.shelf.Shelf.{Shelf}
 use Rattle.ceal_heap.proofs.TableLemmas.{top_revoked, shelf_there, shelf_found, room_on_shelf, released, entry_of}
 use Rattle.ceal_heap.proofs.table.Table.release_one.Goals as goal
@@ -60,8 +59,12 @@ returns-clause-some c =
     let e = entry_of v.numbers.items v.numbers.len n entry top.0 v.numbers.ok.0 top.2 c.index_mut-entry.ensures.value in
     let state = ap (λ (x : Number). x.state) e.1 ∙ top.3 in
     let gave : c.release-held.result ≡ Some top.1 = c.release-held.ensures.held ∙ ap held_in state in
-    rw (gave, ← c.self.view_is) (n, entry.shape, e.0 ∙ ap Some (λ i. record { shape = entry.shape; state = state i }),
-      ap (set v.numbers.items n) (λ i. record { shape = c.release-held.ensures.shape i; state = c.release-held.ensures.state i }))
+    rw (gave, ← c.self.view_is) (
+      n,
+      entry.shape,
+      e.0 ∙ ap Some (λ i. record { shape = entry.shape; state = state i }),
+      ap (set v.numbers.items n) (λ i. record { shape = c.release-held.ensures.shape i; state = c.release-held.ensures.state i }),
+    )
 
 pub returns-clause-none : goal.returns-clause-none
 returns-clause-none c =

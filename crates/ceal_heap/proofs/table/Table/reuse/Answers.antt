@@ -1,9 +1,8 @@
-use Rattle.std.proofs.Common.{◌≡◌, ◌<◌, ◌∙◌, ap, set, sym, subst, arith, Some, length, slice_get, refl, ℕ}
+use Rattle.std.proofs.Common.{◌≡◌, ◌<◌, ◌∙◌, ap, set, sym, subst, arith, length, refl, ℕ}
 use Rattle.std.proofs.lemmas.Option.{slice_get_within, slice_get_read, same_Some}
-use Rattle.ceal_heap.specs.Table.{Ledger, shelf_of, shelf_at, state_is_live}
+use Rattle.ceal_heap.specs.Table.{Ledger, shelf_at}
 use Rattle.ceal_heap.specs.declared.number.Number.{Number}
-use Rattle.ceal_heap.specs.declared.number.State.{State}
-use Rattle.ceal_heap.specs.declared.number.State.TheVariants.{Live, Released}
+use Rattle.ceal_heap.specs.declared.number.State.TheVariants.{Released}
 use Rattle.ceal_heap.specs.declared.shelf.Shelf.{Shelf}
 use Rattle.ceal_heap.proofs.TableLemmas.{top_free, shelf_some, shelf_found, reused, few_live}
 use Rattle.ceal_heap.proofs.table.Table.reuse.Goals as goal
@@ -40,7 +39,7 @@ invariant_of-self c =
     let was = top_free t c.self.invariant c.args.shape k c.in-Some.number c.pop.new.self.items shelf c.shelf_of.ensures is c.in-Some.ensures.items in
     let free : Number = record { shape = c.args.shape; state = Released } in
     let found = slice_get_read v.numbers.items v.numbers.len c.in-Some.number c.index_mut.result.now v.numbers.ok.0
-        (let h = slice_get_within v.numbers.items c.in-Some.number free was in omega (arith, h, v.numbers.ok)) c.index_mut.ensures.value in
+    (let h = slice_get_within v.numbers.items c.in-Some.number free was in omega (arith, h, v.numbers.ok)) c.index_mut.ensures.value in
     let same : c.index_mut.result.now ≡ free = same_Some c.index_mut.result.now free (sym found ∙ was) in
     reused t c.self.invariant c.in-Some.number free c.give.new.self was (c.give.ensures.shape ∙ ap (λ (x : Number). x.shape) same) k shelf.made c.pop.new.self c.args.held
     c.shelf_of.ensures (ap (λ (s : Shelf). s.free.items) (sym is) ∙ c.in-Some.ensures.items) (c.in-Some.ensures.room ∙ ap (λ (s : Shelf). s.free.room) is)
@@ -57,7 +56,7 @@ returns c =
     let was = top_free t c.self.invariant c.args.shape k c.in-Some.number c.pop.new.self.items shelf c.shelf_of.ensures is c.in-Some.ensures.items in
     let free : Number = record { shape = c.args.shape; state = Released } in
     let found = slice_get_read v.numbers.items v.numbers.len c.in-Some.number c.index_mut.result.now v.numbers.ok.0
-        (let h = slice_get_within v.numbers.items c.in-Some.number free was in omega (arith, h, v.numbers.ok)) c.index_mut.ensures.value in
+    (let h = slice_get_within v.numbers.items c.in-Some.number free was in omega (arith, h, v.numbers.ok)) c.index_mut.ensures.value in
     let same : c.index_mut.result.now ≡ free = same_Some c.index_mut.result.now free (sym found ∙ was) in
     let shape = c.give.ensures.shape ∙ ap (λ (x : Number). x.shape) same in
     rw (← c.self.view_is) (record {

@@ -1,8 +1,7 @@
-use Rattle.std.proofs.Common.{◌≡◌, ◌<◌, ◌∙◌, ap, set, sym, arith, refl, slice_get}
+use Rattle.std.proofs.Common.{◌≡◌, ◌∙◌, ap, set, sym, arith, refl}
 use Rattle.std.proofs.lemmas.Option.{slice_get_within, slice_get_read, same_Some}
 use Rattle.ceal_heap.specs.Table.{Ledger, revoked_state}
 use Rattle.ceal_heap.specs.declared.number.Number.{Number}
-use Rattle.ceal_heap.specs.declared.number.State.{State}
 use Rattle.ceal_heap.specs.declared.number.State.TheVariants.{Live}
 use Rattle.ceal_heap.proofs.TableLemmas.{room_in_limbo, some_live, revoked}
 use Rattle.ceal_heap.proofs.table.Table.revoke.Goals as goal
@@ -36,7 +35,7 @@ invariant_of-self c =
     let live = rw (← c.self.view_is) at c.requires in
     let x : Number = record { shape = live.0; state = Live live.1 } in
     let found = slice_get_read v.numbers.items v.numbers.len c.args.number c.index_mut.result.now v.numbers.ok.0
-        (let h = slice_get_within v.numbers.items c.args.number x live.2 in omega (arith, h, v.numbers.ok)) c.index_mut.ensures.value in
+    (let h = slice_get_within v.numbers.items c.args.number x live.2 in omega (arith, h, v.numbers.ok)) c.index_mut.ensures.value in
     let same : c.index_mut.result.now ≡ x = same_Some c.index_mut.result.now x (sym found ∙ live.2) in
     revoked t c.self.invariant c.args.number x c.revoke.new.self live.2 (c.revoke.ensures.shape ∙ ap (λ (y : Number). y.shape) same) c.push.new.self live.1
     c.push.ensures.items c.push.ensures.raises refl (c.revoke.ensures.state ∙ ap (λ (y : Number). revoked_state y.state) same)
@@ -47,7 +46,7 @@ returns c =
     let live = rw (← c.self.view_is) at c.requires in
     let x : Number = record { shape = live.0; state = Live live.1 } in
     let found = slice_get_read v.numbers.items v.numbers.len c.args.number c.index_mut.result.now v.numbers.ok.0
-        (let h = slice_get_within v.numbers.items c.args.number x live.2 in omega (arith, h, v.numbers.ok)) c.index_mut.ensures.value in
+    (let h = slice_get_within v.numbers.items c.args.number x live.2 in omega (arith, h, v.numbers.ok)) c.index_mut.ensures.value in
     let same : c.index_mut.result.now ≡ x = same_Some c.index_mut.result.now x (sym found ∙ live.2) in
     let shape = c.revoke.ensures.shape ∙ ap (λ (y : Number). y.shape) same in
     let state = c.revoke.ensures.state ∙ ap (λ (y : Number). revoked_state y.state) same in
