@@ -375,3 +375,16 @@ if_plain (Some k) P all = all k refl
 pub none_past : (c : Contents) (b : BlockId) (h : Held) (i : ℕ) → IsKept (held_at c.numbers) c.region → held_at c.numbers (number_of b) ≡ Some h → h.fields ≤ i
     → IfSome (plain_of c b) (λ block. Num (pos 0) ≡ word_at block.words i)
 none_past c b h i kept held past = if_plain (block_of c b) (λ block. Num (pos 0) ≡ word_at block.words i) (words_past c b h i kept held past)
+
+state_unknown : (region : List SizeClass) (shape : Shape) (s : State) → held_in s ≡ None → known (state_standing region shape s) ≡ None
+state_unknown region shape (LiveState h) none = absurd (none-some h (sym none))
+state_unknown region shape (RevokedState h) none = absurd (none-some h (sym none))
+state_unknown region shape ReleasedState none = refl
+
+number_unknown : (region : List SizeClass) (o : Option Number) → held_of o ≡ None → known (number_standing region o) ≡ None
+number_unknown region None none = refl
+number_unknown region (Some x) none = state_unknown region x.shape x.state none
+
+-- a number without a block
+pub unknown : (c : Contents) (n : ℕ) → held_at c.numbers n ≡ None → block_of c (Core n) ≡ None
+unknown c n none = number_unknown c.region (slice_get c.numbers n) none

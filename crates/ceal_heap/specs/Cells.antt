@@ -4,6 +4,9 @@ use Rattle.std.specs.Int.{w64, cast_signed}
 use Rattle.ceal_base.specs.declared.word.BlockId.TheVariants.{Input, Core}
 use Rattle.ceal_base.specs.declared.word.Word.{Word}
 use Rattle.ceal_base.specs.declared.word.Word.TheVariants.{Num, Null, Block, At}
+use Rattle.ceal_words.specs.Region.{words_of}
+use Rattle.ceal_words.specs.SizeClass.{SizeClass}
+use Rattle.ceal_words.specs.declared.slot.Slot.{Slot}
 
 -- the two halves of a cell
 abbrev pub low : ℕ → ℕ
@@ -41,3 +44,10 @@ cell_count words = if words == 0 then 1 else 2 * words
 abbrev pub cells_held : Option (List ℕ) → ℕ
 cells_held None = 0
 cells_held (Some cells) = length cells
+
+-- the words of a slot of the region, and how many cells it has
+abbrev pub read_at : List SizeClass → Slot → List Word
+read_at region slot = words_read (words_of region slot)
+
+abbrev pub cells_at : List SizeClass → Slot → ℕ
+cells_at region slot = cells_held (words_of region slot)

@@ -10,8 +10,8 @@ use Rattle.ceal_base.specs.declared.word.Word.TheVariants.{Num}
 use Rattle.ceal_words.specs.Region.{words_of, KeepsAll}
 use Rattle.ceal_words.specs.SizeClass.{SizeClass}
 use Rattle.ceal_words.specs.declared.slot.Slot.{Slot}
-use Rattle.ceal_heap.specs.Cells.{words_read, cells_held, cell_count}
-use Rattle.ceal_heap.specs.Table.{tally, is_live}
+use Rattle.ceal_heap.specs.Cells.{read_at, cells_at, cell_count}
+use Rattle.ceal_heap.specs.Table.{tally, is_live, is_revoked}
 use Rattle.ceal_heap.specs.declared.number.Held.{Held}
 use Rattle.ceal_heap.specs.declared.number.Number.{Number}
 use Rattle.ceal_heap.specs.declared.number.State.{State}
@@ -38,7 +38,7 @@ pub data Standing : Type 0 where
   Released : (shape : Shape) → Standing
 
 abbrev pub known_in : List SizeClass → Shape → Held → Known
-known_in region shape held = record { shape = shape; key = held.key; words = words_read (words_of region held.slot); slot = held.slot }
+known_in region shape held = record { shape = shape; key = held.key; words = read_at region held.slot; slot = held.slot }
 
 abbrev pub state_standing : List SizeClass → Shape → State → Standing
 state_standing region shape (LiveState held) = Live (known_in region shape held)
@@ -80,6 +80,10 @@ word_at words index = slice_index_or words index (Num (pos 0))
 abbrev pub live_count : Contents → ℕ
 live_count heap = tally is_live heap.numbers
 
+-- how many were revoked and not yet released
+abbrev pub revoked_count : Contents → ℕ
+revoked_count heap = tally is_revoked heap.numbers
+
 -- the number that is given out next where none is released
 abbrev pub next : Contents → ℕ
 next heap = length heap.numbers
@@ -114,6 +118,14 @@ IsFreeFor shape heap b = (standing heap b ≡ Released shape) ⊎ ((b ≡ Core (
 abbrev pub KeepsBlocks : BlockId → Contents → Contents → Type 0
 KeepsBlocks b before after = (other : BlockId) → other ≢ b → standing after other ≡ standing before other
 
+-- the revoked blocks were taken away, and no others
+abbrev pub ReleasesRevoked : Contents → Contents → Type 0
+ReleasesRevoked before after = (b : BlockId) → standing after b ≡ released (standing before b)
+
+-- where the revoked blocks are taken away, both are the same
+abbrev pub ReleasesAlike : Contents → Contents → Type 0
+ReleasesAlike before after = (b : BlockId) → released (standing after b) ≡ released (standing before b)
+
 -- nothing changed that a caller sees: the numbers, how each block stands, and the words of each slot
 pub record IsUnchanged (before after : Contents) : Type 0 where
   pub numbers : after.numbers ≡ before.numbers
@@ -140,6 +152,6 @@ number_of (Core n) = n
 -- one number, and there are no other slots
 pub record IsKept (held : ℕ → Option Held) (region : List SizeClass) : Type 0 where
   pub few : (n : ℕ) (x : Held) → held n ≡ Some x → x.fields ≤ 255
-  pub cells : (n : ℕ) (x : Held) → held n ≡ Some x → cells_held (words_of region x.slot) ≡ cell_count x.fields
+  pub cells : (n : ℕ) (x : Held) → held n ≡ Some x → cells_at region x.slot ≡ cell_count x.fields
   pub one : (n m : ℕ) (x y : Held) → held n ≡ Some x → held m ≡ Some y → x.slot ≡ y.slot → n ≡ m
   pub all : (slot : Slot) → IsSome (words_of region slot) → (n : ℕ) × (x : Held) × (held n ≡ Some x) × (x.slot ≡ slot)

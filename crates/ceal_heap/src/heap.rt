@@ -1,9 +1,7 @@
 // The heap.
 
-ghost use Rattle.std.specs.Prelude.{◌≡◌, ◌+◌, ◌≤◌, false, length, IsSome, IfSome, IfOk, OnOk, OnErr, IsTrue};
-ghost use Rattle.ceal_base.specs.declared.word.BlockId.{BlockId};
-ghost use Rattle.ceal_heap.specs.Heap.{standing, block_of, plain_of, word_at, live_count, revoked, released, number_of, IsLive, IsMade, IsFreeFor, KeepsBlocks, IsUnchanged, HasSlots, IsNew};
-ghost use Rattle.ceal_heap.specs.Table.{tally, is_revoked};
+ghost use Rattle.std.specs.Prelude.{◌≡◌, ◌+◌, ◌≤◌, false, None, length, IsSome, IfSome, IfOk, OnOk, OnErr, IsTrue};
+ghost use Rattle.ceal_heap.specs.Heap.{standing, block_of, plain_of, word_at, live_count, revoked_count, revoked, number_of, IsLive, IsMade, IsFreeFor, KeepsBlocks, ReleasesRevoked, ReleasesAlike, IsUnchanged, HasSlots, IsNew};
 
 use crate::number::Held;
 use crate::pieces::Pieces;
@@ -50,6 +48,7 @@ impl Heap {
     /// number. `NoMemory` also comes where 2^32 - 1 numbers were given out and none of the shape is free.
     pub fn make(&mut self, shape: Shape, key: Key, words: &[Word]) -> Result<BlockId, NoMemory>
         requires few { length words.now ≤ 255 }
+        ensures new { IfOk result (λ block. block_of self.old block ≡ None) }
         ensures free { IfOk result (λ block. IsFreeFor shape self.old block) }
         ensures made { IfOk result (λ block. IsMade self.new block shape key words.now) }
         ensures others { IfOk result (λ block. KeepsBlocks block self.old self.new) }
@@ -108,7 +107,7 @@ impl Heap {
 
     /// Takes all revoked blocks away. Their slots go back, and their numbers can be given out again.
     pub fn release_revoked(&mut self)
-        ensures released { (block : BlockId) → standing self.new block ≡ released (standing self.old block) }
+        ensures released { ReleasesRevoked self.old self.new }
         ensures count { live_count self.new ≡ live_count self.old }
         ensures slots { HasSlots self.new }
     {
@@ -117,9 +116,9 @@ impl Heap {
 
     // Takes one revoked block away, if there is one.
     fn release_one(&mut self) -> bool
-        ensures kept { (block : BlockId) → released (standing self.new block) ≡ released (standing self.old block) }
-        ensures fewer { IsTrue result → tally is_revoked self.new.numbers + 1 ≡ tally is_revoked self.old.numbers }
-        ensures none { result ≡ false → (block : BlockId) → standing self.new block ≡ released (standing self.new block) }
+        ensures alike { ReleasesAlike self.old self.new }
+        ensures fewer { IsTrue result → revoked_count self.new + 1 ≡ revoked_count self.old }
+        ensures none { result ≡ false → ReleasesRevoked self.new self.new }
         ensures count { live_count self.new ≡ live_count self.old }
         ensures slots { HasSlots self.new }
     {

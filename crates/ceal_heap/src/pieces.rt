@@ -2,7 +2,7 @@
 
 ghost use Rattle.std.specs.Prelude.{◌≡◌, ◌+◌, ◌*◌, ◌<◌, ◌≤◌, Some, None, length, slice_get, slice_set, IsSome, IfOk, OnErr};
 ghost use Rattle.ceal_words.specs.Region.{words_of, KeepsOthers, KeepsAll, IsEmpty};
-ghost use Rattle.ceal_heap.specs.Cells.{words_read, cells_held, cell_count};
+ghost use Rattle.ceal_heap.specs.Cells.{read_at, cells_at, cell_count};
 
 use crate::cells::Cells;
 use ceal_base::no_memory::NoMemory;
@@ -39,8 +39,8 @@ impl Pieces {
     pub fn put(&mut self, words: &[Word]) -> Result<Slot, NoMemory>
         requires few { length words.now ≤ 255 }
         ensures was_new { IfOk result (λ slot. words_of self.old slot ≡ None) }
-        ensures cells { IfOk result (λ slot. cells_held (words_of self.new slot) ≡ cell_count (length words.now)) }
-        ensures words { IfOk result (λ slot. words_read (words_of self.new slot) ≡ words.now) }
+        ensures cells { IfOk result (λ slot. cells_at self.new slot ≡ cell_count (length words.now)) }
+        ensures words { IfOk result (λ slot. read_at self.new slot ≡ words.now) }
         ensures others { IfOk result (λ slot. KeepsOthers slot self.old self.new) }
         ensures err { OnErr result (KeepsAll self.old self.new) }
     {
@@ -53,9 +53,9 @@ impl Pieces {
 
     fn write_all(&mut self, slot: &Slot, words: &[Word])
         requires few { length words.now ≤ 255 }
-        requires cells { cells_held (words_of self.old slot.now) ≡ cell_count (length words.now) }
-        ensures cells { cells_held (words_of self.new slot.now) ≡ cell_count (length words.now) }
-        ensures words { words_read (words_of self.new slot.now) ≡ words.now }
+        requires cells { cells_at self.old slot.now ≡ cell_count (length words.now) }
+        ensures cells { cells_at self.new slot.now ≡ cell_count (length words.now) }
+        ensures words { read_at self.new slot.now ≡ words.now }
         ensures others { KeepsOthers slot.now self.old self.new }
     {
         for index in 0..words.len() {
@@ -65,9 +65,9 @@ impl Pieces {
 
     fn write(&mut self, slot: &Slot, index: u32, word: Word)
         requires few { index < 255 }
-        requires cells { 2 * index + 1 < cells_held (words_of self.old slot.now) }
-        ensures cells { cells_held (words_of self.new slot.now) ≡ cells_held (words_of self.old slot.now) }
-        ensures words { words_read (words_of self.new slot.now) ≡ slice_set (words_read (words_of self.old slot.now)) index word }
+        requires cells { 2 * index + 1 < cells_at self.old slot.now }
+        ensures cells { cells_at self.new slot.now ≡ cells_at self.old slot.now }
+        ensures words { read_at self.new slot.now ≡ slice_set (read_at self.old slot.now) index word }
         ensures others { KeepsOthers slot.now self.old self.new }
     {
         let cells = Cells::of(word);
@@ -78,8 +78,8 @@ impl Pieces {
     /// A word of a slot.
     pub fn word(&self, slot: &Slot, index: u32) -> Word
         requires few { index < 255 }
-        requires cells { 2 * index + 1 < cells_held (words_of self.now slot.now) }
-        ensures { slice_get (words_read (words_of self.now slot.now)) index ≡ Some result }
+        requires cells { 2 * index + 1 < cells_at self.now slot.now }
+        ensures { slice_get (read_at self.now slot.now) index ≡ Some result }
     {
         let sort = self.region.get(slot, 2 * index);
         let cell = self.region.get(slot, 2 * index + 1);

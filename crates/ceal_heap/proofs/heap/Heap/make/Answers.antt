@@ -4,7 +4,7 @@ use Rattle.ceal_heap.specs.Heap.{Contents, HasSlots, KeepsBlocks}
 use Rattle.ceal_heap.specs.Table.{held_at, GivesOut}
 use Rattle.ceal_heap.specs.declared.number.Held.{Held}
 use Rattle.ceal_heap.specs.declared.number.Number.{Number}
-use Rattle.ceal_heap.proofs.HeapLemmas.{slots_of, given, kept_all, make_kept, make_others, make_made}
+use Rattle.ceal_heap.proofs.HeapLemmas.{slots_of, given, kept_all, make_kept, make_others, make_made, unknown}
 use Rattle.ceal_heap.proofs.heap.Heap.make.Goals as goal
 
 pub returns-in_err-prepare-clause-slots : goal.returns-in_err-prepare-clause-slots
@@ -62,3 +62,11 @@ returns-clause-slots c =
     slots_of (record { numbers = after; region = c.put.new.self })
     (make_kept v.table.numbers after v.pieces c.put.new.self c.args.shape h n c.self.invariant is c.in_ok-slot.ensures.was_new c.in_ok-slot.ensures.others
     c.requires.few c.in_ok-slot.ensures.cells)
+
+pub returns-clause-new : goal.returns-clause-new
+returns-clause-new c =
+    let v = c.self.inside in let after = c.give_out.new.self.numbers in let n = c.give_out.result in
+    let h : Held = record { key = c.args.key; slot = c.in_ok-slot.slot; fields = length c.args.words.now } in
+    let out : GivesOut v.table.numbers after c.args.shape h n = subst (λ (ns : List Number). GivesOut ns after c.args.shape h n) c.in_ok-prepare.ensures.numbers c.give_out.ensures in
+    let is = given v.table.numbers after c.args.shape h n out in
+    rw (← c.self.view_is) (unknown (record { numbers = v.table.numbers; region = v.pieces }) n is.none)

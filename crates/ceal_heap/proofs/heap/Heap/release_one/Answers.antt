@@ -31,8 +31,8 @@ returns-in-None-clause-slots c =
     subst (λ (ns : List Number). HasSlots (record { numbers = ns; region = v.pieces })) (sym c.in-None.ensures.unchanged)
     (slots_of (record { numbers = v.table.numbers; region = v.pieces }) c.self.invariant)
 
-pub returns-in-Some-clause-kept : goal.returns-in-Some-clause-kept
-returns-in-Some-clause-kept c = λ block.
+pub returns-in-Some-clause-alike : goal.returns-in-Some-clause-alike
+returns-in-Some-clause-alike c = λ block.
     let v = c.self.inside in
     let after : Contents = record { numbers = c.release_one.new.self.numbers; region = c.give.new.self } in
     subst (λ (heap : Contents). released (standing after block) ≡ released (standing heap block)) c.self.view_is
