@@ -30,3 +30,8 @@ pub mod TypedStack
 pub mod TypedActs
 pub mod TypedCommands
 pub mod TypedRun
+pub mod ValueSteps
+pub mod InitSteps
+pub mod StackSteps
+pub mod TableSteps
+pub mod AfterLaws

@@ -134,10 +134,10 @@ with_contents-plain s b n (PlainField kind ∷ kinds) (w ∷ ws) = ap (λ zs. w 
 with_contents-plain s b n (CellInt ∷ kinds) (w ∷ ws) = ap (λ zs. s (record { block = b; field = n }) ∷ zs) (with_contents-plain s b (n + 1) kinds ws)
 with_contents-plain s b n (CellPtr y ∷ kinds) (w ∷ ws) = ap (λ zs. s (record { block = b; field = n }) ∷ zs) (with_contents-plain s b (n + 1) kinds ws)
 
-filled-plain : (code : Code) (s : Store) (b : BlockId) (block : Block) → filled code s b (plain_block code.structs block) ≡ filled code s b block
+pub filled-plain : (code : Code) (s : Store) (b : BlockId) (block : Block) → filled code s b (plain_block code.structs block) ≡ filled code s b block
 filled-plain code s b block = ap (λ ws. record { shape = block.shape; words = ws }) (with_contents-plain s b 0 (kinds_of_shape code.structs block.shape) block.words)
 
-get-after : (code : Code) (s : Store) (n : ℕ) (blocks : List Block) (i : ℕ) → slice_get (inputs_after code s n blocks) i ≡ option_map (filled code s (Input (n + i))) (slice_get blocks i)
+pub get-after : (code : Code) (s : Store) (n : ℕ) (blocks : List Block) (i : ℕ) → slice_get (inputs_after code s n blocks) i ≡ option_map (filled code s (Input (n + i))) (slice_get blocks i)
 get-after code s n [] i = refl
 get-after code s n (block ∷ blocks) zero = let e : n + 0 ≡ n = omega arith in rw e
 get-after code s n (block ∷ blocks) (suc i) = let e : n + suc i ≡ n + 1 + i = omega arith in rw e (get-after code s (n + 1) blocks i)
