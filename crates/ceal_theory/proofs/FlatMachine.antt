@@ -43,7 +43,7 @@ module _ (code : Code) (names : ℕ → ℕ) where
 
   pub stays : (s : State) (fs fs' : List Flat_frame) (front back : List Item) → Agrees_all code s.store front → passes_all front fs ≡ Some fs'
       → Leads code names (flat_machine s Goes_through fs (front ++ back)) (flat_machine (with_store s (store_after code s.store front)) Goes_through fs' back) front
-  unfolding store_after turn
+  unfolding turn
   stays s fs fs' [] back h e =
       subst (λ gs. Leads code names (flat_machine s Goes_through fs back) (flat_machine s Goes_through gs back) []) (some-same fs fs' e) (leads-stays code names (flat_machine s Goes_through fs back))
   stays s fs fs' (Step ∷ front) back h e =

@@ -38,7 +38,7 @@ module _ (ps : Pairs) where
   place-flip : {p q : Place} → Place_alike ps p q → Place_alike (flipped ps) q p
   place-flip h = record { block = id-flip h.block; field = sym h.field }
 
-  word-flip : {v w : Word} → Word_alike ps v w → Word_alike (flipped ps) w v
+  pub word-flip : {v w : Word} → Word_alike ps v w → Word_alike (flipped ps) w v
   word-flip Word_alike.num = Word_alike.num
   word-flip Word_alike.null = Word_alike.null
   word-flip (Word_alike.block h) = Word_alike.block (id-flip h)

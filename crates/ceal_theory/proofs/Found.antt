@@ -17,7 +17,7 @@ use Rattle.ceal_code.specs.Fresh.{fresh}
 use Rattle.ceal_code.specs.Program.{Code}
 use Rattle.ceal_code.specs.Replay.{Yields, count, Distinct, core_numbers, input_plain, plain_after, plain_of, bases, Replays, IsHonest}
 use Rattle.ceal_code.specs.Step.{Stack, started}
-use Rattle.ceal_theory.proofs.DistinctBlocks.{past, anew-uses}
+use Rattle.ceal_theory.proofs.DistinctBlocks.{past, named-most, anew-uses}
 use Rattle.ceal_theory.proofs.FromScratch.{take-none, read-none, scratch-first}
 use Rattle.ceal_theory.proofs.Functions.{adjusted-sound, adjusted-found, first-sound, first-found}
 use Rattle.ceal_theory.proofs.Good.{Extends, Free_from, Good}
@@ -112,7 +112,7 @@ module _ (code : Code) (inputs : List Block) (f : ℕ) (args : List Word) (fits 
 
 module _ (code : Code) (inputs : List Block) (f : ℕ) (args : List Word) (fits : Fits code inputs f args) (new : Trace) (work : ℕ) (a : Firsts code inputs f args new work) where
   apart : Distinct (core_numbers (blocks_of new))
-  apart b = omega (arith, anew-uses code b a.anew)
+  apart b = omega (arith, anew-uses code b a.anew, named-most own own-single a.after.number b)
 
   pub first-replays : Replays code inputs f args new
   first-replays =

@@ -20,6 +20,13 @@ use Rattle.ceal_theory.specs.Computed.{Fixed, Ran, Runner, ran_with, fixed_with,
 use Rattle.ceal_theory.specs.Repair.{own, State, begins, clears, puts, works, grows, resumed, Fix, Mend, Anew}
 use Rattle.ceal_theory.specs.Take.{TakenAlloc, TakenRead, take_alloc, take_read}
 
+pub not-same : (v w : Word) → ¬ (v ≡ w) → same_word v w ≡ false
+not-same v w h = go (same_word v w) refl
+  where
+    go : (b : Bool) → same_word v w ≡ b → b ≡ false
+    go true e = absurd (h (word-same v w e))
+    go false e = refl
+
 module _ (code : Code) (names : ℕ → ℕ) where
   abbrev pub Sound : Runner → Type 0
   Sound again = (s : State) (st : Stack) (old : Trace) (r : Ran) → again s st old ≡ Some r → Anew code names s st old r.state r.items r.left
@@ -137,13 +144,6 @@ module _ (code : Code) (names : ℕ → ℕ) where
   abbrev pub Enough : Runner → ℕ → Type 0
   Enough again n = (s s' : State) (st : Stack) (old new left : Trace) → Anew code names s st old s' new left → s'.work < s.work + n
       → again s st old ≡ Some (record { state = s'; items = new; left = left })
-
-  not-same : (v w : Word) → ¬ (v ≡ w) → same_word v w ≡ false
-  not-same v w h = go (same_word v w) refl
-    where
-      go : (b : Bool) → same_word v w ≡ b → b ≡ false
-      go true e = absurd (h (word-same v w e))
-      go false e = refl
 
   module _ (again : Runner) (n : ℕ) (enough : Enough again n) where
     mutual

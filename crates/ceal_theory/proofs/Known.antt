@@ -322,7 +322,7 @@ module _ (code : Code) (n : ℕ) (ds : List ℕ) where
   pub stays-knows : (bs : List ℕ) (s : State) (fs fs' : List Flat_frame) (front back : List Item) → Knows code n ds bs (flat_machine s Goes_through fs (front ++ back))
       → Agrees_all code s.store front → passes_all front fs ≡ Some fs'
       → Goes_knowing code n ds bs front (flat_machine (with_store s (store_after code s.store front)) Goes_through fs' back)
-  unfolding store_after turn
+  unfolding turn
   stays-knows bs s fs fs' [] back k h e = record { known = bs; items = Known_items.none; knows = subst (λ gs. Knows code n ds bs (flat_machine s Goes_through gs back)) (some-same fs fs' e) k }
   stays-knows bs s fs fs' (Step ∷ front) back k h e =
       one-more bs (flat_machine s Goes_through fs (Step ∷ front ++ back)) (flat_machine s Goes_through fs (front ++ back)) _ Step front k (λ names. refl) refl (λ cs q. stays-knows cs s fs fs' front back q h.1 e)

@@ -23,11 +23,11 @@ use Rattle.ceal_theory.proofs.Replays.{wider, holds-with, ran-known, step-y}
 
 -- more inputs
 module _ (n m : ℕ) (h : n ≤ m) where
-  block-inputs : (bs : List ℕ) (b : BlockId) → Known_block n bs b → Known_block m bs b
+  pub block-inputs : (bs : List ℕ) (b : BlockId) → Known_block n bs b → Known_block m bs b
   block-inputs bs (Input i) k = omega (arith, h, k)
   block-inputs bs (Core c) k = k
 
-  word-inputs : (bs : List ℕ) (w : Word) → Known_word n bs w → Known_word m bs w
+  pub word-inputs : (bs : List ℕ) (w : Word) → Known_word n bs w → Known_word m bs w
   word-inputs bs (Num k) l = l
   word-inputs bs Null l = l
   word-inputs bs (BlockWord b) l = block-inputs bs b l
@@ -37,7 +37,7 @@ module _ (n m : ℕ) (h : n ≤ m) where
   words-inputs bs [] l = l
   words-inputs bs (w ∷ ws) l = (word-inputs bs w l.0, words-inputs bs ws l.1)
 
-  key-inputs : (bs : List ℕ) (key : Key) → Known_key n bs key → Known_key m bs key
+  pub key-inputs : (bs : List ℕ) (key : Key) → Known_key n bs key → Known_key m bs key
   key-inputs bs (Init f args) k = words-inputs bs args k
   key-inputs bs IntKey k = k
   key-inputs bs (PtrKey s) k = k

@@ -145,21 +145,21 @@ module _ (ps : Pairs) (one : One_to_one ps) where
   Listed bs bs' = (b : ℕ) → In b bs → (c : ℕ) × Tied b c ps × In c bs'
 
   module _ (n : ℕ) (bs bs' : List ℕ) (listed : Listed bs bs') where
-    id-known : {b c : BlockId} → Id_alike ps b c → Known_block n bs b → Known_block n bs' c
+    pub id-known : {b c : BlockId} → Id_alike ps b c → Known_block n bs b → Known_block n bs' c
     id-known Id_alike.input k = k
     id-known (Id_alike.core {b = b} {c = c} t) k = let g = listed b k in let e : g.0 ≡ c = one.left b g.0 c g.1 t in rw e at g.2
 
-    word-known : {v w : Word} → Word_alike ps v w → Known_word n bs v → Known_word n bs' w
+    pub word-known : {v w : Word} → Word_alike ps v w → Known_word n bs v → Known_word n bs' w
     word-known Word_alike.num k = k
     word-known Word_alike.null k = k
     word-known (Word_alike.block h) k = id-known h k
     word-known (Word_alike.at h) k = id-known h.block k
 
-    words-known : {vs ws : List Word} → Words_alike ps vs ws → Known_words n bs vs → Known_words n bs' ws
+    pub words-known : {vs ws : List Word} → Words_alike ps vs ws → Known_words n bs vs → Known_words n bs' ws
     words-known Words_alike.none k = k
     words-known (Words_alike.more h i) k = (word-known h k.0, words-known i k.1)
 
-    key-known : {k l : Key} → Key_alike ps k l → Known_key n bs k → Known_key n bs' l
+    pub key-known : {k l : Key} → Key_alike ps k l → Known_key n bs k → Known_key n bs' l
     key-known (Key_alike.init h) k = words-known h k
     key-known Key_alike.int k = k
     key-known Key_alike.pointer k = k

@@ -163,7 +163,7 @@ module _ (code : Code) (old new : List Block) (f : ℕ) (args : List Word) (fits
     pub adjust-replays : Replays code new f args m
     adjust-replays = record {
       yields = yields-after own own-single number low m work a;
-      distinct = fix-distinct code (begins code new (plain_of code new l) number) a.after l m a.fix r.distinct low;
+      distinct = fix-distinct code own own-single (begins code new (plain_of code new l) number) a.after l m a.fix r.distinct low;
       known = p.known;
       mentions = p.mentions;
     }
@@ -172,4 +172,4 @@ module _ (code : Code) (old new : List Block) (f : ℕ) (args : List Word) (fits
     adjust-honest = record { after = a.after.store; walk = fix-honest a.fix }
 
     pub adjust-old : (b : ℕ) → b < number → uses b m ≤ uses b l
-    adjust-old = fix-old code (begins code new (plain_of code new l) number) a.after l m a.fix
+    adjust-old = fix-old code own own-single (begins code new (plain_of code new l) number) a.after l m a.fix

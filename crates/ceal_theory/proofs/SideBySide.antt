@@ -98,6 +98,16 @@ module _ (ps : Pairs) (one : One_to_one ps) where
       (ap₂ (λ a b. a && u1.0 == u.0 && y1 == y && b) (place-both ps one p1 p q1 q kp1 kp) (words-both kvs1 kw))
       (read-if-alike (same_place p1 p && u1.0 == u.0 && y1 == y && same_words vs1 vs) kv1 ki h (read-then-alike h (take-read-alike kp u y kw ki) (take-read-alike kp u y kw h)))
 
+pub given-too : (code : Code) (ps : Pairs) (u : UnitId) (y : ℕ) (args args' : List Word) (v w : Word) → Words_alike ps args args' → Word_alike ps v w → Stack_alike ps (resumed code u y args v) (resumed code u y args' w)
+given-too code ps u y args args' v w ka kw = given-alike ps code u.0 y ka kw Stack_alike.empty
+
+-- what is equal on the one side is equal on the other
+pub equal-too : (ps : Pairs) → One_to_one ps → (v w v' w' : Word) → Word_alike ps v v' → Word_alike ps w w' → v ≡ w → v' ≡ w'
+equal-too ps one v w v' w' h k e = word-same v' w' (sym (word-both ps one h k) ∙ (ap (λ z. same_word z w) e ∙ word-refl w))
+
+pub apart-too : (ps : Pairs) → One_to_one ps → (v w v' w' : Word) → Word_alike ps v v' → Word_alike ps w w' → ¬ (v ≡ w) → ¬ (v' ≡ w')
+apart-too ps one v w v' w' h k n e = n (word-same v w (word-both ps one h k ∙ (ap (λ z. same_word z w') e ∙ word-refl w')))
+
 -- the names of two repairs, their first numbers, and the pairs at the beginning
 pub record Sides : Type 0 where
   pub left : ℕ → ℕ
@@ -129,7 +139,7 @@ module _ (code : Code) (sides : Sides) where
   twin-works : (ps : Pairs) (s t : State) → Twin ps s t → Twin ps (works s) (works t)
   twin-works ps s t k = record { one = k.one; plain = k.plain; store = k.store; left = k.left; right = k.right; work = ap (λ n. n + 1) k.work; since = k.since; numbers = k.numbers; pairs = k.pairs }
 
-  twin-clears : (ps : Pairs) (s t : State) (b c : BlockId) (key key' : Key) → Id_alike ps b c → Key_alike ps key key' → Twin ps s t → Twin ps (clears code s b key) (clears code t c key')
+  pub twin-clears : (ps : Pairs) (s t : State) (b c : BlockId) (key key' : Key) → Id_alike ps b c → Key_alike ps key key' → Twin ps s t → Twin ps (clears code s b key) (clears code t c key')
   twin-clears ps s t b c key key' i kk k = record {
     one = k.one;
     plain = k.plain;
@@ -142,7 +152,7 @@ module _ (code : Code) (sides : Sides) where
     pairs = k.pairs;
   }
 
-  twin-puts : (ps : Pairs) (s t : State) (p q : Place) (v w : Word) → Place_alike ps p q → Word_alike ps v w → Twin ps s t → Twin ps (puts s p v) (puts t q w)
+  pub twin-puts : (ps : Pairs) (s t : State) (p q : Place) (v w : Word) → Place_alike ps p q → Word_alike ps v w → Twin ps s t → Twin ps (puts s p v) (puts t q w)
   twin-puts ps s t p q v w kp kv k = record { one = k.one; plain = k.plain; store = stored-alike ps k.one s.store t.store p q v w k.store kp kv; left = k.left; right = k.right; work = k.work; since = k.since; numbers = k.numbers; pairs = k.pairs }
 
   pair-one : (ps : Pairs) (f g : ℕ) → One_to_one ps → ((b c : ℕ) → Tied b c ps → ¬ (b ≡ f)) → ((b c : ℕ) → Tied b c ps → ¬ (c ≡ g)) → One_to_one (record { left = f; right = g } ∷ ps)
@@ -290,16 +300,6 @@ module _ (code : Code) (sides : Sides) where
   ran-alike : (ps : Pairs) (key key' : Key) (b c : BlockId) (v u i : ℕ) (env env' : Variables) (below below' : Stack) → Id_alike ps b c → Key_alike ps key key' → Variables_alike ps env env' → Stack_alike ps below below'
       → Stack_alike ps (Run u i (set env v (pointer key b)) below) (Run u i (set env' v (pointer key' c)) below')
   ran-alike ps key key' b c v u i env env' below below' t kk kv ks = Stack_alike.run (set-alike ps kv v (pointer-alike ps kk t)) ks
-
-  given-too : (ps : Pairs) (u : UnitId) (y : ℕ) (args args' : List Word) (v w : Word) → Words_alike ps args args' → Word_alike ps v w → Stack_alike ps (resumed code u y args v) (resumed code u y args' w)
-  given-too ps u y args args' v w ka kw = given-alike ps code u.0 y ka kw Stack_alike.empty
-
-  -- what is equal on the one side is equal on the other
-  equal-too : (ps : Pairs) → One_to_one ps → (v w v' w' : Word) → Word_alike ps v v' → Word_alike ps w w' → v ≡ w → v' ≡ w'
-  equal-too ps one v w v' w' h k e = word-same v' w' (sym (word-both ps one h k) ∙ (ap (λ z. same_word z w) e ∙ word-refl w))
-
-  apart-too : (ps : Pairs) → One_to_one ps → (v w v' w' : Word) → Word_alike ps v v' → Word_alike ps w w' → ¬ (v ≡ w) → ¬ (v' ≡ w')
-  apart-too ps one v w v' w' h k n e = n (word-same v w (word-both ps one h k ∙ (ap (λ z. same_word z w') e ∙ word-refl w')))
 
   fix-read-too : (ps : Pairs) (s' : State) (t : State) (p q : Place) (v w0 : Word) (u : UnitId) (y : ℕ) (args args' : List Word) (i' l' j m : Trace) (s1 : State)
       → Place_alike ps p q → Word_alike ps v (t.store q) → Words_alike ps args args'
@@ -472,7 +472,7 @@ module _ (code : Code) (sides : Sides) where
         kept : {new old' : Trace} {args' : List Word} → Fixed_too code sides ps s' new t old' → Mended_too code sides ps s' new t q u y args' w old'
         kept x = record { state = x.state; items = x.items; mend = Mend.kept (equal-too ps k.one (s.store p) v (t.store q) w (k.store p q kp) kv e) x.fix; pairs = x.pairs; wider = x.wider; alike = x.alike; twin = x.twin }
     mend-too {s} {s'} {p} {u} {y} {args} {v} (Mend.stale {left = left} e a) ps t {q} kp {args'} ka {w} kv h k =
-        stale (anew-too a ps t (given-too ps u y args args' (s.store p) (t.store q) ka (k.store p q kp)) h k)
+        stale (anew-too a ps t (given-too code ps u y args args' (s.store p) (t.store q) ka (k.store p q kp)) h k)
       where
         stale : {new old' : Trace} → Ran_too code sides ps s' new left t (resumed code u y args' (t.store q)) old' → Mended_too code sides ps s' new t q u y args' w old'
         stale x = record { state = x.state; items = x.items; mend = Mend.stale (apart-too ps k.one (s.store p) v (t.store q) w (k.store p q kp) kv e) x.anew; pairs = x.pairs; wider = x.wider; alike = x.alike; twin = x.twin }
@@ -548,7 +548,7 @@ module _ (code : Code) (sides : Sides) where
             (λ qs t1 wide k1. g qs t1 q.below' (stack-wider ps qs wide q.alike) z.x'.leftover (trace-wider ps qs wide z.left) k1)
     anew-too {s} {s'} {st} {old} (Anew.reads {t = s1} {below = below} {p = p} {u = u} {v = y} {args = args} {between = between} {inside' = i'} {new = new} {left = left} e w m a) ps t {st'} ks {old'} h k =
         go (reads-too ps p u y args below (next code t.plain st') (next-too ps s t k st st' ks (Reads p u y args below) e))
-        (λ q args' kp ka. anew-too m ps (works t) (given-too ps u y args args' (s.store p) (t.store q) ka (k.store p q kp)) h (twin-works code sides ps s t k))
+        (λ q args' kp ka. anew-too m ps (works t) (given-too code ps u y args args' (s.store p) (t.store q) ka (k.store p q kp)) h (twin-works code sides ps s t k))
         (λ qs t1 below' kb l' kl k1. anew-too a qs t1 kb kl k1)
       where
         go : Reads_too ps p u y args below (next code t.plain st')

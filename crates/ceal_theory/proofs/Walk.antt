@@ -15,22 +15,18 @@ use Rattle.ceal_theory.specs.Walk.{store_item, store_after, Agrees, Agrees_all, 
 
 module _ (code : Code) where
   pub after-append : (s : Store) (is js : List Item) → store_after code s (is ++ js) ≡ store_after code (store_after code s is) js
-  unfolding store_after
   after-append s [] js = refl
   after-append s (i ∷ is) js = after-append (store_item code s i) is js
 
   pub agrees-append : (s : Store) (is js : List Item) → Agrees_all code s is → Agrees_all code (store_after code s is) js → Agrees_all code s (is ++ js)
-  unfolding store_after
   agrees-append s [] js h k = k
   agrees-append s (i ∷ is) js h k = (h.0, agrees-append (store_item code s i) is js h.1 k)
 
   pub agrees-front : (s : Store) (is js : List Item) → Agrees_all code s (is ++ js) → Agrees_all code s is × Agrees_all code (store_after code s is) js
-  unfolding store_after
   agrees-front s [] js h = (tt, h)
   agrees-front s (i ∷ is) js h = let k = agrees-front (store_item code s i) is js h.1 in ((h.0, k.0), k.1)
 
   honest-agrees : {s t : Store} {l : Trace} → Honest code s l t → Agrees_all code s (flat l) × (t ≡ store_after code s (flat l))
-  unfolding store_after
   honest-agrees Honest.end = (tt, refl)
   honest-agrees (Honest.step h) = let k = honest-agrees h in ((tt, k.0), k.1)
   honest-agrees (Honest.alloc h) = let k = honest-agrees h in ((tt, k.0), k.1)
@@ -41,8 +37,13 @@ module _ (code : Code) where
       let a : Agrees_all code (store_after code s (flat inside)) (flat rest) = subst (λ m. Agrees_all code m (flat rest)) k1.1 k2.0 in
       ((e, agrees-append s (flat inside) (End ∷ flat rest) k1.0 (tt, a)), k2.1 ∙ (ap (λ m. store_after code m (flat rest)) k1.1 ∙ sym (after-append s (flat inside) (End ∷ flat rest))))
 
-  agrees-honest : (s : Store) (l : Trace) → Agrees_all code s (flat l) → Honest code s l (store_after code s (flat l))
-  unfolding store_after
+  pub flat-honest : {s t : Store} {l : Trace} → Honest code s l t → Agrees_all code s (flat l)
+  flat-honest h = (honest-agrees h).0
+
+  pub flat-after : {s t : Store} {l : Trace} → Honest code s l t → t ≡ store_after code s (flat l)
+  flat-after h = (honest-agrees h).1
+
+  pub agrees-honest : (s : Store) (l : Trace) → Agrees_all code s (flat l) → Honest code s l (store_after code s (flat l))
   agrees-honest s Nothing h = Honest.end
   agrees-honest s (Stepped rest) h = Honest.step (agrees-honest s rest h.1)
   agrees-honest s (Allocated b key rest) h = Honest.alloc (agrees-honest (cleared code s b key) rest h.1)
@@ -54,7 +55,6 @@ module _ (code : Code) where
 
   read-stale : (s : Store) (p : Place) (v : Word) (u : UnitId) (x : ℕ) (args : List Word) (is : List Item) → Agrees_all code s is ⊎ Stale code s is → (b : Bool) → same_word (s p) v ≡ b
       → Agrees_all code s (Read p v u x args ∷ is) ⊎ Stale code s (Read p v u x args ∷ is)
-  unfolding store_after
   read-stale s p v u x args is (inl h) true e = inl (word-same (s p) v e, h)
   read-stale s p v u x args is (inr h) true e = inr (record {
     front = Read p v u x args ∷ h.front;
@@ -82,7 +82,6 @@ module _ (code : Code) where
   })
 
   item-stale : (s : Store) (i : Item) (is : List Item) → Agrees s i → Agrees_all code (store_item code s i) is ⊎ Stale code (store_item code s i) is → Agrees_all code s (i ∷ is) ⊎ Stale code s (i ∷ is)
-  unfolding store_after
   item-stale s i is a (inl h) = inl (a, h)
   item-stale s i is a (inr h) = inr (record {
     front = i ∷ h.front;
@@ -120,7 +119,6 @@ item-at code s (Read q v u x args) p = refl
 item-at code s End p = refl
 
 pub content-law : Content_law
-unfolding store_after
 content-law code s [] p = refl
 content-law code s (i ∷ is) p = content-law code (store_item code s i) is p ∙ ap (λ w. content_after code p w is) (item-at code s i p)
 

@@ -16,3 +16,6 @@ pub mod MoreInputs
 pub mod FlatMachine
 pub mod Known
 pub mod KnownContent
+pub mod Slices
+pub mod Cover
+pub mod SliceLaws

@@ -1,5 +1,4 @@
 -- The store along flat items, and what a repair does where it finds nothing stale.
--- (`store_item`, `store_after`, `Agrees_all`, `Walk_law` and `Stale_law` belong to ceal_code.)
 use Rattle.std.specs.Prelude.{◌≡◌, ◌↔◌, ◌⊎◌, ℕ, List, [], ◌∷◌, ◌++◌, ⊤, if◌then◌else◌}
 use Rattle.ceal_base.specs.Trace.{Trace, flat}
 use Rattle.ceal_base.specs.declared.forest.Item.{Item}
@@ -22,7 +21,7 @@ store_item code s (Read p value u v args) = s
 store_item code s End = s
 
 -- and of items in their order
-unfoldable pub store_after : Code → Store → List Item → Store
+abbrev pub store_after : Code → Store → List Item → Store
 store_after code s [] = s
 store_after code s (i ∷ is) = store_after code (store_item code s i) is
 

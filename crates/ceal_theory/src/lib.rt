@@ -12,4 +12,6 @@ pub mod cost;
 pub mod laws;
 pub mod machine;
 pub mod names;
+pub mod queue;
+pub mod slices;
 pub mod walks;
