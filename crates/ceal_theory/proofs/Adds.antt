@@ -1,5 +1,5 @@
 -- What a repair adds: the numbers of its new blocks, each of which its items have, and their words.
-use Rattle.std.proofs.Common.{◌≡◌, ℕ, zero, suc, ◌+◌, ◌≤◌, Bool, true, false, ◌==◌, if◌then◌else◌, Some, List, ◌⊎◌, inl, inr, refl, sym, ◌∙◌, subst, arith}
+use Rattle.std.proofs.Common.{◌≡◌, ℕ, ◌+◌, ◌≤◌, Bool, true, false, ◌==◌, if◌then◌else◌, Some, List, ◌⊎◌, inl, inr, refl, sym, ◌∙◌, subst, arith}
 use Rattle.ceal_base.specs.Block.{Block}
 use Rattle.ceal_base.specs.Trace.{Trace, Nothing, Stepped, Allocated, Wrote, Was_read, blocks_of}
 use Rattle.ceal_base.specs.declared.forest.UnitId.{UnitId}

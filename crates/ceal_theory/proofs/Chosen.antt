@@ -1,5 +1,5 @@
 -- A repair turn by turn where the numbers of new blocks are chosen as it goes.
-use Rattle.std.proofs.Common.{◌≡◌, ℕ, zero, suc, ◌+◌, ◌≤◌, ◌<◌, Option, Some, None, List, [], ◌∷◌, ◌++◌, length, slice_get, append-nil, refl, sym, ap, ◌∙◌, arith}
+use Rattle.std.proofs.Common.{◌≡◌, ℕ, zero, suc, ◌+◌, ◌<◌, Option, Some, None, List, [], ◌∷◌, ◌++◌, length, slice_get, append-nil, refl, sym, ap, ◌∙◌, arith}
 use Rattle.ceal_base.specs.Block.{Block}
 use Rattle.ceal_base.specs.Finished.{Finished}
 use Rattle.ceal_base.specs.Trace.{Trace, Nothing, flat, steps_of}
@@ -16,18 +16,18 @@ use Rattle.ceal_code.specs.Step.{started}
 use Rattle.ceal_theory.proofs.Found.{first-steps, first-words, repaired}
 use Rattle.ceal_theory.proofs.FromScratch.{scratch-first}
 use Rattle.ceal_theory.proofs.Functions.{adjusted-sound, adjusted-found, first-sound, first-found}
-use Rattle.ceal_theory.proofs.Honesty.{fix-honest, anew-honest, fix-rises, anew-rises}
+use Rattle.ceal_theory.proofs.Honesty.{fix-honest, anew-honest}
 use Rattle.ceal_theory.proofs.Inputs.{fits-more}
 use Rattle.ceal_theory.proofs.MachineLaws.{leads-stays, leads-then, takes-turn}
 use Rattle.ceal_theory.proofs.Named.{handed-law, named-back, named-there, first-back, first-there}
 use Rattle.ceal_theory.proofs.Repaired.{words-after}
-use Rattle.ceal_theory.proofs.Turns.{finishes-fix, finishes-anew}
+use Rattle.ceal_theory.proofs.Turns.{finishes-fix, finishes-anew, finishes-rises}
 use Rattle.ceal_theory.specs.Adjust.{Adjusts_as, Firsts_as}
 use Rattle.ceal_theory.specs.Chosen.{Continues, Comes_by, Free, Ended_repair, Ended_first, repair_begins, first_begins, Chosen_law}
 use Rattle.ceal_theory.specs.Laws.{Edited}
 use Rattle.ceal_theory.specs.Named.{Apart, then_from}
-use Rattle.ceal_theory.specs.Repair.{State, Single, begins}
-use Rattle.ceal_theory.specs.Turns.{Machine, Frames, Ended, turn, Resumes, Finishes, Leads, Ends}
+use Rattle.ceal_theory.specs.Repair.{Single, begins}
+use Rattle.ceal_theory.specs.Turns.{Machine, Ended, turn, Resumes, Finishes, Leads, Ends}
 
 -- a number above all of these
 most : List ℕ → ℕ
@@ -53,16 +53,6 @@ continues-more bs b names h = (λ k c e. h k c (front bs k c e), h (length bs) b
     last (d ∷ bs) = last bs
 
 module _ (code : Code) where
-  resumes-rises : {names : ℕ → ℕ} {s s' : State} {l : Trace} {fs : Frames} {out : List Item} → Resumes code names s l fs s' out → s.work ≤ s'.work
-  resumes-rises Resumes.bottom = omega arith
-  resumes-rises (Resumes.after_fix f r) = omega (arith, fix-rises f, resumes-rises r)
-  resumes-rises (Resumes.after_mend a r) = omega (arith, anew-rises a, resumes-rises r)
-  resumes-rises (Resumes.after_run a r) = omega (arith, anew-rises a, resumes-rises r)
-
-  finishes-rises : {names : ℕ → ℕ} {m : Machine} {s' : State} {out : List Item} → Finishes code names m s' out → m.state.work ≤ s'.work
-  finishes-rises (Finishes.fixes f r) = omega (arith, fix-rises f, resumes-rises r)
-  finishes-rises (Finishes.runs a r) = omega (arith, anew-rises a, resumes-rises r)
-
   first : (m : Machine) → m.state.number ≡ 0 → Comes_by code m m [] []
   first m e = record { number = e; leads = λ names h. leads-stays code names m }
 

@@ -1,9 +1,7 @@
 -- What keeps the reads that are not honest covered by the queue.
-use Rattle.std.proofs.Common.{◌≡◌, ℕ, ◌==◌, ◌||◌, Bool, true, false, if◌then◌else◌, Option, Some, None, List, [], ◌∷◌, ◌++◌, ◌⊎◌, inl, inr, refl, sym, ap, ◌∙◌, subst, arith}
+use Rattle.std.proofs.Common.{◌≡◌, ℕ, ◌==◌, ◌||◌, Bool, true, false, if◌then◌else◌, Option, Some, None, List, ◌⊎◌, inl, inr, refl, sym, ◌∙◌, subst, arith}
 use Rattle.std.specs.Prelude.{⊤}
 use Rattle.ceal_base.specs.Operators.{same_place}
-use Rattle.ceal_base.specs.Trace.{Trace, Nothing, Stepped, Allocated, Wrote, Was_read, flat}
-use Rattle.ceal_base.specs.declared.forest.Item.{Item}
 use Rattle.ceal_base.specs.declared.forest.Item.TheVariants.{Step, Alloc, Write, Read, End}
 use Rattle.ceal_base.specs.declared.forest.Key.{Key}
 use Rattle.ceal_base.specs.declared.word.BlockId.{BlockId}
@@ -11,11 +9,10 @@ use Rattle.ceal_base.specs.declared.word.Place.{Place}
 use Rattle.ceal_base.specs.declared.word.Word.{Word}
 use Rattle.ceal_code.proofs.Same.{place-same, place-refl, nat-refl}
 use Rattle.ceal_code.specs.Program.{Code}
-use Rattle.ceal_code.specs.Replay.{Store, Honest, cleared, stored}
-use Rattle.ceal_theory.proofs.Walk.{after-append, agrees-append}
+use Rattle.ceal_code.specs.Replay.{Store, cleared, stored}
 use Rattle.ceal_theory.proofs.Stored.{stored-equal, cleared-equal}
 use Rattle.ceal_theory.specs.Cover.{waits_after, Queued, More_on, Nodes, Nil, Node, items_of, before, Queue, Waiting, none_waits, closed, opened, Covered, first_read, with_queued, without, None_queued, Absent}
-use Rattle.ceal_theory.specs.Walk.{store_item, store_after, Agrees_all}
+use Rattle.ceal_theory.specs.Walk.{store_after, Agrees_all}
 
 -- at each place the same content and no less waiting, or a queued read waits
 abbrev pub Less : Store → Waiting → Store → Waiting → Type 0
@@ -41,7 +38,7 @@ opened-if : (t : Bool) (a b : Bool) → a ≡ true → (if t then a || b else a)
 opened-if true a b e = or-left a b e
 opened-if false a b e = e
 
-opened-keeps : (w : Waiting) (p : Place) (b : Bool) (r : Place) → w r ≡ true → opened w p b r ≡ true
+pub opened-keeps : (w : Waiting) (p : Place) (b : Bool) (r : Place) → w r ≡ true → opened w p b r ≡ true
 unfolding opened
 opened-keeps w p b r e = opened-if (same_place r p) (w r) b e
 
@@ -192,7 +189,7 @@ module _ (code : Code) where
       go true = rw (e, f) refl
       go false = e
 
-  same-on : (q : Queue) (l : Nodes) → More_on q q l
+  pub same-on : (q : Queue) (l : Nodes) → More_on q q l
   same-on q Nil = tt
   same-on q (Node n i rest) = (λ e. e, same-on q rest)
 

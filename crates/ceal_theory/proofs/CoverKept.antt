@@ -23,7 +23,7 @@ use Rattle.ceal_theory.proofs.Replays.{anew-plays}
 use Rattle.ceal_theory.proofs.Stored.{stored-equal, cleared-equal}
 use Rattle.ceal_theory.specs.Repair.{State, resumed, Anew}
 use Rattle.ceal_theory.proofs.SameStore.{honest-again}
-use Rattle.ceal_theory.proofs.Cover.{cover, covered-front, covered-behind, honest-front, none-waits}
+use Rattle.ceal_theory.proofs.Cover.{same-on, cover, covered-front, covered-behind, honest-front, none-waits}
 use Rattle.ceal_theory.proofs.Walk.{agrees-append, flat-honest}
 use Rattle.ceal_theory.proofs.Sound.{at-core}
 use Rattle.ceal_theory.proofs.Ready.{Ready, ready-over, sound-ready}
@@ -98,12 +98,8 @@ module _ {names : ℕ → ℕ} (code : Code) (inputs : List Block) (f : ℕ) (ws
 
   -- the old nodes stay covered from the new start
   pub moved-start : (q : Queue) (l : Nodes) → items_of l ≡ flat r.items → Covered code q (starting code inputs r.known) none_waits l → Covered code q (starting code inputs z) none_waits l
-  moved-start q l e c = cover code q q l (same-on q l) (starting code inputs r.known) (starting code inputs z) none_waits at c
+  moved-start q l e c = cover code q q l (same-on code q l) (starting code inputs r.known) (starting code inputs z) none_waits at c
     where
-      same-on : (q : Queue) (l : Nodes) → More_on q q l
-      same-on q Nil = tt
-      same-on q (Node n i rest) = (λ e. e, same-on q rest)
-
       of : (p : Place) → (starting code inputs r.known p ≡ starting code inputs z p) ⊎ (¬ (Known_block (length inputs) h.blocks p.block))
           → ((starting code inputs r.known p ≡ starting code inputs z p) × (none_waits p ≡ false)) ⊎ Queued q (first_read p l)
       of p (inl e) = inl (e, none-waits code p)

@@ -14,7 +14,6 @@ use Rattle.ceal_code.proofs.Same.{some-same, none-some}
 use Rattle.ceal_code.specs.Program.{Code}
 use Rattle.ceal_code.specs.Replay.{count, Distinct, core_numbers}
 use Rattle.ceal_code.specs.Step.{Stack}
-use Rattle.ceal_theory.specs.Adjust.{Above}
 use Rattle.ceal_theory.specs.Repair.{Single, own, State, Fix, Mend, Anew}
 use Rattle.ceal_theory.specs.Take.{TakenAlloc, TakenRead, same_words, same_key, alloc_then, read_then, take_alloc, take_read}
 

@@ -66,7 +66,7 @@ if-then : (b : BlockId) (r g : Trace) (t : Bool) (a c d : Option TakenAlloc) →
 if-then b r g true a c d e = refl
 if-then b r g false a c d e = e
 
-alloc-followed : (key : Key) (f g : Trace) → take_alloc key (followed f g) ≡ alloc_then g (take_alloc key f) (take_alloc key g)
+pub alloc-followed : (key : Key) (f g : Trace) → take_alloc key (followed f g) ≡ alloc_then g (take_alloc key f) (take_alloc key g)
 unfolding take_alloc
 alloc-followed key Nothing g = refl
 alloc-followed key (Stepped rest) g = alloc-followed key rest g
@@ -121,7 +121,7 @@ if-then-read : (v : Word) (i r g : Trace) (t : Bool) (a c d : Option TakenRead) 
 if-then-read v i r g true a c d e = refl
 if-then-read v i r g false a c d e = e
 
-read-followed : (p : Place) (u : UnitId) (x : ℕ) (ws : List Word) (f g : Trace) → take_read p u x ws (followed f g) ≡ read_then g (take_read p u x ws f) (take_read p u x ws g)
+pub read-followed : (p : Place) (u : UnitId) (x : ℕ) (ws : List Word) (f g : Trace) → take_read p u x ws (followed f g) ≡ read_then g (take_read p u x ws f) (take_read p u x ws g)
 unfolding take_read
 read-followed p u x ws Nothing g = refl
 read-followed p u x ws (Stepped rest) g = read-followed p u x ws rest g

@@ -58,3 +58,9 @@ pub mod RenamedSound
 pub mod CoverKept
 pub mod SliceLaws
 pub mod SliceSamples
+pub mod Revoked
+pub mod Layers
+pub mod Bare
+pub mod Moves
+pub mod Course
+pub mod NodeChanges

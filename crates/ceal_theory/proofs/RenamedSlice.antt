@@ -1,11 +1,9 @@
 -- A slice of a repair whose core blocks are renamed one to one is the slice renamed.
-use Rattle.std.proofs.Common.{◌≡◌, ℕ, suc, ◌+◌, pos, ◌≤◌, arith, Bool, true, false, if◌then◌else◌, Option, Some, None, List, [], ◌∷◌, slice_get, refl, sym, ap, ◌∙◌, subst}
+use Rattle.std.proofs.Common.{◌≡◌, ℕ, suc, pos, ◌≤◌, arith, Bool, true, false, if◌then◌else◌, Option, Some, None, List, slice_get, refl, sym, ◌∙◌, subst}
 use Rattle.ceal_base.specs.Block.{Block}
 use Rattle.ceal_base.specs.Fitting.{inputs_fit}
-use Rattle.ceal_base.specs.Operators.{same_word}
 use Rattle.ceal_base.specs.Shapes.{kinds_of_shape}
 use Rattle.ceal_base.specs.Trace.{Trace, Nothing, Stepped, Allocated, Wrote, Was_read}
-use Rattle.ceal_base.specs.declared.forest.Key.{Key}
 use Rattle.ceal_base.specs.declared.forest.UnitId.{UnitId}
 use Rattle.ceal_base.specs.declared.kind.FieldKind.{FieldKind}
 use Rattle.ceal_base.specs.declared.typed.StructInfo.{StructInfo}
@@ -14,12 +12,11 @@ use Rattle.ceal_base.specs.declared.word.BlockId.TheVariants.{Input, Core}
 use Rattle.ceal_base.specs.declared.word.Place.{Place}
 use Rattle.ceal_base.specs.declared.word.Word.{Word}
 use Rattle.ceal_base.specs.declared.word.Word.TheVariants.{Num}
-use Rattle.ceal_code.proofs.AlikeLemmas.{id-wider, place-wider, word-wider, words-wider, key-wider, trace-wider, word-both, given-alike, field_default-self}
-use Rattle.ceal_code.proofs.AlikeStores.{cleared-tied, stored-alike}
+use Rattle.ceal_code.proofs.AlikeLemmas.{id-wider, place-wider, word-wider, words-wider, key-wider, trace-wider, field_default-self}
 use Rattle.ceal_code.proofs.Pairs.{within-trans}
 use Rattle.ceal_code.proofs.Replayed.{bases-self}
-use Rattle.ceal_code.proofs.Same.{word-same, word-refl, none-some}
-use Rattle.ceal_code.specs.Alike.{Pair, Pairs, Tied, Id_alike, Place_alike, Word_alike, Words_alike, Key_alike, Stack_alike, Fields_alike, Maybe_alike, Plain_alike, Store_alike, Trace_alike, Within, One_to_one}
+use Rattle.ceal_code.proofs.Same.{none-some}
+use Rattle.ceal_code.specs.Alike.{Pairs, Tied, Id_alike, Place_alike, Word_alike, Words_alike, Fields_alike, Maybe_alike, Plain_alike, Store_alike, Trace_alike, Within}
 use Rattle.ceal_code.specs.Program.{Code}
 use Rattle.ceal_code.specs.Replay.{bases, cell_default, content_in, IsHonest}
 use Rattle.ceal_code.specs.Value.{Plain, field_kind, field_default, is_cell}

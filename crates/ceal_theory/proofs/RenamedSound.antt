@@ -1,17 +1,15 @@
 -- A repair that is another one with its core blocks renamed holds, too.
-use Rattle.std.proofs.Common.{◌≡◌, ℕ, List, length, refl}
+use Rattle.std.proofs.Common.{ℕ, List, length, refl}
 use Rattle.ceal_base.specs.Block.{Block}
 use Rattle.ceal_base.specs.Trace.{Trace}
-use Rattle.ceal_base.specs.declared.forest.Key.{Key}
-use Rattle.ceal_base.specs.declared.word.BlockId.{BlockId}
 use Rattle.ceal_base.specs.declared.word.Word.{Word}
 use Rattle.ceal_code.proofs.AlikeLemmas.{next-alike}
 use Rattle.ceal_code.proofs.FittingLemmas.{args-known}
 use Rattle.ceal_code.proofs.Replayed.{started-alike}
-use Rattle.ceal_code.specs.Alike.{Pairs, Tied, Id_alike, Word_alike, Words_alike, Key_alike, Trace_alike, One_to_one}
+use Rattle.ceal_code.specs.Alike.{Pairs, Tied, Id_alike, Trace_alike, One_to_one}
 use Rattle.ceal_code.specs.Fitting.{Fits}
 use Rattle.ceal_code.specs.Program.{Code}
-use Rattle.ceal_code.specs.Replay.{In, Known_block, Known_word, Known_words, Known_key}
+use Rattle.ceal_code.specs.Replay.{In}
 use Rattle.ceal_code.specs.Step.{started}
 use Rattle.ceal_code.specs.Value.{Plain}
 use Rattle.ceal_theory.proofs.Renamed.{id-known, word-known, words-known, key-known, told-yields, told-renamed, distinct-renamed, Made_in as Made_core}

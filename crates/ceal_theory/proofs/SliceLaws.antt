@@ -13,7 +13,7 @@ use Rattle.ceal_code.proofs.Replayed.{trace-law}
 use Rattle.ceal_code.specs.Fitting.{Fits}
 use Rattle.ceal_code.specs.Known.{Known_stack}
 use Rattle.ceal_code.specs.Program.{Code}
-use Rattle.ceal_code.specs.Replay.{Store, Known_word, stored, IsHonest}
+use Rattle.ceal_code.specs.Replay.{Known_word, stored, IsHonest}
 use Rattle.ceal_theory.proofs.Walk.{walk-fix}
 use Rattle.ceal_theory.specs.Repair.{State, resumed}
 use Rattle.ceal_theory.specs.Turns.{Finishes}
@@ -23,7 +23,8 @@ use Rattle.ceal_theory.proofs.Bases.{to-bases, from-bases}
 use Rattle.ceal_theory.proofs.Begun.{adjusts-slices, slices-adjusts, begun-adjusted}
 use Rattle.ceal_theory.proofs.SliceFunction.{sliced-sound, sliced-found}
 use Rattle.ceal_theory.proofs.Cover.{cover, covered-behind, covered-change, covered-front, none-waits, honest-front, first-pop}
-use Rattle.ceal_theory.proofs.Walk.{flat-after, flat-honest, agrees-honest, agrees-front}
+use Rattle.ceal_theory.proofs.Walk.{flat-honest, agrees-front}
+use Rattle.ceal_theory.proofs.NodeChanges.{stored-other}
 use Rattle.ceal_theory.proofs.OneTurn.{honest-part, at-flat, at-store, at-honest, at-run, at-must, Located, Ahead, locate, Same_first, one-first, alone, anew-finishes}
 use Rattle.ceal_theory.proofs.Ready.{sound-ready}
 use Rattle.ceal_code.proofs.Same.{some-same, none-some}
@@ -111,10 +112,6 @@ is-done-law code inputs r = (done-honest code inputs r, honest-done code inputs 
 
 pub bases-law : Bases_law
 bases-law code names inputs f args fits r h k r' = (to-bases code inputs f args fits r h k r', from-bases code inputs f args fits r h k r')
-
-stored-other : (s : Store) (p : Place) (value : Word) (r : Place) → same_place r p ≡ false → s r ≡ stored s p value r
-unfolding stored
-stored-other s p value r e = rw e refl
 
 other-place : (w : Waiting) (p : Place) (wait : Bool) (r : Place) → same_place r p ≡ false → w r ≡ true → opened (closed w p) p wait r ≡ true
 unfolding opened closed

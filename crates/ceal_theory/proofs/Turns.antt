@@ -1,5 +1,5 @@
 -- One turn of the machine keeps what it finishes with.
-use Rattle.std.proofs.Common.{◌≡◌, ℕ, Bool, true, false, Option, Some, None, List, [], ◌∷◌, ◌++◌, append_assoc, append-nil, refl, sym, ap, subst, arith}
+use Rattle.std.proofs.Common.{◌≡◌, ℕ, ◌≤◌, Bool, true, false, Option, Some, None, List, [], ◌∷◌, ◌++◌, append_assoc, append-nil, refl, sym, ap, subst, arith}
 use Rattle.ceal_base.specs.Operators.{same_word}
 use Rattle.ceal_base.specs.Trace.{Trace, Nothing, Stepped, Allocated, Wrote, Was_read, flat}
 use Rattle.ceal_base.specs.declared.forest.Item.{Item}
@@ -15,6 +15,7 @@ use Rattle.ceal_code.specs.Program.{Code}
 use Rattle.ceal_code.specs.Step.{Stack, Run, Act, Over, Quiet, Makes, Writes, Reads, next}
 use Rattle.ceal_code.specs.Value.{Variables, set}
 use Rattle.ceal_theory.specs.Turns.{Goes}
+use Rattle.ceal_theory.proofs.Honesty.{fix-rises, anew-rises}
 use Rattle.ceal_theory.specs.Repair.{State, clears, puts, works, grows, resumed, Fix, Mend, Anew}
 use Rattle.ceal_theory.specs.Take.{TakenAlloc, TakenRead, take_alloc, take_read}
 use Rattle.ceal_theory.specs.Turns.{Mode, Fixing, Running, Frames, Bottom, After_fix, After_mend, After_run, Machine, Turn, Ended, Went, closed, opened, fixing, making, reading, acting, moving, turn, Resumes, Finishes}
@@ -226,3 +227,14 @@ pub record Ran_flat (code : Code) (names : ℕ → ℕ) (s : State) (st : Stack)
 pub finishes-anew : (code : Code) (names : ℕ → ℕ) (s : State) (st : Stack) (old : Trace) (s' : State) (out : List Item) → Finishes code names (at s (Running st old) Bottom) s' out → Ran_flat code names s st old s' out
 finishes-anew code names s st old s' out (Finishes.runs {new = new} {left = left} a Resumes.bottom) =
     record { items = new; left = left; anew = a; same = append-nil (flat new) }
+
+-- the work only rises
+pub resumes-rises : {code : Code} {names : ℕ → ℕ} {s s' : State} {l : Trace} {fs : Frames} {out : List Item} → Resumes code names s l fs s' out → s.work ≤ s'.work
+resumes-rises Resumes.bottom = omega arith
+resumes-rises (Resumes.after_fix f r) = omega (arith, fix-rises f, resumes-rises r)
+resumes-rises (Resumes.after_mend a r) = omega (arith, anew-rises a, resumes-rises r)
+resumes-rises (Resumes.after_run a r) = omega (arith, anew-rises a, resumes-rises r)
+
+pub finishes-rises : {code : Code} {names : ℕ → ℕ} {m : Machine} {s' : State} {out : List Item} → Finishes code names m s' out → m.state.work ≤ s'.work
+finishes-rises (Finishes.fixes f r) = omega (arith, fix-rises f, resumes-rises r)
+finishes-rises (Finishes.runs a r) = omega (arith, anew-rises a, resumes-rises r)

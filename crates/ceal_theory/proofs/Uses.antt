@@ -1,12 +1,7 @@
 -- What items mention, in any order.
-use Rattle.std.proofs.Common.{◌≡◌, ℕ, ◌≤◌, Some, List, [], ◌∷◌, sym, ap, ◌∙◌, subst, arith}
+use Rattle.std.proofs.Common.{◌≡◌, ℕ, ◌≤◌, Some, List, sym, ap, ◌∙◌, subst}
 use Rattle.ceal_base.specs.Trace.{Trace, Nothing, Stepped, Allocated, Wrote, Was_read}
-use Rattle.ceal_base.specs.declared.forest.Key.{Key}
-use Rattle.ceal_base.specs.declared.forest.Key.TheVariants.{Init, ModInt as IntKey, ModPtr as PtrKey}
-use Rattle.ceal_base.specs.declared.word.BlockId.{BlockId}
-use Rattle.ceal_base.specs.declared.word.BlockId.TheVariants.{Input, Core}
-use Rattle.ceal_base.specs.declared.word.Word.{Word}
-use Rattle.ceal_base.specs.declared.word.Word.TheVariants.{Num, Null, Block as BlockWord, At}
+use Rattle.ceal_base.specs.declared.word.BlockId.TheVariants.{Core}
 use Rattle.ceal_code.proofs.Local.{block-more, word-more, words-more, key-more, set-known, given-known, next-known, next-same, made-same}
 use Rattle.ceal_code.proofs.Same.{some-same}
 use Rattle.ceal_code.specs.Init.{made, pointer}

@@ -162,3 +162,30 @@ Replace_law = (code : Code) (q q' : Queue) (s : Store) (front old new back : Nod
     → ((p : Place) → ((store_after code (store_after code s (items_of front)) (items_of old) p ≡ store_after code (store_after code s (items_of front)) (items_of new) p) × (waits_after q none_waits old p ≡ false))
     ⊎ Queued q' (first_read p back))
     → Covered code q' s none_waits (before front (before new back))
+
+-- What an engine does to its nodes keeps the cover, where none of the nodes in front is queued.
+pub record Node_changes (code : Code) : Type 0 where
+  -- a write is put in or taken out, and the next read of its place is queued
+  pub put_write : (q : Queue) (s : Store) (front back : Nodes) (n : ℕ) (p : Place) (value : Word) → None_queued q front → Covered code q s none_waits (before front back)
+      → Covered code (with_queued q (first_read p back)) s none_waits (before front (Node n (Write p value) back))
+  pub cut_write : (q : Queue) (s : Store) (front back : Nodes) (n : ℕ) (p : Place) (value : Word) → None_queued q front → Covered code q s none_waits (before front (Node n (Write p value) back))
+      → Covered code (with_queued q (first_read p back)) s none_waits (before front back)
+  -- a read is revoked, queued or not, and the next read of its place is queued
+  pub cut_read : (q : Queue) (s : Store) (front back : Nodes) (n : ℕ) (p : Place) (value : Word) (u : UnitId) (v : ℕ) (args : List Word) → None_queued q front
+      → Covered code q s none_waits (before front (Node n (Read p value u v args) back)) → Covered code (with_queued q (first_read p back)) s none_waits (before front back)
+  -- a new read is put in that has the content of its moment
+  pub put_read : (q : Queue) (s : Store) (front back : Nodes) (n : ℕ) (p : Place) (value : Word) (u : UnitId) (v : ℕ) (args : List Word) → None_queued q front → store_after code s (items_of front) p ≡ value
+      → Covered code q s none_waits (before front back) → Covered code q s none_waits (before front (Node n (Read p value u v args) back))
+  -- an end is put in or taken out
+  pub put_end : (q : Queue) (s : Store) (front back : Nodes) (n : ℕ) → None_queued q front → Covered code q s none_waits (before front back) → Covered code q s none_waits (before front (Node n End back))
+  pub cut_end : (q : Queue) (s : Store) (front back : Nodes) (n : ℕ) → None_queued q front → Covered code q s none_waits (before front (Node n End back)) → Covered code q s none_waits (before front back)
+  -- an allocation is put in or taken out where the modifiables of its block have their defaults
+  pub put_alloc : (q : Queue) (s : Store) (front back : Nodes) (n : ℕ) (b : BlockId) (key : Key) → None_queued q front
+      → ((p : Place) → cleared code (store_after code s (items_of front)) b key p ≡ store_after code s (items_of front) p)
+      → Covered code q s none_waits (before front back) → Covered code q s none_waits (before front (Node n (Alloc b key) back))
+  pub cut_alloc : (q : Queue) (s : Store) (front back : Nodes) (n : ℕ) (b : BlockId) (key : Key) → None_queued q front
+      → ((p : Place) → cleared code (store_after code s (items_of front)) b key p ≡ store_after code s (items_of front) p)
+      → Covered code q s none_waits (before front (Node n (Alloc b key) back)) → Covered code q s none_waits (before front back)
+
+abbrev pub Node_changes_law : Type 0
+Node_changes_law = (code : Code) → Node_changes code

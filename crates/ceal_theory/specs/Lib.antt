@@ -19,3 +19,5 @@ pub mod KnownContent
 pub mod Slices
 pub mod Cover
 pub mod SliceLaws
+pub mod Groves
+pub mod Course

@@ -1,5 +1,5 @@
 -- The repair of a trace in slices: a repair that goes on, what a slice of it does, and what holds of it.
-use Rattle.std.specs.Prelude.{◌≡◌, ℕ, zero, suc, ◌+◌, ◌≤◌, ◌<◌, pos, nat_le, Bool, true, false, Option, Some, None, List, length, slice_get, if◌then◌else◌, ⊤, is_some}
+use Rattle.std.specs.Prelude.{◌≡◌, ℕ, zero, suc, ◌+◌, ◌≤◌, pos, nat_le, Bool, true, false, Option, Some, None, List, length, slice_get, if◌then◌else◌, ⊤, is_some}
 use Rattle.ceal_base.specs.Block.{Block}
 use Rattle.ceal_base.specs.Operators.{same_word}
 use Rattle.ceal_base.specs.Trace.{Trace, Nothing, Stepped, Allocated, Wrote, Was_read, blocks_of}

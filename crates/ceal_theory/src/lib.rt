@@ -9,6 +9,7 @@
 #![tactic(auto)]
 
 pub mod cost;
+pub mod courses;
 pub mod laws;
 pub mod machine;
 pub mod names;

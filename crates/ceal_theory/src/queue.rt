@@ -1,6 +1,6 @@
 // Laws of the queue of an unfinished repair, each the contract of a function that does nothing.
 
-ghost use Rattle.ceal_theory.specs.Cover.{First_queued_law, Pop_law, Front_law, Change_law, Cover_law, Replace_law};
+ghost use Rattle.ceal_theory.specs.Cover.{Node_changes_law, First_queued_law, Pop_law, Front_law, Change_law, Cover_law, Replace_law};
 ghost use Rattle.ceal_theory.specs.SliceLaws.{Keep_law};
 
 /// The first queued read, if it is stale, is the first stale one; where nothing is queued all is honest.
@@ -36,4 +36,9 @@ pub fn replace_law()
 /// A turn keeps the cover, from the start of the old repair to that of the new one.
 pub fn keep_law()
     ensures law { Keep_law }
+{}
+
+/// What an engine does to its nodes keeps the cover.
+pub fn node_changes_law()
+    ensures law { Node_changes_law }
 {}
