@@ -11,6 +11,7 @@ pub mod boxed;
 pub mod call;
 pub mod copies;
 pub mod fault;
+pub mod fitting;
 pub mod forest;
 pub mod items;
 pub mod kind;
@@ -18,6 +19,7 @@ pub mod laws;
 pub mod memory;
 pub mod no_memory;
 pub mod operators;
+pub mod shapes;
 pub mod syntax;
 #[cfg(test)]
 mod tests;

@@ -1,5 +1,5 @@
 ghost use Rattle.std.specs.Prelude.{IfSome};
-ghost use Rattle.ceal_parse.specs.Print.{IsParsed};
+ghost use Rattle.ceal_print.specs.Print.{IsParsed};
 
 use crate::compile::compile;
 use crate::fault_line::fault_line;
@@ -9,7 +9,7 @@ use ceal_base::text::Text;
 use ceal_lex::lex::lex;
 use ceal_lex::split::split;
 use ceal_parse::parse::parse;
-use ceal_parse::print::print_tree;
+use ceal_print::print::print_tree;
 use std::alloc::Global;
 use std::test::Fail;
 

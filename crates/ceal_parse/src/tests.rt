@@ -2,7 +2,7 @@
 // accepted, and how two of them group.
 
 use crate::parse::parse;
-use crate::stack::Stack;
+use ceal_grammar::stack::Stack;
 use ceal_base::fault::{Fault, FaultCode, FrontError, Span};
 use ceal_base::no_memory::NoMemory;
 use ceal_base::operators::Binary;
