@@ -8,19 +8,17 @@ use Rattle.ceal_base.specs.declared.word.Place.{Place}
 use Rattle.ceal_base.specs.declared.word.Word.{Word}
 use Rattle.ceal_code.specs.Known.{Known_stack}
 use Rattle.ceal_code.specs.Program.{Code}
-use Rattle.ceal_code.specs.Replay.{Yields, Store, Known_word}
-use Rattle.ceal_code.specs.Step.{Stack}
-use Rattle.ceal_code.specs.Value.{Plain}
+use Rattle.ceal_code.specs.Replay.{Store, Known_word}
 use Rattle.ceal_theory.proofs.FlatTake.{first-flat, followed-nothing}
 use Rattle.ceal_theory.proofs.MachineLaws.{takes-turn}
 use Rattle.ceal_theory.proofs.OneTurn.{Located, Ahead, locate, Same_first, one-first, at-flat, at-honest, at-store}
 use Rattle.ceal_theory.proofs.Ready.{sound-ready}
 use Rattle.ceal_theory.proofs.Turns.{finishes-rises}
-use Rattle.ceal_theory.proofs.Told.{yields-told}
+use Rattle.ceal_theory.proofs.Uses.{uses-sure}
 use Rattle.ceal_theory.proofs.Walk.{agrees-front, flat-honest}
 use Rattle.ceal_theory.specs.Course.{Work_law, Turn_course_law, Turn_known_law}
 use Rattle.ceal_theory.specs.Cover.{At, known_after}
-use Rattle.ceal_theory.specs.Known.{Sure, Knows}
+use Rattle.ceal_theory.specs.Known.{Knows}
 use Rattle.ceal_theory.specs.Levels.{first, levels}
 use Rattle.ceal_theory.specs.Repair.{resumed}
 use Rattle.ceal_theory.specs.SliceLaws.{unit_alone}
@@ -54,14 +52,6 @@ turn-course-law code names inputs r front p u v args after x m out l = record {
   ended = λ e. x.slice m.state out (subst (λ is. Finishes code names (unit_alone code inputs r front p u v args x.inside) m.state is) (append-nil out) (l.back m.state [] (ended-finishes code names m e)));
   over = λ n h. x.over n (λ t items f. let w = work-law code names (unit_alone code inputs r front p u v args x.inside) m out l t items f in omega (arith, h, w.0));
 }
-
--- what a stack yields and what mentions known blocks alone stays so, whatever stands around it
-uses-sure : (code : Code) (n : ℕ) (ds : List ℕ) (x : Plain) {st : Stack} {l : Trace} → Yields code x st l → Uses n ds l → Sure code n ds x l
-uses-sure code n ds x (Yields.over e) u = tt
-uses-sure code n ds x (Yields.quiet e r) u = uses-sure code n ds x r u
-uses-sure code n ds x (Yields.makes e h r) u = (u.0, u.1, h, uses-sure code n ds x r u.2)
-uses-sure code n ds x (Yields.writes e r) u = uses-sure code n ds x r u.2
-uses-sure code n ds x (Yields.reads e r1 r2) u = (u.1, u.2, yields-told code x r1, uses-sure code n ds x r1 u.3, uses-sure code n ds x r2 u.4)
 
 at-uses : (code : Code) (n : ℕ) (bs : List ℕ) {s w : Store} {l inside : Trace} {front back : List Item} {p : Place} {value : Word} {u : UnitId} {v : ℕ} {args : List Word}
     → At code s l front w p value u v args inside back → Uses n bs l → Uses n bs inside

@@ -40,7 +40,7 @@ use Rattle.ceal_theory.proofs.Sound.{low, at-core, begin-sound, sound-more, grow
 use Rattle.ceal_theory.proofs.Adds.{part-adds, part-uses}
 use Rattle.ceal_theory.proofs.Parts.{As_part, part-fix, fix-part}
 use Rattle.ceal_theory.proofs.RenamedSlice.{slice-renamed, done-too}
-use Rattle.ceal_theory.specs.SliceLaws.{Begin_law, More_law, Sliced, Slice_law, Done_law, Whole_law, Stays_law, Begun_law, Begun_adjusted_law, Is_named, Renamed_slice_law, and_more, Follow_law, Slices_law, Is_done_law, Bases_law, unit_alone, First_stale, Turn_law, Known_there, Ready_law, Turns, Turns_law, History, Held_up, History_law, Renamed_sound_law, Keep_law, Split_law, Turned_over, Turns_over_law}
+use Rattle.ceal_theory.specs.SliceLaws.{Other_names_law, Begin_law, More_law, Sliced, Slice_law, Done_law, Whole_law, Stays_law, Begun_law, Begun_adjusted_law, Is_named, Renamed_slice_law, and_more, Follow_law, Slices_law, Is_done_law, Bases_law, unit_alone, First_stale, Turn_law, Known_there, Ready_law, Turns, Turns_law, History, Held_up, History_law, Renamed_sound_law, Keep_law, Split_law, Turned_over, Turns_over_law}
 use Rattle.ceal_theory.specs.Cover.{before, items_of, waits_after, Cover_law, Replace_law, known_after, Waiting, none_waits, closed, opened, Change_law, Pop_law, First_queued_law, Front_law}
 use Rattle.ceal_theory.specs.Walk.{store_after, Agrees_all, with_store}
 use Rattle.ceal_theory.specs.Slices.{Repair, with_inputs, starting, goes_on, Part, Runs, repair_at, Slices, sliced, Sound, Follows}
@@ -76,6 +76,18 @@ module _ {names : ℕ → ℕ} (code : Code) (inputs : List Block) (f : ℕ) (ar
 
 pub slice-law : Slice_law
 slice-law code names inputs f args fits r h k r' s = subst (Sliced code names inputs f args r) (sym s.is) (runs-sliced code inputs f args fits r h k s.after s.items s.runs)
+
+pub other-names-law : Other_names_law
+other-names-law code names names' inputs f args r h single number free = record {
+  yields = h.yields;
+  distinct = h.distinct;
+  blocks = h.blocks;
+  all = h.all;
+  holds = h.holds;
+  uses = h.uses;
+  single = single;
+  free = free;
+}
 
 pub done-law : Done_law
 done-law code names inputs f args fits r h k =
