@@ -9,3 +9,4 @@ mod SampleLaws
 mod WholeMemory
 mod Renamed
 mod Samples
+mod SomeText
