@@ -45,7 +45,7 @@ and-right : (a b : Bool) → (a && b) ≡ true → b ≡ true
 and-right true b e = e
 and-right false b e = cc
 
-no-index : (c : ℕ) → Contains {A = ℕ} [] c → ⊥
+no-index : (c : ℕ) → Contains [] c → ⊥
 no-index c h = let l = h.1 in omega (arith, l)
 
 one-index : (x c : ℕ) → Contains (x ∷ []) c → x ≡ c
@@ -159,16 +159,20 @@ module _ (blocks : List GraphBlock) (v : ℕ) where
     sound : Sound marks
     full : step marks marks blocks ≡ marks
 
-  filled : (k : ℕ) (m : Marks) → length m ≡ length blocks → Sound m → length m ≤ marked m + k → Full
-  filled k m l sound room = by_move k room (step-moves m m blocks)
-    where
-      few : marked (step m m blocks) ≤ length m
-      few = let a = marked-few (step m m blocks) in let b = step-length m m blocks in omega (arith, a, b)
+  step-few : (m : Marks) → marked (step m m blocks) ≤ length m
+  step-few m = let a = marked-few (step m m blocks) in let b = step-length m m blocks in omega (arith, a, b)
 
-      by_move : (k : ℕ) → length m ≤ marked m + k → Moves m (step m m blocks) → Full
-      by_move k room (inl e) = record { marks = m; each = l; sound = sound; full = e }
-      by_move zero room (inr more) = absurd (omega (arith, room, more, few))
-      by_move (suc k) room (inr more) = filled k (step m m blocks) (step-length m m blocks ∙ l) (step-sound m l sound) (let e = step-length m m blocks in omega (arith, room, more, e))
+  filled : (k : ℕ) (m : Marks) → length m ≡ length blocks → Sound m → length m ≤ marked m + k → Full
+  filled zero m l sound room = elim (step-moves m m blocks) [
+    | inl e ↦ record { marks = m; each = l; sound = sound; full = e }
+    | inr more ↦ let few = step-few m in absurd (omega (arith, room, more, few))
+  ]
+  filled (suc k) m l sound room = elim (step-moves m m blocks) [
+    | inl e ↦ record { marks = m; each = l; sound = sound; full = e }
+    | inr more ↦
+        let e = step-length m m blocks in
+        filled k (step m m blocks) (e ∙ l) (step-sound m l sound) (omega (arith, room, more, e))
+  ]
 
   no_marks : List GraphBlock → Marks
   no_marks [] = []
@@ -205,12 +209,12 @@ module _ (blocks : List GraphBlock) (v : ℕ) where
       by_block : (o : Option GraphBlock) → slice_get blocks b ≡ o → is_in v (uses_at o) ≡ true → is_live b ≡ true
       by_block None e h = absurd (false≢true h)
       by_block (Some block) e h = closed b block e (or-left (is_in v (uses block)) (keeps v block && any_mark full.marks (jumps block)) h)
-  path-marked b c (jumps_to {b = x} {c = y} {d = z} t j p) used = by_block (slice_get blocks x) refl t j
+  path-marked b c (jumps_to {b = x} {c = y} {d = z} t j p) used = by_block (slice_get blocks x) refl t j (path-marked y z p used)
     where
-      by_block : (o : Option GraphBlock) → slice_get blocks x ≡ o → test_at (keeps v) o → Contains (jumps_at o) y → is_live x ≡ true
-      by_block None e keep jump = absurd keep
-      by_block (Some block) e keep jump =
-          let onward = and-both (keeps v block) (any_mark full.marks (jumps block)) keep (marked-jump full.marks (jumps block) y jump (path-marked y z p used)) in
+      by_block : (o : Option GraphBlock) → slice_get blocks x ≡ o → test_at (keeps v) o → Contains (jumps_at o) y → is_live y ≡ true → is_live x ≡ true
+      by_block None e keep jump there = absurd keep
+      by_block (Some block) e keep jump there =
+          let onward = and-both (keeps v block) (any_mark full.marks (jumps block)) keep (marked-jump full.marks (jumps block) y jump there) in
           closed x block e (or-right (is_in v (uses block)) (keeps v block && any_mark full.marks (jumps block)) onward)
 
   live-is : (b : ℕ) → (is_live b ≡ true) ↔ Live blocks v b
@@ -296,7 +300,7 @@ module _ (blocks : List GraphBlock) where
   unfolding live_set
   live_set-exact b v = (
     λ h. (live-is blocks v b).0 (passing-passes (λ v. is_live blocks v b) 0 (above_all blocks) v h),
-    λ h. passing-has (λ v. is_live blocks v b) 0 (above_all blocks) v (omega arith) (used-above v blocks h.0 h.2) ((live-is blocks v b).1 h),
+    λ h. passing-has (λ v. is_live blocks v b) 0 (above_all blocks) v (omega arith) (let l = used-above v blocks h.0 h.2 in omega (arith, l)) ((live-is blocks v b).1 h),
   )
 
   unfoldable live_sets : ℕ → ℕ → List (List ℕ)
