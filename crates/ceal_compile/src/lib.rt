@@ -7,6 +7,7 @@
 
 pub mod compile;
 pub mod fault_line;
+pub mod laws;
 mod position;
 pub mod program;
 #[cfg(test)]
