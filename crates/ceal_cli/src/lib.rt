@@ -17,7 +17,7 @@ mod replies;
 mod top;
 mod words;
 
-pub use top::{INPUT_LIMIT, Status, ceal_main, status_line};
+pub use top::{INPUT_LIMIT, Status, ceal_main, status_line, status_number};
 
 #[cfg(test)]
 mod tests;
