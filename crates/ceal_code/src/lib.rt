@@ -15,8 +15,6 @@ mod initialiser;
 pub mod laws;
 pub mod listing;
 mod paths;
-#[cfg(test)]
-mod tests;
 mod text;
 mod tree;
 mod typing;

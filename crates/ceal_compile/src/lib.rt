@@ -9,5 +9,3 @@ pub mod compile;
 pub mod fault_line;
 mod position;
 pub mod program;
-#[cfg(test)]
-mod tests;
