@@ -31,3 +31,5 @@ pub mod OnPath
 pub mod TypedActs
 pub mod TypedCommands
 pub mod TypedRun
+pub mod Ends
+pub mod InputFits

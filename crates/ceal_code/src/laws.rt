@@ -1,6 +1,6 @@
 // Laws of trace code, each the contract of a function that does nothing.
 
-ghost use Rattle.ceal_code.specs.Laws.{Step_law, Block_law, Over_law, Alike_law, Trace_law, Path_law, Progress_law};
+ghost use Rattle.ceal_code.specs.Laws.{Step_law, Block_law, Over_law, Alike_law, Trace_law, Path_law, Progress_law, Ended_law, Inputs_law};
 
 /// A step of trace code depends on the plain words of the blocks that its stack can reach, and on nothing else
 /// (our own).
@@ -39,4 +39,14 @@ pub fn path_law()
 /// commands of its units name is there, and there is a next state or the run is at its end (our own).
 pub fn progress_law()
     ensures law { Progress_law }
+{}
+
+/// A run from scratch that ends is at a state that it came to.
+pub fn ended_law()
+    ensures law { Ended_law }
+{}
+
+/// A run makes no input.
+pub fn inputs_law()
+    ensures law { Inputs_law }
 {}
