@@ -10,3 +10,4 @@ pub mod Answering
 pub mod Telling
 pub mod EmptyProgram
 pub mod OneReply
+pub mod SomeReply
