@@ -9,3 +9,4 @@ pub mod Seen
 pub mod Answering
 pub mod Telling
 pub mod OneReply
+pub mod SomeReply

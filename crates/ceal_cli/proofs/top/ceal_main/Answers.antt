@@ -68,8 +68,8 @@ returns-in-Ok-Some-Gen-clause-lost g c = loses_none _ _
 pub returns-in-Ok-None-clause-lost : goal.returns-in-Ok-None-clause-lost
 returns-in-Ok-None-clause-lost g c = loses_none _ _
 
-pub returns-clause-lost : goal.returns-clause-lost
-returns-clause-lost g c = loses_none _ _
+pub returns-in-Err-clause-lost : goal.returns-in-Err-clause-lost
+returns-in-Err-clause-lost g c = loses_none _ _
 
 pub returns-in-Ok-Some : goal.returns-in-Ok-Some
 returns-in-Ok-Some g c =
