@@ -76,6 +76,11 @@ abbrev pub Done_law : Type 0
 Done_law = (code : Code) (names : ℕ → ℕ) (inputs : List Block) (f : ℕ) (args : List Word) → Fits code inputs f args → (r : Repair) → Sound code names inputs f args r
     → (h : IsHonest code inputs r.items) → Ended code inputs f args r.items h
 
+-- the store in which a slice begins says of the items whether they are honest, as the bases alone do
+abbrev pub Start_law : Type 0
+Start_law = (code : Code) (names : ℕ → ℕ) (inputs : List Block) (f : ℕ) (args : List Word) → Fits code inputs f args → (r : Repair) → Sound code names inputs f args r
+    → IsHonest code inputs r.items ↔ Agrees_all code (starting code inputs r.known) (flat r.items)
+
 -- without a number of reads a slice is done
 abbrev pub Whole_law : Type 0
 Whole_law = (code : Code) (names : ℕ → ℕ) (inputs : List Block) (f : ℕ) (args : List Word) → Fits code inputs f args → (r : Repair) → Sound code names inputs f args r
