@@ -1,5 +1,5 @@
 -- What a contract sees of a block, and of a memory.
-use Rattle.std.specs.Prelude.{ℕ, Option, Some, None, List, slice_get, slice_set}
+use Rattle.std.specs.Prelude.{ℕ, Option, Some, None, List, [], slice_get, slice_set}
 use Rattle.ceal_base.specs.declared.word.BlockId.{BlockId}
 use Rattle.ceal_base.specs.declared.word.BlockId.TheVariants.{Input, Core}
 use Rattle.ceal_base.specs.declared.kind.Shape.{Shape}
@@ -14,6 +14,10 @@ pub record Block : Type 0 where
 pub record Blocks : Type 0 where
   pub inputs : List Block
   pub made : List Block
+
+-- the inputs as a memory without core blocks
+abbrev pub alone : List Block → Blocks
+alone inputs = record { inputs = inputs; made = [] }
 
 -- the block of this number
 abbrev pub block_at : Blocks → BlockId → Option Block

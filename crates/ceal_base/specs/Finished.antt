@@ -1,5 +1,5 @@
 -- What a run comes to.
-use Rattle.std.specs.Prelude.{ℕ, List, [], ◌∷◌, ◌++◌}
+use Rattle.std.specs.Prelude.{ℕ, [], ◌∷◌, ◌++◌}
 use Rattle.ceal_base.specs.Block.{Block, Blocks}
 
 -- what a finished run comes to: its memory, its number of steps, and its number of core blocks

@@ -2,7 +2,7 @@
 use Rattle.std.specs.Prelude.{ℕ, Bool, true, false, ◌&&◌, ◌==◌, is_some, Option, Some, None, List, [], ◌∷◌, slice_get}
 use Rattle.std.specs.List.{list_all}
 use Rattle.ceal_base.specs.Access.{pointed}
-use Rattle.ceal_base.specs.Block.{Block, Blocks, block_at}
+use Rattle.ceal_base.specs.Block.{Block, Blocks, alone, block_at}
 use Rattle.ceal_base.specs.Shapes.{kinds_of_shape}
 use Rattle.ceal_base.specs.declared.kind.FieldKind.{FieldKind}
 use Rattle.ceal_base.specs.declared.kind.FieldKind.TheVariants.{Plain, CellInt, CellPtr}
@@ -73,4 +73,4 @@ memory_fits structs m = list_all (block_fits structs m) m.inputs && list_all (bl
 
 -- the input blocks fit, where there are no core blocks
 abbrev pub inputs_fit : List StructInfo → List Block → Bool
-inputs_fit structs inputs = memory_fits structs (record { inputs = inputs; made = [] })
+inputs_fit structs inputs = memory_fits structs (alone inputs)

@@ -3,9 +3,8 @@
 ghost use Rattle.std.specs.Prelude.{◌≡◌, ◌==◌, Option, Some, None};
 ghost use Rattle.std.specs.Option.{option_map};
 ghost use Rattle.ceal_base.specs.Block.{block_at};
-ghost use Rattle.ceal_base.specs.Access.{pointed, of_struct, is_struct, word_in, field_of, address_of, content_of, written, holds};
+ghost use Rattle.ceal_base.specs.Access.{pointed, of_struct, word_in, field_of, address_of, content_of, written, holds};
 
-use crate::kind::Shape;
 use crate::memory::{BlockWords, Memory};
 use crate::operators::number;
 use crate::word::{BlockId, Place, Word};
@@ -27,15 +26,6 @@ fn block(memory: &Memory, id: BlockId) -> Option<&BlockWords>
     }
 }
 
-fn is_of_struct(shape: Shape, number: u32) -> bool
-    ensures { result ≡ is_struct number shape }
-{
-    match shape {
-        Shape::Struct(n) => number == n,
-        _ => false,
-    }
-}
-
 /// The block of the struct that the word points to.
 fn pointed_block(memory: &Memory, number: u32, word: Word) -> Option<&BlockWords>
     ensures { option_map (λ b. b.now) result ≡ pointed memory.now number word }
@@ -44,7 +34,7 @@ fn pointed_block(memory: &Memory, number: u32, word: Word) -> Option<&BlockWords
         return None;
     };
     let found = block(memory, id)?;
-    if is_of_struct(found.shape, number) {
+    if found.shape.is_of_struct(number) {
         Some(found)
     } else {
         None

@@ -1,8 +1,10 @@
 // The types of variables, of fields and of blocks.
 
 ghost use Rattle.std.specs.Prelude.{◌≡◌, ◌∷◌, [], ◌++◌, IfOk, OnOk, OnErr};
+ghost use Rattle.ceal_base.specs.Shapes.{default_of_kind, default_of_field};
 
 use crate::no_memory::NoMemory;
+use crate::word::Word;
 use std::alloc::Global;
 use std::marker::Model;
 
@@ -19,12 +21,39 @@ pub enum Kind {
     ModPtr(u32),
 }
 
+impl Kind {
+    /// What a variable or a plain field of this type starts as: 0 or null.
+    pub fn default_word(self) -> Word
+        ensures value { result ≡ default_of_kind self }
+    {
+        match self {
+            Kind::Int => Word::Num(0),
+            Kind::Ptr(_) => Word::Null,
+            Kind::ModInt => Word::Null,
+            Kind::ModPtr(_) => Word::Null,
+        }
+    }
+}
+
 /// The type of a field: a plain one, or an embedded modifiable that holds an `int` or a `struct S *`.
 #[derive(Clone, Copy, PartialEq, Eq, Debug)]
 pub enum FieldKind {
     Plain(Kind),
     CellInt,
     CellPtr(u32),
+}
+
+impl FieldKind {
+    /// What a field of this type starts as; of an embedded modifiable it is what the modifiable holds.
+    pub fn default_word(self) -> Word
+        ensures value { result ≡ default_of_field self }
+    {
+        match self {
+            FieldKind::Plain(kind) => kind.default_word(),
+            FieldKind::CellInt => Word::Num(0),
+            FieldKind::CellPtr(_) => Word::Null,
+        }
+    }
 }
 
 /// The shape of a block: that of a struct, or one modifiable.

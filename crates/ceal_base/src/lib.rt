@@ -8,8 +8,10 @@
 
 pub mod access;
 pub mod boxed;
+pub mod call;
 pub mod copies;
 pub mod fault;
+pub mod fitting;
 pub mod forest;
 pub mod items;
 pub mod kind;
@@ -17,9 +19,8 @@ pub mod laws;
 pub mod memory;
 pub mod no_memory;
 pub mod operators;
+pub mod shapes;
 pub mod syntax;
-#[cfg(test)]
-mod tests;
 pub mod text;
 pub mod typed;
 pub mod word;

@@ -2,6 +2,7 @@
 
 ghost use Rattle.std.specs.Prelude.{◌≡◌, ◌∷◌, [], ◌++◌, ◌↔◌, IsTrue, IfOk, OnOk, OnErr};
 ghost use Rattle.std.specs.Prelude.{nat_eq};
+ghost use Rattle.std.specs.Fmt.{decimal, signed_decimal};
 ghost use Rattle.std.specs.Cmp.{partial_equiv_from_equiv};
 ghost use Rattle.std.specs.Cmp.Lexicographic.{pointwise, nat_list_eq_equiv};
 ghost use Rattle.std.specs.Hash as fed;
@@ -79,6 +80,24 @@ impl Text {
     {
         self.bytes.extend_from_slice(bytes)?;
         Ok(())
+    }
+
+    /// Puts the number at the end, in decimal.
+    pub fn append_number(&mut self, n: usize) -> Result<(), NoMemory>
+        ensures ok { OnOk result (self.new ≡ self.old ++ decimal n) }
+        ensures err { OnErr result (self.new ≡ self.old) }
+    {
+        let digits = format!(in *self.bytes.allocator(); "{n}")?;
+        self.append(digits.as_bytes())
+    }
+
+    /// Puts the number at the end, in decimal, with its sign where it is below 0.
+    pub fn append_signed(&mut self, n: i64) -> Result<(), NoMemory>
+        ensures ok { OnOk result (self.new ≡ self.old ++ signed_decimal n) }
+        ensures err { OnErr result (self.new ≡ self.old) }
+    {
+        let digits = format!(in *self.bytes.allocator(); "{n}")?;
+        self.append(digits.as_bytes())
     }
 
     /// Whether both are the same bytes.

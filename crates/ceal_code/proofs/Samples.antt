@@ -1,5 +1,5 @@
 -- INC: unit 0 reads its first parameter, and unit 1 writes one more than the value to the second.
-use Rattle.std.proofs.Common.{◌≡◌, ℕ, pos, true, Some, None, List, [], ◌∷◌, refl}
+use Rattle.std.proofs.Common.{◌≡◌, ℕ, pos, true, false, Some, None, List, [], ◌∷◌, refl}
 use Rattle.ceal_base.specs.Block.{Block}
 use Rattle.ceal_base.specs.Trace.{Trace, Nothing, Stepped, Wrote, Was_read}
 use Rattle.ceal_base.specs.declared.kind.Kind.TheVariants.{Int, ModInt as ModIntKind}
@@ -13,11 +13,11 @@ use Rattle.ceal_code.specs.Fresh.{fresh, run}
 use Rattle.ceal_code.specs.Program.{Code}
 use Rattle.ceal_code.specs.Replay.{Yields, Honest, plain_of, bases, stored}
 use Rattle.ceal_code.specs.Step.{started, settled, next, chosen, bound, woven}
-use Rattle.ceal_code.specs.Valid.{valid, structs_ok, functions_ok, units_ok, unit_ok, is_prefix, kinds_ok, below, is_tree, reached, all_followers, all_true, paths_ok, with_params, type_of, params_fit, others}
+use Rattle.ceal_code.specs.Valid.{valid, structs_ok, functions_ok, units_ok, unit_ok, is_prefix, kinds_ok, below, all_forward, is_tree, reached, all_followers, all_true, paths_ok, with_params, type_of, params_fit, others}
 use Rattle.ceal_code.specs.Value.{expr_value, values, set, unset}
-use Rattle.ceal_code.specs.declared.command.Cmd.TheVariants.{Read, Write, Done}
+use Rattle.ceal_code.specs.declared.command.Cmd.TheVariants.{Write, If, Done, Read, Call}
 use Rattle.ceal_code.specs.declared.expr.CodeExpr.TheBlock.{hidden-the_row-CodeExpr-0, shape-the_row-CodeExpr-0}
-use Rattle.ceal_code.specs.declared.expr.CodeExpr.TheVariants.{Var, Num as NumExpr}
+use Rattle.ceal_code.specs.declared.expr.CodeExpr.TheVariants.{Null, Var, Num as NumExpr}
 use Rattle.ceal_code.specs.declared.expr.CodeExpr.TheViews.{Binary}
 use Rattle.ceal_code.specs.declared.expr.VarId.{VarId}
 use Rattle.ceal_code.specs.declared.function.FunctionCode.TheVariants.{Core as CoreFunction}
@@ -70,5 +70,19 @@ unfolding bases
 inc-honest = Honest.step (Honest.read refl (Honest.step (Honest.write Honest.end)) Honest.end)
 
 inc-valid : valid inc ≡ true
-unfolding valid structs_ok functions_ok units_ok unit_ok is_prefix kinds_ok below is_tree reached all_followers all_true paths_ok with_params type_of params_fit others hidden-the_row-CodeExpr-0 shape-the_row-CodeExpr-0 denote.Hole.Carrier.hidden
+unfolding valid structs_ok functions_ok units_ok unit_ok is_prefix kinds_ok below all_forward is_tree reached all_followers all_true paths_ok with_params type_of params_fit others hidden-the_row-CodeExpr-0 shape-the_row-CodeExpr-0 denote.Hole.Carrier.hidden
 inc-valid = refl
+
+-- a part that hangs on an `If` which goes backwards, and is on no path, makes code invalid
+abbrev detached : Code
+detached = record {
+  structs = [];
+  functions = CoreFunction (102 ∷ []) (record { 0 = 0 }) [] ∷ [];
+  units =
+      record { function = 0; params = []; body = Done ∷ Call 9 [] (record { 0 = 9 }) [] ∷ If Null 1 2 ∷ [] } ∷ [];
+  kinds = [] ∷ [];
+}
+
+detached-not-valid : valid detached ≡ false
+unfolding valid structs_ok functions_ok units_ok unit_ok is_prefix kinds_ok below all_forward is_tree reached all_followers all_true paths_ok with_params type_of params_fit others hidden-the_row-CodeExpr-0 shape-the_row-CodeExpr-0 denote.Hole.Carrier.hidden
+detached-not-valid = refl

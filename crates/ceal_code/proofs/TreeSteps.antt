@@ -1,7 +1,16 @@
 -- Which indices of a body are reached, command by command.
 use Rattle.std.proofs.Common.{◌≡◌, ℕ, ◌+◌, Bool, true, false, ◌&&◌, Option, Some, None, List, [], ◌∷◌, ◌++◌, refl, length, arith, slice_get, slice_set, unwrap_or, if◌then◌else◌, ap, ◌∙◌, replicate}
-use Rattle.ceal_code.specs.Valid.{reached, followers, all_followers, all_true, all_but_first, is_tree}
+use Rattle.ceal_code.specs.Valid.{goes_forward, all_forward, reached, followers, all_followers, all_true, all_but_first, is_tree}
 use Rattle.ceal_code.specs.declared.command.Cmd.{Cmd}
+
+pub forward-cons : (c : Cmd) (cs : List Cmd) (i : ℕ) → all_forward (c ∷ cs) i ≡ (goes_forward c i && all_forward cs (i + 1))
+unfolding all_forward
+forward-cons c cs i = refl
+
+pub forward-end : (cs : List Cmd) (i : ℕ) → length cs ≡ 0 → all_forward cs i ≡ true
+unfolding all_forward
+forward-end [] i h = refl
+forward-end (c ∷ cs) i h = absurd (omega (arith, h))
 
 pub reached-none : (marks : List Bool) → reached marks [] ≡ Some marks
 unfolding reached
@@ -78,6 +87,8 @@ tree-is body marks e = ap all_but_first e
 pub tree-not : (body : List Cmd) → reached (replicate (length body) false) (all_followers body 0) ≡ None → is_tree body ≡ false
 unfolding is_tree
 tree-not body e = ap all_but_first e
+
+pub ruleset forward_steps = (forward-cons, forward-end)
 
 pub ruleset mark_steps = (reached-none, mark-new, mark-old, both-on, both-stop)
 

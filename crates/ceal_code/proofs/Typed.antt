@@ -1,32 +1,29 @@
 -- A well typed expression gives a word that fits its type, and all that it names is there.
-use Rattle.std.proofs.Common.{◌≡◌, ℕ, ℤ, pos, zero, suc, ◌<◌, ◌==◌, ◌&&◌, Bool, true, false, if◌then◌else◌, Option, Some, None, List, [], ◌∷◌, length, is_some, ◌⊎◌, inl, inr, refl, sym, ap, ◌∙◌, subst, slice_get, slice_set, unwrap_or, map, arith}
+use Rattle.std.proofs.Common.{◌≡◌, ℕ, zero, suc, ◌<◌, ◌==◌, ◌&&◌, Bool, true, false, if◌then◌else◌, Option, Some, None, List, [], ◌∷◌, length, is_some, inl, inr, refl, ap, ◌∙◌, subst, slice_get, unwrap_or, arith}
 use Rattle.std.specs.Prelude.{⊤}
-use Rattle.ceal_base.specs.Access.{of_struct, is_struct, place_in}
+use Rattle.ceal_base.specs.Access.{of_struct, is_struct}
 use Rattle.ceal_base.specs.Block.{Block, Blocks, block_at}
-use Rattle.ceal_base.specs.Fitting.{kind_in, kind_at, is_int_cell, is_pointer_cell, fits_kind, fits_field, fields_fit}
+use Rattle.ceal_base.specs.Fitting.{kind_in, kind_at, fits_kind, fits_field, fields_fit}
 use Rattle.ceal_base.specs.Operators.{unary_value, binary_value, truth}
-use Rattle.ceal_base.specs.Shapes.{default_of_kind, default_of_field, kinds_of_shape}
+use Rattle.ceal_base.specs.Shapes.{default_of_kind, kinds_of_shape}
 use Rattle.ceal_base.specs.declared.kind.FieldKind.{FieldKind}
 use Rattle.ceal_base.specs.declared.kind.FieldKind.TheVariants.{Plain as PlainField, CellInt, CellPtr}
 use Rattle.ceal_base.specs.declared.kind.Kind.{Kind}
 use Rattle.ceal_base.specs.declared.kind.Kind.TheVariants.{Int, Ptr, ModInt, ModPtr}
-use Rattle.ceal_base.specs.declared.kind.Shape.{Shape}
-use Rattle.ceal_base.specs.declared.kind.Shape.TheVariants.{Struct, ModInt as OneInt, ModPtr as OnePtr}
+use Rattle.ceal_base.specs.declared.kind.Shape.TheVariants.{Struct}
 use Rattle.ceal_base.specs.declared.operators.Binary.{Binary}
 use Rattle.ceal_base.specs.declared.operators.Binary.TheVariants.{Add, Sub, Mul, Div, Rem, Less, LessEq, More, MoreEq, Same, Differ, And, Or}
 use Rattle.ceal_base.specs.declared.operators.Unary.{Unary}
 use Rattle.ceal_base.specs.declared.operators.Unary.TheVariants.{Neg, Not}
 use Rattle.ceal_base.specs.declared.typed.StructInfo.{StructInfo}
 use Rattle.ceal_base.specs.declared.word.BlockId.{BlockId}
-use Rattle.ceal_base.specs.declared.word.Place.{Place}
 use Rattle.ceal_base.specs.declared.word.Word.{Word}
 use Rattle.ceal_base.specs.declared.word.Word.TheVariants.{Num, Null, Block as BlockWord, At}
-use Rattle.ceal_code.proofs.Same.{both, nat-same, some-same, none-some, struct-shape}
-use Rattle.ceal_code.specs.Running.{Points, Expr_there, Operand_there, Exprs_there}
-use Rattle.ceal_code.specs.Valid.{Typing, is_pointer, same_kind, fits, fits_maybe, one_type, int_if, binary_type, variable_type, points_to, plain_type, cell_type, type_of, operand_type, all_fit, params_fit}
-use Rattle.ceal_code.specs.Value.{Plain, Variables, field_kind, is_cell, field_default, plain_word, pointed, field_in, field_value, address_value, expr_value, operand_value, values}
+use Rattle.ceal_code.proofs.Same.{both, nat-same, struct-shape}
+use Rattle.ceal_code.specs.Running.{Points, Word_there, Expr_there, Operand_there}
+use Rattle.ceal_code.specs.Valid.{Typing, is_pointer, same_kind, fits, fits_maybe, one_type, int_if, binary_type, variable_type, points_to, plain_type, cell_type, type_of, operand_type}
+use Rattle.ceal_code.specs.Value.{Variables, field_kind, is_cell, field_default, plain_word, field_in, field_value, address_value, expr_value, operand_value}
 use Rattle.ceal_code.specs.declared.expr.CodeExpr.{CodeExpr, Num as NumExpr, Null as NullExpr, Var, Unary', Binary', Field', Address', Row_of-CodeExpr, end_of-CodeExpr, more_of-CodeExpr}
-use Rattle.ceal_code.specs.declared.expr.VarId.{VarId}
 
 -- the word is one that an expression of this type gives
 abbrev pub Has_type : List StructInfo → Blocks → Typing → Word → Type 0
@@ -300,18 +297,19 @@ module _ (structs : List StructInfo) (m : Blocks) where
       points-operand s None h = absurd (grind (arith, h))
       points-operand s (Some t) h = tt
 
-      variable-there : (v : ℕ) (o : Option Kind) (b : Bool) → slice_get kinds v ≡ o → Typed (variable_type o b) → v < length kinds
-      variable-there v None b e h = absurd h
-      variable-there v (Some kind) b e h = within kinds v (ap is_some e)
+      variable-there : (v : ℕ) (o : Option Kind) (b : Bool) → slice_get kinds v ≡ o → unwrap_or (slice_get known v) false ≡ b → Typed (variable_type o b) → Word_there structs m o (env v)
+      variable-there v None b e k h = absurd h
+      variable-there v (Some kind) true e k h = envs v kind e k
+      variable-there v (Some kind) false e k h = absurd h
 
       mutual
         unfolding type_of
 
         -- what a well typed expression names is there
-        pub expr-there : (e : CodeExpr) → Typed (type_of structs kinds known e) → Expr_there structs m (length kinds) env e
+        pub expr-there : (e : CodeExpr) → Typed (type_of structs kinds known e) → Expr_there structs m kinds env e
         expr-there (NumExpr n) h = tt
         expr-there NullExpr h = tt
-        expr-there (Var v) h = variable-there v.0 (slice_get kinds v.0) (unwrap_or (slice_get known v.0) false) refl h
+        expr-there (Var v) h = variable-there v.0 (slice_get kinds v.0) (unwrap_or (slice_get known v.0) false) refl refl h
         expr-there (Unary' op _ a) h = operand-there a (fits-typed Int (operand_type structs kinds known a) (typed-int (fits Int (operand_type structs kinds known a)) h))
         expr-there (Binary' op _ a _ b) h =
             let k = binary-typed op (operand_type structs kinds known a) (operand_type structs kinds known b) h in (operand-there a k.0, operand-there b k.1)
@@ -328,7 +326,7 @@ module _ (structs : List StructInfo) (m : Blocks) where
               pointer-points s (operand_value structs (block_at m) env a) (points-word s (operand_type structs kinds known a) (operand_value structs (block_at m) env a) k.0 (operand-type a)),
             )
 
-        operand-there : {n : _} (row : Row_of-CodeExpr n) → Typed (operand_type structs kinds known row) → Operand_there structs m (length kinds) env row
+        operand-there : {n : _} (row : Row_of-CodeExpr n) → Typed (operand_type structs kinds known row) → Operand_there structs m kinds env row
         operand-there end_of-CodeExpr h = tt
         operand-there (more_of-CodeExpr e rest) h = expr-there e h
 
@@ -336,5 +334,5 @@ module _ (structs : List StructInfo) (m : Blocks) where
       pub value-fits : (kind : Kind) (e : CodeExpr) → fits kind (type_of structs kinds known e) ≡ true → fits_kind structs m kind (expr_value structs (block_at m) env e) ≡ true
       value-fits kind e h = fits-word kind (type_of structs kinds known e) (expr_value structs (block_at m) env e) h (value-type e)
 
-      pub asked-there : (kind : Kind) (e : CodeExpr) → fits kind (type_of structs kinds known e) ≡ true → Expr_there structs m (length kinds) env e
+      pub asked-there : (kind : Kind) (e : CodeExpr) → fits kind (type_of structs kinds known e) ≡ true → Expr_there structs m kinds env e
       asked-there kind e h = expr-there e (fits-typed kind (type_of structs kinds known e) h)

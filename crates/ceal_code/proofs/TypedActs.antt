@@ -1,33 +1,27 @@
 -- A command of valid code at a typed state: what it names is there, and what its step gives is typed.
-use Rattle.std.proofs.Common.{◌≡◌, ℕ, zero, suc, ◌+◌, ◌<◌, ◌==◌, ◌&&◌, nat_lt, Bool, true, false, if◌then◌else◌, Option, Some, None, List, [], ◌∷◌, length, refl, sym, ap, ◌∙◌, subst, slice_get, slice_set, unwrap_or, arith}
+use Rattle.std.proofs.Common.{◌≡◌, ℕ, zero, suc, ◌<◌, ◌==◌, ◌&&◌, Bool, true, false, if◌then◌else◌, Option, Some, None, List, [], ◌∷◌, length, refl, sym, ap, subst, slice_get, arith}
 use Rattle.std.specs.Prelude.{⊤}
-use Rattle.ceal_base.specs.Access.{holds}
-use Rattle.ceal_base.specs.Block.{Block, Blocks, block_at}
-use Rattle.ceal_base.specs.Fitting.{kind_at, is_int_cell, is_pointer_cell, fits_kind, fits_field}
-use Rattle.ceal_base.specs.declared.forest.Key.TheVariants.{Init}
+use Rattle.ceal_base.specs.Block.{Blocks, block_at}
+use Rattle.ceal_base.specs.Fitting.{kind_at, is_int_cell, is_pointer_cell, fits_kind}
 use Rattle.ceal_base.specs.declared.forest.UnitId.{UnitId}
 use Rattle.ceal_base.specs.declared.kind.FieldKind.{FieldKind}
 use Rattle.ceal_base.specs.declared.kind.FieldKind.TheVariants.{Plain as PlainField, CellInt, CellPtr}
 use Rattle.ceal_base.specs.declared.kind.Kind.{Kind}
 use Rattle.ceal_base.specs.declared.kind.Kind.TheVariants.{Int, Ptr, ModInt, ModPtr}
-use Rattle.ceal_base.specs.declared.kind.Shape.{Shape}
-use Rattle.ceal_base.specs.declared.kind.Shape.TheVariants.{Struct, ModInt as OneInt, ModPtr as OnePtr}
 use Rattle.ceal_base.specs.declared.word.Place.{Place}
 use Rattle.ceal_base.specs.declared.word.Word.{Word}
 use Rattle.ceal_base.specs.declared.word.Word.TheVariants.{Num, Null, Block as BlockWord, At}
 use Rattle.ceal_code.proofs.FittingLemmas.{int-is_cell, pointer-is_cell}
-use Rattle.ceal_code.proofs.Kept.{Shapes_kept, fits-kept}
 use Rattle.ceal_code.proofs.Memory.{get-within}
 use Rattle.ceal_code.proofs.Same.{both, nat-same, some-same}
-use Rattle.ceal_code.proofs.Typed.{Has_type, Env_typed, Memory_typed, kind-same, maybe-fits, fits-word, default-fits, value-type, value-fits, asked-there}
-use Rattle.ceal_code.proofs.TypedInit.{function-valid, all-values}
-use Rattle.ceal_code.proofs.TypedStack.{pointer_kind, Params_typed, set-typed, Frame_typed, Stack_typed, At_command, at-command, stack-kept, Takes, Gives, Act_typed, enter}
+use Rattle.ceal_code.proofs.Typed.{Has_type, Env_typed, Memory_typed, maybe-fits, fits-word, value-fits, asked-there}
+use Rattle.ceal_code.proofs.TypedInit.{function-valid}
+use Rattle.ceal_code.proofs.TypedStack.{Params_typed, Stack_typed, Takes, Gives, enter}
 use Rattle.ceal_code.specs.Program.{Unit as CodeUnit, Code}
-use Rattle.ceal_code.specs.Replay.{shape_of}
-use Rattle.ceal_code.specs.Running.{Modifiable, Expr_there, Exprs_there, Command_there, Stack_there, variables}
-use Rattle.ceal_code.specs.Step.{Stack, Empty, Run, Makes, unit_at, command_at, entry_of, kinds_of, variable_default, entered, first_word, later_words, woven, given, place_of, writes_at, reads_at, act, landed, settled_at, settled, acted, next}
-use Rattle.ceal_code.specs.Valid.{Typing, fits, fits_maybe, type_of, all_fit, params_fit, others, unit_fits, read_fits, entry_fits, call_fits, alloc_fits, place_fits, write_fits, command_ok, onward, path_ok, paths_ok, is_core, is_prefix, kinds_ok, below as all_below, entry_ok, function_ok, valid}
-use Rattle.ceal_code.specs.Value.{Variables, set, is_cell, expr_value, values}
+use Rattle.ceal_code.specs.Running.{Modifiable, Expr_there, Exprs_there, Unit_there}
+use Rattle.ceal_code.specs.Step.{Stack, unit_at, entry_of, kinds_of, entered, first_word, later_words, woven, given}
+use Rattle.ceal_code.specs.Valid.{Typing, fits, fits_maybe, type_of, all_fit, params_fit, others, unit_fits, read_fits, entry_fits, call_fits, place_fits, write_fits, path_ok, paths_ok, is_core, is_prefix, kinds_ok, below as all_below, entry_ok, function_ok, valid}
+use Rattle.ceal_code.specs.Value.{Variables, expr_value, values}
 use Rattle.ceal_code.specs.declared.command.Cmd.{Cmd}
 use Rattle.ceal_code.specs.declared.command.Cmd.TheVariants.{Move, Tick, Alloc, Modref, Write, If, Done, Tail, Read, Call}
 use Rattle.ceal_code.specs.declared.expr.CodeExpr.{CodeExpr}
@@ -145,14 +139,6 @@ module _ (code : Code) (m : Blocks) where
       go again [] false e h = absurd h
       go again (z ∷ ws) false e h = (h.0, again ws h.1)
 
-  -- each unit of the stack stands at a command
-  pub stack-there : (st : Stack) → Stack_typed code m st → Stack_there code st
-  stack-there Empty h = tt
-  stack-there (Run u i env below) h = (get-within code.units u h.0.unit h.0.there, here h.0, stack-there below h.1)
-    where
-      here : (f : Frame_typed code m u i env) → i < length (unit_at code u).body
-      here f = rw f.there (path-within code f.unit.function f.unit.body f.fuel i f.known f.stepped f.path)
-
 module _ (code : Code) (ok : valid code ≡ true) (m : Blocks) (typed : Memory_typed code.structs m) where
   module _ (f : ℕ) (known : List Bool) (env : Variables) (envs : Env_typed code.structs m (kinds_of code f) known env) where
     pub asked : (theirs : List Kind) (v : ℕ) (e : CodeExpr) (kind : Kind) → fits_maybe (slice_get theirs v) (type_of code.structs (kinds_of code f) known e) ≡ true → slice_get theirs v ≡ Some kind
@@ -160,7 +146,7 @@ module _ (code : Code) (ok : valid code ≡ true) (m : Blocks) (typed : Memory_t
     asked theirs v e kind h i =
         let j : fits kind (type_of code.structs (kinds_of code f) known e) ≡ true = rw i at h in value-fits code.structs m typed (kinds_of code f) known env envs kind e j
 
-    pub there-if : (k : Option Kind) (e : CodeExpr) → fits_maybe k (type_of code.structs (kinds_of code f) known e) ≡ true → Expr_there code.structs m (length (kinds_of code f)) env e
+    pub there-if : (k : Option Kind) (e : CodeExpr) → fits_maybe k (type_of code.structs (kinds_of code f) known e) ≡ true → Expr_there code.structs m (kinds_of code f) env e
     there-if None e h = absurd (grind (arith, h))
     there-if (Some kind) e h = asked-there code.structs m typed (kinds_of code f) known env envs kind e h
 
@@ -173,7 +159,7 @@ module _ (code : Code) (ok : valid code ≡ true) (m : Blocks) (typed : Memory_t
         let k = both (fits_maybe (slice_get theirs p.0) (type_of code.structs (kinds_of code f) known e)) (params_fit code.structs (kinds_of code f) known theirs ps es) h in
         (λ kind i. asked theirs p.0 e kind k.0 i, params-typed theirs ps es k.1)
 
-    params-there : (theirs : List Kind) (ps : List VarId) (es : List CodeExpr) → params_fit code.structs (kinds_of code f) known theirs ps es ≡ true → Exprs_there code.structs m (length (kinds_of code f)) env es
+    params-there : (theirs : List Kind) (ps : List VarId) (es : List CodeExpr) → params_fit code.structs (kinds_of code f) known theirs ps es ≡ true → Exprs_there code.structs m (kinds_of code f) env es
     unfolding params_fit
     params-there theirs [] [] h = tt
     params-there theirs [] (e ∷ es) h = absurd (grind (arith, h))
@@ -182,7 +168,7 @@ module _ (code : Code) (ok : valid code ≡ true) (m : Blocks) (typed : Memory_t
         let k = both (fits_maybe (slice_get theirs p.0) (type_of code.structs (kinds_of code f) known e)) (params_fit code.structs (kinds_of code f) known theirs ps es) h in
         (there-if (slice_get theirs p.0) e k.0, params-there theirs ps es k.1)
 
-    pub all-there : (params : List Kind) (es : List CodeExpr) → all_fit code.structs (kinds_of code f) known params es ≡ true → Exprs_there code.structs m (length (kinds_of code f)) env es
+    pub all-there : (params : List Kind) (es : List CodeExpr) → all_fit code.structs (kinds_of code f) known params es ≡ true → Exprs_there code.structs m (kinds_of code f) env es
     unfolding all_fit
     all-there [] [] h = tt
     all-there [] (e ∷ es) h = absurd (grind (arith, h))
@@ -191,37 +177,39 @@ module _ (code : Code) (ok : valid code ≡ true) (m : Blocks) (typed : Memory_t
         let k = both (fits p (type_of code.structs (kinds_of code f) known e)) (all_fit code.structs (kinds_of code f) known params es) h in
         (asked-there code.structs m typed (kinds_of code f) known env envs p e k.0, all-there params es k.1)
 
-    pub all-count : (params : List Kind) (es : List CodeExpr) → all_fit code.structs (kinds_of code f) known params es ≡ true → length params ≡ length es
-    unfolding all_fit
-    all-count [] [] h = refl
-    all-count [] (e ∷ es) h = absurd (grind (arith, h))
-    all-count (p ∷ params) [] h = absurd (grind (arith, h))
-    all-count (p ∷ params) (e ∷ es) h =
-        let k = both (fits p (type_of code.structs (kinds_of code f) known e)) (all_fit code.structs (kinds_of code f) known params es) h in ap suc (all-count params es k.1)
+    params-count : (theirs : List Kind) (ps : List VarId) (es : List CodeExpr) → params_fit code.structs (kinds_of code f) known theirs ps es ≡ true → length es ≡ length ps
+    unfolding params_fit
+    params-count theirs [] [] h = refl
+    params-count theirs [] (e ∷ es) h = absurd (grind (arith, h))
+    params-count theirs (p ∷ ps) [] h = absurd (grind (arith, h))
+    params-count theirs (p ∷ ps) (e ∷ es) h =
+        let k = both (fits_maybe (slice_get theirs p.0) (type_of code.structs (kinds_of code f) known e)) (params_fit code.structs (kinds_of code f) known theirs ps es) h in ap suc (params-count theirs ps es k.1)
 
-    -- a unit of the function, on arguments
-    pub record Goes_to (w : ℕ) (args : List CodeExpr) : Type 0 where
-      pub within : w < length code.units
-      pub args' : Exprs_there code.structs m (length (kinds_of code f)) env args
+    -- a unit of a function, on arguments
+    pub record Goes_to (g w : ℕ) (args : List CodeExpr) : Type 0 where
+      pub unit : Unit_there code g w (unit_at code w).params args
+      pub args' : Exprs_there code.structs m (kinds_of code f) env args
       pub enters : (st : Stack) → Stack_typed code m st → Stack_typed code m (entered code w (values code.structs (block_at m) env args) st)
 
-    pub unit-entered : (w : ℕ) (args : List CodeExpr) (o : Option CodeUnit) → slice_get code.units w ≡ o → unit_fits code f known o args ≡ true → Goes_to w args
+    goes-to : (g w : ℕ) (args : List CodeExpr) (unit : CodeUnit) → slice_get code.units w ≡ Some unit → unit.function ≡ g → params_fit code.structs (kinds_of code f) known (kinds_of code g) unit.params args ≡ true → Goes_to g w args
+    goes-to g w args unit e i h =
+        let ws = params-typed (kinds_of code g) unit.params args h in
+        record {
+          unit = record { there = get-within code.units w unit e; function = rw e i; words = rw e (params-count (kinds_of code g) unit.params args h) };
+          args' = params-there (kinds_of code g) unit.params args h;
+          enters = λ st k. enter code ok m w unit (values code.structs (block_at m) env args) st e (subst (λ g. Params_typed code m (kinds_of code g) unit.params (values code.structs (block_at m) env args)) (sym i) ws) k;
+        }
+
+    pub unit-entered : (w : ℕ) (args : List CodeExpr) (o : Option CodeUnit) → slice_get code.units w ≡ o → unit_fits code f known o args ≡ true → Goes_to f w args
     unit-entered w args None e h = absurd (grind (arith, h))
     unit-entered w args (Some unit) e h =
         let p = both (unit.function == f) (params_fit code.structs (kinds_of code f) known (kinds_of code f) unit.params args) h in
-        let i : unit.function ≡ f = nat-same unit.function f p.0 in
-        let ws = params-typed (kinds_of code f) unit.params args p.1 in
-        record {
-          within = get-within code.units w unit e;
-          args' = params-there (kinds_of code f) unit.params args p.1;
-          enters = λ st h. enter code ok m w unit (values code.structs (block_at m) env args) st e (subst (λ g. Params_typed code m (kinds_of code g) unit.params (values code.structs (block_at m) env args)) (sym i) ws) h;
-        }
+        goes-to f w args unit e (nat-same unit.function f p.0) p.1
 
     -- a unit of the function, on a word for the variable of a read and on arguments
     pub record Reader (w v : ℕ) (args : List CodeExpr) : Type 0 where
-      pub within : w < length code.units
-      pub args' : Exprs_there code.structs m (length (kinds_of code f)) env args
-      pub function : (unit_at code w).function ≡ f
+      pub unit : Unit_there code f w (others v (unit_at code w).params) args
+      pub args' : Exprs_there code.structs m (kinds_of code f) env args
       pub enters : (word : Word) → ((kind : Kind) → slice_get (kinds_of code f) v ≡ Some kind → fits_kind code.structs m kind word ≡ true) → (st : Stack) → Stack_typed code m st
           → Stack_typed code m (entered code w (given code w v (values code.structs (block_at m) env args) word) st)
 
@@ -232,9 +220,8 @@ module _ (code : Code) (ok : valid code ≡ true) (m : Blocks) (typed : Memory_t
         let i : unit.function ≡ f = nat-same unit.function f p.0 in
         let ws = params-typed (kinds_of code f) (others v unit.params) args p.1 in
         record {
-          within = get-within code.units w unit e;
+          unit = record { there = get-within code.units w unit e; function = rw e i; words = rw e (params-count (kinds_of code f) (others v unit.params) args p.1) };
           args' = params-there (kinds_of code f) (others v unit.params) args p.1;
-          function = rw e i;
           enters = λ word k st h.
               subst (λ ps. Stack_typed code m (entered code w (woven ps v word (values code.structs (block_at m) env args)) st)) (params-at unit e)
               (enter code ok m w unit (woven unit.params v word (values code.structs (block_at m) env args)) st e
@@ -248,21 +235,12 @@ module _ (code : Code) (ok : valid code ≡ true) (m : Blocks) (typed : Memory_t
     -- another function, on arguments
     pub record Callee (g : ℕ) (args : List CodeExpr) : Type 0 where
       pub core : is_core (slice_get code.functions g) ≡ true
-      pub within : entry_of code g < length code.units
-      pub args' : Exprs_there code.structs m (length (kinds_of code f)) env args
-      pub enters : (st : Stack) → Stack_typed code m st → Stack_typed code m (entered code (entry_of code g) (values code.structs (block_at m) env args) st)
+      pub goes : Goes_to g (entry_of code g) args
 
-    entry-entered : (g w n : ℕ) (args : List CodeExpr) (o : Option CodeUnit) → slice_get code.units w ≡ o → entry_ok g n o ≡ true → entry_fits code f known g o args ≡ true
-        → (w < length code.units) × Exprs_there code.structs m (length (kinds_of code f)) env args × ((st : Stack) → Stack_typed code m st → Stack_typed code m (entered code w (values code.structs (block_at m) env args) st))
+    entry-entered : (g w n : ℕ) (args : List CodeExpr) (o : Option CodeUnit) → slice_get code.units w ≡ o → entry_ok g n o ≡ true → entry_fits code f known g o args ≡ true → Goes_to g w args
     entry-entered g w n args None e k h = absurd (grind (arith, h))
     entry-entered g w n args (Some unit) e k h =
-        let p = both (unit.function == g) (all_below n unit.params) k in
-        let i : unit.function ≡ g = nat-same unit.function g p.0 in
-        let ws = params-typed (kinds_of code g) unit.params args h in (
-          get-within code.units w unit e,
-          params-there (kinds_of code g) unit.params args h,
-          λ st h. enter code ok m w unit (values code.structs (block_at m) env args) st e (subst (λ g. Params_typed code m (kinds_of code g) unit.params (values code.structs (block_at m) env args)) (sym i) ws) h,
-        )
+        let p = both (unit.function == g) (all_below n unit.params) k in goes-to g w args unit e (nat-same unit.function g p.0) h
 
     entry-right : (g : ℕ) (name : List ℕ) (entry : UnitId) (params : List Kind) (kinds : List Kind) → function_ok code g (CoreFunction name entry params) kinds ≡ true → entry_ok g (length params) (slice_get code.units entry.0) ≡ true
     entry-right g name entry params kinds h = (both (is_prefix params kinds && kinds_ok code.structs kinds) (entry_ok g (length params) (slice_get code.units entry.0)) h).1
@@ -273,9 +251,5 @@ module _ (code : Code) (ok : valid code ≡ true) (m : Blocks) (typed : Memory_t
     callee g args (Some (CoreFunction name entry params)) e h =
         let v = function-valid code ok g (CoreFunction name entry params) e in
         let k = entry-entered g entry.0 (length params) args (slice_get code.units entry.0) refl (entry-right g name entry params v.kinds' v.ok) h in
-        record {
-          core = rw e;
-          within = rw e k.0;
-          args' = k.1;
-          enters = λ st h. rw e (k.2 st h);
-        }
+        let is : entry_of code g ≡ entry.0 = rw e in
+        record { core = rw e; goes = subst (λ w. Goes_to g w args) (sym is) k }

@@ -1,10 +1,8 @@
 -- A command of valid code at a typed state: all that it names is there, and its step gives a typed state.
-use Rattle.std.proofs.Common.{◌≡◌, ℕ, zero, suc, ◌+◌, ◌<◌, ◌==◌, ◌&&◌, nat_lt, Bool, true, false, if◌then◌else◌, Option, Some, None, List, [], ◌∷◌, length, refl, sym, ap, ◌∙◌, subst, slice_get, slice_set, unwrap_or, arith}
-use Rattle.std.specs.Prelude.{⊤}
+use Rattle.std.proofs.Common.{◌≡◌, ℕ, ◌+◌, ◌<◌, Bool, true, false, if◌then◌else◌, Option, Some, None, List, length, refl, sym, subst, slice_get, slice_set, arith}
 use Rattle.ceal_base.specs.Access.{holds}
-use Rattle.ceal_base.specs.Block.{Block, Blocks, block_at}
+use Rattle.ceal_base.specs.Block.{Blocks, block_at}
 use Rattle.ceal_base.specs.Fitting.{fits_kind}
-use Rattle.ceal_base.specs.declared.forest.Key.TheVariants.{Init}
 use Rattle.ceal_base.specs.declared.forest.UnitId.{UnitId}
 use Rattle.ceal_base.specs.declared.kind.Kind.{Kind}
 use Rattle.ceal_base.specs.declared.kind.Kind.TheVariants.{Int, Ptr, ModInt, ModPtr}
@@ -16,13 +14,12 @@ use Rattle.ceal_code.proofs.Kept.{Shapes_kept, fits-kept}
 use Rattle.ceal_code.proofs.Memory.{get-within}
 use Rattle.ceal_code.proofs.Same.{both}
 use Rattle.ceal_code.proofs.Typed.{Has_type, Typed, Env_typed, Memory_typed, kind-same, fits-typed, default-fits, value-type, expr-there, asked-there}
-use Rattle.ceal_code.proofs.TypedActs.{Step_command, maybe-within, path-within, write-place, read-place, takes-typed, gives-typed, asked, there-if, all-there, all-count, Goes_to, unit-entered, Reader, reader-entered, Callee, callee}
-use Rattle.ceal_code.proofs.TypedInit.{all-values}
-use Rattle.ceal_code.proofs.TypedStack.{pointer_kind, set-typed, Frame_typed, Stack_typed, At_command, at-command, stack-kept, Act_typed}
+use Rattle.ceal_code.proofs.TypedActs.{Step_command, maybe-within, path-within, write-place, read-place, takes-typed, gives-typed, asked, there-if, all-there, Goes_to, unit-entered, Reader, reader-entered, Callee, callee}
+use Rattle.ceal_code.proofs.TypedInit.{all-values, initialiser-there}
+use Rattle.ceal_code.proofs.TypedStack.{no-tail, pointer_kind, set-typed, Frame_typed, Stack_typed, At_command, at-command, stack-kept, Act_typed}
 use Rattle.ceal_code.specs.Program.{Unit as CodeUnit, Code}
-use Rattle.ceal_code.specs.Replay.{shape_of}
-use Rattle.ceal_code.specs.Running.{Modifiable, Initialiser, Not_struct, Expr_there, Command_there, variables}
-use Rattle.ceal_code.specs.Step.{Stack, Empty, Run, Act, Makes, unit_at, command_at, entry_of, kinds_of, variable_default, entered, given, place_of, writes_at, reads_at, act, landed, settled_at, settled, next}
+use Rattle.ceal_code.specs.Running.{Command_there, Stack_there}
+use Rattle.ceal_code.specs.Step.{Stack, Empty, Run, unit_at, command_at, kinds_of, variable_default, entered, given, place_of, writes_at, reads_at, act}
 use Rattle.ceal_code.specs.Valid.{Typing, fits, fits_maybe, type_of, all_fit, unit_fits, read_fits, call_fits, alloc_fits, place_fits, write_fits, paths_ok, valid}
 use Rattle.ceal_code.specs.Value.{Variables, set, expr_value, values}
 use Rattle.ceal_code.specs.declared.command.Cmd.{Cmd}
@@ -133,8 +130,7 @@ module _ (code : Code) (ok : valid code ≡ true) (m : Blocks) (typed : Memory_t
       where
         parts : (paths_ok code at.unit.function at.unit.body at.fuel first at.known true ≡ true) × (paths_ok code at.unit.function at.unit.body at.fuel second at.known true ≡ true)
         parts =
-            let k = both (nat_lt i first && nat_lt i second) (paths_ok code at.unit.function at.unit.body at.fuel first at.known true && paths_ok code at.unit.function at.unit.body at.fuel second at.known true) at.onward' in
-            both (paths_ok code at.unit.function at.unit.body at.fuel first at.known true) (paths_ok code at.unit.function at.unit.body at.fuel second at.known true) k.1
+            both (paths_ok code at.unit.function at.unit.body at.fuel first at.known true) (paths_ok code at.unit.function at.unit.body at.fuel second at.known true) at.onward'
 
         go : (b : Bool) → Stack_typed code m (Run u (if b then first else second) env below)
         go true = (on-frame u i env (If test first second) at first parts.0, under)
@@ -153,7 +149,7 @@ module _ (code : Code) (ok : valid code ≡ true) (m : Blocks) (typed : Memory_t
       where
         missed : Reader code ok m typed at.unit.function at.known env at.envs w.0 v.0 args
             → Stack_typed code m (entered code w.0 (given code w.0 v.0 (values code.structs (block_at m) env args) (variable_default code w.0 v.0)) below)
-        missed r = r.enters (variable_default code w.0 v.0) (λ kind e. rw (r.function, e) (default-fits code.structs m kind)) below under
+        missed r = r.enters (variable_default code w.0 v.0) (λ kind e. rw (r.unit.function, e) (default-fits code.structs m kind)) below under
 
         go : (z : Word) → Has_type code.structs m (type_of code.structs (kinds_of code at.unit.function) at.known p) z
             → (place_fits (slice_get (kinds_of code at.unit.function) v.0) (type_of code.structs (kinds_of code at.unit.function) at.known p) ≡ true)
@@ -167,7 +163,7 @@ module _ (code : Code) (ok : valid code ≡ true) (m : Blocks) (typed : Memory_t
             (type_of code.structs (kinds_of code at.unit.function) at.known p) k.0 h (λ word fit. k.1.enters word fit below under)
 
     callee-at : (g : ℕ) (args : List CodeExpr) (w : UnitId) (rest : List CodeExpr) (at : At_command code m u i env (Call g args w rest))
-        → Callee code ok m typed at.unit.function at.known env at.envs g args × Goes_to code ok m typed at.unit.function at.known env at.envs w.0 rest
+        → Callee code ok m typed at.unit.function at.known env at.envs g args × Goes_to code ok m typed at.unit.function at.known env at.envs at.unit.function w.0 rest
     callee-at g args w rest at =
         let k = both (call_fits code at.unit.function at.known g (slice_get code.functions g) args) (unit_fits code at.unit.function at.known (slice_get code.units w.0) rest) at.ok in (
           callee code ok m typed at.unit.function at.known env at.envs g args (slice_get code.functions g) refl k.0,
@@ -193,7 +189,7 @@ module _ (code : Code) (ok : valid code ≡ true) (m : Blocks) (typed : Memory_t
         read-typed v p w args at (expr_value code.structs (block_at m) env p) (value-type code.structs m typed (kinds_of code at.unit.function) at.known env at.envs p)
     act-typed (Call g args w rest) at s =
         let k = callee-at g args w rest at in
-        k.0.enters (entered code w.0 (values code.structs (block_at m) env rest) below) (k.1.enters below under)
+        k.0.goes.enters (entered code w.0 (values code.structs (block_at m) env rest) below) (k.1.enters below under)
 
     alloc-there : (v : VarId) (g : ℕ) (args : List CodeExpr) (at : At_command code m u i env (Alloc v g args)) (o : Option FunctionCode) → slice_get code.functions g ≡ o
         → alloc_fits code at.unit.function at.known (slice_get (kinds_of code at.unit.function) v.0) o args ≡ true → Command_there code m u env (Alloc v g args)
@@ -201,10 +197,11 @@ module _ (code : Code) (ok : valid code ≡ true) (m : Blocks) (typed : Memory_t
     alloc-there v g args at (Some (CoreFunction name entry params)) e h = absurd (grind (arith, h))
     alloc-there v g args at (Some (InitFunction name s params body)) e h =
         let k = both (fits_maybe (slice_get (kinds_of code at.unit.function) v.0) (Some (Some (Ptr s)))) (all_fit code.structs (kinds_of code at.unit.function) at.known params args) h in
+        let ws = all-values code.structs m typed (kinds_of code at.unit.function) at.known env at.envs params args k.1 in
         rw (at.there, e) (
           maybe-within (kinds_of code at.unit.function) v.0 (Some (Some (Ptr s))) k.0,
-          all-count code ok m typed at.unit.function at.known env at.envs params args k.1,
           all-there code ok m typed at.unit.function at.known env at.envs params args k.1,
+          initialiser-there code ok m typed g (values code.structs (block_at m) env args) (Some (InitFunction name s params body)) e ws,
         )
 
     modref-there : (v : VarId) (shape : Shape) → At_command code m u i env (Modref v shape) → Command_there code m u env (Modref v shape)
@@ -212,17 +209,23 @@ module _ (code : Code) (ok : valid code ≡ true) (m : Blocks) (typed : Memory_t
     modref-there v (OnePtr s) at = rw at.there (maybe-within (kinds_of code at.unit.function) v.0 (Some (Some (ModPtr s))) at.ok, tt)
     modref-there v (Struct s) at = absurd (grind (arith, at.ok))
 
+    -- where a tail goes
+    tail-goes : (w : UnitId) (args : List CodeExpr) (at : At_command code m u i env (Tail w args)) → Goes_to code ok m typed at.unit.function at.known env at.envs at.unit.function w.0 args
+    tail-goes w args at =
+        let k = both at.stepped (unit_fits code at.unit.function at.known (slice_get code.units w.0) args) at.ok in
+        unit-entered code ok m typed at.unit.function at.known env at.envs w.0 args (slice_get code.units w.0) refl k.1
+
     -- all that a command names is there
-    pub command-there : (c : Cmd) → At_command code m u i env c → Step_command c → Command_there code m u env c
-    command-there (Move v e) at s =
+    pub command-there : (c : Cmd) → At_command code m u i env c → Command_there code m u env c
+    command-there (Move v e) at =
         rw at.there (
           maybe-within (kinds_of code at.unit.function) v.0 (type_of code.structs (kinds_of code at.unit.function) at.known e) at.ok,
           there-if code ok m typed at.unit.function at.known env at.envs (slice_get (kinds_of code at.unit.function) v.0) e at.ok,
         )
-    command-there Tick at s = tt
-    command-there (Alloc v g args) at s = alloc-there v g args at (slice_get code.functions g) refl at.ok
-    command-there (Modref v shape) at s = modref-there v shape at
-    command-there (Write p e) at s =
+    command-there Tick at = tt
+    command-there (Alloc v g args) at = alloc-there v g args at (slice_get code.functions g) refl at.ok
+    command-there (Modref v shape) at = modref-there v shape at
+    command-there (Write p e) at =
         let k = write-types (type_of code.structs (kinds_of code at.unit.function) at.known p) (type_of code.structs (kinds_of code at.unit.function) at.known e) at.ok in
         rw at.there (
           expr-there code.structs m typed (kinds_of code at.unit.function) at.known env at.envs p k.0,
@@ -230,33 +233,42 @@ module _ (code : Code) (ok : valid code ≡ true) (m : Blocks) (typed : Memory_t
           write-place code m (type_of code.structs (kinds_of code at.unit.function) at.known p) (type_of code.structs (kinds_of code at.unit.function) at.known e) (expr_value code.structs (block_at m) env p) at.ok
               (value-type code.structs m typed (kinds_of code at.unit.function) at.known env at.envs p),
         )
-    command-there (If test first second) at s =
-        let k = both (nat_lt i first && nat_lt i second) (paths_ok code at.unit.function at.unit.body at.fuel first at.known true && paths_ok code at.unit.function at.unit.body at.fuel second at.known true) at.onward' in
-        let l = both (paths_ok code at.unit.function at.unit.body at.fuel first at.known true) (paths_ok code at.unit.function at.unit.body at.fuel second at.known true) k.1 in
+    command-there (If test first second) at =
+        let l = both (paths_ok code at.unit.function at.unit.body at.fuel first at.known true) (paths_ok code at.unit.function at.unit.body at.fuel second at.known true) at.onward' in
         rw at.there (
           asked-there code.structs m typed (kinds_of code at.unit.function) at.known env at.envs Int test at.ok,
           path-within code at.unit.function at.unit.body at.fuel first at.known true l.0,
           path-within code at.unit.function at.unit.body at.fuel second at.known true l.1,
         )
-    command-there Done at s = s
-    command-there (Tail w args) at s = s
-    command-there (Read v p w args) at s =
+    command-there Done at = tt
+    command-there (Tail w args) at =
+        let r = tail-goes w args at in rw at.there (r.args', r.unit, no-tail code ok w.0 r.unit.there)
+    command-there (Read v p w args) at =
         let k = reader-at v p w args at in
         rw at.there (
           place-some (kinds_of code at.unit.function) v.0 (type_of code.structs (kinds_of code at.unit.function) at.known p) k.0,
           expr-there code.structs m typed (kinds_of code at.unit.function) at.known env at.envs p
               (place-typed (slice_get (kinds_of code at.unit.function) v.0) (type_of code.structs (kinds_of code at.unit.function) at.known p) k.0),
-          k.1.args',
           read-place code m (slice_get (kinds_of code at.unit.function) v.0) (type_of code.structs (kinds_of code at.unit.function) at.known p) (expr_value code.structs (block_at m) env p) k.0
               (value-type code.structs m typed (kinds_of code at.unit.function) at.known env at.envs p),
-          k.1.within,
+          k.1.args',
+          k.1.unit,
         )
-    command-there (Call g args w rest) at s =
-        let k = callee-at g args w rest at in rw at.there (k.0.args', k.1.args', k.0.core, k.0.within, k.1.within)
+    command-there (Call g args w rest) at =
+        let k = callee-at g args w rest at in rw at.there (k.0.core, k.0.goes.args', k.0.goes.unit, k.1.args', k.1.unit)
 
-    -- where a tail goes
     pub tail-typed : (w : UnitId) (args : List CodeExpr) → At_command code m u i env (Tail w args) → Stack_typed code m (entered code w.0 (values code.structs (block_at m) env args) below)
-    tail-typed w args at =
-        let k = both at.stepped (unit_fits code at.unit.function at.known (slice_get code.units w.0) args) at.ok in
-        let r = unit-entered code ok m typed at.unit.function at.known env at.envs w.0 args (slice_get code.units w.0) refl k.1 in
-        r.enters below under
+    tail-typed w args at = (tail-goes w args at).enters below under
+
+  -- each unit of the stack stands at a command
+  pub stack-there : (st : Stack) → Stack_typed code m st → Stack_there code m st
+  stack-there Empty h = tt
+  stack-there (Run u i env below) h = (
+    get-within code.units u h.0.unit h.0.there,
+    here h.0,
+    command-there u i env below h.1 (command_at code u i) (at-command code m u i env h.0 (command_at code u i) refl),
+    stack-there below h.1,
+  )
+    where
+      here : (f : Frame_typed code m u i env) → i < length (unit_at code u).body
+      here f = rw f.there (path-within code f.unit.function f.unit.body f.fuel i f.known f.stepped f.path)

@@ -1,8 +1,8 @@
 -- What valid code says of its functions and units, and a new block of valid code fits.
-use Rattle.std.proofs.Common.{◌≡◌, ℕ, zero, suc, ◌+◌, ◌==◌, ◌&&◌, nat_lt, Bool, true, false, if◌then◌else◌, Option, Some, None, List, [], ◌∷◌, length, replicate, refl, sym, ap, subst, slice_get, slice_set, unwrap_or, map, arith}
+use Rattle.std.proofs.Common.{◌≡◌, ℕ, zero, suc, ◌+◌, ◌<◌, ◌&&◌, nat_lt, Bool, true, false, if◌then◌else◌, Option, Some, None, List, [], ◌∷◌, length, replicate, refl, sym, ap, subst, slice_get, slice_set, unwrap_or, map, arith}
 use Rattle.std.specs.Prelude.{⊤}
 use Rattle.ceal_base.specs.Access.{holds}
-use Rattle.ceal_base.specs.Block.{Block, Blocks, block_at}
+use Rattle.ceal_base.specs.Block.{Blocks, block_at}
 use Rattle.ceal_base.specs.Fitting.{fits_kind, fits_field, words_fit, fields_fit}
 use Rattle.ceal_base.specs.Shapes.{default_of_field, default_block, kinds_of_shape}
 use Rattle.ceal_base.specs.declared.forest.Key.{Key}
@@ -16,11 +16,12 @@ use Rattle.ceal_base.specs.declared.typed.StructInfo.{StructInfo}
 use Rattle.ceal_base.specs.declared.word.Word.{Word}
 use Rattle.ceal_base.specs.declared.word.Word.TheVariants.{Null}
 use Rattle.ceal_code.proofs.Same.{both, some-same, none-some, both-true}
-use Rattle.ceal_code.proofs.Typed.{Env_typed, Memory_typed, default-fits, value-fits}
+use Rattle.ceal_code.proofs.Typed.{Typed, Env_typed, Memory_typed, fits-typed, default-fits, expr-there, asked-there, value-fits}
 use Rattle.ceal_code.specs.Init.{set_plain, set_by, set_by_row, set_by_all, arguments, made_by, made}
 use Rattle.ceal_code.specs.Program.{Unit as CodeUnit, Code}
-use Rattle.ceal_code.specs.Valid.{is_empty, kinds_ok, fits, type_of, all_fit, set_ok, stmt_ok, row_ok, stmts_ok, structs_ok, unit_ok, units_ok, function_ok, functions_ok, valid}
-use Rattle.ceal_code.specs.Value.{Plain, Variables, field_kind, expr_value, values}
+use Rattle.ceal_code.specs.Running.{Plain_field, Stmt_there, Row_there, Stmts_there, Initialiser}
+use Rattle.ceal_code.specs.Valid.{Typing, is_empty, kinds_ok, fits, type_of, all_fit, set_ok, stmt_ok, row_ok, stmts_ok, structs_ok, unit_ok, units_ok, function_ok, functions_ok, valid}
+use Rattle.ceal_code.specs.Value.{Variables, field_kind, expr_value, values}
 use Rattle.ceal_code.specs.declared.expr.CodeExpr.{CodeExpr}
 use Rattle.ceal_code.specs.declared.function.FunctionCode.{FunctionCode}
 use Rattle.ceal_code.specs.declared.function.FunctionCode.TheVariants.{Core as CoreFunction, Init as InitFunction}
@@ -101,6 +102,12 @@ module _ (structs : List StructInfo) (m : Blocks) where
       let p = both (fits_kind structs m k w) (words_fit structs m kinds ws) h in subst (λ k. fits_kind structs m k w ≡ true) (some-same k kind e) p.0
   word-at (k ∷ kinds) (w ∷ ws) h (suc v) kind e = let p = both (fits_kind structs m k w) (words_fit structs m kinds ws) h in word-at kinds ws p.1 v kind e
 
+  pub words-count : (kinds : List Kind) (ws : List Word) → words_fit structs m kinds ws ≡ true → length kinds ≡ length ws
+  words-count [] [] h = refl
+  words-count [] (w ∷ ws) h = absurd (grind (arith, h))
+  words-count (k ∷ kinds) [] h = absurd (grind (arith, h))
+  words-count (k ∷ kinds) (w ∷ ws) h = let p = both (fits_kind structs m k w) (words_fit structs m kinds ws) h in ap suc (words-count kinds ws p.1)
+
   arguments-typed : (params : List Kind) (known : List Bool) (args : List Word) → words_fit structs m params args ≡ true → Env_typed structs m params known (arguments args)
   unfolding arguments
   arguments-typed params known args h v kind e k = word-at params args h v kind e
@@ -155,6 +162,35 @@ module _ (structs : List StructInfo) (m : Blocks) where
       all-set (stmt ∷ rest) ws h g =
           let p = both (stmt_ok structs params known s stmt) (stmts_ok structs params known s rest) h in all-set rest (set_by structs (block_at m) env s ws stmt) p.1 (set_by-fits stmt ws p.0 g)
 
+      -- what the statements of a right body name is there
+      field-there : (k : Option FieldKind) (t : Typing) → set_ok k t ≡ true → Plain_field k × Typed t
+      field-there None t h = absurd (grind (arith, h))
+      field-there (Some CellInt) t h = absurd (grind (arith, h))
+      field-there (Some (CellPtr z)) t h = absurd (grind (arith, h))
+      field-there (Some (PlainField kind)) t h = (tt, fits-typed kind t h)
+
+      mutual
+        unfolding stmt_ok
+
+        stmt-there : (stmt : InitStmt) → stmt_ok structs params known s stmt ≡ true → Stmt_there structs m params env s stmt
+        stmt-there (Set field e) h =
+            let p = field-there (field_kind structs (Struct s) field) (type_of structs params known e) h in (p.0, expr-there structs m typed params known env envs e p.1)
+        stmt-there (IfStmt' test _ first _ second) h =
+            let p = both (fits Int (type_of structs params known test)) (row_ok structs params known s first && row_ok structs params known s second) h in
+            let q = both (row_ok structs params known s first) (row_ok structs params known s second) p.1 in
+            (asked-there structs m typed params known env envs Int test p.0, row-there first q.0, row-there second q.1)
+
+        row-there : {n : _} (row : Row_of-InitStmt n) → row_ok structs params known s row ≡ true → Row_there structs m params env s row
+        row-there end_of-InitStmt h = tt
+        row-there (more_of-InitStmt stmt rest) h =
+            let p = both (stmt_ok structs params known s stmt) (row_ok structs params known s rest) h in (stmt-there stmt p.0, row-there rest p.1)
+
+      stmts-there : (stmts : List InitStmt) → stmts_ok structs params known s stmts ≡ true → Stmts_there structs m params env s stmts
+      unfolding stmts_ok
+      stmts-there [] h = tt
+      stmts-there (stmt ∷ rest) h =
+          let p = both (stmt_ok structs params known s stmt) (stmts_ok structs params known s rest) h in (stmt-there stmt p.0, stmts-there rest p.1)
+
 abbrev pub Init_typed : Code → Blocks → List Word → Option FunctionCode → Type 0
 Init_typed code m args (Some (InitFunction name s params body)) = words_fit code.structs m params args ≡ true
 Init_typed code m args (Some (CoreFunction name entry params)) = ⊥
@@ -167,6 +203,26 @@ Key_typed code m IntKey = ⊤
 Key_typed code m (PtrKey s) = ⊤
 
 module _ (code : Code) (ok : valid code ≡ true) (m : Blocks) (typed : Memory_typed code.structs m) where
+  init-ok : (f : ℕ) (name : List ℕ) (s : ℕ) (params : List Kind) (body : List InitStmt) (ks : List Kind) → function_ok code f (InitFunction name s params body) ks ≡ true
+      → (s < length code.structs) × (stmts_ok code.structs params (replicate (length params) true) s body ≡ true)
+  init-ok f name s params body ks h =
+      let p = both (is_empty ks && kinds_ok code.structs params) (nat_lt s (length code.structs) && stmts_ok code.structs params (replicate (length params) true) s body) h in
+      let q = both (nat_lt s (length code.structs)) (stmts_ok code.structs params (replicate (length params) true) s body) p.1 in
+      (grind (arith, q.0), q.1)
+
+  -- an initialiser on words that fit its parameters: all that it names is there
+  pub initialiser-there : (f : ℕ) (args : List Word) (function : Option FunctionCode) → slice_get code.functions f ≡ function → Init_typed code m args function → Initialiser code.structs m function args
+  initialiser-there f args None e h = h
+  initialiser-there f args (Some (CoreFunction name entry params)) e h = h
+  initialiser-there f args (Some (InitFunction name s params body)) e h =
+      let g = function-valid code ok f (InitFunction name s params body) e in
+      let p = init-ok f name s params body g.kinds' g.ok in
+      let known = replicate (length params) true in (
+        words-count code.structs m params args h,
+        p.0,
+        stmts-there code.structs m typed params known (arguments args) (arguments-typed code.structs m params known args h) s body p.1,
+      )
+
   made_by-fits : (f : ℕ) (args : List Word) (function : Option FunctionCode) → slice_get code.functions f ≡ function → Init_typed code m args function
       → fields_fit code.structs m (kinds_of_shape code.structs (made_by code.structs (block_at m) args function).shape) (made_by code.structs (block_at m) args function).words ≡ true
   made_by-fits f args None e h = absurd h
@@ -175,12 +231,7 @@ module _ (code : Code) (ok : valid code ≡ true) (m : Blocks) (typed : Memory_t
       let g = function-valid code ok f (InitFunction name s params body) e in
       let p = init-ok f name s params body g.kinds' g.ok in
       all-set code.structs m typed params (replicate (length params) true) (arguments args) (arguments-typed code.structs m params (replicate (length params) true) args h) s body
-      (default_block code.structs (Struct s)).words p (defaults-fit code.structs m (kinds_of_shape code.structs (Struct s)))
-    where
-      init-ok : (f : ℕ) (name : List ℕ) (s : ℕ) (params : List Kind) (body : List InitStmt) (ks : List Kind) → function_ok code f (InitFunction name s params body) ks ≡ true → stmts_ok code.structs params (replicate (length params) true) s body ≡ true
-      init-ok f name s params body ks h =
-          let p = both (is_empty ks && kinds_ok code.structs params) (nat_lt s (length code.structs) && stmts_ok code.structs params (replicate (length params) true) s body) h in
-          (both (nat_lt s (length code.structs)) (stmts_ok code.structs params (replicate (length params) true) s body) p.1).1
+      (default_block code.structs (Struct s)).words p.1 (defaults-fit code.structs m (kinds_of_shape code.structs (Struct s)))
 
   -- a new block fits
   pub made-fits : (key : Key) → Key_typed code m key → fields_fit code.structs m (kinds_of_shape code.structs (made code (block_at m) key).shape) (made code (block_at m) key).words ≡ true

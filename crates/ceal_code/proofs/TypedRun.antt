@@ -1,8 +1,8 @@
 -- Valid code is never stuck: each state of a run is typed, and a typed state goes on or is the end.
-use Rattle.std.proofs.Common.{◌≡◌, ℕ, zero, suc, ◌+◌, ◌<◌, ◌==◌, ◌&&◌, nat_lt, Bool, true, false, Option, Some, None, List, [], ◌∷◌, ◌++◌, length, is_some, refl, sym, ap, ◌∙◌, subst, slice_get, slice_set, unwrap_or, arith}
+use Rattle.std.proofs.Common.{◌≡◌, ℕ, zero, suc, ◌+◌, ◌<◌, ◌==◌, ◌&&◌, nat_lt, Bool, true, false, Option, Some, None, List, [], ◌∷◌, ◌++◌, length, refl, sym, ap, ◌∙◌, subst, slice_get, slice_set, arith}
 use Rattle.std.specs.List.{list_all}
 use Rattle.std.specs.Prelude.{⊤}
-use Rattle.ceal_base.specs.Access.{of_struct, word_in, content_of}
+use Rattle.ceal_base.specs.Access.{word_in, content_of}
 use Rattle.ceal_base.specs.Block.{Block, Blocks, block_at, written_at}
 use Rattle.ceal_base.specs.Finished.{with_block}
 use Rattle.ceal_base.specs.Fitting.{kind_in, fits_kind, fits_field, words_fit, fields_fit, block_fits, memory_fits, inputs_fit}
@@ -20,14 +20,14 @@ use Rattle.ceal_base.specs.declared.word.BlockId.{BlockId}
 use Rattle.ceal_base.specs.declared.word.BlockId.TheVariants.{Input, Core}
 use Rattle.ceal_base.specs.declared.word.Place.{Place}
 use Rattle.ceal_base.specs.declared.word.Word.{Word}
-use Rattle.ceal_base.specs.declared.word.Word.TheVariants.{Null, Block as BlockWord, At}
+use Rattle.ceal_base.specs.declared.word.Word.TheVariants.{Block as BlockWord, At}
 use Rattle.ceal_code.proofs.FittingLemmas.{input-fits}
-use Rattle.ceal_code.proofs.Kept.{Shapes_kept, fields-kept, kept-same, kept-written, kept-grown}
+use Rattle.ceal_code.proofs.Kept.{fields-kept, kept-written, kept-grown}
 use Rattle.ceal_code.proofs.Memory.{altered, written-here, written-other, get-push_other, grown-here, made-shape}
 use Rattle.ceal_code.proofs.Same.{both, nat-same, nat-refl, some-same, none-some, block-same, both-true}
 use Rattle.ceal_code.proofs.Typed.{Memory_typed, kind-same}
-use Rattle.ceal_code.proofs.TypedActs.{Step_command, stack-there}
-use Rattle.ceal_code.proofs.TypedCommands.{act-typed, command-there, tail-typed}
+use Rattle.ceal_code.proofs.TypedActs.{Step_command}
+use Rattle.ceal_code.proofs.TypedCommands.{act-typed, stack-there, tail-typed}
 use Rattle.ceal_code.proofs.TypedInit.{Key_typed, Init_typed, function-valid, fields-set, word-at, made-fits}
 use Rattle.ceal_code.proofs.TypedStack.{pointer_kind, Params_typed, Frame_typed, Stack_typed, at-command, stack-kept, Takes, Gives, Act_typed, enter}
 use Rattle.ceal_code.specs.Fitting.{args_fit, Fits}
@@ -36,7 +36,7 @@ use Rattle.ceal_code.specs.Program.{Unit as CodeUnit, Code}
 use Rattle.ceal_code.specs.Replay.{shape_of}
 use Rattle.ceal_code.specs.Running.{Steps, Reaches, Goes_on, Not_stuck}
 use Rattle.ceal_code.specs.Step.{Stack, Empty, Run, Act, Over, Quiet, Makes, Writes, Reads, unit_at, command_at, entry_of, kinds_of, variable_default, entered, chosen, started, given, place_of, writes_at, reads_at, act, landed, settled_at, settled, acted, next}
-use Rattle.ceal_code.specs.Valid.{is_prefix, kinds_ok, same_kind, below as all_below, entry_ok, function_ok, valid}
+use Rattle.ceal_code.specs.Valid.{is_prefix, kinds_ok, same_kind, below as all_below, entry_ok, valid}
 use Rattle.ceal_code.specs.Value.{Plain, Variables, set, expr_value, values}
 use Rattle.ceal_code.specs.declared.command.Cmd.{Cmd}
 use Rattle.ceal_code.specs.declared.command.Cmd.TheVariants.{Move, Tick, Alloc, Modref, Write, If, Done, Tail, Read, Call}
@@ -246,15 +246,14 @@ module _ (code : Code) (ok : valid code ≡ true) where
     goes : (st s : Stack) → settled code (block_at m) st ≡ s → Stack_typed code m s → Ready code s → Goes_on code m st s
     goes st Empty e h r = tt
     goes st (Run u i env below) e h r =
-        let s = step-there code m st (act code (block_at m) (command_at code u i) u i env below) (next-acted code (block_at m) st (Run u i env below) e) (act-step code (block_at m) u i env below (command_at code u i) r) in
-        (command-there code ok m typed u i env below h.1 (command_at code u i) (at-command code m u i env h.0 (command_at code u i) refl) r, s.0, s.1, s.2)
+        step-there code m st (act code (block_at m) (command_at code u i) u i env below) (next-acted code (block_at m) st (Run u i env below) e) (act-step code (block_at m) u i env below (command_at code u i) r)
 
     -- a typed state is not stuck
     not-stuck : (st : Stack) → Stack_typed code m st → Not_stuck code m st
     not-stuck st h = record {
       memory = typed-fits code.structs m typed;
-      stack = stack-there code m st h;
-      settles = stack-there code m (settled code (block_at m) st) (settled-typed st h);
+      stack = stack-there code ok m typed st h;
+      settles = stack-there code ok m typed (settled code (block_at m) st) (settled-typed st h);
       goes_on = goes st (settled code (block_at m) st) refl (settled-typed st h) (settled-ready code (block_at m) st);
     }
 

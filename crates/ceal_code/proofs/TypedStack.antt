@@ -1,40 +1,32 @@
 -- In valid code each state of a run is typed: the words of its variables fit their kinds, and what its next step gives is
 -- typed again.
-use Rattle.std.proofs.Common.{◌≡◌, ℕ, zero, suc, ◌+◌, ◌<◌, ◌==◌, nat_lt, ◌&&◌, Bool, true, false, if◌then◌else◌, Option, Some, None, List, [], ◌∷◌, length, replicate, ◌⊎◌, inl, inr, refl, sym, ap, ◌∙◌, subst, slice_get, slice_set, unwrap_or, is_some, arith}
+use Rattle.std.proofs.Common.{◌≡◌, ℕ, zero, suc, ◌<◌, ◌==◌, ◌&&◌, Bool, true, false, if◌then◌else◌, Option, Some, None, List, [], ◌∷◌, length, replicate, ◌⊎◌, inl, inr, refl, sym, ap, ◌∙◌, subst, slice_get, slice_set, unwrap_or, arith}
 use Rattle.std.specs.Prelude.{⊤}
-use Rattle.ceal_base.specs.Access.{holds}
-use Rattle.ceal_base.specs.Block.{Block, Blocks, block_at}
-use Rattle.ceal_base.specs.Fitting.{kind_at, is_int_cell, is_pointer_cell, fits_kind, fits_field, words_fit}
-use Rattle.ceal_base.specs.declared.forest.Key.{Key}
-use Rattle.ceal_base.specs.declared.forest.Key.TheVariants.{Init, ModInt as IntKey, ModPtr as PtrKey}
-use Rattle.ceal_base.specs.declared.forest.UnitId.{UnitId}
+use Rattle.ceal_base.specs.Block.{Blocks}
+use Rattle.ceal_base.specs.Fitting.{kind_at, fits_kind, fits_field}
 use Rattle.ceal_base.specs.declared.kind.FieldKind.{FieldKind}
-use Rattle.ceal_base.specs.declared.kind.FieldKind.TheVariants.{Plain as PlainField, CellInt, CellPtr}
 use Rattle.ceal_base.specs.declared.kind.Kind.{Kind}
-use Rattle.ceal_base.specs.declared.kind.Kind.TheVariants.{Int, Ptr, ModInt, ModPtr}
+use Rattle.ceal_base.specs.declared.kind.Kind.TheVariants.{Ptr, ModInt, ModPtr}
 use Rattle.ceal_base.specs.declared.kind.Shape.{Shape}
 use Rattle.ceal_base.specs.declared.kind.Shape.TheVariants.{Struct, ModInt as OneInt, ModPtr as OnePtr}
 use Rattle.ceal_base.specs.declared.word.Place.{Place}
 use Rattle.ceal_base.specs.declared.word.Word.{Word}
-use Rattle.ceal_base.specs.declared.word.Word.TheVariants.{Num, Null, Block as BlockWord, At}
 use Rattle.ceal_code.proofs.Kept.{Shapes_kept, fits-kept}
-use Rattle.ceal_code.proofs.Same.{both, nat-same, some-same, none-some}
-use Rattle.ceal_code.proofs.Typed.{Has_type, Env_typed, Memory_typed, kind-same, maybe-fits, null-fits, fits-word, default-fits, value-type, value-fits}
-use Rattle.ceal_code.proofs.TypedInit.{Key_typed, Init_typed, function-valid, unit-valid, all-values, word-at}
+use Rattle.ceal_code.proofs.Same.{both, nat-same}
+use Rattle.ceal_code.proofs.Typed.{Env_typed}
+use Rattle.ceal_code.proofs.TypedInit.{Key_typed, unit-valid}
 use Rattle.ceal_code.specs.Program.{Unit as CodeUnit, Code}
-use Rattle.ceal_code.specs.Replay.{shape_in, shape_of}
-use Rattle.ceal_code.specs.Step.{Stack, Empty, Run, Act, Over, Quiet, Makes, Writes, Reads, unit_at, command_at, entry_of, entry_in, kinds_of, kind_default, variable_default, bound, entered, chosen, first_word, later_words, woven, given, started, key_of, place_of, writes_at, reads_at, act, landed, settled_at, settled, acted, next}
-use Rattle.ceal_code.specs.Valid.{command_ok, onward, path_ok, paths_ok, is_tree, with_params, is_core, below as all_below, body_ok, unit_ok, valid}
-use Rattle.ceal_code.specs.Value.{Variables, unset, set, is_cell}
+use Rattle.ceal_code.specs.Replay.{shape_of}
+use Rattle.ceal_code.specs.Running.{No_tail}
+use Rattle.ceal_code.specs.Step.{Stack, Empty, Run, Act, Over, Quiet, Makes, Writes, Reads, unit_at, command_at, kinds_of, bound, entered, given}
+use Rattle.ceal_code.specs.Valid.{command_ok, onward, path_ok, paths_ok, all_forward, is_tree, with_params, is_core, below as all_below, body_ok, unit_ok, valid}
+use Rattle.ceal_code.specs.Value.{Variables, set, is_cell}
 use Rattle.ceal_code.specs.declared.command.Cmd.{Cmd}
 use Rattle.ceal_code.specs.declared.command.Cmd.TheVariants.{Move, Tick, Alloc, Modref, Write, If, Done, Tail, Read, Call}
-use Rattle.ceal_code.specs.declared.expr.CodeExpr.{CodeExpr}
 use Rattle.ceal_code.specs.declared.expr.VarId.{VarId}
-use Rattle.ceal_code.specs.declared.function.FunctionCode.{FunctionCode}
-use Rattle.ceal_code.specs.declared.function.FunctionCode.TheVariants.{Core as CoreFunction, Init as InitFunction}
 
 -- which variables are known after a parameter, or an assignment
-known-set : (known : List Bool) (v u : ℕ) → unwrap_or (slice_get (slice_set known v true) u) false ≡ true → (u ≡ v) ⊎ (unwrap_or (slice_get known u) false ≡ true)
+pub known-set : (known : List Bool) (v u : ℕ) → unwrap_or (slice_get (slice_set known v true) u) false ≡ true → (u ≡ v) ⊎ (unwrap_or (slice_get known u) false ≡ true)
 known-set [] v u h = inr h
 known-set (b ∷ known) zero zero h = inl refl
 known-set (b ∷ known) zero (suc u) h = inr h
@@ -198,12 +190,22 @@ module _ (code : Code) (m : Blocks) where
 abbrev begun : Code → CodeUnit → List Bool
 begun code unit = with_params (replicate (length (kinds_of code unit.function)) false) unit.params
 
-unit-path : (code : Code) (unit : CodeUnit) → unit_ok code unit ≡ true → paths_ok code unit.function unit.body (length unit.body) 0 (begun code unit) false ≡ true
-unfolding unit_ok
-unit-path code unit h =
-    let p = both (is_core (slice_get code.functions unit.function)) (all_below (length (kinds_of code unit.function)) unit.params && body_ok code unit.function unit.params unit.body) h in
-    let q = both (all_below (length (kinds_of code unit.function)) unit.params) (body_ok code unit.function unit.params unit.body) p.1 in
-    (both (is_tree unit.body) (paths_ok code unit.function unit.body (length unit.body) 0 (begun code unit) false) q.1).1
+module _ (code : Code) (unit : CodeUnit) (h : unit_ok code unit ≡ true) where
+  abbrev unit-paths : Bool
+  unit-paths = paths_ok code unit.function unit.body (length unit.body) 0 (begun code unit) false
+
+  unit-body : ((all_forward unit.body 0 && is_tree unit.body) ≡ true) × (unit-paths ≡ true)
+  unfolding unit_ok
+  unit-body =
+      let p = both (is_core (slice_get code.functions unit.function)) (all_below (length (kinds_of code unit.function)) unit.params && body_ok code unit.function unit.params unit.body) h in
+      let q = both (all_below (length (kinds_of code unit.function)) unit.params) (body_ok code unit.function unit.params unit.body) p.1 in
+      both (all_forward unit.body 0 && is_tree unit.body) unit-paths q.1
+
+  pub unit-path : unit-paths ≡ true
+  unit-path = unit-body.1
+
+  pub unit-tree : (all_forward unit.body 0 ≡ true) × (is_tree unit.body ≡ true)
+  unit-tree = both (all_forward unit.body 0) (is_tree unit.body) unit-body.0
 
 module _ (code : Code) (ok : valid code ≡ true) (m : Blocks) where
   -- a unit at its beginning, on words that fit its parameters
@@ -220,3 +222,33 @@ module _ (code : Code) (ok : valid code ≡ true) (m : Blocks) where
         path = unit-path code unit (unit-valid code ok u unit e);
         envs = bound-typed code m (kinds_of code unit.function) (length (kinds_of code unit.function)) unit.params ws h;
       })
+
+module _ (code : Code) (ok : valid code ≡ true) where
+  -- no unit begins with a tail
+  first-command : (f : ℕ) (known : List Bool) (c : Cmd) → command_ok code f known false c ≡ true → No_tail c
+  first-command f known (Tail w args) h = absurd (grind (arith, h))
+  first-command f known (Move v e) h = tt
+  first-command f known Tick h = tt
+  first-command f known (Alloc v g args) h = tt
+  first-command f known (Modref v shape) h = tt
+  first-command f known (Write p e) h = tt
+  first-command f known (If test first second) h = tt
+  first-command f known Done h = tt
+  first-command f known (Read v p w args) h = tt
+  first-command f known (Call g args w rest) h = tt
+
+  first-there : (unit : CodeUnit) (n : ℕ) (known : List Bool) → paths_ok code unit.function unit.body n 0 known false ≡ true → No_tail (unwrap_or (slice_get unit.body 0) Done)
+  unfolding paths_ok
+  first-there unit zero known h = absurd (grind (arith, h))
+  first-there unit (suc n) known h = go (slice_get unit.body 0) h
+    where
+      go : (o : Option Cmd) → path_ok code unit.function (paths_ok code unit.function unit.body n) o 0 known false ≡ true → No_tail (unwrap_or o Done)
+      go None h = tt
+      go (Some c) h = first-command unit.function known c (both (command_ok code unit.function known false c) (onward (paths_ok code unit.function unit.body n) c 0 known) h).0
+
+  pub no-tail : (w : ℕ) → w < length code.units → No_tail (command_at code w 0)
+  no-tail w l = go (slice_get code.units w) refl
+    where
+      go : (o : Option CodeUnit) → slice_get code.units w ≡ o → No_tail (command_at code w 0)
+      go None e = rw e tt
+      go (Some unit) e = rw e (first-there unit (length unit.body) (begun code unit) (unit-path code unit (unit-valid code ok w unit e)))

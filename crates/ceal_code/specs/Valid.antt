@@ -1,5 +1,6 @@
--- When code is valid: every number is in range, a unit's body is a tree that is gone through forwards, a variable is
--- used only where it has a word, and expressions have the types that are asked.
+-- When code is valid: every number is in range, a unit's body is a tree that is gone through forwards, so that each
+-- command of it lies on a path from the first, a variable is used only where it has a word, and expressions have the
+-- types that are asked.
 use Rattle.std.specs.Prelude.{ℕ, zero, suc, ◌+◌, ◌==◌, ◌&&◌, nat_lt, nat_le, Bool, true, false, not, if◌then◌else◌, Option, Some, None, List, [], ◌∷◌, ◌++◌, length, replicate, slice_get, slice_set, unwrap_or}
 use Rattle.ceal_base.specs.declared.kind.FieldKind.{FieldKind}
 use Rattle.ceal_base.specs.declared.kind.FieldKind.TheVariants.{Plain as PlainField, CellInt, CellPtr}
@@ -197,7 +198,7 @@ onward on Tick i known = on (i + 1) known true
 onward on (Alloc v g args) i known = on (i + 1) (slice_set known v.0 true) true
 onward on (Modref v shape) i known = on (i + 1) (slice_set known v.0 true) true
 onward on (Write p e) i known = on (i + 1) known true
-onward on (If test first second) i known = (nat_lt i first && nat_lt i second) && (on first known true && on second known true)
+onward on (If test first second) i known = on first known true && on second known true
 onward on Done i known = true
 onward on (Tail w args) i known = true
 onward on (Read v p w args) i known = true
@@ -207,11 +208,29 @@ abbrev pub path_ok : Code → ℕ → (ℕ → List Bool → Bool → Bool) → 
 path_ok code f on None i known stepped = false
 path_ok code f on (Some c) i known stepped = command_ok code f known stepped c && onward on c i known
 
--- each path of a body from an index on, of at most so many commands; indices rise, so that a path is no longer
+-- each path of a body from an index on, of at most so many commands; in a body that goes forward no path is longer
 -- than the body
 unfoldable pub paths_ok : Code → ℕ → List Cmd → ℕ → ℕ → List Bool → Bool → Bool
 paths_ok code f body zero i known stepped = false
 paths_ok code f body (suc fuel) i known stepped = path_ok code f (paths_ok code f body fuel) (slice_get body i) i known stepped
+
+-- where an `If` goes on is behind it
+abbrev pub goes_forward : Cmd → ℕ → Bool
+goes_forward (Move v e) i = true
+goes_forward Tick i = true
+goes_forward (Alloc v g args) i = true
+goes_forward (Modref v shape) i = true
+goes_forward (Write p e) i = true
+goes_forward (If test first second) i = nat_lt i first && nat_lt i second
+goes_forward Done i = true
+goes_forward (Tail w args) i = true
+goes_forward (Read v p w args) i = true
+goes_forward (Call g args w rest) i = true
+
+-- so it is with each `If` of a body, on a path or not
+unfoldable pub all_forward : List Cmd → ℕ → Bool
+all_forward [] i = true
+all_forward (c ∷ cs) i = goes_forward c i && all_forward cs (i + 1)
 
 -- the indices at which a run may go on after a command
 abbrev pub followers : Cmd → ℕ → List ℕ
@@ -264,7 +283,8 @@ is_core None = false
 
 abbrev pub body_ok : Code → ℕ → List VarId → List Cmd → Bool
 body_ok code f params body =
-    is_tree body && paths_ok code f body (length body) 0 (with_params (replicate (length (kinds_of code f)) false) params) false
+    (all_forward body 0 && is_tree body)
+    && paths_ok code f body (length body) 0 (with_params (replicate (length (kinds_of code f)) false) params) false
 
 unfoldable pub unit_ok : Code → Unit → Bool
 unit_ok code unit =

@@ -86,7 +86,7 @@ fn put(
     Ok(())
 }
 
-/// Puts what follows a command, and says whether all of it stands after the command.
+/// Puts what follows a command.
 #[tactic(auto, using(crate::proofs::PathSteps::part_steps))]
 fn go_on(
     code: &Code,
@@ -95,10 +95,10 @@ fn go_on(
     command: &Cmd,
     part: Part,
     parts: &mut Vec<Part>,
-) -> Result<bool, NoMemory>
+) -> Result<(), NoMemory>
     requires some { 0 < part.left }
     requires there { part.index < length body.now }
-    ensures paths { IfOk result (λ ok. (ok && parts_ok code.now f body.now parts.new.items)
+    ensures paths { IfOk result (λ _. parts_ok code.now f body.now parts.new.items
         ≡ (onward (paths_ok code.now f body.now (part.left - 1)) command.now part.index part.known.items
         && parts_ok code.now f body.now parts.old.items)) }
     ensures lighter { IfOk result (λ _. weights parts.new.items + 1 ≤ weights parts.old.items + weight part.left) }
@@ -113,43 +113,27 @@ fn go_on(
     match command {
         Cmd::Move { var, .. } => {
             learn(&mut known, *var);
-            put(code, f, body, parts, index + 1, known, left)?;
-            Ok(true)
+            put(code, f, body, parts, index + 1, known, left)
         }
-        Cmd::Tick => {
-            put(code, f, body, parts, index + 1, known, left)?;
-            Ok(true)
-        }
+        Cmd::Tick => put(code, f, body, parts, index + 1, known, left),
         Cmd::Alloc { var, .. } => {
             learn(&mut known, *var);
-            put(code, f, body, parts, index + 1, known, left)?;
-            Ok(true)
+            put(code, f, body, parts, index + 1, known, left)
         }
         Cmd::Modref { var, .. } => {
             learn(&mut known, *var);
-            put(code, f, body, parts, index + 1, known, left)?;
-            Ok(true)
+            put(code, f, body, parts, index + 1, known, left)
         }
-        Cmd::Write { .. } => {
-            put(code, f, body, parts, index + 1, known, left)?;
-            Ok(true)
-        }
+        Cmd::Write { .. } => put(code, f, body, parts, index + 1, known, left),
         Cmd::If { yes, no, .. } => {
-            let yes = *yes as usize;
-            let no = *no as usize;
-            if index < yes && index < no {
-                let others = known.clone()?;
-                put(code, f, body, parts, no, others, left)?;
-                put(code, f, body, parts, yes, known, left)?;
-                Ok(true)
-            } else {
-                Ok(false)
-            }
+            let others = known.clone()?;
+            put(code, f, body, parts, *no as usize, others, left)?;
+            put(code, f, body, parts, *yes as usize, known, left)
         }
-        Cmd::Done => Ok(true),
-        Cmd::Tail { .. } => Ok(true),
-        Cmd::Read { .. } => Ok(true),
-        Cmd::Call { .. } => Ok(true),
+        Cmd::Done => Ok(()),
+        Cmd::Tail { .. } => Ok(()),
+        Cmd::Read { .. } => Ok(()),
+        Cmd::Call { .. } => Ok(()),
     }
 }
 
@@ -173,8 +157,8 @@ fn pass(
         None => Ok(false),
         Some(command) => {
             if is_command_ok(code, f, &part.known, part.stepped, command) {
-                let ok = go_on(code, f, body, command, part, parts)?;
-                Ok(ok)
+                go_on(code, f, body, command, part, parts)?;
+                Ok(true)
             } else {
                 Ok(false)
             }

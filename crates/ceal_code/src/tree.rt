@@ -1,12 +1,47 @@
-// Whether a unit's body is a tree.
+// Whether a unit's body goes forward and is a tree.
 
-ghost use Rattle.std.specs.Prelude.{◌≡◌, ◌<◌, ◌^◌, ◌∷◌, [], ℕ, Bool, List, true, false, Some, None, if◌then◌else◌, slice_get, unwrap_or, IfOk};
-ghost use Rattle.ceal_code.specs.Valid.{reached, followers, all_followers, all_true, all_but_first, is_tree};
+ghost use Rattle.std.specs.Prelude.{◌≡◌, ◌<◌, ◌^◌, ◌∷◌, ◌&&◌, [], ℕ, Bool, List, true, false, Some, None, if◌then◌else◌, slice_get, unwrap_or, IfOk};
+ghost use Rattle.ceal_code.specs.Valid.{goes_forward, all_forward, reached, followers, all_followers, all_true, all_but_first, is_tree};
 
 use crate::command::Cmd;
 use crate::paths::{no_flags, set_flag};
 use ceal_base::no_memory::NoMemory;
 use std::alloc::Global;
+
+/// Whether an `If` goes on behind itself, whichever way.
+fn goes_forward(command: &Cmd, index: usize) -> bool
+    ensures { result ≡ goes_forward command.now index }
+{
+    match command {
+        Cmd::Move { .. } => true,
+        Cmd::Tick => true,
+        Cmd::Alloc { .. } => true,
+        Cmd::Modref { .. } => true,
+        Cmd::Write { .. } => true,
+        Cmd::If { yes, no, .. } => index < *yes as usize && index < *no as usize,
+        Cmd::Done => true,
+        Cmd::Tail { .. } => true,
+        Cmd::Read { .. } => true,
+        Cmd::Call { .. } => true,
+    }
+}
+
+/// Whether each `If` of a body goes forward, on a path or not.
+#[tactic(auto, using(crate::proofs::TreeSteps::forward_steps))]
+pub fn do_all_go_forward(body: &[Cmd]) -> bool
+    ensures { result ≡ all_forward body.now 0 }
+{
+    let mut rest = body;
+    let mut index = 0;
+    while let Some((command, more)) = rest.split_first() {
+        if !goes_forward(command, index) {
+            return false;
+        }
+        index += 1;
+        rest = more;
+    }
+    true
+}
 
 fn is_marked(marks: &[bool], at: usize) -> bool
     ensures { result ≡ unwrap_or (slice_get marks.now at) true }

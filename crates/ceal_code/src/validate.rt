@@ -8,7 +8,7 @@ use crate::expr::VarId;
 use crate::function::FunctionCode;
 use crate::initialiser::are_stmts_ok;
 use crate::paths::are_paths_ok;
-use crate::tree::is_body_tree;
+use crate::tree::{do_all_go_forward, is_body_tree};
 use crate::typing::is_same_kind;
 use crate::unit::Unit;
 use ceal_base::forest::UnitId;
@@ -140,6 +140,9 @@ fn is_unit_ok(alloc: Global, code: &Code, unit: &Unit) -> Result<bool, NoMemory>
     if !are_below(code.kinds_of(f).len(), unit.params()) {
         return Ok(false);
     }
+    if !do_all_go_forward(unit.body()) {
+        return Ok(false);
+    }
     if !is_body_tree(alloc, unit.body())? {
         return Ok(false);
     }
@@ -264,7 +267,7 @@ fn are_functions_ok(
 }
 
 /// Whether code is valid: every number in it is in range, the body of each unit is a tree that is gone through
-/// forwards, a variable is used only where it has a word, expressions have the types that are asked, and no unit
+/// forwards, so that each command lies on a path from the first, a variable is used only where it has a word, expressions have the types that are asked, and no unit
 /// goes on to another without a step.
 #[tactic(auto, unfolding(crate::specs::Valid::valid))]
 pub fn validate(alloc: Global, code: &Code) -> Result<bool, NoMemory>

@@ -11,7 +11,7 @@ use Rattle.ceal_lex.specs.declared.token.Token.{Token}
 use Rattle.ceal_lex.specs.Faults.{IsFirstFault as IsFirstMisspelling}
 use Rattle.ceal_lex.specs.Parts.{IsSplit, source_of}
 use Rattle.ceal_lex.specs.Tokens.{AreTokens}
-use Rattle.ceal_parse.specs.Faults.{Accepts, IsFirstFault}
+use Rattle.ceal_grammar.specs.Faults.{Accepts, IsFirstFault}
 use Rattle.ceal_compile.specs.Phases.{settled, TokensCome}
 use Rattle.ceal_compile.specs.Source.{PartComes, Comes}
 

@@ -4,10 +4,10 @@ use Rattle.std.proofs.lemmas.List.Elements.{All-nil, All-cons}
 use Rattle.ceal_base.specs.declared.syntax.Tree.{Tree}
 use Rattle.ceal_base.specs.declared.fault.Span.{Span}
 use Rattle.ceal_lex.specs.declared.token.Token.{Token}
-use Rattle.ceal_parse.specs.Faults.{AllWithin, Accepts}
-use Rattle.ceal_parse.specs.Grammar.{Phrase, number, null, variable, own, parens, arrow, prefix, address, binary, Written, int, pointer, mod_int, mod_pointer, cell_int, cell_pointer, Arguments, no_arguments, arguments, Given, plainly, reading, allocation, modref_int, modref, Statement, declare, assign, set, store, call, branch, loop, exit, Branch, when, Otherwise, nothing, otherwise, chained, Block, block, Statements, ended, followed, Parameter, Parameters, no_parameters, parameters, Signature, core, init, Member, Part, structure, function}
-use Rattle.ceal_parse.specs.Spelled.{Mark, spelled, spelled_type, spelled_more, spelled_arguments, spelled_given, spelled_statement, spelled_branch, spelled_otherwise, spelled_block, spelled_statements, spelled_others, spelled_parameters, spelled_signature, spelled_members, spelled_part, spelled_parts}
-use Rattle.ceal_parse.specs.Trees.{member_trees, other_trees, parameter_trees, part_tree, part_trees}
+use Rattle.ceal_grammar.specs.Faults.{AllWithin, Accepts}
+use Rattle.ceal_grammar.specs.Grammar.{Phrase, number, null, variable, own, parens, arrow, prefix, address, binary, Written, int, pointer, mod_int, mod_pointer, cell_int, cell_pointer, Arguments, no_arguments, arguments, Given, plainly, reading, allocation, modref_int, modref, Statement, declare, assign, set, store, call, branch, loop, exit, Branch, when, Otherwise, nothing, otherwise, chained, Block, block, Statements, ended, followed, Parameter, Parameters, no_parameters, parameters, Signature, core, init, Member, Part, structure, function}
+use Rattle.ceal_grammar.specs.Spelled.{Mark, spelled, spelled_type, spelled_more, spelled_arguments, spelled_given, spelled_statement, spelled_branch, spelled_otherwise, spelled_block, spelled_statements, spelled_others, spelled_parameters, spelled_signature, spelled_members, spelled_part, spelled_parts}
+use Rattle.ceal_grammar.specs.Trees.{member_trees, other_trees, parameter_trees, part_tree, part_trees}
 use Rattle.ceal_types.specs.Limits.{IsShort, HasShortLists}
 
 -- what stands behind a phrase is within the limits too

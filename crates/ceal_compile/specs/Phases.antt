@@ -5,7 +5,7 @@ use Rattle.ceal_base.specs.declared.syntax.Tree.{Tree}
 use Rattle.ceal_base.specs.declared.typed.Typed.{Typed}
 use Rattle.ceal_flow.specs.Lowering.{lowered}
 use Rattle.ceal_lex.specs.declared.token.Token.{Token}
-use Rattle.ceal_parse.specs.Faults.{Accepts, IsFirstFault}
+use Rattle.ceal_grammar.specs.Faults.{Accepts, IsFirstFault}
 use Rattle.ceal_types.specs.Checked.{checked}
 use Rattle.ceal_usage.specs.Faults.{usage_faults}
 use Rattle.ceal_usage.specs.Verdict.{verdict}

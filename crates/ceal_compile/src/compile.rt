@@ -123,7 +123,7 @@ pub fn one_answer()
 {
     one_split();
     ceal_lex::lex::one_reading();
-    ceal_parse::laws::one_tree();
-    ceal_parse::laws::one_fault();
-    ceal_parse::laws::not_both();
+    ceal_grammar::laws::one_tree();
+    ceal_grammar::laws::one_fault();
+    ceal_grammar::laws::not_both();
 }

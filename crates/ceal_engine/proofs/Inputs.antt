@@ -23,7 +23,7 @@ use Rattle.ceal_code.specs.declared.function.FunctionCode.TheVariants.{Core as C
 use Rattle.ceal_engine.proofs.Numbered.{stored-made}
 use Rattle.ceal_engine.specs.Engine.{alone, fits_in, with_base}
 use Rattle.ceal_engine.specs.Keeping.{with_later}
-use Rattle.ceal_engine.specs.declared.call.Call.{Call}
+use Rattle.ceal_base.specs.declared.call.Call.{Call}
 
 all-kept : (test test' : Block → Bool) → ((b : Block) → test b ≡ true → test' b ≡ true) → (xs : List Block) → list_all test xs ≡ true → list_all test' xs ≡ true
 all-kept test test' k [] h = refl

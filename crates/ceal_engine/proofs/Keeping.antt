@@ -15,7 +15,7 @@ use Rattle.ceal_engine.proofs.Present.{fresh-count, none-later}
 use Rattle.ceal_engine.specs.Engine.{alone, fits_in, with_base, edited, fresh_call}
 use Rattle.ceal_engine.specs.Keeping.{with_later, Sound}
 use Rattle.ceal_engine.specs.Laws.{longer_run, Input_law}
-use Rattle.ceal_engine.specs.declared.call.Call.{Call}
+use Rattle.ceal_base.specs.declared.call.Call.{Call}
 use Rattle.ceal_engine.specs.declared.phase.Phase.{Phase}
 use Rattle.ceal_engine.specs.declared.phase.Phase.TheVariants.{New, Finished as IsFinished, Pending, Dropped}
 

@@ -19,7 +19,7 @@ use Rattle.ceal_engine.proofs.Longer.{length-with}
 use Rattle.ceal_engine.proofs.Numbered.{numbers, numbered-same, numbered-only}
 use Rattle.ceal_engine.specs.Engine.{IsPresent, IsEngine, at_number}
 use Rattle.ceal_engine.specs.Keeping.{with_later, state_of, Sound}
-use Rattle.ceal_engine.specs.declared.call.Call.{Call}
+use Rattle.ceal_base.specs.declared.call.Call.{Call}
 use Rattle.ceal_engine.specs.declared.phase.Phase.{Phase}
 use Rattle.ceal_engine.specs.declared.phase.Phase.TheVariants.{New, Finished as IsFinished, Pending, Dropped}
 

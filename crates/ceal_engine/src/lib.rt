@@ -6,7 +6,6 @@
 #![tactic(auto)]
 
 mod activation;
-pub mod call;
 mod commands;
 pub mod engine;
 mod evaluate;
@@ -15,5 +14,3 @@ mod interpret;
 pub mod laws;
 pub mod phase;
 pub mod run_error;
-#[cfg(test)]
-mod tests;

@@ -9,4 +9,5 @@ mod Begins
 mod Going
 mod Outcomes
 mod Marks
+mod Either
 mod Samples

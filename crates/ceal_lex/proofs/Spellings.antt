@@ -1,8 +1,9 @@
 -- Bytes spell one kind of token at most.
-use Rattle.std.proofs.Common.{◌≡◌, inl, inr, ℕ, ◌<◌, true, List, [], ◌∷◌, refl, sym, ap, ◌∙◌, arith, rules, subst}
+use Rattle.std.proofs.Common.{◌≡◌, ◌≢◌, ◌⊎◌, inl, inr, ℕ, ◌<◌, true, List, [], ◌∷◌, refl, sym, ap, ◌∙◌, arith, rules, subst}
 use Rattle.std.specs.Prelude.{codes, bytes_eq, if◌then◌else◌}
-use Rattle.std.proofs.lemmas.Bool.{false≢true}
+use Rattle.std.proofs.lemmas.Bool.{cases_Bool, false≢true}
 use Rattle.std.proofs.lemmas.Bool.Decides.{nat_tests}
+use Rattle.std.proofs.lemmas.Slice.Eq.{bytes_eq-Decides}
 use Rattle.ceal_lex.specs.declared.token.Reserved.{Reserved}
 use Rattle.ceal_lex.specs.declared.token.Reserved.TheVariants as words
 use Rattle.ceal_lex.specs.declared.token.Sign.{Sign}
@@ -100,6 +101,23 @@ sign_of_text _ = refl
 
 pub same_sign : (s t : Sign) → sign_text s ≡ sign_text t → s ≡ t
 same_sign s t h = sym (sign_of_text s) ∙ ap sign_of h ∙ sign_of_text t
+
+-- bytes are a reserved word or none, and a sign or none
+pub word_or_none : (text : List ℕ) → ((w : Reserved) × (text ≡ reserved_text w)) ⊎ ((w : Reserved) → text ≢ reserved_text w)
+word_or_none text = elim (cases_Bool (bytes_eq text (reserved_text (word_of text)))) [
+  | inl e ↦ inl (word_of text, (bytes_eq-Decides text (reserved_text (word_of text))).0 e)
+  | inr e ↦ inr (λ w h.
+      let same : text ≡ reserved_text (word_of text) = h ∙ ap reserved_text (sym (ap word_of h ∙ word_of_text w)) in
+      false≢true (sym e ∙ (bytes_eq-Decides text (reserved_text (word_of text))).1 same))
+]
+
+pub sign_or_none : (text : List ℕ) → ((s : Sign) × (sign_text s ≡ text)) ⊎ ((s : Sign) → sign_text s ≢ text)
+sign_or_none text = elim (cases_Bool (bytes_eq (sign_text (sign_of text)) text)) [
+  | inl e ↦ inl (sign_of text, (bytes_eq-Decides (sign_text (sign_of text)) text).0 e)
+  | inr e ↦ inr (λ s h.
+      let same : sign_text (sign_of text) ≡ text = ap sign_text (sym (ap sign_of h) ∙ sign_of_text s) ∙ h in
+      false≢true (sym e ∙ (bytes_eq-Decides (sign_text (sign_of text)) text).1 same))
+]
 
 module _ (text : List ℕ) where
   word_unlike_sign : (s : Sign) → IsWord text → text ≡ sign_text s → ⊥

@@ -1,6 +1,6 @@
 // The bytes of a source part into tokens.
 
-ghost use Rattle.std.specs.Prelude.{◌≡◌, ◌+◌, ◌<◌, ◌^◌, [], length, List, ℕ, Bool, IfOk, Ok, Err};
+ghost use Rattle.std.specs.Prelude.{◌≡◌, ◌⊎◌, ◌+◌, ◌<◌, ◌^◌, [], length, List, ℕ, Bool, IfOk, Ok, Err};
 ghost use Rattle.ceal_base.specs.declared.fault.Fault.{Fault as FaultRecord};
 ghost use Rattle.ceal_lex.specs.declared.token.Token.{Token as TokenRecord};
 ghost use Rattle.ceal_base.specs.Answers.{Gives, IfFault};
@@ -103,4 +103,10 @@ pub fn one_reading()
     ensures list { (source : List ℕ) (marked : Bool) (ts us : List TokenRecord) → AreTokens source marked ts → AreTokens source marked us → ts ≡ us }
     ensures fault { (source : List ℕ) (f g : FaultRecord) → IsFirstFault source f → IsFirstFault source g → f ≡ g }
     ensures not_both { (source : List ℕ) (marked : Bool) (ts : List TokenRecord) (f : FaultRecord) → AreTokens source marked ts → IsFirstFault source f → ⊥ }
+{}
+
+/// A source has a list of tokens, or a first fault.
+pub fn either()
+    ensures law { (source : List ℕ) (marked : Bool)
+        → ((ts : List TokenRecord) × AreTokens source marked ts) ⊎ ((f : FaultRecord) × IsFirstFault source f) }
 {}

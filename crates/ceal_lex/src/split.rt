@@ -53,3 +53,8 @@ pub fn split(input: &[u8]) -> Split
 pub fn one_split()
     ensures { (input : List ℕ) (p q : SplitRecord) → IsSplit input p → IsSplit input q → p ≡ q }
 {}
+
+/// Each input that is short enough has one.
+pub fn some_split()
+    ensures { (input : List ℕ) → length input < 2 ^ 32 → (p : SplitRecord) × IsSplit input p }
+{}

@@ -7,8 +7,8 @@ use Rattle.ceal_base.specs.declared.forest.Key.{Key}
 use Rattle.ceal_base.specs.contracts.forest.KeyPartialEq.TheImpl as alloc_key
 use Rattle.ceal_order.specs.declared.stamp.Stamp.{Stamp}
 use Rattle.ceal_order.specs.Stamps.{is_in}
-use Rattle.ceal_rising.specs.Rising.{IsRising, count_before}
-use Rattle.ceal_rising.proofs.Editing.{rising_insert}
+use Rattle.ceal_order.specs.Rising.{IsRising, count_before}
+use Rattle.ceal_order.proofs.Editing.{rising_insert}
 use Rattle.ceal_memo.specs.declared.home.Home.{Home}
 use Rattle.ceal_memo.specs.declared.home.Home.TheVariants.{Read, Alloc}
 use Rattle.ceal_memo.specs.declared.key.ReadKey.{ReadKey}

@@ -5,9 +5,9 @@ use Rattle.std.proofs.lemmas.Bool.{cases_lt}
 use Rattle.std.proofs.lemmas.List.{length-append, length-take-le, length-drop, get_or_append_left, get_or-append_right, get_or-take, get_or-drop, same_lists, take_more_set, drop-set-lt, take_at, drop_at, drop-drop}
 use Rattle.std.proofs.Math.Seq.{drop-append-add}
 use Rattle.ceal_order.specs.declared.stamp.Stamp.{Stamp}
-use Rattle.ceal_rising.specs.Rising.{numbers}
-use Rattle.ceal_rising.proofs.Searching.{length-numbers, numbers-at}
-use Rattle.ceal_rising.proofs.Editing.{numbers-insert, numbers-remove}
+use Rattle.ceal_order.specs.Rising.{numbers}
+use Rattle.ceal_order.proofs.Searching.{length-numbers, numbers-at}
+use Rattle.ceal_order.proofs.Editing.{numbers-insert, numbers-remove}
 use Rattle.ceal_memo.specs.GapBuffer.{around}
 
 blank : Stamp

@@ -5,7 +5,7 @@ use Rattle.std.specs.List.{insert, remove}
 use Rattle.ceal_order.specs.Stamps.{NotIn, Distinct, is_in, place, without}
 use Rattle.std.proofs.lemmas.Bool.{eq-eqb}
 use Rattle.ceal_order.proofs.Places.{in_head, in_tail}
-use Rattle.ceal_rising.specs.Rising.{IsBeforeAll, IsRising}
+use Rattle.ceal_order.specs.Rising.{IsBeforeAll, IsRising}
 
 pub in_inserted : (s n : ℕ) (xs : List ℕ) → is_in s (insert xs n s) ≡ true
 in_inserted s zero xs = in_head s xs

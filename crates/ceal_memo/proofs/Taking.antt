@@ -7,7 +7,7 @@ use Rattle.ceal_base.specs.contracts.forest.KeyPartialEq.TheImpl as alloc_key
 use Rattle.ceal_order.specs.declared.stamp.Stamp.{Stamp}
 use Rattle.ceal_order.specs.Stamps.{is_in, without}
 use Rattle.ceal_order.proofs.Places.{not_in, gone}
-use Rattle.ceal_rising.proofs.Editing.{rising_without}
+use Rattle.ceal_order.proofs.Editing.{rising_without}
 use Rattle.ceal_memo.specs.declared.home.Home.{Home}
 use Rattle.ceal_memo.specs.declared.home.Home.TheVariants.{Read, Alloc}
 use Rattle.ceal_memo.specs.declared.key.ReadKey.{ReadKey}

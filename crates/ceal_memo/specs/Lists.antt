@@ -2,7 +2,7 @@
 use Rattle.std.specs.Prelude.{◌≡◌, ◌<◌, ◌≤◌, ℕ, Bool, true, List, [], insert, unwrap_or}
 use Rattle.std.specs.Map.{lookup}
 use Rattle.ceal_order.specs.Stamps.{is_in, place}
-use Rattle.ceal_rising.specs.Rising.{count_before}
+use Rattle.ceal_order.specs.Rising.{count_before}
 
 -- the stamps of a key, by the equality of keys
 abbrev pub stamps_at : {K : Type 0} → (K → K → Bool) → List (K × List ℕ) → K → List ℕ

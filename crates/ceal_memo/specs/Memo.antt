@@ -3,7 +3,7 @@ use Rattle.std.specs.Prelude.{◌≡◌, ◌≢◌, ℕ, List, true, false}
 use Rattle.ceal_base.specs.declared.forest.Key.{Key}
 use Rattle.ceal_base.specs.contracts.forest.KeyPartialEq.TheImpl as alloc_key
 use Rattle.ceal_order.specs.Stamps.{is_in}
-use Rattle.ceal_rising.specs.Rising.{IsRising}
+use Rattle.ceal_order.specs.Rising.{IsRising}
 use Rattle.ceal_memo.specs.declared.key.ReadKey.{ReadKey}
 use Rattle.ceal_memo.specs.contracts.key.ReadKeyPartialEq.TheImpl as read_key
 use Rattle.ceal_memo.specs.Lists.{stamps_at}

@@ -1,7 +1,7 @@
 // Stamps in a gap buffer.
 
 ghost use Rattle.std.specs.Prelude.{◌≡◌, ◌↔◌, ◌<◌, ◌≤◌, ◌+◌, [], length, insert, remove, slice_index, take, IfOk, OnOk, OnErr, IsTrue};
-ghost use Rattle.ceal_rising.specs.Rising.{numbers};
+ghost use Rattle.ceal_order.specs.Rising.{numbers};
 ghost use Rattle.ceal_memo.specs.GapBuffer.{around};
 
 use ceal_base::no_memory::NoMemory;
@@ -21,7 +21,7 @@ pub struct GapBuffer {
 
 impl Model for GapBuffer {
     ghost use Rattle.std.specs.Prelude.{◌≤◌, ◌+◌, length, List, ℕ};
-    ghost use Rattle.ceal_rising.specs.Rising.{numbers};
+    ghost use Rattle.ceal_order.specs.Rising.{numbers};
     ghost use Rattle.ceal_memo.specs.GapBuffer.{around};
 
     ghost Value = { List ℕ };

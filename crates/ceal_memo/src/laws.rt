@@ -3,11 +3,11 @@
 ghost use Rattle.std.specs.Prelude.{◌≡◌, ℕ, List};
 ghost use Rattle.ceal_base.specs.declared.forest.Key.{Key};
 ghost use Rattle.ceal_order.specs.Stamps.{OneMore};
-ghost use Rattle.ceal_rising.specs.Rising.{KeepsOrder};
+ghost use Rattle.ceal_order.specs.Rising.{KeepsOrder};
 ghost use Rattle.ceal_memo.specs.declared.key.ReadKey.{ReadKey};
 ghost use Rattle.ceal_memo.specs.Memo.{Entries, Follows, HasNone, reads_of, allocs_of};
 
-use ceal_rising::laws::rising_still;
+use ceal_order::laws::rising_still;
 
 /// A law: a memo follows each other order that has the stamps of each of its keys in the same order; so it does after an
 /// insertion into the order, and after a deletion from it that takes no stamp with an entry.

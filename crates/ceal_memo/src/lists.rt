@@ -3,7 +3,7 @@
 ghost use Rattle.std.specs.Prelude.{◌≡◌, ◌<◌, ℕ, false, Some, IfSome, IfNone, OnOk, OnErr, IsTrue};
 ghost use Rattle.std.specs.HashMap.{Updates, IsUnchanged};
 ghost use Rattle.ceal_order.specs.Stamps.{is_in, Distinct, place, without};
-ghost use Rattle.ceal_rising.specs.Rising.{IsRising, IsFirstAfter};
+ghost use Rattle.ceal_order.specs.Rising.{IsRising, IsFirstAfter};
 ghost use Rattle.ceal_memo.specs.Lists.{stamps_at, with_stamp, NoneBetween};
 
 use crate::gap_buffer::GapBuffer;

@@ -3,7 +3,7 @@
 ghost use Rattle.std.specs.Prelude.{◌≡◌, ◌≢◌, ◌<◌, ℕ, List, [], true, IfSome, IfNone, IfOk, OnOk, OnErr, IsTrue};
 ghost use Rattle.ceal_base.specs.declared.forest.Key.{Key as AllocKey};
 ghost use Rattle.ceal_order.specs.Stamps.{is_in, Distinct, place, without};
-ghost use Rattle.ceal_rising.specs.Rising.{IsFirstAfter};
+ghost use Rattle.ceal_order.specs.Rising.{IsFirstAfter};
 ghost use Rattle.ceal_memo.specs.declared.key.ReadKey.{ReadKey as KeyOfRead};
 ghost use Rattle.ceal_memo.specs.declared.home.Home.TheVariants.{Read, Alloc};
 ghost use Rattle.ceal_memo.specs.Homes.{entries_in};

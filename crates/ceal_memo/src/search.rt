@@ -2,7 +2,7 @@
 
 ghost use Rattle.std.specs.Prelude.{◌≡◌, ◌<◌, ◌≤◌, length, remove, IfSome, IfNone, IsTrue};
 ghost use Rattle.ceal_order.specs.Stamps.{is_in, Distinct, without};
-ghost use Rattle.ceal_rising.specs.Rising.{count_before, IsRising, IsFirstAfter, NoneAfter, IsParted};
+ghost use Rattle.ceal_order.specs.Rising.{count_before, IsRising, IsFirstAfter, NoneAfter, IsParted};
 
 use crate::gap_buffer::GapBuffer;
 use ceal_order::order::Order;

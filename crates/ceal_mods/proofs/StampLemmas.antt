@@ -3,7 +3,7 @@ use Rattle.std.proofs.Common.{◌≡◌, ◌==◌, ◌<◌, ◌∙◌, ℕ, suc,
 use Rattle.std.proofs.lemmas.Bool.Decides.{eqb_tells}
 use Rattle.std.specs.List.{insert}
 use Rattle.ceal_order.specs.Stamps.{is_in, place, without}
-use Rattle.ceal_rising.specs.Rising.{IsBeforeAll, IsRising}
+use Rattle.ceal_order.specs.Rising.{IsBeforeAll, IsRising}
 use Rattle.ceal_mods.specs.Writes.{Write, stamps_of, without_one}
 
 pub in_insert : (t s i : ℕ) (xs : List ℕ) → is_in t (insert xs i s) ≡ is_in t (s ∷ xs)

@@ -5,7 +5,7 @@ use Rattle.std.proofs.lemmas.Bool.{cases_lt, lt-ltb, le-ltb}
 use Rattle.std.specs.List.{insert, remove}
 use Rattle.ceal_base.specs.declared.word.Word.{Word}
 use Rattle.ceal_order.specs.Stamps.{is_in, place, without}
-use Rattle.ceal_rising.specs.Rising.{IsBeforeAll, IsRising, count_before}
+use Rattle.ceal_order.specs.Rising.{IsBeforeAll, IsRising, count_before}
 use Rattle.ceal_mods.specs.Writes.{Write, stamps_of, written, last_of, those_before, without_one}
 
 pub stamps-written : (ss : List ℕ) (vs : List Word) → length ss ≡ length vs → stamps_of (written ss vs) ≡ ss

@@ -3,7 +3,7 @@ use Rattle.std.specs.Prelude.{◌≡◌, ◌<◌, ◌≤◌, ℕ, List, [], pos,
 use Rattle.ceal_base.specs.declared.word.Word.{Word}
 use Rattle.ceal_base.specs.declared.word.Word.TheVariants.{Num}
 use Rattle.ceal_order.specs.Stamps.{is_in, place, without}
-use Rattle.ceal_rising.specs.Rising.{IsRising, count_before}
+use Rattle.ceal_order.specs.Rising.{IsRising, count_before}
 use Rattle.ceal_mods.specs.Writes.{stamps_of, last_of, those_before, with_one, without_one}
 use Rattle.ceal_mods.specs.declared.cell.Cell.{Cell}
 

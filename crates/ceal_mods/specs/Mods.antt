@@ -4,7 +4,7 @@ use Rattle.std.specs.Map.{lookup}
 use Rattle.ceal_base.specs.contracts.word.PlacePartialEq.TheImpl.{ghosts}
 use Rattle.ceal_base.specs.declared.word.Place.{Place}
 use Rattle.ceal_order.specs.Stamps.{is_in}
-use Rattle.ceal_rising.specs.Rising.{KeepsOrder}
+use Rattle.ceal_order.specs.Rising.{KeepsOrder}
 use Rattle.ceal_mods.specs.Writes.{stamps_of}
 use Rattle.ceal_mods.specs.Cell.{untouched, Rises}
 use Rattle.ceal_mods.specs.declared.cell.Cell.{Cell}

@@ -2,7 +2,7 @@
 use Rattle.std.specs.Prelude.{ℕ, List, [], ◌∷◌, nat_lt, insert, ◌==◌, if◌then◌else◌}
 use Rattle.ceal_base.specs.declared.word.Word.{Word}
 use Rattle.ceal_order.specs.Stamps.{place}
-use Rattle.ceal_rising.specs.Rising.{count_before}
+use Rattle.ceal_order.specs.Rising.{count_before}
 
 -- a write: its stamp, and its value
 pub record Write : Type 0 where

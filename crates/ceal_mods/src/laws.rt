@@ -8,7 +8,7 @@ ghost use Rattle.ceal_mods.specs.Cell.{with_write, without_write, with_read, wit
 ghost use Rattle.ceal_mods.specs.Mods.{Contents, Follows, KeepsStamps, IsFree};
 ghost use Rattle.ceal_mods.specs.declared.cell.Cell.{Cell};
 
-use ceal_rising::laws::rising_still;
+use ceal_order::laws::rising_still;
 
 /// A law: modifiables follow each other order that has their stamps in the same order; so they do after an insertion
 /// into the order, and after a deletion from it that takes none of their stamps.

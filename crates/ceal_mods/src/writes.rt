@@ -2,14 +2,14 @@
 
 ghost use Rattle.std.specs.Prelude.{◌≡◌, [], false, OnOk, OnErr, IsTrue, IfSome, IfNone};
 ghost use Rattle.ceal_order.specs.Stamps.{is_in};
-ghost use Rattle.ceal_rising.specs.Rising.{IsRising, IsFirstAfter, NoneAfter};
+ghost use Rattle.ceal_order.specs.Rising.{IsRising, IsFirstAfter, NoneAfter};
 ghost use Rattle.ceal_mods.specs.Writes.{stamps_of, last_of, those_before, with_one, without_one};
 
 use ceal_base::no_memory::NoMemory;
 use ceal_base::word::Word;
 use ceal_order::order::Order;
 use ceal_order::stamp::Stamp;
-use ceal_rising::rising::Rising;
+use ceal_order::rising::Rising;
 use std::alloc::Global;
 use std::marker::Model;
 

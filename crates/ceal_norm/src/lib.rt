@@ -14,8 +14,4 @@ pub mod laws;
 pub mod normalise;
 mod number;
 mod plan;
-#[cfg(test)]
-mod programs;
-#[cfg(test)]
-mod tests;
 mod units;

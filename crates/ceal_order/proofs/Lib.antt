@@ -7,3 +7,7 @@ pub mod Growing
 pub mod Powers
 pub mod Neighbours
 pub mod Spreading
+pub mod RisingLemmas
+pub mod Searching
+pub mod Editing
+pub mod Members

@@ -7,12 +7,15 @@
 //! `stamp` is what callers hold, `order` the list and its calls. Inside, `link` has the links of a doubly linked list
 //! whose labels rise along it, `labels` finds a label for a new link and gives labels anew where none is free, and
 //! `run` finds the links that get new labels then.
+//!
+//! What is kept by time is kept in lists of stamps that rise along the order: each stands before those that follow it.
+//! `rising` is such a list in a vector, searched by halves; `laws` says along which other orders stamps still rise.
 #![tactic(auto)]
 
 mod labels;
+pub mod laws;
 mod link;
 pub mod order;
+pub mod rising;
 mod run;
 pub mod stamp;
-#[cfg(test)]
-mod tests;

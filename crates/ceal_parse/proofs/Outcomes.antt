@@ -10,12 +10,12 @@ use Rattle.ceal_base.specs.declared.syntax.Tree.{Tree}
 use Rattle.ceal_base.specs.Answers.{Gives, Fails, IfFault}
 use Rattle.ceal_lex.specs.Tokens.{IsEnded}
 use Rattle.ceal_lex.specs.declared.token.Token.{Token}
-use Rattle.ceal_parse.specs.declared.state.State.{State}
-use Rattle.ceal_parse.specs.declared.state.State.TheVariants.{Top, Struct, Head as InHead, In, Finished}
-use Rattle.ceal_parse.specs.Faults.{Accepts, IsFirstFault}
-use Rattle.ceal_parse.specs.Judged.{judged, advanced, finished, entries_of}
-use Rattle.ceal_parse.specs.Machine.{step, nesting_of, operators_of}
-use Rattle.ceal_parse.proofs.Exact.{tell, accepted, complete, faulty, first_given, judged_on, judged_off}
+use Rattle.ceal_grammar.specs.declared.state.State.{State}
+use Rattle.ceal_grammar.specs.declared.state.State.TheVariants.{Top, Struct, Head as InHead, In, Finished}
+use Rattle.ceal_grammar.specs.Faults.{Accepts, IsFirstFault}
+use Rattle.ceal_grammar.specs.Judged.{judged, advanced, finished, entries_of}
+use Rattle.ceal_grammar.specs.Machine.{step, nesting_of, operators_of}
+use Rattle.ceal_grammar.proofs.Exact.{tell, accepted, complete, faulty, first_given, judged_on, judged_off}
 
 module _ (ts : List Token) where
   pub found_from : (r : Result Tree FrontError) → Gives r (judged (Top []) ts) → IfOk r (λ tree. Accepts ts tree)

@@ -2,12 +2,12 @@
 // program goes on so.
 
 ghost use Rattle.std.specs.Prelude.{◌≡◌, ◌<◌, ◌≤◌, ◌^◌, [], IfOk};
-ghost use Rattle.ceal_parse.specs.Machine.{same_sign as same_signs, wants, placed, operator_of, at_argument, received, closes, at_sign_after, at_after, at_place, with_statement, owned, block_closed, chained_in, at_body, at_ends, at_opens, at_closed, at_otherwise, moved, mode_nesting, operators_in};
+ghost use Rattle.ceal_grammar.specs.Machine.{same_sign as same_signs, wants, placed, operator_of, at_argument, received, closes, at_sign_after, at_after, at_place, with_statement, owned, block_closed, chained_in, at_body, at_ends, at_opens, at_closed, at_otherwise, moved, mode_nesting, operators_in};
 
 use crate::expression::{arrow, begin, operated, reduce, take_operand, take_pick, take_prim};
 use crate::making::{call, give, take_making, take_value};
 use crate::marks::{is_sign, is_word, level, operator, same_sign};
-use crate::state::{
+use ceal_grammar::state::{
     Callee, Chained, Frame, Inside, Mode, Opened, Owner, Piece, Place, Receiver, State, Whole,
 };
 use crate::statement::{

@@ -2,11 +2,11 @@
 // goes on so.
 
 ghost use Rattle.std.specs.Prelude.{◌≡◌, ◌<◌, ◌^◌, Some, [], IfOk};
-ghost use Rattle.ceal_parse.specs.Machine.{single as single_piece, prefixed, addressed, joined, picked, begun, operated as operated_whole, picks, reduced, at_prim, at_operand, at_pick};
+ghost use Rattle.ceal_grammar.specs.Machine.{single as single_piece, prefixed, addressed, joined, picked, begun, operated as operated_whole, picks, reduced, at_prim, at_operand, at_pick};
 
 use crate::marks::{is_sign, level, name, same_sign, same_word};
-use crate::stack::Stack;
-use crate::state::{Frame, Mode, Piece, Place, Receiver, Whole};
+use ceal_grammar::stack::Stack;
+use ceal_grammar::state::{Frame, Mode, Piece, Place, Receiver, Whole};
 use ceal_base::boxed::Boxed;
 use ceal_base::fault::Span;
 use ceal_base::no_memory::NoMemory;
@@ -60,7 +60,7 @@ fn pick(alloc: Global, piece: Piece, field: Ident) -> Result<Piece, NoMemory>
 }
 
 /// The piece once each operator of this level and above that waits for it has taken it.
-#[tactic(auto, unfolding(crate::specs::Machine::reduced))]
+#[tactic(auto, unfolding(ceal_grammar::specs::Machine::reduced))]
 pub fn reduce(
     alloc: Global,
     lowest: u8,

@@ -1,11 +1,11 @@
 // Heads of functions. A `take_..` takes one token, the entries before the function given.
 
 ghost use Rattle.std.specs.Prelude.{◌≡◌, IfOk};
-ghost use Rattle.ceal_parse.specs.Machine.{at_head, body_of, with_parameter};
+ghost use Rattle.ceal_grammar.specs.Machine.{at_head, body_of, with_parameter};
 
 use crate::marks::{is_sign, is_word, name};
-use crate::stack::Stack;
-use crate::state::{Head, HeadPlace, Inside, Mode, State, TypePart, Typing};
+use ceal_grammar::stack::Stack;
+use ceal_grammar::state::{Head, HeadPlace, Inside, Mode, State, TypePart, Typing};
 use crate::typing::{start_type, take_type};
 use ceal_base::items::Items;
 use ceal_base::no_memory::NoMemory;

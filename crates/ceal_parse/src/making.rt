@@ -1,11 +1,11 @@
 // What a variable is given. A `take_..` takes one token.
 
 ghost use Rattle.std.specs.Prelude.{◌≡◌, ◌<◌, ◌^◌, IfOk};
-ghost use Rattle.ceal_parse.specs.Machine.{given, called, at_modref, at_making, at_value};
+ghost use Rattle.ceal_grammar.specs.Machine.{given, called, at_modref, at_making, at_value};
 
 use crate::expression::take_whole;
 use crate::marks::{is_sign, is_word, name, same_word};
-use crate::state::{Callee, Making, Mode, Receiver, Target};
+use ceal_grammar::state::{Callee, Making, Mode, Receiver, Target};
 use ceal_base::fault::Span;
 use ceal_base::no_memory::NoMemory;
 use ceal_base::syntax::{Exprs, Ident, Stmt, Value};

@@ -1,8 +1,8 @@
 // What a token is, and which operator a sign is.
 
 ghost use Rattle.std.specs.Prelude.{◌≡◌, IfOk};
-ghost use Rattle.ceal_parse.specs.Grammar.{level as level_of_operator};
-ghost use Rattle.ceal_parse.specs.Machine.{same_sign as same_signs, same_word as same_words, is_sign as is_sign_kind, is_word as is_word_kind, operator_of, ident_of};
+ghost use Rattle.ceal_grammar.specs.Grammar.{level as level_of_operator};
+ghost use Rattle.ceal_grammar.specs.Machine.{same_sign as same_signs, same_word as same_words, is_sign as is_sign_kind, is_word as is_word_kind, operator_of, ident_of};
 
 use ceal_base::no_memory::NoMemory;
 use ceal_base::operators::Binary;

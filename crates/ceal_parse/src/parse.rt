@@ -5,13 +5,13 @@ ghost use Rattle.ceal_base.specs.declared.fault.Fault.{Fault as FaultRecord};
 ghost use Rattle.ceal_base.specs.declared.syntax.Tree.{Tree as TreeRecord};
 ghost use Rattle.ceal_base.specs.Answers.{Gives, IfFault};
 ghost use Rattle.ceal_lex.specs.Tokens.{IsEnded};
-ghost use Rattle.ceal_parse.specs.Faults.{Accepts, IsFirstFault};
-ghost use Rattle.ceal_parse.specs.Judged.{judged, advanced, tested, entries_of, code_at, fault_at};
-ghost use Rattle.ceal_parse.specs.Machine.{step, nesting_of, operators_of};
+ghost use Rattle.ceal_grammar.specs.Faults.{Accepts, IsFirstFault};
+ghost use Rattle.ceal_grammar.specs.Judged.{judged, advanced, tested, entries_of, code_at, fault_at};
+ghost use Rattle.ceal_grammar.specs.Machine.{step, nesting_of, operators_of};
 
 use crate::limits::{item, nesting, operators};
 use crate::program::take;
-use crate::state::State;
+use ceal_grammar::state::State;
 use ceal_base::fault::{Fault, FaultCode, FrontError, Span};
 use ceal_base::items::Items;
 use ceal_base::no_memory::NoMemory;

@@ -1,12 +1,12 @@
 // Programs.
 
 ghost use Rattle.std.specs.Prelude.{◌≡◌, ◌≤◌, IfOk};
-ghost use Rattle.ceal_parse.specs.Machine.{at_part, at_top, nesting_of, operators_of, step};
+ghost use Rattle.ceal_grammar.specs.Machine.{at_part, at_top, nesting_of, operators_of, step};
 
 use crate::body::take_mode;
 use crate::head::take_head;
 use crate::marks::same_word;
-use crate::state::{HeadPlace, State, StructPlace};
+use ceal_grammar::state::{HeadPlace, State, StructPlace};
 use crate::structs::take_struct;
 use ceal_base::items::Items;
 use ceal_base::no_memory::NoMemory;

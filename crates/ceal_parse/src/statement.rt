@@ -2,13 +2,13 @@
 // goes on so.
 
 ghost use Rattle.std.specs.Prelude.{◌≡◌, ◌<◌, ◌^◌, [], IfOk};
-ghost use Rattle.ceal_parse.specs.Machine.{placed, begun, at_operand, type_begin, wrapped, with_statement, ends_at, opened_by, at_word, at_statement, at_typing, at_declared, at_owned, at_path, at_calls, at_before, at_named, at_reached, at_first, path_of, field_of};
+ghost use Rattle.ceal_grammar.specs.Machine.{placed, begun, at_operand, type_begin, wrapped, with_statement, ends_at, opened_by, at_word, at_statement, at_typing, at_declared, at_owned, at_path, at_calls, at_before, at_named, at_reached, at_first, path_of, field_of};
 
 use crate::expression::{begin, take_whole};
 use crate::making::call;
 use crate::marks::{is_sign, name, same_sign, same_word};
-use crate::stack::Stack;
-use crate::state::{
+use ceal_grammar::stack::Stack;
+use ceal_grammar::state::{
     Callee, Chained, Inside, Mode, Opened, Owner, Place, Receiver, State, Target, TypePart, Typing,
 };
 use crate::typing::{begin_type, take_type};
@@ -22,7 +22,7 @@ use std::alloc::Global;
 use std::mem;
 
 /// The statement once each `if` that it is the else part of has ended with it.
-#[tactic(auto, unfolding(crate::specs::Machine::wrapped))]
+#[tactic(auto, unfolding(ceal_grammar::specs::Machine::wrapped))]
 fn wrap(alloc: Global, chain: &mut Stack<Chained>, statement: Stmt) -> Result<Stmt, NoMemory>
     ensures value { IfOk result (λ st. (st ≡ wrapped chain.old statement) × (chain.new ≡ [])) }
 {

@@ -1,10 +1,10 @@
 // Structs. A `take_..` takes one token.
 
 ghost use Rattle.std.specs.Prelude.{◌≡◌, IfOk};
-ghost use Rattle.ceal_parse.specs.Machine.{at_struct, at_member, with_member};
+ghost use Rattle.ceal_grammar.specs.Machine.{at_struct, at_member, with_member};
 
 use crate::marks::{is_sign, name};
-use crate::state::{State, StructPlace, TypePart, Typing};
+use ceal_grammar::state::{State, StructPlace, TypePart, Typing};
 use crate::typing::{start_type, take_type};
 use ceal_base::items::Items;
 use ceal_base::no_memory::NoMemory;

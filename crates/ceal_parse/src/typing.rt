@@ -1,10 +1,10 @@
 // Types. A `take_..` takes one token.
 
 ghost use Rattle.std.specs.Prelude.{◌≡◌, false, IfOk};
-ghost use Rattle.ceal_parse.specs.Machine.{type_begin, type_starts, star_or, at_mod, at_type};
+ghost use Rattle.ceal_grammar.specs.Machine.{type_begin, type_starts, star_or, at_mod, at_type};
 
 use crate::marks::{is_sign, is_word, name, same_word};
-use crate::state::{TypePart, Typing};
+use ceal_grammar::state::{TypePart, Typing};
 use ceal_base::no_memory::NoMemory;
 use ceal_base::syntax::{Ident, TypeForm};
 use ceal_lex::token::{Reserved, Sign, Token, TokenKind};

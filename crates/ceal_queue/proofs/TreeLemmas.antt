@@ -4,7 +4,7 @@ use Rattle.std.proofs.lemmas.Bool.Decides.{eqb_tells}
 use Rattle.std.proofs.lemmas.Bool.{eq-eqb, cases_lt, iff_false}
 use Rattle.ceal_order.specs.Stamps.{is_in, place, head_of, without}
 use Rattle.ceal_order.specs.declared.stamp.Stamp.{Stamp}
-use Rattle.ceal_rising.specs.Rising.{IsBeforeAll, IsRising}
+use Rattle.ceal_order.specs.Rising.{IsBeforeAll, IsRising}
 use Rattle.ceal_queue.specs.Queue.{IsWithout, IsBefore, IsEarliest}
 use Rattle.ceal_queue.specs.Tree.{AllBefore, AllFrom, Gains}
 

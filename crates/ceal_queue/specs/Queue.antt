@@ -2,7 +2,7 @@
 use Rattle.std.specs.Prelude.{◌≡◌, ◌≢◌, ◌<◌, ◌≤◌, ◌+◌, ◌^◌, ℕ, List, Option, None, Some, true, false}
 use Rattle.ceal_order.specs.declared.stamp.Stamp.{Stamp}
 use Rattle.ceal_order.specs.Stamps.{is_in, place}
-use Rattle.ceal_rising.specs.Rising.{IsRising}
+use Rattle.ceal_order.specs.Rising.{IsRising}
 
 -- what a caller sees of a queue: its stamps, from the earliest to the latest, and how many more take no memory
 pub record Waiting : Type 0 where

@@ -1,7 +1,7 @@
 -- The stamps of a search tree.
 use Rattle.std.specs.Prelude.{◌≡◌, ◌⊎◌, ℕ, ◌<◌, ◌+◌, List, [], ◌∷◌, ◌++◌, length}
 use Rattle.ceal_order.specs.Stamps.{place}
-use Rattle.ceal_rising.specs.Rising.{IsRising}
+use Rattle.ceal_order.specs.Rising.{IsRising}
 use Rattle.ceal_queue.specs.Queue.{IsWith}
 use Rattle.ceal_queue.specs.declared.tree.Tree.{Tree, Empty, Fork'}
 

@@ -2,10 +2,10 @@
 
 ghost use Rattle.std.specs.Prelude.{◌≡◌, ℕ, List, false};
 ghost use Rattle.ceal_order.specs.Stamps.{is_in, OneMore};
-ghost use Rattle.ceal_rising.specs.Rising.{KeepsOrder};
+ghost use Rattle.ceal_order.specs.Rising.{KeepsOrder};
 ghost use Rattle.ceal_queue.specs.Queue.{Waiting, Follows};
 
-use ceal_rising::laws::rising_still;
+use ceal_order::laws::rising_still;
 
 /// A law: a queue follows each other order that has its stamps in the same order; so it does after an insertion into
 /// the order, and after a deletion from it that takes no stamp of the queue.

@@ -5,7 +5,7 @@
 ghost use Rattle.std.specs.Prelude.{◌≡◌, ◌+◌, ◌≤◌, ◌∷◌, ◌++◌, true, false, option_map, vec_len, vec_capacity, OnOk, OnErr, IsTrue};
 ghost use Rattle.ceal_order.specs.Stamps.{is_in, head_of, without};
 ghost use Rattle.ceal_queue.specs.Tree.{stamps_of, AllBefore, AllFrom, Gains};
-ghost use Rattle.ceal_rising.specs.Rising.{IsRising};
+ghost use Rattle.ceal_order.specs.Rising.{IsRising};
 
 use ceal_base::no_memory::NoMemory;
 use ceal_order::order::Order;

@@ -19,7 +19,7 @@ use Rattle.ceal_base.specs.declared.word.Place.{Place}
 use Rattle.ceal_base.specs.declared.word.Word.{Word}
 use Rattle.ceal_base.specs.declared.word.Word.TheVariants.{Num, Null, Block as BlockWord, At}
 use Rattle.ceal_code.specs.Value.{is_cell}
-use Rattle.ceal_engine.specs.declared.call.Call.{Call}
+use Rattle.ceal_base.specs.declared.call.Call.{Call}
 use Rattle.ceal_script.specs.declared.command.Command.{Command}
 use Rattle.ceal_script.specs.declared.command.Command.TheVariants.{Blank, Mod, New, Set, Run, Propagate, Get, Show, Blocks, Steps, Work}
 use Rattle.ceal_script.specs.declared.command.PlaceWord.{PlaceWord}

@@ -25,7 +25,7 @@ use Rattle.ceal_code.specs.Laws.{Progress_law}
 use Rattle.ceal_code.specs.Value.{is_cell}
 use Rattle.ceal_engine.proofs.Present.{fresh-count}
 use Rattle.ceal_engine.specs.Engine.{EngineState, IsRun, IsPresent, IsEngine, Shows, block_in, stored_at, fresh_call, is_plain}
-use Rattle.ceal_engine.specs.declared.call.Call.{Call}
+use Rattle.ceal_base.specs.declared.call.Call.{Call}
 use Rattle.ceal_engine.specs.declared.phase.Phase.{Phase}
 use Rattle.ceal_engine.specs.declared.phase.Phase.TheVariants.{New, Finished as IsFinished, Pending, Dropped}
 use Rattle.ceal_session.proofs.KeptInputs.{Kept, kept-fresh}

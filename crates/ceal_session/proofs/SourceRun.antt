@@ -7,7 +7,7 @@ use Rattle.ceal_base.specs.declared.typed.Typed.{Typed}
 use Rattle.ceal_code.proofs.Same.{none-some}
 use Rattle.ceal_code.specs.Fitting.{Fits}
 use Rattle.ceal_engine.specs.Engine.{EngineState, IsRun, IsPresent, IsEngine, alone, fresh_call, fresh_of, IfOutOfFuel, IfNoMemory}
-use Rattle.ceal_engine.specs.declared.call.Call.{Call}
+use Rattle.ceal_base.specs.declared.call.Call.{Call}
 use Rattle.ceal_engine.specs.declared.phase.Phase.{Phase}
 use Rattle.ceal_engine.specs.declared.phase.Phase.TheVariants.{New, Finished as IsFinished, Pending, Dropped}
 use Rattle.ceal_engine.specs.declared.run_error.RunError.{RunError}

@@ -5,7 +5,7 @@ use Rattle.ceal_script.specs.declared.command.Command.{Command}
 use Rattle.ceal_session.specs.Runs.{with_run}
 use Rattle.ceal_session.specs.Steps.{answered_line, call_of}
 use Rattle.ceal_session.specs.Texts.{IsText}
-use Rattle.ceal_engine.specs.declared.call.Call.{Call}
+use Rattle.ceal_base.specs.declared.call.Call.{Call}
 use Rattle.ceal_session.specs.State.{State}
 use Rattle.ceal_session.specs.declared.refusal.Refusal.{Refusal}
 

@@ -13,7 +13,7 @@ use crate::steps::{ask, call, get, make, set, show};
 use ceal_base::kind::Shape;
 use ceal_base::no_memory::NoMemory;
 use ceal_base::text::Text;
-use ceal_engine::call::Call;
+use ceal_base::call::Call;
 use ceal_script::command::{Command, KindWord, PlaceWord, ValueWord};
 use std::alloc::Global;
 

@@ -25,7 +25,7 @@ use ceal_base::typed::{StructInfo, Typed, TypedFunction};
 use ceal_base::word::{Place, Word};
 use ceal_code::laws::progress_law;
 use ceal_compile::program::Program;
-use ceal_engine::call::Call;
+use ceal_base::call::Call;
 use ceal_engine::engine::Engine;
 use ceal_engine::phase::Phase;
 use ceal_engine::run_error::RunError;

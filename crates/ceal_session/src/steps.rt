@@ -19,7 +19,7 @@ use ceal_base::text::Text;
 use ceal_base::typed::TypedFunction;
 use ceal_base::word::{Place, Word};
 use ceal_base::words::Words;
-use ceal_engine::call::Call;
+use ceal_base::call::Call;
 use std::alloc::Global;
 
 /// An input of these words, where they fit.

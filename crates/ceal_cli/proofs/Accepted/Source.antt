@@ -10,9 +10,9 @@ use Rattle.ceal_lex.specs.declared.token.Token.{Token}
 use Rattle.ceal_lex.specs.Characters.{LINE_FEED}
 use Rattle.ceal_lex.specs.Pieces.{Piece, spelled}
 use Rattle.ceal_lex.specs.Tokens.{AreTokens, ending, tokens_from}
-use Rattle.ceal_parse.specs.declared.state.State.TheVariants.{Top}
-use Rattle.ceal_parse.specs.Judged.{judged}
-use Rattle.ceal_parse.proofs.Exact.{accepted}
+use Rattle.ceal_grammar.specs.declared.state.State.TheVariants.{Top}
+use Rattle.ceal_grammar.specs.Judged.{judged}
+use Rattle.ceal_grammar.proofs.Exact.{accepted}
 use Rattle.ceal_cli.proofs.Accepted.Pieces.{all_may_stand, scanned}
 use Rattle.ceal_cli.proofs.Accepted.Parts.{input, is_clear, part, source_is, split}
 use Rattle.ceal_cli.proofs.Accepted.Stands.{all_stand}

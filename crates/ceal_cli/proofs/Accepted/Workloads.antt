@@ -16,13 +16,13 @@ use Rattle.ceal_base.specs.declared.syntax.Tree.{Tree}
 use Rattle.ceal_base.specs.declared.typed.Typed.{Typed}
 use Rattle.ceal_lex.specs.Pieces.{Piece, spelled}
 use Rattle.ceal_lex.specs.declared.token.Token.{Token}
-use Rattle.ceal_parse.specs.declared.state.State.{State}
+use Rattle.ceal_grammar.specs.declared.state.State.{State}
 use Rattle.ceal_types.specs.declared.program.Program.{Program}
 use Rattle.ceal_flow.specs.Program.{Graph}
 use Rattle.ceal_lex.specs.Spelling.{continued}
 use Rattle.ceal_lex.specs.Tokens.{tokens_from}
-use Rattle.ceal_parse.specs.Judged.{judged}
-use Rattle.ceal_parse.specs.Machine.{reduced, same_sign, same_word, wrapped}
+use Rattle.ceal_grammar.specs.Judged.{judged}
+use Rattle.ceal_grammar.specs.Machine.{reduced, same_sign, same_word, wrapped}
 use Rattle.ceal_types.specs.Checked.{checked, typed_function, with_body}
 use Rattle.ceal_types.specs.Expressions.{address_at, field_at, member, typed_form}
 use Rattle.ceal_types.specs.Heads.{head_of, heads, struct_names, with_entry, with_field, with_parameter}

@@ -1,6 +1,6 @@
 use Rattle.std.proofs.Common.{arith, sym, ◌∙◌}
 use Rattle.std.proofs.lemmas.Bool.{eqb-true}
-use Rattle.ceal_rising.proofs.Editing.{without_absent}
+use Rattle.ceal_order.proofs.Editing.{without_absent}
 use Rattle.ceal_memo.proofs.StampLists.{without_where}
 use Rattle.ceal_memo.proofs.search.index_of.Goals as goal
 

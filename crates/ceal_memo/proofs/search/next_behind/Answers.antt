@@ -1,7 +1,7 @@
 use Rattle.std.proofs.Common.{◌≡◌, ℕ, true, arith, subst}
 use Rattle.ceal_order.specs.Stamps.{is_in}
-use Rattle.ceal_rising.specs.Rising.{IsFirstAfter}
-use Rattle.ceal_rising.proofs.Searching.{order_at, next_at, none_at}
+use Rattle.ceal_order.specs.Rising.{IsFirstAfter}
+use Rattle.ceal_order.proofs.Searching.{order_at, next_at, none_at}
 use Rattle.ceal_memo.proofs.search.next_behind.Goals as goal
 
 pub returns-then-at-len-clause-some : goal.returns-then-at-len-clause-some

@@ -1,6 +1,6 @@
 use Rattle.std.proofs.Common.{◌≡◌, ◌<◌, ◌≤◌, ℕ, true, arith, subst, sym}
 use Rattle.ceal_order.specs.Stamps.{is_in, place}
-use Rattle.ceal_rising.proofs.Searching.{order_at, parted_at_count, parted_past_count, not_less}
+use Rattle.ceal_order.proofs.Searching.{order_at, parted_at_count, parted_past_count, not_less}
 use Rattle.ceal_memo.proofs.search.past.Goals as goal
 
 pub returns-then-at-len : goal.returns-then-at-len

@@ -1,6 +1,6 @@
 use Rattle.std.proofs.Common.{◌≡◌, ◌<◌, ◌≤◌, ◌+◌, ◌-◌, ◌/◌, ℕ, true, length, arith, subst, sym}
 use Rattle.ceal_order.specs.Stamps.{is_in, place}
-use Rattle.ceal_rising.proofs.Searching.{order_at, count_front, count_back, count_le, not_less}
+use Rattle.ceal_order.proofs.Searching.{order_at, count_front, count_back, count_le, not_less}
 use Rattle.ceal_memo.proofs.search.rank.Goals as goal
 
 pub before-requires-clause-a_in : goal.before-requires-clause-a_in

@@ -1,5 +1,5 @@
 use Rattle.std.proofs.Common.{◌≤◌, ◌-◌, length}
-use Rattle.ceal_rising.specs.Rising.{count_before}
+use Rattle.ceal_order.specs.Rising.{count_before}
 use Rattle.ceal_memo.proofs.search.rank.Given as goal
 
 abbrev pub invariant-loop-low : goal.invariant-loop-low

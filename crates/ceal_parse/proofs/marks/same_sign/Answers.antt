@@ -1,5 +1,5 @@
 use Rattle.std.proofs.Common.{◌≡◌, ◌↔◌, IsTrue, rules}
-use Rattle.ceal_parse.proofs.Telling.{sign_decided}
+use Rattle.ceal_grammar.proofs.Telling.{sign_decided}
 use Rattle.ceal_parse.proofs.marks.same_sign.Goals as goal
 
 pub returns : goal.returns

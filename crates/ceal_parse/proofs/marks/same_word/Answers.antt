@@ -1,5 +1,5 @@
 use Rattle.std.proofs.Common.{◌≡◌, ◌↔◌, IsTrue, rules}
-use Rattle.ceal_parse.proofs.Telling.{word_decided}
+use Rattle.ceal_grammar.proofs.Telling.{word_decided}
 use Rattle.ceal_parse.proofs.marks.same_word.Goals as goal
 
 pub returns : goal.returns

@@ -1,7 +1,7 @@
 use Rattle.ceal_base.specs.Answers.{Gives}
-use Rattle.ceal_parse.specs.declared.state.State.TheVariants.{Top}
+use Rattle.ceal_grammar.specs.declared.state.State.TheVariants.{Top}
 use Rattle.std.proofs.Common.{[]}
-use Rattle.ceal_parse.specs.Judged.{judged}
+use Rattle.ceal_grammar.specs.Judged.{judged}
 use Rattle.ceal_parse.proofs.Outcomes.{found_from, all_from, fault_from, only_from}
 use Rattle.ceal_parse.proofs.parse.parse.Goals as goal
 

@@ -1,7 +1,7 @@
 use Rattle.std.proofs.Common.{◌≡◌, ◌≤◌, [], drop}
-use Rattle.ceal_parse.specs.Judged.{judged}
-use Rattle.ceal_parse.specs.Machine.{nesting_of, operators_of}
-use Rattle.ceal_parse.specs.declared.state.State.TheVariants.{Top}
+use Rattle.ceal_grammar.specs.Judged.{judged}
+use Rattle.ceal_grammar.specs.Machine.{nesting_of, operators_of}
+use Rattle.ceal_grammar.specs.declared.state.State.TheVariants.{Top}
 use Rattle.ceal_parse.proofs.parse.read.Given as goal
 
 abbrev pub invariant-loop-token : goal.invariant-loop-token

@@ -1,6 +1,6 @@
 use Rattle.std.proofs.Common.{◌≡◌, ◌∙◌, ◌+◌, suc, false, sym, arith}
 use Rattle.ceal_lex.specs.declared.token.Sign.TheVariants as Signs
-use Rattle.ceal_parse.specs.Machine.{is_sign}
+use Rattle.ceal_grammar.specs.Machine.{is_sign}
 use Rattle.ceal_parse.proofs.statement.take_first.Goals as goal
 
 pub returns-else-is_sign : goal.returns-else-is_sign

@@ -1,6 +1,6 @@
 use Rattle.std.proofs.Common.{◌≡◌, ◌≤◌, ◌+◌, ap, ◌∙◌, arith, length, List, ℕ, insert}
 use Rattle.std.proofs.lemmas.List.{length-set}
-use Rattle.ceal_rising.specs.Rising.{numbers}
+use Rattle.ceal_order.specs.Rising.{numbers}
 use Rattle.ceal_memo.specs.GapBuffer.{around}
 use Rattle.ceal_memo.proofs.Gaps.{length-view, view_inserted}
 use Rattle.ceal_memo.proofs.gap_buffer.GapBuffer.insert.Goals as goal

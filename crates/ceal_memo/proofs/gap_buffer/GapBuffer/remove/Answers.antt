@@ -1,5 +1,5 @@
 use Rattle.std.proofs.Common.{ap, ◌∙◌, arith, List, ℕ, remove}
-use Rattle.ceal_rising.specs.Rising.{numbers}
+use Rattle.ceal_order.specs.Rising.{numbers}
 use Rattle.ceal_memo.proofs.Gaps.{length-view, view_removed}
 use Rattle.ceal_memo.proofs.gap_buffer.GapBuffer.remove.Goals as goal
 

@@ -1,5 +1,5 @@
 use Rattle.std.proofs.Common.{◌≡◌, refl, sym, ◌∙◌, arith}
-use Rattle.ceal_rising.specs.Rising.{count_before}
+use Rattle.ceal_order.specs.Rising.{count_before}
 use Rattle.ceal_mods.proofs.WritesLemmas.{stamps-written, value_after-at, last-before}
 use Rattle.ceal_mods.proofs.writes.Writes.before.Goals as goal
 

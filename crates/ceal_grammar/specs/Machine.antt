@@ -1,0 +1,622 @@
+-- A reading of a program, token by token.
+use Rattle.std.specs.Prelude.{ℕ, suc, Bool, true, false, nat_eq, nat_le, Option, Some, None, List, [], ◌∷◌, ◌++◌, length, if◌then◌else◌}
+use Rattle.ceal_base.specs.declared.fault.Span.{Span}
+use Rattle.ceal_base.specs.declared.operators.Unary.{Unary as UnaryOp}
+use Rattle.ceal_base.specs.declared.operators.Unary.TheVariants.{Neg, Not}
+use Rattle.ceal_base.specs.declared.operators.Binary.{Binary as BinaryOp}
+use Rattle.ceal_base.specs.declared.operators.Binary.TheVariants.{Add, Sub, Mul, Div, Rem, Less, LessEq, More, MoreEq, Same, Differ, And, Or}
+use Rattle.ceal_base.specs.declared.syntax.Entry.{Entry}
+use Rattle.ceal_base.specs.declared.syntax.Entry.TheVariants.{Struct as StructEntry, Function as FunctionEntry}
+use Rattle.ceal_base.specs.declared.syntax.Expr.{Expr}
+use Rattle.ceal_base.specs.declared.syntax.ExprForm.{ExprForm, Num, Null, Var, Own}
+use Rattle.ceal_base.specs.declared.syntax.ExprForm.TheViews.{Unary, Binary, Field, Address}
+use Rattle.ceal_base.specs.declared.syntax.FieldDecl.{FieldDecl}
+use Rattle.ceal_base.specs.declared.syntax.Ident.{Ident}
+use Rattle.ceal_base.specs.declared.syntax.Stmt.{Stmt, Declare, Assign, SetField, Write, Call, Return}
+use Rattle.ceal_base.specs.declared.syntax.Stmt.TheViews.{If, While}
+use Rattle.ceal_base.specs.declared.syntax.StructDecl.{StructDecl}
+use Rattle.ceal_base.specs.declared.syntax.TypeForm.{TypeForm}
+use Rattle.ceal_base.specs.declared.syntax.TypeForm.TheVariants.{Int, Ptr, ModInt, ModPtr, CellInt, CellPtr}
+use Rattle.ceal_base.specs.declared.syntax.Value.{Value}
+use Rattle.ceal_base.specs.declared.syntax.Value.TheVariants.{Plain, Read, Alloc, ModrefInt, Modref}
+use Rattle.ceal_lex.specs.declared.token.Reserved.{Reserved as ReservedWord}
+use Rattle.ceal_lex.specs.declared.token.Reserved.TheVariants as Words
+use Rattle.ceal_lex.specs.declared.token.Sign.{Sign as SignOf}
+use Rattle.ceal_lex.specs.declared.token.Sign.TheVariants as Signs
+use Rattle.ceal_lex.specs.declared.token.Token.{Token}
+use Rattle.ceal_lex.specs.declared.token.TokenKind.{TokenKind}
+use Rattle.ceal_lex.specs.declared.token.TokenKind.TheVariants.{Name, Number, Reserved, Sign, End}
+use Rattle.ceal_grammar.specs.Grammar.{level}
+use Rattle.ceal_grammar.specs.declared.state.Callee.{Callee}
+use Rattle.ceal_grammar.specs.declared.state.Callee.TheVariants.{Call as ToCall, Alloc as ToAlloc}
+use Rattle.ceal_grammar.specs.declared.state.Chained.{Chained}
+use Rattle.ceal_grammar.specs.declared.state.Frame.{Frame}
+use Rattle.ceal_grammar.specs.declared.state.Frame.TheVariants.{Open, Prefix, Address as AddressOf, Left}
+use Rattle.ceal_grammar.specs.declared.state.Head.{Head}
+use Rattle.ceal_grammar.specs.declared.state.HeadPlace.{HeadPlace}
+use Rattle.ceal_grammar.specs.declared.state.HeadPlace.TheVariants as Heads
+use Rattle.ceal_grammar.specs.declared.state.Inside.{Inside}
+use Rattle.ceal_grammar.specs.declared.state.Making.{Making}
+use Rattle.ceal_grammar.specs.declared.state.Making.TheVariants as Makings
+use Rattle.ceal_grammar.specs.declared.state.Mode.{Mode}
+use Rattle.ceal_grammar.specs.declared.state.Mode.TheVariants as Modes
+use Rattle.ceal_grammar.specs.declared.state.Opened.{Opened}
+use Rattle.ceal_grammar.specs.declared.state.Owner.{Owner}
+use Rattle.ceal_grammar.specs.declared.state.Owner.TheVariants.{While as OfWhile, Then as OfThen, Else as OfElse}
+use Rattle.ceal_grammar.specs.declared.state.Piece.{Piece}
+use Rattle.ceal_grammar.specs.declared.state.Place.{Place}
+use Rattle.ceal_grammar.specs.declared.state.Place.TheVariants.{Want, Post, Have, Pick}
+use Rattle.ceal_grammar.specs.declared.state.Receiver.{Receiver}
+use Rattle.ceal_grammar.specs.declared.state.Receiver.TheVariants as To
+use Rattle.ceal_grammar.specs.declared.state.State.{State}
+use Rattle.ceal_grammar.specs.declared.state.State.TheVariants.{Top, Struct, Head as InHead, In, Finished}
+use Rattle.ceal_grammar.specs.declared.state.StructPlace.{StructPlace}
+use Rattle.ceal_grammar.specs.declared.state.StructPlace.TheVariants as Structs
+use Rattle.ceal_grammar.specs.declared.state.Target.{Target}
+use Rattle.ceal_grammar.specs.declared.state.Target.TheVariants.{Declare as ToDeclare, Assign as ToAssign}
+use Rattle.ceal_grammar.specs.declared.state.TypePart.{TypePart}
+use Rattle.ceal_grammar.specs.declared.state.TypePart.TheVariants as Types
+use Rattle.ceal_grammar.specs.declared.state.Typing.{Typing}
+use Rattle.ceal_grammar.specs.declared.state.Typing.TheVariants.{More as MoreType, Named as NamedType}
+use Rattle.ceal_grammar.specs.declared.state.Whole.{Whole}
+
+-- Signs and words by their place in their lists.
+abbrev pub sign_number : SignOf → ℕ
+sign_number Signs.Arrow = 0
+sign_number Signs.AndAnd = 1
+sign_number Signs.BarBar = 2
+sign_number Signs.EqualsEquals = 3
+sign_number Signs.BangEquals = 4
+sign_number Signs.LessEquals = 5
+sign_number Signs.GreaterEquals = 6
+sign_number Signs.Less = 7
+sign_number Signs.Greater = 8
+sign_number Signs.Plus = 9
+sign_number Signs.Minus = 10
+sign_number Signs.Star = 11
+sign_number Signs.Slash = 12
+sign_number Signs.Percent = 13
+sign_number Signs.Bang = 14
+sign_number Signs.Ampersand = 15
+sign_number Signs.Equals = 16
+sign_number Signs.LeftParenthesis = 17
+sign_number Signs.RightParenthesis = 18
+sign_number Signs.LeftBrace = 19
+sign_number Signs.RightBrace = 20
+sign_number Signs.Comma = 21
+sign_number Signs.Semicolon = 22
+
+abbrev pub word_number : ReservedWord → ℕ
+word_number Words.Struct = 0
+word_number Words.Int = 1
+word_number Words.Mod = 2
+word_number Words.Ceal = 3
+word_number Words.Init = 4
+word_number Words.Own = 5
+word_number Words.Read = 6
+word_number Words.Write = 7
+word_number Words.Alloc = 8
+word_number Words.Modref = 9
+word_number Words.If = 10
+word_number Words.Else = 11
+word_number Words.While = 12
+word_number Words.Return = 13
+word_number Words.Null = 14
+word_number Words.Break = 15
+word_number Words.Continue = 16
+
+unfoldable pub same_sign : SignOf → SignOf → Bool
+same_sign a b = nat_eq (sign_number a) (sign_number b)
+
+unfoldable pub same_word : ReservedWord → ReservedWord → Bool
+same_word a b = nat_eq (word_number a) (word_number b)
+
+abbrev pub is_sign : SignOf → TokenKind → Bool
+is_sign c (Sign s) = same_sign s c
+is_sign c _ = false
+
+abbrev pub is_word : ReservedWord → TokenKind → Bool
+is_word c (Reserved s) = same_word s c
+is_word c _ = false
+
+abbrev pub wants : {A : Type 0} → Bool → A → Option A
+wants b next = if b then Some next else None
+
+abbrev pub operator_of : SignOf → Option BinaryOp
+operator_of Signs.Plus = Some Add
+operator_of Signs.Minus = Some Sub
+operator_of Signs.Star = Some Mul
+operator_of Signs.Slash = Some Div
+operator_of Signs.Percent = Some Rem
+operator_of Signs.Less = Some Less
+operator_of Signs.LessEquals = Some LessEq
+operator_of Signs.Greater = Some More
+operator_of Signs.GreaterEquals = Some MoreEq
+operator_of Signs.EqualsEquals = Some Same
+operator_of Signs.BangEquals = Some Differ
+operator_of Signs.AndAnd = Some And
+operator_of Signs.BarBar = Some Or
+operator_of _ = None
+
+-- the name that a token of this kind is, at this place
+abbrev pub ident_of : Span → TokenKind → Option Ident
+ident_of s (Name x) = Some (record { text = x; span = s })
+ident_of s _ = None
+
+abbrev pub named : {A : Type 0} → (Ident → A) → Option Ident → Option A
+named f None = None
+named f (Some x) = Some (f x)
+
+abbrev pub at_name : {A : Type 0} → (Ident → A) → Span → TokenKind → Option A
+at_name f s k = named f (ident_of s k)
+
+-- Expressions.
+abbrev pub single : Span → ExprForm → Piece
+single s form = record { from = s; expr = record { span = s; form = form } }
+
+abbrev pub prefixed : UnaryOp → Span → Piece → Piece
+prefixed op s p = record { from = s; expr = record { span = s; form = Unary op p.expr } }
+
+abbrev pub addressed : Span → Piece → Piece
+addressed s p = record { from = s; expr = record { span = s; form = Address p.expr } }
+
+abbrev pub joined : Piece → BinaryOp → Span → Piece → Piece
+joined a op s b = record { from = a.from; expr = record { span = a.from; form = Binary op s a.expr b.expr } }
+
+abbrev pub picked : Piece → Ident → Piece
+picked p x = record { from = p.from; expr = record { span = p.from; form = Field p.expr x } }
+
+pub record Reduced : Type 0 where
+  pub piece : Piece
+  pub frames : List Frame
+
+-- The operators of level l and above that wait for the piece take it.
+unfoldable pub reduced : ℕ → Piece → List Frame → Reduced
+reduced l p [] = record { piece = p; frames = [] }
+reduced l p (Open s d ∷ fs) = record { piece = p; frames = Open s d ∷ fs }
+reduced l p (Prefix op s ∷ fs) = reduced l (prefixed op s p) fs
+reduced l p (AddressOf s ∷ fs) = reduced l (addressed s p) fs
+reduced l p (Left a op s ∷ fs) =
+    if nat_le l (level op) then reduced l (joined a op s p) fs else record { piece = p; frames = Left a op s ∷ fs }
+
+abbrev pub within : Inside → Whole → Place → State
+within i w p = In i (Modes.Within w p)
+
+-- a whole expression of which nothing was read
+abbrev pub begun : ℕ → Receiver → Whole
+begun d r = record { nesting = d; operators = 0; frames = []; receiver = r }
+
+abbrev pub opened : Whole → Span → Whole
+opened w s = record { nesting = suc w.nesting; operators = w.operators; frames = Open s w.nesting ∷ w.frames; receiver = w.receiver }
+
+abbrev pub operated : Whole → Frame → List Frame → Whole
+operated w f fs = record { nesting = w.nesting; operators = suc w.operators; frames = f ∷ fs; receiver = w.receiver }
+
+-- what a token makes of a place within a statement, in a body
+abbrev pub placed : Inside → Option Mode → Option State
+placed i None = None
+placed i (Some m) = Some (In i m)
+
+abbrev pub at_prim : Whole → Span → TokenKind → Option Mode
+at_prim w s (Name x) = Some (Modes.Within w (Have (single s (Var (record { text = x; span = s })))))
+at_prim w s (Number v) = Some (Modes.Within w (Have (single s (Num v))))
+at_prim w s (Reserved k) =
+    if same_word k Words.Own then Some (Modes.Within w (Have (single s Own)))
+    else wants (same_word k Words.Null) (Modes.Within w (Have (single s Null)))
+at_prim w s (Sign c) = wants (same_sign c Signs.LeftParenthesis) (Modes.Within (opened w s) Want)
+at_prim w s _ = None
+
+abbrev pub at_operand : Whole → Span → TokenKind → Option Mode
+at_operand w s k =
+    if is_sign Signs.Minus k then Some (Modes.Within (operated w (Prefix Neg s) w.frames) Want)
+    else if is_sign Signs.Bang k then Some (Modes.Within (operated w (Prefix Not s) w.frames) Want)
+    else if is_sign Signs.Ampersand k then Some (Modes.Within (operated w (AddressOf s) w.frames) Post)
+    else at_prim w s k
+
+-- A statement ends, and with it each `if` that it is the else part of.
+unfoldable pub wrapped : List Chained → Stmt → Stmt
+wrapped [] st = st
+wrapped (c ∷ cs) st = wrapped cs (If c.span c.test c.first (st ∷ []))
+
+abbrev pub with_statement : Inside → Stmt → Inside
+with_statement i st = record {
+  entries = i.entries;
+  head = i.head;
+  opened = i.opened;
+  done = i.done ++ wrapped i.chain st ∷ [];
+  chain = [];
+  base = i.base;
+  nesting = i.base;
+}
+
+abbrev pub given : Target → Value → Stmt
+given (ToDeclare s form x) v = Declare s form x v
+given (ToAssign x) v = Assign x v
+
+-- What a statement becomes once its arguments are there.
+abbrev pub called : Callee → List Expr → Stmt
+called (ToCall x) args = Call x args
+called (ToAlloc t s y x) args = given t (Alloc s y x args)
+
+abbrev pub ends_at : Inside → Stmt → SignOf → Option State
+ends_at i st c = wants (same_sign c Signs.Semicolon) (In (with_statement i st) Modes.Body)
+
+-- The whole expression e at the sign behind it; d is the nesting at it.
+abbrev pub at_argument : ℕ → Callee → List Expr → SignOf → Option Mode
+at_argument d f args c =
+    if same_sign c Signs.Comma then Some (Modes.Within (begun d (To.Argument f args)) Want)
+    else wants (same_sign c Signs.RightParenthesis) (Modes.Ends (called f args))
+
+abbrev pub received : Inside → ℕ → Receiver → Expr → SignOf → Option State
+received i d (To.Value t) e c = ends_at i (given t (Plain e)) c
+received i d (To.Read t s) e c = placed i (wants (same_sign c Signs.RightParenthesis) (Modes.Ends (given t (Read s e))))
+received i d (To.Argument f args) e c = placed i (at_argument d f (args ++ e ∷ []) c)
+received i d (To.Set a x) e c = ends_at i (SetField a.span a x e) c
+received i d (To.Write s) e c = placed i (wants (same_sign c Signs.Comma) (Modes.Within (begun d (To.Store s e)) Want))
+received i d (To.Store s a) e c = placed i (wants (same_sign c Signs.RightParenthesis) (Modes.Ends (Write s a e)))
+received i d (To.If s) e c = placed i (wants (same_sign c Signs.RightParenthesis) (Modes.Opens (OfThen s e)))
+received i d (To.While s) e c = placed i (wants (same_sign c Signs.RightParenthesis) (Modes.Opens (OfWhile s e)))
+
+abbrev pub closed : Whole → ℕ → List Frame → Whole
+closed w d fs = record { nesting = d; operators = w.operators; frames = fs; receiver = w.receiver }
+
+abbrev pub closes : Inside → Whole → SignOf → Piece → List Frame → Option State
+closes i w c p [] = received i w.nesting w.receiver p.expr c
+closes i w c p (Open s d ∷ fs) =
+    wants (same_sign c Signs.RightParenthesis) (within i (closed w d fs) (Have (record { from = s; expr = p.expr })))
+closes i w c p (Prefix op s ∷ fs) = None
+closes i w c p (AddressOf s ∷ fs) = None
+closes i w c p (Left a op s ∷ fs) = None
+
+abbrev pub operates : Inside → Whole → BinaryOp → Span → Reduced → Option State
+operates i w op s q = Some (within i (operated w (Left q.piece op s) q.frames) Want)
+
+abbrev pub at_sign_after : Inside → Whole → Piece → Span → SignOf → Option BinaryOp → Option State
+at_sign_after i w p s c (Some op) = operates i w op s (reduced (level op) p w.frames)
+at_sign_after i w p s c None = let q = reduced 0 p w.frames in closes i w c q.piece q.frames
+
+abbrev pub picks : Whole → Whole
+picks w = record { nesting = w.nesting; operators = suc w.operators; frames = w.frames; receiver = w.receiver }
+
+abbrev pub at_after : Inside → Whole → Piece → Span → TokenKind → Option State
+at_after i w p s (Sign c) =
+    if same_sign c Signs.Arrow then Some (within i (picks w) (Pick p)) else at_sign_after i w p s c (operator_of c)
+at_after i w p s _ = None
+
+abbrev pub at_pick : Whole → Piece → Span → TokenKind → Option Mode
+at_pick w p s k = at_name (λ x. Modes.Within w (Have (picked p x))) s k
+
+abbrev pub at_place : Inside → Whole → Place → Span → TokenKind → Option State
+at_place i w Want s k = placed i (at_operand w s k)
+at_place i w Post s k = placed i (at_prim w s k)
+at_place i w (Have p) s k = at_after i w p s k
+at_place i w (Pick p) s k = placed i (at_pick w p s k)
+
+-- Types. `cells` says whether a modifiable within a struct may stand here.
+abbrev pub type_begin : ReservedWord → Option TypePart
+type_begin k =
+    if same_word k Words.Int then Some (Types.Done Int)
+    else if same_word k Words.Struct then Some Types.Struct
+    else wants (same_word k Words.Mod) Types.Mod
+
+abbrev pub type_starts : TokenKind → Option TypePart
+type_starts (Reserved k) = type_begin k
+type_starts _ = None
+
+abbrev pub star_or : Bool → TypeForm → TypeForm → Span → TokenKind → Option Typing
+star_or cells form cell s k =
+    if is_sign Signs.Star k then Some (MoreType (Types.Done form))
+    else if cells then at_name (λ x. NamedType cell x) s k else None
+
+abbrev pub at_mod : TokenKind → Option Typing
+at_mod k = if is_word Words.Int k then Some (MoreType Types.ModInt) else wants (is_word Words.Struct k) (MoreType Types.ModStruct)
+
+abbrev pub at_type : Bool → TypePart → Span → TokenKind → Option Typing
+at_type cells Types.Struct s k = at_name (λ x. MoreType (Types.StructNamed x)) s k
+at_type cells (Types.StructNamed y) s k = wants (is_sign Signs.Star k) (MoreType (Types.Done (Ptr y)))
+at_type cells Types.Mod s k = at_mod k
+at_type cells Types.ModInt s k = star_or cells ModInt CellInt s k
+at_type cells Types.ModStruct s k = at_name (λ x. MoreType (Types.ModNamed x)) s k
+at_type cells (Types.ModNamed y) s k = star_or cells (ModPtr y) (CellPtr y) s k
+at_type cells (Types.Done form) s k = at_name (λ x. NamedType form x) s k
+
+-- Statements.
+abbrev pub owned : Owner → List Stmt → Mode
+owned (OfWhile s e) body = Modes.Ended (While s e body)
+owned (OfThen s e) body = Modes.Closed s e body
+owned (OfElse s e first) body = Modes.Ended (If s e first body)
+
+abbrev pub block_closed : List Entry → Head → List Stmt → List Opened → Span → State
+block_closed es h done [] s =
+    Top (es ++ FunctionEntry (record { initialiser = h.initialiser; name = h.name; params = h.params; body = done; close = s }) ∷ [])
+block_closed es h done (o ∷ os) s =
+    In (record { entries = es; head = h; opened = os; done = o.before; chain = o.chain; base = o.base; nesting = o.nesting }) (owned o.owner done)
+
+abbrev pub opened_by : Inside → Owner → State
+opened_by i o = In (record {
+  entries = i.entries;
+  head = i.head;
+  opened = record { before = i.done; chain = i.chain; owner = o; base = i.base; nesting = i.nesting } ∷ i.opened;
+  done = [];
+  chain = [];
+  base = suc i.nesting;
+  nesting = suc i.nesting;
+}) Modes.Body
+
+-- a word that begins a statement, and no type
+abbrev pub at_statement : Span → ReservedWord → Option Mode
+at_statement s k =
+    if same_word k Words.If then Some (Modes.Before (To.If s))
+    else if same_word k Words.While then Some (Modes.Before (To.While s))
+    else if same_word k Words.Return then Some (Modes.Ends (Return s))
+    else if same_word k Words.Write then Some (Modes.Before (To.Write s))
+    else wants (same_word k Words.Own) (Modes.Owned s)
+
+abbrev pub at_word : Span → ReservedWord → Option TypePart → Option Mode
+at_word s k (Some part) = Some (Modes.Typing s part)
+at_word s k None = at_statement s k
+
+abbrev pub at_body : Inside → Span → TokenKind → Option State
+at_body i s (Name x) = Some (In i (Modes.Named (record { text = x; span = s })))
+at_body i s (Reserved k) = placed i (at_word s k (type_begin k))
+at_body i s (Sign c) = wants (same_sign c Signs.RightBrace) (block_closed i.entries i.head i.done i.opened s)
+at_body i s _ = None
+
+abbrev pub typed : {A : Type 0} → (TypePart → A) → (TypeForm → Ident → A) → Option Typing → Option A
+typed more done None = None
+typed more done (Some (MoreType part)) = Some (more part)
+typed more done (Some (NamedType form x)) = Some (done form x)
+
+-- A path, and one more field of it.
+abbrev pub field_of : Expr → Ident → Expr
+field_of e x = record { span = e.span; form = Field e x }
+
+abbrev pub path_of : Ident → Expr
+path_of x = record { span = x.span; form = Var x }
+
+-- d is the nesting
+abbrev pub at_value : ℕ → Target → Span → TokenKind → Option Mode
+at_value d t s k =
+    if is_word Words.Read k then Some (Modes.Before (To.Read t s))
+    else if is_word Words.Alloc k then Some (Modes.Making (Makings.Alloc t s))
+    else if is_word Words.Modref k then Some (Modes.Making (Makings.Modref t s))
+    else at_operand (begun d (To.Value t)) s k
+
+abbrev pub at_modref : Target → Span → Span → TokenKind → Option Mode
+at_modref t at s (Name y) = Some (Modes.Making (Makings.Typed (given t (Modref at (record { text = y; span = s })))))
+at_modref t at s (Reserved k) = wants (same_word k Words.Int) (Modes.Making (Makings.Typed (given t (ModrefInt at))))
+at_modref t at s _ = None
+
+abbrev pub at_making : Making → Span → TokenKind → Option Mode
+at_making (Makings.Alloc t at) s k = at_name (λ y. Modes.Making (Makings.Shape t at y)) s k
+at_making (Makings.Shape t at y) s k = at_name (λ x. Modes.Calls (ToAlloc t at y x)) s k
+at_making (Makings.Modref t at) s k = at_modref t at s k
+at_making (Makings.Typed st) s k = wants (is_sign Signs.LeftParenthesis k) (Modes.Making (Makings.Opened st))
+at_making (Makings.Opened st) s k = wants (is_sign Signs.RightParenthesis k) (Modes.Ends st)
+
+abbrev pub at_typing : Span → TypePart → Span → TokenKind → Option Mode
+at_typing at part s k = typed (λ p. Modes.Typing at p) (λ form x. Modes.Declared at form x) (at_type false part s k)
+
+abbrev pub at_declared : Span → TypeForm → Ident → TokenKind → Option Mode
+at_declared at form x k = wants (is_sign Signs.Equals k) (Modes.Value (ToDeclare at form x))
+
+abbrev pub at_owned : Span → TokenKind → Option Mode
+at_owned at k = wants (is_sign Signs.Arrow k) (Modes.Path (record { span = at; form = Own }) 1)
+
+-- e is a path, and n the number of its arrow
+abbrev pub at_path : Expr → ℕ → Span → TokenKind → Option Mode
+at_path e n s k = at_name (λ x. Modes.Reached e x n) s k
+
+abbrev pub at_calls : Callee → TokenKind → Option Mode
+at_calls f k = wants (is_sign Signs.LeftParenthesis k) (Modes.First f)
+
+abbrev pub at_before : ℕ → Receiver → TokenKind → Option Mode
+at_before d r k = wants (is_sign Signs.LeftParenthesis k) (Modes.Within (begun (suc d) r) Want)
+
+abbrev pub at_named : Ident → TokenKind → Option Mode
+at_named x k =
+    if is_sign Signs.Equals k then Some (Modes.Value (ToAssign x))
+    else if is_sign Signs.LeftParenthesis k then Some (Modes.First (ToCall x))
+    else wants (is_sign Signs.Arrow k) (Modes.Path (path_of x) 1)
+
+abbrev pub at_reached : ℕ → Expr → Ident → ℕ → TokenKind → Option Mode
+at_reached d e x n k =
+    if is_sign Signs.Arrow k then Some (Modes.Path (field_of e x) (suc n))
+    else wants (is_sign Signs.Equals k) (Modes.Within (begun d (To.Set e x)) Want)
+
+abbrev pub at_first : ℕ → Callee → Span → TokenKind → Option Mode
+at_first d f s k =
+    if is_sign Signs.RightParenthesis k then Some (Modes.Ends (called f []))
+    else at_operand (begun (suc d) (To.Argument f [])) s k
+
+-- an `if` waits for the one that is its else part
+abbrev pub chained_in : Inside → Chained → Inside
+chained_in i c = record {
+  entries = i.entries;
+  head = i.head;
+  opened = i.opened;
+  done = i.done;
+  chain = c ∷ i.chain;
+  base = i.base;
+  nesting = suc i.nesting;
+}
+
+abbrev pub at_ends : Inside → Stmt → TokenKind → Option State
+at_ends i st k = wants (is_sign Signs.Semicolon k) (In (with_statement i st) Modes.Body)
+
+abbrev pub at_opens : Inside → Owner → TokenKind → Option State
+at_opens i o k = wants (is_sign Signs.LeftBrace k) (opened_by i o)
+
+abbrev pub at_closed : Inside → Span → Expr → List Stmt → Span → TokenKind → Option State
+at_closed i at e first s k =
+    if is_word Words.Else k then Some (In i (Modes.Otherwise at e first)) else at_body (with_statement i (If at e first [])) s k
+
+abbrev pub at_otherwise : Inside → Span → Expr → List Stmt → Span → TokenKind → Option State
+at_otherwise i at e first s k =
+    if is_sign Signs.LeftBrace k then Some (opened_by i (OfElse at e first))
+    else wants (is_word Words.If k) (In (chained_in i (record { span = at; test = e; first = first })) (Modes.Before (To.If s)))
+
+abbrev pub moved : Inside → Mode → Span → TokenKind → Option State
+moved i Modes.Body s k = at_body i s k
+moved i (Modes.Typing at part) s k = placed i (at_typing at part s k)
+moved i (Modes.Declared at form x) s k = placed i (at_declared at form x k)
+moved i (Modes.Named x) s k = placed i (at_named x k)
+moved i (Modes.Owned at) s k = placed i (at_owned at k)
+moved i (Modes.Path e n) s k = placed i (at_path e n s k)
+moved i (Modes.Reached e x n) s k = placed i (at_reached i.nesting e x n k)
+moved i (Modes.Value t) s k = placed i (at_value i.nesting t s k)
+moved i (Modes.Making m) s k = placed i (at_making m s k)
+moved i (Modes.Calls f) s k = placed i (at_calls f k)
+moved i (Modes.First f) s k = placed i (at_first i.nesting f s k)
+moved i (Modes.Before r) s k = placed i (at_before i.nesting r k)
+moved i (Modes.Within w p) s k = at_place i w p s k
+moved i (Modes.Ends st) s k = at_ends i st k
+moved i (Modes.Ended st) s k = at_body (with_statement i st) s k
+moved i (Modes.Opens o) s k = at_opens i o k
+moved i (Modes.Closed at e first) s k = at_closed i at e first s k
+moved i (Modes.Otherwise at e first) s k = at_otherwise i at e first s k
+
+-- Structs.
+abbrev pub with_member : StructDecl → FieldDecl → StructDecl
+with_member d m = record { name = d.name; fields = d.fields ++ m ∷ [] }
+
+abbrev pub begun_type : (TypePart → State) → Option TypePart → Option State
+begun_type more None = None
+begun_type more (Some part) = Some (more part)
+
+abbrev pub at_member : List Entry → StructDecl → TokenKind → Option State
+at_member es d k =
+    if is_sign Signs.RightBrace k then Some (Struct es (Structs.Closed d))
+    else begun_type (λ p. Struct es (Structs.Typing d p)) (type_starts k)
+
+abbrev pub at_struct : List Entry → StructPlace → Span → TokenKind → Option State
+at_struct es Structs.Begun s k = at_name (λ x. Struct es (Structs.Named x)) s k
+at_struct es (Structs.Named x) s k = wants (is_sign Signs.LeftBrace k) (Struct es (Structs.Members (record { name = x; fields = [] })))
+at_struct es (Structs.Members d) s k = at_member es d k
+at_struct es (Structs.Typing d part) s k =
+    typed (λ p. Struct es (Structs.Typing d p)) (λ form x. Struct es (Structs.Ends d (record { form = form; name = x }))) (at_type true part s k)
+at_struct es (Structs.Ends d m) s k = wants (is_sign Signs.Semicolon k) (Struct es (Structs.Members (with_member d m)))
+at_struct es (Structs.Closed d) s k = wants (is_sign Signs.Semicolon k) (Top (es ++ StructEntry d ∷ []))
+
+-- Heads of functions.
+abbrev pub with_parameter : Head → FieldDecl → Head
+with_parameter h p = record { initialiser = h.initialiser; name = h.name; params = h.params ++ p ∷ [] }
+
+abbrev pub body_of : List Entry → Head → State
+body_of es h = In (record { entries = es; head = h; opened = []; done = []; chain = []; base = 1; nesting = 1 }) Modes.Body
+
+abbrev pub at_head : List Entry → HeadPlace → Span → TokenKind → Option State
+at_head es Heads.Ceal s k = at_name (λ x. InHead es (Heads.CealNamed x)) s k
+at_head es (Heads.CealNamed x) s k =
+    wants (is_sign Signs.LeftParenthesis k) (InHead es (Heads.First (record { initialiser = None; name = x; params = [] })))
+at_head es Heads.Init s k = at_name (λ x. InHead es (Heads.InitNamed x)) s k
+at_head es (Heads.InitNamed x) s k = wants (is_sign Signs.LeftParenthesis k) (InHead es (Heads.InitOpened x))
+at_head es (Heads.InitOpened x) s k = wants (is_word Words.Struct k) (InHead es (Heads.InitStruct x))
+at_head es (Heads.InitStruct x) s k = at_name (λ y. InHead es (Heads.Shaped (record { initialiser = Some y; name = x; params = [] }))) s k
+at_head es (Heads.Shaped h) s k = wants (is_sign Signs.Star k) (InHead es (Heads.Starred h))
+at_head es (Heads.Starred h) s k = wants (is_word Words.Own k) (InHead es (Heads.Named h))
+at_head es (Heads.First h) s k =
+    if is_sign Signs.RightParenthesis k then Some (InHead es (Heads.Done h))
+    else begun_type (λ p. InHead es (Heads.Typing h p)) (type_starts k)
+at_head es (Heads.Next h) s k = begun_type (λ p. InHead es (Heads.Typing h p)) (type_starts k)
+at_head es (Heads.Typing h part) s k =
+    typed (λ p. InHead es (Heads.Typing h p)) (λ form x. InHead es (Heads.Named (with_parameter h (record { form = form; name = x })))) (at_type false part s k)
+at_head es (Heads.Named h) s k =
+    if is_sign Signs.Comma k then Some (InHead es (Heads.Next h)) else wants (is_sign Signs.RightParenthesis k) (InHead es (Heads.Done h))
+at_head es (Heads.Done h) s k = wants (is_sign Signs.LeftBrace k) (body_of es h)
+
+abbrev pub at_part : List Entry → ReservedWord → Option State
+at_part es k =
+    if same_word k Words.Struct then Some (Struct es Structs.Begun)
+    else if same_word k Words.Ceal then Some (InHead es Heads.Ceal)
+    else wants (same_word k Words.Init) (InHead es Heads.Init)
+
+abbrev pub at_top : List Entry → TokenKind → Option State
+at_top es End = Some (Finished es)
+at_top es (Reserved k) = at_part es k
+at_top es _ = None
+
+-- Where a reading stands after one more token; None where no program goes on so.
+abbrev pub step : State → Token → Option State
+step (Top es) t = at_top es t.kind
+step (Struct es p) t = at_struct es p t.span t.kind
+step (InHead es p) t = at_head es p t.span t.kind
+step (In i m) t = moved i m t.span t.kind
+step (Finished es) t = None
+
+-- The nesting.
+abbrev pub making_nesting : Making → ℕ → ℕ
+making_nesting (Makings.Opened st) d = suc d
+making_nesting _ d = d
+
+abbrev pub mode_nesting : Mode → ℕ → ℕ
+mode_nesting (Modes.First f) d = suc d
+mode_nesting (Modes.Within w p) d = w.nesting
+mode_nesting (Modes.Making m) d = making_nesting m d
+mode_nesting _ d = d
+
+abbrev pub struct_nesting : StructPlace → ℕ
+struct_nesting (Structs.Members d) = 1
+struct_nesting (Structs.Typing d p) = 1
+struct_nesting (Structs.Ends d m) = 1
+struct_nesting _ = 0
+
+abbrev pub head_nesting : HeadPlace → ℕ
+head_nesting Heads.Ceal = 0
+head_nesting (Heads.CealNamed x) = 0
+head_nesting Heads.Init = 0
+head_nesting (Heads.InitNamed x) = 0
+head_nesting (Heads.Done h) = 0
+head_nesting _ = 1
+
+abbrev pub nesting_of : State → ℕ
+nesting_of (Top es) = 0
+nesting_of (Struct es p) = struct_nesting p
+nesting_of (InHead es p) = head_nesting p
+nesting_of (In i m) = mode_nesting m i.nesting
+nesting_of (Finished es) = 0
+
+-- The operators of the whole expression so far.
+abbrev pub operators_in : Mode → ℕ
+operators_in (Modes.Within w p) = w.operators
+operators_in (Modes.Path e n) = n
+operators_in (Modes.Reached e x n) = n
+operators_in _ = 0
+
+abbrev pub operators_of : State → ℕ
+operators_of (In i m) = operators_in m
+operators_of _ = 0
+
+-- The number of the item of a list that begins with the next token, 0 where none begins.
+abbrev pub argument_number : Receiver → ℕ
+argument_number (To.Argument f args) = suc (length args)
+argument_number _ = 0
+
+abbrev pub argument_begun : List Frame → Receiver → ℕ
+argument_begun [] r = argument_number r
+argument_begun (f ∷ fs) r = 0
+
+abbrev pub place_item : Whole → Place → ℕ
+place_item w Want = argument_begun w.frames w.receiver
+place_item w _ = 0
+
+abbrev pub mode_item : Mode → TokenKind → ℕ
+mode_item (Modes.First f) k = if is_sign Signs.RightParenthesis k then 0 else 1
+mode_item (Modes.Within w p) k = place_item w p
+mode_item _ k = 0
+
+abbrev pub struct_item : StructPlace → TokenKind → ℕ
+struct_item (Structs.Members d) k = if is_sign Signs.RightBrace k then 0 else suc (length d.fields)
+struct_item _ k = 0
+
+abbrev pub head_item : HeadPlace → TokenKind → ℕ
+head_item (Heads.First h) k = if is_sign Signs.RightParenthesis k then 0 else 1
+head_item (Heads.Next h) k = suc (length h.params)
+head_item _ k = 0
+
+abbrev pub item_of : State → Token → ℕ
+item_of (Top es) t = 0
+item_of (Struct es p) t = struct_item p t.kind
+item_of (InHead es p) t = head_item p t.kind
+item_of (In i m) t = mode_item m t.kind
+item_of (Finished es) t = 0

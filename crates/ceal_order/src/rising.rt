@@ -1,0 +1,174 @@
+// Rising stamps in a vector.
+
+ghost use Rattle.std.specs.Prelude.{◌≡◌, ◌↔◌, ◌<◌, ◌≤◌, [], false, length, insert, remove, IfOk, IfSome, IfNone, OnOk, OnErr, IsTrue};
+ghost use Rattle.ceal_order.specs.Stamps.{is_in, place, without};
+ghost use Rattle.ceal_order.specs.Rising.{numbers, count_before, IsRising, IsFirstAfter, NoneAfter, IsParted};
+
+use ceal_base::no_memory::NoMemory;
+use crate::order::Order;
+use crate::stamp::Stamp;
+use std::alloc::Global;
+use std::marker::Model;
+
+/// Stamps, which contracts see as the list of their numbers. Each call that is handed an order needs that they rise
+/// along it, and leaves them so.
+#[derive(Drop)]
+pub struct Rising {
+    stamps: Vec<Stamp>,
+}
+
+impl Model for Rising {
+    ghost use Rattle.std.specs.Prelude.{List, ℕ};
+    ghost use Rattle.ceal_order.specs.Rising.{numbers};
+
+    ghost Value = { List ℕ };
+
+    ghost view = { λ r. numbers r.stamps.items };
+}
+
+impl Rising {
+    /// No stamps.
+    pub fn new(alloc: Global) -> Rising
+        ensures { result ≡ [] }
+    {
+        Rising {
+            stamps: Vec::new(alloc),
+        }
+    }
+
+    /// Whether there are none.
+    pub fn is_empty(&self) -> bool
+        ensures { IsTrue result ↔ (self.now ≡ []) }
+    {
+        self.stamps.as_slice().is_empty()
+    }
+
+    /// How many stand before a stamp.
+    pub fn count_before(&self, order: &Order, stamp: Stamp) -> usize
+        requires here { IsTrue (is_in stamp.0 order.now.stamps) }
+        requires rising { IsRising order.now.stamps self.now }
+        ensures count { result ≡ count_before order.now.stamps stamp.0 self.now }
+        ensures within { result ≤ length self.now }
+    {
+        searched(order, &self.stamps, stamp)
+    }
+
+    /// The nearest one behind a stamp, None where none stands behind it.
+    pub fn first_after(&self, order: &Order, stamp: Stamp) -> Option<Stamp>
+        requires here { IsTrue (is_in stamp.0 order.now.stamps) }
+        requires rising { IsRising order.now.stamps self.now }
+        ensures some { IfSome result (λ next. IsFirstAfter order.now.stamps self.now stamp.0 next.0) }
+        ensures here { IfSome result (λ next. IsTrue (is_in next.0 order.now.stamps)) }
+        ensures none { IfNone result (NoneAfter order.now.stamps self.now stamp.0) }
+    {
+        next_of(order, &self.stamps, stamp)
+    }
+
+    /// Puts a stamp in that is not there, behind those that stand before it, and says how many those are.
+    pub fn insert(&mut self, order: &Order, stamp: Stamp) -> Result<usize, NoMemory>
+        requires here { IsTrue (is_in stamp.0 order.now.stamps) }
+        requires rising { IsRising order.now.stamps self.old }
+        requires absent { is_in stamp.0 self.old ≡ false }
+        ensures at { IfOk result (λ at. at ≡ count_before order.now.stamps stamp.0 self.old) }
+        ensures within { IfOk result (λ at. at ≤ length self.old) }
+        ensures ok { OnOk result (self.new ≡ insert self.old (count_before order.now.stamps stamp.0 self.old) stamp.0) }
+        ensures err { OnErr result (self.new ≡ self.old) }
+        ensures rising { IsRising order.now.stamps self.new }
+    {
+        let at = searched(order, &self.stamps, stamp);
+        self.stamps.insert(at, stamp)?;
+        Ok(at)
+    }
+
+    /// Takes a stamp out that is there, and says how many stand before it.
+    pub fn remove(&mut self, order: &Order, stamp: Stamp) -> usize
+        requires here { IsTrue (is_in stamp.0 order.now.stamps) }
+        requires rising { IsRising order.now.stamps self.old }
+        requires there { IsTrue (is_in stamp.0 self.old) }
+        ensures at { result ≡ place stamp.0 self.old }
+        ensures within { result < length self.old }
+        ensures stamps { self.new ≡ without stamp.0 self.old }
+        ensures rising { IsRising order.now.stamps self.new }
+    {
+        let at = searched(order, &self.stamps, stamp);
+        self.stamps.remove(at);
+        at
+    }
+
+    /// Takes a stamp out, where it is there, without an order: all stamps are looked at.
+    pub fn take_out(&mut self, stamp: Stamp)
+        ensures { self.new ≡ without stamp.0 self.old }
+    {
+        if let Some(at) = index_of(&self.stamps, stamp) {
+            self.stamps.remove(at);
+        }
+    }
+}
+
+// How many stand before a stamp, found by halves; at once where all do.
+fn searched(order: &Order, stamps: &[Stamp], stamp: Stamp) -> usize
+    requires here { IsTrue (is_in stamp.0 order.now.stamps) }
+    requires rising { IsRising order.now.stamps (numbers stamps.now) }
+    ensures count { result ≡ count_before order.now.stamps stamp.0 (numbers stamps.now) }
+    ensures within { result ≤ length stamps.now }
+{
+    let mut low = 0;
+    let mut high = stamps.len();
+    if high > 0 && order.before(stamps[high - 1], stamp) {
+        return high;
+    }
+    while low < high {
+        let middle = low + (high - low) / 2;
+        if order.before(stamps[middle], stamp) {
+            low = middle + 1;
+        } else {
+            high = middle;
+        }
+    }
+    low
+}
+
+// The nearest one behind a stamp.
+fn next_of(order: &Order, stamps: &[Stamp], stamp: Stamp) -> Option<Stamp>
+    requires here { IsTrue (is_in stamp.0 order.now.stamps) }
+    requires rising { IsRising order.now.stamps (numbers stamps.now) }
+    ensures some { IfSome result (λ next. IsFirstAfter order.now.stamps (numbers stamps.now) stamp.0 next.0) }
+    ensures here { IfSome result (λ next. IsTrue (is_in next.0 order.now.stamps)) }
+    ensures none { IfNone result (NoneAfter order.now.stamps (numbers stamps.now) stamp.0) }
+{
+    let at = past(order, stamps, stamp);
+    if at < stamps.len() {
+        Some(stamps[at])
+    } else {
+        None
+    }
+}
+
+// How many do not stand behind a stamp.
+fn past(order: &Order, stamps: &[Stamp], stamp: Stamp) -> usize
+    requires here { IsTrue (is_in stamp.0 order.now.stamps) }
+    requires rising { IsRising order.now.stamps (numbers stamps.now) }
+    ensures { IsParted order.now.stamps (numbers stamps.now) stamp.0 result }
+{
+    let at = searched(order, stamps, stamp);
+    if at == stamps.len() {
+        return at;
+    }
+    if order.before(stamp, stamps[at]) {
+        return at;
+    }
+    at + 1
+}
+
+// Where a stamp first stands.
+fn index_of(stamps: &[Stamp], stamp: Stamp) -> Option<usize>
+    ensures some { IfSome result (λ at. (at < length stamps.now) × (remove (numbers stamps.now) at ≡ without stamp.0 (numbers stamps.now))) }
+    ensures none { IfNone result (without stamp.0 (numbers stamps.now) ≡ numbers stamps.now) }
+{
+    for (at, other) in stamps.iter().enumerate() {
+        if *other == stamp {
+            return Some(at);
+        }
+    }
+    None
+}

@@ -1,5 +1,0 @@
-use Rattle.ceal_parse.proofs.Verdicts.{not_both}
-use Rattle.ceal_parse.proofs.laws.not_both.Goals as goal
-
-pub returns : goal.returns
-returns c = record { law = not_both }

@@ -1,5 +1,0 @@
-use Rattle.ceal_parse.proofs.Verdicts.{one_fault}
-use Rattle.ceal_parse.proofs.laws.one_fault.Goals as goal
-
-pub returns : goal.returns
-returns c = record { law = one_fault }

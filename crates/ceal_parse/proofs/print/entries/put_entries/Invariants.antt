@@ -1,9 +1,0 @@
-use Rattle.std.proofs.Common.{◌≡◌, ◌++◌, length}
-use Rattle.ceal_parse.specs.PrintWords.{texts, entries_kinds}
-use Rattle.ceal_parse.proofs.print.entries.put_entries.Given as goal
-
-abbrev pub invariant-loop-entry : goal.invariant-loop-entry
-invariant-loop-entry l = l.out.items ++ texts (entries_kinds l.entries) ≡ l.initial.out.items ++ texts (entries_kinds l.fn.entries)
-
-abbrev pub decreases-loop-entry : goal.decreases-loop-entry
-decreases-loop-entry l = length l.entries

@@ -1,9 +1,0 @@
-use Rattle.std.proofs.Common.{◌≡◌, ◌++◌, length}
-use Rattle.ceal_parse.specs.PrintWords.{texts, other_kinds}
-use Rattle.ceal_parse.proofs.print.entries.put_others.Given as goal
-
-abbrev pub invariant-loop-field : goal.invariant-loop-field
-invariant-loop-field l = l.out.items ++ texts (other_kinds l.fields) ≡ l.initial.out.items ++ texts (other_kinds l.fn.fields)
-
-abbrev pub decreases-loop-field : goal.decreases-loop-field
-decreases-loop-field l = length l.fields

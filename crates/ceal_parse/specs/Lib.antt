@@ -1,9 +1,0 @@
-pub mod Grammar
-pub mod Spelled
-pub mod Trees
-pub mod Faults
-pub mod Machine
-pub mod Judged
-pub mod Follows
-pub mod Print
-pub mod PrintWords

@@ -1,3 +1,0 @@
-pub mod RisingLemmas
-pub mod Searching
-pub mod Editing

@@ -1,6 +1,0 @@
-use Rattle.std.proofs.Common.{◌≢◌, ℕ, ◌<◌, get_or}
-use Rattle.ceal_rising.specs.Rising.{numbers}
-use Rattle.ceal_rising.proofs.rising.index_of.Given as goal
-
-abbrev pub invariant-loop-at : goal.invariant-loop-at
-invariant-loop-at l = (k : ℕ) → k < l.at → get_or (numbers l.stamps) k 0 ≢ l.stamp.0
