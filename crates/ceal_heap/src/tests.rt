@@ -1,11 +1,13 @@
 // What no clause says: that calls succeed where there is memory.
 
-ghost use Rattle.std.specs.Prelude.{◌≤◌, length};
+ghost use Rattle.std.specs.Prelude.{IsSome};
+ghost use Rattle.ceal_heap.specs.Heap.{block_of};
 
 use crate::heap::Heap;
 use ceal_base::forest::Key;
 use ceal_base::kind::Shape;
 use ceal_base::word::{BlockId, Place, Word};
+use std::process::Abort;
 use std::test::Fail;
 
 const CELL: Shape = Shape::Struct(0);
@@ -91,5 +93,28 @@ fn a_hundred_thousand_blocks(rt: HostRuntime) -> Result<(), Fail> {
     let block = heap.make(CELL, Key::ModInt, &[Word::Null, Word::Null])?;
     assert_eq!(rt; block, BlockId::Core(100_000));
     assert_eq!(rt; heap.live_count(), 100_001);
+    Ok(())
+}
+
+// Makes a block after another one; where it is refused, the heap is as it was.
+fn make_second<R: Abort>(rt: &R, heap: &mut Heap, first: BlockId) -> Result<BlockId, Fail>
+    requires { IsSome (block_of heap.old first) }
+{
+    if let Ok(second) = heap.make(NODE, Key::ModPtr(0), &[Word::Num(2)]) {
+        return Ok(second);
+    }
+    assert_eq!(rt; heap.live_count(), 1);
+    assert_eq!(rt; heap.field(first, 0), Word::Num(1));
+    let second = heap.make(NODE, Key::ModPtr(0), &[Word::Num(2)])?;
+    Ok(second)
+}
+
+#[test]
+fn a_refused_block_changes_nothing(rt: HostRuntime) -> Result<(), Fail> {
+    let mut heap = Heap::new(rt.alloc())?;
+    let first = heap.make(CELL, Key::ModInt, &[Word::Num(1)])?;
+    let second = make_second(&rt, &mut heap, first)?;
+    assert_eq!(rt; second, BlockId::Core(1));
+    assert_eq!(rt; heap.live_count(), 2);
     Ok(())
 }
