@@ -71,6 +71,16 @@ fn made_by_itself(alloc: Global) -> Result<Cmd, NoMemory> {
     })
 }
 
+/// Calls a function that is not there, with a unit that is not there behind it.
+fn lost_call(alloc: Global) -> Cmd {
+    Cmd::Call {
+        function: 9,
+        args: Items::empty(alloc),
+        unit: UnitId(9),
+        rest: Items::empty(alloc),
+    }
+}
+
 fn kinds(alloc: Global, list: &[Kind]) -> Result<Kinds, NoMemory> {
     Ok(Kinds::new(Vec::from_slice(alloc, list)?))
 }
@@ -193,6 +203,8 @@ fn branches(rt: HostRuntime) -> Result<(), Fail> {
     assert!(rt; !is_right_alone(alloc, branch(0, 1))?);
     assert!(rt; !is_right_alone(alloc, Cmd::Tick)?);
     assert!(rt; !are_right(alloc, [Cmd::Done, Cmd::Done])?);
+    // commands that hang on their own jump backwards
+    assert!(rt; !are_right(alloc, [Cmd::Done, lost_call(alloc), branch(1, 2)])?);
     Ok(())
 }
 
