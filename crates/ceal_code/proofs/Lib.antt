@@ -27,6 +27,12 @@ pub mod Kept
 pub mod Typed
 pub mod TypedInit
 pub mod TypedStack
+pub mod OnPath
 pub mod TypedActs
 pub mod TypedCommands
 pub mod TypedRun
+pub mod ValueSteps
+pub mod InitSteps
+pub mod StackSteps
+pub mod TableSteps
+pub mod AfterLaws

@@ -5,6 +5,7 @@ pub mod Step
 pub mod Fresh
 pub mod Replay
 pub mod Valid
+pub mod OnPath
 pub mod Parts
 pub mod Listing
 pub mod Branches
@@ -15,3 +16,7 @@ pub mod Running
 pub mod Determined
 pub mod Laws
 pub mod Over
+pub mod PlainWords
+pub mod Stacks
+pub mod Tables
+pub mod After

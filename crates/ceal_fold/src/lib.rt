@@ -5,7 +5,6 @@
 //! that its units yield or that replay a call.
 #![tactic(auto)]
 
-mod copied_code;
 mod copies;
 mod expr;
 pub mod fold;

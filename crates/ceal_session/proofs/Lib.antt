@@ -8,3 +8,4 @@ pub mod Store
 pub mod Seen
 pub mod Answering
 pub mod Telling
+pub mod OneReply

@@ -7,6 +7,7 @@
 
 mod commands;
 mod fits;
+pub mod laws;
 mod numbers;
 pub mod refusal;
 pub mod reply;

@@ -8,3 +8,4 @@ mod OneText
 mod WholeMemory
 mod Renamed
 mod Samples
+mod SomeText

@@ -14,10 +14,10 @@ use Rattle.ceal_code.specs.Program.{Code}
 use Rattle.ceal_code.specs.Replay.{Yields, count, core_numbers}
 use Rattle.ceal_code.specs.Step.{Stack}
 use Rattle.ceal_code.specs.Value.{Plain}
-use Rattle.ceal_adjust.specs.Adjust.{Extended}
+use Rattle.ceal_theory.specs.Adjust.{Extended}
 use Rattle.ceal_adjust.specs.Answers.{IsRepair}
-use Rattle.ceal_adjust.specs.Computed.{Repaired, first_of}
-use Rattle.ceal_adjust.specs.Laws.{Edited, First_law, First_trace, First_outcome, numbers}
+use Rattle.ceal_theory.specs.Computed.{Repaired, first_of}
+use Rattle.ceal_theory.specs.Laws.{Edited, First_law, First_trace, First_outcome, numbers}
 
 -- each block has a step of its own
 blocks-steps : {code : Code} {x : Plain} {st : Stack} {l : Trace} → Yields code x st l → length (blocks_of l) ≤ steps_of l

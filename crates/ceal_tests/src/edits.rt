@@ -7,10 +7,9 @@ ghost use Rattle.ceal_base.specs.Fitting.{block_fits, inputs_fit};
 ghost use Rattle.ceal_base.specs.Shapes.{kinds_of_shape, kind_of_field};
 ghost use Rattle.ceal_code.specs.Fitting.{Fits, args_fit};
 ghost use Rattle.ceal_code.specs.Replay.{plain_words, plain_block};
-ghost use Rattle.ceal_adjust.specs.Adjust.{Extended};
+ghost use Rattle.ceal_theory.specs.Adjust.{Extended};
 
 use ceal_adjust::adjust::{Adjusted, adjust, first_forest};
-use ceal_adjust::laws::first_law;
 use ceal_base::fitting::{new_block_fits, words_fit};
 use ceal_base::kind::{FieldKind, Shape};
 use ceal_base::memory::{BlockWords, Inputs};
@@ -20,6 +19,7 @@ use ceal_base::word::Word;
 use ceal_code::code::Code;
 use ceal_code::function::FunctionCode;
 use ceal_code::validate::validate;
+use ceal_theory::laws::first_law;
 use std::alloc::Global;
 
 fn do_blocks_fit(structs: &[StructInfo], inputs: &Inputs, blocks: &[BlockWords]) -> bool
