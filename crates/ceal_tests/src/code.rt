@@ -71,6 +71,16 @@ fn made_by_itself(alloc: Global) -> Result<Cmd, NoMemory> {
     })
 }
 
+/// Calls a function that is not there, with a unit that is not there behind it.
+fn lost_call(alloc: Global) -> Cmd {
+    Cmd::Call {
+        function: 9,
+        args: Items::empty(alloc),
+        unit: UnitId(9),
+        rest: Items::empty(alloc),
+    }
+}
+
 fn kinds(alloc: Global, list: &[Kind]) -> Result<Kinds, NoMemory> {
     Ok(Kinds::new(Vec::from_slice(alloc, list)?))
 }
@@ -117,6 +127,14 @@ fn is_valid(alloc: Global, body: Vec<Cmd>) -> Result<bool, Fail> {
 fn are_right<const N: usize>(alloc: Global, body: [Cmd; N]) -> Result<bool, Fail> {
     let body = commands(alloc, body)?;
     is_valid(alloc, body)
+}
+
+fn is_right_alone(alloc: Global, command: Cmd) -> Result<bool, Fail> {
+    are_right(alloc, [command])
+}
+
+fn is_right_behind_a_step(alloc: Global, command: Cmd) -> Result<bool, Fail> {
+    are_right(alloc, [Cmd::Tick, command])
 }
 
 /// Whether it is valid with this command before the end.
@@ -176,21 +194,29 @@ fn is_valid_on_the_other_branch(alloc: Global, value: CodeExpr) -> Result<bool, 
 }
 
 #[test]
-fn paths(rt: HostRuntime) -> Result<(), Fail> {
+fn branches(rt: HostRuntime) -> Result<(), Fail> {
     let alloc = rt.alloc();
     // a variable that is set on the other branch alone
     assert!(rt; !is_valid_on_the_other_branch(alloc, variable(2))?);
     assert!(rt; is_valid_on_the_other_branch(alloc, CodeExpr::Num(2))?);
     // a jump backwards, an index that is not there, and a command that nothing reaches
-    assert!(rt; !are_right(alloc, [branch(0, 1)])?);
-    assert!(rt; !are_right(alloc, [Cmd::Tick])?);
+    assert!(rt; !is_right_alone(alloc, branch(0, 1))?);
+    assert!(rt; !is_right_alone(alloc, Cmd::Tick)?);
     assert!(rt; !are_right(alloc, [Cmd::Done, Cmd::Done])?);
-    // a tail before any step, and one behind a step
-    assert!(rt; !are_right(alloc, [tail(alloc, 1, &[0, 1])?])?);
-    assert!(rt; are_right(alloc, [Cmd::Tick, tail(alloc, 1, &[0, 1])?])?);
-    // an argument too few, and a unit that is not there
-    assert!(rt; !are_right(alloc, [Cmd::Tick, tail(alloc, 1, &[0])?])?);
-    assert!(rt; !are_right(alloc, [Cmd::Tick, tail(alloc, 2, &[])?])?);
+    // commands that hang on their own jump backwards
+    assert!(rt; !are_right(alloc, [Cmd::Done, lost_call(alloc), branch(1, 2)])?);
+    Ok(())
+}
+
+#[test]
+fn tails(rt: HostRuntime) -> Result<(), Fail> {
+    let alloc = rt.alloc();
+    // before any step, and behind one
+    assert!(rt; !is_right_alone(alloc, tail(alloc, 1, &[0, 1])?)?);
+    assert!(rt; is_right_behind_a_step(alloc, tail(alloc, 1, &[0, 1])?)?);
+    // with an argument too few, and to a unit that is not there
+    assert!(rt; !is_right_behind_a_step(alloc, tail(alloc, 1, &[0])?)?);
+    assert!(rt; !is_right_behind_a_step(alloc, tail(alloc, 2, &[])?)?);
     Ok(())
 }
 
