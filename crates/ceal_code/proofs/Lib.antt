@@ -31,3 +31,8 @@ pub mod OnPath
 pub mod TypedActs
 pub mod TypedCommands
 pub mod TypedRun
+pub mod ValueSteps
+pub mod InitSteps
+pub mod StackSteps
+pub mod TableSteps
+pub mod AfterLaws

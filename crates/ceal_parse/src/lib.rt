@@ -16,6 +16,4 @@ pub mod parse;
 mod program;
 mod statement;
 mod structs;
-#[cfg(test)]
-mod tests;
 mod typing;

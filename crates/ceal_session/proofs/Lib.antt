@@ -8,4 +8,4 @@ pub mod Store
 pub mod Seen
 pub mod Answering
 pub mod Telling
-pub mod EmptyProgram
+pub mod OneReply

@@ -8,3 +8,4 @@ pub mod Replies
 pub mod Keeping
 pub mod Asking
 pub mod Shown
+pub mod Laws
