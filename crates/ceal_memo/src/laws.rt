@@ -1,13 +1,14 @@
 // The laws of the memo tables.
 
-ghost use Rattle.std.specs.Prelude.{◌≡◌, ℕ, List};
+ghost use Rattle.std.specs.Prelude.{◌≡◌, ◌==◌, ◌∷◌, ℕ, List, false, if◌then◌else◌};
 ghost use Rattle.ceal_base.specs.declared.forest.Key.{Key};
-ghost use Rattle.ceal_order.specs.Stamps.{OneMore};
-ghost use Rattle.ceal_order.specs.Rising.{KeepsOrder};
+ghost use Rattle.ceal_order.specs.Stamps.{is_in, without, OneMore};
+ghost use Rattle.ceal_order.specs.Rising.{IsRising, KeepsOrder};
 ghost use Rattle.ceal_memo.specs.declared.key.ReadKey.{ReadKey};
+ghost use Rattle.ceal_memo.specs.Lists.{with_stamp};
 ghost use Rattle.ceal_memo.specs.Memo.{Entries, Follows, HasNone, reads_of, allocs_of};
 
-use ceal_order::laws::rising_still;
+use ceal_order::laws::{rising_members, rising_still};
 
 /// A law: a memo follows each other order that has the stamps of each of its keys in the same order; so it does after an
 /// insertion into the order, and after a deletion from it that takes no stamp with an entry.
@@ -21,4 +22,14 @@ pub fn follows_still()
         → Follows new memo }
 {
     rising_still();
+}
+
+/// Laws: which stamps a key has after an entry goes in, and after one goes out of stamps that rise along an order.
+pub fn stamps_after()
+    ensures entered { (order : List ℕ) (s t : ℕ) (stamps : List ℕ)
+        → is_in t (with_stamp order s stamps) ≡ is_in t (s ∷ stamps) }
+    ensures removed { (order : List ℕ) (s t : ℕ) (stamps : List ℕ) → IsRising order stamps
+        → is_in t (without s stamps) ≡ (if s == t then false else is_in t stamps) }
+{
+    rising_members();
 }

@@ -1,5 +1,5 @@
 -- The writes of a place.
-use Rattle.std.specs.Prelude.{ℕ, List, [], ◌∷◌, nat_lt, insert, ◌==◌, if◌then◌else◌}
+use Rattle.std.specs.Prelude.{ℕ, Option, Some, None, List, [], ◌∷◌, nat_lt, insert, ◌==◌, if◌then◌else◌}
 use Rattle.ceal_base.specs.declared.word.Word.{Word}
 use Rattle.ceal_order.specs.Stamps.{place}
 use Rattle.ceal_order.specs.Rising.{count_before}
@@ -19,6 +19,11 @@ abbrev pub written : List ℕ → List Word → List Write
 written [] vs = []
 written (s ∷ ss) [] = []
 written (s ∷ ss) (v ∷ vs) = record { stamp = s; value = v } ∷ written ss vs
+
+-- the value of the write at a stamp, None where there is no write
+abbrev pub written_at : ℕ → List Write → Option Word
+written_at s [] = None
+written_at s (w ∷ ws) = if w.stamp == s then Some w.value else written_at s ws
 
 -- the value of the last of these, the base where there are none
 abbrev pub last_of : Word → List Write → Word

@@ -7,8 +7,8 @@ ghost use Rattle.ceal_mods.specs.Cell.{Rises, Sees, IsAffected};
 use crate::writes::Writes;
 use ceal_base::word::Word;
 use ceal_order::order::Order;
-use ceal_order::stamp::Stamp;
 use ceal_order::rising::Rising;
+use ceal_order::stamp::Stamp;
 use std::alloc::Global;
 
 /// A modifiable: what it holds before any write, its writes, and its reads.

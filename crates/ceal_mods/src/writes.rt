@@ -8,8 +8,8 @@ ghost use Rattle.ceal_mods.specs.Writes.{stamps_of, last_of, those_before, with_
 use ceal_base::no_memory::NoMemory;
 use ceal_base::word::Word;
 use ceal_order::order::Order;
-use ceal_order::stamp::Stamp;
 use ceal_order::rising::Rising;
+use ceal_order::stamp::Stamp;
 use std::alloc::Global;
 use std::marker::Model;
 

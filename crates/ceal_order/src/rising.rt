@@ -4,9 +4,9 @@ ghost use Rattle.std.specs.Prelude.{◌≡◌, ◌↔◌, ◌<◌, ◌≤◌, []
 ghost use Rattle.ceal_order.specs.Stamps.{is_in, place, without};
 ghost use Rattle.ceal_order.specs.Rising.{numbers, count_before, IsRising, IsFirstAfter, NoneAfter, IsParted};
 
-use ceal_base::no_memory::NoMemory;
 use crate::order::Order;
 use crate::stamp::Stamp;
+use ceal_base::no_memory::NoMemory;
 use std::alloc::Global;
 use std::marker::Model;
 

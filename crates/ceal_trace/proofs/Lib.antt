@@ -11,3 +11,4 @@ pub mod Ends
 pub mod ItemSteps
 pub mod Nesting
 pub mod Parts
+pub mod Parting

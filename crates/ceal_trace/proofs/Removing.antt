@@ -9,7 +9,7 @@ use Rattle.ceal_trace.specs.Keeping.{kept, steps_of, node_of, entry_of, listed, 
 use Rattle.ceal_trace.proofs.Stamped.{apart, length-without}
 use Rattle.ceal_trace.proofs.Entries.{ends_is, stamps-without, sum-without}
 use Rattle.ceal_trace.proofs.Listings.{listed_without}
-use Rattle.ceal_trace.proofs.Shapes.{one_less_node, ends_but, end_gone, end_left, less_trace, less_loose, less_closed, less_mended}
+use Rattle.ceal_trace.proofs.Shapes.{one_less_node, ends_but, end_gone, end_left, less_trace, less_loose, less_closed, less_still, less_mended}
 use Rattle.ceal_trace.proofs.Keeps.{entry_eq, found_is, stamps_are, is_there, entry_found}
 
 -- the node that a table keeps is that of the trace
@@ -37,6 +37,7 @@ pub record Shrank (order order' : Listing) (t t' : Table) (s steps : ℕ) (gone 
   pub other_ends : (read : ℕ) → ends read gone ≡ false → end_in read (timeline order' t').nodes ≡ end_in read (timeline order t).nodes
   pub loose : NoLooseEnd (timeline order t).nodes → LooseEndOf s (timeline order' t').nodes
   pub closed : NoLooseEnd (timeline order t).nodes → end_in s (timeline order t).nodes ≡ None → NoLooseEnd (timeline order' t').nodes
+  pub still : (read : ℕ) → LooseEndOf read (timeline order t).nodes → end_in s (timeline order t).nodes ≡ None → LooseEndOf read (timeline order' t').nodes
   pub mended : (read : ℕ) → LooseEndOf read (timeline order t).nodes → ends read gone ≡ true → NoLooseEnd (timeline order' t').nodes
 
 module _ (order order' : Listing) (t t' : Table) (s steps : ℕ) (node : Node)
@@ -140,6 +141,7 @@ module _ (order order' : Listing) (t t' : Table) (s steps : ℕ) (node : Node)
     other_ends = λ read other. ap (λ (l : List Entry). end_in read l) nodes_are ∙ ends_same read other;
     loose = λ closed. subst (λ (l : List Entry). LooseEndOf s l) (sym nodes_are) (less_loose es order.spare order'.spare s node sound.is_trace held one_es order_es closed);
     closed = λ closed unfinished. subst (λ (l : List Entry). NoLooseEnd l) (sym nodes_are) (less_closed es order.spare order'.spare s node sound.is_trace held one_es order_es closed unfinished);
+    still = λ read loose unfinished. subst (λ (l : List Entry). LooseEndOf read l) (sym nodes_are) (less_still es order.spare order'.spare s node sound.is_trace held one_es order_es read loose unfinished);
     mended = λ read loose does. subst (λ (l : List Entry). NoLooseEnd l) (sym nodes_are) (less_mended es order.spare order'.spare s node sound.is_trace held one_es order_es read loose does);
   }
 

@@ -275,6 +275,15 @@ module _ (es : List Entry) (spare more s : ℕ) (node : Node)
         one.only read (closed.read_there read (is_some_of (end_in read es) u was)) other;
   }
 
+  pub less_still : (e : ℕ) → LooseEndOf e es → end_in s es ≡ None → LooseEndOf e (without_entry s es)
+  less_still e loose unfinished = record {
+    read_there = λ read some other.
+        let u = (some_of (end_in read rest) some).0 in
+        let was = end_left u read (some_of (end_in read rest) some).1 in
+        let apart : read ≢ s = λ same. let no : Some u ≡ None = sym was ∙ (ap (λ (k : ℕ). end_in k es) same ∙ unfinished) in absurd (cc) in
+        one.only read (loose.read_there read (is_some_of (end_in read es) u was) other) apart;
+  }
+
   pub less_mended : (e : ℕ) → LooseEndOf e es → ends e node ≡ true → NoLooseEnd (without_entry s es)
   less_mended e loose does = record {
     read_there = λ read some.

@@ -1,10 +1,10 @@
 -- The nodes of a trace as the items of a forest.
-use Rattle.std.specs.Prelude.{◌≡◌, ℕ, zero, suc, List, [], ◌∷◌, ◌++◌, Option, None, Some, ◌==◌, if◌then◌else◌}
+use Rattle.std.specs.Prelude.{◌≡◌, ℕ, zero, suc, List, [], ◌∷◌, ◌++◌, Option, None, Some, true, ◌==◌, if◌then◌else◌}
 use Rattle.ceal_base.specs.declared.forest.Item.{Item}
 use Rattle.ceal_base.specs.declared.forest.Item.TheVariants as item
 use Rattle.ceal_trace.specs.declared.node.Node.{Node}
 use Rattle.ceal_trace.specs.declared.node.Node.TheVariants.{Root, Alloc, Write, Read, End}
-use Rattle.ceal_trace.specs.Nodes.{Entry}
+use Rattle.ceal_trace.specs.Nodes.{Entry, ends}
 
 -- so many steps
 abbrev pub ticks : ℕ → List Item
@@ -40,3 +40,16 @@ unclosed (Some reads) (e ∷ es) = unclosed (unclosed_after e.stamp e.node reads
 -- each end closes the read that was begun last, and each read is closed
 abbrev pub Nests : List Entry → Type 0
 Nests es = unclosed (Some []) es ≡ Some []
+
+-- nodes around a read that is closed: those before it, those inside, and those behind its end
+pub record Parted (read : ℕ) (nodes : List Entry) : Type 0 where
+  pub before : List Entry
+  pub begins : Entry
+  pub inside : List Entry
+  pub ends' : Entry
+  pub behind : List Entry
+  pub whole : nodes ≡ before ++ begins ∷ (inside ++ ends' ∷ behind)
+  pub begun : begins.stamp ≡ read
+  pub ended : ends read ends'.node ≡ true
+  pub nests : Nests inside
+  pub without : Nests (before ++ behind)

@@ -1,6 +1,6 @@
 // The nodes of a trace in the order of time.
 
-ghost use Rattle.std.specs.Prelude.{◌≡◌, ◌≢◌, ◌+◌, ◌<◌, ◌≤◌, ℕ, [], ◌∷◌, max, false, Some, None, IfSome, IfNone, IfOk, OnOk, OnErr, IsTrue, option_map};
+ghost use Rattle.std.specs.Prelude.{◌≡◌, ◌≢◌, ◌+◌, ◌<◌, ◌≤◌, ℕ, [], ◌∷◌, false, Some, None, IfSome, IfNone, IfOk, OnOk, OnErr, IsTrue, option_map};
 ghost use Rattle.ceal_base.specs.Trace.{steps_in};
 ghost use Rattle.ceal_order.specs.Stamps.{head_of};
 ghost use Rattle.ceal_trace.specs.declared.node.Node.TheVariants.{Root, Alloc, Write, Read, End};
@@ -21,8 +21,9 @@ use std::marker::Model;
 /// The nodes of a run in the order of time, and room for more. Contracts see `nodes`, the list of the nodes with their
 /// stamps and steps, and `spare`, how many may be inserted without taking memory.
 ///
-/// Each stamp that is handed in must be a node's. Where a finished read is removed before its end, the end must be
-/// removed before the next insertion.
+/// Each stamp that is handed in must be a node's. A read and its end go together: where a finished read is removed
+/// before its end, no other finished read is removed and nothing is inserted until the end is removed too. Its stamp is
+/// asked by `end_of` beforehand.
 #[derive(Drop)]
 pub struct Trace {
     order: Order,
@@ -82,10 +83,13 @@ impl Trace {
 
     /// Makes room for so many insertions without taking memory. `NoMemory` also comes where there would be 2^32 - 1
     /// nodes or more, the spare ones counted.
+    ///
+    /// How many insertions there is room for beyond those is not told. Were it told, the numbers of the next stamps
+    /// would follow, all stamps lying below the number of nodes and spare places: a trace that is thrown away and built
+    /// anew would then provably have the stamps of the one before, as if it had been kept.
     pub fn reserve(&mut self, nodes: u32) -> Result<(), NoMemory>
         ensures nodes { self.new.nodes ≡ self.old.nodes }
         ensures room { OnOk result (nodes ≤ self.new.spare) }
-        ensures exact { OnOk result (self.new.spare ≡ max self.old.spare nodes) }
         ensures kept { self.old.spare ≤ self.new.spare }
         ensures err { OnErr result (self.new ≡ self.old) }
         ensures whole { IsTrace self.new }
@@ -259,6 +263,8 @@ impl Trace {
         ensures ends { (read : ℕ) → ends read result.node ≡ false → end_in read self.new.nodes ≡ end_in read self.old.nodes }
         ensures loose { NoLooseEnd self.old.nodes → LooseEndOf stamp.0 self.new.nodes }
         ensures closed { NoLooseEnd self.old.nodes → end_in stamp.0 self.old.nodes ≡ None → NoLooseEnd self.new.nodes }
+        ensures still { (read : ℕ) → LooseEndOf read self.old.nodes → ends read result.node ≡ false → end_in stamp.0 self.old.nodes ≡ None
+            → LooseEndOf read self.new.nodes }
         ensures mended { (read : ℕ) → LooseEndOf read self.old.nodes → IsTrue (ends read result.node) → NoLooseEnd self.new.nodes }
         ensures whole { IsTrace self.new }
     {

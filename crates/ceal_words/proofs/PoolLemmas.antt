@@ -1,14 +1,14 @@
 -- What each step of a size class does to its layout, and to what contracts see of it.
-use Rattle.std.proofs.Common.{◌≡◌, ℕ, zero, suc, ◌+◌, ◌-◌, ◌*◌, ◌<◌, ◌≤◌, List, [], ◌∷◌, ◌++◌, length, take, drop, get_or, set, replicate, Option, Some, None, IsSome, IfSome, Result, Ok, Err, OnOk, OnErr, refl, sym, ap, ◌∙◌, subst, ⊎_elim, arith, slice_get}
-use Rattle.std.proofs.lemmas.List.{drop-set-add, get_or-drop, get_or-take, get_or-set_same, get_or-set_other, get_or_past, length-set, length-drop, length-take-le, length_push, length-replicate, set-get_or, get_or_push, get_or_append_left, set-set, set_at, drop_more, drop_all, append-nil, replicate_more}
+use Rattle.std.proofs.Common.{append_assoc, ◌≡◌, ℕ, zero, suc, ◌+◌, ◌-◌, ◌*◌, ◌<◌, ◌≤◌, List, [], ◌∷◌, ◌++◌, length, take, drop, get_or, set, replicate, Option, Some, None, IsSome, IfSome, Result, Ok, Err, OnOk, OnErr, refl, sym, ap, ◌∙◌, subst, ⊎_elim, arith, slice_get}
+use Rattle.std.proofs.lemmas.List.{drop-set-add, get_or-drop, get_or-take, get_or-set_same, get_or-set_other, get_or_past, length-set, length-drop, length-take-le, length_push, length-replicate, replicate-append-replicate, set-get_or, get_or_push, get_or_append_left, set-set, set_at, drop_more, drop_all, append-nil, replicate_more}
 use Rattle.std.proofs.lemmas.Option.{slice_get-get_or, slice_get_past}
 use Rattle.std.proofs.lemmas.Nat.{mul-add-lt, row_fits}
 use Rattle.std.proofs.lemmas.Bool.{cases_lt, cases_eq, false≢true}
 use Rattle.std.proofs.lemmas.List.{length-append}
-use Rattle.std.proofs.Math.Nat.{add-mul}
+use Rattle.std.proofs.Math.Nat.{add-mul, mul-le-mul_right}
 use Rattle.ceal_words.specs.Lengths.{RoundsTo}
 use Rattle.ceal_words.specs.SizeClass.{SizeClass, words_at, word_in, changed, taken, given, with_word, grown}
-use Rattle.ceal_words.specs.Layout.{piece, pieces_from, link, free_list, IsOutside, IsFreeList, free_count, IsLaidOut}
+use Rattle.ceal_words.specs.Layout.{class_of, piece, pieces_from, link, free_list, IsOutside, IsFreeList, free_count, IsLaidOut}
 use Rattle.ceal_words.proofs.PieceLemmas.{Agree, agree_set, agree_append, piece_of, pieces_set, pieces_push, pieces_same, length-pieces}
 use Rattle.ceal_words.proofs.FreeLemmas.{free_same, list_same, outside, marks_set, marks_push, count_set, count_push, count_below}
 
@@ -324,3 +324,40 @@ on_err (Err e) p = p
 pub on_ok : {T E P : Type 0} (r : Result T E) → P → OnOk r P
 on_ok (Ok x) p = p
 on_ok (Err e) p = tt
+
+-- room for the piece behind those that were made
+pub room_for : (size made i more n : ℕ) → i < more → (made + more) * size ≤ n → (made + i) * size + size ≤ n
+room_for size made i more n l h =
+    let all = mul-le-mul_right {m = made + i + 1} {n = made + more} size (omega (arith, l)) in
+    let parts = add-mul (made + i) 1 size in
+    omega (arith, all, parts, h)
+
+pub grown_more : (n : ℕ) (class : SizeClass) → grown 1 (grown n class) ≡ grown (n + 1) class
+grown_more n class =
+    let pieces : (class.pieces ++ replicate n None) ++ replicate 1 None ≡ class.pieces ++ replicate (n + 1) None =
+    append_assoc class.pieces (replicate n None) (replicate 1 None) ∙ ap (λ (ps : List (Option (List ℕ))). class.pieces ++ ps) (replicate-append-replicate n 1 None) in
+    let spare : class.spare + n + 1 ≡ class.spare + (n + 1) = omega arith in
+    ap (λ (ps : List (Option (List ℕ))). record class { pieces = ps; spare = class.spare + n + 1 }) pieces
+    ∙ ap (λ (k : ℕ). record class { pieces = class.pieces ++ replicate (n + 1) None; spare = k }) spare
+
+pub grown_none : (n : ℕ) (class : SizeClass) → n ≡ 0 → grown n class ≡ class
+grown_none zero class h =
+    let spare : class.spare + 0 ≡ class.spare = omega arith in
+    ap (λ (ps : List (Option (List ℕ))). record class { pieces = ps; spare = class.spare + 0 }) (append-nil class.pieces)
+    ∙ ap (λ (k : ℕ). record class { pieces = class.pieces; spare = k }) spare
+grown_none (suc n) class h = absurd (omega (arith, h))
+
+-- one piece more, behind so many
+module _ (size made head spare i : ℕ) (words marks : List ℕ) (old : SizeClass) (laid : IsLaidOut size words marks (made + i) head (spare + i))
+    (enough : (made + i) * size + size ≤ length words) (class : class_of size words marks (spare + i) ≡ grown i old) where
+  pub laid_one : IsLaidOut size (set words ((made + i) * size) head) (marks ++ 0 ∷ []) (made + (i + 1)) (made + i) (spare + (i + 1))
+  laid_one =
+      subst (λ (m : ℕ). IsLaidOut size (set words ((made + i) * size) head) (marks ++ 0 ∷ []) m (made + i) (spare + (i + 1))) {x = made + i + 1} (omega arith)
+      (subst (λ (k : ℕ). IsLaidOut size (set words ((made + i) * size) head) (marks ++ 0 ∷ []) (made + i + 1) (made + i) k) {x = spare + i + 1} (omega arith)
+      (laid_pushed size (made + i) head (spare + i) words marks laid enough))
+
+  pub class_one : class_of size (set words ((made + i) * size) head) (marks ++ 0 ∷ []) (spare + (i + 1)) ≡ grown (i + 1) old
+  class_one =
+      let same : spare + (i + 1) ≡ spare + i + 1 = omega arith in
+      ap (class_of size (set words ((made + i) * size) head) (marks ++ 0 ∷ [])) same
+      ∙ view_pushed size (made + i) head (spare + i) words marks laid enough ∙ ap (grown 1) class ∙ grown_more i old

@@ -2,6 +2,7 @@
 -- slot's length, a free one with 0. The first word of a free piece is the number of the next free piece.
 use Rattle.std.specs.Prelude.{◌≡◌, ◌≢◌, ℕ, zero, suc, ◌*◌, ◌<◌, ◌≤◌, List, [], ◌∷◌, length, take, drop, Option, Some, None, slice_index}
 use Rattle.ceal_words.specs.Lengths.{RoundsTo}
+use Rattle.ceal_words.specs.SizeClass.{SizeClass}
 
 -- what a slot of this length sees of the words from the start of its piece on
 abbrev pub piece : ℕ → List ℕ → Option (List ℕ)
@@ -46,3 +47,7 @@ pub record IsLaidOut (size : ℕ) (words marks : List ℕ) (made head spare : �
   pub lengths : (i : ℕ) → 0 < slice_index marks i → RoundsTo (slice_index marks i) size
   pub free : IsFreeList size words marks spare head
   pub every : free_count marks ≡ spare
+
+-- the size class that lies so
+abbrev pub class_of : ℕ → List ℕ → List ℕ → ℕ → SizeClass
+class_of size words marks spare = record { size = size; pieces = pieces_from size 0 marks words; spare = spare }

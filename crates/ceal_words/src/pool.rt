@@ -1,7 +1,8 @@
 // One size class: its chunk, its pieces and its free list.
 
-ghost use Rattle.std.specs.Prelude.{◌≡◌, ◌<◌, ◌≤◌, ℕ, ◌+◌, ◌-◌, List, [], Some, None, length, replicate, slice_get, IsSome, IfSome, IfOk, OnOk, OnErr};
+ghost use Rattle.std.specs.Prelude.{◌≡◌, ◌<◌, ◌≤◌, ℕ, ◌+◌, ◌-◌, ◌*◌, ◌^◌, List, [], Some, None, length, replicate, slice_get, IsSome, IfSome, IfOk, OnOk, OnErr};
 ghost use Rattle.ceal_words.specs.Lengths.{RoundsTo};
+ghost use Rattle.ceal_words.specs.Layout.{IsLaidOut, class_of};
 ghost use Rattle.ceal_words.specs.SizeClass.{words_at, word_in, taken, given, with_word, grown};
 
 use crate::chunk::Chunk;
@@ -32,6 +33,34 @@ impl Model for Pool {
     ghost invariant = { λ p. IsLaidOut p.size p.chunk p.marks.lens p.made p.head p.spare };
 }
 
+// Makes free pieces behind those that were made, in a chunk that has room for them, and says which one is the head of
+// the free list then.
+fn link_pieces(
+    chunk: &mut Chunk,
+    marks: &mut Marks,
+    size: u32,
+    made: u32,
+    head: u64,
+    more: u32,
+) -> u64
+    requires some { 0 < size }
+    requires few { made + more < 2 ^ 32 }
+    requires room { (made + more) * size ≤ length chunk.old }
+    ensures laid { (spare : ℕ) → IsLaidOut size chunk.old marks.old.lens made head spare
+        → IsLaidOut size chunk.new marks.new.lens (made + more) result (spare + more) }
+    ensures class { (spare : ℕ) → IsLaidOut size chunk.old marks.old.lens made head spare
+        → class_of size chunk.new marks.new.lens (spare + more) ≡ grown more (class_of size chunk.old marks.old.lens spare) }
+{
+    let mut head = head;
+    for i in 0..more {
+        let piece = made + i;
+        chunk.set(piece as usize * size as usize, head);
+        marks.add();
+        head = piece as u64;
+    }
+    head
+}
+
 impl Pool {
     pub(crate) fn new(alloc: Global, size: u32) -> Result<Pool, NoMemory>
         requires { 0 < size }
@@ -48,39 +77,30 @@ impl Pool {
         })
     }
 
-    // One more free piece.
-    fn add(&mut self) -> Result<(), NoMemory>
-        ensures ok { OnOk result (self.new ≡ grown 1 self.old) }
-        ensures err { OnErr result (self.new ≡ self.old) }
-    {
-        if self.made == u32::MAX {
-            return Err(NoMemory);
-        }
-        let at = self.made as usize * self.size as usize;
-        self.chunk.reserve(at + self.size as usize)?;
-        self.marks.add();
-        self.chunk.set(at, self.head);
-        self.head = self.made as u64;
-        self.made += 1;
-        self.spare += 1;
-        Ok(())
-    }
-
+    /// Makes sure that `n` pieces are free. Where there was no memory, all is as before.
     pub(crate) fn reserve(&mut self, n: u32) -> Result<(), NoMemory>
         ensures kept { self.new ≡ grown (self.new.spare - self.old.spare) self.old }
         ensures lowers_none { self.old.spare ≤ self.new.spare }
         ensures ok { OnOk result (n ≤ self.new.spare) }
+        ensures err { OnErr result (self.new ≡ self.old) }
     {
-        while self.spare() < n {
-            self.add()?;
+        let more = n.saturating_sub(self.spare);
+        if more > u32::MAX - self.made {
+            return Err(NoMemory);
         }
+        let made = self.made + more;
+        self.chunk.reserve(made as usize * self.size as usize)?;
+        self.head = link_pieces(
+            &mut self.chunk,
+            &mut self.marks,
+            self.size,
+            self.made,
+            self.head,
+            more,
+        );
+        self.made = made;
+        self.spare += more;
         Ok(())
-    }
-
-    fn spare(&self) -> u32
-        ensures { result ≡ self.now.spare }
-    {
-        self.spare
     }
 
     // Takes the first free piece, with what its words happen to be.

@@ -1,6 +1,6 @@
 // The region: a size class for each power of two.
 
-ghost use Rattle.std.specs.Prelude.{◌≡◌, ◌<◌, ◌≤◌, ◌+◌, ◌-◌, Some, None, replicate, IsSome, IfOk, OnOk};
+ghost use Rattle.std.specs.Prelude.{◌≡◌, ◌<◌, ◌≤◌, ◌+◌, ◌-◌, Some, None, replicate, IsSome, IfOk, OnOk, OnErr};
 ghost use Rattle.ceal_words.specs.SizeClass.{changed};
 ghost use Rattle.ceal_words.specs.Region.{words_of, word_of, slot_len, spare, KeepsOthers, KeepsAll, KeepsOtherSpares, KeepsSpares, IsEmpty};
 
@@ -44,10 +44,11 @@ impl Region {
         Ok(Region { pools })
     }
 
-    /// Makes sure that `n` slots of this length can be taken. Where there was no memory, as many may be spare as before or more.
+    /// Makes sure that `n` slots of this length can be taken. Where there was no memory, all is as before.
     pub fn reserve(&mut self, len: u32, n: u32) -> Result<(), NoMemory>
         requires length { (1 ≤ len) × (len ≤ 65536) }
         ensures ok { OnOk result (n ≤ spare self.new len) }
+        ensures err { OnErr result (self.new ≡ self.old) }
         ensures words { KeepsAll self.old self.new }
         ensures raises { spare self.old len ≤ spare self.new len }
         ensures others { KeepsOtherSpares len self.old self.new }

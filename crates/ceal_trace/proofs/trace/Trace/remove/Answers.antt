@@ -83,6 +83,14 @@ returns-clause-closed c =
     let e = c.delete.ensures in
     rw (← c.self.view_is) (shrank _ _ _ _ _ _ _ c.self.invariant here not_root e.stamps e.spare e.others e.whole c.take-gone.ensures.node).closed
 
+pub returns-clause-still : goal.returns-clause-still
+returns-clause-still c =
+    let here = there_is c.self.inside.order c.self.inside.table c.args.stamp.0 (rw (← c.self.view_is) at c.requires.here) in
+    let not_root = rw (← c.self.view_is) at c.requires.not_root in
+    let e = c.delete.ensures in
+    let left = shrank _ _ _ _ _ _ _ c.self.invariant here not_root e.stamps e.spare e.others e.whole c.take-gone.ensures.node in
+    rw (← c.self.view_is) (λ read loose other unfinished. left.still read loose unfinished)
+
 pub returns-clause-mended : goal.returns-clause-mended
 returns-clause-mended c =
     let here = there_is c.self.inside.order c.self.inside.table c.args.stamp.0 (rw (← c.self.view_is) at c.requires.here) in
