@@ -3,6 +3,9 @@
 //!
 //! Contracts see how each number stands, with shape, key, words and slot of the blocks that are live or revoked, and
 //! the region of raw words, whose slots are exactly those of these blocks.
+//!
+//! `heap` has the calls. `table` keeps how each number stands (`number`), those that were revoked, and for each shape
+//! those that are free (`shelf`, `stack`); `pieces` keeps the words of blocks in slots, two cells a word (`cells`).
 #![tactic(auto)]
 
 mod cells;
@@ -12,5 +15,3 @@ mod pieces;
 mod shelf;
 mod stack;
 mod table;
-#[cfg(test)]
-mod tests;

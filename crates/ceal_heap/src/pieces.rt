@@ -39,7 +39,7 @@ impl Pieces {
     pub fn put(&mut self, words: &[Word]) -> Result<Slot, NoMemory>
         requires few { length words.now ≤ 255 }
         ensures was_new { IfOk result (λ slot. words_of self.old slot ≡ None) }
-        ensures cells { IfOk result (λ slot. cells_at self.new slot ≡ cell_count (length words.now)) }
+        ensures cells { IfOk result (λ s. cells_at self.new s ≡ cell_count (length words.now)) }
         ensures words { IfOk result (λ slot. read_at self.new slot ≡ words.now) }
         ensures others { IfOk result (λ slot. KeepsOthers slot self.old self.new) }
         ensures err { OnErr result (KeepsAll self.old self.new) }
