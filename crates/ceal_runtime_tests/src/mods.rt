@@ -35,30 +35,35 @@ fn a_write_holds_behind_its_stamp(rt: HostRuntime) -> Result<(), Fail> {
 }
 
 #[test]
-fn a_base_a_write_and_three_reads(rt: HostRuntime) -> Result<(), Fail> {
+fn a_removed_write_uncovers_the_base(rt: HostRuntime) -> Result<(), Fail> {
     let alloc = rt.alloc();
     let mut order = Order::new(alloc)?;
-    order.reserve(4)?;
-    let zeroth = order.first();
-    let fourth = order.insert_after(zeroth);
-    let third = order.insert_after(zeroth);
-    let second = order.insert_after(zeroth);
-    let first = order.insert_after(zeroth);
+    order.reserve(1)?;
+    let first = order.first();
+    let second = order.insert_after(first);
     let mut mods = Mods::new(alloc)?;
     mods.set_base(COUNTER, Word::Num(1))?;
-    mods.add_write(&order, COUNTER, second, Word::Num(2))?;
-    mods.add_read(&order, COUNTER, first)?;
+    mods.add_write(&order, COUNTER, first, Word::Num(2))?;
+    mods.remove_write(&order, COUNTER, first);
+    assert_eq!(rt; mods.value_at(&order, COUNTER, second), Word::Num(1));
+    Ok(())
+}
+
+#[test]
+fn a_write_parts_a_read_from_what_stands_before(rt: HostRuntime) -> Result<(), Fail> {
+    let alloc = rt.alloc();
+    let mut order = Order::new(alloc)?;
+    order.reserve(2)?;
+    let first = order.first();
+    let third = order.insert_after(first);
+    let second = order.insert_after(first);
+    let mut mods = Mods::new(alloc)?;
     mods.add_read(&order, COUNTER, third)?;
-    mods.add_read(&order, COUNTER, fourth)?;
-    assert_eq!(rt; mods.value_at(&order, COUNTER, first), Word::Num(1));
-    assert_eq!(rt; mods.value_at(&order, COUNTER, fourth), Word::Num(2));
-    assert_eq!(rt; mods.affected(&order, COUNTER, second), Some(third));
-    assert_eq!(rt; mods.affected(&order, COUNTER, zeroth), Some(first));
-    assert_eq!(rt; mods.affected(&order, COUNTER, first), None);
-    mods.remove_write(&order, COUNTER, second);
     assert_eq!(rt; mods.affected(&order, COUNTER, first), Some(third));
-    assert_eq!(rt; mods.last_value(COUNTER), Word::Num(1));
+    mods.add_write(&order, COUNTER, second, Word::Num(2))?;
+    assert_eq!(rt; mods.affected(&order, COUNTER, first), None);
+    assert_eq!(rt; mods.affected(&order, COUNTER, second), Some(third));
     mods.remove_read(&order, COUNTER, third);
-    assert_eq!(rt; mods.affected(&order, COUNTER, first), Some(fourth));
+    assert_eq!(rt; mods.affected(&order, COUNTER, second), None);
     Ok(())
 }

@@ -1,4 +1,4 @@
-use Rattle.ceal_runtime_tests.proofs.Slots.{back_again}
+use Rattle.ceal_runtime_tests.proofs.SlotFacts.{back_again}
 use Rattle.ceal_runtime_tests.proofs.words.+nested.Goals as goal
 
 pub returns-clause-words : goal.returns-clause-words

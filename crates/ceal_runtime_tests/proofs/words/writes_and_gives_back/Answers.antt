@@ -1,6 +1,6 @@
 use Rattle.std.proofs.Common.{◌≢◌, ℕ, ◌∙◌, Option, List, [], ◌∷◌, IsSome, sym, ap, subst, refl, replicate}
 use Rattle.ceal_words.specs.SizeClass.{word_in, changed}
-use Rattle.ceal_runtime_tests.proofs.Slots.{apart}
+use Rattle.ceal_runtime_tests.proofs.SlotFacts.{apart}
 use Rattle.ceal_runtime_tests.proofs.words.writes_and_gives_back.Goals as goal
 
 pub get-requires : goal.get-requires
