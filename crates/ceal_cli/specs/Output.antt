@@ -69,8 +69,8 @@ abbrev pub IsOutputFromRun : List ℕ → List ℕ → Type 0
 IsOutputFromRun input out =
     (p : Programmed input) × AreRepliesFromRun (first_state p DEFAULT_FUEL) (lines_behind p) out
 
--- The text is empty, or it is the beginning of such a text. Of an empty text nothing more is said: it is
--- what is written where there was no memory to find out what the input comes to.
+-- The text is empty, or it is the beginning of such a text. Of an empty text nothing more is said: it
+-- is what is written where there was no memory to find out what the input comes to.
 abbrev pub Begins : (List ℕ → Type 0) → List ℕ → Type 0
 Begins P out = (out ≡ []) ⊎ (whole : List ℕ) × P whole × IsPrefix out whole
 

@@ -89,8 +89,8 @@ fn run<K: Sink>(
     requires compiled { IsCompiled program }
     ensures all { OnOk result
         (WritesOutput (K.written sink.old) (K.written sink.new) (Mode.Run fuel) input.now) }
-    ensures part {
-        WritesPrefix (K.written sink.old) (K.written sink.new) (Mode.Run fuel) input.now }
+    ensures part { WritesPrefix (K.written sink.old) (K.written sink.new)
+        (Mode.Run fuel) input.now }
     ensures fault { IsErrOf result Stopped.Failed → Rose (K.faults sink.old) (K.faults sink.new) }
 {
     one_reply();

@@ -45,8 +45,8 @@ fn run<K: Sink>(alloc: Global, text: &[u8], program: Program, sink: &mut K) -> R
     requires compiled { IsCompiled program }
     ensures all { OnOk result
         (Grows (K.written sink.old) (K.written sink.new) (IsOutputFromRun text.now)) }
-    ensures part {
-        Grows (K.written sink.old) (K.written sink.new) (Begins (IsOutputFromRun text.now)) }
+    ensures part { Grows (K.written sink.old) (K.written sink.new)
+        (Begins (IsOutputFromRun text.now)) }
     ensures fault { IsErrOf result Stopped.Failed → Rose (K.faults sink.old) (K.faults sink.new) }
 {
     one_reply();
@@ -66,8 +66,8 @@ fn reply_to<K: Sink>(alloc: Global, text: &[u8], sink: &mut K) -> Result<(), Sto
     requires accepted { IsAccepted text.now }
     ensures all { OnOk result
         (Grows (K.written sink.old) (K.written sink.new) (IsOutputFromRun text.now)) }
-    ensures part {
-        Grows (K.written sink.old) (K.written sink.new) (Begins (IsOutputFromRun text.now)) }
+    ensures part { Grows (K.written sink.old) (K.written sink.new)
+        (Begins (IsOutputFromRun text.now)) }
     ensures fault { IsErrOf result Stopped.Failed → Rose (K.faults sink.old) (K.faults sink.new) }
 {
     match program(alloc, text) {
