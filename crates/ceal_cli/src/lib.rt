@@ -18,6 +18,3 @@ mod top;
 mod words;
 
 pub use top::{INPUT_LIMIT, Status, ceal_main, status_line, status_number};
-
-#[cfg(test)]
-mod tests;

@@ -31,5 +31,10 @@ pub mod OnPath
 pub mod TypedActs
 pub mod TypedCommands
 pub mod TypedRun
+pub mod ValueSteps
+pub mod InitSteps
+pub mod StackSteps
+pub mod TableSteps
+pub mod AfterLaws
 pub mod Ends
 pub mod InputFits

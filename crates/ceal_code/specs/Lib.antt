@@ -16,3 +16,7 @@ pub mod Running
 pub mod Determined
 pub mod Laws
 pub mod Over
+pub mod PlainWords
+pub mod Stacks
+pub mod Tables
+pub mod After

@@ -1,8 +1,12 @@
 // A whole program as trace code.
 
-ghost use Rattle.std.specs.Prelude.{◌≡◌, ◌<◌, ◌∷◌, [], ◌++◌, length, slice_get, Some, OnOk, OnErr};
-ghost use Rattle.ceal_code.specs.Step.{kinds_of};
+ghost use Rattle.std.specs.Prelude.{◌≡◌, ◌<◌, ◌^◌, ◌∷◌, [], ◌++◌, ⊤, length, slice_get, unwrap_or, MatchOption, Some, OnOk, OnErr};
+ghost use Rattle.std.specs.Option.{option_map};
+ghost use Rattle.ceal_code.specs.Step.{unit_at, command_at, entry_of, kinds_of};
+ghost use Rattle.ceal_code.specs.declared.command.Cmd.TheVariants.{Done};
 
+use crate::command::Cmd;
+use crate::expr::VarId;
 use crate::function::FunctionCode;
 use crate::unit::Unit;
 use ceal_base::kind::{Kind, Kinds};
@@ -49,6 +53,22 @@ impl Code {
             units,
             kinds,
         }
+    }
+
+    /// The structs, the functions, the units and the kinds.
+    pub fn into_parts(self) -> (Structs, Vec<FunctionCode>, Vec<Unit>, Vec<Kinds>)
+        ensures structs { result.0 ≡ self.structs }
+        ensures functions { result.1.items ≡ self.functions }
+        ensures units { result.2.items ≡ self.units }
+        ensures kinds { result.3.items ≡ self.kinds }
+    {
+        let Code {
+            structs,
+            functions,
+            units,
+            kinds,
+        } = self;
+        (structs, functions, units, kinds)
     }
 
     pub fn push_functions(&mut self, item: FunctionCode) -> Result<(), NoMemory>
@@ -110,5 +130,49 @@ impl Code {
         ensures value { result.now ≡ self.now.kinds }
     {
         self.kinds.as_slice()
+    }
+
+    /// The number of the function that a unit is of; a number without a unit is that of function 0.
+    pub fn function_of(&self, unit: usize) -> u32
+        ensures value { result ≡ (unit_at self.now unit).function }
+    {
+        match self.units.get(unit) {
+            None => 0,
+            Some(found) => found.function,
+        }
+    }
+
+    /// The parameters of a unit; a number without a unit has none.
+    pub fn params_of(&self, unit: usize) -> &[VarId]
+        ensures value { result.now ≡ (unit_at self.now unit).params }
+    {
+        match self.units.get(unit) {
+            None => &[],
+            Some(found) => found.params(),
+        }
+    }
+
+    /// The command at an index of a unit's body; past its end, and in no unit, there is none.
+    pub fn command(&self, unit: usize, index: usize) -> Option<&Cmd>
+        ensures value { unwrap_or (option_map (λ c. c.now) result) Done ≡ command_at self.now unit index }
+        ensures small { MatchOption result ⊤ (λ c. index < 2 ^ 63) }
+    {
+        match self.units.get(unit) {
+            None => None,
+            Some(found) => found.body().get(index),
+        }
+    }
+
+    /// The unit in which a call of the function begins; `units.len()`, where there is no unit, if it is no core function.
+    pub fn entry_of(&self, function: u32) -> usize
+        ensures value { result ≡ entry_of self.now function }
+    {
+        match self.functions.get(function as usize) {
+            None => self.units.len(),
+            Some(found) => match found {
+                FunctionCode::Core { entry, .. } => entry.0 as usize,
+                FunctionCode::Init { .. } => self.units.len(),
+            },
+        }
     }
 }

@@ -1,5 +1,6 @@
 // Laws of trace code, each the contract of a function that does nothing.
 
+ghost use Rattle.ceal_code.specs.After.{Store_law, Inputs_law as Inputs_after_law};
 ghost use Rattle.ceal_code.specs.Laws.{Step_law, Block_law, Over_law, Alike_law, Trace_law, Path_law, Progress_law, Ended_law, Inputs_law};
 
 /// A step of trace code depends on the plain words of the blocks that its stack can reach, and on nothing else
@@ -39,6 +40,13 @@ pub fn path_law()
 /// commands of its units name is there, and there is a next state or the run is at its end (our own).
 pub fn progress_law()
     ensures law { Progress_law }
+{}
+
+/// An honest walk over the items of a trace ends at the store that the items lead to, and the input blocks after a trace
+/// that replays a call are those of the memory after it (our own).
+pub fn after_law()
+    ensures store { Store_law }
+    ensures inputs { Inputs_after_law }
 {}
 
 /// A run from scratch that ends is at a state that it came to.

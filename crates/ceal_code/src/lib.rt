@@ -3,21 +3,31 @@
 //! `specs/` says what code means: the value of an expression, one step of a run, the run from scratch, the trace
 //! that a run leaves, when a trace replays a call and is honest, and when code is valid. `validate` says exactly
 //! where code is valid, and `listing` is its text.
+//!
+//! The code runs, too, over anything that has plain words (`plain_words`): `evaluate` gives the values of expressions,
+//! `initialise` what an allocation makes, and `step` the next step of a `stack`. `trace_memory` is the memory that a
+//! trace leaves, item by item.
 #![tactic(auto)]
 
 mod branches;
 mod check;
 pub mod code;
 pub mod command;
+mod contents;
+pub mod evaluate;
 pub mod expr;
 pub mod function;
+pub mod initialise;
 mod initialiser;
 pub mod laws;
 pub mod listing;
 mod paths;
-#[cfg(test)]
-mod tests;
+pub mod plain_words;
+mod settle;
+pub mod stack;
+pub mod step;
 mod text;
+pub mod trace_memory;
 mod tree;
 mod typing;
 pub mod unit;

@@ -10,5 +10,3 @@ pub mod fault_line;
 pub mod laws;
 mod position;
 pub mod program;
-#[cfg(test)]
-mod tests;

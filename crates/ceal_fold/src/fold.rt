@@ -9,33 +9,19 @@ ghost use Rattle.ceal_fold.specs.Folding.{folded, folded_unit, folded_units};
 ghost use Rattle.ceal_fold.specs.Traces.{SameTraces, SameReplays};
 ghost use Rattle.ceal_fold.specs.Trees.{are_trees};
 
-use crate::copied_code::{copied_functions, copied_kinds};
 use crate::replace::replace_all;
 use crate::unused::tick_all;
-use ceal_base::copies::copied_structs;
 use ceal_base::no_memory::NoMemory;
 use ceal_base::typed::StructInfo;
 use ceal_code::code::Code;
-use ceal_code::command::Cmd;
-use ceal_code::expr::VarId;
 use ceal_code::unit::Unit;
 use std::alloc::Global;
-
-fn copied_params(alloc: Global, params: &[VarId]) -> Result<Vec<VarId>, NoMemory>
-    ensures equal { IfOk result (λ copy. copy.items ≡ params.now) }
-{
-    let mut copies = Vec::new(alloc);
-    for p in params {
-        copies.push(*p)?;
-    }
-    Ok(copies)
-}
 
 fn fold_unit(alloc: Global, structs: &[StructInfo], unit: &Unit) -> Result<Unit, NoMemory>
     requires tree { is_tree unit.now.body ≡ true }
     ensures value { IfOk result (λ u. u ≡ folded_unit structs.now unit.now) }
 {
-    let params = copied_params(alloc, unit.params())?;
+    let params = Vec::from_slice(alloc, unit.params())?;
     let body = replace_all(alloc, structs, unit.body())?;
     let body = tick_all(alloc, body)?;
     Ok(Unit::new(unit.function, params, body))
@@ -56,14 +42,12 @@ fn fold_units(alloc: Global, structs: &[StructInfo], units: &[Unit]) -> Result<V
     Ok(folded)
 }
 
-fn fold_code(alloc: Global, code: &Code) -> Result<Code, NoMemory>
-    requires trees { are_trees code.now.units ≡ true }
-    ensures exact { IfOk result (λ c. c ≡ folded code.now) }
+fn fold_code(alloc: Global, code: Code) -> Result<Code, NoMemory>
+    requires trees { are_trees code.units ≡ true }
+    ensures exact { IfOk result (λ c. c ≡ folded code) }
 {
-    let structs = copied_structs(alloc, code.structs.items())?;
-    let functions = copied_functions(alloc, code.functions())?;
-    let kinds = copied_kinds(alloc, code.all_kinds())?;
-    let units = fold_units(alloc, code.structs.items(), code.units())?;
+    let (structs, functions, units, kinds) = code.into_parts();
+    let units = fold_units(alloc, structs.items(), units.as_slice())?;
     Ok(Code::new(structs, functions, units, kinds))
 }
 
@@ -81,6 +65,6 @@ pub fn fold(alloc: Global, code: Code) -> Result<Code, NoMemory>
     ensures same_traces { IfOk result (λ c. SameTraces c code) }
     ensures replays { IfOk result (λ c. SameReplays c code) }
 {
-    let after = fold_code(alloc, &code)?;
+    let after = fold_code(alloc, code)?;
     Ok(after)
 }

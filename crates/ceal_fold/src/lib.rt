@@ -5,14 +5,11 @@
 //! that its units yield or that replay a call.
 #![tactic(auto)]
 
-mod copied_code;
 mod copies;
 mod expr;
 pub mod fold;
 mod known;
 mod replace;
-#[cfg(test)]
-mod tests;
 mod unused;
 mod uses;
 mod vars;

@@ -73,52 +73,11 @@ fn take_later(
 fn tick_unused(command: Cmd, later: &Vars) -> Cmd
     ensures value { result ≡ ticked (has later.now) command }
 {
-    match command {
-        Cmd::Move { var, value } => {
-            if later.has(var) {
-                Cmd::Move { var, value }
-            } else {
-                Cmd::Tick
-            }
-        }
-        Cmd::Tick => Cmd::Tick,
-        Cmd::Alloc {
-            var,
-            function,
-            args,
-        } => Cmd::Alloc {
-            var,
-            function,
-            args,
-        },
-        Cmd::Modref { var, shape } => Cmd::Modref { var, shape },
-        Cmd::Write { place, value } => Cmd::Write { place, value },
-        Cmd::If { test, yes, no } => Cmd::If { test, yes, no },
-        Cmd::Done => Cmd::Done,
-        Cmd::Tail { unit, args } => Cmd::Tail { unit, args },
-        Cmd::Read {
-            var,
-            place,
-            unit,
-            args,
-        } => Cmd::Read {
-            var,
-            place,
-            unit,
-            args,
-        },
-        Cmd::Call {
-            function,
-            args,
-            unit,
-            rest,
-        } => Cmd::Call {
-            function,
-            args,
-            unit,
-            rest,
-        },
-    }
+    let is_unused = match &command {
+        Cmd::Move { var, .. } => !later.has(*var),
+        _ => false,
+    };
+    if is_unused { Cmd::Tick } else { command }
 }
 
 fn put_set(sets: &mut Vec<Vars>, at: usize, set: Vars)

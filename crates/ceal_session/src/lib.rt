@@ -16,7 +16,5 @@ mod senses;
 pub mod session;
 pub mod state;
 mod steps;
-#[cfg(test)]
-mod tests;
 mod texts;
 mod view;

@@ -1,0 +1,160 @@
+// The values of the expressions of trace code.
+
+ghost use Rattle.std.specs.Prelude.{◌≡◌, is_some, Option, IfOk};
+ghost use Rattle.ceal_base.specs.Access.{place_in};
+ghost use Rattle.ceal_base.specs.declared.kind.Shape.TheVariants.{Struct};
+ghost use Rattle.ceal_code.specs.Init.{arguments};
+ghost use Rattle.ceal_code.specs.PlainWords.{block_word};
+ghost use Rattle.ceal_code.specs.Value.{field_kind, is_cell, pointed, field_value, address_value, expr_value, values};
+
+use crate::expr::CodeExpr;
+use crate::plain_words::PlainWords;
+use ceal_base::kind::{FieldKind, Shape};
+use ceal_base::no_memory::NoMemory;
+use ceal_base::operators::{apply_binary, apply_unary};
+use ceal_base::shapes::field_kind as kind_of_field;
+use ceal_base::typed::StructInfo;
+use ceal_base::word::{Place, Word};
+use ceal_base::words::Words;
+use std::alloc::Global;
+
+/// What an expression is evaluated in: structs, plain words, and the words of the variables, null where there is none.
+#[derive(Drop)]
+pub struct Scope<'a, P> {
+    pub structs: &'a [StructInfo],
+    pub plain: &'a P,
+    pub env: &'a [Word],
+}
+
+/// Whether the field is a modifiable.
+pub fn is_modifiable(kind: Option<FieldKind>) -> bool
+    ensures value { result ≡ is_cell kind }
+{
+    match kind {
+        None => false,
+        Some(FieldKind::Plain(_)) => false,
+        Some(FieldKind::CellInt) => true,
+        Some(FieldKind::CellPtr(_)) => true,
+    }
+}
+
+/// Whether the word points to a block of the struct.
+fn points_to<P: PlainWords>(plain: &P, s: u32, word: Word) -> bool
+    ensures { result ≡ is_some (pointed (P.plain plain.now) s word) }
+{
+    match word {
+        Word::Block(id) => match plain.shape(id) {
+            None => false,
+            Some(shape) => shape.is_of_struct(s),
+        },
+        Word::Num(_) => false,
+        Word::Null => false,
+        Word::At(_) => false,
+    }
+}
+
+/// The word of a field of the block of the struct that the word points to.
+fn stored_word<P: PlainWords>(plain: &P, s: u32, word: Word, field: u32) -> Option<Word>
+    ensures { result ≡ block_word (pointed (P.plain plain.now) s word) field }
+{
+    if !points_to(plain, s, word) {
+        return None;
+    }
+    match word {
+        Word::Block(id) => plain.word(id, field),
+        Word::Num(_) => None,
+        Word::Null => None,
+        Word::At(_) => None,
+    }
+}
+
+fn place_word(word: Word, field: u32) -> Word
+    ensures { result ≡ place_in word field }
+{
+    match word {
+        Word::Block(block) => Word::At(Place { block, field }),
+        Word::Num(_) => Word::Null,
+        Word::Null => Word::Null,
+        Word::At(_) => Word::Null,
+    }
+}
+
+/// The word of a variable; one that was not set is null.
+#[tactic(auto, unfolding(crate::specs::Init::arguments))]
+fn variable(env: &[Word], v: u32) -> Word
+    ensures { result ≡ arguments env.now v }
+{
+    match env.get(v as usize) {
+        None => Word::Null,
+        Some(word) => *word,
+    }
+}
+
+impl<'a, P: PlainWords> Scope<'a, P> {
+    /// The word of a plain field.
+    fn field(&self, word: Word, s: u32, field: u32) -> Word
+        ensures { result ≡ field_value self.now.structs.now (P.plain self.now.plain.now) word s field }
+    {
+        match kind_of_field(self.structs, Shape::Struct(s), field) {
+            Some(FieldKind::Plain(kind)) => match stored_word(self.plain, s, word, field) {
+                None => kind.default_word(),
+                Some(word) => word,
+            },
+            Some(FieldKind::CellInt) => Word::Num(0),
+            Some(FieldKind::CellPtr(_)) => Word::Null,
+            None => Word::Null,
+        }
+    }
+
+    /// The place of an embedded modifiable.
+    fn address(&self, word: Word, s: u32, field: u32) -> Word
+        ensures { result ≡ address_value self.now.structs.now (P.plain self.now.plain.now) word s field }
+    {
+        let is_cell = is_modifiable(kind_of_field(self.structs, Shape::Struct(s), field));
+        if is_cell && points_to(self.plain, s, word) {
+            place_word(word, field)
+        } else {
+            Word::Null
+        }
+    }
+
+    /// What an expression gives. It recurses as deep as the expression is.
+    #[tactic(auto, using(crate::proofs::ValueSteps::value_steps))]
+    pub fn value(&self, e: &CodeExpr) -> Word
+        ensures value { result ≡ expr_value self.now.structs.now
+            (P.plain self.now.plain.now) (arguments self.now.env.now) e.now }
+    {
+        match e {
+            CodeExpr::Num(n) => Word::Num(*n),
+            CodeExpr::Null => Word::Null,
+            CodeExpr::Var(v) => variable(self.env, v.0),
+            CodeExpr::Unary(op, a) => apply_unary(*op, self.value(a.get())),
+            CodeExpr::Binary(op, a, b) => {
+                let left = self.value(a.get());
+                let right = self.value(b.get());
+                apply_binary(*op, left, right)
+            }
+            CodeExpr::Field(a, s, field) => {
+                let base = self.value(a.get());
+                self.field(base, *s, *field)
+            }
+            CodeExpr::Address(a, s, field) => {
+                let base = self.value(a.get());
+                self.address(base, *s, *field)
+            }
+        }
+    }
+
+    /// What each of the expressions gives.
+    #[tactic(auto, using(crate::proofs::ValueSteps::values_steps))]
+    pub fn values(&self, alloc: Global, es: &[CodeExpr]) -> Result<Words, NoMemory>
+        ensures value { IfOk result (λ words. words ≡ values self.now.structs.now
+            (P.plain self.now.plain.now) (arguments self.now.env.now) es.now) }
+    {
+        let mut words = Words::empty(alloc);
+        for e in es {
+            words.push(self.value(e))?;
+        }
+        Ok(words)
+    }
+}

@@ -1,0 +1,77 @@
+-- What crates above cite: taking from flat items, one turn of the machine, the repair as a function and where it ends.
+pub mod Honesty
+pub mod Taken
+pub mod Inputs
+pub mod Functions
+pub mod FromScratch
+pub mod Found
+pub mod FlatTake
+pub mod Turns
+-- The laws of repair.
+pub mod Good
+pub mod Growth
+pub mod Stored
+pub mod Told
+pub mod Sure
+pub mod Replays
+pub mod DistinctBlocks
+pub mod PlainWords
+pub mod Repaired
+pub mod Unchanged
+pub mod Unique
+pub mod Total
+pub mod Main
+pub mod Samples
+-- Names.
+pub mod SideBySide
+pub mod Flipped
+pub mod RenamedWalk
+pub mod Renamed
+pub mod RenamedRepair
+pub mod Named
+pub mod Chosen
+-- The machine.
+pub mod MachineLaws
+pub mod FlatMachine
+pub mod Segments
+-- Walks, counts, and what is known.
+pub mod Walk
+pub mod Counts
+pub mod KeptSteps
+pub mod Known
+pub mod KnownContent
+pub mod MoreInputs
+-- Slices and turns.
+pub mod Uses
+pub mod Parts
+pub mod Adds
+pub mod Sound
+pub mod SameStore
+pub mod Done
+pub mod SliceFunction
+pub mod IsDone
+pub mod Begun
+pub mod Join
+pub mod Follow
+pub mod Bases
+pub mod OneTurn
+pub mod Ready
+pub mod Split
+pub mod RenamedSlice
+pub mod NamedBeginning
+pub mod RenamedSound
+pub mod SliceLaws
+pub mod Listed
+pub mod SliceSamples
+-- The queue.
+pub mod Cover
+pub mod CoverKept
+pub mod NodeChanges
+-- Courses.
+pub mod Revoked
+pub mod Layers
+pub mod Bare
+pub mod Moves
+pub mod Course
+-- Cost.
+pub mod CostBound
