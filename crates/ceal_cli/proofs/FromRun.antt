@@ -5,8 +5,8 @@ use Rattle.std.proofs.lemmas.Bool.Decides.{Decides-eqb}
 use Rattle.std.proofs.lemmas.Slice.Eq.{starts_is}
 use Rattle.ceal_session.specs.Replies.{Answers}
 use Rattle.ceal_session.specs.State.{State}
-use Rattle.ceal_cli.specs.Growth.{WritesReplies, BeginsToReply, WritesFromRun, BeginsFromRun}
-use Rattle.ceal_cli.specs.Output.{IsRunLine, AreRepliesFromRun, BeginRepliesFromRun}
+use Rattle.ceal_cli.specs.Growth.{WritesReplies, BeginsToReply, BeginRepliesFromRun, WritesFromRun, BeginsFromRun}
+use Rattle.ceal_cli.specs.Output.{IsRunLine, AreRepliesFromRun}
 use Rattle.ceal_cli.proofs.Growing.{nothing, weaker}
 
 -- what is compared with `run ` at its front

@@ -5,8 +5,8 @@ use Rattle.std.proofs.KnownBytes.{Appends-trans, Appends-nil}
 use Rattle.ceal_io.specs.Streams.{GrowsByPrefix}
 use Rattle.ceal_session.specs.Replies.{Answers, AreReplies}
 use Rattle.ceal_session.specs.State.{State}
-use Rattle.ceal_cli.specs.Growth.{Grows, WritesReply, WritesPart, BeginsReply, WritesReplies, BeginsToReply}
-use Rattle.ceal_cli.specs.Output.{IsPrefix, BeginReplies}
+use Rattle.ceal_cli.specs.Growth.{Grows, WritesReply, WritesPart, BeginsReply, BeginReplies, WritesReplies, BeginsToReply}
+use Rattle.ceal_cli.specs.Output.{IsPrefix}
 
 -- what was written of a piece begins it
 pub of_prefix : (a b : Option (List ℕ)) (piece : List ℕ) → GrowsByPrefix a b piece → Grows a b (λ out. IsPrefix out piece)

@@ -10,6 +10,7 @@ pub mod OutputLaws
 pub mod OneOutput
 pub mod SomeOutput
 pub mod PlainWords
+pub mod Prefixes
 pub mod RowLaws
 pub mod ScriptLines
 pub mod Table

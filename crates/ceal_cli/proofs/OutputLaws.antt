@@ -11,21 +11,23 @@ use Rattle.ceal_compile.specs.Source.{Comes, IsAccepted, IsProgram, IsFirstFault
 use Rattle.ceal_io.specs.Streams.{GrowsByPrefix}
 use Rattle.ceal_lex.specs.Parts.{IsSplit}
 use Rattle.ceal_lex.specs.declared.parts.Split.{Split}
+use Rattle.ceal_session.specs.Replies.{AreReplies}
 use Rattle.ceal_session.specs.Runs.{begun}
 use Rattle.ceal_session.specs.State.{State}
 use Rattle.ceal_cli.specs.Fuel.{DEFAULT_FUEL}
 use Rattle.ceal_cli.specs.Growth.{Grows, WritesAnswer, WritesRefusal, WritesOutput, WritesPrefix, WritesReplies, BeginsToReply, WritesFromRun, BeginsFromRun}
 use Rattle.ceal_cli.specs.Lines.{script_of, script_lines}
 use Rattle.ceal_cli.specs.Modes.{ReadsInput}
-use Rattle.ceal_cli.specs.Output.{IsPrefix, IsAnswer, IsRefusal, IsListing, Programmed, accepted_text, IsOutputFromRun, BeginsOutputFromRun}
+use Rattle.ceal_cli.specs.Output.{IsPrefix, IsAnswer, IsRefusal, IsListing, Programmed, accepted_text, Begins, AreRepliesFromRun, IsOutputFromRun}
 use Rattle.ceal_cli.specs.declared.words.Mode.{Mode}
 use Rattle.ceal_cli.specs.declared.words.Mode.TheVariants.{Check, List as Listing, Run, Gen}
 use Rattle.ceal_cli.proofs.Growing.{of_prefix, weaker}
+use Rattle.ceal_cli.proofs.Prefixes.{Begin_law, Begin_from_law}
 
 module _ (a b : Option (List ℕ)) (input : List ℕ) where
   -- of the word `accepted`
   pub accepted_part : (program : Typed) → IsProgram input program → GrowsByPrefix a b accepted_text → WritesPrefix a b Check input
-  accepted_part program is grows = weaker (λ out prefix. inr (inl ((program, is), prefix))) (of_prefix a b accepted_text grows)
+  accepted_part program is grows = weaker (λ out prefix. inr (accepted_text, inl ((program, is), refl), prefix)) (of_prefix a b accepted_text grows)
 
   -- of the text of trace code
   module _ (program : Typed) (reads : IsProgram input program) (code : Code) (is : IsCodeOf program code) (text : List ℕ) (same : text ≡ listing_text code) where
@@ -39,12 +41,12 @@ module _ (a b : Option (List ℕ)) (input : List ℕ) where
 
     pub listed_part : GrowsByPrefix a b text → WritesPrefix a b Listing input
     unfolding listing
-    listed_part grows = weaker (λ out prefix. inr (inl (text, listing, prefix))) (of_prefix a b text grows)
+    listed_part grows = weaker (λ out prefix. inr (text, inl listing, prefix)) (of_prefix a b text grows)
 
   -- of the line of the first fault
   pub refused_part : (mode : Mode) → ReadsInput mode → (fault : Fault) → IsFirstFault input fault → (text : List ℕ) → text ≡ fault_line input fault → GrowsByPrefix a b text → WritesPrefix a b mode input
   refused_part mode reads fault is text same grows =
-      weaker (λ out prefix. inr (inr (reads, fault, is, subst (IsPrefix out) same prefix))) (of_prefix a b text grows)
+      weaker (λ out prefix. inr (fault_line input fault, inr (reads, fault, is, refl), subst (IsPrefix out) same prefix)) (of_prefix a b text grows)
 
   module _ (part : Split) (split : IsSplit input part) (program : Typed) (reads : IsProgram input program) where
     programmed : Programmed input
@@ -57,9 +59,11 @@ module _ (a b : Option (List ℕ)) (input : List ℕ) where
       replied (Ok u) h = weaker (λ out replies. inl (programmed, replies)) h
       replied (Err e) h = tt
 
-      pub replied_part : BeginsToReply a b (begun program fuel) (script_lines (script_of input part)) → WritesPrefix a b (Run fuel) input
+      pub replied_part : Begin_law → (whole : List ℕ) × AreReplies (begun program fuel) (script_lines (script_of input part)) whole
+          → BeginsToReply a b (begun program fuel) (script_lines (script_of input part)) → WritesPrefix a b (Run fuel) input
       unfolding programmed
-      replied_part h = weaker (λ out begins. inr (inl (programmed, begins))) h
+      replied_part law whole h =
+          weaker (λ out begins. inr (whole.0, inl (programmed, whole.1), law (begun program fuel) (script_lines (script_of input part)) out whole.0 begins whole.1)) h
 
     -- of the replies from that of the first run on
     pub from_run : {E : Type 0} (r : Result (Unit {0}) E) → OnOk r (WritesFromRun a b (begun program DEFAULT_FUEL) (script_lines (script_of input part))) → OnOk r (Grows a b (IsOutputFromRun input))
@@ -67,9 +71,11 @@ module _ (a b : Option (List ℕ)) (input : List ℕ) where
     from_run (Ok u) h = weaker (λ out replies. (programmed, replies)) h
     from_run (Err e) h = tt
 
-    pub from_run_part : BeginsFromRun a b (begun program DEFAULT_FUEL) (script_lines (script_of input part)) → Grows a b (BeginsOutputFromRun input)
+    pub from_run_part : Begin_from_law → (whole : List ℕ) × AreRepliesFromRun (begun program DEFAULT_FUEL) (script_lines (script_of input part)) whole
+        → BeginsFromRun a b (begun program DEFAULT_FUEL) (script_lines (script_of input part)) → Grows a b (Begins (IsOutputFromRun input))
     unfolding programmed
-    from_run_part h = weaker (λ out begins. inr (programmed, begins)) h
+    from_run_part law whole h =
+        weaker (λ out begins. inr (whole.0, (programmed, whole.1), law (begun program DEFAULT_FUEL) (script_lines (script_of input part)) out whole.0 begins whole.1)) h
 
 -- a refused input is not accepted
 pub not_accepted : (input : List ℕ) (fault : Fault) → ((a b : Result Typed Fault) → Comes input a → Comes input b → a ≡ b)

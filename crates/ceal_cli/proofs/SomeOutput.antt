@@ -6,7 +6,10 @@ use Rattle.ceal_code.specs.Listing.{listing_text}
 use Rattle.ceal_compile.specs.FaultLine.{fault_line}
 use Rattle.ceal_compile.specs.Laws.{Some_code_law}
 use Rattle.ceal_compile.specs.Source.{Comes, IsAccepted, IsProgram}
-use Rattle.ceal_cli.specs.Laws.{Checked_law, Listed_law, Refused_law}
+use Rattle.ceal_session.specs.Laws.{Begun_law, Some_script_law}
+use Rattle.ceal_session.specs.Runs.{begun}
+use Rattle.ceal_cli.specs.Laws.{Checked_law, Listed_law, Refused_law, Replied_law}
+use Rattle.ceal_cli.specs.Lines.{script_of, script_lines}
 use Rattle.ceal_cli.specs.Modes.{ReadsInput}
 use Rattle.ceal_cli.specs.Output.{IsListing, IsRefusal, IsOutput, accepted_text}
 use Rattle.ceal_cli.specs.declared.words.Mode.{Mode}
@@ -38,3 +41,8 @@ refused comes mode input reads small none = by_answer (comes input small).0 (com
     by_answer : (r : Result Typed Fault) → Comes input r → (out : List ℕ) × IsRefusal mode input out
     by_answer (Ok p) h = absurd (none (p, h))
     by_answer (Err f) h = (fault_line input f, (reads, f, h, refl))
+
+pub replied : Begun_law → Some_script_law → Replied_law
+replied begins scripts input p fuel reads compiled =
+    let w = scripts p.code (begun p.typed fuel) (script_lines (script_of input reads.part)) (begins p fuel compiled) in
+    (w.0, inl (record { part = reads.part; split = reads.split; program = p.typed; reads = reads }, w.1))

@@ -6,7 +6,7 @@ use Rattle.ceal_base.specs.declared.fault.Fault.{Fault}
 use Rattle.ceal_base.specs.declared.typed.Typed.{Typed}
 use Rattle.ceal_compile.specs.Source.{Comes, IsAccepted}
 use Rattle.ceal_cli.specs.Growth.{WritesAnswer, WritesRefusal, WritesOutput, WritesPrefix, WritesGenerated, WritesGeneratedPrefix}
-use Rattle.ceal_cli.specs.Output.{BeginsOutput}
+use Rattle.ceal_cli.specs.Output.{Begins, IsOutput}
 use Rattle.ceal_cli.specs.declared.top.Status.{Status}
 use Rattle.ceal_cli.specs.declared.top.TheConstants.{INPUT_LIMIT}
 use Rattle.ceal_cli.specs.Modes.{ReadsInput}
@@ -74,7 +74,7 @@ module _ (old new : Option (List ℕ)) (bytes text : List ℕ) (all : Consumes o
 
 -- what was written while nothing was
 pub none_for : (left a : Option (List ℕ)) (mode : Mode) → IfSome left (λ input. WritesPrefix a a mode input)
-none_for left a mode = for_any left (λ input. WritesPrefix a a mode input) (λ input. nothing a (λ out. BeginsOutput mode input out) (inl refl))
+none_for left a mode = for_any left (λ input. WritesPrefix a a mode input) (λ input. nothing a (λ out. Begins (λ whole. IsOutput mode input whole) out) (inl refl))
 
 -- What is written for a workload is the output for any input.
 module _ (left a b : Option (List ℕ)) (kind : Workload) (seed size : ℕ) where
@@ -85,7 +85,7 @@ module _ (left a b : Option (List ℕ)) (kind : Workload) (seed size : ℕ) wher
   any_answer h = for_any left (λ input. WritesAnswer a b (Gen kind seed size) input) (λ input. h)
 
   pub any_prefix : WritesGeneratedPrefix a b kind seed size → IfSome left (λ input. WritesPrefix a b (Gen kind seed size) input)
-  any_prefix h = for_any left (λ input. WritesPrefix a b (Gen kind seed size) input) (λ input. weaker (λ out begins. inr (inl begins)) h)
+  any_prefix h = for_any left (λ input. WritesPrefix a b (Gen kind seed size) input) (λ input. weaker (λ out begins. elim begins [ inl e ↦ inl e | inr w ↦ inr (w.0, inl w.1, w.2) ]) h)
 
 -- where nothing was read, nothing was lost
 pub loses_none : (a : Option (List ℕ)) (count : ℕ) → LosesAtMost a a count

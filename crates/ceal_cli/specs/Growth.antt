@@ -1,9 +1,9 @@
 -- By what a sink has grown.
-use Rattle.std.specs.Prelude.{◌≡◌, ◌⊎◌, List, [], ℕ, Option}
+use Rattle.std.specs.Prelude.{◌≡◌, ◌⊎◌, List, [], ◌∷◌, ◌++◌, ℕ, Option}
 use Rattle.std.specs.Io.KnownBytes.{Appends}
 use Rattle.ceal_session.specs.Replies.{Answers, AreReplies}
 use Rattle.ceal_session.specs.State.{State}
-use Rattle.ceal_cli.specs.Output.{IsPrefix, IsAnswer, IsRefusal, IsOutput, BeginsOutput, BeginReplies, AreRepliesFromRun, BeginRepliesFromRun, IsOutputFromRun, BeginsOutputFromRun, IsGenerated, BeginsGenerated}
+use Rattle.ceal_cli.specs.Output.{IsPrefix, Begins, IsAnswer, IsRefusal, IsOutput, IsRunLine, AreRepliesFromRun, IsGenerated}
 use Rattle.ceal_cli.specs.declared.words.Mode.{Mode}
 use Rattle.ceal_gen.specs.declared.kind.Workload.{Workload}
 
@@ -27,7 +27,8 @@ WritesOutput old now mode input = Grows old now (λ out. IsOutput mode input out
 
 -- by the beginning of the output for this input
 abbrev pub WritesPrefix : Option (List ℕ) → Option (List ℕ) → Mode → List ℕ → Type 0
-WritesPrefix old now mode input = Grows old now (λ out. BeginsOutput mode input out)
+WritesPrefix old now mode input =
+    Grows old now (λ out. Begins (λ whole. IsOutput mode input whole) out)
 
 -- by the output for a workload
 abbrev pub WritesGenerated : Option (List ℕ) → Option (List ℕ) → Workload → ℕ → ℕ → Type 0
@@ -36,7 +37,16 @@ WritesGenerated old now kind seed size = Grows old now (λ out. IsGenerated kind
 -- by the beginning of the output for a workload
 abbrev pub WritesGeneratedPrefix : Option (List ℕ) → Option (List ℕ) → Workload → ℕ → ℕ → Type 0
 WritesGeneratedPrefix old now kind seed size =
-    Grows old now (λ out. BeginsGenerated kind seed size out)
+    Grows old now (λ out. Begins (λ whole. IsGenerated kind seed size whole) out)
+
+-- The text begins the replies to the lines: it is the replies to the first of them, and the
+-- beginning of the next one.
+unfoldable pub BeginReplies : State → List (List ℕ) → List ℕ → Type 0
+BeginReplies s [] out = out ≡ []
+BeginReplies s (line ∷ lines) out =
+    (out ≡ [])
+    ⊎ (text : List ℕ) × (next : State) × Answers s line text next
+    × (IsPrefix out text ⊎ (rest : List ℕ) × (out ≡ text ++ rest) × BeginReplies next lines rest)
 
 -- by the replies to lines
 abbrev pub WritesReplies : Option (List ℕ) → Option (List ℕ) → State → List (List ℕ) → Type 0
@@ -44,6 +54,15 @@ WritesReplies old now s lines = Grows old now (λ out. AreReplies s lines out)
 
 abbrev pub BeginsToReply : Option (List ℕ) → Option (List ℕ) → State → List (List ℕ) → Type 0
 BeginsToReply old now s lines = Grows old now (λ out. BeginReplies s lines out)
+
+-- The text begins the replies from that of the first run on.
+unfoldable pub BeginRepliesFromRun : State → List (List ℕ) → List ℕ → Type 0
+BeginRepliesFromRun s [] out = out ≡ []
+BeginRepliesFromRun s (line ∷ lines) out =
+    (out ≡ [])
+    ⊎ ((IsRunLine line × BeginReplies s (line ∷ lines) out)
+    ⊎ ((¬ IsRunLine line) × (text : List ℕ) × (next : State)
+    × Answers s line text next × BeginRepliesFromRun next lines out))
 
 -- by the replies to lines from the first run on
 abbrev pub WritesFromRun : Option (List ℕ) → Option (List ℕ) → State → List (List ℕ) → Type 0

@@ -1,12 +1,14 @@
 -- Laws of outputs, and of the generated workloads.
 use Rattle.std.specs.Prelude.{◌≡◌, ℕ, ◌<◌, ◌≤◌, ◌^◌, List, length}
-use Rattle.ceal_compile.specs.Source.{IsAccepted}
+use Rattle.ceal_compile.specs.Compiled.{IsCompiled}
+use Rattle.ceal_compile.specs.Source.{IsProgram, IsAccepted}
+use Rattle.ceal_compile.specs.declared.program.Program.{Program}
 use Rattle.ceal_gen.specs.Text.{workload_text}
 use Rattle.ceal_gen.specs.declared.kind.Workload.{Workload}
 use Rattle.ceal_cli.specs.Modes.{ReadsInput}
 use Rattle.ceal_cli.specs.Output.{IsOutput, IsRefusal}
 use Rattle.ceal_cli.specs.declared.words.Mode.{Mode}
-use Rattle.ceal_cli.specs.declared.words.Mode.TheVariants.{Check, List as Listing}
+use Rattle.ceal_cli.specs.declared.words.Mode.TheVariants.{Check, List as Listing, Run}
 
 -- Every workload is accepted that is short enough to be an input.
 abbrev pub Accepted_law : Type 0
@@ -36,3 +38,8 @@ abbrev pub Refused_law : Type 0
 Refused_law = (mode : Mode) (input : List ℕ) → ReadsInput mode → length input < 2 ^ 32
     → ¬ IsAccepted input
     → (out : List ℕ) × IsRefusal mode input out
+
+-- An input whose program has code that means what it means has its output for `run`, at each fuel.
+abbrev pub Replied_law : Type 0
+Replied_law = (input : List ℕ) (p : Program) (fuel : ℕ) → IsProgram input p.typed → IsCompiled p
+    → (out : List ℕ) × IsOutput (Run fuel) input out

@@ -25,15 +25,6 @@ pub record IsPrefix (part whole : List ℕ) : Type 0 where
   pub rest : List ℕ
   pub same : part ++ rest ≡ whole
 
--- The text begins the replies to the lines: it is the replies to the first of them, and the
--- beginning of the next one.
-unfoldable pub BeginReplies : State → List (List ℕ) → List ℕ → Type 0
-BeginReplies s [] out = out ≡ []
-BeginReplies s (line ∷ lines) out =
-    (out ≡ [])
-    ⊎ (text : List ℕ) × (next : State) × Answers s line text next
-    × (IsPrefix out text ⊎ (rest : List ℕ) × (out ≡ text ++ rest) × BeginReplies next lines rest)
-
 -- The line begins with `run `.
 abbrev pub IsRunLine : List ℕ → Type 0
 IsRunLine line = IsPrefix (codes "run ") line
@@ -46,15 +37,6 @@ AreRepliesFromRun s (line ∷ lines) out =
     (IsRunLine line × AreReplies s (line ∷ lines) out)
     ⊎ ((¬ IsRunLine line) × (text : List ℕ) × (next : State)
     × Answers s line text next × AreRepliesFromRun next lines out)
-
--- The text begins those replies.
-unfoldable pub BeginRepliesFromRun : State → List (List ℕ) → List ℕ → Type 0
-BeginRepliesFromRun s [] out = out ≡ []
-BeginRepliesFromRun s (line ∷ lines) out =
-    (out ≡ [])
-    ⊎ ((IsRunLine line × BeginReplies s (line ∷ lines) out)
-    ⊎ ((¬ IsRunLine line) × (text : List ℕ) × (next : State)
-    × Answers s line text next × BeginRepliesFromRun next lines out))
 
 -- An accepted program, and the script behind it.
 pub record Programmed (input : List ℕ) : Type 0 where
@@ -87,17 +69,14 @@ abbrev pub IsOutputFromRun : List ℕ → List ℕ → Type 0
 IsOutputFromRun input out =
     (p : Programmed input) × AreRepliesFromRun (first_state p DEFAULT_FUEL) (lines_behind p) out
 
-abbrev pub BeginsOutputFromRun : List ℕ → List ℕ → Type 0
-BeginsOutputFromRun input out =
-    (out ≡ [])
-    ⊎ (p : Programmed input) × BeginRepliesFromRun (first_state p DEFAULT_FUEL) (lines_behind p) out
+-- The text is empty, or it is the beginning of such a text. Of an empty text nothing more is said: it
+-- is what is written where there was no memory to find out what the input comes to.
+abbrev pub Begins : (List ℕ → Type 0) → List ℕ → Type 0
+Begins P out = (out ≡ []) ⊎ (whole : List ℕ) × P whole × IsPrefix out whole
 
 -- what is written for a workload
 abbrev pub IsGenerated : Workload → ℕ → ℕ → List ℕ → Type 0
 IsGenerated kind seed size out = IsOutputFromRun (workload_text kind seed size) out
-
-abbrev pub BeginsGenerated : Workload → ℕ → ℕ → List ℕ → Type 0
-BeginsGenerated kind seed size out = BeginsOutputFromRun (workload_text kind seed size) out
 
 -- What is written for an accepted input: `accepted`, the text of its trace code, or the replies to
 -- the lines of its script, from a state without inputs. For a workload the input is of no account.
@@ -108,28 +87,11 @@ IsAnswer (Run fuel) input out =
     (p : Programmed input) × AreReplies (first_state p fuel) (lines_behind p) out
 IsAnswer (Gen kind seed size) input out = IsGenerated kind seed size out
 
-abbrev pub BeginsAnswer : Mode → List ℕ → List ℕ → Type 0
-BeginsAnswer Check input out = IsAccepted input × IsPrefix out accepted_text
-BeginsAnswer Listing input out = (text : List ℕ) × IsListing input text × IsPrefix out text
-BeginsAnswer (Run fuel) input out =
-    (p : Programmed input) × BeginReplies (first_state p fuel) (lines_behind p) out
-BeginsAnswer (Gen kind seed size) input out = BeginsGenerated kind seed size out
-
 -- What a mode that reads writes for an input that is not accepted: the line of its first fault.
 abbrev pub IsRefusal : Mode → List ℕ → List ℕ → Type 0
 IsRefusal mode input out =
     ReadsInput mode × (fault : Fault) × IsFirstFault input fault × (out ≡ fault_line input fault)
 
-abbrev pub BeginsRefusal : Mode → List ℕ → List ℕ → Type 0
-BeginsRefusal mode input out =
-    ReadsInput mode × (fault : Fault) × IsFirstFault input fault
-    × IsPrefix out (fault_line input fault)
-
 -- what the program writes for an input
 abbrev pub IsOutput : Mode → List ℕ → List ℕ → Type 0
 IsOutput mode input out = IsAnswer mode input out ⊎ IsRefusal mode input out
-
--- The text begins what the program writes for an input.
-abbrev pub BeginsOutput : Mode → List ℕ → List ℕ → Type 0
-BeginsOutput mode input out =
-    (out ≡ []) ⊎ (BeginsAnswer mode input out ⊎ BeginsRefusal mode input out)

@@ -20,6 +20,7 @@ use ceal_compile::fault_line::fault_line;
 use ceal_compile::program::Program;
 use ceal_io::{Sink, Stopped, write_all};
 use ceal_lex::split::split;
+use ceal_session::laws::{one_reply, some_reply};
 use ceal_session::session::Session;
 use std::alloc::Global;
 
@@ -88,10 +89,12 @@ fn run<K: Sink>(
     requires compiled { IsCompiled program }
     ensures all { OnOk result
         (WritesOutput (K.written sink.old) (K.written sink.new) (Mode.Run fuel) input.now) }
-    ensures part {
-        WritesPrefix (K.written sink.old) (K.written sink.new) (Mode.Run fuel) input.now }
+    ensures part { WritesPrefix (K.written sink.old) (K.written sink.new)
+        (Mode.Run fuel) input.now }
     ensures fault { IsErrOf result Stopped.Failed → Rose (K.faults sink.old) (K.faults sink.new) }
 {
+    one_reply();
+    some_reply();
     match Session::new(alloc, program, fuel) {
         Ok(session) => {
             let mut session = session;

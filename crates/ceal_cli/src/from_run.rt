@@ -40,10 +40,9 @@ pub fn reply_from_run<K: Sink>(
 ) -> Result<(), Stopped>
     ensures all { OnOk result
         (WritesFromRun (K.written sink.old) (K.written sink.new)
-            session.old (script_lines script.now)) }
-    ensures part {
-        BeginsFromRun (K.written sink.old) (K.written sink.new)
-            session.old (script_lines script.now) }
+        session.old (script_lines script.now)) }
+    ensures part { BeginsFromRun (K.written sink.old) (K.written sink.new)
+        session.old (script_lines script.now) }
     ensures fault { IsErrOf result Stopped.Failed → Rose (K.faults sink.old) (K.faults sink.new) }
 {
     let mut rest = script;

@@ -5,7 +5,7 @@ ghost use Rattle.ceal_compile.specs.Compiled.{IsCompiled};
 ghost use Rattle.ceal_compile.specs.Source.{IsAccepted, IsProgram};
 ghost use Rattle.ceal_io.specs.Streams.{Rose};
 ghost use Rattle.ceal_cli.specs.Growth.{Grows, WritesGenerated, WritesGeneratedPrefix};
-ghost use Rattle.ceal_cli.specs.Output.{IsOutputFromRun, BeginsOutputFromRun};
+ghost use Rattle.ceal_cli.specs.Output.{Begins, IsOutputFromRun};
 
 use crate::from_run::reply_from_run;
 use crate::fuel::DEFAULT_FUEL;
@@ -19,6 +19,7 @@ use ceal_gen::kind::Workload;
 use ceal_gen::text::workload;
 use ceal_io::{Sink, Stopped};
 use ceal_lex::split::split;
+use ceal_session::laws::{one_reply, some_reply};
 use ceal_session::session::Session;
 use std::alloc::Global;
 
@@ -44,9 +45,12 @@ fn run<K: Sink>(alloc: Global, text: &[u8], program: Program, sink: &mut K) -> R
     requires compiled { IsCompiled program }
     ensures all { OnOk result
         (Grows (K.written sink.old) (K.written sink.new) (IsOutputFromRun text.now)) }
-    ensures part { Grows (K.written sink.old) (K.written sink.new) (BeginsOutputFromRun text.now) }
+    ensures part { Grows (K.written sink.old) (K.written sink.new)
+        (Begins (IsOutputFromRun text.now)) }
     ensures fault { IsErrOf result Stopped.Failed → Rose (K.faults sink.old) (K.faults sink.new) }
 {
+    one_reply();
+    some_reply();
     match Session::new(alloc, program, DEFAULT_FUEL) {
         Ok(session) => {
             let mut session = session;
@@ -62,7 +66,8 @@ fn reply_to<K: Sink>(alloc: Global, text: &[u8], sink: &mut K) -> Result<(), Sto
     requires accepted { IsAccepted text.now }
     ensures all { OnOk result
         (Grows (K.written sink.old) (K.written sink.new) (IsOutputFromRun text.now)) }
-    ensures part { Grows (K.written sink.old) (K.written sink.new) (BeginsOutputFromRun text.now) }
+    ensures part { Grows (K.written sink.old) (K.written sink.new)
+        (Begins (IsOutputFromRun text.now)) }
     ensures fault { IsErrOf result Stopped.Failed → Rose (K.faults sink.old) (K.faults sink.new) }
 {
     match program(alloc, text) {

@@ -1,6 +1,6 @@
 // The laws of outputs and of the generated workloads, each the contract of a function that does nothing.
 
-ghost use Rattle.ceal_cli.specs.Laws.{Accepted_law, Short_law, One_output_law, Checked_law, Listed_law, Refused_law};
+ghost use Rattle.ceal_cli.specs.Laws.{Accepted_law, Short_law, One_output_law, Checked_law, Listed_law, Refused_law, Replied_law};
 
 /// A workload of `ceal_gen` is an accepted input, whatever its kind, seed and size: it has no fault of characters,
 /// grammar, names, types or usage, and keeps the limits. The lexer counts bytes in 32 bits, so a text of `2 ^ 32` bytes
@@ -25,13 +25,15 @@ pub fn one_output()
     ceal_session::laws::one_script();
 }
 
-/// An input has an output for `check`, one for `list`, and, where it is not accepted, one for `run`. The lexer counts
-/// bytes in 32 bits, so a text of `2 ^ 32` bytes or more is no input.
+/// An input has an output for `check`, one for `list`, and for `run` one where it is not accepted or its program is
+/// compiled. The lexer counts bytes in 32 bits, so a text of `2 ^ 32` bytes or more is no input.
 pub fn some_output()
     ensures check { Checked_law }
     ensures list { Listed_law }
     ensures refusal { Refused_law }
+    ensures replies { Replied_law }
 {
+    ceal_session::laws::some_reply();
     ceal_compile::laws::some_answer();
     ceal_compile::laws::some_code();
 }

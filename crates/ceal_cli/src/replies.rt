@@ -28,10 +28,9 @@ fn reply<K: Sink>(session: &mut Session, line: &[u8], sink: &mut K) -> Result<()
 pub fn reply_all<K: Sink>(session: &mut Session, script: &[u8], sink: &mut K) -> Result<(), Stopped>
     ensures all { OnOk result
         (WritesReplies (K.written sink.old) (K.written sink.new)
-            session.old (script_lines script.now)) }
-    ensures part {
-        BeginsToReply (K.written sink.old) (K.written sink.new)
-            session.old (script_lines script.now) }
+        session.old (script_lines script.now)) }
+    ensures part { BeginsToReply (K.written sink.old) (K.written sink.new)
+        session.old (script_lines script.now) }
     ensures fault { IsErrOf result Stopped.Failed → Rose (K.faults sink.old) (K.faults sink.new) }
 {
     let mut rest = script;

@@ -83,7 +83,7 @@ fn answer_input<S: Source, K: Sink>(
     ensures refuses { IfSome (S.left source.old)
         (λ input. length input ≤ INPUT_LIMIT → ¬ IsAccepted input
         → ¬ Rose (S.faults source.old) (S.faults source.new)
-            → ¬ Rose (K.faults sink.old) (K.faults sink.new)
+        → ¬ Rose (K.faults sink.old) (K.faults sink.new)
         → (result ≡ Status.Refused) ⊎ (result ≡ Status.Memory)) }
 {
     one_answer();
@@ -112,8 +112,8 @@ fn answer_workload<K: Sink>(
     requires { size ≤ 2 ^ 24 }
     ensures output { IsWhole result
         → WritesGenerated (K.written sink.old) (K.written sink.new) kind seed size }
-    ensures prefix {
-        WritesGeneratedPrefix (K.written sink.old) (K.written sink.new) kind seed size }
+    ensures prefix { WritesGeneratedPrefix (K.written sink.old) (K.written sink.new)
+        kind seed size }
     ensures answer { (result ≡ Status.Done)
         ⊎ ((result ≡ Status.Memory) ⊎ (result ≡ Status.WriteFault)) }
     ensures write_fault { result ≡ Status.WriteFault
@@ -145,7 +145,7 @@ pub fn ceal_main<S: Source, K: Sink>(
     ensures told { result ≡ Status.Refused → (mode : ModeOf) → Asks (texts words.now) mode
         → IfSome (S.left source.old)
         (λ input. WritesRefusal (K.written sink.old) (K.written sink.new) mode input) }
-    // In every case a prefix of it was written.
+    // In every case nothing or a prefix of it was written.
     ensures prefix { (mode : ModeOf) → Asks (texts words.now) mode → IfSome (S.left source.old)
         (λ input. WritesPrefix (K.written sink.old) (K.written sink.new) mode input) }
     ensures silent { IsSilent result → Keeps (K.written sink.old) (K.written sink.new) }
@@ -192,12 +192,12 @@ pub fn ceal_main<S: Source, K: Sink>(
     ensures complete { AskToRead (texts words.now)
         → IfSome (S.left source.old) (λ input. length input ≤ INPUT_LIMIT → IsAccepted input
         → ¬ Rose (S.faults source.old) (S.faults source.new)
-            → ¬ Rose (K.faults sink.old) (K.faults sink.new)
+        → ¬ Rose (K.faults sink.old) (K.faults sink.new)
         → (result ≡ Status.Done) ⊎ (result ≡ Status.Memory)) }
     ensures refuses { AskToRead (texts words.now)
         → IfSome (S.left source.old) (λ input. length input ≤ INPUT_LIMIT → ¬ IsAccepted input
         → ¬ Rose (S.faults source.old) (S.faults source.new)
-            → ¬ Rose (K.faults sink.old) (K.faults sink.new)
+        → ¬ Rose (K.faults sink.old) (K.faults sink.new)
         → (result ≡ Status.Refused) ⊎ (result ≡ Status.Memory)) }
     // A workload is answered whatever the source has.
     ensures generates { AskToGenerate (texts words.now) → (result ≡ Status.Done)

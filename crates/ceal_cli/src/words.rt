@@ -62,9 +62,9 @@ fn workload(word: &str, seed: &str, size: &str) -> Option<Mode>
 fn chosen(words: &[&str], option: Option<&str>) -> Option<Mode>
     ensures { MatchOption result
         (ChoosesNone (map (λ word. word.now) words.now)
-            (option_map (λ text. text.now) option.entry))
+        (option_map (λ text. text.now) option.entry))
         (λ mode. Chooses (map (λ word. word.now) words.now)
-            (option_map (λ text. text.now) option.entry) mode) }
+        (option_map (λ text. text.now) option.entry) mode) }
 {
     match (words, option) {
         (["check"], None) => Some(Mode::Check),

@@ -10,10 +10,10 @@ use crate::reply::{Query, Reply};
 use crate::senses::{mod_shape, place_sense, struct_shape, value_sense, value_senses};
 use crate::state::State;
 use crate::steps::{ask, call, get, make, set, show};
+use ceal_base::call::Call;
 use ceal_base::kind::Shape;
 use ceal_base::no_memory::NoMemory;
 use ceal_base::text::Text;
-use ceal_base::call::Call;
 use ceal_script::command::{Command, KindWord, PlaceWord, ValueWord};
 use std::alloc::Global;
 

@@ -17,6 +17,7 @@ ghost use Rattle.ceal_session.specs.declared.reply.Reply.TheVariants.{Ok as Done
 
 use crate::reply::Reply;
 use crate::view::graph;
+use ceal_base::call::Call;
 use ceal_base::kind::Shape;
 use ceal_base::memory::Inputs;
 use ceal_base::no_memory::NoMemory;
@@ -25,7 +26,6 @@ use ceal_base::typed::{StructInfo, Typed, TypedFunction};
 use ceal_base::word::{Place, Word};
 use ceal_code::laws::progress_law;
 use ceal_compile::program::Program;
-use ceal_base::call::Call;
 use ceal_engine::engine::Engine;
 use ceal_engine::phase::Phase;
 use ceal_engine::run_error::RunError;

@@ -13,13 +13,13 @@ use crate::reply::{Query, Reply};
 use crate::sense::Sense;
 use crate::senses::{has_unknown, is_unknown, words};
 use crate::state::State;
+use ceal_base::call::Call;
 use ceal_base::kind::{FieldKind, Shape};
 use ceal_base::no_memory::NoMemory;
 use ceal_base::text::Text;
 use ceal_base::typed::TypedFunction;
 use ceal_base::word::{Place, Word};
 use ceal_base::words::Words;
-use ceal_base::call::Call;
 use std::alloc::Global;
 
 /// An input of these words, where they fit.

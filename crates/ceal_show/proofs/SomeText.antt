@@ -56,7 +56,7 @@ no-more (b ∷ met) all d h =
     let here : is_in b all ≡ true = h b (or_left (same_block b b) (is_in b met) (same_self b)) in
     let l = without-length b all here in
     let rest = no-more met (without b all) d.1 (λ c k.
-        without-other b c all (λ e. false≢true (sym d.0 ∙ subst (λ x. is_in x met ≡ true) e k)) (h c (or_right (same_block c b) (is_in c met) k))) in
+    without-other b c all (λ e. false≢true (sym d.0 ∙ subst (λ x. is_in x met ≡ true) e k)) (h c (or_right (same_block c b) (is_in c met) k))) in
     omega (arith, l, rest)
 
 -- the numbers of the blocks of a memory
@@ -136,8 +136,8 @@ module _ (structs : List StructInfo) (m : Blocks) (whole : IsWhole structs (bloc
       let all = s.done ++ s.waiting in
       let distinct : Distinct met = subst Distinct s.same (visits-distinct all sound.rising sound.once) in
       no-more met (numbers m) distinct (λ b h.
-        let v = visited all b (ap (is_in b) s.same ∙ h) in
-        there-in m b (subst (λ x. IsSome (block_at m x)) v.2 (sound.there v.0 v.1)))
+      let v = visited all b (ap (is_in b) s.same ∙ h) in
+      there-in m b (subst (λ x. IsSome (block_at m x)) v.2 (sound.there v.0 v.1)))
 
   reach_from : (k at : ℕ) (met : List BlockId) → length (numbers m) ≤ at + k → IsSearching (block_at m) root at met → (blocks : List BlockId) × AreReached (block_at m) root blocks
   reach_from zero at met l s =
@@ -152,8 +152,7 @@ module _ (structs : List StructInfo) (m : Blocks) (whole : IsWhole structs (bloc
 
   pub some-text : IsSome (block_at m root) → (name : ℕ → List ℕ) → (text : List ℕ) × IsGraphText structs (block_at m) name root text
   some-text there name =
-      let r = reach_from (length (numbers m)) 0 (root ∷ []) (omega arith) (start_search structs (block_at m) whole root there) in
-      (
+      let r = reach_from (length (numbers m)) 0 (root ∷ []) (omega arith) (start_search structs (block_at m) whole root there) in (
         lines_text (record { structs = structs; memory = block_at m; name = name; blocks = r.0 }) r.0 ++ codes "end\n",
         record { blocks = r.0; reached = r.1; is_text = refl },
       )
