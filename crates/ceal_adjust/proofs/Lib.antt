@@ -9,4 +9,3 @@ pub mod BeginSteps
 pub mod MachineSteps
 pub mod Completing
 pub mod Starting
-pub mod Edits

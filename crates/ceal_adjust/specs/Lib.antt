@@ -7,4 +7,3 @@ pub mod Contents
 pub mod Plain
 pub mod Machines
 pub mod Answers
-pub mod Alone

@@ -16,13 +16,7 @@ mod machine;
 mod mark;
 mod old;
 mod places;
-#[cfg(test)]
-mod premises;
-#[cfg(test)]
-mod programs;
 mod progress;
 mod search;
 mod stack;
 mod step;
-#[cfg(test)]
-mod tests;
