@@ -1,7 +1,9 @@
-//! The tests of the runtime's containers: order maintenance, traces, modifiables, the queue, the memo tables and raw
-//! words, by public calls alone. No crate stands on this one.
+//! The tests of the runtime's containers: order maintenance, traces, modifiables, the queue, the memo tables, raw
+//! words and the store of core blocks, by public calls alone. No crate stands on this one.
 #![tactic(auto)]
 
+#[cfg(test)]
+mod heap;
 #[cfg(test)]
 mod memo;
 #[cfg(test)]
