@@ -21,7 +21,7 @@ use Rattle.ceal_code.specs.Fitting.{Fits}
 use Rattle.ceal_code.specs.Fresh.{fresh}
 use Rattle.ceal_code.specs.Laws.{Progress_law}
 use Rattle.ceal_code.specs.Program.{Code}
-use Rattle.ceal_code.specs.Running.{Steps, Reaches, Modifiable, Command_there, Goes_on, Not_stuck}
+use Rattle.ceal_code.specs.Running.{Steps, Reaches, Modifiable, Command_there, Stack_there, Not_stuck}
 use Rattle.ceal_code.specs.Step.{Stack, Empty, Run, Act, Over, Quiet, Makes, Writes, Reads, command_at, place_of, writes_at, reads_at, settled, act, acted, started, next}
 use Rattle.ceal_code.specs.Valid.{valid}
 use Rattle.ceal_code.specs.Value.{Variables, is_cell, expr_value}
@@ -67,14 +67,14 @@ module _ (code : Code) where
   command-cell m u i env below after p value (Alloc v g args) h a = absurd (grind (arith, a))
   command-cell m u i env below after p value (Modref v shape) h a = absurd (grind (arith, a))
   command-cell m u i env below after p value (If test first second) h a = absurd (grind (arith, a))
-  command-cell m u i env below after p value Done h a = absurd h
-  command-cell m u i env below after p value (Tail w args) h a = absurd h
+  command-cell m u i env below after p value Done h a = absurd (grind (arith, a))
+  command-cell m u i env below after p value (Tail w args) h a = absurd (grind (arith, a))
   command-cell m u i env below after p value (Call g args w rest) h a = absurd (grind (arith, a))
 
-  stack-cell : (m : Blocks) (before st after : Stack) (p : Place) (value : Word) → Goes_on code m before st → acted code (block_at m) st ≡ Writes p value after
+  stack-cell : (m : Blocks) (st after : Stack) (p : Place) (value : Word) → Stack_there code m st → acted code (block_at m) st ≡ Writes p value after
       → is_cell (kind_at code.structs m p) ≡ true
-  stack-cell m before Empty after p value h e = absurd (grind (arith, e))
-  stack-cell m before (Run u i env below) after p value h e = command-cell m u i env below after p value (command_at code u i) h.0 e
+  stack-cell m Empty after p value h e = absurd (grind (arith, e))
+  stack-cell m (Run u i env below) after p value h e = command-cell m u i env below after p value (command_at code u i) h.2 e
 
 module _ (structs : List StructInfo) where
   like-same : (a : Block) (o : Option Block) → o ≡ Some a → Like structs a o
@@ -128,7 +128,7 @@ module _ (code : Code) (inputs : List Block) (law : Progress_law) (ok : valid co
   kept-step h (Steps.makes e) k = k
   kept-step h (Steps.reads e) k = k
   kept-step h (Steps.writes {m = m} {st = st} {after = after} {p = p} {value = value} e) k =
-      kept-written code.structs inputs m p value (stack-cell code m st (settled code (block_at m) st) after p value h.goes_on e) k
+      kept-written code.structs inputs m p value (stack-cell code m (settled code (block_at m) st) after p value h.settles e) k
 
   kept-reached : {m : Blocks} {st : Stack} → Reaches code (record { inputs = inputs; made = [] }) (started code f args) m st → Kept code.structs inputs m.inputs
   kept-reached Reaches.begin = kept-same code.structs inputs
