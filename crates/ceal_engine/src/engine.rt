@@ -12,11 +12,11 @@ ghost use Rattle.ceal_engine.specs.Engine.{alone, block_in, block_of, stored_at,
 ghost use Rattle.ceal_engine.specs.Keeping.{come_to, store_of};
 ghost use Rattle.ceal_engine.specs.declared.phase.Phase.TheVariants.{New, Finished, Dropped};
 
-use ceal_base::call::Call;
 use crate::interpret::{Run, interpret};
 use crate::laws::input_law;
 use crate::phase::Phase;
 use crate::run_error::RunError;
+use ceal_base::call::Call;
 use ceal_base::kind::Shape;
 use ceal_base::memory::{BlockWords, Inputs, Memory};
 use ceal_base::no_memory::NoMemory;

@@ -203,6 +203,8 @@ fn branches(rt: HostRuntime) -> Result<(), Fail> {
     assert!(rt; !is_right_alone(alloc, branch(0, 1))?);
     assert!(rt; !is_right_alone(alloc, Cmd::Tick)?);
     assert!(rt; !are_right(alloc, [Cmd::Done, Cmd::Done])?);
+    // a command to which two ways lead
+    assert!(rt; !are_right(alloc, [branch(1, 1), Cmd::Done])?);
     // commands that hang on their own jump backwards
     assert!(rt; !are_right(alloc, [Cmd::Done, lost_call(alloc), branch(1, 2)])?);
     Ok(())
