@@ -11,18 +11,18 @@ use Rattle.ceal_code.specs.Fresh.{fresh}
 use Rattle.ceal_code.specs.Program.{Code}
 use Rattle.ceal_code.specs.Replay.{input_plain, plain_of}
 use Rattle.ceal_code.specs.Step.{started}
-use Rattle.ceal_adjust.proofs.Found.{first-steps, first-run, repaired, ended}
-use Rattle.ceal_adjust.proofs.FromScratch.{scratch-first}
-use Rattle.ceal_adjust.proofs.Functions.{first-found, adjusted-found, adjusted-sound}
-use Rattle.ceal_adjust.proofs.Honesty.{fix-work}
-use Rattle.ceal_adjust.proofs.Inputs.{fits-more}
-use Rattle.ceal_adjust.proofs.Turning.{at, turn-kept, turn-ahead, finishes-fix, finishes-anew}
-use Rattle.ceal_adjust.specs.Adjust.{Adjusts, Firsts}
+use Rattle.ceal_theory.proofs.Found.{first-steps, first-run, repaired, ended}
+use Rattle.ceal_theory.proofs.FromScratch.{scratch-first}
+use Rattle.ceal_theory.proofs.Functions.{first-found, adjusted-found, adjusted-sound}
+use Rattle.ceal_theory.proofs.Honesty.{fix-work}
+use Rattle.ceal_theory.proofs.Inputs.{fits-more}
+use Rattle.ceal_theory.proofs.Turns.{at, turn-kept, turn-ahead, finishes-fix, finishes-anew}
+use Rattle.ceal_theory.specs.Adjust.{Adjusts, Firsts}
 use Rattle.ceal_adjust.specs.Answers.{Comes, Completes, Exceeds, Answered, IsRepair, Is_answer}
-use Rattle.ceal_adjust.specs.Computed.{adjusted, first_of}
-use Rattle.ceal_adjust.specs.Laws.{Edited}
-use Rattle.ceal_adjust.specs.Repair.{State, begins}
-use Rattle.ceal_adjust.specs.Turns.{Machine, Fixing, Running, Bottom, Ended, Went, turn, Resumes, Finishes, Goes}
+use Rattle.ceal_theory.specs.Computed.{adjusted, first_of}
+use Rattle.ceal_theory.specs.Laws.{Edited}
+use Rattle.ceal_theory.specs.Repair.{State, own, begins}
+use Rattle.ceal_theory.specs.Turns.{Machine, Fixing, Running, Bottom, Ended, Went, turn, Resumes, Finishes, Goes}
 use Rattle.ceal_adjust.specs.declared.adjust.Adjusted.{Adjusted}
 use Rattle.ceal_adjust.specs.declared.adjust.Adjusted.TheVariants.{Done, OutOfFuel}
 
@@ -41,7 +41,7 @@ module _ (code : Code) (fuel : ℕ) where
 
   -- after one turn more
   pub comes-more : (start m m' : Machine) (out written : List Item) (steps more : ℕ) → Comes code fuel start m out steps
-      → turn code m ≡ Went written m' → more ≡ steps_in written → steps + more ≤ fuel → Comes code fuel start m' (out ++ written) (steps + more)
+      → turn code own m ≡ Went written m' → more ≡ steps_in written → steps + more ≤ fuel → Comes code fuel start m' (out ++ written) (steps + more)
   comes-more start m m' out written steps more c e k l = record {
     back = λ s' rest h. rw (append_assoc out written rest) (c.back s' (written ++ rest) (kept s' rest h));
     ahead = λ s' items h. after s' items (c.ahead s' items h);
@@ -49,30 +49,30 @@ module _ (code : Code) (fuel : ℕ) where
     within = l;
   }
     where
-      kept : (s' : State) (rest : List Item) → Finishes code m' s' rest → Finishes code m s' (written ++ rest)
-      kept = rw e at (turn-kept code m)
+      kept : (s' : State) (rest : List Item) → Finishes code own m' s' rest → Finishes code own m s' (written ++ rest)
+      kept = rw e at (turn-kept code own m)
 
-      after : (s' : State) (items : List Item) → Goes code m s' out items → Goes code m' s' (out ++ written) items
+      after : (s' : State) (items : List Item) → Goes code own m s' out items → Goes code own m' s' (out ++ written) items
       after s' items g =
-          let a : Goes code m' s' written g.rest = rw e at (turn-ahead code g.finishes) in
+          let a : Goes code own m' s' written g.rest = rw e at (turn-ahead code own g.finishes) in
           record { rest = a.rest; same = g.same ∙ (ap (λ r. out ++ r) a.same ∙ sym (append_assoc out written a.rest)); finishes = a.finishes }
 
   -- where the machine has ended
   pub comes-done : (start m : Machine) (out : List Item) (steps work : ℕ) → Comes code fuel start m out steps
-      → turn code m ≡ Ended → m.state.work ≡ work → Completes code fuel start out work
+      → turn code own m ≡ Ended → m.state.work ≡ work → Completes code fuel start out work
   comes-done start m out steps work c e k = record {
     after = m.state;
-    finishes = rw (append-nil out) at (c.back m.state [] (rw e at (turn-kept code m)));
+    finishes = rw (append-nil out) at (c.back m.state [] (rw e at (turn-kept code own m)));
     counted = k;
     within = omega (arith, c.counted, c.within);
   }
 
   -- where it writes more steps than the fuel allows
   pub comes-out : (start m m' : Machine) (out written : List Item) (steps more : ℕ) → Comes code fuel start m out steps
-      → turn code m ≡ Went written m' → more ≡ steps_in written → fuel < steps + more → Exceeds code fuel start
+      → turn code own m ≡ Went written m' → more ≡ steps_in written → fuel < steps + more → Exceeds code fuel start
   comes-out start m m' out written steps more c e k l s' items h =
       let g = c.ahead s' items h in
-      let a : Goes code m' s' written g.rest = rw e at (turn-ahead code g.finishes) in
+      let a : Goes code own m' s' written g.rest = rw e at (turn-ahead code own g.finishes) in
       let n : steps_in items ≡ steps_in out + (steps_in written + steps_in a.rest) =
       ap steps_in g.same ∙ (steps_in-append out g.rest ∙ ap (λ r. steps_in out + r) (ap steps_in a.same ∙ steps_in-append written a.rest)) in
       omega (arith, n, k, l, c.counted)
@@ -90,7 +90,7 @@ module _ (code : Code) (inputs : List Block) (f : ℕ) (args : List Word) (fits 
   pub first-done : (forest : List Item) (work : ℕ) → Completes code fuel (begin code inputs f args) forest work
       → IsRepair forest work (first_of code inputs fuel f args) (fresh code f args inputs fuel)
   first-done forest work c =
-      let r = finishes-anew code (begins code inputs (input_plain code inputs) 0) (started code f args) Nothing c.after forest c.finishes in
+      let r = finishes-anew code own (begins code inputs (input_plain code inputs) 0) (started code f args) Nothing c.after forest c.finishes in
       let firsts : Firsts code inputs f args r.items work = record { after = c.after; left = r.left; anew = r.anew; counted = c.counted } in
       let steps : steps_of r.items ≡ work = first-steps code inputs f args fits r.items work firsts in
       let few : work ≤ fuel = omega (arith, steps, c.within, ap steps_in r.same ∙ steps-flat r.items) in
@@ -115,7 +115,7 @@ module _ (code : Code) (old new : List Block) (f : ℕ) (args : List Word) (l : 
   pub adjust-done : (forest : List Item) (work : ℕ) → Completes code fuel (begin-fix code new l number) forest work
       → IsRepair forest work (adjusted code new number fuel l) (fresh code f args new fuel)
   adjust-done forest work c =
-      let r = finishes-fix code (begins code new (plain_of code new l) number) l c.after forest c.finishes in
+      let r = finishes-fix code own (begins code new (plain_of code new l) number) l c.after forest c.finishes in
       let adjusts : Adjusts code new number l r.items work = record { after = c.after; fix = r.fix; counted = c.counted } in
       let steps : steps_of r.items ≤ fuel = omega (arith, c.within, ap steps_in r.same ∙ steps-flat r.items) in
       let few : work ≤ fuel = omega (arith, steps, fix-work r.fix, c.counted) in

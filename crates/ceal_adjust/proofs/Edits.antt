@@ -1,5 +1,5 @@
 -- A first trace is one that may be edited.
-use Rattle.std.proofs.Common.{◌≡◌, ℕ, zero, suc, ◌+◌, ◌≤◌, ◌==◌, Bool, true, false, if◌then◌else◌, Option, Some, None, List, [], ◌∷◌, ◌++◌, length, refl, ap, ◌∙◌, subst, arith}
+use Rattle.std.proofs.Common.{◌≡◌, ℕ, zero, suc, ◌+◌, ◌≤◌, ◌==◌, Bool, true, false, if◌then◌else◌, Option, Some, List, [], ◌∷◌, ◌++◌, length, refl, ap, ◌∙◌, subst, arith}
 use Rattle.ceal_base.specs.Block.{Block}
 use Rattle.ceal_base.specs.Finished.{Finished}
 use Rattle.ceal_base.specs.Fitting.{inputs_fit}
@@ -11,14 +11,14 @@ use Rattle.ceal_code.proofs.Same.{some-same, none-some}
 use Rattle.ceal_code.specs.Fitting.{Fits}
 use Rattle.ceal_code.specs.Fresh.{fresh}
 use Rattle.ceal_code.specs.Program.{Code}
-use Rattle.ceal_code.specs.Replay.{Yields, count, core_numbers}
+use Rattle.ceal_code.specs.Replay.{Yields, count}
 use Rattle.ceal_code.specs.Step.{Stack}
 use Rattle.ceal_code.specs.Value.{Plain}
-use Rattle.ceal_adjust.proofs.Found.{first-law}
-use Rattle.ceal_adjust.specs.Adjust.{Extended}
+use Rattle.ceal_theory.proofs.Found.{first-law}
+use Rattle.ceal_theory.specs.Adjust.{Extended}
 use Rattle.ceal_adjust.specs.Answers.{IsRepair}
-use Rattle.ceal_adjust.specs.Computed.{Repaired, first_of}
-use Rattle.ceal_adjust.specs.Laws.{Edited, First_trace, First_outcome, numbers}
+use Rattle.ceal_theory.specs.Computed.{Repaired, first_of}
+use Rattle.ceal_theory.specs.Laws.{Edited, First_trace, First_outcome, numbers}
 
 -- each block has a step of its own
 blocks-steps : {code : Code} {x : Plain} {st : Stack} {l : Trace} → Yields code x st l → length (blocks_of l) ≤ steps_of l

@@ -12,13 +12,13 @@ use Rattle.ceal_code.specs.Init.{pointer}
 use Rattle.ceal_code.specs.Program.{Code}
 use Rattle.ceal_code.specs.Step.{Stack, Run, Act, Makes, Reads, entered, given}
 use Rattle.ceal_code.specs.Value.{Variables, set}
-use Rattle.ceal_adjust.proofs.Finding.{loose-one, skipped-levels, take-found, take-found-read, found-beyond, found-beyond-read}
+use Rattle.ceal_theory.proofs.FlatTake.{loose-one, skipped-levels, take-found, take-found-read, found-beyond, found-beyond-read}
 use Rattle.ceal_adjust.proofs.StackSteps.{stack-nil}
-use Rattle.ceal_adjust.specs.Levels.{first, around, levels, loose, beyond, FoundAlloc, find_alloc, FoundRead, find_read, taken_alloc, taken_read}
+use Rattle.ceal_theory.specs.Levels.{first, around, levels, loose, beyond, FoundAlloc, find_alloc, FoundRead, find_read, taken_alloc, taken_read}
 use Rattle.ceal_adjust.specs.Machines.{frames_in, machine_of}
-use Rattle.ceal_adjust.specs.Repair.{State, clears, works, resumed}
+use Rattle.ceal_theory.specs.Repair.{State, own, clears, works, resumed}
 use Rattle.ceal_adjust.specs.Stacks.{stack_in}
-use Rattle.ceal_adjust.specs.Turns.{Frames, Machine, Turn, Went, opened, making, reading, acting}
+use Rattle.ceal_theory.specs.Turns.{Frames, Machine, Turn, Went, opened, making, reading, acting}
 use Rattle.ceal_adjust.specs.declared.machine.Frame.{Frame}
 use Rattle.ceal_adjust.specs.declared.machine.Frame.TheVariants.{Mend, Run as RunFrame}
 use Rattle.ceal_adjust.specs.declared.machine.Mode.{Mode as CodeMode}
@@ -51,7 +51,7 @@ pub make-taken : (code : Code) (s t t' : State) (fs : List Frame) (is : List Ite
     → find_alloc key n is ≡ Some f → stack_in stack.items ≡ Run u i (set env v word) below → word ≡ pointer key f.block → t' ≡ clears code t f.block key → t ≡ works s
     → mode ≡ IsRunning stack f.levels
     → Went (Step ∷ Alloc f.block key ∷ []) (machine_of t' mode fs f.rest)
-    ≡ making code s (frames_in (reverse fs) (beyond n (levels is))) key v u i env below (loose n (levels is)) (taken_alloc (find_alloc key n is))
+    ≡ making code own s (frames_in (reverse fs) (beyond n (levels is))) key v u i env below (loose n (levels is)) (taken_alloc (find_alloc key n is))
 unfolding machine_of
 make-taken code s t t' fs is n key v u i env below f stack mode word e k l a b m = rw (e, m, k, l, a, b, found-beyond key is n f e) refl
 
@@ -79,12 +79,12 @@ read-new code s t fs gs is n p u v args args' copy below stack under mode now a 
 -- what is taken is what is found
 pub acts-makes : (code : Code) (s : State) (fs : Frames) (is : List Item) (n : ℕ) (key : Key) (v u i : ℕ) (env : Variables) (below : Stack) (t : Turn) (a : Act)
     → a ≡ Makes key v u i env below
-    → t ≡ making code s fs key v u i env below (loose n (levels is)) (taken_alloc (find_alloc key n is)) → t ≡ acting code s fs (loose n (levels is)) a
+    → t ≡ making code own s fs key v u i env below (loose n (levels is)) (taken_alloc (find_alloc key n is)) → t ≡ acting code own s fs (loose n (levels is)) a
 acts-makes code s fs is n key v u i env below t a e k = rw (e, take-found key is n) k
 
 pub acts-reads : (code : Code) (s : State) (fs : Frames) (is : List Item) (n : ℕ) (p : Place) (u : UnitId) (v : ℕ) (args : List Word) (below : Stack) (t : Turn) (a : Act)
     → a ≡ Reads p u v args below
-    → t ≡ reading code s fs p u v args below (loose n (levels is)) (taken_read (find_read p u v args n is)) → t ≡ acting code s fs (loose n (levels is)) a
+    → t ≡ reading code s fs p u v args below (loose n (levels is)) (taken_read (find_read p u v args n is)) → t ≡ acting code own s fs (loose n (levels is)) a
 acts-reads code s fs is n p u v args below t a e k = rw (e, take-found-read p u v args is n) k
 
 -- the machine's state

@@ -10,7 +10,7 @@ use Rattle.std.specs.Bool.{Decides}
 use Rattle.std.specs.HashMap.{get}
 use Rattle.ceal_base.proofs.Equality.{words-Decides}
 use Rattle.ceal_base.specs.declared.forest.Item.{Item}
-use Rattle.ceal_adjust.specs.Levels.{after_item}
+use Rattle.ceal_theory.specs.Levels.{after_item}
 use Rattle.ceal_adjust.specs.Marks.{same_mark, has, mark_of, mark_in, depth_after, depth, marked, places, depths}
 use Rattle.ceal_adjust.specs.Places.{listed}
 use Rattle.ceal_adjust.specs.Spots.{Free, Next}

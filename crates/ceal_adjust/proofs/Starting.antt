@@ -10,7 +10,7 @@ use Rattle.ceal_code.specs.Step.{started}
 use Rattle.ceal_code.specs.Value.{Plain}
 use Rattle.ceal_adjust.proofs.BeginSteps.{plain-of-flat}
 use Rattle.ceal_adjust.proofs.Completing.{begin, begin-fix}
-use Rattle.ceal_adjust.proofs.Finding.{first-of-flat}
+use Rattle.ceal_theory.proofs.FlatTake.{first-of-flat}
 use Rattle.ceal_adjust.specs.Machines.{machine_of}
 use Rattle.ceal_adjust.specs.Plain.{plain_flat}
 use Rattle.ceal_adjust.specs.Stacks.{stack_in}

@@ -5,10 +5,10 @@ use Rattle.ceal_base.specs.Trace.{Trace, flat, steps_in}
 use Rattle.ceal_base.specs.declared.forest.Item.{Item}
 use Rattle.ceal_code.specs.Program.{Code}
 use Rattle.ceal_code.specs.Replay.{Store}
-use Rattle.ceal_adjust.specs.Computed.{Repaired}
+use Rattle.ceal_theory.specs.Computed.{Repaired}
 use Rattle.ceal_adjust.specs.Machines.{machine_in}
-use Rattle.ceal_adjust.specs.Repair.{State}
-use Rattle.ceal_adjust.specs.Turns.{Machine, Finishes, Goes}
+use Rattle.ceal_theory.specs.Repair.{State, own}
+use Rattle.ceal_theory.specs.Turns.{Machine, Finishes, Goes}
 use Rattle.ceal_adjust.specs.declared.adjust.Adjusted.{Adjusted}
 use Rattle.ceal_adjust.specs.declared.adjust.Adjusted.TheVariants.{Done, OutOfFuel}
 use Rattle.ceal_adjust.specs.declared.progress.Repair.{Repair}
@@ -18,21 +18,21 @@ use Rattle.ceal_adjust.specs.declared.progress.Progress.TheVariants.{Answer, Und
 -- The machine that began has come to this one, and has written these items with so many steps among them. Whatever the
 -- one finishes with, the other does.
 pub record Comes (code : Code) (fuel : ℕ) (start m : Machine) (out : List Item) (steps : ℕ) : Type 0 where
-  pub back : (s' : State) (rest : List Item) → Finishes code m s' rest → Finishes code start s' (out ++ rest)
-  pub ahead : (s' : State) (items : List Item) → Finishes code start s' items → Goes code m s' out items
+  pub back : (s' : State) (rest : List Item) → Finishes code own m s' rest → Finishes code own start s' (out ++ rest)
+  pub ahead : (s' : State) (items : List Item) → Finishes code own start s' items → Goes code own m s' out items
   pub counted : steps_in out ≡ steps
   pub within : steps ≤ fuel
 
 -- the machine finishes with the forest and this work, within the fuel
 pub record Completes (code : Code) (fuel : ℕ) (start : Machine) (forest : List Item) (work : ℕ) : Type 0 where
   pub after : State
-  pub finishes : Finishes code start after forest
+  pub finishes : Finishes code own start after forest
   pub counted : after.work ≡ work
   pub within : steps_in forest ≤ fuel
 
 -- whatever the machine finishes with has more steps than the fuel
 abbrev pub Exceeds : Code → ℕ → Machine → Type 0
-Exceeds code fuel start = (s' : State) (items : List Item) → Finishes code start s' items → fuel < steps_in items
+Exceeds code fuel start = (s' : State) (items : List Item) → Finishes code own start s' items → fuel < steps_in items
 
 abbrev pub Answered : Code → ℕ → Machine → Adjusted → Type 0
 Answered code fuel start (Done forest work) = Completes code fuel start forest work

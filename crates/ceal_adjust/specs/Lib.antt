@@ -1,15 +1,8 @@
-pub mod Take
-pub mod Repair
-pub mod Adjust
-pub mod Computed
-pub mod Laws
 pub mod Tables
 pub mod Stacks
-pub mod Levels
 pub mod Marks
 pub mod Places
 pub mod Spots
-pub mod Turns
 pub mod Contents
 pub mod Plain
 pub mod Machines

@@ -6,11 +6,11 @@ use Rattle.ceal_base.specs.declared.forest.Item.TheVariants.{Step}
 use Rattle.ceal_code.specs.Program.{Code}
 use Rattle.ceal_code.specs.Replay.{Store}
 use Rattle.ceal_adjust.specs.Contents.{store_in}
-use Rattle.ceal_adjust.specs.Levels.{first, around, levels, loose, beyond}
-use Rattle.ceal_adjust.specs.Repair.{State}
+use Rattle.ceal_theory.specs.Levels.{first, around, levels, loose, beyond}
+use Rattle.ceal_theory.specs.Repair.{State}
 use Rattle.ceal_adjust.specs.Stacks.{stack_in}
 use Rattle.ceal_adjust.specs.Tables.{plain_in}
-use Rattle.ceal_adjust.specs.Turns.{Fixing, Running, Frames, Bottom, After_fix, After_mend, After_run, Machine, Turn, Ended, Went}
+use Rattle.ceal_theory.specs.Turns.{Fixing, Running, Frames, Bottom, After_fix, After_mend, After_run, Machine, Turn, Ended, Went}
 use Rattle.ceal_adjust.specs.declared.machine.State.{State as CodeState}
 use Rattle.ceal_adjust.specs.declared.machine.Mode.{Mode as CodeMode}
 use Rattle.ceal_adjust.specs.declared.machine.Mode.TheVariants.{Fixing as IsFixing, Running as IsRunning}

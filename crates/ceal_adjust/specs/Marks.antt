@@ -2,7 +2,7 @@
 use Rattle.std.specs.Prelude.{ℕ, zero, suc, pred, Bool, false, Option, Some, None, List, [], ◌∷◌, ◌++◌, length, slice_get, if◌then◌else◌}
 use Rattle.ceal_base.specs.declared.forest.Item.{Item}
 use Rattle.ceal_base.specs.declared.forest.Item.TheVariants.{Step, Alloc, Write, Read, End}
-use Rattle.ceal_adjust.specs.Levels.{after_item}
+use Rattle.ceal_theory.specs.Levels.{after_item}
 use Rattle.ceal_adjust.specs.contracts.mark.MarkPartialEq.TheImpl.{ghosts}
 use Rattle.ceal_adjust.specs.declared.mark.Mark.{Mark}
 use Rattle.ceal_adjust.specs.declared.mark.Mark.TheVariants.{Made, Taken, Closed}

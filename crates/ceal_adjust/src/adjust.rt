@@ -8,8 +8,8 @@ ghost use Rattle.ceal_code.specs.Fitting.{Fits};
 ghost use Rattle.ceal_code.specs.Fresh.{fresh};
 ghost use Rattle.ceal_code.specs.Valid.{valid};
 ghost use Rattle.ceal_adjust.specs.Answers.{Is_answer};
-ghost use Rattle.ceal_adjust.specs.Computed.{adjusted, first_of};
-ghost use Rattle.ceal_adjust.specs.Laws.{Edited};
+ghost use Rattle.ceal_theory.specs.Computed.{adjusted, first_of};
+ghost use Rattle.ceal_theory.specs.Laws.{Edited};
 
 use crate::begin::{first_stack, known_inputs, learn_items};
 use crate::contents::Contents;

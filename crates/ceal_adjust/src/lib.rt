@@ -1,8 +1,4 @@
-//! The repair of traces: change propagation as a definition, the laws that make its result that of a run from
-//! scratch, and in code.
-//!
-//! `specs/` says which old items are taken (`Take`), how a trace is repaired (`Repair`, as rules, and `Computed`, as a
-//! function), and what the laws are (`Laws`). `laws` has each law as the contract of a function that does nothing.
+//! The first trace of a call and the repair of a trace in code, equal to the definitions of `ceal_theory`.
 //!
 //! `adjust` has the two calls, `first_forest` and `adjust`. Both turn one machine (`machine`, `progress`) with a stack of its own:
 //! it goes through the old flat items once, with a cursor that only moves on. `search` finds what is taken by the tables
@@ -16,7 +12,6 @@ mod contents;
 mod evaluate;
 mod initialise;
 mod known;
-pub mod laws;
 mod machine;
 mod mark;
 mod old;

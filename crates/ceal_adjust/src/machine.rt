@@ -7,12 +7,12 @@ ghost use Rattle.ceal_code.specs.Init.{pointer, arguments};
 ghost use Rattle.ceal_code.specs.Replay.{bases};
 ghost use Rattle.ceal_code.specs.Step.{Run, next};
 ghost use Rattle.ceal_code.specs.Value.{set};
-ghost use Rattle.ceal_adjust.specs.Levels.{first, around, levels as levels_of, loose, beyond, find_alloc, find_read, taken_alloc, taken_read};
+ghost use Rattle.ceal_theory.specs.Levels.{first, around, levels as levels_of, loose, beyond, find_alloc, find_read, taken_alloc, taken_read};
 ghost use Rattle.ceal_adjust.specs.Machines.{state_in, frames_in, machine_in, turn_in};
-ghost use Rattle.ceal_adjust.specs.Repair.{works, puts, clears, grows};
+ghost use Rattle.ceal_theory.specs.Repair.{own, works, puts, clears, grows};
 ghost use Rattle.ceal_adjust.specs.Stacks.{stack_in, act_in};
 ghost use Rattle.ceal_adjust.specs.Tables.{plain_in};
-ghost use Rattle.ceal_adjust.specs.Turns.{closed, opened, fixing, making, reading, acting, turn};
+ghost use Rattle.ceal_theory.specs.Turns.{closed, opened, fixing, making, reading, acting, turn};
 
 use crate::contents::{Contents, shape_for};
 use crate::initialise::make;
@@ -142,7 +142,7 @@ fn with_block(
     state: State,
     key: &Key,
 ) -> Result<State, NoMemory>
-    ensures { IfOk result (λ s. state_in code.now (bases code.now inputs.now) s ≡ grows code.now (state_in code.now (bases code.now inputs.now) state) key.now) }
+    ensures { IfOk result (λ s. state_in code.now (bases code.now inputs.now) s ≡ grows code.now own (state_in code.now (bases code.now inputs.now) state) key.now) }
 {
     let mut state = state;
     let id = BlockId::Core(state.number);
@@ -489,7 +489,7 @@ fn make_block(
     unit: Activation,
     stack: Vec<Activation>,
 ) -> Result<Turn, NoMemory>
-    ensures { IfOk result (λ t. turn_in code.now (bases code.now inputs.now) old.now t ≡ making code.now (state_in code.now (bases code.now inputs.now) state) (frames_in (reverse frames.items) (beyond levels (levels_of (drop rest old.now)))) key var unit.unit unit.index (arguments unit.env.items) (stack_in stack.items) (loose levels (levels_of (drop rest old.now))) (taken_alloc (find_alloc key levels (drop rest old.now)))) }
+    ensures { IfOk result (λ t. turn_in code.now (bases code.now inputs.now) old.now t ≡ making code.now own (state_in code.now (bases code.now inputs.now) state) (frames_in (reverse frames.items) (beyond levels (levels_of (drop rest old.now)))) key var unit.unit unit.index (arguments unit.env.items) (stack_in stack.items) (loose levels (levels_of (drop rest old.now))) (taken_alloc (find_alloc key levels (drop rest old.now)))) }
 {
     let state = with_step(code, inputs, state)?;
     match find_block(old, rest, levels, &key)? {
@@ -610,7 +610,7 @@ fn perform(
     act: Act,
     stack: Vec<Activation>,
 ) -> Result<Turn, NoMemory>
-    ensures { IfOk result (λ t. turn_in code.now (bases code.now inputs.now) old.now t ≡ acting code.now (state_in code.now (bases code.now inputs.now) state) (frames_in (reverse frames.items) (beyond levels (levels_of (drop rest old.now)))) (loose levels (levels_of (drop rest old.now))) (act_in act (stack_in stack.items))) }
+    ensures { IfOk result (λ t. turn_in code.now (bases code.now inputs.now) old.now t ≡ acting code.now own (state_in code.now (bases code.now inputs.now) state) (frames_in (reverse frames.items) (beyond levels (levels_of (drop rest old.now)))) (loose levels (levels_of (drop rest old.now))) (act_in act (stack_in stack.items))) }
 {
     match act {
         Act::Over => {
@@ -677,7 +677,7 @@ fn run(
     levels: usize,
     stack: Vec<Activation>,
 ) -> Result<Turn, NoMemory>
-    ensures { IfOk result (λ t. turn_in code.now (bases code.now inputs.now) old.now t ≡ acting code.now (state_in code.now (bases code.now inputs.now) state) (frames_in (reverse frames.items) (beyond levels (levels_of (drop rest old.now)))) (loose levels (levels_of (drop rest old.now))) (next code.now (plain_in state.known) (stack_in stack.items))) }
+    ensures { IfOk result (λ t. turn_in code.now (bases code.now inputs.now) old.now t ≡ acting code.now own (state_in code.now (bases code.now inputs.now) state) (frames_in (reverse frames.items) (beyond levels (levels_of (drop rest old.now)))) (loose levels (levels_of (drop rest old.now))) (next code.now (plain_in state.known) (stack_in stack.items))) }
 {
     let mut stack = stack;
     let act = advance(alloc, code, &state.known, &mut stack)?;
@@ -688,7 +688,7 @@ fn run(
 }
 
 /// One turn: it writes a step, moves on in the old items, or ends a read.
-#[tactic(auto, unfolding(crate::specs::Machines::machine_of, crate::specs::Turns::turn))]
+#[tactic(auto, unfolding(crate::specs::Machines::machine_of, ceal_theory::specs::Turns::turn))]
 pub fn take_turn(
     alloc: Global,
     code: &Code,
@@ -696,7 +696,7 @@ pub fn take_turn(
     old: &Old,
     machine: Machine,
 ) -> Result<Turn, NoMemory>
-    ensures turn { IfOk result (λ t. turn code.now (machine_in code.now (bases code.now inputs.now) old.now machine) ≡ turn_in code.now (bases code.now inputs.now) old.now t) }
+    ensures turn { IfOk result (λ t. turn code.now own (machine_in code.now (bases code.now inputs.now) old.now machine) ≡ turn_in code.now (bases code.now inputs.now) old.now t) }
 {
     let Machine {
         state,

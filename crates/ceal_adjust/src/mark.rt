@@ -1,7 +1,7 @@
 // What old items are found by.
 
 ghost use Rattle.std.specs.Prelude.{◌≡◌, ◌+◌, pred, IfOk};
-ghost use Rattle.ceal_adjust.specs.Levels.{after_item};
+ghost use Rattle.ceal_theory.specs.Levels.{after_item};
 ghost use Rattle.ceal_adjust.specs.Marks.{mark_of};
 
 use ceal_base::forest::{Item, Key, UnitId};

@@ -1,7 +1,7 @@
 // The old items, with tables by which they are found.
 
 ghost use Rattle.std.specs.Prelude.{◌≡◌, ◌∷◌, [], ◌++◌, ◌+◌, ◌<◌, ◌≤◌, ◌^◌, ⊤, Some, None, length, drop, slice_get, get_or, MatchOption, if◌then◌else◌, IfOk, OnOk};
-ghost use Rattle.ceal_adjust.specs.Levels.{skipped};
+ghost use Rattle.ceal_theory.specs.Levels.{skipped};
 ghost use Rattle.ceal_adjust.specs.Marks.{depth, depths, has, mark_of, places};
 ghost use Rattle.ceal_adjust.specs.Places.{listed};
 ghost use Rattle.ceal_adjust.specs.Spots.{Free, Next, Ends, Absent, Found};

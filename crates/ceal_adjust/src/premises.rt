@@ -10,7 +10,7 @@ ghost use Rattle.ceal_base.specs.Shapes.{kinds_of_shape, kind_of_field};
 ghost use Rattle.ceal_base.specs.declared.word.Word.TheVariants.{Block as BlockWord};
 ghost use Rattle.ceal_code.specs.Fitting.{Fits, args_fit};
 ghost use Rattle.ceal_code.specs.Replay.{plain_words, plain_block};
-ghost use Rattle.ceal_adjust.specs.Adjust.{Extended};
+ghost use Rattle.ceal_theory.specs.Adjust.{Extended};
 ghost use Rattle.ceal_adjust.specs.Alone.{alone};
 
 use crate::adjust::{Adjusted, adjust, first_forest};

@@ -5,7 +5,7 @@ ghost use Rattle.ceal_base.specs.Trace.{steps_in};
 ghost use Rattle.ceal_code.specs.Replay.{bases};
 ghost use Rattle.ceal_adjust.specs.Answers.{Comes_to, Progresses, Answered};
 ghost use Rattle.ceal_adjust.specs.Machines.{machine_in, item_list, written};
-ghost use Rattle.ceal_adjust.specs.Turns.{Machine as TreeMachine};
+ghost use Rattle.ceal_theory.specs.Turns.{Machine as TreeMachine};
 
 use crate::adjust::Adjusted;
 use crate::machine::{Machine, Turn, take_turn};

@@ -1,9 +1,9 @@
 // What is found in the old items that are left over.
 
 ghost use Rattle.std.specs.Prelude.{◌≡◌, ◌+◌, ◌<◌, ◌^◌, ⊤, Some, None, drop, MatchOption, IfOk};
-ghost use Rattle.ceal_adjust.specs.Levels.{block_of_key, find_alloc, same_read, value_of_read, find_read};
+ghost use Rattle.ceal_theory.specs.Levels.{block_of_key, find_alloc, same_read, value_of_read, find_read};
 ghost use Rattle.ceal_adjust.specs.Spots.{Absent, Found};
-ghost use Rattle.ceal_adjust.specs.Take.{same_key, same_words};
+ghost use Rattle.ceal_theory.specs.Take.{same_key, same_words};
 ghost use Rattle.ceal_adjust.specs.declared.mark.Mark.TheVariants.{Made, Taken};
 
 use crate::mark::Mark;

@@ -2,7 +2,7 @@ use Rattle.std.proofs.Common.{ap, drop, reverse}
 use Rattle.ceal_code.specs.Init.{arguments}
 use Rattle.ceal_code.specs.Replay.{bases}
 use Rattle.ceal_adjust.proofs.MachineSteps.{acts-makes, acts-reads}
-use Rattle.ceal_adjust.specs.Levels.{levels, beyond}
+use Rattle.ceal_theory.specs.Levels.{levels, beyond}
 use Rattle.ceal_adjust.specs.Machines.{state_in, frames_in, turn_in}
 use Rattle.ceal_adjust.specs.Stacks.{stack_in, act_in}
 use Rattle.ceal_adjust.proofs.machine.perform.Goals as goal

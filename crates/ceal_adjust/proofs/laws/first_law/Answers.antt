@@ -1,5 +1,0 @@
-use Rattle.ceal_adjust.proofs.Found.{first-law}
-use Rattle.ceal_adjust.proofs.laws.first_law.Goals as goal
-
-pub returns : goal.returns
-returns c = record { law = λ code inputs f args fits n. first-law code inputs f args fits n }

@@ -1,5 +1,0 @@
-use Rattle.ceal_adjust.proofs.Main.{function-law}
-use Rattle.ceal_adjust.proofs.laws.function_law.Goals as goal
-
-pub returns : goal.returns
-returns c = record { law = function-law }

@@ -1,5 +1,0 @@
-use Rattle.ceal_adjust.proofs.Main.{renamed-repair-law}
-use Rattle.ceal_adjust.proofs.laws.renamed_repair_law.Goals as goal
-
-pub returns : goal.returns
-returns c = record { law = renamed-repair-law }

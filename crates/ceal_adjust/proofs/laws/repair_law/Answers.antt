@@ -1,5 +1,0 @@
-use Rattle.ceal_adjust.proofs.Main.{repair-law}
-use Rattle.ceal_adjust.proofs.laws.repair_law.Goals as goal
-
-pub returns : goal.returns
-returns c = record { law = repair-law }

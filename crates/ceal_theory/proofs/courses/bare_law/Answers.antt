@@ -1,0 +1,5 @@
+use Rattle.ceal_theory.proofs.Bare.{bare-law}
+use Rattle.ceal_theory.proofs.courses.bare_law.Goals as goal
+
+pub returns : goal.returns
+returns c = record { law = bare-law }

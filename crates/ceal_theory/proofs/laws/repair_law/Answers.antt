@@ -1,0 +1,5 @@
+use Rattle.ceal_theory.proofs.Main.{repair-law}
+use Rattle.ceal_theory.proofs.laws.repair_law.Goals as goal
+
+pub returns : goal.returns
+returns c = record { law = repair-law }

@@ -1,0 +1,5 @@
+use Rattle.ceal_theory.proofs.FlatMachine.{flat-law}
+use Rattle.ceal_theory.proofs.machine.flat_machine_law.Goals as goal
+
+pub returns : goal.returns
+returns c = record { law = flat-law }

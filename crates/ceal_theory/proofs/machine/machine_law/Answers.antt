@@ -1,0 +1,5 @@
+use Rattle.ceal_theory.proofs.MachineLaws.{machine-law}
+use Rattle.ceal_theory.proofs.machine.machine_law.Goals as goal
+
+pub returns : goal.returns
+returns c = record { law = machine-law }

@@ -1,0 +1,5 @@
+use Rattle.ceal_theory.proofs.Chosen.{chosen-law}
+use Rattle.ceal_theory.proofs.names.chosen_law.Goals as goal
+
+pub returns : goal.returns
+returns c = record { law = chosen-law }

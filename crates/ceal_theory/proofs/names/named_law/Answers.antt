@@ -1,0 +1,5 @@
+use Rattle.ceal_theory.proofs.Named.{named-law}
+use Rattle.ceal_theory.proofs.names.named_law.Goals as goal
+
+pub returns : goal.returns
+returns c = record { law = named-law }

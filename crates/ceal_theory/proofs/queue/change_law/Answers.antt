@@ -1,0 +1,5 @@
+use Rattle.ceal_theory.proofs.SliceLaws.{change-law}
+use Rattle.ceal_theory.proofs.queue.change_law.Goals as goal
+
+pub returns : goal.returns
+returns c = record { law = change-law }

@@ -1,0 +1,5 @@
+use Rattle.ceal_theory.proofs.SliceLaws.{done-law}
+use Rattle.ceal_theory.proofs.slices.done_law.Goals as goal
+
+pub returns : goal.returns
+returns c = record { law = done-law }

@@ -1,0 +1,5 @@
+use Rattle.ceal_theory.proofs.SliceLaws.{is-done-law}
+use Rattle.ceal_theory.proofs.slices.is_done_law.Goals as goal
+
+pub returns : goal.returns
+returns c = record { law = is-done-law }

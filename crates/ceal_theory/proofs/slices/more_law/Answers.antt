@@ -1,0 +1,5 @@
+use Rattle.ceal_theory.proofs.SliceLaws.{more-law}
+use Rattle.ceal_theory.proofs.slices.more_law.Goals as goal
+
+pub returns : goal.returns
+returns c = record { law = more-law }

@@ -1,0 +1,5 @@
+use Rattle.ceal_theory.proofs.SliceLaws.{ready-law}
+use Rattle.ceal_theory.proofs.slices.ready_law.Goals as goal
+
+pub returns : goal.returns
+returns c = record { law = ready-law }

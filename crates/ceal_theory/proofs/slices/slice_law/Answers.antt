@@ -1,0 +1,5 @@
+use Rattle.ceal_theory.proofs.SliceLaws.{slice-law}
+use Rattle.ceal_theory.proofs.slices.slice_law.Goals as goal
+
+pub returns : goal.returns
+returns c = record { law = slice-law }

@@ -1,0 +1,5 @@
+use Rattle.ceal_theory.proofs.Walk.{content-law}
+use Rattle.ceal_theory.proofs.walks.content_law.Goals as goal
+
+pub returns : goal.returns
+returns c = record { law = content-law }

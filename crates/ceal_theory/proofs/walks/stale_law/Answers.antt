@@ -1,0 +1,5 @@
+use Rattle.ceal_theory.proofs.Walk.{stale-law}
+use Rattle.ceal_theory.proofs.walks.stale_law.Goals as goal
+
+pub returns : goal.returns
+returns c = record { law = stale-law }
