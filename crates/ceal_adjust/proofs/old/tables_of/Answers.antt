@@ -1,14 +1,15 @@
 use Rattle.std.proofs.Common.{◌≡◌, Some, slice_get, length, refl, ◌∙◌, arith}
 use Rattle.std.proofs.lemmas.Option.{slice_get_read}
-use Rattle.ceal_adjust.proofs.MarkSteps.{depth-zero, depth-next, places-zero, places-next}
+use Rattle.ceal_adjust.proofs.MarkSteps.{depth-zero, depths-zero, depth-next, depths-next, places-zero, places-next}
 use Rattle.ceal_adjust.specs.Places.{listed}
-use Rattle.ceal_adjust.proofs.old.places_of.Goals as goal
+use Rattle.ceal_adjust.proofs.old.tables_of.Goals as goal
 
 pub loop-item-init : goal.loop-item-init
 loop-item-init c = record {
   counted = refl;
   nested = depth-zero c.args.items.now _ refl;
-  same = λ m. places-zero c.args.items.now m _ (c.new-all.ensures.nothing m);
+  depths = depths-zero c.args.items.now _ c.new-nesting.ensures.items;
+  places = λ m. places-zero c.args.items.now m _ (c.new-table.ensures.nothing m);
 }
 
 pub loop-item-preserved : goal.loop-item-preserved
@@ -17,7 +18,8 @@ loop-item-preserved c =
     record {
       counted = omega (arith, c.loop-item.invariant.counted);
       nested = depth-next c.args.items.now c.loop-item.item-index c.loop-item.depth c.in_ok-depth.depth _ at c.loop-item.invariant.nested c.in_ok-depth.ensures;
-      same = λ m. c.in_ok-add.ensures m
-          ∙ places-next c.args.items.now c.loop-item.item-index c.loop-item.depth _ at c.loop-item.invariant.nested m c.loop-item.at (listed c.loop-item.all m)
-          c.loop-item.invariant.counted (c.loop-item.invariant.same m);
+      depths = depths-next c.args.items.now c.loop-item.item-index c.loop-item.depth c.loop-item.nesting.items _ c.loop-item.invariant.depths c.loop-item.invariant.nested c.in_ok-push.ensures.items;
+      places = λ m. c.in_ok-add.ensures m
+          ∙ places-next c.args.items.now c.loop-item.item-index c.loop-item.depth _ at c.loop-item.invariant.nested m c.loop-item.at (listed c.loop-item.table m)
+          c.loop-item.invariant.counted (c.loop-item.invariant.places m);
     }
