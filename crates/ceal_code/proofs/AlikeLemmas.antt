@@ -1,12 +1,11 @@
 -- Trace code treats the numbers of core blocks alike.
-use Rattle.std.proofs.Common.{◌≡◌, ℕ, ℤ, pos, zero, suc, ◌+◌, Bool, true, false, ◌==◌, ◌&&◌, not, if◌then◌else◌, Option, Some, None, List, [], ◌∷◌, refl, sym, ap, ap₂, ◌∙◌, subst, slice_get, slice_set, unwrap_or, is_some, map, arith}
+use Rattle.std.proofs.Common.{◌≡◌, ℕ, zero, suc, Bool, true, false, ◌==◌, ◌&&◌, not, if◌then◌else◌, Option, Some, None, List, [], ◌∷◌, refl, ap, ◌∙◌, subst, slice_get, unwrap_or, is_some, map, arith}
 use Rattle.ceal_base.specs.Access.{of_struct, is_struct, place_in, holds}
 use Rattle.ceal_base.specs.Block.{Block}
 use Rattle.ceal_base.specs.Operators.{number_of, unary_value, binary_value, truth, same_block, same_place, same_word}
 use Rattle.ceal_base.specs.Shapes.{default_of_field, default_block, kinds_of_shape, default_of_kind}
 use Rattle.ceal_base.specs.Trace.{Trace, steps_of}
 use Rattle.ceal_base.specs.declared.forest.Key.{Key}
-use Rattle.ceal_base.specs.declared.forest.Key.TheVariants.{Init}
 use Rattle.ceal_base.specs.declared.forest.UnitId.{UnitId}
 use Rattle.ceal_base.specs.declared.kind.FieldKind.{FieldKind}
 use Rattle.ceal_base.specs.declared.kind.FieldKind.TheVariants.{Plain as PlainField, CellInt, CellPtr}
@@ -21,12 +20,12 @@ use Rattle.ceal_base.specs.declared.typed.StructInfo.{StructInfo}
 use Rattle.ceal_base.specs.declared.word.BlockId.{BlockId}
 use Rattle.ceal_base.specs.declared.word.Place.{Place}
 use Rattle.ceal_base.specs.declared.word.Word.{Word}
-use Rattle.ceal_base.specs.declared.word.Word.TheVariants.{Num, Null, Block as BlockWord, At}
+use Rattle.ceal_base.specs.declared.word.Word.TheVariants.{Null, Block as BlockWord}
 use Rattle.ceal_code.proofs.Closed.{unary-of, binary-of, default-of, field_default-of, kind_default-of}
-use Rattle.ceal_code.specs.Alike.{Pair, Pairs, Tied, Id_alike, Place_alike, Word_alike, Words_alike, Key_alike, Variables_alike, Stack_alike, Act_alike, Fields_alike, Block_alike, Maybe_alike, Plain_alike, Trace_alike, Within, One_to_one}
+use Rattle.ceal_code.specs.Alike.{Pairs, Tied, Id_alike, Place_alike, Word_alike, Words_alike, Key_alike, Variables_alike, Stack_alike, Act_alike, Fields_alike, Block_alike, Maybe_alike, Plain_alike, Trace_alike, Within, One_to_one}
 use Rattle.ceal_code.specs.Init.{set_plain, set_by, set_by_row, set_by_all, arguments, made_by, made, pointer}
 use Rattle.ceal_code.specs.Program.{Code}
-use Rattle.ceal_code.specs.Step.{Stack, Empty, Run, Act, Quiet, unit_at, command_at, entry_of, variable_default, kind_default, kinds_of, bound, entered, first_word, later_words, woven, given, key_of, place_of, writes_at, reads_at, act, landed, settled_at, settled, acted, next}
+use Rattle.ceal_code.specs.Step.{Stack, Run, Quiet, unit_at, command_at, entry_of, variable_default, kind_default, kinds_of, bound, entered, first_word, later_words, woven, given, key_of, place_of, writes_at, reads_at, act, landed, settled_at, settled, acted, next}
 use Rattle.ceal_code.specs.Value.{Plain, Variables, unset, set, field_kind, is_cell, field_default, plain_word, field_in, field_value, address_value, expr_value, operand_value, values}
 use Rattle.ceal_code.specs.declared.command.Cmd.{Cmd}
 use Rattle.ceal_code.specs.declared.command.Cmd.TheVariants.{Move, Tick, Alloc, Modref, Write, If, Done, Tail, Read, Call}

@@ -1,5 +1,5 @@
 -- Like stores stay alike over writes and new blocks.
-use Rattle.std.proofs.Common.{◌≡◌, ℕ, pos, Bool, true, false, ◌==◌, if◌then◌else◌, Option, Some, None, List, [], ◌∷◌, refl, sym, ap, subst, arith}
+use Rattle.std.proofs.Common.{◌≡◌, ℕ, pos, Bool, true, false, if◌then◌else◌, Option, Some, List, ◌∷◌, refl, subst, arith}
 use Rattle.ceal_base.specs.Block.{Block}
 use Rattle.ceal_base.specs.Operators.{same_block, same_place}
 use Rattle.ceal_base.specs.declared.forest.Key.{Key}
@@ -13,7 +13,7 @@ use Rattle.ceal_base.specs.declared.word.Word.TheVariants.{Num}
 use Rattle.ceal_code.proofs.AlikeLemmas.{word-wider, block-wider, maybe-wider, id-both, place-both, field_default-self}
 use Rattle.ceal_code.proofs.Pairs.{more-pair}
 use Rattle.ceal_code.proofs.Same.{nat-refl}
-use Rattle.ceal_code.specs.Alike.{Pair, Pairs, Tied, Id_alike, Place_alike, Word_alike, Key_alike, Block_alike, Maybe_alike, Plain_alike, Store_alike, One_to_one}
+use Rattle.ceal_code.specs.Alike.{Pairs, Tied, Id_alike, Place_alike, Word_alike, Key_alike, Block_alike, Maybe_alike, Plain_alike, Store_alike, One_to_one}
 use Rattle.ceal_code.specs.Program.{Code}
 use Rattle.ceal_code.specs.Replay.{Store, cell_default, shape_of, cleared, stored}
 use Rattle.ceal_code.specs.Value.{Plain, field_kind, field_default, is_cell}

@@ -1,8 +1,8 @@
 -- Items that a stack yields and that are honest determine the run of a stack like it over a memory like their store.
-use Rattle.std.proofs.Common.{◌≡◌, ℕ, zero, suc, ◌+◌, ◌-◌, ◌<◌, ◌≤◌, ◌==◌, nat_le, Bool, true, false, if◌then◌else◌, Option, Some, None, List, [], ◌∷◌, ◌++◌, length, append_assoc, ◌⊎◌, inl, inr, refl, sym, ap, ap₂, ◌∙◌, subst, slice_get, slice_set, unwrap_or, arith}
-use Rattle.ceal_base.specs.Access.{word_in, content_of}
+use Rattle.std.proofs.Common.{◌≡◌, ℕ, zero, suc, ◌+◌, ◌-◌, ◌<◌, ◌≤◌, nat_le, Bool, true, false, Option, Some, None, List, [], ◌∷◌, ◌++◌, length, append_assoc, ◌⊎◌, inl, inr, refl, sym, ap, ap₂, ◌∙◌, subst, slice_get, slice_set, arith}
+use Rattle.ceal_base.specs.Access.{content_of}
 use Rattle.ceal_base.specs.Block.{Block, Blocks, block_at, written_at}
-use Rattle.ceal_base.specs.Finished.{Finished, with_block}
+use Rattle.ceal_base.specs.Finished.{with_block}
 use Rattle.ceal_base.specs.Fitting.{kind_in}
 use Rattle.ceal_base.specs.Operators.{same_block}
 use Rattle.ceal_base.specs.Shapes.{kinds_of_shape}
@@ -10,7 +10,6 @@ use Rattle.ceal_base.specs.Trace.{Trace, Nothing, Stepped, Allocated, Wrote, Was
 use Rattle.ceal_base.specs.declared.forest.Key.{Key}
 use Rattle.ceal_base.specs.declared.forest.UnitId.{UnitId}
 use Rattle.ceal_base.specs.declared.kind.FieldKind.{FieldKind}
-use Rattle.ceal_base.specs.declared.kind.FieldKind.TheVariants.{Plain as PlainField, CellInt, CellPtr}
 use Rattle.ceal_base.specs.declared.typed.StructInfo.{StructInfo}
 use Rattle.ceal_base.specs.declared.word.BlockId.{BlockId}
 use Rattle.ceal_base.specs.declared.word.BlockId.TheVariants.{Input, Core}
@@ -18,22 +17,22 @@ use Rattle.ceal_base.specs.declared.word.Place.{Place}
 use Rattle.ceal_base.specs.declared.word.Word.{Word}
 use Rattle.ceal_base.specs.declared.word.Word.TheVariants.{At}
 use Rattle.ceal_code.proofs.AlikeActs.{Quiet_too, Makes_too, Writes_too, Reads_too, over-too, quiet-too, makes-too, writes-too, reads-too}
-use Rattle.ceal_code.proofs.AlikeLemmas.{id-wider, word-wider, words-wider, key-wider, variables-wider, stack-wider, set-alike, given-alike, pointer-alike, made-alike, next-alike}
+use Rattle.ceal_code.proofs.AlikeLemmas.{key-wider, variables-wider, stack-wider, set-alike, given-alike, pointer-alike, made-alike, next-alike}
 use Rattle.ceal_code.proofs.AlikeStores.{cleared-alike, stored-alike, plain-with}
-use Rattle.ceal_code.proofs.Closed.{Each, Of_stack, Of_key, Of_act, next-of, set-of, given-of}
-use Rattle.ceal_code.proofs.Memory.{contents, Cell_there, content-read, altered, written-here, written-other, written-count, written-contents, grown-here, grown-other, grown-count, grown-contents, get-within}
+use Rattle.ceal_code.proofs.Closed.{Of_stack, Of_key, Of_act, next-of, set-of, given-of}
+use Rattle.ceal_code.proofs.Memory.{contents, Cell_there, content-read, altered, written-here, written-other, written-count, written-contents, grown-here, grown-other, grown-count, grown-contents}
 use Rattle.ceal_code.proofs.Over.{next-on}
 use Rattle.ceal_code.proofs.Pairs.{within-trans, one-within, more-pair, tied-with, tied-case}
 use Rattle.ceal_code.proofs.Placed.{content-placed, Placed, Well_placed, Keeps, placed-keeps, stack-keeps, placed-closed, written-keeps, written-well, grown-keeps, grown-well, pointer-placed}
 use Rattle.ceal_code.proofs.Same.{block-same}
-use Rattle.ceal_code.specs.Alike.{Pair, Pairs, Tied, Id_alike, Place_alike, Word_alike, Words_alike, Key_alike, Variables_alike, Stack_alike, Act_alike, Fields_alike, Block_alike, Maybe_alike, Plain_alike, Store_alike, Within, One_to_one}
+use Rattle.ceal_code.specs.Alike.{Pairs, Tied, Id_alike, Place_alike, Word_alike, Key_alike, Stack_alike, Act_alike, Fields_alike, Maybe_alike, Plain_alike, Store_alike, Within, One_to_one}
 use Rattle.ceal_code.specs.Fresh.{ran, only_over, run}
 use Rattle.ceal_code.specs.Init.{made, pointer}
 use Rattle.ceal_code.specs.Over.{on, act_on}
 use Rattle.ceal_code.specs.Program.{Code}
 use Rattle.ceal_code.specs.Replay.{Yields, Honest, Store, core_numbers, cleared, stored}
 use Rattle.ceal_code.specs.Step.{Stack, Empty, Run, Act, Over, Quiet, Makes, Writes, Reads, variable_default, entered, given, next}
-use Rattle.ceal_code.specs.Value.{Plain, Variables, set, field_kind, is_cell}
+use Rattle.ceal_code.specs.Value.{Plain, Variables, set, is_cell}
 
 pub cores-append : (bs cs : List BlockId) → core_numbers (bs ++ cs) ≡ core_numbers bs ++ core_numbers cs
 cores-append [] cs = refl

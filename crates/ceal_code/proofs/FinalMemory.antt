@@ -1,39 +1,25 @@
 -- The memory of the run that honest items determine is the store and the plain words of the items, up to the numbers of
 -- core blocks.
-use Rattle.std.proofs.Common.{◌≡◌, ℕ, pos, zero, suc, ◌+◌, ◌<◌, ◌≤◌, ◌==◌, nat_eq, Bool, true, false, if◌then◌else◌, Option, Some, None, List, [], ◌∷◌, ◌++◌, length, map, append-nil, ◌⊎◌, inl, inr, refl, sym, ap, ap₂, ◌∙◌, subst, slice_get, slice_index, unwrap_or, arith}
+use Rattle.std.proofs.Common.{◌≡◌, ℕ, zero, suc, ◌+◌, ◌<◌, ◌≤◌, ◌==◌, nat_eq, Bool, true, false, Option, Some, None, List, [], ◌∷◌, length, map, ◌⊎◌, inl, inr, refl, sym, ap, ap₂, ◌∙◌, subst, slice_get, slice_index, arith}
 use Rattle.std.specs.List.{IsDistinct, AllByRecursion}
 use Rattle.std.specs.Option.{option_map}
 use Rattle.ceal_base.specs.Block.{Block, Blocks, block_at}
-use Rattle.ceal_base.specs.Finished.{Finished}
-use Rattle.ceal_base.specs.Same.{Same, index_of, renamed_id, renamed_word, renamed_block}
-use Rattle.ceal_base.specs.Shapes.{kinds_of_shape}
-use Rattle.ceal_base.specs.Trace.{Trace, steps_of, blocks_of}
+use Rattle.ceal_base.specs.Same.{index_of, renamed_id, renamed_word, renamed_block}
 use Rattle.ceal_base.specs.declared.kind.FieldKind.{FieldKind}
 use Rattle.ceal_base.specs.declared.kind.FieldKind.TheVariants.{Plain as PlainField, CellInt, CellPtr}
-use Rattle.ceal_base.specs.declared.typed.StructInfo.{StructInfo}
 use Rattle.ceal_base.specs.declared.word.BlockId.{BlockId}
-use Rattle.ceal_base.specs.declared.word.BlockId.TheVariants.{Input, Core}
-use Rattle.ceal_base.specs.declared.word.Place.{Place}
+use Rattle.ceal_base.specs.declared.word.BlockId.TheVariants.{Core}
 use Rattle.ceal_base.specs.declared.word.Word.{Word}
-use Rattle.ceal_base.specs.declared.word.Word.TheVariants.{Num, Null, Block as BlockWord, At}
-use Rattle.ceal_code.proofs.AlikeLemmas.{id-wider, word-wider, fields-wider, entered-alike}
-use Rattle.ceal_code.proofs.Closed.{Each, Of_stack, entered-of, get-of}
-use Rattle.ceal_code.proofs.Determined.{numbered, numbered-first, Stands, Runs, determined}
-use Rattle.ceal_code.proofs.FittingLemmas.{id-self, word-self, words-self, input-known, input-self, begun-placed, args-known, args-placed}
-use Rattle.ceal_code.proofs.Local.{each-words}
+use Rattle.ceal_base.specs.declared.word.Word.TheVariants.{Block as BlockWord, At}
+use Rattle.ceal_code.proofs.AlikeLemmas.{word-wider, fields-wider}
+use Rattle.ceal_code.proofs.Determined.{numbered}
 use Rattle.ceal_code.proofs.Memory.{contents}
-use Rattle.ceal_code.proofs.Pairs.{lefts, left-count, right-count, one-at, one_if, tied-case, pairs-one, within-trans}
-use Rattle.ceal_code.proofs.Placed.{Placed}
-use Rattle.ceal_code.proofs.Same.{nat-refl, nat-same, some-same, none-some}
-use Rattle.ceal_code.specs.Alike.{Pairs, Tied, Id_alike, Place_alike, Word_alike, Words_alike, Stack_alike, Fields_alike, Block_alike, Maybe_alike, Plain_alike, Store_alike, Within, One_to_one}
-use Rattle.ceal_code.specs.Fitting.{Fits}
-use Rattle.ceal_code.specs.Fresh.{ran, only_over, run, fresh}
-use Rattle.ceal_code.specs.Over.{on}
+use Rattle.ceal_code.proofs.Pairs.{one-at, tied-case}
+use Rattle.ceal_code.proofs.Same.{nat-same, some-same, none-some}
+use Rattle.ceal_code.specs.Alike.{Pairs, Tied, Id_alike, Word_alike, Fields_alike, Block_alike, Maybe_alike, Plain_alike, Store_alike, Within, One_to_one}
 use Rattle.ceal_code.specs.Program.{Code}
-use Rattle.ceal_code.specs.Replay.{Yields, Store, Honest, Known_words, count, Distinct, core_numbers, learnt, plain_words, plain_block, input_plain, plain_after, plain_of, content_in, input_block, bases, Replays, IsHonest, with_contents, filled, block_after, inputs_after}
-use Rattle.ceal_code.specs.Step.{Stack, Empty, Run, chosen, started, entered, unit_at, entry_of, settled, next}
-use Rattle.ceal_code.specs.Value.{Plain, field_kind, is_cell, field_default}
-use Rattle.ceal_code.specs.declared.expr.VarId.{VarId}
+use Rattle.ceal_code.specs.Replay.{Store, count, Distinct, with_contents, filled, block_after}
+use Rattle.ceal_code.specs.Value.{Plain, field_kind, is_cell}
 
 -- numbers side by side with 0, 1, 2 and so on
 pub numbered-low : (n : ℕ) (bs : List ℕ) (b c : ℕ) → Tied b c (numbered n bs) → n ≤ c

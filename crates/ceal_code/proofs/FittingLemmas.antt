@@ -1,9 +1,9 @@
 -- Words that fit where there are no core blocks name inputs and modifiables of inputs.
-use Rattle.std.proofs.Common.{◌≡◌, ℕ, pos, zero, suc, ◌<◌, ◌==◌, ◌&&◌, Bool, true, false, Option, Some, None, List, [], ◌∷◌, length, if◌then◌else◌, refl, ap, slice_get, unwrap_or, is_some, arith}
+use Rattle.std.proofs.Common.{◌≡◌, ℕ, zero, suc, Bool, true, Option, Some, None, List, [], ◌∷◌, length, refl, ap, slice_get, is_some, arith}
 use Rattle.std.specs.List.{list_all}
 use Rattle.ceal_base.specs.Access.{of_struct}
 use Rattle.ceal_base.specs.Block.{Block, Blocks, block_at}
-use Rattle.ceal_base.specs.Fitting.{kind_in, kind_at, is_int_cell, is_pointer_cell, fits_kind, fits_field, words_fit, fields_fit, block_fits, memory_fits, inputs_fit}
+use Rattle.ceal_base.specs.Fitting.{kind_in, kind_at, is_int_cell, is_pointer_cell, fits_kind, fits_field, words_fit, fields_fit, block_fits, inputs_fit}
 use Rattle.ceal_base.specs.Shapes.{kinds_of_shape}
 use Rattle.ceal_base.specs.declared.kind.FieldKind.{FieldKind}
 use Rattle.ceal_base.specs.declared.kind.FieldKind.TheVariants.{Plain as PlainField, CellInt, CellPtr}
@@ -12,7 +12,6 @@ use Rattle.ceal_base.specs.declared.kind.Kind.TheVariants.{Int, Ptr, ModInt, Mod
 use Rattle.ceal_base.specs.declared.typed.StructInfo.{StructInfo}
 use Rattle.ceal_base.specs.declared.word.BlockId.{BlockId}
 use Rattle.ceal_base.specs.declared.word.BlockId.TheVariants.{Input, Core}
-use Rattle.ceal_base.specs.declared.word.Place.{Place}
 use Rattle.ceal_base.specs.declared.word.Word.{Word}
 use Rattle.ceal_base.specs.declared.word.Word.TheVariants.{Num, Null, Block as BlockWord, At}
 use Rattle.ceal_code.proofs.Closed.{Each}

@@ -1,5 +1,5 @@
 -- What fits a kind in a memory fits it in each that keeps the shapes of its blocks.
-use Rattle.std.proofs.Common.{◌≡◌, ℕ, suc, ◌<◌, ◌==◌, ◌&&◌, Bool, true, false, if◌then◌else◌, Option, Some, None, List, [], ◌∷◌, length, is_some, refl, sym, ap, ◌∙◌, subst, slice_get, arith}
+use Rattle.std.proofs.Common.{◌≡◌, ℕ, Bool, true, false, if◌then◌else◌, Option, Some, None, List, [], ◌∷◌, is_some, refl, sym, ap, ◌∙◌, arith}
 use Rattle.ceal_base.specs.Access.{of_struct, is_struct}
 use Rattle.ceal_base.specs.Block.{Block, Blocks, block_at, written_at}
 use Rattle.ceal_base.specs.Finished.{with_block}

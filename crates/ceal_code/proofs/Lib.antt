@@ -27,6 +27,7 @@ pub mod Kept
 pub mod Typed
 pub mod TypedInit
 pub mod TypedStack
+pub mod OnPath
 pub mod TypedActs
 pub mod TypedCommands
 pub mod TypedRun

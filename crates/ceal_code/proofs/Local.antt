@@ -1,5 +1,5 @@
 -- A step depends on the plain words of known blocks alone, and leads to known blocks.
-use Rattle.std.proofs.Common.{◌≡◌, ℕ, ◌&&◌, Bool, true, false, Option, Some, None, List, [], ◌∷◌, if◌then◌else◌, ap, is_some}
+use Rattle.std.proofs.Common.{◌≡◌, ℕ, ◌&&◌, Bool, true, false, List, [], ◌∷◌, if◌then◌else◌, ap, is_some}
 use Rattle.ceal_base.specs.Access.{of_struct, is_struct, place_in}
 use Rattle.ceal_base.specs.declared.forest.Key.{Key}
 use Rattle.ceal_base.specs.declared.forest.Key.TheVariants.{Init, ModInt as IntKey, ModPtr as PtrKey}
@@ -16,7 +16,7 @@ use Rattle.ceal_code.specs.Known.{Subset, Agree, Holds, Known_variables, Known_s
 use Rattle.ceal_code.specs.Program.{Code}
 use Rattle.ceal_code.specs.Replay.{Known_block, Known_word, Known_words, Known_key}
 use Rattle.ceal_code.specs.Step.{Stack, Empty, Run, Act, Over, Quiet, Makes, Writes, Reads, entered, given, next}
-use Rattle.ceal_code.specs.Value.{Plain, Variables, set, field_kind, is_cell, field_in, address_value}
+use Rattle.ceal_code.specs.Value.{Plain, Variables, set, field_kind, is_cell, field_in}
 
 module _ (inputs : ℕ) (bs cs : List ℕ) (sub : Subset bs cs) where
   pub block-more : (b : BlockId) → Known_block inputs bs b → Known_block inputs cs b

@@ -1,10 +1,10 @@
 -- What a write and a new block change in a memory, and what they leave.
-use Rattle.std.proofs.Common.{◌≡◌, ℕ, pos, zero, suc, ◌+◌, ◌<◌, ◌≤◌, ◌==◌, ◌&&◌, Bool, true, false, Option, Some, None, List, [], ◌∷◌, ◌++◌, length, if◌then◌else◌, refl, sym, ap, ◌∙◌, subst, slice_get, slice_set, unwrap_or, map, arith}
+use Rattle.std.proofs.Common.{◌≡◌, ℕ, pos, zero, suc, ◌+◌, ◌<◌, ◌==◌, ◌&&◌, Bool, true, false, Option, Some, None, List, [], ◌∷◌, ◌++◌, length, if◌then◌else◌, refl, ap, ◌∙◌, slice_get, slice_set, unwrap_or, map, arith}
 use Rattle.std.specs.Prelude.{⊤}
 use Rattle.ceal_base.specs.Access.{content_of, holds}
 use Rattle.ceal_base.specs.Block.{Block, Blocks, block_at, with_word, written_at}
 use Rattle.ceal_base.specs.Finished.{with_block}
-use Rattle.ceal_base.specs.Operators.{same_block, same_place}
+use Rattle.ceal_base.specs.Operators.{same_block}
 use Rattle.ceal_base.specs.Shapes.{default_of_field, default_block, kinds_of_shape}
 use Rattle.ceal_base.specs.declared.forest.Key.{Key}
 use Rattle.ceal_base.specs.declared.forest.Key.TheVariants.{Init, ModInt as IntKey, ModPtr as PtrKey}
@@ -17,7 +17,7 @@ use Rattle.ceal_base.specs.declared.word.BlockId.TheVariants.{Input, Core}
 use Rattle.ceal_base.specs.declared.word.Place.{Place}
 use Rattle.ceal_base.specs.declared.word.Word.{Word}
 use Rattle.ceal_base.specs.declared.word.Word.TheVariants.{Num, Null, At}
-use Rattle.ceal_code.proofs.Same.{both, nat-same, nat-refl, block-same, place-same, some-same, none-some}
+use Rattle.ceal_code.proofs.Same.{nat-same, block-same, none-some}
 use Rattle.ceal_code.specs.Init.{set_plain, set_by, set_by_row, set_by_all, arguments, made_by, made}
 use Rattle.ceal_code.specs.Program.{Code}
 use Rattle.ceal_code.specs.Replay.{Store, cell_default, content_in, shape_in, shape_of, cleared, stored}

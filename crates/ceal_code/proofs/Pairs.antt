@@ -1,5 +1,5 @@
 -- Pairs of core blocks.
-use Rattle.std.proofs.Common.{◌≡◌, ℕ, ◌+◌, ◌≤◌, Bool, true, false, ◌==◌, if◌then◌else◌, List, [], ◌∷◌, ◌⊎◌, inl, inr, refl, sym, ◌∙◌, arith}
+use Rattle.std.proofs.Common.{◌≡◌, ℕ, ◌+◌, ◌≤◌, ◌==◌, if◌then◌else◌, List, [], ◌∷◌, ◌⊎◌, inl, inr, refl, sym, ◌∙◌, arith}
 use Rattle.ceal_code.proofs.Same.{nat-refl}
 use Rattle.ceal_code.specs.Alike.{Pair, Pairs, Tied, Within, One_to_one, zipped}
 use Rattle.ceal_code.specs.Replay.{count, Distinct}

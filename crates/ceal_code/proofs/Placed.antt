@@ -1,5 +1,5 @@
 -- Each place that a memory or a stack names is that of a modifiable. A run keeps it so.
-use Rattle.std.proofs.Common.{◌≡◌, ℕ, pos, zero, suc, ◌<◌, ◌==◌, ◌&&◌, Bool, true, false, Option, Some, None, List, [], ◌∷◌, length, if◌then◌else◌, refl, sym, ap, ◌∙◌, subst, slice_get, slice_set, is_some, arith}
+use Rattle.std.proofs.Common.{◌≡◌, ℕ, ◌&&◌, Bool, true, false, Option, Some, None, List, [], ◌∷◌, length, if◌then◌else◌, refl, sym, ap, ◌∙◌, subst, slice_get, is_some, arith}
 use Rattle.std.specs.Prelude.{⊤}
 use Rattle.ceal_base.specs.Access.{of_struct, is_struct, place_in}
 use Rattle.ceal_base.specs.Block.{Block, Blocks, block_at, written_at}
@@ -9,7 +9,6 @@ use Rattle.ceal_base.specs.Operators.{same_block}
 use Rattle.ceal_base.specs.Shapes.{kinds_of_shape}
 use Rattle.ceal_base.specs.declared.forest.Key.{Key}
 use Rattle.ceal_base.specs.declared.forest.Key.TheVariants.{Init, ModInt as IntKey, ModPtr as PtrKey}
-use Rattle.ceal_base.specs.declared.kind.FieldKind.{FieldKind}
 use Rattle.ceal_base.specs.declared.kind.Shape.{Shape}
 use Rattle.ceal_base.specs.declared.kind.Shape.TheVariants.{Struct, ModInt, ModPtr}
 use Rattle.ceal_base.specs.declared.typed.StructInfo.{StructInfo}
@@ -20,13 +19,13 @@ use Rattle.ceal_base.specs.declared.word.Word.{Word}
 use Rattle.ceal_base.specs.declared.word.Word.TheVariants.{Num, Null, Block as BlockWord, At}
 use Rattle.ceal_code.proofs.Closed.{Each, each-at, Of_stack, Of_key, Closed, field_in-of, field_default-of}
 use Rattle.ceal_code.proofs.ClosedInit.{put-of, made-of}
-use Rattle.ceal_code.proofs.Memory.{contents, Cell_there, content-there, get-before, get-push_other, altered, written-here, written-other, grown-here, grown-other, made-shape}
-use Rattle.ceal_code.proofs.Same.{both, nat-same, block-same, some-same, none-some, struct-shape}
+use Rattle.ceal_code.proofs.Memory.{contents, Cell_there, content-there, get-push_other, altered, written-here, written-other, grown-here, made-shape}
+use Rattle.ceal_code.proofs.Same.{both, block-same, some-same, struct-shape}
 use Rattle.ceal_code.specs.Init.{made, pointer}
 use Rattle.ceal_code.specs.Program.{Code}
 use Rattle.ceal_code.specs.Replay.{shape_of}
 use Rattle.ceal_code.specs.Step.{Stack, Empty, Run}
-use Rattle.ceal_code.specs.Value.{Plain, field_kind, is_cell, field_in, address_value}
+use Rattle.ceal_code.specs.Value.{field_kind, is_cell, field_in}
 
 -- a place is that of a modifiable
 abbrev pub Placed : List StructInfo → Blocks → Word → Type 0

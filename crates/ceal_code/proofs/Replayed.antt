@@ -1,38 +1,32 @@
 -- A trace that replays a call and is honest determines the run of the call from scratch.
-use Rattle.std.proofs.Common.{◌≡◌, ℕ, pos, zero, suc, ◌+◌, ◌-◌, ◌<◌, ◌≤◌, Bool, true, false, if◌then◌else◌, Option, Some, None, List, [], ◌∷◌, ◌++◌, length, map, append-nil, refl, sym, ap, ◌∙◌, subst, slice_get, slice_index, unwrap_or, arith}
+use Rattle.std.proofs.Common.{◌≡◌, ℕ, pos, zero, suc, ◌+◌, ◌-◌, ◌<◌, ◌≤◌, Bool, true, false, if◌then◌else◌, Option, Some, None, List, [], ◌∷◌, ◌++◌, length, map, append-nil, refl, sym, ap, ◌∙◌, slice_get, slice_index, unwrap_or, arith}
 use Rattle.std.specs.Option.{option_map}
 use Rattle.ceal_base.specs.Block.{Block, Blocks, block_at}
-use Rattle.ceal_base.specs.Finished.{Finished}
 use Rattle.ceal_base.specs.Fitting.{inputs_fit}
-use Rattle.ceal_base.specs.Same.{Same, renamed_block}
+use Rattle.ceal_base.specs.Same.{renamed_block}
 use Rattle.ceal_base.specs.Shapes.{kinds_of_shape}
-use Rattle.ceal_base.specs.Trace.{Trace, Nothing, Stepped, Allocated, Wrote, Was_read, steps_of, blocks_of}
+use Rattle.ceal_base.specs.Trace.{Trace, steps_of, blocks_of}
 use Rattle.ceal_base.specs.declared.kind.FieldKind.{FieldKind}
 use Rattle.ceal_base.specs.declared.kind.FieldKind.TheVariants.{Plain as PlainField, CellInt, CellPtr}
-use Rattle.ceal_base.specs.declared.typed.StructInfo.{StructInfo}
 use Rattle.ceal_base.specs.declared.word.BlockId.{BlockId}
 use Rattle.ceal_base.specs.declared.word.BlockId.TheVariants.{Input, Core}
-use Rattle.ceal_base.specs.declared.word.Place.{Place}
 use Rattle.ceal_base.specs.declared.word.Word.{Word}
 use Rattle.ceal_base.specs.declared.word.Word.TheVariants.{Num}
 use Rattle.ceal_code.proofs.AlikeLemmas.{entered-alike, field_default-self}
-use Rattle.ceal_code.proofs.Closed.{Each, Of_stack, entered-of, chosen-of, get-of}
+use Rattle.ceal_code.proofs.Closed.{Each, entered-of, chosen-of, get-of}
 use Rattle.ceal_code.proofs.Determined.{cores-append, numbered, Stands, Runs, determined}
 use Rattle.ceal_code.proofs.FinalMemory.{numbered-at, numbered-one, is-distinct, list-same, get-map, block-named}
 use Rattle.ceal_code.proofs.FittingLemmas.{word-self, input-known, input-self, plain-self, begun-placed, args-known, args-placed}
-use Rattle.ceal_code.proofs.Local.{each-words}
-use Rattle.ceal_code.proofs.Memory.{contents, got}
+use Rattle.ceal_code.proofs.Memory.{contents}
 use Rattle.ceal_code.proofs.Placed.{Placed}
-use Rattle.ceal_code.proofs.Same.{none-some}
-use Rattle.ceal_code.specs.Alike.{Pairs, Tied, Id_alike, Word_alike, Words_alike, Stack_alike, Maybe_alike, Plain_alike, Store_alike, Within}
+use Rattle.ceal_code.specs.Alike.{Pairs, Id_alike, Word_alike, Words_alike, Stack_alike, Maybe_alike, Plain_alike, Store_alike}
 use Rattle.ceal_code.specs.Determined.{Determined}
 use Rattle.ceal_code.specs.Fitting.{Fits}
-use Rattle.ceal_code.specs.Fresh.{ran, only_over, run, fresh}
-use Rattle.ceal_code.specs.Over.{on}
+use Rattle.ceal_code.specs.Fresh.{run, fresh}
 use Rattle.ceal_code.specs.Program.{Code}
-use Rattle.ceal_code.specs.Replay.{Yields, Store, Known_word, Known_words, core_numbers, learnt, plain_words, plain_block, input_plain, plain_after, plain_of, content_in, input_block, bases, Replays, IsHonest, with_contents, filled, block_after, inputs_after}
+use Rattle.ceal_code.specs.Replay.{Yields, Store, Known_words, core_numbers, learnt, plain_words, plain_block, input_plain, plain_after, plain_of, content_in, input_block, bases, Replays, IsHonest, with_contents, filled, block_after, inputs_after}
 use Rattle.ceal_code.specs.Init.{made}
-use Rattle.ceal_code.specs.Step.{Stack, Empty, Run, chosen, started, entered, unit_at, entry_of, settled, next}
+use Rattle.ceal_code.specs.Step.{Stack, Empty, chosen, started, unit_at, entry_of, settled, next}
 use Rattle.ceal_code.specs.Value.{Plain, field_kind, is_cell, field_default}
 
 -- an input keeps its plain words

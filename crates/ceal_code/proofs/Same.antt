@@ -1,5 +1,5 @@
 -- What the operators of sameness say: equal.
-use Rattle.std.proofs.Common.{◌≡◌, ℕ, ℤ, Bool, true, false, ◌==◌, ◌&&◌, Option, Some, None, List, [], ◌∷◌, refl, ap, ap₂, arith}
+use Rattle.std.proofs.Common.{◌≡◌, ℕ, ℤ, Bool, true, false, ◌==◌, ◌&&◌, Some, None, refl, ap, ap₂, arith}
 use Rattle.std.specs.Ordering.{int_eq}
 use Rattle.ceal_base.specs.Access.{is_struct}
 use Rattle.ceal_base.specs.Operators.{same_block, same_place, same_word}

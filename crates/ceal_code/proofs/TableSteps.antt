@@ -6,7 +6,7 @@ use Rattle.std.proofs.Math.Path.{fun_ext}
 use Rattle.std.proofs.lemmas.List.{get_or-set_same, get_or-set_other}
 use Rattle.ceal_base.specs.Block.{Block}
 use Rattle.ceal_base.specs.Operators.{same_block}
-use Rattle.ceal_base.specs.Shapes.{default_of_field, kinds_of_shape}
+use Rattle.ceal_base.specs.Shapes.{kinds_of_shape}
 use Rattle.ceal_base.specs.Trace.{Trace, Nothing, Stepped, Allocated, Wrote, Was_read, flat}
 use Rattle.ceal_base.specs.contracts.word.BlockIdPartialEq.TheImpl.{ghosts}
 use Rattle.ceal_base.specs.declared.forest.Item.{Item}
@@ -16,7 +16,6 @@ use Rattle.ceal_base.specs.declared.kind.FieldKind.{FieldKind}
 use Rattle.ceal_base.specs.declared.kind.Shape.{Shape}
 use Rattle.ceal_base.specs.declared.word.BlockId.{BlockId}
 use Rattle.ceal_base.specs.declared.word.BlockId.TheVariants.{Input, Core}
-use Rattle.ceal_base.specs.declared.typed.StructInfo.{StructInfo}
 use Rattle.ceal_base.specs.declared.word.Place.{Place}
 use Rattle.ceal_base.specs.declared.word.Word.{Word}
 use Rattle.ceal_code.proofs.Same.{nat-same, block-same, block-refl}
@@ -24,7 +23,7 @@ use Rattle.ceal_code.specs.After.{store_after}
 use Rattle.ceal_code.specs.Init.{made}
 use Rattle.ceal_code.specs.PlainWords.{block_shape, block_word}
 use Rattle.ceal_code.specs.Program.{Code}
-use Rattle.ceal_code.specs.Replay.{Store, bases, learnt, input_plain, plain_words, plain_block, plain_after, plain_of, cleared, stored, shape_of, cell_default, with_contents, block_after, filled}
+use Rattle.ceal_code.specs.Replay.{Store, bases, learnt, input_plain, plain_words, plain_after, plain_of, cleared, stored, shape_of, cell_default, with_contents, block_after, filled}
 use Rattle.ceal_code.specs.Tables.{plain_field_word, code_in, inputs_in, made_or, plain_in, unwritten, word_in, store_in, plain_item, plain_flat, store_item, store_flat}
 use Rattle.ceal_code.specs.Value.{Plain, field_kind, is_cell}
 use Rattle.ceal_code.specs.declared.contents.Fields.{Fields}
@@ -52,16 +51,11 @@ plain-at (k ∷ ks) (w ∷ ws) (suc f) = plain-at ks ws f
 
 pub ruleset input_steps = (plain-at)
 
-pub get-here : {A : Type 0} (xs : List A) (n : ℕ) (d : A) → n < length xs → slice_get xs n ≡ Some (get_or xs n d)
-get-here [] n d h = absurd (omega (arith, h))
-get-here (x ∷ xs) zero d h = refl
-get-here (x ∷ xs) (suc n) d h = get-here xs n d (omega (arith, h))
-
 -- the plain word of an input's field
-pub input-some : (code : Code) (inputs : List Block) (b : BlockId) (n f : ℕ) (block : Block) (w : Option Word) → b ≡ Input n → slice_get inputs n ≡ Some block
+pub input-some : (code : Code) (inputs : List Block) (b : BlockId) (n f : ℕ) (block : Block) (w : Option Word) → b ≡ Input n → Some block ≡ slice_get inputs n
     → w ≡ option_map (plain_field_word (slice_get (kinds_of_shape code.structs block.shape) f)) (slice_get block.words f) → w ≡ block_word (input_plain code inputs b) f
 unfolding input_plain
-input-some code inputs b n f block w e h k = rw (e, h) (k ∙ sym (plain-at (kinds_of_shape code.structs block.shape) block.words f))
+input-some code inputs b n f block w e h k = rw (e, ← h) (k ∙ sym (plain-at (kinds_of_shape code.structs block.shape) block.words f))
 
 -- with contents, word by word
 contents-at : (s : Store) (b : BlockId) (n : ℕ) (kinds : List FieldKind) (words : List Word) (f : ℕ)
@@ -202,7 +196,7 @@ opened code s (Some found) fields blank p e h = rw e refl
 pub contents-put : (old next : TraceMemory) (blank : Fields) (place : Place) (value : Word) → code_in next ≡ code_in old → inputs_in next ≡ inputs_in old
     → ((code : Code) (s : Store) (p : Place) → word_in code s (Some blank) p ≡ unwritten code s None p)
     → ((code : Code) (s : Store) (p : Place) → word_in code s (get ghosts.eq next.contents place.block) p
-        ≡ (if p.field == place.field then value else word_in code s (Some (unwrap_or (get ghosts.eq old.contents place.block) blank)) p))
+    ≡ (if p.field == place.field then value else word_in code s (Some (unwrap_or (get ghosts.eq old.contents place.block) blank)) p))
     → ((b : BlockId) → ghosts.eq place.block b ≡ false → get ghosts.eq next.contents b ≡ get ghosts.eq old.contents b)
     → store_in next ≡ stored (store_in old) place value
 unfolding store_in stored

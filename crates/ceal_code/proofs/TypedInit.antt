@@ -232,6 +232,7 @@ module _ (code : Code) (ok : valid code ≡ true) (m : Blocks) (typed : Memory_t
       let p = init-ok f name s params body g.kinds' g.ok in
       all-set code.structs m typed params (replicate (length params) true) (arguments args) (arguments-typed code.structs m params (replicate (length params) true) args h) s body
       (default_block code.structs (Struct s)).words p.1 (defaults-fit code.structs m (kinds_of_shape code.structs (Struct s)))
+
   -- a new block fits
   pub made-fits : (key : Key) → Key_typed code m key → fields_fit code.structs m (kinds_of_shape code.structs (made code (block_at m) key).shape) (made code (block_at m) key).words ≡ true
   unfolding made

@@ -26,7 +26,7 @@ use Rattle.ceal_code.specs.declared.command.Cmd.TheVariants.{Move, Tick, Alloc, 
 use Rattle.ceal_code.specs.declared.expr.VarId.{VarId}
 
 -- which variables are known after a parameter, or an assignment
-known-set : (known : List Bool) (v u : ℕ) → unwrap_or (slice_get (slice_set known v true) u) false ≡ true → (u ≡ v) ⊎ (unwrap_or (slice_get known u) false ≡ true)
+pub known-set : (known : List Bool) (v u : ℕ) → unwrap_or (slice_get (slice_set known v true) u) false ≡ true → (u ≡ v) ⊎ (unwrap_or (slice_get known u) false ≡ true)
 known-set [] v u h = inr h
 known-set (b ∷ known) zero zero h = inl refl
 known-set (b ∷ known) zero (suc u) h = inr h
@@ -190,12 +190,22 @@ module _ (code : Code) (m : Blocks) where
 abbrev begun : Code → CodeUnit → List Bool
 begun code unit = with_params (replicate (length (kinds_of code unit.function)) false) unit.params
 
-unit-path : (code : Code) (unit : CodeUnit) → unit_ok code unit ≡ true → paths_ok code unit.function unit.body (length unit.body) 0 (begun code unit) false ≡ true
-unfolding unit_ok
-unit-path code unit h =
-    let p = both (is_core (slice_get code.functions unit.function)) (all_below (length (kinds_of code unit.function)) unit.params && body_ok code unit.function unit.params unit.body) h in
-    let q = both (all_below (length (kinds_of code unit.function)) unit.params) (body_ok code unit.function unit.params unit.body) p.1 in
-    (both (all_forward unit.body 0 && is_tree unit.body) (paths_ok code unit.function unit.body (length unit.body) 0 (begun code unit) false) q.1).1
+module _ (code : Code) (unit : CodeUnit) (h : unit_ok code unit ≡ true) where
+  abbrev unit-paths : Bool
+  unit-paths = paths_ok code unit.function unit.body (length unit.body) 0 (begun code unit) false
+
+  unit-body : ((all_forward unit.body 0 && is_tree unit.body) ≡ true) × (unit-paths ≡ true)
+  unfolding unit_ok
+  unit-body =
+      let p = both (is_core (slice_get code.functions unit.function)) (all_below (length (kinds_of code unit.function)) unit.params && body_ok code unit.function unit.params unit.body) h in
+      let q = both (all_below (length (kinds_of code unit.function)) unit.params) (body_ok code unit.function unit.params unit.body) p.1 in
+      both (all_forward unit.body 0 && is_tree unit.body) unit-paths q.1
+
+  pub unit-path : unit-paths ≡ true
+  unit-path = unit-body.1
+
+  pub unit-tree : (all_forward unit.body 0 ≡ true) × (is_tree unit.body ≡ true)
+  unit-tree = both (all_forward unit.body 0) (is_tree unit.body) unit-body.0
 
 module _ (code : Code) (ok : valid code ≡ true) (m : Blocks) where
   -- a unit at its beginning, on words that fit its parameters

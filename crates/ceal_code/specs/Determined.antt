@@ -1,7 +1,6 @@
 -- What a trace says of the run from scratch.
-use Rattle.std.specs.Prelude.{◌≡◌, ℕ, ◌≤◌, ◌<◌, Option, Some, None, List, length}
+use Rattle.std.specs.Prelude.{◌≡◌, ℕ, ◌≤◌, ◌<◌, Some, None, List, length}
 use Rattle.ceal_base.specs.Block.{Block, Blocks}
-use Rattle.ceal_base.specs.Finished.{Finished}
 use Rattle.ceal_base.specs.Same.{Same}
 use Rattle.ceal_base.specs.Trace.{Trace, steps_of, blocks_of}
 use Rattle.ceal_base.specs.declared.word.BlockId.TheVariants.{Core}

@@ -1,5 +1,5 @@
 -- A run of trace code from scratch.
-use Rattle.std.specs.Prelude.{ℕ, zero, suc, ◌+◌, Option, Some, None, List, [], ◌∷◌, length}
+use Rattle.std.specs.Prelude.{ℕ, zero, suc, ◌+◌, Option, Some, None, List, [], length}
 use Rattle.ceal_base.specs.Access.{content_of}
 use Rattle.ceal_base.specs.Block.{Block, Blocks, block_at, written_at}
 use Rattle.ceal_base.specs.Finished.{Finished, with_block}

@@ -1,5 +1,5 @@
 -- Laws of trace code.
-use Rattle.std.specs.Prelude.{◌≡◌, ℕ, true, List, []}
+use Rattle.std.specs.Prelude.{◌≡◌, ℕ, true, Some, List, [], slice_get}
 use Rattle.ceal_base.specs.Block.{Block, Blocks}
 use Rattle.ceal_base.specs.Trace.{Trace}
 use Rattle.ceal_base.specs.declared.forest.Key.{Key}
@@ -10,12 +10,14 @@ use Rattle.ceal_code.specs.Fitting.{Fits}
 use Rattle.ceal_code.specs.Init.{made}
 use Rattle.ceal_code.specs.Known.{Agree, Holds, Known_stack, Known_act}
 use Rattle.ceal_code.specs.Over.{on, act_on}
-use Rattle.ceal_code.specs.Program.{Code}
+use Rattle.ceal_code.specs.OnPath.{IsOnPath, IsRight}
+use Rattle.ceal_code.specs.Program.{Unit, Code}
 use Rattle.ceal_code.specs.Replay.{Known_words, Known_key, Replays, IsHonest}
 use Rattle.ceal_code.specs.Running.{Reaches, Not_stuck}
 use Rattle.ceal_code.specs.Step.{Stack, started, next}
 use Rattle.ceal_code.specs.Valid.{valid}
 use Rattle.ceal_code.specs.Value.{Plain}
+use Rattle.ceal_code.specs.declared.command.Cmd.{Cmd}
 
 -- where a stack names known blocks alone, and these name known blocks alone, the next step names no other, and is
 -- the same over any plain words that agree on the known blocks
@@ -43,6 +45,11 @@ Alike_law = (code : Code) (ps : Pairs) → One_to_one ps → (x y : Plain) → P
 abbrev pub Trace_law : Type 0
 Trace_law = (code : Code) (inputs : List Block) (f : ℕ) (args : List Word) → Fits code inputs f args
     → (l : Trace) → Replays code inputs f args l → (h : IsHonest code inputs l) → Determined code inputs f args l h.after
+
+-- in valid code each command of a unit's body is on a path from the first, and is right there
+abbrev pub Path_law : Type 0
+Path_law = (code : Code) → valid code ≡ true → (u : ℕ) (unit : Unit) → slice_get code.units u ≡ Some unit
+    → (i : ℕ) (c : Cmd) → slice_get unit.body i ≡ Some c → IsOnPath unit.body i × IsRight code unit.function c
 
 -- valid code is never stuck
 abbrev pub Progress_law : Type 0

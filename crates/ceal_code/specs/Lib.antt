@@ -5,6 +5,7 @@ pub mod Step
 pub mod Fresh
 pub mod Replay
 pub mod Valid
+pub mod OnPath
 pub mod Parts
 pub mod Listing
 pub mod Branches

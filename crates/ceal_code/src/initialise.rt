@@ -38,8 +38,10 @@ fn set_fields<'a, P: PlainWords>(
     block: &mut BlockWords,
     stmts: &[InitStmt],
 )
-    ensures { block.new ≡ record block.old { words = set_by_all scope.now.structs.now
-        (P.plain scope.now.plain.now) (arguments scope.now.env.now) s block.old.words stmts.now } }
+    ensures { block.new ≡ record block.old {
+      words = set_by_all scope.now.structs.now
+          (P.plain scope.now.plain.now) (arguments scope.now.env.now) s block.old.words stmts.now;
+    } }
 {
     for stmt in stmts {
         set_field(scope, s, block, stmt);
@@ -54,8 +56,10 @@ fn set_field<'a, P: PlainWords>(
     block: &mut BlockWords,
     stmt: &InitStmt,
 )
-    ensures { block.new ≡ record block.old { words = set_by scope.now.structs.now
-        (P.plain scope.now.plain.now) (arguments scope.now.env.now) s block.old.words stmt.now } }
+    ensures { block.new ≡ record block.old {
+      words = set_by scope.now.structs.now
+          (P.plain scope.now.plain.now) (arguments scope.now.env.now) s block.old.words stmt.now;
+    } }
 {
     match stmt {
         InitStmt::Set { field, value } => {

@@ -1,7 +1,7 @@
 // Laws of trace code, each the contract of a function that does nothing.
 
 ghost use Rattle.ceal_code.specs.After.{Store_law, Inputs_law};
-ghost use Rattle.ceal_code.specs.Laws.{Step_law, Block_law, Over_law, Alike_law, Trace_law, Progress_law};
+ghost use Rattle.ceal_code.specs.Laws.{Step_law, Block_law, Over_law, Alike_law, Trace_law, Path_law, Progress_law};
 
 /// A step of trace code depends on the plain words of the blocks that its stack can reach, and on nothing else
 /// (our own).
@@ -31,8 +31,13 @@ pub fn trace_law()
     ensures law { Trace_law }
 {}
 
+/// Each command of a unit of valid code lies on a path from the unit's first command, and is right there (our own).
+pub fn path_law()
+    ensures law { Path_law }
+{}
+
 /// Valid code is never stuck: in each state of a run from fitting arguments and inputs the memory fits, all that the
-/// next command names is there, and there is a next state or the run is at its end (our own).
+/// commands of its units name is there, and there is a next state or the run is at its end (our own).
 pub fn progress_law()
     ensures law { Progress_law }
 {}

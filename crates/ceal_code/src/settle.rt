@@ -93,7 +93,7 @@ pub fn arrive<P: PlainWords>(
 ) -> Result<Option<Activation>, NoMemory>
     ensures arrives { IfOk result (λ found. (below rest : Stack) →
         settled_at code.now (P.plain plain.now) (command_at code.now top.unit top.index)
-            top.unit top.index (arguments top.env.items) below rest
+        top.unit top.index (arguments top.env.items) below rest
         ≡ arrived found below rest) }
 {
     match code.command(top.unit, top.index) {

@@ -280,12 +280,7 @@ impl Stack {
     }
 
     /// A call of the function by itself, on words for all its parameters.
-    pub fn call(
-        alloc: Global,
-        code: &Code,
-        function: u32,
-        args: &[Word],
-    ) -> Result<Stack, NoMemory>
+    pub fn call(alloc: Global, code: &Code, function: u32, args: &[Word]) -> Result<Stack, NoMemory>
         ensures started { IfOk result (λ stack. stack_in stack ≡ started code.now function args.now) }
     {
         let unit = code.entry_of(function);

@@ -255,11 +255,7 @@ fn perform<P: PlainWords>(
 
 /// The next step of the stack. After want of memory the stack is of no further use.
 #[tactic(auto, unfolding(crate::specs::Step::next))]
-pub fn advance<P: PlainWords>(
-    code: &Code,
-    plain: &P,
-    stack: &mut Stack,
-) -> Result<Act, NoMemory>
+pub fn advance<P: PlainWords>(code: &Code, plain: &P, stack: &mut Stack) -> Result<Act, NoMemory>
     ensures act { IfOk result (λ a. next code.now (P.plain plain.now) (stack_in stack.old)
         ≡ act_in a (stack_in stack.new)) }
 {

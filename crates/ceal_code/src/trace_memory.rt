@@ -81,6 +81,12 @@ fn plain_word_in(code: &Code, block: &BlockWords, field: u32) -> Option<Word>
     }
 }
 
+fn input_at(inputs: &Inputs, n: u32) -> Option<&BlockWords>
+    ensures { option_map (λ b. b.now) result ≡ slice_get inputs.now n }
+{
+    inputs.items().get(n as usize)
+}
+
 /// The plain word of an input's field.
 #[tactic(auto, using(crate::proofs::TableSteps::input_steps), unfolding(crate::specs::Replay::input_plain))]
 fn input_word(code: &Code, inputs: &Inputs, block: BlockId, field: u32) -> Option<Word>
@@ -88,7 +94,7 @@ fn input_word(code: &Code, inputs: &Inputs, block: BlockId, field: u32) -> Optio
 {
     match block {
         BlockId::Core(_) => None,
-        BlockId::Input(n) => match inputs.items().get(n as usize) {
+        BlockId::Input(n) => match input_at(inputs, n) {
             None => None,
             Some(found) => plain_word_in(code, found, field),
         },
@@ -105,7 +111,7 @@ fn put_word(
     ensures here { OnOk result ((code : Parts) (s : Store) (p : Cell) →
         word_in code s (get ghosts.eq contents.new place.block) p
         ≡ (if p.field == place.field then value
-            else word_in code s (Some (unwrap_or (get ghosts.eq contents.old place.block) unwritten)) p)) }
+        else word_in code s (Some (unwrap_or (get ghosts.eq contents.old place.block) unwritten)) p)) }
     ensures others { OnOk result ((b : Number) → ghosts.eq place.block b ≡ false →
         get ghosts.eq contents.new b ≡ get ghosts.eq contents.old b) }
 {
@@ -210,7 +216,8 @@ impl<'a> TraceMemory<'a> {
             (store_in self.new ≡ cleared (code_in self.old) (store_in self.old) id key.now) }
     {
         let shape = made_shape(self.code, key);
-        self.contents.insert(id, Fields::new(self.alloc, Some(shape)))?;
+        self.contents
+            .insert(id, Fields::new(self.alloc, Some(shape)))?;
         Ok(())
     }
 

@@ -8,6 +8,7 @@ pub mod UseSteps
 pub mod UnusedSteps
 pub mod Bodies
 pub mod Values
+pub mod Forward
 pub mod Simulated
 pub mod Runs
 pub mod Traces

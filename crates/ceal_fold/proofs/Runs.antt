@@ -17,13 +17,14 @@ use Rattle.ceal_code.specs.Fresh.{ran, only_over, run, fresh}
 use Rattle.ceal_code.specs.Init.{made, pointer}
 use Rattle.ceal_code.specs.Program.{Unit as CodeUnit, Code}
 use Rattle.ceal_code.specs.Step.{Stack, Empty, Run, Act, Over, Quiet, Makes, Writes, Reads, unit_at, command_at, entry_of, entry_in, kinds_of, variable_default, kind_default, bound, entered, chosen, given, woven, started, place_of, writes_at, reads_at, act, landed, settled_at, settled, acted, next}
-use Rattle.ceal_code.specs.Valid.{command_ok, onward, path_ok, paths_ok, is_tree, with_params, is_core, below as all_below, body_ok, unit_ok, valid, followers}
+use Rattle.ceal_code.specs.Valid.{command_ok, onward, path_ok, paths_ok, all_forward, is_tree, with_params, is_core, below as all_below, body_ok, unit_ok, valid, followers}
 use Rattle.ceal_code.specs.Value.{Plain, Variables, set, expr_value, values}
 use Rattle.ceal_code.specs.declared.command.Cmd.{Cmd}
 use Rattle.ceal_code.specs.declared.command.Cmd.TheVariants.{Done}
 use Rattle.ceal_code.specs.declared.function.FunctionCode.{FunctionCode}
 use Rattle.ceal_code.specs.declared.function.FunctionCode.TheVariants.{Core as CoreFunction, Init as InitFunction}
 use Rattle.ceal_fold.proofs.Bodies.{facts, facts-root}
+use Rattle.ceal_fold.proofs.Forward.{forward-at}
 use Rattle.ceal_fold.proofs.Simulated.{spot, Frame_tied, Cmds_tied, cmd-tied}
 use Rattle.ceal_fold.proofs.Values.{Holds, holds-none}
 use Rattle.ceal_fold.specs.Folding.{at_root, folded_command, ticked, replaced, used_in, without_unused, folded_unit, folded_units, folded}
@@ -47,20 +48,25 @@ ended : (structs : List StructInfo) (i : ℕ) → unwrap_or (slice_get (folded_u
 unfolding replaced without_unused
 ended structs i = refl
 
-pub unit-tree : (code : Code) (unit : CodeUnit) → unit_ok code unit ≡ true → is_tree unit.body ≡ true
+-- what valid code says of a unit's body
+unit-body : (code : Code) (unit : CodeUnit) → unit_ok code unit ≡ true → body_ok code unit.function unit.params unit.body ≡ true
 unfolding unit_ok
-unit-tree code unit h =
+unit-body code unit h =
     let p = both (is_core (slice_get code.functions unit.function)) (all_below (length (kinds_of code unit.function)) unit.params && body_ok code unit.function unit.params unit.body) h in
-    let q = both (all_below (length (kinds_of code unit.function)) unit.params) (body_ok code unit.function unit.params unit.body) p.1 in
-    (both (is_tree unit.body) (paths_ok code unit.function unit.body (length unit.body) 0 (with_params (replicate (length (kinds_of code unit.function)) false) unit.params) false) q.1).0
+    (both (all_below (length (kinds_of code unit.function)) unit.params) (body_ok code unit.function unit.params unit.body) p.1).1
 
-pub unit-path : (code : Code) (unit : CodeUnit) → unit_ok code unit ≡ true
-    → paths_ok code unit.function unit.body (length unit.body) 0 (with_params (replicate (length (kinds_of code unit.function)) false) unit.params) false ≡ true
-unfolding unit_ok
-unit-path code unit h =
-    let p = both (is_core (slice_get code.functions unit.function)) (all_below (length (kinds_of code unit.function)) unit.params && body_ok code unit.function unit.params unit.body) h in
-    let q = both (all_below (length (kinds_of code unit.function)) unit.params) (body_ok code unit.function unit.params unit.body) p.1 in
-    (both (is_tree unit.body) (paths_ok code unit.function unit.body (length unit.body) 0 (with_params (replicate (length (kinds_of code unit.function)) false) unit.params) false) q.1).1
+module _ (code : Code) (unit : CodeUnit) (h : unit_ok code unit ≡ true) where
+  abbrev paths : Bool
+  paths = paths_ok code unit.function unit.body (length unit.body) 0 (with_params (replicate (length (kinds_of code unit.function)) false) unit.params) false
+
+  pub unit-forward : all_forward unit.body 0 ≡ true
+  unit-forward = (both (all_forward unit.body 0) (is_tree unit.body) (both (all_forward unit.body 0 && is_tree unit.body) paths (unit-body code unit h)).0).0
+
+  pub unit-tree : is_tree unit.body ≡ true
+  unit-tree = (both (all_forward unit.body 0) (is_tree unit.body) (both (all_forward unit.body 0 && is_tree unit.body) paths (unit-body code unit h)).0).1
+
+  pub unit-path : paths ≡ true
+  unit-path = (both (all_forward unit.body 0 && is_tree unit.body) paths (unit-body code unit h)).1
 
 module _ (code : Code) (ok : valid code ≡ true) where
   abbrev after : Code
@@ -102,11 +108,12 @@ module _ (code : Code) (ok : valid code ≡ true) where
       at : (c : Cmd) → slice_get unit.body i ≡ Some c → (n : ℕ) → onward (paths_ok code unit.function unit.body n) c i flags ≡ true → Cmds_tied code ok u i env env' (command_at code u i) (command_at after u i)
       at c e n h =
           let s = spot code.structs unit.body i c (unit-tree code unit (unit-valid code ok u unit is)) e in
+          let up = forward-at unit.body 0 i i c (unit-forward code unit (unit-valid code ok u unit is)) e (omega arith) in
           let p : unit_at code u ≡ unit = ap (λ o. unwrap_or o none) is in
           let a : command_at code u i ≡ c = ap (λ unit. unwrap_or (slice_get unit.body i) Done) p ∙ ap (λ o. unwrap_or o Done) e in
           let b : command_at after u i ≡ ticked (used_in s.later (followers c i)) (folded_command code.structs (facts code.structs at_root 0 unit.body i) c) = ap (λ unit. unwrap_or (slice_get unit.body i) Done) (unit-is u ∙ ap (folded_unit code.structs) p) ∙ ap (λ o. unwrap_or o Done) s.there in
           subst (λ c. Cmds_tied code ok u i env env' c (command_at after u i)) (sym a)
-          (subst (Cmds_tied code ok u i env env' c) (sym b) (cmd-tied code ok u i env env' unit is known same s.later s.ahead c s.here s.follow n flags h))
+          (subst (Cmds_tied code ok u i env env' c) (sym b) (cmd-tied code ok u i env env' unit is known same s.later s.ahead c up s.here s.follow n flags h))
 
       found : (o : Option Cmd) (n : ℕ) → slice_get unit.body i ≡ o → path_ok code unit.function (paths_ok code unit.function unit.body n) o i flags stepped ≡ true → Cmds_tied code ok u i env env' (command_at code u i) (command_at after u i)
       found None n g h = absurd (grind (arith, h))

@@ -6,7 +6,7 @@ use Rattle.ceal_base.specs.declared.typed.StructInfo.{StructInfo}
 use Rattle.ceal_base.specs.declared.word.Word.{Word}
 use Rattle.ceal_code.proofs.Same.{both, nat-same}
 use Rattle.ceal_code.specs.Program.{Unit as CodeUnit, Code}
-use Rattle.ceal_code.specs.Valid.{onward, paths_ok, is_tree, valid, followers}
+use Rattle.ceal_code.specs.Valid.{goes_forward, onward, paths_ok, is_tree, valid, followers}
 use Rattle.ceal_code.specs.Value.{Plain, Variables, set, expr_value, values}
 use Rattle.ceal_code.specs.declared.command.Cmd.{Cmd}
 use Rattle.ceal_code.specs.declared.command.Cmd.TheVariants.{Move, Tick, Alloc, Modref, Write, If, Done, Tail, Read, Call}
@@ -176,11 +176,11 @@ module _ (code : Code) (ok : valid code ≡ true) where
     next-up : i < i + 1
     next-up = omega arith
 
-    pub cmd-tied : (c : Cmd) → ((v : ℕ) → used 0 (final code.structs unit.body) i v ≡ used_by later (ticked (used_in later (followers c i)) (folds c)) i v)
+    pub cmd-tied : (c : Cmd) → goes_forward c i ≡ true → ((v : ℕ) → used 0 (final code.structs unit.body) i v ≡ used_by later (ticked (used_in later (followers c i)) (folds c)) i v)
         → ((j : ℕ) → i < j → is_among j (followers c i) ≡ true → F j ≡ copies_after (F i) (folds c))
         → (fuel : ℕ) (flags : List Bool) → onward (paths_ok code unit.function unit.body fuel) c i flags ≡ true
         → Cmds_tied u i env env' c (ticked (used_in later (followers c i)) (folds c))
-    cmd-tied (Move v e) here follow fuel flags p = go (used_in later ((i + 1) ∷ []) v.0) refl here
+    cmd-tied (Move v e) up here follow fuel flags p = go (used_in later ((i + 1) ∷ []) v.0) refl here
       where
         e' : CodeExpr
         e' = folded_expr code.structs (F i) e
@@ -207,30 +207,29 @@ module _ (code : Code) (ok : valid code ≡ true) where
                 which : (b : Bool) → (z == v.0) ≡ b → env' z ≡ set env v.0 (expr_value code.structs x env e) z
                 which true g = let n : z ≡ v.0 = nat-same z v.0 g in let k : used_in later ((i + 1) ∷ []) v.0 ≡ true = ap (λ z. used_in later ((i + 1) ∷ []) z) (sym n) ∙ used' in absurd (grind (arith, f, k))
                 which false g = kept-tied (Move v e) Tick here z refl used' ∙ sym (set-other env v.0 z (expr_value code.structs x env e) g)
-    cmd-tied Tick here follow fuel flags p =
+    cmd-tied Tick up here follow fuel flags p =
         Cmds_tied.tick (frame-on env env' (i + 1) fuel flags p next-up (subst (λ k. Holds k env) (sym (follow (i + 1) next-up (among-next i))) known)
         (λ z m. kept-tied Tick Tick here z refl (used-follower later ((i + 1) ∷ []) (i + 1) z (among-next i) m)))
-    cmd-tied (Alloc v g args) here follow fuel flags p =
+    cmd-tied (Alloc v g args) up here follow fuel flags p =
         let d = Alloc v g (folded_exprs code.structs (F i) args) in
         Cmds_tied.alloc (exprs-tied args (λ z m. used-tied d d here z m))
         (λ w. frame-on (set env v.0 w) (set env' v.0 w) (i + 1) fuel (slice_set flags v.0 true) p next-up
         (subst (λ k. Holds k (set env v.0 w)) (sym (follow (i + 1) next-up (among-next i))) (holds-set (F i) env v.0 w None known tt))
         (set-tied v.0 w w refl (λ z g m. kept-tied d d here z g (used-follower later ((i + 1) ∷ []) (i + 1) z (among-next i) m))))
-    cmd-tied (Modref v shape) here follow fuel flags p =
+    cmd-tied (Modref v shape) up here follow fuel flags p =
         Cmds_tied.modref (λ w. frame-on (set env v.0 w) (set env' v.0 w) (i + 1) fuel (slice_set flags v.0 true) p next-up
         (subst (λ k. Holds k (set env v.0 w)) (sym (follow (i + 1) next-up (among-next i))) (holds-set (F i) env v.0 w None known tt))
         (set-tied v.0 w w refl (λ z g m. kept-tied (Modref v shape) (Modref v shape) here z g (used-follower later ((i + 1) ∷ []) (i + 1) z (among-next i) m))))
-    cmd-tied (Write q e) here follow fuel flags p =
+    cmd-tied (Write q e) up here follow fuel flags p =
         let q' = folded_expr code.structs (F i) q in
         let e' = folded_expr code.structs (F i) e in
         Cmds_tied.write (expr-tied q (λ z m. used-tied (Write q e) (Write q' e') here z (or-left (mentions q' z) (mentions e' z) m)))
         (expr-tied e (λ z m. used-tied (Write q e) (Write q' e') here z (or-right (mentions q' z) (mentions e' z) m)))
         (frame-on env env' (i + 1) fuel flags p next-up (subst (λ k. Holds k env) (sym (follow (i + 1) next-up (among-next i))) known)
         (λ z m. kept-tied (Write q e) (Write q' e') here z refl (used-follower later ((i + 1) ∷ []) (i + 1) z (among-next i) m)))
-    cmd-tied (If t first second) here follow fuel flags p =
-        let a = both (nat_lt i first && nat_lt i second) (paths_ok code unit.function unit.body fuel first flags true && paths_ok code unit.function unit.body fuel second flags true) p in
-        let b = both (nat_lt i first) (nat_lt i second) a.0 in
-        let c = both (paths_ok code unit.function unit.body fuel first flags true) (paths_ok code unit.function unit.body fuel second flags true) a.1 in
+    cmd-tied (If t first second) up here follow fuel flags p =
+        let b = both (nat_lt i first) (nat_lt i second) up in
+        let c = both (paths_ok code unit.function unit.body fuel first flags true) (paths_ok code unit.function unit.body fuel second flags true) p in
         let t' = folded_expr code.structs (F i) t in
         let d = If t' first second in
         let lo = lt-true i first b.0 in
@@ -240,16 +239,16 @@ module _ (code : Code) (ok : valid code ≡ true) where
         (λ z m. kept-tied d d here z refl (used-follower later (first ∷ second ∷ []) first z (among-first first second) m)))
         (frame-on env env' second fuel flags c.1 hi (subst (λ k. Holds k env) (sym (follow second hi (among-second first second))) known)
         (λ z m. kept-tied d d here z refl (used-follower later (first ∷ second ∷ []) second z (among-second first second) m)))
-    cmd-tied Done here follow fuel flags p = Cmds_tied.done
-    cmd-tied (Tail w args) here follow fuel flags p =
+    cmd-tied Done up here follow fuel flags p = Cmds_tied.done
+    cmd-tied (Tail w args) up here follow fuel flags p =
         let d = Tail w (folded_exprs code.structs (F i) args) in Cmds_tied.tail (exprs-tied args (λ z m. used-tied d d here z m))
-    cmd-tied (Read v q w args) here follow fuel flags p =
+    cmd-tied (Read v q w args) up here follow fuel flags p =
         let q' = folded_expr code.structs (F i) q in
         let args' = folded_exprs code.structs (F i) args in
         let d = Read v q' w args' in
         Cmds_tied.read (expr-tied q (λ z m. used-tied d d here z (or-left (mentions q' z) (all_mention args' z) m)))
         (exprs-tied args (λ z m. used-tied d d here z (or-right (mentions q' z) (all_mention args' z) m)))
-    cmd-tied (Call g args w rest) here follow fuel flags p =
+    cmd-tied (Call g args w rest) up here follow fuel flags p =
         let args' = folded_exprs code.structs (F i) args in
         let rest' = folded_exprs code.structs (F i) rest in
         let d = Call g args' w rest' in

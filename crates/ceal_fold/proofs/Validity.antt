@@ -8,13 +8,14 @@ use Rattle.ceal_code.proofs.Typed.{kind-same}
 use Rattle.ceal_code.proofs.TypedInit.{units-valid, functions-valid}
 use Rattle.ceal_code.specs.Program.{Unit as CodeUnit, Code}
 use Rattle.ceal_code.specs.Step.{kinds_of}
-use Rattle.ceal_code.specs.Valid.{Typing, fits, fits_maybe, variable_type, type_of, place_fits, unit_fits, read_fits, entry_fits, call_fits, alloc_fits, others, params_fit, all_fit, command_ok, onward, path_ok, paths_ok, followers, is_tree, with_params, below, is_core, body_ok, unit_ok, units_ok, is_prefix, kinds_ok, entry_ok, function_ok, functions_ok, structs_ok, valid}
+use Rattle.ceal_code.specs.Valid.{Typing, fits, fits_maybe, variable_type, type_of, place_fits, unit_fits, read_fits, entry_fits, call_fits, alloc_fits, others, params_fit, all_fit, command_ok, onward, path_ok, paths_ok, goes_forward, all_forward, followers, is_tree, with_params, below, is_core, body_ok, unit_ok, units_ok, is_prefix, kinds_ok, entry_ok, function_ok, functions_ok, structs_ok, valid}
 use Rattle.ceal_code.specs.declared.command.Cmd.{Cmd}
 use Rattle.ceal_code.specs.declared.command.Cmd.TheVariants.{Move, Tick, Alloc, Modref, Write, If, Done, Tail, Read, Call}
 use Rattle.ceal_code.specs.declared.expr.CodeExpr.{CodeExpr, Num as NumExpr, Null as NullExpr, Var, Unary', Binary', Field', Address'}
 use Rattle.ceal_code.specs.declared.expr.VarId.{VarId}
 use Rattle.ceal_code.specs.declared.function.FunctionCode.{FunctionCode}
 use Rattle.ceal_code.specs.declared.function.FunctionCode.TheVariants.{Core as CoreFunction, Init as InitFunction}
+use Rattle.ceal_fold.proofs.Forward.{forward-at, forward-folded}
 use Rattle.ceal_fold.proofs.Bodies.{facts, facts-root, folded-length, replaced-tree, ticked-tree}
 use Rattle.ceal_fold.proofs.ListSteps.{at-same, at-other, at-past}
 use Rattle.ceal_fold.proofs.ReplaceSteps.{set-length}
@@ -223,7 +224,7 @@ module _ (code : Code) (ok : valid code ≡ true) where
         (call-go g (slice_get code.functions g) args (λ z m. h z (or-left (all_mention (fold-all args) z) (all_mention (fold-all rest) z) m)) p.0)
         (rw (unit-there code.structs code.units w.0) (unit-go (slice_get code.units w.0) rest (λ z m. h z (or-right (all_mention (fold-all args) z) (all_mention (fold-all rest) z) m)) p.1))
 
-  module _ (f : ℕ) (body : List Cmd) (tree : is_tree body ≡ true) where
+  module _ (f : ℕ) (body : List Cmd) (tree : is_tree body ≡ true) (forward : all_forward body 0 ≡ true) where
     abbrev F : ℕ → Copies
     F = facts code.structs at_root 0 body
 
@@ -278,10 +279,10 @@ module _ (code : Code) (ok : valid code ≡ true) where
       keep-live : (d : Cmd) (here : (z : ℕ) → U i z ≡ used_by later d i z) → ((z : ℕ) → assigns d z ≡ false) → (j : ℕ) → i < j → is_among j (followers d i) ≡ true → Live j known known'
       keep-live d here a j lo m z g k = kept-known d here z (a z) (used-follower later (followers d i) j z m (sym (ahead j z lo) ∙ g)) k
 
-      cmd-go : (c : Cmd) → ((v : ℕ) → U i v ≡ used_by later (ticked (used_in later (followers c i)) (fold-it c)) i v)
+      cmd-go : (c : Cmd) → goes_forward c i ≡ true → ((v : ℕ) → U i v ≡ used_by later (ticked (used_in later (followers c i)) (fold-it c)) i v)
           → ((j : ℕ) → i < j → is_among j (followers c i) ≡ true → F j ≡ copies_after (F i) (fold-it c))
           → command_ok code f known stepped c ≡ true → onward (paths_ok code f body n) c i known ≡ true → Goes (ticked (used_in later (followers c i)) (fold-it c))
-      cmd-go (Move v e) here follow k p = go (used_in later ((i + 1) ∷ []) v.0) refl here
+      cmd-go (Move v e) up here follow k p = go (used_in later ((i + 1) ∷ []) v.0) refl here
         where
           e' : CodeExpr
           e' = folded_expr code.structs (F i) e
@@ -312,11 +313,11 @@ module _ (code : Code) (ok : valid code ≡ true) where
                   which : (b : Bool) → (z == v.0) ≡ b → known_at known' z ≡ true
                   which true a = let q : z ≡ v.0 = nat-same z v.0 a in let r : used_in later ((i + 1) ∷ []) v.0 ≡ true = ap (λ z. used_in later ((i + 1) ∷ []) z) (sym q) ∙ used' in absurd (grind (arith, g, r))
                   which false a = kept-known Tick here z refl used' (sym (set-other known v.0 z a) ∙ k)
-      cmd-go Tick here follow k p =
+      cmd-go Tick up here follow k p =
           both-true (command_ok folds f known' stepped Tick) (onward (paths_ok folds f (final code.structs body) n) Tick i known') refl
           (on (i + 1) known known' true long p (subst (Copies_typed code.structs (kinds_of code f) known) (sym (follow (i + 1) next-up (among-next i))) good)
           (keep-live Tick here (λ z. refl) (i + 1) next-up (among-next i)))
-      cmd-go (Alloc v g args) here follow k p =
+      cmd-go (Alloc v g args) up here follow k p =
           let d = fold-it (Alloc v g args) in
           both-true (command_ok folds f known' stepped d) (onward (paths_ok folds f (final code.structs body) n) d i known')
           (command-go f known known' (F i) good stepped (Alloc v g args) (used-known d here) k)
@@ -324,7 +325,7 @@ module _ (code : Code) (ok : valid code ≡ true) where
           (subst (Copies_typed code.structs (kinds_of code f) (slice_set known v.0 true)) (sym (follow (i + 1) next-up (among-next i)))
           (copies-set code.structs (kinds_of code f) known v.0 (F i) None good (λ w e. type-self code.structs (kinds_of code f) known v.0 w)))
           (set-live v.0 d here (λ z. refl) refl))
-      cmd-go (Modref v shape) here follow k p =
+      cmd-go (Modref v shape) up here follow k p =
           let d = Modref v shape in
           both-true (command_ok folds f known' stepped d) (onward (paths_ok folds f (final code.structs body) n) d i known')
           (command-go f known known' (F i) good stepped (Modref v shape) (used-known d here) k)
@@ -332,34 +333,32 @@ module _ (code : Code) (ok : valid code ≡ true) where
           (subst (Copies_typed code.structs (kinds_of code f) (slice_set known v.0 true)) (sym (follow (i + 1) next-up (among-next i)))
           (copies-set code.structs (kinds_of code f) known v.0 (F i) None good (λ w e. type-self code.structs (kinds_of code f) known v.0 w)))
           (set-live v.0 d here (λ z. refl) refl))
-      cmd-go (Write q e) here follow k p =
+      cmd-go (Write q e) up here follow k p =
           let d = fold-it (Write q e) in
           both-true (command_ok folds f known' stepped d) (onward (paths_ok folds f (final code.structs body) n) d i known')
           (command-go f known known' (F i) good stepped (Write q e) (used-known d here) k)
           (on (i + 1) known known' true long p (subst (Copies_typed code.structs (kinds_of code f) known) (sym (follow (i + 1) next-up (among-next i))) good)
           (keep-live d here (λ z. refl) (i + 1) next-up (among-next i)))
-      cmd-go (If test first second) here follow k p =
-          let a = both (nat_lt i first && nat_lt i second) (paths_ok code f body n first known true && paths_ok code f body n second known true) p in
-          let b = both (nat_lt i first) (nat_lt i second) a.0 in
-          let c = both (paths_ok code f body n first known true) (paths_ok code f body n second known true) a.1 in
+      cmd-go (If test first second) up here follow k p =
+          let b = both (nat_lt i first) (nat_lt i second) up in
+          let c = both (paths_ok code f body n first known true) (paths_ok code f body n second known true) p in
           let d = fold-it (If test first second) in
           let lo = lt-true i first b.0 in
           let hi = lt-true i second b.1 in
           let B = final code.structs body in
           both-true (command_ok folds f known' stepped d) (onward (paths_ok folds f B n) d i known')
           (command-go f known known' (F i) good stepped (If test first second) (used-known d here) k)
-          (both-true (nat_lt i first && nat_lt i second) (paths_ok folds f B n first known' true && paths_ok folds f B n second known' true) a.0
           (both-true (paths_ok folds f B n first known' true) (paths_ok folds f B n second known' true)
           (on first known known' true long c.0 (subst (Copies_typed code.structs (kinds_of code f) known) (sym (follow first lo (among-first first second))) good) (keep-live d here (λ z. refl) first lo (among-first first second)))
-          (on second known known' true long c.1 (subst (Copies_typed code.structs (kinds_of code f) known) (sym (follow second hi (among-second first second))) good) (keep-live d here (λ z. refl) second hi (among-second first second)))))
-      cmd-go Done here follow k p = refl
-      cmd-go (Tail w args) here follow k p =
+          (on second known known' true long c.1 (subst (Copies_typed code.structs (kinds_of code f) known) (sym (follow second hi (among-second first second))) good) (keep-live d here (λ z. refl) second hi (among-second first second))))
+      cmd-go Done up here follow k p = refl
+      cmd-go (Tail w args) up here follow k p =
           let d = fold-it (Tail w args) in
           both-true (command_ok folds f known' stepped d) (onward (paths_ok folds f (final code.structs body) n) d i known') (command-go f known known' (F i) good stepped (Tail w args) (used-known d here) k) refl
-      cmd-go (Read v q w args) here follow k p =
+      cmd-go (Read v q w args) up here follow k p =
           let d = fold-it (Read v q w args) in
           both-true (command_ok folds f known' stepped d) (onward (paths_ok folds f (final code.structs body) n) d i known') (command-go f known known' (F i) good stepped (Read v q w args) (used-known d here) k) refl
-      cmd-go (Call g args w rest) here follow k p =
+      cmd-go (Call g args w rest) up here follow k p =
           let d = fold-it (Call g args w rest) in
           both-true (command_ok folds f known' stepped d) (onward (paths_ok folds f (final code.structs body) n) d i known') (command-go f known known' (F i) good stepped (Call g args w rest) (used-known d here) k) refl
 
@@ -373,8 +372,9 @@ module _ (code : Code) (ok : valid code ≡ true) where
         found on None e h = absurd (grind (arith, h))
         found on (Some c) e h =
             let s = spot code.structs body i c tree e in
+            let up = forward-at body 0 i i c forward e (omega arith) in
             let p = both (command_ok code f known stepped c) (onward (paths_ok code f body n) c i known) h in
-            rw (s.there) (cmd-go n i on known known' stepped long good live s.later s.ahead c s.here s.follow p.0 p.1)
+            rw (s.there) (cmd-go n i on known known' stepped long good live s.later s.ahead c up s.here s.follow p.0 p.1)
 
   unit-go' : (unit : CodeUnit) → unit_ok code unit ≡ true → unit_ok folds (folded_unit code.structs unit) ≡ true
   unfolding unit_ok
@@ -384,15 +384,17 @@ module _ (code : Code) (ok : valid code ≡ true) where
       let B = final code.structs unit.body in
       let p = both (is_core (slice_get code.functions f)) (below (length (kinds_of code f)) unit.params && body_ok code f unit.params unit.body) h in
       let q = both (below (length (kinds_of code f)) unit.params) (body_ok code f unit.params unit.body) p.1 in
-      let r = both (is_tree unit.body) (paths_ok code f unit.body (length unit.body) 0 begun false) q.1 in
-      let tree : is_tree B ≡ true = ticked-tree (replaced code.structs at_root 0 unit.body) ∙ replaced-tree code.structs unit.body ∙ r.0 in
+      let r = both (all_forward unit.body 0 && is_tree unit.body) (paths_ok code f unit.body (length unit.body) 0 begun false) q.1 in
+      let shape = both (all_forward unit.body 0) (is_tree unit.body) r.0 in
+      let forward : all_forward B 0 ≡ true = forward-folded code.structs unit.body ∙ shape.0 in
+      let tree : is_tree B ≡ true = ticked-tree (replaced code.structs at_root 0 unit.body) ∙ replaced-tree code.structs unit.body ∙ shape.1 in
       let paths : paths_ok folds f B (length B) 0 begun false ≡ true =
       ap (λ n. paths_ok folds f B n 0 begun false) (folded-length code.structs unit.body)
-      ∙ paths-go f unit.body r.0 (length unit.body) 0 begun begun false refl r.1
+      ∙ paths-go f unit.body shape.1 shape.0 (length unit.body) 0 begun begun false refl r.1
       (subst (Copies_typed code.structs (kinds_of code f) begun) (sym (facts-root code.structs unit.body)) (none-typed code.structs (kinds_of code f) begun)) (λ v m k. k) in
       both-true (is_core (slice_get code.functions f)) (below (length (kinds_of code f)) unit.params && body_ok folds f unit.params B) p.0
       (both-true (below (length (kinds_of code f)) unit.params) (body_ok folds f unit.params B) q.0
-      (both-true (is_tree B) (paths_ok folds f B (length B) 0 begun false) tree paths))
+      (both-true (all_forward B 0 && is_tree B) (paths_ok folds f B (length B) 0 begun false) (both-true (all_forward B 0) (is_tree B) forward tree) paths))
 
   units-go : (units : List CodeUnit) → units_ok code units ≡ true → units_ok folds (folded_units code.structs units) ≡ true
   unfolding units_ok folded_units

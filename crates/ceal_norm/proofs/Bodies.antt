@@ -3,14 +3,14 @@
 use Rattle.std.proofs.Common.{◌≡◌, ℕ, zero, suc, ◌+◌, ◌<◌, ◌≤◌, Bool, true, false, if◌then◌else◌, Some, None, List, [], ◌∷◌, ◌++◌, length, slice_get, slice_set, unwrap_or, replicate, refl, sym, ap, ◌∙◌, subst, arith, append_assoc, length-append}
 use Rattle.std.proofs.lemmas.Bool.{lt-ltb}
 use Rattle.std.proofs.lemmas.List.{length-replicate, append-nil}
-use Rattle.ceal_code.proofs.Same.{both-true}
+use Rattle.ceal_code.proofs.Same.{both, both-true}
 use Rattle.ceal_code.proofs.TreeSteps.{reached-on, tree-is}
 use Rattle.ceal_code.specs.Program.{Code}
 use Rattle.ceal_code.specs.Step.{kinds_of}
-use Rattle.ceal_code.specs.Valid.{type_of, fits, command_ok, onward, path_ok, paths_ok, followers, all_followers, reached, all_true, is_tree}
+use Rattle.ceal_code.specs.Valid.{type_of, fits, command_ok, onward, path_ok, paths_ok, goes_forward, all_forward, followers, all_followers, reached, all_true, is_tree}
 use Rattle.ceal_base.specs.declared.kind.Kind.TheVariants.{Int}
 use Rattle.ceal_code.specs.declared.command.Cmd.{Cmd}
-use Rattle.ceal_code.specs.declared.command.Cmd.TheVariants.{If}
+use Rattle.ceal_code.specs.declared.command.Cmd.TheVariants.{Move, Tick, Alloc, Modref, Write, If, Done, Tail, Read, Call}
 use Rattle.ceal_code.specs.declared.expr.CodeExpr.{CodeExpr}
 use Rattle.ceal_flow.proofs.ListFacts.{get-append_right}
 
@@ -49,8 +49,8 @@ module _ (code : Code) (f : ℕ) where
   look body before after i c rest e at =
       ap (λ b. slice_get b i) e ∙ get-append_right before ((c ∷ rest) ++ after) i 0 (omega (arith, at))
 
-  fork-known : (on : Walk) (i a b : ℕ) (known : List Bool) (test : CodeExpr) → i < a → i < b → on a known true ≡ true → on b known true ≡ true → onward on (If test a b) i known ≡ true
-  fork-known on i a b known test l m h k = both-true _ _ (both-true _ _ (lt-ltb i a l) (lt-ltb i b m)) (both-true _ _ h k)
+  fork-known : (on : Walk) (i a b : ℕ) (known : List Bool) (test : CodeExpr) → on a known true ≡ true → on b known true ≡ true → onward on (If test a b) i known ≡ true
+  fork-known on i a b known test h k = both-true _ _ h k
 
   module _ (body : List Cmd) where
     step-ok : (fuel i : ℕ) (known : List Bool) (stepped : Bool) (c : Cmd) → slice_get body i ≡ Some c → command_ok code f known stepped c ≡ true
@@ -82,10 +82,53 @@ module _ (code : Code) (f : ℕ) where
         let further : body ≡ ((before ++ c ∷ []) ++ first) ++ (second ++ after) = again ∙ sym (append_assoc (before ++ c ∷ []) first (second ++ after)) in
         let furthest = length-append (before ++ c ∷ []) first in
         step-ok fuel i known stepped c (look body before after i c (first ++ second) whole at) ok
-        (fork-known (paths_ok code f body fuel) i (i + 1) (i + 1 + length first) known test (omega arith) (omega arith)
+        (fork-known (paths_ok code f body fuel) i (i + 1) (i + 1 + length first) known test
         (good-paths fuel (i + 1) known true first (before ++ c ∷ []) (second ++ after) one again (omega (arith, at, longer)) (omega (arith, long, shorter, parts)))
         (good-paths fuel (i + 1 + length first) known true second ((before ++ c ∷ []) ++ first) after two further (omega (arith, at, longer, furthest))
         (omega (arith, long, shorter, parts))))
+
+  -- a command that has at most one follower is no `If`
+  few-forward : (c : Cmd) (i : ℕ) → length (followers c i) < 2 → goes_forward c i ≡ true
+  few-forward (Move v e) i h = refl
+  few-forward Tick i h = refl
+  few-forward (Alloc v g args) i h = refl
+  few-forward (Modref v shape) i h = refl
+  few-forward (Write p e) i h = refl
+  few-forward (If test first second) i h = absurd (omega (arith, h))
+  few-forward Done i h = refl
+  few-forward (Tail w args) i h = refl
+  few-forward (Read v p w args) i h = refl
+  few-forward (Call g args w rest) i h = refl
+
+  forward-cons : (c : Cmd) (cs : List Cmd) (i : ℕ) → goes_forward c i ≡ true → all_forward cs (i + 1) ≡ true → all_forward (c ∷ cs) i ≡ true
+  unfolding all_forward
+  forward-cons c cs i h k = both-true _ _ h k
+
+  forward-none : (i : ℕ) → all_forward [] i ≡ true
+  unfolding all_forward
+  forward-none i = refl
+
+  forward-append : (xs ys : List Cmd) (i : ℕ) → all_forward xs i ≡ true → all_forward ys (i + length xs) ≡ true → all_forward (xs ++ ys) i ≡ true
+  unfolding all_forward
+  forward-append [] ys i h k = let same : i + 0 ≡ i = omega arith in subst (λ j. all_forward ys j ≡ true) same k
+  forward-append (x ∷ xs) ys i h k =
+      let p = both (goes_forward x i) (all_forward xs (i + 1)) h in
+      let same : i + suc (length xs) ≡ (i + 1) + length xs = omega arith in
+      both-true _ _ p.0 (forward-append xs ys (i + 1) p.1 (subst (λ j. all_forward ys j ≡ true) same k))
+
+  -- a part of right commands goes forward
+  pub good-forward : (i : ℕ) (known : List Bool) (stepped : Bool) (part : List Cmd) → Good i known stepped part → all_forward part i ≡ true
+  good-forward i known stepped part (leaf c is ok none over) =
+      let few : length (followers c i) < 2 = rw (none i) (omega arith) in
+      rw is (forward-cons c [] i (few-forward c i few) (forward-none (i + 1)))
+  good-forward i known stepped part (line c rest later is ok next step good) =
+      let few : length (followers c i) < 2 = rw (next i) (omega arith) in
+      rw is (forward-cons c rest i (few-forward c i few) (good-forward (i + 1) later true rest good))
+  good-forward i known stepped part (fork test first second is ok one two) =
+      rw is
+      (forward-cons (If test (i + 1) (i + 1 + length first)) (first ++ second) i
+      (both-true _ _ (lt-ltb i (i + 1) (omega arith)) (lt-ltb i (i + 1 + length first) (omega arith)))
+      (forward-append first second (i + 1) (good-forward (i + 1) known true first one) (good-forward (i + 1 + length first) known true second two)))
 
   -- marks
   unmarked : (before after : List Bool) (i : ℕ) → i ≡ length before → unwrap_or (slice_get (before ++ false ∷ after) i) true ≡ false

@@ -30,7 +30,7 @@ use Rattle.ceal_norm.specs.Entries.{is_read, has_closure, is_entry}
 use Rattle.ceal_norm.specs.Expressions.{variable, expr_code}
 use Rattle.ceal_norm.specs.Laws.{IsForward, source_of}
 use Rattle.ceal_norm.specs.Units.{Source, code_of, Placed, unit_of, params_of, args_of, closure_args, jump_code, value_code, stmt_code, block_code, tree, unit_code, function_code}
-use Rattle.ceal_norm.proofs.Bodies.{Good, leaf, line, fork, good-paths, good-tree}
+use Rattle.ceal_norm.proofs.Bodies.{Good, leaf, line, fork, good-paths, good-forward, good-tree}
 use Rattle.ceal_norm.proofs.Facts.{Knows, knows-set, knows-still, some-within, in-left, in-right, get-map, params-know, params-length, all-below}
 use Rattle.ceal_norm.proofs.Fits.{Covers, kinds-are, seen-live, there-is, owner-is, unit-fits, read-fits, expr-is, slot-fits, place-fits, write-fits, alloc-fits, call-fits}
 use Rattle.ceal_norm.proofs.Lives.{match, used-live, jump-live}
@@ -227,7 +227,7 @@ module _ (p : Typed) (typed : WellTyped p) (kept : KeepsUsage p) (sets : List (L
     unfolding first-known none-known
     unit-body =
         let body = tree src all b 0 in
-        both-true _ _ (good-tree code k first-known false body unit-good)
+        both-true _ _ (both-true _ _ (good-forward code k 0 first-known false body unit-good) (good-tree code k first-known false body unit-good))
         (good-paths code k body (length body) 0 first-known false body [] [] unit-good (sym (append-nil body)) refl (omega arith))
 
     pub unit-right : unit_ok code (unit_code src b) ≡ true

@@ -10,3 +10,4 @@ pub mod Spreading
 pub mod RisingLemmas
 pub mod Searching
 pub mod Editing
+pub mod Members

@@ -1,4 +1,4 @@
--- How many items of each sort a trace has. (Reads, writes and the law on yielded traces belong to ceal_code.)
+-- How many items of each sort a trace has, at all depths.
 use Rattle.std.specs.Prelude.{◌≡◌, ℕ, ◌+◌, ◌*◌, ◌≤◌, List, [], ◌∷◌, length}
 use Rattle.ceal_base.specs.Trace.{Trace, Nothing, Stepped, Allocated, Wrote, Was_read, flat, steps_of, blocks_of}
 use Rattle.ceal_base.specs.declared.forest.Item.{Item}

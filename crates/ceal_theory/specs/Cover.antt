@@ -149,7 +149,8 @@ abbrev pub More_on : Queue → Queue → Nodes → Type 0
 More_on q q' Nil = ⊤
 More_on q q' (Node n i rest) = (q n ≡ true → q' n ≡ true) × More_on q q' rest
 
--- THE law of the queue: the store and who waits may change at any places whose first read in these nodes is queued.
+-- The one law of the queue, of which the others are instances: the store and who waits may change at any places whose first
+-- read in these nodes is queued.
 abbrev pub Cover_law : Type 0
 Cover_law = (code : Code) (q q' : Queue) (l : Nodes) → More_on q q' l → (s s' : Store) (w : Waiting)
     → ((p : Place) → ((s p ≡ s' p) × (w p ≡ false)) ⊎ Queued q' (first_read p l)) → Covered code q s w l → Covered code q' s' none_waits l

@@ -1,23 +1,30 @@
+-- the repair of traces, as rules and as a function, and its laws
 pub mod Take
 pub mod Repair
 pub mod Adjust
 pub mod Computed
 pub mod Laws
-pub mod Levels
+-- the same turn by turn, over trees and over flat items
 pub mod Turns
-pub mod Named
-pub mod Counts
-pub mod Walk
-pub mod KeptSteps
-pub mod Cost
-pub mod Chosen
-pub mod Segments
-pub mod MoreInputs
+pub mod Levels
 pub mod FlatMachine
+pub mod Segments
+-- the numbers of new blocks
+pub mod Named
+pub mod Chosen
+-- the store along items, counts, and what is known on the way
+pub mod Walk
+pub mod Counts
+pub mod KeptSteps
 pub mod Known
 pub mod KnownContent
+pub mod MoreInputs
+-- repairs that go on in slices, and their queue
 pub mod Slices
-pub mod Cover
 pub mod SliceLaws
+pub mod Cover
+-- the course of a turn over nodes
 pub mod Groves
 pub mod Course
+-- cost
+pub mod Cost

@@ -1,11 +1,15 @@
 //! The theory of repair: change propagation as a definition, and the laws that make its result that of a run from
-//! scratch. It runs nothing.
+//! scratch. It runs nothing; each law is the contract of a function that does nothing.
 //!
-//! `specs/` says which old items are taken (`Take`), how a trace is repaired (`Repair`, `Adjust` as rules, and `Computed`
-//! as a function), and the same turn by turn as a machine (`Turns`, and over flat items `Levels`, `FlatMachine`). Each of
-//! the modules below has laws of these definitions, as contracts of functions that do nothing: `laws` those of repair,
-//! `names` of the numbers of new blocks, `machine` of the machine, `walks` of the store along items, of counts and of
-//! what is known on the way, `cost` of how much work there is.
+//! - `laws`: what a repair gives is a trace of the call, honest on the new inputs; there is one; a repair ends where the
+//!   run from scratch ends. `specs/Take`, `Repair`, `Adjust` have the rules, `Computed` the same as a function.
+//! - `names`: the numbers of new blocks are a parameter of the rules; with any of them the repair is the same one, renamed.
+//! - `machine`: the repair turn by turn, with a stack of its own (`Turns`), and over the flat list of old items.
+//! - `walks`: the store along flat items, counts of items and of kept steps, and what is known on the way.
+//! - `slices`: repairs that go on in slices with edits between them, and turns, each a slice of one read.
+//! - `queue`: which reads of an unfinished repair a queue must hold, and what keeps that.
+//! - `courses`: inside a turn, what an engine does to its nodes is what the machine does in its turns.
+//! - `cost`: a bound of the work by two first traces side by side.
 #![tactic(auto)]
 
 pub mod cost;

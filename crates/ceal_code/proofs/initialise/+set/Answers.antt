@@ -7,4 +7,4 @@ pub set_fields-loop-stmt-preserved : goal.set_fields-loop-stmt-preserved
 set_fields-loop-stmt-preserved g t c =
     let within : c.loop-stmt.stmt-index < length c.args.stmts.now = omega arith in
     block-take c.args.scope.now.structs.now (g.P.PlainWords.plain c.args.scope.now.plain.now) (arguments c.args.scope.now.env.now) c.args.s c.args.stmts.now c.loop-stmt.stmt-index c.stmt-item.result
-        c.args.block.now c.loop-stmt.block c.set_field.new.block within c.stmt-item.is c.loop-stmt.invariant c.set_field.ensures
+    c.args.block.now c.loop-stmt.block c.set_field.new.block within c.stmt-item.is c.loop-stmt.invariant c.set_field.ensures
