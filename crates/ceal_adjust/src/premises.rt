@@ -14,10 +14,10 @@ ghost use Rattle.ceal_theory.specs.Adjust.{Extended};
 ghost use Rattle.ceal_adjust.specs.Alone.{alone};
 
 use crate::adjust::{Adjusted, adjust, first_forest};
-use crate::contents::shape_field;
 use ceal_base::kind::{FieldKind, Kind, Shape};
 use ceal_base::memory::{BlockWords, Inputs};
 use ceal_base::no_memory::NoMemory;
+use ceal_base::shapes::field_kind as shape_field;
 use ceal_base::typed::{FieldInfo, StructInfo};
 use ceal_base::word::{BlockId, Place, Word};
 use ceal_code::code::Code;
