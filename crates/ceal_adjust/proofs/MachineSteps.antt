@@ -1,5 +1,5 @@
 -- Steps of the machine as the code keeps it.
-use Rattle.std.proofs.Common.{◌≡◌, ℕ, Bool, false, Some, None, List, [], ◌∷◌, ◌++◌, reverse, refl, ap, ◌∙◌}
+use Rattle.std.proofs.Common.{◌≡◌, ℕ, Bool, false, Some, None, List, [], ◌∷◌, ◌++◌, ◌+◌, drop, reverse, refl, ap, ◌∙◌}
 use Rattle.std.proofs.lemmas.List.{reverse-append}
 use Rattle.ceal_base.specs.Operators.{same_word}
 use Rattle.ceal_base.specs.declared.forest.Item.{Item}
@@ -18,11 +18,12 @@ use Rattle.ceal_theory.specs.Levels.{first, around, levels, loose, beyond, Found
 use Rattle.ceal_theory.specs.Repair.{State, own, clears, works, resumed}
 use Rattle.ceal_theory.specs.Turns.{Frames, Machine, Turn, Went, opened, making, reading, acting}
 use Rattle.ceal_adjust.specs.Closures.{find_closure}
-use Rattle.ceal_adjust.specs.Machines.{frames_in, machine_of}
+use Rattle.ceal_adjust.specs.Machines.{code_of, state_in, frames_in, after, left_over, machine_of, machine_in}
 use Rattle.ceal_adjust.specs.declared.frame.Frame.{Frame}
 use Rattle.ceal_adjust.specs.declared.frame.Frame.TheVariants.{Mend, Run as RunFrame}
 use Rattle.ceal_adjust.specs.declared.frame.Mode.TheVariants.{Fixing as IsFixing, Running as IsRunning}
 use Rattle.ceal_adjust.specs.declared.frame.Mode.{Mode as CodeMode}
+use Rattle.ceal_adjust.specs.declared.repair.Repair.{Repair}
 
 pub frames-push : (fs : List Frame) (f : Frame) → reverse (fs ++ f ∷ []) ≡ f ∷ reverse fs
 frames-push fs f = reverse-append fs (f ∷ [])
@@ -82,6 +83,11 @@ pub acts-reads : (code : Code) (s : State) (fs : Frames) (is : List Item) (n : �
     → a ≡ Reads c.place c.unit c.var c.args below
     → t ≡ reading code s fs c.place c.unit c.var c.args below (loose n (levels is)) (taken_read (find_closure c n is)) → t ≡ acting code own s fs (loose n (levels is)) a
 acts-reads code s fs is n c below t a e k = rw (e, take-found-read c.place c.unit c.var c.args is n) k
+
+-- the machine, part by part
+pub machine-by : (r : Repair) (mode : CodeMode) (s : State) (stack : CodeStack) (n : ℕ) (fs : List Frame) (is : List Item)
+    → r.mode ≡ mode → state_in r ≡ s → r.stack ≡ stack → r.levels ≡ n → r.frames.items ≡ fs → drop r.rest r.items ≡ is → machine_in r ≡ machine_of mode s stack n fs is
+machine-by r mode s stack n fs is a b c d e f = rw (a, b, c, d, e, f) refl
 
 -- the machine's state
 pub machine-work : (mode : CodeMode) (s : State) (stack : CodeStack) (n : ℕ) (fs : List Frame) (is : List Item) → (machine_of mode s stack n fs is).state.work ≡ s.work

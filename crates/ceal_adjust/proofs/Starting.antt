@@ -1,5 +1,5 @@
 -- The machine at the beginning, as the code makes it.
-use Rattle.std.proofs.Common.{◌≡◌, ℕ, List, [], refl, ◌∙◌}
+use Rattle.std.proofs.Common.{◌≡◌, ℕ, List, [], refl, ◌∙◌, subst}
 use Rattle.ceal_base.specs.Block.{Block}
 use Rattle.ceal_base.specs.Trace.{Trace, flat}
 use Rattle.ceal_base.specs.declared.forest.Item.{Item}
@@ -14,7 +14,10 @@ use Rattle.ceal_code.specs.Value.{Plain}
 use Rattle.ceal_code.specs.declared.stack.Stack.{Stack as CodeStack}
 use Rattle.ceal_theory.proofs.FlatTake.{first-of-flat}
 use Rattle.ceal_adjust.proofs.Completing.{begin, begin-fix}
+use Rattle.ceal_theory.specs.Turns.{Machine}
+use Rattle.ceal_adjust.specs.Answers.{Answered}
 use Rattle.ceal_adjust.specs.Machines.{machine_of}
+use Rattle.ceal_adjust.specs.declared.adjust.Adjusted.{Adjusted}
 use Rattle.ceal_adjust.specs.declared.frame.Mode.TheVariants.{Fixing as IsFixing, Running as IsRunning}
 
 pub first-begins : (code : Code) (inputs : List Block) (f : ℕ) (args : List Word) (x : Plain) (s : Store) (stack : CodeStack) (is : List Item)
@@ -30,3 +33,7 @@ unfolding machine_of
 fix-begins code inputs l number forest x y s stack e k m n =
     let plain : x ≡ plain_of code inputs l = n ∙ (rw (m, e) refl ∙ plain-of-flat code inputs l) in
     rw (e, k, plain, first-of-flat l) refl
+
+-- the answer of a machine that is the one at the beginning
+pub answered-by : (code now : Code) (fuel : ℕ) (m start : Machine) (a : Adjusted) → now ≡ code → m ≡ start → Answered now fuel m a → Answered code fuel start a
+answered-by code now fuel m start a e k h = subst (λ n. Answered code fuel n a) k (subst (λ c. Answered c fuel m a) e h)

@@ -40,7 +40,7 @@ frames_in (Run below ∷ fs) ts = After_run (stack_in below) (frames_in fs ts)
 
 -- the levels of the old items from the cursor on
 abbrev pub ahead : Repair → List Trace
-ahead r = levels (drop r.rest r.old)
+ahead r = levels (drop r.rest r.items)
 
 -- what follows, after so many of them
 abbrev pub after : Repair → ℕ → Frames
@@ -59,7 +59,7 @@ machine_of mode s stack n fs is = machine_at mode s stack n (reverse fs) (levels
 
 -- the machine
 abbrev pub machine_in : Repair → Machine
-machine_in r = machine_of r.mode (state_in r) r.stack r.levels r.frames.items (drop r.rest r.old)
+machine_in r = machine_of r.mode (state_in r) r.stack r.levels r.frames.items (drop r.rest r.items)
 
 abbrev pub item_list : Option Item → List Item
 item_list None = []

@@ -51,7 +51,8 @@ pub fn first_forest(
     let old = Old::new(alloc, &[])?;
     let stack = Stack::call(alloc, code, function, args)?;
     let repair = Repair::new(memory, old, 0, Mode::Running, stack);
-    complete(alloc, repair, fuel)
+    let answer = complete(alloc, repair, fuel)?;
+    Ok(answer)
 }
 
 /// The repair of a trace on other inputs: change propagation, by one walk over the old items. One pass before it
@@ -76,5 +77,6 @@ pub fn adjust(
     memory.learn_items(forest.items())?;
     let old = Old::new(alloc, forest.items())?;
     let repair = Repair::new(memory, old, next, Mode::Fixing, Stack::empty(alloc));
-    complete(alloc, repair, fuel)
+    let answer = complete(alloc, repair, fuel)?;
+    Ok(answer)
 }

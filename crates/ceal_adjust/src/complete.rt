@@ -55,7 +55,7 @@ fn steps_among(stepped: bool, item: &Option<Item>) -> u32
 /// Turns the machine until it has ended, or has written more steps than the fuel allows. No forest that fits into memory
 /// comes to 2^64 turns; a repair that did would be told as want of memory.
 pub fn complete(alloc: Global, repair: Repair<'_>, fuel: u32) -> Result<Adjusted, NoMemory>
-    ensures { IfOk result (λ a. Answered (code_of repair) fuel (machine_in repair) a) }
+    ensures { IfOk result (λ a. Answered (code_of repair.entry) fuel (machine_in repair.entry) a) }
 {
     let mut repair = repair;
     let mut out = Vec::new(alloc);

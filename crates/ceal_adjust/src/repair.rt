@@ -29,7 +29,7 @@ mod rerun;
 pub struct Repair<'a> {
     alloc: Global,
     memory: TraceMemory<'a>,
-    old: Old<'a>,
+    items: Old<'a>,
     rest: usize,
     number: u32,
     work: u32,
@@ -89,21 +89,21 @@ impl<'a> Repair<'a> {
     #[tactic(auto, using(crate::proofs::MachineSteps::frame_steps), unfolding(crate::specs::Machines::machine_of))]
     pub fn new(
         memory: TraceMemory<'a>,
-        old: Old<'a>,
+        items: Old<'a>,
         number: u32,
         mode: Mode,
         stack: Stack,
     ) -> Repair<'a>
-        ensures code { code_of result ≡ code_in memory }
-        ensures machine { machine_in result ≡ machine_of mode
-            (record { store = store_in memory; plain = plain_in memory; number = number; work = 0 })
-            stack 0 [] old }
+        ensures code { code_of result ≡ code_in memory.entry }
+        ensures machine { machine_in result ≡ machine_of mode (record {
+            store = store_in memory.entry; plain = plain_in memory.entry; number = number; work = 0 })
+            stack 0 [] items.entry }
     {
         let alloc = stack.allocator();
         Repair {
             alloc,
             memory,
-            old,
+            items,
             rest: 0,
             number,
             work: 0,
@@ -131,11 +131,11 @@ impl<'a> Repair<'a> {
         match self.frames.pop() {
             None => return Turn::Ended,
             Some(Frame::Fix) => {
-                self.rest = self.old.skip(self.rest, self.levels);
+                self.rest = self.items.skip(self.rest, self.levels);
                 self.mode = Mode::Fixing;
             }
             Some(Frame::Mend { below, levels }) => {
-                self.rest = self.old.skip(self.rest, self.levels);
+                self.rest = self.items.skip(self.rest, self.levels);
                 self.mode = Mode::Running;
                 self.stack = below;
                 self.levels = levels;

@@ -37,8 +37,8 @@ impl<'a> Repair<'a> {
         ensures turn { IfOk result (λ t. turn_in t (machine_in self.new) ≡ fixing (code_of self.old)
             (state_in self.old)
             (frames_in (reverse self.old.frames.items)
-                (around (levels_of (item.now ∷ drop self.old.rest self.old.old))))
-            (first (levels_of (item.now ∷ drop self.old.rest self.old.old)))) }
+                (around (levels_of (item.now ∷ drop self.old.rest self.old.items))))
+            (first (levels_of (item.now ∷ drop self.old.rest self.old.items)))) }
     {
         match item {
             Item::Step => Ok(Turn::Went {
@@ -85,7 +85,7 @@ impl<'a> Repair<'a> {
             (frames_in (reverse self.old.frames.items) (around (ahead self.old)))
             (first (ahead self.old))) }
     {
-        match self.old.item(self.rest) {
+        match self.items.item(self.rest) {
             None => {
                 self.levels = 0;
                 Ok(self.close())

@@ -1,10 +1,12 @@
 // Units run anew, and take what the old items have left over.
 
-ghost use Rattle.std.specs.Prelude.{◌≡◌, drop, IfOk, OnOk};
-ghost use Rattle.ceal_code.specs.Init.{arguments};
+ghost use Rattle.std.specs.Prelude.{◌≡◌, ◌+◌, drop, IfOk, OnOk};
+ghost use Rattle.ceal_code.specs.Init.{arguments, pointer};
 ghost use Rattle.ceal_code.specs.Stacks.{stack_in, act_in};
+ghost use Rattle.ceal_code.specs.Step.{Run};
+ghost use Rattle.ceal_code.specs.Value.{set};
 ghost use Rattle.ceal_theory.specs.Levels.{find_alloc, taken_alloc, taken_read};
-ghost use Rattle.ceal_theory.specs.Repair.{own};
+ghost use Rattle.ceal_theory.specs.Repair.{own, clears};
 ghost use Rattle.ceal_theory.specs.Turns.{making, reading, acting};
 ghost use Rattle.ceal_adjust.specs.Closures.{find_closure};
 ghost use Rattle.ceal_adjust.specs.Machines.{code_of, state_in, after, left_over, machine_in, turn_in};
@@ -30,12 +32,26 @@ impl<'a> Repair<'a> {
     }
 
     /// The unit goes on with the block of the key for a variable; the block's modifiables are at their defaults.
-    fn go_on_with(&mut self, key: &Key, var: u32, unit: Activation, block: BlockId) -> Result<(), NoMemory>
+    fn go_on_with(
+        &mut self,
+        key: &Key,
+        var: u32,
+        unit: Activation,
+        block: BlockId,
+    ) -> Result<(), NoMemory>
+        ensures rest { OnOk result
+            (self.new ≡ record self.old { memory = self.new.memory; stack = self.new.stack }) }
+        ensures code { OnOk result (code_of self.new ≡ code_of self.old) }
+        ensures state { OnOk result
+            (state_in self.new ≡ clears (code_of self.old) (state_in self.old) block key.now) }
+        ensures stack { OnOk result (stack_in self.new.stack ≡ Run unit.unit unit.index
+            (set (arguments unit.env.items) var (pointer key.now block)) (stack_in self.old.stack)) }
     {
         let mut unit = unit;
         self.memory.clear(block, key)?;
         unit.set(var, pointer_to(key, block))?;
-        self.stack.push(unit)
+        self.stack.push(unit)?;
+        Ok(())
     }
 
     /// The unit makes a block: one that is left over with its key, or a new one.
@@ -46,10 +62,10 @@ impl<'a> Repair<'a> {
         ensures turn { IfOk result (λ t. turn_in t (machine_in self.new) ≡ making (code_of self.old) own
             (state_in self.old) (after self.old self.old.levels) key var unit.unit unit.index
             (arguments unit.env.items) (stack_in self.old.stack) (left_over self.old)
-            (taken_alloc (find_alloc key self.old.levels (drop self.old.rest self.old.old)))) }
+            (taken_alloc (find_alloc key self.old.levels (drop self.old.rest self.old.items)))) }
     {
         self.step()?;
-        match find_block(&self.old, self.rest, self.levels, &key)? {
+        match find_block(&self.items, self.rest, self.levels, &key)? {
             Some(found) => {
                 self.rest = found.rest;
                 self.levels = found.levels;
@@ -75,12 +91,12 @@ impl<'a> Repair<'a> {
             (state_in self.old) (after self.old self.old.levels)
             closure.place closure.unit closure.var closure.args
             (stack_in self.old.stack) (left_over self.old)
-            (taken_read (find_closure closure self.old.levels (drop self.old.rest self.old.old)))) }
+            (taken_read (find_closure closure self.old.levels (drop self.old.rest self.old.items)))) }
     {
         let now = self.memory.value(closure.place);
         self.step()?;
         let below = mem::replace(&mut self.stack, Stack::empty(self.alloc));
-        match find_value(&self.old, self.rest, self.levels, &closure)? {
+        match find_value(&self.items, self.rest, self.levels, &closure)? {
             Some(found) => {
                 self.rest = found.rest;
                 let levels = found.levels;
