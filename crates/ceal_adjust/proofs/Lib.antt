@@ -4,4 +4,3 @@ pub mod Spotting
 pub mod MachineSteps
 pub mod Completing
 pub mod Starting
-pub mod Edits

@@ -1,10 +1,11 @@
 -- Steps of the machine as the code keeps it.
-use Rattle.std.proofs.Common.{◌≡◌, ℕ, Bool, false, Some, None, List, [], ◌∷◌, ◌++◌, ◌+◌, drop, reverse, refl, ap, ◌∙◌}
+use Rattle.std.proofs.Common.{◌≡◌, ℕ, Bool, false, Some, None, List, [], ◌∷◌, ◌++◌, ◌+◌, drop, reverse, refl, ap, ◌∙◌, Result, Ok, Err, IfOk}
 use Rattle.std.proofs.lemmas.List.{reverse-append}
 use Rattle.ceal_base.specs.Operators.{same_word}
 use Rattle.ceal_base.specs.declared.forest.Item.{Item}
 use Rattle.ceal_base.specs.declared.forest.Item.TheVariants.{Step, Alloc, Read}
 use Rattle.ceal_base.specs.declared.forest.Key.{Key}
+use Rattle.ceal_base.specs.declared.word.BlockId.{BlockId}
 use Rattle.ceal_base.specs.declared.word.Word.{Word}
 use Rattle.ceal_code.specs.Init.{pointer}
 use Rattle.ceal_code.specs.Program.{Code}
@@ -88,6 +89,37 @@ acts-reads code s fs is n c below t a e k = rw (e, take-found-read c.place c.uni
 pub machine-by : (r : Repair) (mode : CodeMode) (s : State) (stack : CodeStack) (n : ℕ) (fs : List Frame) (is : List Item)
     → r.mode ≡ mode → state_in r ≡ s → r.stack ≡ stack → r.levels ≡ n → r.frames.items ≡ fs → drop r.rest r.items ≡ is → machine_in r ≡ machine_of mode s stack n fs is
 machine-by r mode s stack n fs is a b c d e f = rw (a, b, c, d, e, f) refl
+
+make-bare : (old new : Repair) (key : Key) (v u i : ℕ) (env : Variables) (block : BlockId) (at n : ℕ) → old.mode ≡ IsRunning
+    → new ≡ record (record old { work = old.work + 1; rest = at; levels = n }) { memory = new.memory; stack = new.stack }
+    → state_in new ≡ clears (code_of old) (works (state_in old)) block key
+    → stack_in new.stack ≡ Run u i (set env v (pointer key block)) (stack_in old.stack)
+    → find_alloc key old.levels (drop old.rest old.items) ≡ Some (record { block = block; rest = drop at old.items; levels = n })
+    → Went (Step ∷ Alloc block key ∷ []) (machine_in new)
+    ≡ making (code_of old) own (state_in old) (after old old.levels) key v u i env (stack_in old.stack) (left_over old) (taken_alloc (find_alloc key old.levels (drop old.rest old.items)))
+make-bare old new key v u i env block at n m rest state stack find =
+    ap (Went (Step ∷ Alloc block key ∷ []))
+    (machine-by new IsRunning (clears (code_of old) (works (state_in old)) block key) new.stack n old.frames.items (drop at old.items)
+    (ap (λ r. r.mode) rest ∙ m) state refl (ap (λ r. r.levels) rest) (ap (λ r. r.frames.items) rest) (ap (λ r. drop r.rest r.items) rest))
+    ∙ make-taken (code_of old) (state_in old) (clears (code_of old) (works (state_in old)) block key) old.frames.items (drop old.rest old.items) old.levels key v u i env (stack_in old.stack)
+        (record { block = block; rest = drop at old.items; levels = n }) new.stack find stack refl
+
+-- a block is taken, in code
+pub make-some : (old stepped new : Repair) (key : Key) (v u i : ℕ) (env : Variables) (block : BlockId) (at n : ℕ) → old.mode ≡ IsRunning
+    → stepped ≡ record old { work = old.work + 1 }
+    → new ≡ record (record stepped { rest = at; levels = n }) { memory = new.memory; stack = new.stack }
+    → state_in new ≡ clears (code_of stepped) (state_in stepped) block key
+    → stack_in new.stack ≡ Run u i (set env v (pointer key block)) (stack_in stepped.stack)
+    → find_alloc key stepped.levels (drop stepped.rest stepped.items) ≡ Some (record { block = block; rest = drop at stepped.items; levels = n })
+    → Went (Step ∷ Alloc block key ∷ []) (machine_in new)
+    ≡ making (code_of old) own (state_in old) (after old old.levels) key v u i env (stack_in old.stack) (left_over old) (taken_alloc (find_alloc key old.levels (drop old.rest old.items)))
+make-some old stepped new key v u i env block at n m e rest state stack find =
+    make-bare old new key v u i env block at n m (rw e at rest) (rw e at state) (rw e at stack) (rw e at find)
+
+-- what a result comes to where its own clause says it
+pub if-acts : {A B : Type 0} (r : Result A B) (P Q : A → Type 0) → ((a : A) → P a → Q a) → IfOk r P → IfOk r Q
+if-acts (Ok a) P Q f h = f a h
+if-acts (Err b) P Q f h = h
 
 -- the machine's state
 pub machine-work : (mode : CodeMode) (s : State) (stack : CodeStack) (n : ℕ) (fs : List Frame) (is : List Item) → (machine_of mode s stack n fs is).state.work ≡ s.work

@@ -4,4 +4,3 @@ pub mod Spots
 pub mod Closures
 pub mod Machines
 pub mod Answers
-pub mod Alone

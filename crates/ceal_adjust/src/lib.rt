@@ -11,11 +11,5 @@ mod frame;
 mod mark;
 mod old;
 mod places;
-#[cfg(test)]
-mod premises;
-#[cfg(test)]
-mod programs;
 mod repair;
 mod search;
-#[cfg(test)]
-mod tests;

@@ -21,8 +21,6 @@ pub mod no_memory;
 pub mod operators;
 pub mod shapes;
 pub mod syntax;
-#[cfg(test)]
-mod tests;
 pub mod text;
 pub mod typed;
 pub mod word;

@@ -7,6 +7,8 @@ pub mod LineEnds
 pub mod ModeLaws
 pub mod OptionText
 pub mod OutputLaws
+pub mod OneOutput
+pub mod SomeOutput
 pub mod PlainWords
 pub mod RowLaws
 pub mod ScriptLines

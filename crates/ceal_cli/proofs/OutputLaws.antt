@@ -14,12 +14,12 @@ use Rattle.ceal_lex.specs.declared.parts.Split.{Split}
 use Rattle.ceal_session.specs.Runs.{begun}
 use Rattle.ceal_session.specs.State.{State}
 use Rattle.ceal_cli.specs.Fuel.{DEFAULT_FUEL}
-use Rattle.ceal_cli.specs.Growth.{Grows, WritesOutput, WritesPrefix, WritesReplies, BeginsToReply, WritesFromRun, BeginsFromRun}
+use Rattle.ceal_cli.specs.Growth.{Grows, WritesAnswer, WritesRefusal, WritesOutput, WritesPrefix, WritesReplies, BeginsToReply, WritesFromRun, BeginsFromRun}
 use Rattle.ceal_cli.specs.Lines.{script_of, script_lines}
 use Rattle.ceal_cli.specs.Modes.{ReadsInput}
-use Rattle.ceal_cli.specs.Output.{IsPrefix, IsListing, Programmed, accepted_text, IsOutputFromRun, BeginsOutputFromRun}
+use Rattle.ceal_cli.specs.Output.{IsPrefix, IsAnswer, IsRefusal, IsListing, Programmed, accepted_text, IsOutputFromRun, BeginsOutputFromRun}
 use Rattle.ceal_cli.specs.declared.words.Mode.{Mode}
-use Rattle.ceal_cli.specs.declared.words.Mode.TheVariants.{Check, List as Listing, Run}
+use Rattle.ceal_cli.specs.declared.words.Mode.TheVariants.{Check, List as Listing, Run, Gen}
 use Rattle.ceal_cli.proofs.Growing.{of_prefix, weaker}
 
 module _ (a b : Option (List ℕ)) (input : List ℕ) where
@@ -75,3 +75,17 @@ module _ (a b : Option (List ℕ)) (input : List ℕ) where
 pub not_accepted : (input : List ℕ) (fault : Fault) → ((a b : Result Typed Fault) → Comes input a → Comes input b → a ≡ b)
     → IsFirstFault input fault → IsAccepted input → ⊥
 not_accepted input fault once is (program, reads) = absurd (cc (once (Ok program) (Err fault) reads is))
+
+-- the output for an accepted input is the answer, and that for another one the line of its first fault
+pub answer_of : (a b : Option (List ℕ)) (mode : Mode) (input : List ℕ) → ((r s : Result Typed Fault) → Comes input r → Comes input s → r ≡ s)
+    → IsAccepted input → WritesOutput a b mode input → WritesAnswer a b mode input
+answer_of a b mode input once accepted h = weaker (λ out is. elim is [ inl answer ↦ answer | inr line ↦ absurd (not_accepted input line.1 once line.2 accepted) ]) h
+
+pub answer_accepted : (mode : Mode) (input out : List ℕ) → ReadsInput mode → IsAnswer mode input out → IsAccepted input
+answer_accepted Check input out reads h = h.0
+answer_accepted Listing input out reads h = (h.program, h.reads)
+answer_accepted (Run fuel) input out reads h = (h.0.program, h.0.reads)
+answer_accepted (Gen kind seed size) input out reads h = absurd reads
+
+pub refusal_of : (a b : Option (List ℕ)) (mode : Mode) (input : List ℕ) → ReadsInput mode → (IsAccepted input → ⊥) → WritesOutput a b mode input → WritesRefusal a b mode input
+refusal_of a b mode input reads none h = weaker (λ out is. elim is [ inl answer ↦ absurd (none (answer_accepted mode input out reads answer)) | inr line ↦ line ]) h

@@ -1,15 +1,22 @@
 -- From the bytes that were read to the input that the source told.
-use Rattle.std.proofs.Common.{◌≡◌, ◌≤◌, ◌⊎◌, inl, inr, ℕ, Option, Some, None, List, ◌++◌, length, IfSome, refl, sym, ap, ◌∙◌, subst, append-nil}
+use Rattle.std.proofs.Common.{arith, ◌≡◌, ◌≤◌, ◌⊎◌, inl, inr, ℕ, Option, Some, None, Result, List, [], ◌++◌, length, IfSome, refl, sym, ap, ◌∙◌, subst, append-nil}
 use Rattle.std.specs.Io.KnownBytes.{Consumes, IsAtEnd}
-use Rattle.ceal_compile.specs.Source.{IsAccepted}
-use Rattle.ceal_cli.specs.Growth.{WritesOutput, WritesPrefix, WritesGenerated, WritesGeneratedPrefix}
+use Rattle.std.proofs.KnownBytes.{Consumes-nil}
+use Rattle.ceal_base.specs.declared.fault.Fault.{Fault}
+use Rattle.ceal_base.specs.declared.typed.Typed.{Typed}
+use Rattle.ceal_compile.specs.Source.{Comes, IsAccepted}
+use Rattle.ceal_cli.specs.Growth.{WritesAnswer, WritesRefusal, WritesOutput, WritesPrefix, WritesGenerated, WritesGeneratedPrefix}
 use Rattle.ceal_cli.specs.Output.{BeginsOutput}
+use Rattle.ceal_cli.specs.declared.top.Status.{Status}
 use Rattle.ceal_cli.specs.declared.top.TheConstants.{INPUT_LIMIT}
+use Rattle.ceal_cli.specs.Modes.{ReadsInput}
+use Rattle.ceal_io.specs.Streams.{LosesAtMost}
 use Rattle.ceal_cli.specs.declared.words.Mode.{Mode}
 use Rattle.ceal_cli.specs.declared.words.Mode.TheVariants.{Gen}
 use Rattle.ceal_gen.specs.declared.kind.Workload.{Workload}
 use Rattle.ceal_cli.proofs.Growing.{nothing, weaker}
-use Rattle.ceal_cli.specs.declared.top.Status.TheVariants.{Done, Refused, Memory}
+use Rattle.ceal_cli.proofs.OutputLaws.{answer_of, refusal_of}
+use Rattle.ceal_cli.specs.declared.top.Status.TheVariants.{Done, Refused, Memory, WriteFault}
 
 -- what was read up to the end is the input
 whole_input : (old new : Option (List ℕ)) (bytes text : List ℕ) → Consumes old new bytes → IsAtEnd new → text ≡ bytes → IfSome old (λ input. text ≡ input)
@@ -32,6 +39,13 @@ module _ (old new : Option (List ℕ)) (bytes text : List ℕ) (all : Consumes o
 
   pub output_for : (a b : Option (List ℕ)) (mode : Mode) → WritesOutput a b mode text → IfSome old (λ input. WritesOutput a b mode input)
   output_for a b mode h = for_input (λ input. WritesOutput a b mode input) h
+
+  pub answer_for : (a b : Option (List ℕ)) (mode : Mode) → ((r s : Result Typed Fault) → Comes text r → Comes text s → r ≡ s) → IsAccepted text → WritesOutput a b mode text
+      → IfSome old (λ input. WritesAnswer a b mode input)
+  answer_for a b mode once accepted h = for_input (λ input. WritesAnswer a b mode input) (answer_of a b mode text once accepted h)
+
+  pub refusal_for : (a b : Option (List ℕ)) (mode : Mode) → ReadsInput mode → (IsAccepted text → ⊥) → WritesOutput a b mode text → IfSome old (λ input. WritesRefusal a b mode input)
+  refusal_for a b mode reads none h = for_input (λ input. WritesRefusal a b mode input) (refusal_of a b mode text reads none h)
 
   pub prefix_for : (a b : Option (List ℕ)) (mode : Mode) → WritesPrefix a b mode text → IfSome old (λ input. WritesPrefix a b mode input)
   prefix_for a b mode h = for_input (λ input. WritesPrefix a b mode input) h
@@ -67,5 +81,18 @@ module _ (left a b : Option (List ℕ)) (kind : Workload) (seed size : ℕ) wher
   pub any_output : WritesGenerated a b kind seed size → IfSome left (λ input. WritesOutput a b (Gen kind seed size) input)
   any_output h = for_any left (λ input. WritesOutput a b (Gen kind seed size) input) (λ input. weaker (λ out is. inl is) h)
 
+  pub any_answer : WritesGenerated a b kind seed size → IfSome left (λ input. WritesAnswer a b (Gen kind seed size) input)
+  any_answer h = for_any left (λ input. WritesAnswer a b (Gen kind seed size) input) (λ input. h)
+
   pub any_prefix : WritesGeneratedPrefix a b kind seed size → IfSome left (λ input. WritesPrefix a b (Gen kind seed size) input)
   any_prefix h = for_any left (λ input. WritesPrefix a b (Gen kind seed size) input) (λ input. weaker (λ out begins. inr (inl begins)) h)
+
+-- where nothing was read, nothing was lost
+pub loses_none : (a : Option (List ℕ)) (count : ℕ) → LosesAtMost a a count
+loses_none a count = ([], Consumes-nil a, omega arith)
+
+-- a workload is never refused
+pub no_refusal : (r : Status) → (r ≡ Done) ⊎ ((r ≡ Memory) ⊎ (r ≡ WriteFault)) → r ≡ Refused → ⊥
+no_refusal r (inl e) is = let f : Done ≡ Refused = sym e ∙ is in absurd (cc f)
+no_refusal r (inr (inl e)) is = let f : Memory ≡ Refused = sym e ∙ is in absurd (cc f)
+no_refusal r (inr (inr e)) is = let f : WriteFault ≡ Refused = sym e ∙ is in absurd (cc f)

@@ -13,6 +13,16 @@ IsWhole Memory = ⊥
 IsWhole ReadFault = ⊥
 IsWhole WriteFault = ⊥
 
+-- the input was read to its end first
+abbrev pub IsAfterReading : Status → Type 0
+IsAfterReading Done = Unit {0}
+IsAfterReading Refused = Unit {0}
+IsAfterReading Usage = ⊥
+IsAfterReading TooLong = ⊥
+IsAfterReading Memory = ⊥
+IsAfterReading ReadFault = ⊥
+IsAfterReading WriteFault = Unit {0}
+
 -- nothing was written
 abbrev pub IsSilent : Status → Type 0
 IsSilent Done = ⊥
@@ -22,6 +32,16 @@ IsSilent TooLong = Unit {0}
 IsSilent Memory = ⊥
 IsSilent ReadFault = Unit {0}
 IsSilent WriteFault = ⊥
+
+-- the exit status of the process
+abbrev pub status_number : Status → ℕ
+status_number Done = 0
+status_number Refused = 1
+status_number Usage = 2
+status_number TooLong = 3
+status_number Memory = 4
+status_number ReadFault = 5
+status_number WriteFault = 6
 
 -- what is told of a status
 abbrev pub status_text : Status → List ℕ

@@ -18,7 +18,8 @@ texts words = map string_bytes words.items
 abbrev pub AreMarked : List Text → List Text → Type 0
 AreMarked plain words =
     (words ≡ plain)
-    ⊎ (front : List Text) × (back : List Text) × (plain ≡ front ++ back) × (words ≡ front ++ codes "--" ∷ back)
+    ⊎ (front : List Text) × (back : List Text)
+    × (plain ≡ front ++ back) × (words ≡ front ++ codes "--" ∷ back)
 
 -- The option with a fuel: `--fuel N` or `--fuel=N`.
 abbrev pub IsOption : ℕ → List Text → Type 0
@@ -38,8 +39,10 @@ abbrev pub Asks : List Text → Mode → Type 0
 Asks words Check = AreMarked (codes "check" ∷ []) words
 Asks words Listing = AreMarked (codes "list" ∷ []) words
 Asks words (Run fuel) =
-    (AreMarked (codes "run" ∷ []) words × (fuel ≡ DEFAULT_FUEL)) ⊎ HaveOption fuel (codes "run") words
-Asks words (Gen kind seed size) = (plain : List Text) × NamesWorkload plain kind seed size × AreMarked plain words
+    (AreMarked (codes "run" ∷ []) words × (fuel ≡ DEFAULT_FUEL))
+    ⊎ HaveOption fuel (codes "run") words
+Asks words (Gen kind seed size) =
+    (plain : List Text) × NamesWorkload plain kind seed size × AreMarked plain words
 
 abbrev pub AreDefined : List Text → Type 0
 AreDefined words = (mode : Mode) × Asks words mode

@@ -25,7 +25,8 @@ pub record IsPrefix (part whole : List ℕ) : Type 0 where
   pub rest : List ℕ
   pub same : part ++ rest ≡ whole
 
--- The text begins the replies to the lines: it is the replies to the first of them, and the beginning of the next one.
+-- The text begins the replies to the lines: it is the replies to the first of them, and the
+-- beginning of the next one.
 unfoldable pub BeginReplies : State → List (List ℕ) → List ℕ → Type 0
 BeginReplies s [] out = out ≡ []
 BeginReplies s (line ∷ lines) out =
@@ -37,12 +38,14 @@ BeginReplies s (line ∷ lines) out =
 abbrev pub IsRunLine : List ℕ → Type 0
 IsRunLine line = IsPrefix (codes "run ") line
 
--- The text is the replies to the lines from the first one on that begins with `run `. The lines before it are answered too, and their replies left out.
+-- The text is the replies to the lines from the first one on that begins with `run `. The lines
+-- before it are answered too, and their replies left out.
 unfoldable pub AreRepliesFromRun : State → List (List ℕ) → List ℕ → Type 0
 AreRepliesFromRun s [] out = out ≡ []
 AreRepliesFromRun s (line ∷ lines) out =
     (IsRunLine line × AreReplies s (line ∷ lines) out)
-    ⊎ ((¬ IsRunLine line) × (text : List ℕ) × (next : State) × Answers s line text next × AreRepliesFromRun next lines out)
+    ⊎ ((¬ IsRunLine line) × (text : List ℕ) × (next : State)
+    × Answers s line text next × AreRepliesFromRun next lines out)
 
 -- The text begins those replies.
 unfoldable pub BeginRepliesFromRun : State → List (List ℕ) → List ℕ → Type 0
@@ -50,7 +53,8 @@ BeginRepliesFromRun s [] out = out ≡ []
 BeginRepliesFromRun s (line ∷ lines) out =
     (out ≡ [])
     ⊎ ((IsRunLine line × BeginReplies s (line ∷ lines) out)
-    ⊎ ((¬ IsRunLine line) × (text : List ℕ) × (next : State) × Answers s line text next × BeginRepliesFromRun next lines out))
+    ⊎ ((¬ IsRunLine line) × (text : List ℕ) × (next : State)
+    × Answers s line text next × BeginRepliesFromRun next lines out))
 
 -- An accepted program, and the script behind it.
 pub record Programmed (input : List ℕ) : Type 0 where
@@ -77,13 +81,16 @@ pub record IsListing (input out : List ℕ) : Type 0 where
   pub is_code : IsCodeOf program code
   pub text : out ≡ listing_text code
 
--- The replies to the script of an accepted input, from that of the first run on; a run may take as many steps as where the words do not say it.
+-- The replies to the script of an accepted input, from that of the first run on; a run may take
+-- as many steps as where the words do not say it.
 abbrev pub IsOutputFromRun : List ℕ → List ℕ → Type 0
-IsOutputFromRun input out = (p : Programmed input) × AreRepliesFromRun (first_state p DEFAULT_FUEL) (lines_behind p) out
+IsOutputFromRun input out =
+    (p : Programmed input) × AreRepliesFromRun (first_state p DEFAULT_FUEL) (lines_behind p) out
 
 abbrev pub BeginsOutputFromRun : List ℕ → List ℕ → Type 0
 BeginsOutputFromRun input out =
-    (out ≡ []) ⊎ (p : Programmed input) × BeginRepliesFromRun (first_state p DEFAULT_FUEL) (lines_behind p) out
+    (out ≡ [])
+    ⊎ (p : Programmed input) × BeginRepliesFromRun (first_state p DEFAULT_FUEL) (lines_behind p) out
 
 -- what is written for a workload
 abbrev pub IsGenerated : Workload → ℕ → ℕ → List ℕ → Type 0
@@ -92,25 +99,31 @@ IsGenerated kind seed size out = IsOutputFromRun (workload_text kind seed size) 
 abbrev pub BeginsGenerated : Workload → ℕ → ℕ → List ℕ → Type 0
 BeginsGenerated kind seed size out = BeginsOutputFromRun (workload_text kind seed size) out
 
--- What is written for an accepted input: `accepted`, the text of its trace code, or the replies to the lines of its script, from a state without inputs. For a workload the input counts for nothing.
+-- What is written for an accepted input: `accepted`, the text of its trace code, or the replies to
+-- the lines of its script, from a state without inputs. For a workload the input is of no account.
 abbrev pub IsAnswer : Mode → List ℕ → List ℕ → Type 0
 IsAnswer Check input out = IsAccepted input × (out ≡ accepted_text)
 IsAnswer Listing input out = IsListing input out
-IsAnswer (Run fuel) input out = (p : Programmed input) × AreReplies (first_state p fuel) (lines_behind p) out
+IsAnswer (Run fuel) input out =
+    (p : Programmed input) × AreReplies (first_state p fuel) (lines_behind p) out
 IsAnswer (Gen kind seed size) input out = IsGenerated kind seed size out
 
 abbrev pub BeginsAnswer : Mode → List ℕ → List ℕ → Type 0
 BeginsAnswer Check input out = IsAccepted input × IsPrefix out accepted_text
 BeginsAnswer Listing input out = (text : List ℕ) × IsListing input text × IsPrefix out text
-BeginsAnswer (Run fuel) input out = (p : Programmed input) × BeginReplies (first_state p fuel) (lines_behind p) out
+BeginsAnswer (Run fuel) input out =
+    (p : Programmed input) × BeginReplies (first_state p fuel) (lines_behind p) out
 BeginsAnswer (Gen kind seed size) input out = BeginsGenerated kind seed size out
 
 -- What a mode that reads writes for an input that is not accepted: the line of its first fault.
 abbrev pub IsRefusal : Mode → List ℕ → List ℕ → Type 0
-IsRefusal mode input out = ReadsInput mode × (fault : Fault) × IsFirstFault input fault × (out ≡ fault_line input fault)
+IsRefusal mode input out =
+    ReadsInput mode × (fault : Fault) × IsFirstFault input fault × (out ≡ fault_line input fault)
 
 abbrev pub BeginsRefusal : Mode → List ℕ → List ℕ → Type 0
-BeginsRefusal mode input out = ReadsInput mode × (fault : Fault) × IsFirstFault input fault × IsPrefix out (fault_line input fault)
+BeginsRefusal mode input out =
+    ReadsInput mode × (fault : Fault) × IsFirstFault input fault
+    × IsPrefix out (fault_line input fault)
 
 -- what the program writes for an input
 abbrev pub IsOutput : Mode → List ℕ → List ℕ → Type 0
@@ -118,4 +131,5 @@ IsOutput mode input out = IsAnswer mode input out ⊎ IsRefusal mode input out
 
 -- The text begins what the program writes for an input.
 abbrev pub BeginsOutput : Mode → List ℕ → List ℕ → Type 0
-BeginsOutput mode input out = (out ≡ []) ⊎ (BeginsAnswer mode input out ⊎ BeginsRefusal mode input out)
+BeginsOutput mode input out =
+    (out ≡ []) ⊎ (BeginsAnswer mode input out ⊎ BeginsRefusal mode input out)

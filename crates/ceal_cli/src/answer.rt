@@ -33,7 +33,8 @@ fn refuse<K: Sink>(
 ) -> Result<(), Stopped>
     requires reads { ReadsInput mode }
     requires first { IsFirstFault input.now fault }
-    ensures all { OnOk result (WritesOutput (K.written sink.old) (K.written sink.new) mode input.now) }
+    ensures all { OnOk result
+        (WritesOutput (K.written sink.old) (K.written sink.new) mode input.now) }
     ensures part { WritesPrefix (K.written sink.old) (K.written sink.new) mode input.now }
     ensures fault { IsErrOf result Stopped.Failed → Rose (K.faults sink.old) (K.faults sink.new) }
 {
@@ -46,7 +47,8 @@ fn refuse<K: Sink>(
 // Writes that the input is accepted.
 fn accept<K: Sink>(input: &[u8], program: &Typed, sink: &mut K) -> Result<(), Stopped>
     requires { IsProgram input.now program.now }
-    ensures all { OnOk result (WritesOutput (K.written sink.old) (K.written sink.new) Mode.Check input.now) }
+    ensures all { OnOk result
+        (WritesOutput (K.written sink.old) (K.written sink.new) Mode.Check input.now) }
     ensures part { WritesPrefix (K.written sink.old) (K.written sink.new) Mode.Check input.now }
     ensures fault { IsErrOf result Stopped.Failed → Rose (K.faults sink.old) (K.faults sink.new) }
 {
@@ -62,7 +64,8 @@ fn list<K: Sink>(
 ) -> Result<(), Stopped>
     requires program { IsProgram input.now program.now.typed }
     requires compiled { IsCompiled program.now }
-    ensures all { OnOk result (WritesOutput (K.written sink.old) (K.written sink.new) Mode.List input.now) }
+    ensures all { OnOk result
+        (WritesOutput (K.written sink.old) (K.written sink.new) Mode.List input.now) }
     ensures part { WritesPrefix (K.written sink.old) (K.written sink.new) Mode.List input.now }
     ensures fault { IsErrOf result Stopped.Failed → Rose (K.faults sink.old) (K.faults sink.new) }
 {
@@ -83,8 +86,10 @@ fn run<K: Sink>(
     requires small { length input.now < 2 ^ 32 }
     requires program { IsProgram input.now program.typed }
     requires compiled { IsCompiled program }
-    ensures all { OnOk result (WritesOutput (K.written sink.old) (K.written sink.new) (Mode.Run fuel) input.now) }
-    ensures part { WritesPrefix (K.written sink.old) (K.written sink.new) (Mode.Run fuel) input.now }
+    ensures all { OnOk result
+        (WritesOutput (K.written sink.old) (K.written sink.new) (Mode.Run fuel) input.now) }
+    ensures part {
+        WritesPrefix (K.written sink.old) (K.written sink.new) (Mode.Run fuel) input.now }
     ensures fault { IsErrOf result Stopped.Failed → Rose (K.faults sink.old) (K.faults sink.new) }
 {
     match Session::new(alloc, program, fuel) {
@@ -107,7 +112,8 @@ fn answer<K: Sink>(
     requires program { IsProgram input.now program.typed }
     requires compiled { IsCompiled program }
     requires reads { ReadsInput mode }
-    ensures all { OnOk result (WritesOutput (K.written sink.old) (K.written sink.new) mode input.now) }
+    ensures all { OnOk result
+        (WritesOutput (K.written sink.old) (K.written sink.new) mode input.now) }
     ensures part { WritesPrefix (K.written sink.old) (K.written sink.new) mode input.now }
     ensures fault { IsErrOf result Stopped.Failed → Rose (K.faults sink.old) (K.faults sink.new) }
 {
@@ -129,7 +135,8 @@ pub fn write_answer<K: Sink>(
     requires small { length input.now < 2 ^ 32 }
     requires reads { ReadsInput mode }
     ensures accepted { IfOk result (λ accepted. IsTrue accepted ↔ IsAccepted input.now) }
-    ensures all { OnOk result (WritesOutput (K.written sink.old) (K.written sink.new) mode input.now) }
+    ensures all { OnOk result
+        (WritesOutput (K.written sink.old) (K.written sink.new) mode input.now) }
     ensures part { WritesPrefix (K.written sink.old) (K.written sink.new) mode input.now }
     ensures fault { IsErrOf result Stopped.Failed → Rose (K.faults sink.old) (K.faults sink.new) }
 {

@@ -22,7 +22,8 @@ fn is_run_line(line: &[u8]) -> bool
 
 // Carries out a line whose reply is not written.
 fn carry_out(session: &mut Session, line: &[u8]) -> Result<(), Stopped>
-    ensures answered { OnOk result ((text : List ℕ) × Answers session.old line.now text session.new) }
+    ensures answered { OnOk result ((text : List ℕ)
+        × Answers session.old line.now text session.new) }
     ensures memory { ¬ IsErrOf result Stopped.Failed }
 {
     match session.command(line) {
@@ -37,8 +38,12 @@ pub fn reply_from_run<K: Sink>(
     script: &[u8],
     sink: &mut K,
 ) -> Result<(), Stopped>
-    ensures all { OnOk result (WritesFromRun (K.written sink.old) (K.written sink.new) session.old (script_lines script.now)) }
-    ensures part { BeginsFromRun (K.written sink.old) (K.written sink.new) session.old (script_lines script.now) }
+    ensures all { OnOk result
+        (WritesFromRun (K.written sink.old) (K.written sink.new)
+            session.old (script_lines script.now)) }
+    ensures part {
+        BeginsFromRun (K.written sink.old) (K.written sink.new)
+            session.old (script_lines script.now) }
     ensures fault { IsErrOf result Stopped.Failed → Rose (K.faults sink.old) (K.faults sink.new) }
 {
     let mut rest = script;

@@ -42,7 +42,8 @@ fn run<K: Sink>(alloc: Global, text: &[u8], program: Program, sink: &mut K) -> R
     requires small { length text.now < 2 ^ 32 }
     requires program { IsProgram text.now program.typed }
     requires compiled { IsCompiled program }
-    ensures all { OnOk result (Grows (K.written sink.old) (K.written sink.new) (IsOutputFromRun text.now)) }
+    ensures all { OnOk result
+        (Grows (K.written sink.old) (K.written sink.new) (IsOutputFromRun text.now)) }
     ensures part { Grows (K.written sink.old) (K.written sink.new) (BeginsOutputFromRun text.now) }
     ensures fault { IsErrOf result Stopped.Failed → Rose (K.faults sink.old) (K.faults sink.new) }
 {
@@ -59,7 +60,8 @@ fn run<K: Sink>(alloc: Global, text: &[u8], program: Program, sink: &mut K) -> R
 fn reply_to<K: Sink>(alloc: Global, text: &[u8], sink: &mut K) -> Result<(), Stopped>
     requires small { length text.now < 2 ^ 32 }
     requires accepted { IsAccepted text.now }
-    ensures all { OnOk result (Grows (K.written sink.old) (K.written sink.new) (IsOutputFromRun text.now)) }
+    ensures all { OnOk result
+        (Grows (K.written sink.old) (K.written sink.new) (IsOutputFromRun text.now)) }
     ensures part { Grows (K.written sink.old) (K.written sink.new) (BeginsOutputFromRun text.now) }
     ensures fault { IsErrOf result Stopped.Failed → Rose (K.faults sink.old) (K.faults sink.new) }
 {
@@ -78,7 +80,8 @@ pub fn generate<K: Sink>(
     sink: &mut K,
 ) -> Result<(), Stopped>
     requires { size ≤ 2 ^ 24 }
-    ensures all { OnOk result (WritesGenerated (K.written sink.old) (K.written sink.new) kind seed size) }
+    ensures all { OnOk result
+        (WritesGenerated (K.written sink.old) (K.written sink.new) kind seed size) }
     ensures part { WritesGeneratedPrefix (K.written sink.old) (K.written sink.new) kind seed size }
     ensures fault { IsErrOf result Stopped.Failed → Rose (K.faults sink.old) (K.faults sink.new) }
 {

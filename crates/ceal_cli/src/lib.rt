@@ -17,7 +17,4 @@ mod replies;
 mod top;
 mod words;
 
-pub use top::{INPUT_LIMIT, Status, ceal_main, status_line};
-
-#[cfg(test)]
-mod tests;
+pub use top::{INPUT_LIMIT, Status, ceal_main, status_line, status_number};

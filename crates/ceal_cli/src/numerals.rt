@@ -8,7 +8,8 @@ const MOST_DIGITS: usize = 10;
 
 /// The number that a text spells, if it spells one that lies between these two.
 pub fn spelled(text: &str, least: u32, most: u32) -> Option<u32>
-    ensures { MatchOption result (SpellsNone least most text.now) (λ number. Spells least most text.now number) }
+    ensures { MatchOption result (SpellsNone least most text.now)
+        (λ number. Spells least most text.now number) }
 {
     if MOST_DIGITS < text.len() || text.starts_with('+') {
         return None;

@@ -12,7 +12,8 @@ use ceal_session::session::Session;
 
 // Writes the reply to a line.
 fn reply<K: Sink>(session: &mut Session, line: &[u8], sink: &mut K) -> Result<(), Stopped>
-    ensures all { OnOk result (WritesReply (K.written sink.old) (K.written sink.new) session.old line.now session.new) }
+    ensures all { OnOk result
+        (WritesReply (K.written sink.old) (K.written sink.new) session.old line.now session.new) }
     ensures part { WritesPart (K.written sink.old) (K.written sink.new) session.old line.now }
     ensures fault { IsErrOf result Stopped.Failed → Rose (K.faults sink.old) (K.faults sink.new) }
     ensures later { K.faults sink.old ≤ K.faults sink.new }
@@ -25,8 +26,12 @@ fn reply<K: Sink>(session: &mut Session, line: &[u8], sink: &mut K) -> Result<()
 
 /// Writes the reply to each line as soon as it is made.
 pub fn reply_all<K: Sink>(session: &mut Session, script: &[u8], sink: &mut K) -> Result<(), Stopped>
-    ensures all { OnOk result (WritesReplies (K.written sink.old) (K.written sink.new) session.old (script_lines script.now)) }
-    ensures part { BeginsToReply (K.written sink.old) (K.written sink.new) session.old (script_lines script.now) }
+    ensures all { OnOk result
+        (WritesReplies (K.written sink.old) (K.written sink.new)
+            session.old (script_lines script.now)) }
+    ensures part {
+        BeginsToReply (K.written sink.old) (K.written sink.new)
+            session.old (script_lines script.now) }
     ensures fault { IsErrOf result Stopped.Failed → Rose (K.faults sink.old) (K.faults sink.new) }
 {
     let mut rest = script;

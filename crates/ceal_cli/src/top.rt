@@ -2,10 +2,10 @@
 
 ghost use Rattle.std.specs.Prelude.{◌≡◌, ◌≢◌, ◌≤◌, ◌⊎◌, ◌+◌, ◌^◌, ℕ, length, IfSome};
 ghost use Rattle.std.specs.Io.KnownBytes.{Keeps, IsAtEnd};
-ghost use Rattle.ceal_io.specs.Streams.{Rose, LosesCount};
-ghost use Rattle.ceal_cli.specs.Answers.{IsWhole, IsSilent, status_text};
+ghost use Rattle.ceal_io.specs.Streams.{Rose, LosesAtMost, LosesCount};
+ghost use Rattle.ceal_cli.specs.Answers.{IsWhole, IsAfterReading, IsSilent, status_number as number_of, status_text};
 ghost use Rattle.ceal_compile.specs.Source.{IsAccepted};
-ghost use Rattle.ceal_cli.specs.Growth.{WritesOutput, WritesPrefix, WritesGenerated, WritesGeneratedPrefix};
+ghost use Rattle.ceal_cli.specs.Growth.{WritesAnswer, WritesRefusal, WritesOutput, WritesPrefix, WritesGenerated, WritesGeneratedPrefix};
 ghost use Rattle.ceal_cli.specs.Modes.{texts, Asks, AreDefined, AskToRead, AskToGenerate, ReadsInput};
 ghost use Rattle.ceal_cli.specs.declared.words.Mode.{Mode as ModeOf};
 ghost use Rattle.ceal_gen.specs.declared.kind.Workload.{Workload as WorkloadOf};
@@ -14,6 +14,7 @@ use crate::answer::write_answer;
 use crate::generate::generate;
 use crate::words::{Mode, asked_mode};
 use ceal_base::no_memory::NoMemory;
+use ceal_compile::compile::one_answer;
 use ceal_gen::kind::Workload;
 use ceal_io::{ReadError, Sink, Source, Stopped, read_all};
 use std::alloc::Global;
@@ -49,24 +50,43 @@ fn answer_input<S: Source, K: Sink>(
 ) -> Status
     requires { ReadsInput mode }
     ensures reads { ReadsInput mode }
-    ensures output { IsWhole result → IfSome (S.left source.old) (λ input. WritesOutput (K.written sink.old) (K.written sink.new) mode input) }
-    ensures read { IsWhole result → IsAtEnd (S.left source.new) }
-    ensures within { IsWhole result → IfSome (S.left source.old) (λ input. length input ≤ INPUT_LIMIT) }
-    ensures prefix { IfSome (S.left source.old) (λ input. WritesPrefix (K.written sink.old) (K.written sink.new) mode input) }
+    ensures output { IsWhole result → IfSome (S.left source.old)
+        (λ input. WritesOutput (K.written sink.old) (K.written sink.new) mode input) }
+    ensures answered { result ≡ Status.Done → IfSome (S.left source.old)
+        (λ input. WritesAnswer (K.written sink.old) (K.written sink.new) mode input) }
+    ensures told { result ≡ Status.Refused → IfSome (S.left source.old)
+        (λ input. WritesRefusal (K.written sink.old) (K.written sink.new) mode input) }
+    ensures read { IsAfterReading result → IsAtEnd (S.left source.new) }
+    ensures within { IsAfterReading result
+        → IfSome (S.left source.old) (λ input. length input ≤ INPUT_LIMIT) }
+    ensures early { result ≡ Status.ReadFault
+        → LosesAtMost (S.left source.old) (S.left source.new) INPUT_LIMIT }
+    ensures lost { LosesAtMost (S.left source.old) (S.left source.new) (INPUT_LIMIT + 1) }
+    ensures prefix { IfSome (S.left source.old)
+        (λ input. WritesPrefix (K.written sink.old) (K.written sink.new) mode input) }
     ensures silent { IsSilent result → Keeps (K.written sink.old) (K.written sink.new) }
     ensures done { result ≡ Status.Done → IfSome (S.left source.old) (λ input. IsAccepted input) }
-    ensures refused { result ≡ Status.Refused → IfSome (S.left source.old) (λ input. ¬ IsAccepted input) }
+    ensures refused { result ≡ Status.Refused
+        → IfSome (S.left source.old) (λ input. ¬ IsAccepted input) }
     ensures usage { result ≢ Status.Usage }
-    ensures too_long { result ≡ Status.TooLong → LosesCount (S.left source.old) (S.left source.new) (INPUT_LIMIT + 1) }
-    ensures read_fault { result ≡ Status.ReadFault → Rose (S.faults source.old) (S.faults source.new) }
-    ensures write_fault { result ≡ Status.WriteFault → Rose (K.faults sink.old) (K.faults sink.new) }
-    ensures complete { IfSome (S.left source.old) (λ input. length input ≤ INPUT_LIMIT → IsAccepted input
-        → ¬ Rose (S.faults source.old) (S.faults source.new) → ¬ Rose (K.faults sink.old) (K.faults sink.new)
+    ensures too_long { result ≡ Status.TooLong
+        → LosesCount (S.left source.old) (S.left source.new) (INPUT_LIMIT + 1) }
+    ensures read_fault { result ≡ Status.ReadFault
+        → Rose (S.faults source.old) (S.faults source.new) }
+    ensures write_fault { result ≡ Status.WriteFault
+        → Rose (K.faults sink.old) (K.faults sink.new) }
+    ensures complete { IfSome (S.left source.old)
+        (λ input. length input ≤ INPUT_LIMIT → IsAccepted input
+        → ¬ Rose (S.faults source.old) (S.faults source.new)
+        → ¬ Rose (K.faults sink.old) (K.faults sink.new)
         → (result ≡ Status.Done) ⊎ (result ≡ Status.Memory)) }
-    ensures refuses { IfSome (S.left source.old) (λ input. length input ≤ INPUT_LIMIT → ¬ IsAccepted input
-        → ¬ Rose (S.faults source.old) (S.faults source.new) → ¬ Rose (K.faults sink.old) (K.faults sink.new)
+    ensures refuses { IfSome (S.left source.old)
+        (λ input. length input ≤ INPUT_LIMIT → ¬ IsAccepted input
+        → ¬ Rose (S.faults source.old) (S.faults source.new)
+            → ¬ Rose (K.faults sink.old) (K.faults sink.new)
         → (result ≡ Status.Refused) ⊎ (result ≡ Status.Memory)) }
 {
+    one_answer();
     let input = match read_all(alloc, source, INPUT_LIMIT) {
         Ok(input) => input,
         Err(ReadError::Memory) => return Status::Memory,
@@ -90,10 +110,14 @@ fn answer_workload<K: Sink>(
     sink: &mut K,
 ) -> Status
     requires { size ≤ 2 ^ 24 }
-    ensures output { IsWhole result → WritesGenerated (K.written sink.old) (K.written sink.new) kind seed size }
-    ensures prefix { WritesGeneratedPrefix (K.written sink.old) (K.written sink.new) kind seed size }
-    ensures answer { (result ≡ Status.Done) ⊎ ((result ≡ Status.Memory) ⊎ (result ≡ Status.WriteFault)) }
-    ensures write_fault { result ≡ Status.WriteFault → Rose (K.faults sink.old) (K.faults sink.new) }
+    ensures output { IsWhole result
+        → WritesGenerated (K.written sink.old) (K.written sink.new) kind seed size }
+    ensures prefix {
+        WritesGeneratedPrefix (K.written sink.old) (K.written sink.new) kind seed size }
+    ensures answer { (result ≡ Status.Done)
+        ⊎ ((result ≡ Status.Memory) ⊎ (result ≡ Status.WriteFault)) }
+    ensures write_fault { result ≡ Status.WriteFault
+        → Rose (K.faults sink.old) (K.faults sink.new) }
 {
     match generate(alloc, kind, seed, size, sink) {
         Ok(()) => Status::Done,
@@ -111,43 +135,73 @@ pub fn ceal_main<S: Source, K: Sink>(
     source: &mut S,
     sink: &mut K,
 ) -> Status
-    // Where all went well, the output for the input was written whole, and a source that was read is at its end.
-    ensures headline { IsWhole result → (mode : ModeOf) → Asks (texts words.now) mode → IfSome (S.left source.old) (λ input. WritesOutput (K.written sink.old) (K.written sink.new) mode input) }
-    ensures read { IsWhole result → AskToRead (texts words.now) → IsAtEnd (S.left source.new) }
-    ensures within { IsWhole result → AskToRead (texts words.now) → IfSome (S.left source.old) (λ input. length input ≤ INPUT_LIMIT) }
+    // Where all went well, the output for the input was written whole.
+    ensures headline { IsWhole result → (mode : ModeOf) → Asks (texts words.now) mode
+        → IfSome (S.left source.old)
+        (λ input. WritesOutput (K.written sink.old) (K.written sink.new) mode input) }
+    ensures answered { result ≡ Status.Done → (mode : ModeOf) → Asks (texts words.now) mode
+        → IfSome (S.left source.old)
+        (λ input. WritesAnswer (K.written sink.old) (K.written sink.new) mode input) }
+    ensures told { result ≡ Status.Refused → (mode : ModeOf) → Asks (texts words.now) mode
+        → IfSome (S.left source.old)
+        (λ input. WritesRefusal (K.written sink.old) (K.written sink.new) mode input) }
     // In every case a prefix of it was written.
-    ensures prefix { (mode : ModeOf) → Asks (texts words.now) mode → IfSome (S.left source.old) (λ input. WritesPrefix (K.written sink.old) (K.written sink.new) mode input) }
+    ensures prefix { (mode : ModeOf) → Asks (texts words.now) mode → IfSome (S.left source.old)
+        (λ input. WritesPrefix (K.written sink.old) (K.written sink.new) mode input) }
     ensures silent { IsSilent result → Keeps (K.written sink.old) (K.written sink.new) }
 
-    // For a workload the source stays as it is, and what is written is the same whatever it has.
-    ensures unread { AskToGenerate (texts words.now) → source.new ≡ source.old }
-    ensures generated { IsWhole result → (kind : WorkloadOf) (seed size : ℕ) → Asks (texts words.now) (Mode.Gen kind seed size)
+    // The input is read whole, up to the limit, before anything is written of it; where none is asked for, none is read.
+    ensures read { IsAfterReading result → AskToRead (texts words.now)
+        → IsAtEnd (S.left source.new) }
+    ensures within { IsAfterReading result → AskToRead (texts words.now)
+        → IfSome (S.left source.old) (λ input. length input ≤ INPUT_LIMIT) }
+    ensures early { result ≡ Status.ReadFault
+        → LosesAtMost (S.left source.old) (S.left source.new) INPUT_LIMIT }
+    ensures lost { LosesAtMost (S.left source.old) (S.left source.new) (INPUT_LIMIT + 1) }
+    ensures unread { ¬ AskToRead (texts words.now) → source.new ≡ source.old }
+
+    // What is written for a workload is the same whatever the source has.
+    ensures generated { IsWhole result → (kind : WorkloadOf) (seed size : ℕ)
+        → Asks (texts words.now) (Mode.Gen kind seed size)
         → WritesGenerated (K.written sink.old) (K.written sink.new) kind seed size }
-    ensures generated_prefix { (kind : WorkloadOf) (seed size : ℕ) → Asks (texts words.now) (Mode.Gen kind seed size)
+    ensures generated_prefix { (kind : WorkloadOf) (seed size : ℕ)
+        → Asks (texts words.now) (Mode.Gen kind seed size)
         → WritesGeneratedPrefix (K.written sink.old) (K.written sink.new) kind seed size }
 
     // When each answer comes.
-    ensures done { result ≡ Status.Done → AskToRead (texts words.now) → IfSome (S.left source.old) (λ input. IsAccepted input) }
-    ensures refused { result ≡ Status.Refused → IfSome (S.left source.old) (λ input. ¬ IsAccepted input) }
+    ensures done { result ≡ Status.Done → AskToRead (texts words.now)
+        → IfSome (S.left source.old) (λ input. IsAccepted input) }
+    ensures refused { result ≡ Status.Refused
+        → IfSome (S.left source.old) (λ input. ¬ IsAccepted input) }
     ensures asked { result ≡ Status.Refused → AskToRead (texts words.now) }
     ensures usage { result ≡ Status.Usage → ¬ AreDefined (texts words.now) }
-    ensures too_long { result ≡ Status.TooLong → LosesCount (S.left source.old) (S.left source.new) (INPUT_LIMIT + 1) }
-    ensures read_fault { result ≡ Status.ReadFault → Rose (S.faults source.old) (S.faults source.new) }
-    ensures write_fault { result ≡ Status.WriteFault → Rose (K.faults sink.old) (K.faults sink.new) }
+    ensures too_long { result ≡ Status.TooLong
+        → LosesCount (S.left source.old) (S.left source.new) (INPUT_LIMIT + 1) }
+    ensures read_fault { result ≡ Status.ReadFault
+        → Rose (S.faults source.old) (S.faults source.new) }
+    ensures write_fault { result ≡ Status.WriteFault
+        → Rose (K.faults sink.old) (K.faults sink.new) }
 
     // Where the words ask for nothing, that is the answer, but for want of memory, and nothing is written.
-    ensures undefined { ¬ AreDefined (texts words.now) → (result ≡ Status.Usage) ⊎ (result ≡ Status.Memory) }
-    ensures untouched { ¬ AreDefined (texts words.now) → Keeps (K.written sink.old) (K.written sink.new) }
+    ensures undefined { ¬ AreDefined (texts words.now) → (result ≡ Status.Usage)
+        ⊎ (result ≡ Status.Memory) }
+    ensures untouched { ¬ AreDefined (texts words.now)
+        → Keeps (K.written sink.old) (K.written sink.new) }
 
     // Where no read and no write failed, an input within the limit is answered by whether it is accepted.
-    ensures complete { AskToRead (texts words.now) → IfSome (S.left source.old) (λ input. length input ≤ INPUT_LIMIT → IsAccepted input
-        → ¬ Rose (S.faults source.old) (S.faults source.new) → ¬ Rose (K.faults sink.old) (K.faults sink.new)
+    ensures complete { AskToRead (texts words.now)
+        → IfSome (S.left source.old) (λ input. length input ≤ INPUT_LIMIT → IsAccepted input
+        → ¬ Rose (S.faults source.old) (S.faults source.new)
+            → ¬ Rose (K.faults sink.old) (K.faults sink.new)
         → (result ≡ Status.Done) ⊎ (result ≡ Status.Memory)) }
-    ensures refuses { AskToRead (texts words.now) → IfSome (S.left source.old) (λ input. length input ≤ INPUT_LIMIT → ¬ IsAccepted input
-        → ¬ Rose (S.faults source.old) (S.faults source.new) → ¬ Rose (K.faults sink.old) (K.faults sink.new)
+    ensures refuses { AskToRead (texts words.now)
+        → IfSome (S.left source.old) (λ input. length input ≤ INPUT_LIMIT → ¬ IsAccepted input
+        → ¬ Rose (S.faults source.old) (S.faults source.new)
+            → ¬ Rose (K.faults sink.old) (K.faults sink.new)
         → (result ≡ Status.Refused) ⊎ (result ≡ Status.Memory)) }
     // A workload is answered whatever the source has.
-    ensures generates { AskToGenerate (texts words.now) → (result ≡ Status.Done) ⊎ ((result ≡ Status.Memory) ⊎ (result ≡ Status.WriteFault)) }
+    ensures generates { AskToGenerate (texts words.now) → (result ≡ Status.Done)
+        ⊎ ((result ≡ Status.Memory) ⊎ (result ≡ Status.WriteFault)) }
 {
     match asked_mode(alloc, words) {
         Ok(Some(Mode::Gen { kind, seed, size })) => answer_workload(alloc, kind, seed, size, sink),
@@ -168,5 +222,20 @@ pub fn status_line(status: Status) -> &'static str
         Status::Memory => "ceal: out of memory\n",
         Status::ReadFault => "ceal: reading failed\n",
         Status::WriteFault => "ceal: writing failed\n",
+    }
+}
+
+/// The exit status of the process.
+pub fn status_number(status: Status) -> u8
+    ensures { result ≡ number_of status }
+{
+    match status {
+        Status::Done => 0,
+        Status::Refused => 1,
+        Status::Usage => 2,
+        Status::TooLong => 3,
+        Status::Memory => 4,
+        Status::ReadFault => 5,
+        Status::WriteFault => 6,
     }
 }

@@ -48,7 +48,8 @@ fn kind(word: &str) -> Option<Workload>
 
 // The mode of the words behind `gen`.
 fn workload(word: &str, seed: &str, size: &str) -> Option<Mode>
-    ensures { MatchOption result (ChoosesNone (codes "gen" ∷ word.now ∷ seed.now ∷ size.now ∷ []) None)
+    ensures { MatchOption result
+        (ChoosesNone (codes "gen" ∷ word.now ∷ seed.now ∷ size.now ∷ []) None)
         (λ mode. Chooses (codes "gen" ∷ word.now ∷ seed.now ∷ size.now ∷ []) None mode) }
 {
     let kind = kind(word)?;
@@ -59,8 +60,11 @@ fn workload(word: &str, seed: &str, size: &str) -> Option<Mode>
 
 // The mode of these words with this value of `--fuel`.
 fn chosen(words: &[&str], option: Option<&str>) -> Option<Mode>
-    ensures { MatchOption result (ChoosesNone (map (λ word. word.now) words.now) (option_map (λ text. text.now) option.entry))
-        (λ mode. Chooses (map (λ word. word.now) words.now) (option_map (λ text. text.now) option.entry) mode) }
+    ensures { MatchOption result
+        (ChoosesNone (map (λ word. word.now) words.now)
+            (option_map (λ text. text.now) option.entry))
+        (λ mode. Chooses (map (λ word. word.now) words.now)
+            (option_map (λ text. text.now) option.entry) mode) }
 {
     match (words, option) {
         (["check"], None) => Some(Mode::Check),
@@ -74,7 +78,8 @@ fn chosen(words: &[&str], option: Option<&str>) -> Option<Mode>
 /// What the words ask for, if anything. The parser sorts the words; what they ask for is read from those that are no
 /// option, and from the value of `--fuel`.
 pub fn asked_mode(alloc: Global, words: &Vec<String>) -> Result<Option<Mode>, NoMemory>
-    ensures { IfOk result (λ found. MatchOption found (¬ AreDefined (texts words.now)) (λ mode. Asks (texts words.now) mode)) }
+    ensures { IfOk result (λ found. MatchOption found (¬ AreDefined (texts words.now))
+        (λ mode. Asks (texts words.now) mode)) }
 {
     let parser = command_line(alloc)?;
     match parser.try_get_matches_from(words.as_slice()) {

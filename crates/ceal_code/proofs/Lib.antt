@@ -36,3 +36,5 @@ pub mod InitSteps
 pub mod StackSteps
 pub mod TableSteps
 pub mod AfterLaws
+pub mod Ends
+pub mod InputFits

@@ -1,12 +1,14 @@
 -- Laws of trace code.
-use Rattle.std.specs.Prelude.{◌≡◌, ℕ, true, Some, List, [], slice_get}
+use Rattle.std.specs.Prelude.{◌≡◌, ℕ, true, Some, List, [], length, slice_get}
 use Rattle.ceal_base.specs.Block.{Block, Blocks}
+use Rattle.ceal_base.specs.Finished.{Finished}
 use Rattle.ceal_base.specs.Trace.{Trace}
 use Rattle.ceal_base.specs.declared.forest.Key.{Key}
 use Rattle.ceal_base.specs.declared.word.Word.{Word}
 use Rattle.ceal_code.specs.Alike.{Pairs, Key_alike, Stack_alike, Act_alike, Block_alike, Plain_alike, One_to_one}
 use Rattle.ceal_code.specs.Determined.{Determined}
 use Rattle.ceal_code.specs.Fitting.{Fits}
+use Rattle.ceal_code.specs.Fresh.{fresh}
 use Rattle.ceal_code.specs.Init.{made}
 use Rattle.ceal_code.specs.Known.{Agree, Holds, Known_stack, Known_act}
 use Rattle.ceal_code.specs.Over.{on, act_on}
@@ -55,3 +57,17 @@ Path_law = (code : Code) → valid code ≡ true → (u : ℕ) (unit : Unit) →
 abbrev pub Progress_law : Type 0
 Progress_law = (code : Code) → valid code ≡ true → (inputs : List Block) (f : ℕ) (args : List Word) → Fits code inputs f args
     → (m : Blocks) (st : Stack) → Reaches code (record { inputs = inputs; made = [] }) (started code f args) m st → Not_stuck code m st
+
+-- a finished run is at a state that it came to
+pub record Ended (code : Code) (inputs : List Block) (f : ℕ) (args : List Word) (r : Finished) : Type 0 where
+  pub stack : Stack
+  pub reaches : Reaches code (record { inputs = inputs; made = [] }) (started code f args) r.memory stack
+
+abbrev pub Ended_law : Type 0
+Ended_law = (code : Code) (inputs : List Block) (f : ℕ) (args : List Word) (fuel : ℕ) (r : Finished)
+    → fresh code f args inputs fuel ≡ Some r → Ended code inputs f args r
+
+-- and it makes no input
+abbrev pub Inputs_law : Type 0
+Inputs_law = (code : Code) (inputs : List Block) (f : ℕ) (args : List Word) (fuel : ℕ) (r : Finished)
+    → fresh code f args inputs fuel ≡ Some r → length r.memory.inputs ≡ length inputs

@@ -154,7 +154,8 @@ impl Code {
 
     /// The command at an index of a unit's body; past its end, and in no unit, there is none.
     pub fn command(&self, unit: usize, index: usize) -> Option<&Cmd>
-        ensures value { unwrap_or (option_map (λ c. c.now) result) Done ≡ command_at self.now unit index }
+        ensures value { unwrap_or (option_map (λ c. c.now) result) Done
+            ≡ command_at self.now unit index }
         ensures small { MatchOption result ⊤ (λ c. index < 2 ^ 63) }
     {
         match self.units.get(unit) {

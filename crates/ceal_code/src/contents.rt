@@ -66,7 +66,8 @@ pub fn base(code: &Code, inputs: &Inputs, place: Place) -> Word
 /// Adds places without a word up to this length.
 fn fill_words(words: &mut Vec<Option<Word>>, count: usize) -> Result<(), NoMemory>
     ensures { OnOk result
-        (words.new.items ≡ words.old.items ++ replicate (count - length words.old.items) Option.None) }
+        (words.new.items ≡ words.old.items
+        ++ replicate (count - length words.old.items) Option.None) }
 {
     if words.len() < count {
         words.resize(count, None)?;
@@ -97,7 +98,8 @@ impl Fields {
 
     /// Gives a field another content.
     pub fn set(&mut self, field: u32, value: Word) -> Result<(), NoMemory>
-        ensures word { OnOk result ((code : Parts) (s : Store) (p : Cell) → word_in code s (Some self.new) p
+        ensures word { OnOk result ((code : Parts) (s : Store) (p : Cell) →
+            word_in code s (Some self.new) p
             ≡ (if p.field == field then value else word_in code s (Some self.old) p)) }
     {
         let at = field as usize;

@@ -93,7 +93,8 @@ fn variable(env: &[Word], v: u32) -> Word
 impl<'a, P: PlainWords> Scope<'a, P> {
     /// The word of a plain field.
     fn field(&self, word: Word, s: u32, field: u32) -> Word
-        ensures { result ≡ field_value self.now.structs.now (P.plain self.now.plain.now) word s field }
+        ensures { result
+            ≡ field_value self.now.structs.now (P.plain self.now.plain.now) word s field }
     {
         match kind_of_field(self.structs, Shape::Struct(s), field) {
             Some(FieldKind::Plain(kind)) => match stored_word(self.plain, s, word, field) {
@@ -108,7 +109,8 @@ impl<'a, P: PlainWords> Scope<'a, P> {
 
     /// The place of an embedded modifiable.
     fn address(&self, word: Word, s: u32, field: u32) -> Word
-        ensures { result ≡ address_value self.now.structs.now (P.plain self.now.plain.now) word s field }
+        ensures { result
+            ≡ address_value self.now.structs.now (P.plain self.now.plain.now) word s field }
     {
         let is_cell = is_modifiable(kind_of_field(self.structs, Shape::Struct(s), field));
         if is_cell && points_to(self.plain, s, word) {

@@ -1,7 +1,7 @@
 // Laws of trace code, each the contract of a function that does nothing.
 
-ghost use Rattle.ceal_code.specs.After.{Store_law, Inputs_law};
-ghost use Rattle.ceal_code.specs.Laws.{Step_law, Block_law, Over_law, Alike_law, Trace_law, Path_law, Progress_law};
+ghost use Rattle.ceal_code.specs.After.{Store_law, Inputs_law as Inputs_after_law};
+ghost use Rattle.ceal_code.specs.Laws.{Step_law, Block_law, Over_law, Alike_law, Trace_law, Path_law, Progress_law, Ended_law, Inputs_law};
 
 /// A step of trace code depends on the plain words of the blocks that its stack can reach, and on nothing else
 /// (our own).
@@ -46,5 +46,15 @@ pub fn progress_law()
 /// that replays a call are those of the memory after it (our own).
 pub fn after_law()
     ensures store { Store_law }
-    ensures inputs { Inputs_law }
+    ensures inputs { Inputs_after_law }
+{}
+
+/// A run from scratch that ends is at a state that it came to.
+pub fn ended_law()
+    ensures law { Ended_law }
+{}
+
+/// A run makes no input.
+pub fn inputs_law()
+    ensures law { Inputs_law }
 {}

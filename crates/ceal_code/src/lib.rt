@@ -26,8 +26,6 @@ pub mod plain_words;
 mod settle;
 pub mod stack;
 pub mod step;
-#[cfg(test)]
-mod tests;
 mod text;
 pub mod trace_memory;
 mod tree;

@@ -18,7 +18,8 @@ use std::alloc::Global;
 
 /// Whether a tail call that arrives at this command runs on.
 fn runs_on(c: Option<&Cmd>) -> bool
-    ensures { (arrived rest : Stack) → landed (unwrap_or (option_map (λ c. c.now) c.entry) Done) arrived rest
+    ensures { (arrived rest : Stack) →
+        landed (unwrap_or (option_map (λ c. c.now) c.entry) Done) arrived rest
         ≡ (if result then arrived else rest) }
 {
     match c {
@@ -65,7 +66,8 @@ fn arrive_at<P: PlainWords>(
     c: &Cmd,
 ) -> Result<Option<Activation>, NoMemory>
     ensures { IfOk result (λ found. (below rest : Stack) →
-        settled_at code.now (P.plain plain.now) c.now top.unit top.index (arguments top.env.items) below rest
+        settled_at code.now (P.plain plain.now) c.now
+        top.unit top.index (arguments top.env.items) below rest
         ≡ arrived found below rest) }
 {
     match c {

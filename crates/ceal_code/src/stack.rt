@@ -281,7 +281,8 @@ impl Stack {
 
     /// A call of the function by itself, on words for all its parameters.
     pub fn call(alloc: Global, code: &Code, function: u32, args: &[Word]) -> Result<Stack, NoMemory>
-        ensures started { IfOk result (λ stack. stack_in stack ≡ started code.now function args.now) }
+        ensures started { IfOk result
+            (λ stack. stack_in stack ≡ started code.now function args.now) }
     {
         let unit = code.entry_of(function);
         let words = choose(alloc, code.params_of(unit), args)?;
@@ -297,7 +298,8 @@ impl Stack {
         code: &Code,
         plain: &P,
     ) -> Result<Option<Activation>, NoMemory>
-        ensures settled { IfOk result (λ found. settled code.now (P.plain plain.now) (stack_in self.old)
+        ensures settled { IfOk result (λ found.
+            settled code.now (P.plain plain.now) (stack_in self.old)
             ≡ arrived found (stack_in self.new) Empty) }
     {
         while let Some(top) = self.units.pop() {

@@ -111,7 +111,8 @@ fn put_word(
     ensures here { OnOk result ((code : Parts) (s : Store) (p : Cell) →
         word_in code s (get ghosts.eq contents.new place.block) p
         ≡ (if p.field == place.field then value
-        else word_in code s (Some (unwrap_or (get ghosts.eq contents.old place.block) unwritten)) p)) }
+        else word_in code s
+        (Some (unwrap_or (get ghosts.eq contents.old place.block) unwritten)) p)) }
     ensures others { OnOk result ((b : Number) → ghosts.eq place.block b ≡ false →
         get ghosts.eq contents.new b ≡ get ghosts.eq contents.old b) }
 {

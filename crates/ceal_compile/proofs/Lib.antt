@@ -1,3 +1,5 @@
 pub mod Answering
+pub mod Coded
+pub mod Coming
 pub mod Positions
 pub mod ShortLists

@@ -2,3 +2,4 @@ pub mod Phases
 pub mod Source
 pub mod FaultLine
 pub mod Compiled
+pub mod Laws

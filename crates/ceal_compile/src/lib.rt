@@ -7,7 +7,6 @@
 
 pub mod compile;
 pub mod fault_line;
+pub mod laws;
 mod position;
 pub mod program;
-#[cfg(test)]
-mod tests;

@@ -9,4 +9,3 @@ pub mod Numbered
 pub mod Present
 pub mod Inputs
 pub mod Keeping
-pub mod Samples

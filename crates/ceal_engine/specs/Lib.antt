@@ -3,4 +3,3 @@ pub mod Laws
 pub mod Seen
 pub mod Frames
 pub mod Keeping
-pub mod Sample

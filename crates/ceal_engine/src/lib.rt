@@ -14,5 +14,3 @@ mod interpret;
 pub mod laws;
 pub mod phase;
 pub mod run_error;
-#[cfg(test)]
-mod tests;

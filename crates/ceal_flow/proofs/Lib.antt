@@ -10,4 +10,5 @@ pub mod Reach
 pub mod Reached
 pub mod BitFacts
 pub mod OneAnswer
+pub mod SomeAnswer
 pub mod Samples

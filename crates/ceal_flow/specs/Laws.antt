@@ -55,3 +55,7 @@ Act_law = (p : Typed) (b : ℕ) (s : TypedStmt) (next : ℕ) → slice_get (grap
 -- a graph has one list of live sets
 abbrev pub One_law : Type 0
 One_law = (blocks : List GraphBlock) (s t : List (List ℕ)) → AreLiveSets blocks s → AreLiveSets blocks t → s ≡ t
+
+-- and it has one
+abbrev pub Some_law : Type 0
+Some_law = (blocks : List GraphBlock) → (s : List (List ℕ)) × AreLiveSets blocks s

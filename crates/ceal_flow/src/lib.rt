@@ -17,5 +17,3 @@ pub mod live_sets;
 pub mod lower;
 mod size;
 mod statements;
-#[cfg(test)]
-mod tests;

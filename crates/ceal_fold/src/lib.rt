@@ -10,8 +10,6 @@ mod expr;
 pub mod fold;
 mod known;
 mod replace;
-#[cfg(test)]
-mod tests;
 mod unused;
 mod uses;
 mod vars;

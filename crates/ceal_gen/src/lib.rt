@@ -10,7 +10,5 @@ mod draws;
 pub mod kind;
 mod list;
 mod programs;
-#[cfg(test)]
-mod tests;
 pub mod text;
 mod tree;

@@ -19,6 +19,3 @@ pub use memory_source::{MemSource, SoundSource};
 pub use streams::{Failed, Sink, Source, Stopped};
 pub use system::{StdSink, StdSource};
 pub use whole::{ReadError, read_all, write_all};
-
-#[cfg(test)]
-mod tests;

@@ -14,7 +14,5 @@ mod number;
 pub mod parts;
 mod signs;
 pub mod split;
-#[cfg(test)]
-mod tests;
 pub mod token;
 mod words;

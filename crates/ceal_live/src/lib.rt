@@ -7,6 +7,4 @@
 
 pub mod live;
 mod round;
-#[cfg(test)]
-mod tests;
 mod uses;

@@ -11,9 +11,5 @@ pub mod eval;
 pub mod init;
 pub mod laws;
 mod machine;
-#[cfg(test)]
-mod programs;
 pub mod run;
-#[cfg(test)]
-mod tests;
 mod todo;

@@ -16,5 +16,3 @@ pub mod laws;
 mod lists;
 pub mod memo;
 mod search;
-#[cfg(test)]
-mod tests;

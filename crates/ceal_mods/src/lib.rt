@@ -11,6 +11,4 @@
 mod cell;
 pub mod laws;
 pub mod mods;
-#[cfg(test)]
-mod tests;
 mod writes;

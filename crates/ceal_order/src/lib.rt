@@ -19,5 +19,3 @@ pub mod order;
 pub mod rising;
 mod run;
 pub mod stamp;
-#[cfg(test)]
-mod tests;

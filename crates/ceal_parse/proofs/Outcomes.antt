@@ -1,5 +1,6 @@
 -- From what a reading comes to, to what it means.
 use Rattle.std.proofs.Common.{◌≡◌, ℕ, ◌≤◌, ◌<◌, ◌+◌, Option, Some, None, Result, Ok, Err, List, [], ◌∷◌, ◌∙◌, sym, ap, IfOk, length, drop, get_or, drop-cons, add-one, refl, arith, inl, inr, subst}
+use Rattle.std.proofs.lemmas.Bool.Decides.{leb_tells}
 use Rattle.std.proofs.lemmas.List.{drop_all}
 use Rattle.ceal_base.specs.declared.fault.Fault.{Fault}
 use Rattle.ceal_base.specs.declared.fault.FaultCode.TheVariants.{S5}
@@ -13,29 +14,50 @@ use Rattle.ceal_lex.specs.declared.token.Token.{Token}
 use Rattle.ceal_grammar.specs.declared.state.State.{State}
 use Rattle.ceal_grammar.specs.declared.state.State.TheVariants.{Top, Struct, Head as InHead, In, Finished}
 use Rattle.ceal_grammar.specs.Faults.{Accepts, IsFirstFault}
-use Rattle.ceal_grammar.specs.Judged.{judged, advanced, finished, entries_of}
-use Rattle.ceal_grammar.specs.Machine.{step, nesting_of, operators_of}
-use Rattle.ceal_grammar.proofs.Exact.{tell, accepted, complete, faulty, first_given, judged_on, judged_off}
+use Rattle.ceal_grammar.specs.Judged.{judged, tested, advanced, finished, entries_of}
+use Rattle.ceal_grammar.specs.Machine.{step, nesting_of, item_of, operators_of}
 
 module _ (ts : List Token) where
-  pub found_from : (r : Result Tree FrontError) → Gives r (judged (Top []) ts) → IfOk r (λ tree. Accepts ts tree)
-  found_from (Ok tree) h = accepted ts tree h
-  found_from (Err e) h = tt
+  pub found_from : (accepted : (tree : Tree) → judged (Top []) ts ≡ Ok tree → Accepts ts tree) (r : Result Tree FrontError)
+      → Gives r (judged (Top []) ts) → IfOk r (λ tree. Accepts ts tree)
+  found_from accepted (Ok tree) h = accepted tree h
+  found_from accepted (Err e) h = tt
 
-  pub all_from : (r : Result Tree FrontError) → Gives r (judged (Top []) ts) → (tree : Tree) → Accepts ts tree → Gives r (Ok tree)
-  all_from (Ok x) h tree a = sym (complete ts tree a) ∙ h
-  all_from (Err Memory) h tree a = tt
-  all_from (Err (FaultError f)) h tree a = sym (complete ts tree a) ∙ h
+  pub all_from : (complete : (tree : Tree) → Accepts ts tree → judged (Top []) ts ≡ Ok tree) (r : Result Tree FrontError)
+      → Gives r (judged (Top []) ts) → (tree : Tree) → Accepts ts tree → Gives r (Ok tree)
+  all_from complete (Ok x) h tree a = sym (complete tree a) ∙ h
+  all_from complete (Err Memory) h tree a = tt
+  all_from complete (Err (FaultError f)) h tree a = sym (complete tree a) ∙ h
 
-  pub fault_from : (r : Result Tree FrontError) → IsEnded ts → Gives r (judged (Top []) ts) → IfFault r (λ fault. IsFirstFault ts fault)
-  fault_from (Ok x) e h = tt
-  fault_from (Err Memory) e h = tt
-  fault_from (Err (FaultError f)) e h = faulty ts f e h
+  pub fault_from : (faulty : (f : Fault) → IsEnded ts → judged (Top []) ts ≡ Err f → IsFirstFault ts f) (r : Result Tree FrontError)
+      → IsEnded ts → Gives r (judged (Top []) ts) → IfFault r (λ fault. IsFirstFault ts fault)
+  fault_from faulty (Ok x) e h = tt
+  fault_from faulty (Err Memory) e h = tt
+  fault_from faulty (Err (FaultError f)) e h = faulty f e h
 
-  pub only_from : (r : Result Tree FrontError) → Gives r (judged (Top []) ts) → (fault : Fault) → IsFirstFault ts fault → Gives r (Err fault)
-  only_from (Ok x) h f a = sym (first_given ts f a) ∙ h
-  only_from (Err Memory) h f a = tt
-  only_from (Err (FaultError g)) h f a = sym (first_given ts f a) ∙ h
+  pub only_from : (first : (f : Fault) → IsFirstFault ts f → judged (Top []) ts ≡ Err f) (r : Result Tree FrontError)
+      → Gives r (judged (Top []) ts) → (fault : Fault) → IsFirstFault ts fault → Gives r (Err fault)
+  only_from first (Ok x) h f a = sym (first f a) ∙ h
+  only_from first (Err Memory) h f a = tt
+  only_from first (Err (FaultError g)) h f a = sym (first f a) ∙ h
+
+abbrev ok : State → Result State Fault
+ok s = Ok s
+
+abbrev err : Fault → Result State Fault
+err f = Err f
+
+not_ok : (f : Fault) (s : State) → err f ≡ ok s → ⊥
+not_ok f s h = absurd (cc)
+
+-- one token of a reading
+judged_on : (s : State) (t : Token) (ts : List Token) (next : State) → advanced s t (step s t) ≡ Ok next → judged s (t ∷ ts) ≡ judged next ts
+unfolding judged
+judged_on s t ts next e = let J : Result State Fault → Result Tree Fault = λ r. elim r [ Ok z ↦ judged z ts | Err f ↦ Err f ] in ap J e
+
+judged_off : (s : State) (t : Token) (ts : List Token) (f : Fault) → advanced s t (step s t) ≡ Err f → judged s (t ∷ ts) ≡ Err f
+unfolding judged
+judged_off s t ts f e = let J : Result State Fault → Result Tree Fault = λ r. elim r [ Ok z ↦ judged z ts | Err g ↦ Err g ] in ap J e
 
 -- the loop over the tokens
 module _ (s : State) (ts : List Token) (i : ℕ) (t : Token) (lt : i < length ts) (J : Result Tree Fault) (same : judged s (drop i ts) ≡ J) where
@@ -49,18 +71,31 @@ module _ (s : State) (ts : List Token) (i : ℕ) (t : Token) (lt : i < length ts
   pub loop_on : (next : State) → advanced s (get_or ts i t) (step s (get_or ts i t)) ≡ Ok next → judged next (drop (i + 1) ts) ≡ J
   loop_on next h = sym (judged_on s (get_or ts i t) (drop (i + 1) ts) next h) ∙ front
 
-same_ok : (a b : State) (r : Result State Fault) → r ≡ Ok a → r ≡ Ok b → a ≡ b
-same_ok a b r p q = cc
-
+-- A state that a reading comes to keeps the limits.
 abbrev Kept : State → Type 0
 Kept s = (nesting_of s ≤ 64) × (operators_of s ≤ 255)
 
--- a state that a reading comes to keeps the limits
-pub kept : (s : State) (t : Token) (next : State) → advanced s t (step s t) ≡ Ok next → Kept next
-kept s t next h = elim (tell s t) [
-  | inl a ↦ subst (λ (z : State). Kept z) (same_ok a.0 next _ a.2 h) (a.1.1, a.1.3)
-  | inr b ↦ absurd (cc (b.2, h))
+same_ok : (a b : State) → ok a ≡ ok b → a ≡ b
+same_ok a b h = cc
+
+tested_kept : (item : ℕ) (t : Token) (s next : State) → tested item t s ≡ Ok next → Kept next
+tested_kept item t s next h = elim (leb_tells 65 (nesting_of s)) [
+  | inl p ↦ absurd (not_ok _ next (rw p.0 at h))
+  | inr p ↦ elim (leb_tells 256 item) [
+    | inl q ↦ absurd (not_ok _ next (rw (p.0, q.0) at h))
+    | inr q ↦ elim (leb_tells 256 (operators_of s)) [
+      | inl r ↦ absurd (not_ok _ next (rw (p.0, q.0, r.0) at h))
+      | inr r ↦ subst Kept (same_ok s next (rw (p.0, q.0, r.0) at h)) (omega (arith, p.1), omega (arith, r.1))
+    ]
+  ]
 ]
+
+pub kept : (s : State) (t : Token) (next : State) → advanced s t (step s t) ≡ Ok next → Kept next
+kept s t next h = go (step s t) h
+  where
+    go : (o : Option State) → advanced s t o ≡ Ok next → Kept next
+    go None e = absurd (not_ok _ next e)
+    go (Some z) e = tested_kept (item_of s t) t z next e
 
 pub at_end : (s : State) (ts : List Token) (i : ℕ) (J : Result Tree Fault) → length ts ≤ i → judged s (drop i ts) ≡ J → J ≡ finished s
 unfolding judged

@@ -1,25 +1,28 @@
-// Bodies of functions. A `take_..` takes one token, and answers where the reading stands after it, or None where no
-// program goes on so.
+// Bodies of functions. A `take_..` takes one token: it moves the reading, or answers that no program goes on so.
 
-ghost use Rattle.std.specs.Prelude.{◌≡◌, ◌<◌, ◌≤◌, ◌^◌, [], IfOk};
-ghost use Rattle.ceal_grammar.specs.Machine.{same_sign as same_signs, wants, placed, operator_of, at_argument, received, closes, at_sign_after, at_after, at_place, with_statement, owned, block_closed, chained_in, at_body, at_ends, at_opens, at_closed, at_otherwise, moved, mode_nesting, operators_in};
+ghost use Rattle.std.specs.Prelude.{◌≡◌, ◌∷◌, ◌++◌, ◌<◌, ◌≤◌, ◌^◌, [], Some, false, IfOk};
+ghost use Rattle.ceal_grammar.specs.Machine.{same_sign as same_signs, wants, placed, at_argument, received, with_statement, owned, block_closed, chained_in, at_body, at_ends, at_opens, at_closed, at_otherwise, moved, mode_nesting, operators_in};
+ghost use Rattle.ceal_parse.specs.Reading.{ended, is_within, mode_ended, turn_state};
 
-use crate::expression::{arrow, begin, operated, reduce, take_operand, take_pick, take_prim};
+use crate::expression::{begin, take_place};
 use crate::making::{call, give, take_making, take_value};
-use crate::marks::{is_sign, is_word, level, operator, same_sign};
-use ceal_grammar::state::{
-    Callee, Chained, Frame, Inside, Mode, Opened, Owner, Piece, Place, Receiver, State, Whole,
-};
+use crate::marks::{is_sign, is_word, same_sign};
 use crate::statement::{
     end_statement, open_block, take_before, take_calls, take_declared, take_end, take_first,
     take_named, take_owned, take_path, take_reached, take_typing, take_word,
 };
+use crate::turn::{Part, Turn, put};
 use ceal_base::fault::Span;
 use ceal_base::items::Items;
 use ceal_base::no_memory::NoMemory;
 use ceal_base::syntax::{Entry, Expr, Exprs, FunctionDecl, Ident, Stmt, Stmts, Value};
+use ceal_base::text::Text;
+use ceal_grammar::state::{
+    Callee, Chained, Head, Inside, Mode, Opened, Owner, Place, Receiver, State, Whole,
+};
 use ceal_lex::token::{Reserved, Sign, Token, TokenKind};
 use std::alloc::Global;
+use std::mem;
 
 /// The place if the sign is this one.
 fn wanted(found: Sign, sign: Sign, mode: Mode) -> Option<Mode>
@@ -28,6 +31,7 @@ fn wanted(found: Sign, sign: Sign, mode: Mode) -> Option<Mode>
     if same_sign(found, sign) {
         Some(mode)
     } else {
+        drop(mode);
         None
     }
 }
@@ -54,6 +58,27 @@ fn take_argument(
     }
 }
 
+/// The argument, at the sign behind it.
+fn receive_argument(
+    alloc: Global,
+    nesting: u32,
+    callee: Callee,
+    arguments: Exprs,
+    expr: Expr,
+    sign: Sign,
+) -> Result<Option<Mode>, NoMemory>
+    ensures value { IfOk result (λ mode. mode ≡ at_argument nesting callee (arguments ++ expr ∷ []) sign) }
+{
+    let mut arguments = arguments;
+    match arguments.push(expr) {
+        Ok(()) => Ok(take_argument(alloc, nesting, callee, arguments, sign)),
+        Err(NoMemory) => {
+            drop(callee);
+            Err(NoMemory)
+        }
+    }
+}
+
 /// Where the reading stands behind a whole expression, at the sign behind it.
 fn receive(
     alloc: Global,
@@ -76,9 +101,8 @@ fn receive(
             Ok(wanted(sign, Sign::RightParenthesis, Mode::Ends(statement)))
         }
         Receiver::Argument(callee, arguments) => {
-            let mut arguments = arguments;
-            arguments.push(expr)?;
-            Ok(take_argument(alloc, nesting, callee, arguments, sign))
+            let mode = receive_argument(alloc, nesting, callee, arguments, expr, sign)?;
+            Ok(mode)
         }
         Receiver::Set(path, name) => {
             let statement = Stmt::SetField(path.span, path, name, expr);
@@ -104,19 +128,18 @@ fn receive(
     }
 }
 
-/// A sign behind the piece that no operator waits for: a `)` within the whole expression, or its end.
-fn close(
+/// The whole expression has ended with the operand at this place.
+fn take_ended(
     alloc: Global,
     inside: &mut Inside,
     whole: Whole,
+    place: Place,
     sign: Sign,
-    piece: Piece,
 ) -> Result<Option<Mode>, NoMemory>
-    ensures value { IfOk result (λ mode. closes inside.old whole sign piece whole.frames ≡ placed inside.new mode) }
+    ensures value { IfOk result (λ mode. ended inside.old whole place sign ≡ placed inside.new mode) }
 {
-    let mut whole = whole;
-    match whole.frames.pop() {
-        None => {
+    match place {
+        Place::Have(piece) => {
             let mode = receive(
                 alloc,
                 inside,
@@ -127,99 +150,10 @@ fn close(
             )?;
             Ok(mode)
         }
-        Some(Frame::Open(at, nesting)) => {
-            whole.nesting = nesting;
-            let piece = Piece {
-                from: at,
-                expr: piece.expr,
-            };
-            let mode = Mode::Within(whole, Place::Have(piece));
-            Ok(wanted(sign, Sign::RightParenthesis, mode))
-        }
-        Some(Frame::Prefix(_, _)) => Ok(None),
-        Some(Frame::Address(_)) => Ok(None),
-        Some(Frame::Left(_, _, _)) => Ok(None),
-    }
-}
-
-/// A sign behind the piece, other than an arrow.
-fn take_sign(
-    alloc: Global,
-    inside: &mut Inside,
-    whole: Whole,
-    piece: Piece,
-    at: Span,
-    sign: Sign,
-) -> Result<Option<Mode>, NoMemory>
-    requires few { whole.operators < 2 ^ 31 }
-    ensures value { IfOk result (λ mode. at_sign_after inside.old whole piece at sign (operator_of sign) ≡ placed inside.new mode) }
-{
-    let mut whole = whole;
-    match operator(sign) {
-        Some(operator) => {
-            let left = reduce(alloc, level(operator), piece, &mut whole.frames)?;
-            let mode = operated(whole, Frame::Left(left, operator, at), Place::Want)?;
-            Ok(mode)
-        }
-        None => {
-            let piece = reduce(alloc, 0, piece, &mut whole.frames)?;
-            let mode = close(alloc, inside, whole, sign, piece)?;
-            Ok(mode)
-        }
-    }
-}
-
-fn take_after(
-    alloc: Global,
-    inside: &mut Inside,
-    whole: Whole,
-    piece: Piece,
-    token: &Token,
-) -> Result<Option<Mode>, NoMemory>
-    requires few { whole.operators < 2 ^ 31 }
-    ensures value { IfOk result (λ mode. at_after inside.old whole piece token.now.span token.now.kind ≡ placed inside.new mode) }
-{
-    match token.kind {
-        TokenKind::Sign(sign) => {
-            if same_sign(sign, Sign::Arrow) {
-                Ok(Some(arrow(whole, piece)))
-            } else {
-                let mode = take_sign(alloc, inside, whole, piece, token.span, sign)?;
-                Ok(mode)
-            }
-        }
-        _ => Ok(None),
-    }
-}
-
-/// A token within a whole expression, or behind it.
-fn take_place(
-    alloc: Global,
-    inside: &mut Inside,
-    whole: Whole,
-    place: Place,
-    token: &Token,
-) -> Result<Option<Mode>, NoMemory>
-    requires shallow { whole.nesting < 2 ^ 31 }
-    requires few { whole.operators < 2 ^ 31 }
-    ensures value { IfOk result (λ mode. at_place inside.old whole place token.now.span token.now.kind ≡ placed inside.new mode) }
-{
-    match place {
-        Place::Want => {
-            let mode = take_operand(whole, token)?;
-            Ok(mode)
-        }
-        Place::Post => {
-            let mode = take_prim(whole, token)?;
-            Ok(mode)
-        }
-        Place::Have(piece) => {
-            let mode = take_after(alloc, inside, whole, piece, token)?;
-            Ok(mode)
-        }
-        Place::Pick(piece) => {
-            let mode = take_pick(alloc, whole, piece, token)?;
-            Ok(mode)
+        other => {
+            drop(other);
+            drop(whole);
+            Ok(None)
         }
     }
 }
@@ -234,103 +168,122 @@ fn owner_mode(owner: Owner, body: Stmts) -> Mode
     }
 }
 
-/// The block that ends at `}`, or the function.
-fn close_block(inside: Inside, at: Span) -> Result<State, NoMemory>
-    ensures value { IfOk result (λ next. next ≡ block_closed inside.entries inside.head inside.done inside.opened at) }
+/// The head of no function, which stands where one was taken away.
+fn no_head(alloc: Global, at: Span) -> Head {
+    Head {
+        initialiser: None,
+        name: Ident {
+            text: Text::new(Vec::new(alloc)),
+            span: at,
+        },
+        params: Items::empty(alloc),
+    }
+}
+
+/// Puts the function, whose body ends at `}`, behind the entries before it.
+fn close_function(alloc: Global, inside: &mut Inside, at: Span) -> Result<(), NoMemory>
+    ensures value { IfOk result (λ _. State.Top inside.new.entries ≡ block_closed inside.old.entries inside.old.head inside.old.done [] at) }
 {
-    let mut inside = inside;
+    let head = mem::replace(&mut inside.head, no_head(alloc, at));
+    let body = mem::replace(&mut inside.done, Items::empty(alloc));
+    inside.entries.push(Entry::Function(FunctionDecl {
+        initialiser: head.initialiser,
+        name: head.name,
+        params: head.params,
+        body,
+        close: at,
+    }))?;
+    Ok(())
+}
+
+/// Goes back into what the block stood in, and gives the statements of the block.
+fn leave_block(inside: &mut Inside, outer: Opened) -> Mode
+    ensures value { State.In inside.new result ≡ block_closed inside.old.entries inside.old.head inside.old.done (outer ∷ inside.old.opened) (record { from = 0; to = 0 }) }
+{
+    let body = mem::replace(&mut inside.done, outer.before);
+    put(&mut inside.chain, outer.chain);
+    inside.base = outer.base;
+    inside.nesting = outer.nesting;
+    owner_mode(outer.owner, body)
+}
+
+/// The block that ends at `}`, or the function.
+fn close_block(
+    alloc: Global,
+    inside: &mut Inside,
+    mode: &mut Mode,
+    at: Span,
+) -> Result<Turn, NoMemory>
+    ensures value { IfOk result (λ turn. turn_state inside.new mode.new turn
+        ≡ Some (block_closed inside.old.entries inside.old.head inside.old.done inside.old.opened at)) }
+{
     match inside.opened.pop() {
         None => {
-            let mut entries = inside.entries;
-            entries.push(Entry::Function(FunctionDecl {
-                initialiser: inside.head.initialiser,
-                name: inside.head.name,
-                params: inside.head.params,
-                body: inside.done,
-                close: at,
-            }))?;
-            Ok(State::Top(entries))
+            close_function(alloc, inside, at)?;
+            Ok(Turn::Closed)
         }
         Some(outer) => {
-            let mode = owner_mode(outer.owner, inside.done);
-            Ok(State::In(
-                Inside {
-                    entries: inside.entries,
-                    head: inside.head,
-                    opened: inside.opened,
-                    done: outer.before,
-                    chain: outer.chain,
-                    base: outer.base,
-                    nesting: outer.nesting,
-                },
-                mode,
-            ))
+            put(mode, leave_block(inside, outer));
+            Ok(Turn::On)
         }
     }
 }
 
-/// The reading at this place of the body.
-fn stay(inside: Inside, mode: Option<Mode>) -> Option<State>
-    ensures value { result ≡ placed inside mode }
+/// The reading goes on at this place of the body, if there is one.
+fn go_on(mode: &mut Mode, next: Option<Mode>) -> Turn
+    ensures value { (i : Inside) → turn_state i mode.new result ≡ placed i next }
 {
-    match mode {
-        Some(mode) => Some(State::In(inside, mode)),
-        None => None,
+    match next {
+        Some(next) => {
+            put(mode, next);
+            Turn::On
+        }
+        None => Turn::Refused,
     }
 }
 
 /// The beginning of a statement, or the end of a block.
-fn take_body(inside: Inside, token: &Token) -> Result<Option<State>, NoMemory>
-    ensures value { IfOk result (λ next. next ≡ at_body inside token.now.span token.now.kind) }
+fn take_body(
+    alloc: Global,
+    inside: &mut Inside,
+    mode: &mut Mode,
+    token: &Token,
+) -> Result<Turn, NoMemory>
+    ensures value { IfOk result (λ turn. turn_state inside.new mode.new turn ≡ at_body inside.old token.now.span token.now.kind) }
 {
     let at = token.span;
     match &token.kind {
         TokenKind::Name(text) => {
             let text = text.copy()?;
-            Ok(Some(State::In(inside, Mode::Named(Ident { text, span: at }))))
+            put(mode, Mode::Named(Ident { text, span: at }));
+            Ok(Turn::On)
         }
-        TokenKind::Reserved(word) => Ok(stay(inside, take_word(at, *word))),
+        TokenKind::Reserved(word) => Ok(go_on(mode, take_word(at, *word))),
         TokenKind::Sign(sign) => {
             if same_sign(*sign, Sign::RightBrace) {
-                let state = close_block(inside, at)?;
-                Ok(Some(state))
+                let turn = close_block(alloc, inside, mode, at)?;
+                Ok(turn)
             } else {
-                Ok(None)
+                Ok(Turn::Refused)
             }
         }
-        _ => Ok(None),
+        _ => Ok(Turn::Refused),
     }
-}
-
-fn take_within(
-    alloc: Global,
-    inside: Inside,
-    whole: Whole,
-    place: Place,
-    token: &Token,
-) -> Result<Option<State>, NoMemory>
-    requires shallow { whole.nesting < 2 ^ 31 }
-    requires few { whole.operators < 2 ^ 31 }
-    ensures value { IfOk result (λ next. next ≡ at_place inside whole place token.now.span token.now.kind) }
-{
-    let mut inside = inside;
-    let mode = take_place(alloc, &mut inside, whole, place, token)?;
-    Ok(stay(inside, mode))
 }
 
 fn take_ends(
     alloc: Global,
-    inside: Inside,
+    inside: &mut Inside,
     statement: Stmt,
     token: &Token,
-) -> Result<Option<State>, NoMemory>
-    ensures value { IfOk result (λ next. next ≡ at_ends inside statement token.now.kind) }
+) -> Result<Option<Mode>, NoMemory>
+    ensures value { IfOk result (λ mode. at_ends inside.old statement token.now.kind ≡ placed inside.new mode) }
 {
     if is_sign(token, Sign::Semicolon) {
-        let mut inside = inside;
-        end_statement(alloc, &mut inside, statement)?;
-        Ok(Some(State::In(inside, Mode::Body)))
+        end_statement(alloc, inside, statement)?;
+        Ok(Some(Mode::Body))
     } else {
+        drop(statement);
         Ok(None)
     }
 }
@@ -338,125 +291,209 @@ fn take_ends(
 /// The token behind a statement that ends by itself.
 fn take_behind(
     alloc: Global,
-    inside: Inside,
+    inside: &mut Inside,
+    mode: &mut Mode,
     statement: Stmt,
     token: &Token,
-) -> Result<Option<State>, NoMemory>
-    ensures value { IfOk result (λ next. next ≡ at_body (with_statement inside statement) token.now.span token.now.kind) }
+) -> Result<Turn, NoMemory>
+    ensures value { IfOk result (λ turn. turn_state inside.new mode.new turn
+        ≡ at_body (with_statement inside.old statement) token.now.span token.now.kind) }
 {
-    let mut inside = inside;
-    end_statement(alloc, &mut inside, statement)?;
-    let next = take_body(inside, token)?;
-    Ok(next)
+    end_statement(alloc, inside, statement)?;
+    let turn = take_body(alloc, inside, mode, token)?;
+    Ok(turn)
 }
 
 fn take_opens(
     alloc: Global,
-    inside: Inside,
+    inside: &mut Inside,
     owner: Owner,
     token: &Token,
-) -> Result<Option<State>, NoMemory>
-    requires shallow { inside.nesting < 2 ^ 31 }
-    ensures value { IfOk result (λ next. next ≡ at_opens inside owner token.now.kind) }
+) -> Result<Option<Mode>, NoMemory>
+    requires shallow { inside.old.nesting < 2 ^ 31 }
+    ensures value { IfOk result (λ mode. at_opens inside.old owner token.now.kind ≡ placed inside.new mode) }
 {
     if is_sign(token, Sign::LeftBrace) {
-        let mut inside = inside;
-        open_block(alloc, &mut inside, owner)?;
-        Ok(Some(State::In(inside, Mode::Body)))
+        open_block(alloc, inside, owner)?;
+        Ok(Some(Mode::Body))
     } else {
+        drop(owner);
         Ok(None)
     }
 }
 
+/// The token behind the first block of an `if`.
 fn take_closed(
     alloc: Global,
-    inside: Inside,
-    at: Span,
-    test: Expr,
-    first: Stmts,
+    inside: &mut Inside,
+    mode: &mut Mode,
+    branch: Chained,
     token: &Token,
-) -> Result<Option<State>, NoMemory>
-    ensures value { IfOk result (λ next. next ≡ at_closed inside at test first token.now.span token.now.kind) }
+) -> Result<Turn, NoMemory>
+    ensures value { IfOk result (λ turn. turn_state inside.new mode.new turn
+        ≡ at_closed inside.old branch.span branch.test branch.first token.now.span token.now.kind) }
 {
     if is_word(token, Reserved::Else) {
-        Ok(Some(State::In(inside, Mode::Otherwise(at, test, first))))
+        put(
+            mode,
+            Mode::Otherwise(branch.span, branch.test, branch.first),
+        );
+        Ok(Turn::On)
     } else {
-        let statement = Stmt::If(at, test, first, Items::empty(alloc));
-        let next = take_behind(alloc, inside, statement, token)?;
-        Ok(next)
+        let statement = Stmt::If(branch.span, branch.test, branch.first, Items::empty(alloc));
+        let turn = take_behind(alloc, inside, mode, statement, token)?;
+        Ok(turn)
     }
 }
 
 /// The `if` waits for the one that is its else part, and which `at` begins.
-fn chain(inside: Inside, chained: Chained, at: Span) -> Result<State, NoMemory>
-    requires shallow { inside.nesting < 2 ^ 31 }
-    ensures value { IfOk result (λ next. next ≡ State.In (chained_in inside chained) (Mode.Before (Receiver.If at))) }
+fn chain(inside: &mut Inside, branch: Chained, at: Span) -> Result<Mode, NoMemory>
+    requires shallow { inside.old.nesting < 2 ^ 31 }
+    ensures value { IfOk result (λ mode. State.In inside.new mode ≡ State.In (chained_in inside.old branch) (Mode.Before (Receiver.If at))) }
 {
-    let mut inside = inside;
-    inside.chain.push(chained)?;
+    inside.chain.push(branch)?;
     inside.nesting += 1;
-    Ok(State::In(inside, Mode::Before(Receiver::If(at))))
+    Ok(Mode::Before(Receiver::If(at)))
 }
 
+/// The token behind `else`.
 fn take_otherwise(
     alloc: Global,
-    inside: Inside,
-    at: Span,
-    test: Expr,
-    first: Stmts,
+    inside: &mut Inside,
+    branch: Chained,
     token: &Token,
-) -> Result<Option<State>, NoMemory>
-    requires shallow { inside.nesting < 2 ^ 31 }
-    ensures value { IfOk result (λ next. next ≡ at_otherwise inside at test first token.now.span token.now.kind) }
+) -> Result<Option<Mode>, NoMemory>
+    requires shallow { inside.old.nesting < 2 ^ 31 }
+    ensures value { IfOk result (λ mode. at_otherwise inside.old branch.span branch.test branch.first token.now.span token.now.kind
+        ≡ placed inside.new mode) }
 {
     if is_word(token, Reserved::If) {
-        let chained = Chained {
-            span: at,
-            test,
-            first,
-        };
-        let next = chain(inside, chained, token.span)?;
-        Ok(Some(next))
+        let mode = chain(inside, branch, token.span)?;
+        Ok(Some(mode))
     } else {
-        take_opens(alloc, inside, Owner::Else(at, test, first), token)
+        let owner = Owner::Else(branch.span, branch.test, branch.first);
+        let mode = take_opens(alloc, inside, owner, token)?;
+        Ok(mode)
+    }
+}
+
+/// A token within a body, and within no whole expression.
+fn take_other(
+    alloc: Global,
+    inside: &mut Inside,
+    mode: &mut Mode,
+    token: &Token,
+) -> Result<Turn, NoMemory>
+    requires shallow { mode_nesting mode.old inside.old.nesting ≤ 64 }
+    requires few { operators_in mode.old ≤ 255 }
+    requires other { is_within mode.old ≡ false }
+    ensures value { IfOk result (λ turn. turn_state inside.new mode.new turn ≡ moved inside.old mode.old token.now.span token.now.kind) }
+{
+    let nesting = inside.nesting;
+    match mem::replace(mode, Mode::Body) {
+        Mode::Body => {
+            let turn = take_body(alloc, inside, mode, token)?;
+            Ok(turn)
+        }
+        Mode::Typing(at, part) => {
+            let next = take_typing(at, part, token)?;
+            Ok(go_on(mode, next))
+        }
+        Mode::Declared(at, form, name) => Ok(go_on(mode, take_declared(at, form, name, token))),
+        Mode::Named(name) => Ok(go_on(mode, take_named(name, token))),
+        Mode::Owned(at) => Ok(go_on(mode, take_owned(at, token))),
+        Mode::Path(path, arrows) => {
+            let next = take_path(path, arrows, token)?;
+            Ok(go_on(mode, next))
+        }
+        Mode::Reached(path, name, arrows) => {
+            let next = take_reached(alloc, nesting, path, name, arrows, token)?;
+            Ok(go_on(mode, next))
+        }
+        Mode::Value(target) => {
+            let next = take_value(alloc, nesting, target, token)?;
+            Ok(go_on(mode, next))
+        }
+        Mode::Making(making) => {
+            let next = take_making(making, token)?;
+            Ok(go_on(mode, next))
+        }
+        Mode::Calls(callee) => Ok(go_on(mode, take_calls(callee, token))),
+        Mode::First(callee) => {
+            let next = take_first(alloc, nesting, callee, token)?;
+            Ok(go_on(mode, next))
+        }
+        Mode::Before(receiver) => Ok(go_on(mode, take_before(alloc, nesting, receiver, token))),
+        Mode::Within(_, _) => unreachable!(),
+        Mode::Ends(statement) => {
+            let next = take_ends(alloc, inside, statement, token)?;
+            Ok(go_on(mode, next))
+        }
+        Mode::Ended(statement) => {
+            let turn = take_behind(alloc, inside, mode, statement, token)?;
+            Ok(turn)
+        }
+        Mode::Opens(owner) => {
+            let next = take_opens(alloc, inside, owner, token)?;
+            Ok(go_on(mode, next))
+        }
+        Mode::Closed(span, test, first) => {
+            let branch = Chained { span, test, first };
+            let turn = take_closed(alloc, inside, mode, branch, token)?;
+            Ok(turn)
+        }
+        Mode::Otherwise(span, test, first) => {
+            let branch = Chained { span, test, first };
+            let next = take_otherwise(alloc, inside, branch, token)?;
+            Ok(go_on(mode, next))
+        }
+    }
+}
+
+/// The whole expression that was read has ended at the sign.
+fn end_whole(
+    alloc: Global,
+    inside: &mut Inside,
+    mode: &mut Mode,
+    sign: Sign,
+) -> Result<Turn, NoMemory>
+    ensures value { IfOk result (λ turn. turn_state inside.new mode.new turn ≡ mode_ended inside.old mode.old sign) }
+{
+    match mem::replace(mode, Mode::Body) {
+        Mode::Within(whole, place) => {
+            let next = take_ended(alloc, inside, whole, place, sign)?;
+            Ok(go_on(mode, next))
+        }
+        other => {
+            drop(other);
+            Ok(Turn::Refused)
+        }
     }
 }
 
 /// A token within a body.
 pub fn take_mode(
     alloc: Global,
-    inside: Inside,
-    mode: Mode,
+    inside: &mut Inside,
+    mode: &mut Mode,
     token: &Token,
-) -> Result<Option<State>, NoMemory>
-    requires shallow { mode_nesting mode inside.nesting ≤ 64 }
-    requires few { operators_in mode ≤ 255 }
-    ensures value { IfOk result (λ next. next ≡ moved inside mode token.now.span token.now.kind) }
+) -> Result<Turn, NoMemory>
+    requires shallow { mode_nesting mode.old inside.old.nesting ≤ 64 }
+    requires few { operators_in mode.old ≤ 255 }
+    ensures value { IfOk result (λ turn. turn_state inside.new mode.new turn ≡ moved inside.old mode.old token.now.span token.now.kind) }
 {
-    let nesting = inside.nesting;
     match mode {
-        Mode::Body => take_body(inside, token),
-        Mode::Typing(at, part) => Ok(stay(inside, take_typing(at, part, token)?)),
-        Mode::Declared(at, form, name) => Ok(stay(inside, take_declared(at, form, name, token))),
-        Mode::Named(name) => Ok(stay(inside, take_named(name, token))),
-        Mode::Owned(at) => Ok(stay(inside, take_owned(at, token))),
-        Mode::Path(path, arrows) => Ok(stay(inside, take_path(path, arrows, token)?)),
-        Mode::Reached(path, name, arrows) => {
-            let mode = take_reached(alloc, nesting, path, name, arrows, token)?;
-            Ok(stay(inside, mode))
-        }
-        Mode::Value(target) => Ok(stay(inside, take_value(alloc, nesting, target, token)?)),
-        Mode::Making(making) => Ok(stay(inside, take_making(making, token)?)),
-        Mode::Calls(callee) => Ok(stay(inside, take_calls(callee, token))),
-        Mode::First(callee) => Ok(stay(inside, take_first(alloc, nesting, callee, token)?)),
-        Mode::Before(receiver) => Ok(stay(inside, take_before(alloc, nesting, receiver, token))),
-        Mode::Within(whole, place) => take_within(alloc, inside, whole, place, token),
-        Mode::Ends(statement) => take_ends(alloc, inside, statement, token),
-        Mode::Ended(statement) => take_behind(alloc, inside, statement, token),
-        Mode::Opens(owner) => take_opens(alloc, inside, owner, token),
-        Mode::Closed(at, test, first) => take_closed(alloc, inside, at, test, first, token),
-        Mode::Otherwise(at, test, first) => {
-            take_otherwise(alloc, inside, at, test, first, token)
+        Mode::Within(whole, place) => match take_place(alloc, whole, place, token)? {
+            Part::Refused => Ok(Turn::Refused),
+            Part::On => Ok(Turn::On),
+            Part::Ended(sign) => {
+                let turn = end_whole(alloc, inside, mode, sign)?;
+                Ok(turn)
+            }
+        },
+        _ => {
+            let turn = take_other(alloc, inside, mode, token)?;
+            Ok(turn)
         }
     }
 }

@@ -1,19 +1,23 @@
-// Expressions. A `take_..` takes one token, and answers where the reading stands after it, or None where no program
+// Whole expressions. A `take_..` takes one token: it moves the place within the expression, or answers that no program
 // goes on so.
 
-ghost use Rattle.std.specs.Prelude.{◌≡◌, ◌<◌, ◌^◌, Some, [], IfOk};
-ghost use Rattle.ceal_grammar.specs.Machine.{single as single_piece, prefixed, addressed, joined, picked, begun, operated as operated_whole, picks, reduced, at_prim, at_operand, at_pick};
+ghost use Rattle.std.specs.Prelude.{◌≡◌, ◌∷◌, ◌<◌, ◌^◌, Some, [], IfOk, if◌then◌else◌};
+ghost use Rattle.ceal_grammar.specs.Machine.{single as single_piece, prefixed, addressed, joined, picked, begun, operated, reduced, wants, operator_of, closes, at_prim, at_operand, at_pick, at_sign_after, at_after, at_place};
+ghost use Rattle.ceal_grammar.specs.declared.state.Inside.{Inside};
+ghost use Rattle.ceal_parse.specs.Reading.{part_state};
 
-use crate::marks::{is_sign, level, name, same_sign, same_word};
-use ceal_grammar::stack::Stack;
-use ceal_grammar::state::{Frame, Mode, Piece, Place, Receiver, Whole};
+use crate::marks::{is_sign, level, name, operator, same_sign, same_word};
+use crate::turn::{Part, boxed, put};
 use ceal_base::boxed::Boxed;
 use ceal_base::fault::Span;
 use ceal_base::no_memory::NoMemory;
 use ceal_base::operators::{Binary, Unary};
 use ceal_base::syntax::{Expr, ExprForm, Ident};
+use ceal_grammar::stack::Stack;
+use ceal_grammar::state::{Frame, Mode, Piece, Place, Receiver, Whole};
 use ceal_lex::token::{Reserved, Sign, Token, TokenKind};
 use std::alloc::Global;
+use std::mem;
 
 fn single(at: Span, form: ExprForm) -> Piece
     ensures value { result ≡ single_piece at form }
@@ -47,8 +51,7 @@ fn join(
 ) -> Result<Piece, NoMemory>
     ensures value { IfOk result (λ p. p ≡ joined left operator at right) }
 {
-    let first = Boxed::new(alloc, left.expr)?;
-    let second = Boxed::new(alloc, right.expr)?;
+    let (first, second) = boxed(alloc, left.expr, right.expr)?;
     Ok(single(left.from, ExprForm::Binary(operator, at, first, second)))
 }
 
@@ -59,9 +62,22 @@ fn pick(alloc: Global, piece: Piece, field: Ident) -> Result<Piece, NoMemory>
     Ok(single(piece.from, ExprForm::Field(operand, field)))
 }
 
+/// Puts back an operator that does not take the piece.
+fn put_back(frames: &mut Stack<Frame>, frame: Frame, piece: Piece) -> Result<Piece, NoMemory>
+    ensures value { IfOk result (λ p. (p ≡ piece) × (frames.new ≡ frame ∷ frames.old)) }
+{
+    match frames.push(frame) {
+        Ok(()) => Ok(piece),
+        Err(NoMemory) => {
+            drop(piece);
+            Err(NoMemory)
+        }
+    }
+}
+
 /// The piece once each operator of this level and above that waits for it has taken it.
 #[tactic(auto, unfolding(ceal_grammar::specs::Machine::reduced))]
-pub fn reduce(
+fn reduce(
     alloc: Global,
     lowest: u8,
     piece: Piece,
@@ -72,7 +88,7 @@ pub fn reduce(
     match frames.pop() {
         None => Ok(piece),
         Some(Frame::Open(at, nesting)) => {
-            frames.push(Frame::Open(at, nesting))?;
+            let piece = put_back(frames, Frame::Open(at, nesting), piece)?;
             Ok(piece)
         }
         Some(Frame::Prefix(operator, at)) => {
@@ -91,90 +107,252 @@ pub fn reduce(
                 let all = reduce(alloc, lowest, whole, frames)?;
                 Ok(all)
             } else {
-                frames.push(Frame::Left(left, operator, at))?;
+                let piece = put_back(frames, Frame::Left(left, operator, at), piece)?;
                 Ok(piece)
             }
         }
     }
 }
 
+/// An operator waits for an operand at this place.
+fn operate(whole: &mut Whole, place: &mut Place, frame: Frame, next: Place) -> Result<(), NoMemory>
+    requires few { whole.old.operators < 2 ^ 31 }
+    ensures value { IfOk result (λ _. whole.new ≡ operated whole.old frame whole.old.frames) }
+    ensures place { IfOk result (λ _. place.new ≡ next) }
+{
+    put(place, next);
+    whole.frames.push(frame)?;
+    whole.operators += 1;
+    Ok(())
+}
+
+fn take_prim_word(place: &mut Place, at: Span, word: Reserved) -> bool
+    ensures value { (w : Whole) → wants result (Mode.Within w place.new) ≡ at_prim w at (TokenKind.Reserved word) }
+{
+    if same_word(word, Reserved::Own) {
+        put(place, Place::Have(single(at, ExprForm::Own)));
+        true
+    } else if same_word(word, Reserved::Null) {
+        put(place, Place::Have(single(at, ExprForm::Null)));
+        true
+    } else {
+        false
+    }
+}
+
+fn take_prim_sign(
+    whole: &mut Whole,
+    place: &mut Place,
+    at: Span,
+    sign: Sign,
+) -> Result<bool, NoMemory>
+    requires shallow { whole.old.nesting < 2 ^ 31 }
+    ensures value { IfOk result (λ on. wants on (Mode.Within whole.new place.new) ≡ at_prim whole.old at (TokenKind.Sign sign)) }
+{
+    if same_sign(sign, Sign::LeftParenthesis) {
+        whole.frames.push(Frame::Open(at, whole.nesting))?;
+        whole.nesting += 1;
+        put(place, Place::Want);
+        Ok(true)
+    } else {
+        Ok(false)
+    }
+}
+
 /// An operand without a sign before it.
-pub fn take_prim(whole: Whole, token: &Token) -> Result<Option<Mode>, NoMemory>
-    requires shallow { whole.nesting < 2 ^ 31 }
-    ensures value { IfOk result (λ mode. mode ≡ at_prim whole token.now.span token.now.kind) }
+fn take_prim(whole: &mut Whole, place: &mut Place, token: &Token) -> Result<bool, NoMemory>
+    requires shallow { whole.old.nesting < 2 ^ 31 }
+    ensures value { IfOk result (λ on. wants on (Mode.Within whole.new place.new) ≡ at_prim whole.old token.now.span token.now.kind) }
 {
     let at = token.span;
     match &token.kind {
         TokenKind::Name(text) => {
             let text = text.copy()?;
-            let piece = single(at, ExprForm::Var(Ident { text, span: at }));
-            Ok(Some(Mode::Within(whole, Place::Have(piece))))
+            put(
+                place,
+                Place::Have(single(at, ExprForm::Var(Ident { text, span: at }))),
+            );
+            Ok(true)
         }
         TokenKind::Number(value) => {
-            let piece = single(at, ExprForm::Num(*value));
-            Ok(Some(Mode::Within(whole, Place::Have(piece))))
+            put(place, Place::Have(single(at, ExprForm::Num(*value))));
+            Ok(true)
         }
-        TokenKind::Reserved(word) => Ok(take_prim_word(whole, at, *word)),
+        TokenKind::Reserved(word) => Ok(take_prim_word(place, at, *word)),
         TokenKind::Sign(sign) => {
-            let next = take_prim_sign(whole, at, *sign)?;
-            Ok(next)
+            let on = take_prim_sign(whole, place, at, *sign)?;
+            Ok(on)
         }
-        _ => Ok(None),
+        _ => Ok(false),
     }
-}
-
-fn take_prim_word(whole: Whole, at: Span, word: Reserved) -> Option<Mode>
-    ensures value { result ≡ at_prim whole at (TokenKind.Reserved word) }
-{
-    if same_word(word, Reserved::Own) {
-        Some(Mode::Within(whole, Place::Have(single(at, ExprForm::Own))))
-    } else if same_word(word, Reserved::Null) {
-        Some(Mode::Within(whole, Place::Have(single(at, ExprForm::Null))))
-    } else {
-        None
-    }
-}
-
-fn take_prim_sign(whole: Whole, at: Span, sign: Sign) -> Result<Option<Mode>, NoMemory>
-    requires shallow { whole.nesting < 2 ^ 31 }
-    ensures value { IfOk result (λ mode. mode ≡ at_prim whole at (TokenKind.Sign sign)) }
-{
-    if same_sign(sign, Sign::LeftParenthesis) {
-        let mut whole = whole;
-        whole.frames.push(Frame::Open(at, whole.nesting))?;
-        whole.nesting += 1;
-        Ok(Some(Mode::Within(whole, Place::Want)))
-    } else {
-        Ok(None)
-    }
-}
-
-/// The expression behind one more operator that waits for an operand.
-pub fn operated(whole: Whole, frame: Frame, place: Place) -> Result<Option<Mode>, NoMemory>
-    requires few { whole.operators < 2 ^ 31 }
-    ensures value { IfOk result (λ mode. mode ≡ Some (Mode.Within (operated_whole whole frame whole.frames) place)) }
-{
-    let mut whole = whole;
-    whole.frames.push(frame)?;
-    whole.operators += 1;
-    Ok(Some(Mode::Within(whole, place)))
 }
 
 /// An operand.
-pub fn take_operand(whole: Whole, token: &Token) -> Result<Option<Mode>, NoMemory>
-    requires shallow { whole.nesting < 2 ^ 31 }
-    requires few { whole.operators < 2 ^ 31 }
-    ensures value { IfOk result (λ mode. mode ≡ at_operand whole token.now.span token.now.kind) }
+fn take_operand(whole: &mut Whole, place: &mut Place, token: &Token) -> Result<bool, NoMemory>
+    requires shallow { whole.old.nesting < 2 ^ 31 }
+    requires few { whole.old.operators < 2 ^ 31 }
+    ensures value { IfOk result (λ on. wants on (Mode.Within whole.new place.new) ≡ at_operand whole.old token.now.span token.now.kind) }
 {
     let at = token.span;
     if is_sign(token, Sign::Minus) {
-        operated(whole, Frame::Prefix(Unary::Neg, at), Place::Want)
+        operate(whole, place, Frame::Prefix(Unary::Neg, at), Place::Want)?;
+        Ok(true)
     } else if is_sign(token, Sign::Bang) {
-        operated(whole, Frame::Prefix(Unary::Not, at), Place::Want)
+        operate(whole, place, Frame::Prefix(Unary::Not, at), Place::Want)?;
+        Ok(true)
     } else if is_sign(token, Sign::Ampersand) {
-        operated(whole, Frame::Address(at), Place::Post)
+        operate(whole, place, Frame::Address(at), Place::Post)?;
+        Ok(true)
     } else {
-        take_prim(whole, token)
+        let on = take_prim(whole, place, token)?;
+        Ok(on)
+    }
+}
+
+/// The name of a field of the piece.
+fn take_pick(
+    alloc: Global,
+    place: &mut Place,
+    piece: Piece,
+    token: &Token,
+) -> Result<bool, NoMemory>
+    ensures value { IfOk result (λ on. (w : Whole) → wants on (Mode.Within w place.new) ≡ at_pick w piece token.now.span token.now.kind) }
+{
+    match name(token) {
+        Ok(Some(field)) => {
+            let piece = pick(alloc, piece, field)?;
+            put(place, Place::Have(piece));
+            Ok(true)
+        }
+        Ok(None) => {
+            drop(piece);
+            Ok(false)
+        }
+        Err(NoMemory) => {
+            drop(piece);
+            Err(NoMemory)
+        }
+    }
+}
+
+/// A sign behind the piece that no operator waits for: a `)` within the whole expression, or its end.
+fn close(whole: &mut Whole, place: &mut Place, sign: Sign, piece: Piece) -> Part
+    ensures value { (i : Inside) → part_state i whole.new place.new result ≡ closes i whole.old sign piece whole.old.frames }
+{
+    match whole.frames.pop() {
+        None => {
+            put(place, Place::Have(piece));
+            Part::Ended(sign)
+        }
+        Some(Frame::Open(at, nesting)) => {
+            let expr = piece.expr;
+            put(place, Place::Have(Piece { from: at, expr }));
+            whole.nesting = nesting;
+            if same_sign(sign, Sign::RightParenthesis) {
+                Part::On
+            } else {
+                Part::Refused
+            }
+        }
+        Some(frame) => {
+            drop(frame);
+            drop(piece);
+            Part::Refused
+        }
+    }
+}
+
+/// A sign behind the piece, other than an arrow.
+fn take_sign(
+    alloc: Global,
+    whole: &mut Whole,
+    place: &mut Place,
+    piece: Piece,
+    at: Span,
+    sign: Sign,
+) -> Result<Part, NoMemory>
+    requires few { whole.old.operators < 2 ^ 31 }
+    ensures value { IfOk result (λ part. (i : Inside) → part_state i whole.new place.new part
+        ≡ at_sign_after i whole.old piece at sign (operator_of sign)) }
+{
+    match operator(sign) {
+        Some(operator) => {
+            let left = reduce(alloc, level(operator), piece, &mut whole.frames)?;
+            operate(whole, place, Frame::Left(left, operator, at), Place::Want)?;
+            Ok(Part::On)
+        }
+        None => {
+            let piece = reduce(alloc, 0, piece, &mut whole.frames)?;
+            Ok(close(whole, place, sign, piece))
+        }
+    }
+}
+
+fn take_after(
+    alloc: Global,
+    whole: &mut Whole,
+    place: &mut Place,
+    piece: Piece,
+    token: &Token,
+) -> Result<Part, NoMemory>
+    requires few { whole.old.operators < 2 ^ 31 }
+    ensures value { IfOk result (λ part. (i : Inside) → part_state i whole.new place.new part
+        ≡ at_after i whole.old piece token.now.span token.now.kind) }
+{
+    match token.kind {
+        TokenKind::Sign(sign) => {
+            if same_sign(sign, Sign::Arrow) {
+                whole.operators += 1;
+                put(place, Place::Pick(piece));
+                Ok(Part::On)
+            } else {
+                let part = take_sign(alloc, whole, place, piece, token.span, sign)?;
+                Ok(part)
+            }
+        }
+        _ => {
+            drop(piece);
+            Ok(Part::Refused)
+        }
+    }
+}
+
+/// The expression goes on, or no program goes on so.
+fn going(on: bool) -> Part
+    ensures value { result ≡ (if on then Part.On else Part.Refused) }
+{
+    if on { Part::On } else { Part::Refused }
+}
+
+/// A token within a whole expression, or behind it.
+pub fn take_place(
+    alloc: Global,
+    whole: &mut Whole,
+    place: &mut Place,
+    token: &Token,
+) -> Result<Part, NoMemory>
+    requires shallow { whole.old.nesting < 2 ^ 31 }
+    requires few { whole.old.operators < 2 ^ 31 }
+    ensures value { IfOk result (λ part. (i : Inside) → part_state i whole.new place.new part
+        ≡ at_place i whole.old place.old token.now.span token.now.kind) }
+{
+    match mem::replace(place, Place::Want) {
+        Place::Want => {
+            let on = take_operand(whole, place, token)?;
+            Ok(going(on))
+        }
+        Place::Post => {
+            let on = take_prim(whole, place, token)?;
+            Ok(going(on))
+        }
+        Place::Have(piece) => {
+            let part = take_after(alloc, whole, place, piece, token)?;
+            Ok(part)
+        }
+        Place::Pick(piece) => {
+            let on = take_pick(alloc, place, piece, token)?;
+            Ok(going(on))
+        }
     }
 }
 
@@ -190,34 +368,6 @@ pub fn begin(alloc: Global, nesting: u32, receiver: Receiver) -> Whole
     }
 }
 
-/// The name of a field of the piece.
-pub fn take_pick(
-    alloc: Global,
-    whole: Whole,
-    piece: Piece,
-    token: &Token,
-) -> Result<Option<Mode>, NoMemory>
-    ensures value { IfOk result (λ mode. mode ≡ at_pick whole piece token.now.span token.now.kind) }
-{
-    match name(token)? {
-        Some(field) => {
-            let piece = pick(alloc, piece, field)?;
-            Ok(Some(Mode::Within(whole, Place::Have(piece))))
-        }
-        None => Ok(None),
-    }
-}
-
-/// An arrow behind the piece.
-pub fn arrow(whole: Whole, piece: Piece) -> Mode
-    requires few { whole.operators < 2 ^ 31 }
-    ensures value { result ≡ Mode.Within (picks whole) (Place.Pick piece) }
-{
-    let mut whole = whole;
-    whole.operators += 1;
-    Mode::Within(whole, Place::Pick(piece))
-}
-
 /// The first operand of a whole expression.
 pub fn take_whole(
     alloc: Global,
@@ -228,5 +378,19 @@ pub fn take_whole(
     requires shallow { nesting < 2 ^ 31 }
     ensures value { IfOk result (λ mode. mode ≡ at_operand (begun nesting receiver) token.now.span token.now.kind) }
 {
-    take_operand(begin(alloc, nesting, receiver), token)
+    let mut whole = begin(alloc, nesting, receiver);
+    let mut place = Place::Want;
+    match take_operand(&mut whole, &mut place, token) {
+        Ok(true) => Ok(Some(Mode::Within(whole, place))),
+        Ok(false) => {
+            drop(whole);
+            drop(place);
+            Ok(None)
+        }
+        Err(NoMemory) => {
+            drop(whole);
+            drop(place);
+            Err(NoMemory)
+        }
+    }
 }

@@ -4,21 +4,28 @@ ghost use Rattle.std.specs.Prelude.{◌≡◌, IfOk};
 ghost use Rattle.ceal_grammar.specs.Machine.{at_head, body_of, with_parameter};
 
 use crate::marks::{is_sign, is_word, name};
-use ceal_grammar::stack::Stack;
-use ceal_grammar::state::{Head, HeadPlace, Inside, Mode, State, TypePart, Typing};
 use crate::typing::{start_type, take_type};
 use ceal_base::items::Items;
 use ceal_base::no_memory::NoMemory;
 use ceal_base::syntax::{Entry, FieldDecl, Ident};
+use ceal_grammar::stack::Stack;
+use ceal_grammar::state::{Head, HeadPlace, Inside, Mode, State, TypePart, Typing};
 use ceal_lex::token::{Reserved, Sign, Token};
 use std::alloc::Global;
 
 fn take_ceal(entries: Items<Entry>, token: &Token) -> Result<Option<State>, NoMemory>
     ensures value { IfOk result (λ next. next ≡ at_head entries HeadPlace.Ceal token.now.span token.now.kind) }
 {
-    match name(token)? {
-        Some(name) => Ok(Some(State::Head(entries, HeadPlace::CealNamed(name)))),
-        None => Ok(None),
+    match name(token) {
+        Ok(Some(name)) => Ok(Some(State::Head(entries, HeadPlace::CealNamed(name)))),
+        Ok(None) => {
+            drop(entries);
+            Ok(None)
+        }
+        Err(NoMemory) => {
+            drop(entries);
+            Err(NoMemory)
+        }
     }
 }
 
@@ -38,6 +45,8 @@ fn take_ceal_named(
         };
         Some(State::Head(entries, HeadPlace::First(head)))
     } else {
+        drop(entries);
+        drop(name);
         None
     }
 }
@@ -45,9 +54,16 @@ fn take_ceal_named(
 fn take_init(entries: Items<Entry>, token: &Token) -> Result<Option<State>, NoMemory>
     ensures value { IfOk result (λ next. next ≡ at_head entries HeadPlace.Init token.now.span token.now.kind) }
 {
-    match name(token)? {
-        Some(name) => Ok(Some(State::Head(entries, HeadPlace::InitNamed(name)))),
-        None => Ok(None),
+    match name(token) {
+        Ok(Some(name)) => Ok(Some(State::Head(entries, HeadPlace::InitNamed(name)))),
+        Ok(None) => {
+            drop(entries);
+            Ok(None)
+        }
+        Err(NoMemory) => {
+            drop(entries);
+            Err(NoMemory)
+        }
     }
 }
 
@@ -57,6 +73,8 @@ fn take_init_named(entries: Items<Entry>, name: Ident, token: &Token) -> Option<
     if is_sign(token, Sign::LeftParenthesis) {
         Some(State::Head(entries, HeadPlace::InitOpened(name)))
     } else {
+        drop(entries);
+        drop(name);
         None
     }
 }
@@ -67,6 +85,8 @@ fn take_init_opened(entries: Items<Entry>, name: Ident, token: &Token) -> Option
     if is_word(token, Reserved::Struct) {
         Some(State::Head(entries, HeadPlace::InitStruct(name)))
     } else {
+        drop(entries);
+        drop(name);
         None
     }
 }
@@ -79,8 +99,8 @@ fn take_init_struct(
 ) -> Result<Option<State>, NoMemory>
     ensures value { IfOk result (λ next. next ≡ at_head entries (HeadPlace.InitStruct function) token.now.span token.now.kind) }
 {
-    match name(token)? {
-        Some(shape) => {
+    match name(token) {
+        Ok(Some(shape)) => {
             let head = Head {
                 initialiser: Some(shape),
                 name: function,
@@ -88,7 +108,16 @@ fn take_init_struct(
             };
             Ok(Some(State::Head(entries, HeadPlace::Shaped(head))))
         }
-        None => Ok(None),
+        Ok(None) => {
+            drop(entries);
+            drop(function);
+            Ok(None)
+        }
+        Err(NoMemory) => {
+            drop(entries);
+            drop(function);
+            Err(NoMemory)
+        }
     }
 }
 
@@ -98,6 +127,8 @@ fn take_shaped(entries: Items<Entry>, head: Head, token: &Token) -> Option<State
     if is_sign(token, Sign::Star) {
         Some(State::Head(entries, HeadPlace::Starred(head)))
     } else {
+        drop(entries);
+        drop(head);
         None
     }
 }
@@ -108,6 +139,8 @@ fn take_starred(entries: Items<Entry>, head: Head, token: &Token) -> Option<Stat
     if is_word(token, Reserved::Own) {
         Some(State::Head(entries, HeadPlace::Named(head)))
     } else {
+        drop(entries);
+        drop(head);
         None
     }
 }
@@ -118,7 +151,11 @@ fn take_next(entries: Items<Entry>, head: Head, token: &Token) -> Option<State>
 {
     match start_type(token) {
         Some(part) => Some(State::Head(entries, HeadPlace::Typing(head, part))),
-        None => None,
+        None => {
+            drop(entries);
+            drop(head);
+            None
+        }
     }
 }
 
@@ -149,13 +186,25 @@ fn take_typing(
 ) -> Result<Option<State>, NoMemory>
     ensures value { IfOk result (λ next. next ≡ at_head entries (HeadPlace.Typing head part) token.now.span token.now.kind) }
 {
-    match take_type(false, part, token)? {
-        Some(Typing::More(part)) => Ok(Some(State::Head(entries, HeadPlace::Typing(head, part)))),
-        Some(Typing::Named(form, name)) => {
+    match take_type(false, part, token) {
+        Ok(Some(Typing::More(part))) => Ok(Some(State::Head(
+            entries,
+            HeadPlace::Typing(head, part),
+        ))),
+        Ok(Some(Typing::Named(form, name))) => {
             let head = parameter(head, FieldDecl { form, name })?;
             Ok(Some(State::Head(entries, HeadPlace::Named(head))))
         }
-        None => Ok(None),
+        Ok(None) => {
+            drop(entries);
+            drop(head);
+            Ok(None)
+        }
+        Err(NoMemory) => {
+            drop(entries);
+            drop(head);
+            Err(NoMemory)
+        }
     }
 }
 
@@ -167,6 +216,8 @@ fn take_named(entries: Items<Entry>, head: Head, token: &Token) -> Option<State>
     } else if is_sign(token, Sign::RightParenthesis) {
         Some(State::Head(entries, HeadPlace::Done(head)))
     } else {
+        drop(entries);
+        drop(head);
         None
     }
 }
@@ -193,6 +244,8 @@ fn take_done(alloc: Global, entries: Items<Entry>, head: Head, token: &Token) ->
     if is_sign(token, Sign::LeftBrace) {
         Some(body(alloc, entries, head))
     } else {
+        drop(entries);
+        drop(head);
         None
     }
 }

@@ -1,9 +1,10 @@
 //! The tree of a program's tokens, or the first fault in them.
 //!
 //! `parse` answers the tree of the tokens of a program that keeps the limits, and else the first of the faults S3 to
-//! S6. What these are stands in `ceal_grammar`, with the machine that the parser is: it takes one token at a time, and
-//! its code is `typing`, `expression`, `making`, `statement`, `body`, `structs`, `head` and `program`, each above the
-//! one before. `limits` counts, and `marks` says what a token is.
+//! S6. What these are stands in `ceal_grammar`, with the machine whose states the parser has. The parser is one value:
+//! it takes a token at a time and writes through borrows, so that what was read stays where it is (`specs/Reading` says
+//! how its answers leave the machine). `turn` has those answers, `typing`, `expression`, `making`, `statement`, `body`,
+//! `structs` and `head` take a token within a part of a program, `limits` counts, and `marks` says what a token is.
 #![tactic(auto)]
 
 mod body;
@@ -13,9 +14,8 @@ mod limits;
 mod making;
 mod marks;
 pub mod parse;
-mod program;
+mod parser;
 mod statement;
 mod structs;
-#[cfg(test)]
-mod tests;
+mod turn;
 mod typing;

@@ -5,10 +5,11 @@ ghost use Rattle.ceal_grammar.specs.Machine.{given, called, at_modref, at_making
 
 use crate::expression::take_whole;
 use crate::marks::{is_sign, is_word, name, same_word};
-use ceal_grammar::state::{Callee, Making, Mode, Receiver, Target};
 use ceal_base::fault::Span;
 use ceal_base::no_memory::NoMemory;
 use ceal_base::syntax::{Exprs, Ident, Stmt, Value};
+use ceal_base::text::Text;
+use ceal_grammar::state::{Callee, Making, Mode, Receiver, Target};
 use ceal_lex::token::{Reserved, Sign, Token, TokenKind};
 use std::alloc::Global;
 
@@ -37,9 +38,16 @@ pub fn call(callee: Callee, arguments: Exprs) -> Stmt
 fn take_shape(target: Target, at: Span, token: &Token) -> Result<Option<Mode>, NoMemory>
     ensures value { IfOk result (λ mode. mode ≡ at_making (Making.Alloc target at) token.now.span token.now.kind) }
 {
-    match name(token)? {
-        Some(shape) => Ok(Some(Mode::Making(Making::Shape(target, at, shape)))),
-        None => Ok(None),
+    match name(token) {
+        Ok(Some(shape)) => Ok(Some(Mode::Making(Making::Shape(target, at, shape)))),
+        Ok(None) => {
+            drop(target);
+            Ok(None)
+        }
+        Err(NoMemory) => {
+            drop(target);
+            Err(NoMemory)
+        }
     }
 }
 
@@ -51,9 +59,18 @@ fn take_initialiser(
 ) -> Result<Option<Mode>, NoMemory>
     ensures value { IfOk result (λ mode. mode ≡ at_making (Making.Shape target at shape) token.now.span token.now.kind) }
 {
-    match name(token)? {
-        Some(name) => Ok(Some(Mode::Calls(Callee::Alloc(target, at, shape, name)))),
-        None => Ok(None),
+    match name(token) {
+        Ok(Some(name)) => Ok(Some(Mode::Calls(Callee::Alloc(target, at, shape, name)))),
+        Ok(None) => {
+            drop(target);
+            drop(shape);
+            Ok(None)
+        }
+        Err(NoMemory) => {
+            drop(target);
+            drop(shape);
+            Err(NoMemory)
+        }
     }
 }
 
@@ -64,7 +81,23 @@ fn modref_int(target: Target, at: Span, word: Reserved) -> Option<Mode>
         let statement = give(target, Value::ModrefInt(at));
         Some(Mode::Making(Making::Typed(statement)))
     } else {
+        drop(target);
         None
+    }
+}
+
+fn modref_shape(target: Target, at: Span, text: &Text, span: Span) -> Result<Option<Mode>, NoMemory>
+    ensures value { IfOk result (λ mode. mode ≡ at_modref target at span (TokenKind.Name text.now)) }
+{
+    match text.copy() {
+        Ok(text) => {
+            let statement = give(target, Value::Modref(at, Ident { text, span }));
+            Ok(Some(Mode::Making(Making::Typed(statement))))
+        }
+        Err(NoMemory) => {
+            drop(target);
+            Err(NoMemory)
+        }
     }
 }
 
@@ -72,17 +105,12 @@ fn take_modref(target: Target, at: Span, token: &Token) -> Result<Option<Mode>, 
     ensures value { IfOk result (λ mode. mode ≡ at_modref target at token.now.span token.now.kind) }
 {
     match &token.kind {
-        TokenKind::Name(text) => {
-            let text = text.copy()?;
-            let shape = Ident {
-                text,
-                span: token.span,
-            };
-            let statement = give(target, Value::Modref(at, shape));
-            Ok(Some(Mode::Making(Making::Typed(statement))))
-        }
+        TokenKind::Name(text) => modref_shape(target, at, text, token.span),
         TokenKind::Reserved(word) => Ok(modref_int(target, at, *word)),
-        _ => Ok(None),
+        _ => {
+            drop(target);
+            Ok(None)
+        }
     }
 }
 
@@ -92,6 +120,7 @@ fn take_opening(statement: Stmt, token: &Token) -> Option<Mode>
     if is_sign(token, Sign::LeftParenthesis) {
         Some(Mode::Making(Making::Opened(statement)))
     } else {
+        drop(statement);
         None
     }
 }
@@ -102,6 +131,7 @@ fn take_closing(statement: Stmt, token: &Token) -> Option<Mode>
     if is_sign(token, Sign::RightParenthesis) {
         Some(Mode::Ends(statement))
     } else {
+        drop(statement);
         None
     }
 }

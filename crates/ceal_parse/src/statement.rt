@@ -1,25 +1,40 @@
 // Statements. A `take_..` takes one token, and answers where the reading stands after it, or None where no program
 // goes on so.
 
-ghost use Rattle.std.specs.Prelude.{◌≡◌, ◌<◌, ◌^◌, [], IfOk};
+ghost use Rattle.std.specs.Prelude.{◌≡◌, ◌∷◌, ◌<◌, ◌^◌, [], IfOk};
+ghost use Rattle.ceal_base.specs.declared.syntax.Stmt.TheViews.{If};
 ghost use Rattle.ceal_grammar.specs.Machine.{placed, begun, at_operand, type_begin, wrapped, with_statement, ends_at, opened_by, at_word, at_statement, at_typing, at_declared, at_owned, at_path, at_calls, at_before, at_named, at_reached, at_first, path_of, field_of};
 
 use crate::expression::{begin, take_whole};
 use crate::making::call;
 use crate::marks::{is_sign, name, same_sign, same_word};
-use ceal_grammar::stack::Stack;
-use ceal_grammar::state::{
-    Callee, Chained, Inside, Mode, Opened, Owner, Place, Receiver, State, Target, TypePart, Typing,
-};
 use crate::typing::{begin_type, take_type};
 use ceal_base::boxed::Boxed;
 use ceal_base::fault::Span;
 use ceal_base::items::Items;
 use ceal_base::no_memory::NoMemory;
 use ceal_base::syntax::{Expr, ExprForm, Ident, Stmt, TypeForm};
+use ceal_grammar::stack::Stack;
+use ceal_grammar::state::{
+    Callee, Chained, Inside, Mode, Opened, Owner, Place, Receiver, State, Target, TypePart, Typing,
+};
 use ceal_lex::token::{Reserved, Sign, Token};
 use std::alloc::Global;
 use std::mem;
+
+/// The `if` whose else part is the statement.
+fn otherwise(alloc: Global, outer: Chained, statement: Stmt) -> Result<Stmt, NoMemory>
+    ensures value { IfOk result (λ st. st ≡ If outer.span outer.test outer.first (statement ∷ [])) }
+{
+    let mut other = Items::empty(alloc);
+    match other.push(statement) {
+        Ok(()) => Ok(Stmt::If(outer.span, outer.test, outer.first, other)),
+        Err(NoMemory) => {
+            drop(outer);
+            Err(NoMemory)
+        }
+    }
+}
 
 /// The statement once each `if` that it is the else part of has ended with it.
 #[tactic(auto, unfolding(ceal_grammar::specs::Machine::wrapped))]
@@ -29,9 +44,7 @@ fn wrap(alloc: Global, chain: &mut Stack<Chained>, statement: Stmt) -> Result<St
     match chain.pop() {
         None => Ok(statement),
         Some(outer) => {
-            let mut other = Items::empty(alloc);
-            other.push(statement)?;
-            let whole = Stmt::If(outer.span, outer.test, outer.first, other);
+            let whole = otherwise(alloc, outer, statement)?;
             let all = wrap(alloc, chain, whole)?;
             Ok(all)
         }
@@ -61,6 +74,7 @@ pub fn take_end(
         end_statement(alloc, inside, statement)?;
         Ok(Some(Mode::Body))
     } else {
+        drop(statement);
         Ok(None)
     }
 }
@@ -128,6 +142,8 @@ pub fn take_declared(at: Span, form: TypeForm, name: Ident, token: &Token) -> Op
     if is_sign(token, Sign::Equals) {
         Some(Mode::Value(Target::Declare(at, form, name)))
     } else {
+        drop(form);
+        drop(name);
         None
     }
 }
@@ -165,6 +181,7 @@ pub fn take_named(name: Ident, token: &Token) -> Option<Mode>
     } else if is_sign(token, Sign::Arrow) {
         Some(Mode::Path(path(name), 1))
     } else {
+        drop(name);
         None
     }
 }
@@ -187,9 +204,16 @@ pub fn take_owned(at: Span, token: &Token) -> Option<Mode>
 pub fn take_path(path: Expr, arrows: u32, token: &Token) -> Result<Option<Mode>, NoMemory>
     ensures value { IfOk result (λ mode. mode ≡ at_path path arrows token.now.span token.now.kind) }
 {
-    match name(token)? {
-        Some(name) => Ok(Some(Mode::Reached(path, name, arrows))),
-        None => Ok(None),
+    match name(token) {
+        Ok(Some(name)) => Ok(Some(Mode::Reached(path, name, arrows))),
+        Ok(None) => {
+            drop(path);
+            Ok(None)
+        }
+        Err(NoMemory) => {
+            drop(path);
+            Err(NoMemory)
+        }
     }
 }
 
@@ -211,6 +235,8 @@ pub fn take_reached(
         let whole = begin(alloc, nesting, Receiver::Set(path, name));
         Ok(Some(Mode::Within(whole, Place::Want)))
     } else {
+        drop(path);
+        drop(name);
         Ok(None)
     }
 }
@@ -221,6 +247,7 @@ pub fn take_calls(callee: Callee, token: &Token) -> Option<Mode>
     if is_sign(token, Sign::LeftParenthesis) {
         Some(Mode::First(callee))
     } else {
+        drop(callee);
         None
     }
 }
@@ -264,6 +291,7 @@ pub fn take_before(alloc: Global, nesting: u32, receiver: Receiver, token: &Toke
         let whole = begin(alloc, nesting + 1, receiver);
         Some(Mode::Within(whole, Place::Want))
     } else {
+        drop(receiver);
         None
     }
 }

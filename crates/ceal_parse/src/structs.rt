@@ -4,20 +4,27 @@ ghost use Rattle.std.specs.Prelude.{◌≡◌, IfOk};
 ghost use Rattle.ceal_grammar.specs.Machine.{at_struct, at_member, with_member};
 
 use crate::marks::{is_sign, name};
-use ceal_grammar::state::{State, StructPlace, TypePart, Typing};
 use crate::typing::{start_type, take_type};
 use ceal_base::items::Items;
 use ceal_base::no_memory::NoMemory;
 use ceal_base::syntax::{Entry, FieldDecl, Ident, StructDecl};
+use ceal_grammar::state::{State, StructPlace, TypePart, Typing};
 use ceal_lex::token::{Sign, Token};
 use std::alloc::Global;
 
 fn take_begun(entries: Items<Entry>, token: &Token) -> Result<Option<State>, NoMemory>
     ensures value { IfOk result (λ next. next ≡ at_struct entries StructPlace.Begun token.now.span token.now.kind) }
 {
-    match name(token)? {
-        Some(name) => Ok(Some(State::Struct(entries, StructPlace::Named(name)))),
-        None => Ok(None),
+    match name(token) {
+        Ok(Some(name)) => Ok(Some(State::Struct(entries, StructPlace::Named(name)))),
+        Ok(None) => {
+            drop(entries);
+            Ok(None)
+        }
+        Err(NoMemory) => {
+            drop(entries);
+            Err(NoMemory)
+        }
     }
 }
 
@@ -31,6 +38,8 @@ fn take_named(alloc: Global, entries: Items<Entry>, name: Ident, token: &Token) 
         };
         Some(State::Struct(entries, StructPlace::Members(shape)))
     } else {
+        drop(entries);
+        drop(name);
         None
     }
 }
@@ -44,7 +53,11 @@ fn take_member(entries: Items<Entry>, shape: StructDecl, token: &Token) -> Optio
     } else {
         match start_type(token) {
             Some(part) => Some(State::Struct(entries, StructPlace::Typing(shape, part))),
-            None => None,
+            None => {
+                drop(entries);
+                drop(shape);
+                None
+            }
         }
     }
 }
@@ -57,15 +70,24 @@ fn take_typing(
 ) -> Result<Option<State>, NoMemory>
     ensures value { IfOk result (λ next. next ≡ at_struct entries (StructPlace.Typing shape part) token.now.span token.now.kind) }
 {
-    match take_type(true, part, token)? {
-        Some(Typing::More(part)) => {
+    match take_type(true, part, token) {
+        Ok(Some(Typing::More(part))) => {
             Ok(Some(State::Struct(entries, StructPlace::Typing(shape, part))))
         }
-        Some(Typing::Named(form, name)) => {
+        Ok(Some(Typing::Named(form, name))) => {
             let member = FieldDecl { form, name };
             Ok(Some(State::Struct(entries, StructPlace::Ends(shape, member))))
         }
-        None => Ok(None),
+        Ok(None) => {
+            drop(entries);
+            drop(shape);
+            Ok(None)
+        }
+        Err(NoMemory) => {
+            drop(entries);
+            drop(shape);
+            Err(NoMemory)
+        }
     }
 }
 
@@ -82,6 +104,9 @@ fn take_end(
         shape.fields.push(member)?;
         Ok(Some(State::Struct(entries, StructPlace::Members(shape))))
     } else {
+        drop(entries);
+        drop(shape);
+        drop(member);
         Ok(None)
     }
 }
@@ -98,6 +123,8 @@ fn take_closed(
         entries.push(Entry::Struct(shape))?;
         Ok(Some(State::Top(entries)))
     } else {
+        drop(entries);
+        drop(shape);
         Ok(None)
     }
 }

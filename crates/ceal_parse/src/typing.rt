@@ -4,9 +4,9 @@ ghost use Rattle.std.specs.Prelude.{◌≡◌, false, IfOk};
 ghost use Rattle.ceal_grammar.specs.Machine.{type_begin, type_starts, star_or, at_mod, at_type};
 
 use crate::marks::{is_sign, is_word, name, same_word};
-use ceal_grammar::state::{TypePart, Typing};
 use ceal_base::no_memory::NoMemory;
 use ceal_base::syntax::{Ident, TypeForm};
+use ceal_grammar::state::{TypePart, Typing};
 use ceal_lex::token::{Reserved, Sign, Token, TokenKind};
 
 /// The type that the word begins.
@@ -37,9 +37,16 @@ pub fn start_type(token: &Token) -> Option<TypePart>
 fn named(form: TypeForm, token: &Token) -> Result<Option<Typing>, NoMemory>
     ensures value { IfOk result (λ next. next ≡ at_type false (TypePart.Done form) token.now.span token.now.kind) }
 {
-    match name(token)? {
-        Some(name) => Ok(Some(Typing::Named(form, name))),
-        None => Ok(None),
+    match name(token) {
+        Ok(Some(name)) => Ok(Some(Typing::Named(form, name))),
+        Ok(None) => {
+            drop(form);
+            Ok(None)
+        }
+        Err(NoMemory) => {
+            drop(form);
+            Err(NoMemory)
+        }
     }
 }
 
@@ -75,6 +82,7 @@ fn take_mod_named(cells: bool, shape: Ident, token: &Token) -> Result<Option<Typ
     } else if cells {
         named(TypeForm::CellPtr(shape), token)
     } else {
+        drop(shape);
         Ok(None)
     }
 }
@@ -94,6 +102,7 @@ fn take_struct_star(shape: Ident, token: &Token) -> Option<Typing>
     if is_sign(token, Sign::Star) {
         Some(Typing::More(TypePart::Done(TypeForm::Ptr(shape))))
     } else {
+        drop(shape);
         None
     }
 }

@@ -8,6 +8,4 @@
 
 pub mod laws;
 pub mod stale;
-#[cfg(test)]
-mod tests;
 mod tree;

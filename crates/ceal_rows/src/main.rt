@@ -1,9 +1,10 @@
 //! Runs the rows of a file through the top call, and says which of them differ.
 //!
 //! A row is these lines: `row NAME`, `words WORDS`, `status STATUS`, the input, the output, `end`. A line of the input
-//! stands behind `> `, or behind `>|` where no line feed follows it; a line of the output behind `< ` or `<|`. With
-//! `fill COUNT` line feeds bring the input to so many bytes. With `drips` the bytes come and go one at a time. With
-//! `fails` the row is run again with each call of the source and of the sink failing in turn.
+//! stands behind `> `, or behind `>|` where no line feed follows it; a line of the output behind `< ` or `<|`. Behind
+//! `repeat COUNT ` such a line stands for so many. With `fill COUNT` line feeds bring the input to so many bytes. With
+//! `drips` the bytes come and go one at a time. With `fails` the row is run again with each call of the source and of
+//! the sink failing in turn.
 #![tactic(auto)]
 
 use ceal_cli::{Status, ceal_main};
@@ -78,7 +79,28 @@ impl Row {
             self.drips = true;
         } else if line == b"fails".as_slice() {
             self.fails = true;
-        } else if let Some(bytes) = line.strip_prefix(b"> ".as_slice()) {
+        } else if let Some(repeated) = line.strip_prefix(b"repeat ".as_slice()) {
+            self.add_repeated(repeated)?;
+        } else {
+            self.add_text(line)?;
+        }
+        Ok(())
+    }
+
+    // Adds a line behind its count as often as that.
+    fn add_repeated(&mut self, line: &[u8]) -> Result<(), AllocError> {
+        let mut parts = line.splitn(2, |byte| *byte == b' ');
+        let count = number(parts.next().unwrap_or(b""));
+        let line = parts.next().unwrap_or(b"");
+        for _ in 0..count {
+            self.add_text(line)?;
+        }
+        Ok(())
+    }
+
+    // Adds a line of the input or of the output.
+    fn add_text(&mut self, line: &[u8]) -> Result<(), AllocError> {
+        if let Some(bytes) = line.strip_prefix(b"> ".as_slice()) {
             add_line(&mut self.input, bytes)?;
         } else if let Some(bytes) = line.strip_prefix(b">|".as_slice()) {
             self.input.extend_from_slice(bytes)?;

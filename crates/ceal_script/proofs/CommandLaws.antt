@@ -49,7 +49,7 @@ blank_only words Steps b e = absurd (false≢true (subst IsBlank e b))
 blank_only words Work b h = absurd h
 
 -- which form the words have, by the first one
-form_of_words : List (List ℕ) → ℕ
+unfoldable pub form_of_words : List (List ℕ) → ℕ
 form_of_words [] = 0
 form_of_words (w ∷ ws) =
     if is_comment w then 0
@@ -63,7 +63,7 @@ form_of_words (w ∷ ws) =
     else if bytes_eq w (codes "blocks") then 8
     else 9
 
-abbrev form : Command → ℕ
+abbrev pub form : Command → ℕ
 form Blank = 0
 form (Mod name kind value) = 1
 form (New name shape values) = 2
@@ -76,7 +76,7 @@ form Blocks = 8
 form Steps = 9
 form Work = 10
 
-form_said : (words : List (List ℕ)) (c : Command) → Says words c → form_of_words words ≡ form c
+pub form_said : (words : List (List ℕ)) (c : Command) → Says words c → form_of_words words ≡ form c
 unfolding form_of_words
 form_said [] Blank h = refl
 form_said (w ∷ ws) Blank h = rw h refl
@@ -133,7 +133,7 @@ one_saying words c d h k = let e : form c ≡ form d = sym (form_said words c h)
 
 module _ (line : List ℕ) (words : List (List ℕ)) (has : HasWords line words) where
   -- the words that a command of the line has are those of the line
-  said : (c : Command) → IsLineOf c line → Says words c
+  pub said : (c : Command) → IsLineOf c line → Says words c
   said c h = subst (λ (ws : List (List ℕ)). Says ws c) (one_words line h.words words h.has_words has) h.says
 
   pub line_unreadable : (r : Result Command LineError) → Reads r (Says words) → r ≡ Err Unreadable → (c : Command) → IsLineOf c line → ⊥

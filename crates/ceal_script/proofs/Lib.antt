@@ -7,3 +7,4 @@ mod FormLaws
 mod SpellingLaws
 mod CommandLaws
 mod Samples
+mod Either

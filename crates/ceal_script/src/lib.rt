@@ -13,6 +13,4 @@ pub mod line;
 pub mod line_error;
 mod number;
 mod spelling;
-#[cfg(test)]
-mod tests;
 mod words;

@@ -24,3 +24,8 @@ pub fn read_line(alloc: Global, line: &[u8]) -> Result<Command, LineError>
 pub fn one_command()
     ensures { (line : List ℕ) (c d : CommandOf) → IsLineOf c line → IsLineOf d line → c ≡ d }
 {}
+
+/// A line is a command's, or no command's.
+pub fn command_or_none()
+    ensures { (line : List ℕ) → ((c : CommandOf) × IsLineOf c line) ⊎ ((c : CommandOf) → IsLineOf c line → ⊥) }
+{}

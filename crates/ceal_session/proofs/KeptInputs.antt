@@ -14,6 +14,7 @@ use Rattle.ceal_base.specs.declared.word.BlockId.TheVariants.{Input, Core}
 use Rattle.ceal_base.specs.declared.word.Place.{Place}
 use Rattle.ceal_base.specs.declared.word.Word.{Word}
 use Rattle.ceal_base.specs.declared.word.Word.TheVariants.{Num, Null, Block as BlockWord, At}
+use Rattle.ceal_code.proofs.Ends.{fresh-ends}
 use Rattle.ceal_code.proofs.Memory.{altered, get-set_other, written-here, written-other}
 use Rattle.ceal_code.proofs.Same.{nat-same, none-some, some-same, block-same}
 use Rattle.ceal_code.specs.Fitting.{Fits}
@@ -26,7 +27,6 @@ use Rattle.ceal_code.specs.Valid.{valid}
 use Rattle.ceal_code.specs.Value.{Variables, is_cell, expr_value}
 use Rattle.ceal_code.specs.declared.command.Cmd.{Cmd}
 use Rattle.ceal_code.specs.declared.command.Cmd.TheVariants.{Move, Tick, Alloc, Modref, Write, If, Done, Tail, Read, Call}
-use Rattle.ceal_engine.proofs.Present.{fresh-ends}
 use Rattle.ceal_engine.specs.Engine.{is_plain}
 
 -- the block is there, with the same shape and plain words

@@ -18,12 +18,12 @@ use Rattle.ceal_base.specs.declared.word.BlockId.TheVariants.{Input, Core}
 use Rattle.ceal_base.specs.declared.word.Word.{Word}
 use Rattle.ceal_base.specs.declared.word.Word.TheVariants.{Null}
 use Rattle.ceal_code.proofs.FittingLemmas.{input-fits}
+use Rattle.ceal_code.proofs.Ends.{fresh-count}
 use Rattle.ceal_code.proofs.Memory.{got}
 use Rattle.ceal_code.proofs.Same.{none-some, some-same}
 use Rattle.ceal_code.specs.Fitting.{Fits}
 use Rattle.ceal_code.specs.Laws.{Progress_law}
 use Rattle.ceal_code.specs.Value.{is_cell}
-use Rattle.ceal_engine.proofs.Present.{fresh-count}
 use Rattle.ceal_engine.specs.Engine.{EngineState, IsRun, IsPresent, IsEngine, Shows, block_in, stored_at, fresh_call, is_plain}
 use Rattle.ceal_base.specs.declared.call.Call.{Call}
 use Rattle.ceal_engine.specs.declared.phase.Phase.{Phase}

@@ -8,3 +8,5 @@ pub mod Replies
 pub mod Keeping
 pub mod Asking
 pub mod Shown
+pub mod Standing
+pub mod Laws

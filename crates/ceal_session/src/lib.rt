@@ -7,6 +7,7 @@
 
 mod commands;
 mod fits;
+pub mod laws;
 mod numbers;
 pub mod refusal;
 pub mod reply;
@@ -15,7 +16,5 @@ mod senses;
 pub mod session;
 pub mod state;
 mod steps;
-#[cfg(test)]
-mod tests;
 mod texts;
 mod view;

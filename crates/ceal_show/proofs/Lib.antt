@@ -5,7 +5,7 @@ mod Searching
 mod Finding
 mod LineSteps
 mod OneText
-mod SampleLaws
 mod WholeMemory
 mod Renamed
 mod Samples
+mod SomeText

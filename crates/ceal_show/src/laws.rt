@@ -26,3 +26,10 @@ pub fn same_text()
         → IsRenaming rename from to → IsWhole structs from → IsSome (from root)
         → IsGraphText structs from name root text → IsGraphText structs to name (rename root) text }
 {}
+
+/// A law: a whole memory has a text from each of its blocks.
+pub fn some_text()
+    ensures law { (structs : List StructInfo) (m : Blocks) (name : ℕ → List ℕ) (root : BlockId)
+        → IsWhole structs (block_at m) → IsSome (block_at m root)
+        → (text : List ℕ) × IsGraphText structs (block_at m) name root text }
+{}

@@ -12,6 +12,4 @@ pub mod laws;
 mod lines;
 mod met;
 mod reach;
-#[cfg(test)]
-mod tests;
 pub mod view;

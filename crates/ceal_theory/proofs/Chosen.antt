@@ -53,8 +53,8 @@ continues-more bs b names h = (λ k c e. h k c (front bs k c e), h (length bs) b
     last (d ∷ bs) = last bs
 
 module _ (code : Code) where
-  first : (m : Machine) → m.state.number ≡ 0 → Comes_by code m m [] []
-  first m e = record { number = e; leads = λ names h. leads-stays code names m }
+  begun : (m : Machine) (chosen : List ℕ) → m.state.number ≡ length chosen → Comes_by code m m chosen []
+  begun m chosen e = record { number = e; leads = λ names h. leads-stays code names m }
 
   more : (start m m' : Machine) (chosen : List ℕ) (out is : List Item) → Comes_by code start m chosen out
       → ((names : ℕ → ℕ) → Leads code names m m' is) → m'.state.number ≡ m.state.number → Comes_by code start m' chosen (out ++ is)
@@ -174,7 +174,7 @@ module _ (code : Code) where
 
 pub chosen-law : Chosen_law
 chosen-law code = record {
-  first = first code;
+  begun = begun code;
   more = more code;
   numbered = numbered code;
   ends = λ old new f args l number e m chosen out c free h. ends code old new f args l number e chosen free m out c h;

@@ -8,24 +8,23 @@ use Rattle.ceal_base.specs.declared.word.Place.{Place}
 use Rattle.ceal_base.specs.declared.word.Word.{Word}
 use Rattle.ceal_code.specs.Known.{Known_stack}
 use Rattle.ceal_code.specs.Program.{Code}
-use Rattle.ceal_code.specs.Replay.{Yields, Store, Known_word}
-use Rattle.ceal_code.specs.Step.{Stack}
-use Rattle.ceal_code.specs.Value.{Plain}
+use Rattle.ceal_code.specs.Replay.{Store, Known_word}
 use Rattle.ceal_theory.proofs.FlatTake.{first-flat, followed-nothing}
 use Rattle.ceal_theory.proofs.MachineLaws.{takes-turn}
 use Rattle.ceal_theory.proofs.OneTurn.{Located, Ahead, locate, Same_first, one-first, at-flat, at-honest, at-store}
 use Rattle.ceal_theory.proofs.Ready.{sound-ready}
+use Rattle.ceal_theory.proofs.SliceLaws.{turn-law}
 use Rattle.ceal_theory.proofs.Turns.{finishes-rises}
-use Rattle.ceal_theory.proofs.Told.{yields-told}
+use Rattle.ceal_theory.proofs.Uses.{uses-sure}
 use Rattle.ceal_theory.proofs.Walk.{agrees-front, flat-honest}
-use Rattle.ceal_theory.specs.Course.{Work_law, Turn_course_law, Turn_known_law}
+use Rattle.ceal_theory.specs.Course.{Work_law, Turn_course, Turn_course_law, Turn_known_law}
 use Rattle.ceal_theory.specs.Cover.{At, known_after}
-use Rattle.ceal_theory.specs.Known.{Sure, Knows}
+use Rattle.ceal_theory.specs.Known.{Knows}
 use Rattle.ceal_theory.specs.Levels.{first, levels}
 use Rattle.ceal_theory.specs.Repair.{resumed}
-use Rattle.ceal_theory.specs.SliceLaws.{unit_alone}
+use Rattle.ceal_theory.specs.SliceLaws.{unit_alone, First_stale}
 use Rattle.ceal_theory.specs.Slices.{with_inputs, Uses, starting}
-use Rattle.ceal_theory.specs.Turns.{Machine, Ended, turn, Finishes, Goes, Ends, Takes_turn}
+use Rattle.ceal_theory.specs.Turns.{Machine, Ended, turn, Finishes, Goes, Ends, Takes_turn, Leads}
 use Rattle.ceal_theory.specs.Walk.{Agrees_all}
 
 steps-front : (is js : List Item) → steps_in is ≤ steps_in (is ++ js)
@@ -49,19 +48,30 @@ ended-finishes code names m e = of (subst (Takes_turn code names m) e (takes-tur
     of : Ends code names m → Finishes code names m m.state []
     of h = h.back
 
-pub turn-course-law : Turn_course_law
-turn-course-law code names inputs r front p u v args after x m out l = record {
-  ended = λ e. x.slice m.state out (subst (λ is. Finishes code names (unit_alone code inputs r front p u v args x.inside) m.state is) (append-nil out) (l.back m.state [] (ended-finishes code names m e)));
-  over = λ n h. x.over n (λ t items f. let w = work-law code names (unit_alone code inputs r front p u v args x.inside) m out l t items f in omega (arith, h, w.0));
-}
+-- what is inside a read is what its items up to its end say
+inside-first : (inside : Trace) (back : List Item) → first (levels (flat inside ++ item.End ∷ back)) ≡ inside
+inside-first inside back = first-flat inside (item.End ∷ back) ∙ followed-nothing inside
 
--- what a stack yields and what mentions known blocks alone stays so, whatever stands around it
-uses-sure : (code : Code) (n : ℕ) (ds : List ℕ) (x : Plain) {st : Stack} {l : Trace} → Yields code x st l → Uses n ds l → Sure code n ds x l
-uses-sure code n ds x (Yields.over e) u = tt
-uses-sure code n ds x (Yields.quiet e r) u = uses-sure code n ds x r u
-uses-sure code n ds x (Yields.makes e h r) u = (u.0, u.1, h, uses-sure code n ds x r u.2)
-uses-sure code n ds x (Yields.writes e r) u = uses-sure code n ds x r u.2
-uses-sure code n ds x (Yields.reads e r1 r2) u = (u.1, u.2, yields-told code x r1, uses-sure code n ds x r1 u.3, uses-sure code n ds x r2 u.4)
+same-tail : (is a b : List Item) → is ++ item.End ∷ a ≡ is ++ item.End ∷ b → a ≡ b
+same-tail [] a b e = cc e
+same-tail (i ∷ is) a b e = same-tail is a b (cc e)
+
+pub turn-course-law : Turn_course_law
+turn-course-law code names inputs r front p value u v args inside back e h n m out l = of (turn-law code names inputs r front p value u v args (flat inside ++ item.End ∷ back) e h n)
+  where
+    of : First_stale code names inputs r front p u v args (flat inside ++ item.End ∷ back) → Turn_course code names inputs r front p u v args inside back m out
+    of x =
+        let same : inside ≡ x.inside = sym (inside-first inside back) ∙ (ap (λ is. first (levels is)) x.items ∙ inside-first x.inside x.back) in
+        let tail : back ≡ x.back = same-tail (flat inside) back x.back (x.items ∙ ap (λ i. flat i ++ item.End ∷ x.back) (sym same)) in
+        subst (λ i. Leads code names (unit_alone code inputs r front p u v args i) m out → Turn_course code names inputs r front p u v args i back m out) (sym same)
+        (λ l. subst (λ b. Turn_course code names inputs r front p u v args x.inside b m out) (sym tail) (at-stale x l)) l
+      where
+        at-stale : (x : First_stale code names inputs r front p u v args (flat inside ++ item.End ∷ back)) → Leads code names (unit_alone code inputs r front p u v args x.inside) m out
+            → Turn_course code names inputs r front p u v args x.inside x.back m out
+        at-stale x l = record {
+          ended = λ e. x.slice m.state out (subst (λ is. Finishes code names (unit_alone code inputs r front p u v args x.inside) m.state is) (append-nil out) (l.back m.state [] (ended-finishes code names m e)));
+          over = λ n h. x.over n (λ t items f. let w = work-law code names (unit_alone code inputs r front p u v args x.inside) m out l t items f in omega (arith, h, w.0));
+        }
 
 at-uses : (code : Code) (n : ℕ) (bs : List ℕ) {s w : Store} {l inside : Trace} {front back : List Item} {p : Place} {value : Word} {u : UnitId} {v : ℕ} {args : List Word}
     → At code s l front w p value u v args inside back → Uses n bs l → Uses n bs inside
@@ -71,10 +81,6 @@ at-uses code n bs (At.alloc a) h = at-uses code n bs a h.2
 at-uses code n bs (At.write a) h = at-uses code n bs a h.2
 at-uses code n bs (At.inner e a) h = at-uses code n bs a h.3
 at-uses code n bs (At.outer e k a) h = at-uses code n bs a h.4
-
--- what is inside a read is what its items up to its end say
-inside-first : (inside : Trace) (back : List Item) → first (levels (flat inside ++ item.End ∷ back)) ≡ inside
-inside-first inside back = first-flat inside (item.End ∷ back) ∙ followed-nothing inside
 
 pub turn-known-law : Turn_known_law
 turn-known-law code names inputs f ws fits r h front p value u v args after e k n inside back i = found (locate code r.items (starting code inputs r.known))

@@ -30,7 +30,7 @@ differ v w h = go (same_word v w) refl
     go false e = refl
 
 module _ (code : Code) (names : ℕ → ℕ) where
-  begins : (s : State) (l : Trace) → flat_machine s Goes_through [] (flat l) ≡ record { state = s; mode = Fixing l; frames = Bottom }
+  pub begins : (s : State) (l : Trace) → flat_machine s Goes_through [] (flat l) ≡ record { state = s; mode = Fixing l; frames = Bottom }
   begins s l = ap (λ t. record { state = s; mode = Fixing t; frames = Bottom }) (first-of-flat l)
 
   one-item : (m m' m'' : Machine) (i : Item) (is : List Item) → turn code names m ≡ Went (i ∷ []) m' → Leads code names m' m'' is → Leads code names m m'' (i ∷ is)
@@ -160,14 +160,14 @@ flat-law code names = record {
 }
 
 -- what closes no more than it opens passes so in each of its fronts
-passes-flat : (l : Trace) (is : List Item) (fs : List Flat_frame) → passes_all (flat l ++ is) fs ≡ passes_all is fs
+pub passes-flat : (l : Trace) (is : List Item) (fs : List Flat_frame) → passes_all (flat l ++ is) fs ≡ passes_all is fs
 passes-flat Nothing is fs = refl
 passes-flat (Stepped rest) is fs = passes-flat rest is fs
 passes-flat (Allocated b k rest) is fs = passes-flat rest is fs
 passes-flat (Wrote p v rest) is fs = passes-flat rest is fs
 passes-flat (Was_read p v u x args inside rest) is fs = rw (append_assoc (flat inside) (End ∷ flat rest) is, passes-flat inside (End ∷ (flat rest ++ is)) (Fixes ∷ fs)) (passes-flat rest is fs)
 
-passes-front : (front back : List Item) (fs gs : List Flat_frame) → passes_all (front ++ back) fs ≡ Some gs → (hs : List Flat_frame) × (passes_all front fs ≡ Some hs)
+pub passes-front : (front back : List Item) (fs gs : List Flat_frame) → passes_all (front ++ back) fs ≡ Some gs → (hs : List Flat_frame) × (passes_all front fs ≡ Some hs)
 passes-front [] back fs gs e = (fs, refl)
 passes-front (i ∷ front) back fs gs e = go (passes i fs) (λ hs. passes-front front back hs gs) e
   where

@@ -58,8 +58,10 @@ pub mod OneTurn
 pub mod Ready
 pub mod Split
 pub mod RenamedSlice
+pub mod NamedBeginning
 pub mod RenamedSound
 pub mod SliceLaws
+pub mod Listed
 pub mod SliceSamples
 -- The queue.
 pub mod Cover

@@ -66,21 +66,21 @@ module _ (ps : Pairs) (r : ℕ → ℕ) (h : (b c : ℕ) → Tied b c ps → c �
   trace-by (Trace_alike.was_read p v vs i t) = rw (place-by p, word-by v, words-by vs, trace-by i, trace-by t) refl
 
 -- each block with itself
-abbrev selves : List ℕ → Pairs
+abbrev pub selves : List ℕ → Pairs
 selves [] = []
 selves (b ∷ bs) = record { left = b; right = b } ∷ selves bs
 
-self-tied : (b : ℕ) (bs : List ℕ) → In b bs → Tied b b (selves bs)
+pub self-tied : (b : ℕ) (bs : List ℕ) → In b bs → Tied b b (selves bs)
 self-tied b [] i = elim i [ ]
 self-tied b (c ∷ bs) here = Tied.here
 self-tied b (c ∷ bs) (there i) = Tied.there (self-tied b bs i)
 
-tied-same : (b c : ℕ) (bs : List ℕ) → Tied b c (selves bs) → b ≡ c
+pub tied-same : (b c : ℕ) (bs : List ℕ) → Tied b c (selves bs) → b ≡ c
 tied-same b c [] t = elim t [ ]
 tied-same b c (d ∷ bs) Tied.here = refl
 tied-same b c (d ∷ bs) (Tied.there t) = tied-same b c bs t
 
-selves-one : (bs : List ℕ) → One_to_one (selves bs)
+pub selves-one : (bs : List ℕ) → One_to_one (selves bs)
 selves-one bs = record {
   left = λ b c d s t. sym (tied-same b c bs s) ∙ tied-same b d bs t;
   right = λ b c d s t. tied-same b d bs s ∙ sym (tied-same c d bs t);

@@ -154,7 +154,7 @@ module _ (code : Code) (inputs : List Block) (fit : inputs_fit code.structs inpu
       go b c (Id_alike.input {i = i}) e = rw e (input-alike ps i q.field)
       go b c (Id_alike.core {b = d} {c = f} t) e = rw e (default-alike code.structs ps q.field (core-alike ps x y h d f t))
 
-  with-alike : (ps : Pairs) (x y : Plain) → Plain_alike code.structs ps x y → Plain_alike code.structs ps (with_inputs code inputs x) (with_inputs code inputs y)
+  pub with-alike : (ps : Pairs) (x y : Plain) → Plain_alike code.structs ps x y → Plain_alike code.structs ps (with_inputs code inputs x) (with_inputs code inputs y)
   unfolding with_inputs
   with-alike ps x y h b c (Id_alike.input {i = i}) = Rattle.ceal_code.proofs.Replayed.begin-self code inputs ps fit i
   with-alike ps x y h b c (Id_alike.core {b = d} {c = e} t) = h (Core d) (Core e) (Id_alike.core t)

@@ -14,7 +14,7 @@ use Rattle.ceal_code.specs.Fitting.{Fits}
 use Rattle.ceal_code.specs.Known.{Known_stack}
 use Rattle.ceal_code.specs.Program.{Code}
 use Rattle.ceal_code.specs.Replay.{Known_word, stored, IsHonest}
-use Rattle.ceal_theory.proofs.Walk.{walk-fix}
+use Rattle.ceal_theory.proofs.Walk.{agrees-honest, flat-honest, walk-fix}
 use Rattle.ceal_theory.specs.Repair.{State, resumed}
 use Rattle.ceal_theory.specs.Turns.{Finishes}
 use Rattle.ceal_theory.proofs.Turns.{Ran_flat, finishes-anew}
@@ -34,13 +34,13 @@ use Rattle.ceal_theory.proofs.RenamedSound.{sound-renamed}
 use Rattle.ceal_theory.proofs.Inputs.{fits-more}
 use Rattle.ceal_theory.specs.Adjust.{Extended}
 use Rattle.ceal_theory.proofs.IsDone.{done-honest, honest-done}
-use Rattle.ceal_theory.proofs.Done.{replays-words, done-replays, whole-done}
+use Rattle.ceal_theory.proofs.Done.{any-start-honest, replays-words, done-replays, whole-done}
 use Rattle.ceal_theory.proofs.Follow.{done-stays, follow, from-start}
 use Rattle.ceal_theory.proofs.Sound.{low, at-core, begin-sound, sound-more, grown, part-sound}
 use Rattle.ceal_theory.proofs.Adds.{part-adds, part-uses}
 use Rattle.ceal_theory.proofs.Parts.{As_part, part-fix, fix-part}
 use Rattle.ceal_theory.proofs.RenamedSlice.{slice-renamed, done-too}
-use Rattle.ceal_theory.specs.SliceLaws.{Begin_law, More_law, Sliced, Slice_law, Done_law, Whole_law, Stays_law, Begun_law, Begun_adjusted_law, Is_named, Renamed_slice_law, and_more, Follow_law, Slices_law, Is_done_law, Bases_law, unit_alone, First_stale, Turn_law, Known_there, Ready_law, Turns, Turns_law, History, Held_up, History_law, Renamed_sound_law, Keep_law, Split_law, Turned_over, Turns_over_law}
+use Rattle.ceal_theory.specs.SliceLaws.{Start_law, Other_names_law, Begin_law, More_law, Sliced, Slice_law, Done_law, Whole_law, Stays_law, Begun_law, Begun_adjusted_law, Is_named, Renamed_slice_law, and_more, Follow_law, Slices_law, Is_done_law, Bases_law, unit_alone, First_stale, Turn_law, Known_there, Ready_law, Turns, Turns_law, History, Held_up, History_law, Renamed_sound_law, Keep_law, Split_law, Turned_over, Turns_over_law}
 use Rattle.ceal_theory.specs.Cover.{before, items_of, waits_after, Cover_law, Replace_law, known_after, Waiting, none_waits, closed, opened, Change_law, Pop_law, First_queued_law, Front_law}
 use Rattle.ceal_theory.specs.Walk.{store_after, Agrees_all, with_store}
 use Rattle.ceal_theory.specs.Slices.{Repair, with_inputs, starting, goes_on, Part, Runs, repair_at, Slices, sliced, Sound, Follows}
@@ -77,9 +77,27 @@ module _ {names : ℕ → ℕ} (code : Code) (inputs : List Block) (f : ℕ) (ar
 pub slice-law : Slice_law
 slice-law code names inputs f args fits r h k r' s = subst (Sliced code names inputs f args r) (sym s.is) (runs-sliced code inputs f args fits r h k s.after s.items s.runs)
 
+pub other-names-law : Other_names_law
+other-names-law code names names' inputs f args r h single number free = record {
+  yields = h.yields;
+  distinct = h.distinct;
+  blocks = h.blocks;
+  all = h.all;
+  holds = h.holds;
+  uses = h.uses;
+  single = single;
+  free = free;
+}
+
 pub done-law : Done_law
 done-law code names inputs f args fits r h k =
     let p = done-replays code inputs f args fits r h k in record { replays = p; run = trace-law code inputs f args fits r.items p k }
+
+pub start-law : Start_law
+start-law code names inputs f args fits r s = (
+  λ h. flat-honest code (from-start code inputs f args fits r s h).walk,
+  λ a. any-start-honest code inputs f args fits r s r.known (store_after code (starting code inputs r.known) (flat r.items)) (agrees-honest code (starting code inputs r.known) r.items a),
+)
 
 pub whole-law : Whole_law
 whole-law code names inputs f args fits r h r' s = whole-done code inputs f args fits r h r' s

@@ -14,6 +14,8 @@ use Rattle.ceal_theory.proofs.Good.{Extends, Pieces}
 use Rattle.ceal_theory.proofs.Growth.{mentions-subset}
 use Rattle.ceal_theory.proofs.PlainWords.{block-inputs, word-inputs, words-inputs, key-inputs}
 use Rattle.ceal_theory.proofs.Replays.{pointer-known}
+use Rattle.ceal_theory.proofs.Told.{yields-told}
+use Rattle.ceal_theory.specs.Known.{Sure}
 use Rattle.ceal_theory.specs.Slices.{Uses}
 
 -- with more core blocks known
@@ -89,3 +91,11 @@ uses-pieces code n bs x y h ext (Yields.makes {key = key} {b = b} e g r) u =
     (k.there ∙ ap Some w, uses-pieces code n bs x y h ext r u.2)
 uses-pieces code n bs x y h ext (Yields.writes e r) u = uses-pieces code n bs x y h ext r u.2
 uses-pieces code n bs x y h ext (Yields.reads e r1 r2) u = (r1, uses-pieces code n bs x y h ext r1 u.3, uses-pieces code n bs x y h ext r2 u.4)
+
+-- what a stack yields and what mentions known blocks alone stays so, whatever stands around it
+pub uses-sure : (code : Code) (n : ℕ) (ds : List ℕ) (x : Plain) {st : Stack} {l : Trace} → Yields code x st l → Uses n ds l → Sure code n ds x l
+uses-sure code n ds x (Yields.over e) u = tt
+uses-sure code n ds x (Yields.quiet e r) u = uses-sure code n ds x r u
+uses-sure code n ds x (Yields.makes e h r) u = (u.0, u.1, h, uses-sure code n ds x r u.2)
+uses-sure code n ds x (Yields.writes e r) u = uses-sure code n ds x r u.2
+uses-sure code n ds x (Yields.reads e r1 r2) u = (u.1, u.2, yields-told code x r1, uses-sure code n ds x r1 u.3, uses-sure code n ds x r2 u.4)

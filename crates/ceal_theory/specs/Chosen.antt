@@ -69,8 +69,9 @@ abbrev pub first_begins : Code → List Block → ℕ → List Word → Machine
 first_begins code inputs f args = record { state = begins code inputs (input_plain code inputs) 0; mode = Running (started code f args) Nothing; frames = Bottom }
 
 pub record Chosen_laws (code : Code) : Type 0 where
-  -- at the beginning, after what all names have in common, and after a turn that makes a block of any number
-  pub first : (m : Machine) → m.state.number ≡ 0 → Comes_by code m m [] []
+  -- at a beginning, where so many numbers were handed out before; after what all names have in common; and after a turn that
+  -- makes a block of any number
+  pub begun : (m : Machine) (chosen : List ℕ) → m.state.number ≡ length chosen → Comes_by code m m chosen []
   pub more : (start m m' : Machine) (chosen : List ℕ) (out is : List Item) → Comes_by code start m chosen out
       → ((names : ℕ → ℕ) → Leads code names m m' is) → m'.state.number ≡ m.state.number → Comes_by code start m' chosen (out ++ is)
   pub numbered : (start m m' : Machine) (chosen : List ℕ) (out is : List Item) → Comes_by code start m chosen out

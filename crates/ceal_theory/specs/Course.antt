@@ -22,7 +22,7 @@ use Rattle.ceal_theory.specs.Groves.{Knot, Grove, stepped, trace_in, knot, knots
 use Rattle.ceal_theory.specs.Known.{Knows}
 use Rattle.ceal_theory.specs.Levels.{first, around, levels}
 use Rattle.ceal_theory.specs.Repair.{State, clears, puts, works, grows, resumed}
-use Rattle.ceal_theory.specs.SliceLaws.{unit_alone, First_stale}
+use Rattle.ceal_theory.specs.SliceLaws.{unit_alone}
 use Rattle.ceal_theory.specs.Slices.{Repair, starting, repair_at, Slices, sliced, Sound}
 use Rattle.ceal_theory.specs.Take.{TakenAlloc, TakenRead, take_alloc, take_read}
 use Rattle.ceal_theory.specs.Turns.{Mode, Fixing, Running, Frames, Bottom, After_fix, After_mend, After_run, Machine, Ended, turn, Finishes, Leads}
@@ -145,9 +145,9 @@ pub record Turn_course (code : Code) (names : ℕ → ℕ) (inputs : List Block)
   pub over : (n : ℕ) → n < m.state.work → (sliced code names inputs None n r ≡ None) × ((k : ℕ) → sliced code names inputs (Some (suc k)) n r ≡ None)
 
 abbrev pub Turn_course_law : Type 0
-Turn_course_law = (code : Code) (names : ℕ → ℕ) (inputs : List Block) (r : Repair) (front : List Item) (p : Place) (u : UnitId) (v : ℕ) (args : List Word) (after : List Item)
-    → (x : First_stale code names inputs r front p u v args after) (m : Machine) (out : List Item) → Leads code names (unit_alone code inputs r front p u v args x.inside) m out
-    → Turn_course code names inputs r front p u v args x.inside x.back m out
+Turn_course_law = (code : Code) (names : ℕ → ℕ) (inputs : List Block) (r : Repair) (front : List Item) (p : Place) (value : Word) (u : UnitId) (v : ℕ) (args : List Word) (inside : Trace) (back : List Item)
+    → flat r.items ≡ front ++ Read p value u v args ∷ (flat inside ++ End ∷ back) → Agrees_all code (starting code inputs r.known) front → ¬ (store_after code (starting code inputs r.known) front p ≡ value)
+    → (m : Machine) (out : List Item) → Leads code names (unit_alone code inputs r front p u v args inside) m out → Turn_course code names inputs r front p u v args inside back m out
 
 -- what the machine of a turn knows at its beginning: the blocks that the items before the read allocate, and of old ones those
 -- that the repair knows

@@ -23,6 +23,7 @@ pub mod MoreInputs
 pub mod Slices
 pub mod SliceLaws
 pub mod Cover
+pub mod Listed
 -- the course of a turn over nodes
 pub mod Groves
 pub mod Course

@@ -46,6 +46,11 @@ More_law = (code : Code) (names : ℕ → ℕ) (old new : List Block) (f : ℕ) 
 abbrev pub Is_named : (ℕ → ℕ) → ℕ → ℕ → ℕ → Type 0
 Is_named names from to b = (k : ℕ) × (from ≤ k) × (k < to) × (b ≡ names k)
 
+-- a repair holds with other names, and counted from another number on, where no known block has one that is still to come
+abbrev pub Other_names_law : Type 0
+Other_names_law = (code : Code) (names names' : ℕ → ℕ) (inputs : List Block) (f : ℕ) (args : List Word) (r : Repair) → Sound code names inputs f args r
+    → Single names' → (number : ℕ) → ((k : ℕ) → number ≤ k → r.known (Core (names' k)) ≡ None) → Sound code names' inputs f args (record r { number = number })
+
 -- What a slice comes to. Known blocks stay known, and what is known besides has names of numbers from the next one on, each of
 -- which the items have once. Of the other blocks the items have those that they had, or fewer: what was revoked stays so.
 pub record Sliced (code : Code) (names : ℕ → ℕ) (inputs : List Block) (f : ℕ) (args : List Word) (r r' : Repair) : Type 0 where
@@ -70,6 +75,11 @@ pub record Ended (code : Code) (inputs : List Block) (f : ℕ) (args : List Word
 abbrev pub Done_law : Type 0
 Done_law = (code : Code) (names : ℕ → ℕ) (inputs : List Block) (f : ℕ) (args : List Word) → Fits code inputs f args → (r : Repair) → Sound code names inputs f args r
     → (h : IsHonest code inputs r.items) → Ended code inputs f args r.items h
+
+-- the store in which a slice begins says of the items whether they are honest, as the bases alone do
+abbrev pub Start_law : Type 0
+Start_law = (code : Code) (names : ℕ → ℕ) (inputs : List Block) (f : ℕ) (args : List Word) → Fits code inputs f args → (r : Repair) → Sound code names inputs f args r
+    → IsHonest code inputs r.items ↔ Agrees_all code (starting code inputs r.known) (flat r.items)
 
 -- without a number of reads a slice is done
 abbrev pub Whole_law : Type 0
@@ -111,6 +121,18 @@ abbrev pub Renamed_slice_law : Type 0
 Renamed_slice_law = (code : Code) (names names' : ℕ → ℕ) → Single names → Single names' → (inputs : List Block) → inputs_fit code.structs inputs ≡ true
     → (ps : Pairs) (r q : Repair) → Alike_repairs code names names' inputs ps r q
     → ((k : Option ℕ) (n : ℕ) → Renamed_slices code names names' inputs ps (sliced code names inputs k n r) (sliced code names' inputs k n q)) × (IsHonest code inputs r.items → IsHonest code inputs q.items)
+
+-- what begins from one trace with two ways to name new blocks is one, each block for itself
+pub record Named_beginning (code : Code) (names names' : ℕ → ℕ) (inputs : List Block) (l : Trace) (r q : Repair) : Type 0 where
+  pub pairs : Pairs
+  pub alike : Alike_repairs code names names' inputs pairs r q
+  pub same : (b c : ℕ) → Tied b c pairs → (b ≡ c) × (1 ≤ held b l)
+
+-- so, with the law above, slices with the numbers that a heap gives are the slices with numbers in their order, renamed at new
+-- blocks alone
+abbrev pub Named_beginning_law : Type 0
+Named_beginning_law = (code : Code) (names names' : ℕ → ℕ) (old new : List Block) (f : ℕ) (args : List Word) (l : Trace) (above number number' : ℕ) → Edited code old new f args l above
+    → Names_apart names number l → Names_apart names' number' l → Named_beginning code names names' new l (beginning code new l number) (beginning code new l number')
 
 -- k reads, and then so many more, or all
 abbrev pub and_more : ℕ → Option ℕ → Option ℕ

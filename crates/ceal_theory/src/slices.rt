@@ -1,6 +1,7 @@
 // Laws of repairs that go on in slices, each the contract of a function that does nothing.
 
-ghost use Rattle.ceal_theory.specs.SliceLaws.{Begin_law, More_law, Slice_law, Done_law, Is_done_law, Whole_law, Stays_law, Begun_law, Begun_adjusted_law, Slices_law, Follow_law, Split_law, Bases_law, Turn_law, Ready_law, Turns_law, Turns_over_law, Renamed_slice_law, Renamed_sound_law, History_law};
+ghost use Rattle.ceal_theory.specs.Listed.{Listed_law};
+ghost use Rattle.ceal_theory.specs.SliceLaws.{Start_law, Other_names_law, Named_beginning_law, Begin_law, More_law, Slice_law, Done_law, Is_done_law, Whole_law, Stays_law, Begun_law, Begun_adjusted_law, Slices_law, Follow_law, Split_law, Bases_law, Turn_law, Ready_law, Turns_law, Turns_over_law, Renamed_slice_law, Renamed_sound_law, History_law};
 
 /// A repair that begins from a trace of the call holds.
 pub fn begin_law()
@@ -100,4 +101,24 @@ pub fn renamed_sound_law()
 /// After any edits and slices the repair holds, and whenever its items are honest they are a trace of the call.
 pub fn history_law()
     ensures law { History_law }
+{}
+
+/// What begins from one trace with two ways to name new blocks is one, each block for itself.
+pub fn named_beginning_law()
+    ensures law { Named_beginning_law }
+{}
+
+/// At places of known blocks the store after an honest front is the last write in it, or else the base.
+pub fn listed_law()
+    ensures law { Listed_law }
+{}
+
+/// A repair holds with other names, where no known block has one that is still to come.
+pub fn other_names_law()
+    ensures law { Other_names_law }
+{}
+
+/// The store in which a slice begins says whether the items are honest, as the bases do.
+pub fn start_law()
+    ensures law { Start_law }
 {}

@@ -12,6 +12,4 @@ pub mod laws;
 pub mod node;
 mod row;
 mod table;
-#[cfg(test)]
-mod tests;
 pub mod trace;

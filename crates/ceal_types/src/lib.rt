@@ -18,6 +18,4 @@ pub mod names;
 mod program;
 mod statements;
 mod table;
-#[cfg(test)]
-mod tests;
 mod values;

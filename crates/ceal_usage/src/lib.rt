@@ -7,5 +7,3 @@
 mod bodies;
 pub mod check;
 mod mention;
-#[cfg(test)]
-mod tests;

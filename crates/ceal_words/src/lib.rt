@@ -12,5 +12,3 @@ mod marks;
 mod pool;
 pub mod region;
 pub mod slot;
-#[cfg(test)]
-mod tests;

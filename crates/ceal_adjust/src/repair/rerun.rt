@@ -102,13 +102,14 @@ impl<'a> Repair<'a> {
                 let levels = found.levels;
                 self.frames.push(Frame::Mend { below, levels })?;
                 self.open(&closure, is_same(now, found.value), now)?;
+                Ok(wrote(true, read_item(closure, now)))
             }
             None => {
                 self.frames.push(Frame::Run { below })?;
                 self.stack.resume(self.memory.code(), &closure, now)?;
+                Ok(wrote(true, read_item(closure, now)))
             }
         }
-        Ok(wrote(true, read_item(closure, now)))
     }
 
     /// What the running stack does next.

@@ -1,5 +1,5 @@
 use Rattle.std.proofs.Common.{arith}
-use Rattle.ceal_cli.proofs.TopLaws.{output_for, prefix_for, short_for, accepted_for, refused_for, done_for, not_refused_for, not_done_for, none_for}
+use Rattle.ceal_cli.proofs.TopLaws.{output_for, answer_for, refusal_for, prefix_for, short_for, accepted_for, refused_for, done_for, not_refused_for, not_done_for, none_for}
 use Rattle.ceal_cli.proofs.top.answer_input.Goals as goal
 
 pub returns-in-Ok-true-clause-output : goal.returns-in-Ok-true-clause-output
@@ -53,3 +53,21 @@ returns-in-Ok-true-clause-complete g c = done_for _ _ _ _ c.in-Ok.ensures.all c.
 
 pub returns-in-Err-TooLong-clause-prefix : goal.returns-in-Err-TooLong-clause-prefix
 returns-in-Err-TooLong-clause-prefix g c = none_for _ _ c.args.mode
+
+pub returns-in-Ok-true-clause-answered : goal.returns-in-Ok-true-clause-answered
+returns-in-Ok-true-clause-answered g c =
+    λ _. answer_for _ _ _ _ c.in-Ok.ensures.all c.in-Ok.ensures.end c.deref.ensures.value _ _ _ (c.one_answer.ensures.law _)
+    (c.in-Ok-true.ensures.accepted.0 c.in-Ok-true.field-0-test) c.in-Ok-true.ensures.all
+
+pub returns-in-Ok-false-clause-told : goal.returns-in-Ok-false-clause-told
+returns-in-Ok-false-clause-told g c =
+    λ _. refusal_for _ _ _ _ c.in-Ok.ensures.all c.in-Ok.ensures.end c.deref.ensures.value _ _ _ c.requires
+    (λ h. let t = c.in-Ok-false.ensures.accepted.1 h in let f = c.in-Ok-false.field-0-test in absurd (cc (t, f))) c.in-Ok-false.ensures.all
+
+pub returns-in-Ok-false-clause-within : goal.returns-in-Ok-false-clause-within
+returns-in-Ok-false-clause-within g c =
+    λ _. short_for _ _ _ _ c.in-Ok.ensures.all c.in-Ok.ensures.end c.deref.ensures.value (omega (arith, c.deref.ensures.len, c.in-Ok.ensures.within))
+
+pub returns-clause-within : goal.returns-clause-within
+returns-clause-within g c =
+    λ _. short_for _ _ _ _ c.in-Ok.ensures.all c.in-Ok.ensures.end c.deref.ensures.value (omega (arith, c.deref.ensures.len, c.in-Ok.ensures.within))

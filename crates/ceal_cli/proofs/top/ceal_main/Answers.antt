@@ -1,7 +1,9 @@
+use Rattle.std.proofs.Common.{sym, subst}
+use Rattle.ceal_cli.specs.Answers.{IsWhole}
 use Rattle.ceal_cli.specs.Growth.{WritesGenerated, WritesGeneratedPrefix}
 use Rattle.ceal_cli.specs.declared.words.Mode.TheVariants.{Gen}
 use Rattle.ceal_cli.proofs.ModeLaws.{one_mode, one_workload, not_both, small_size}
-use Rattle.ceal_cli.proofs.TopLaws.{any_output, any_prefix}
+use Rattle.ceal_cli.proofs.TopLaws.{any_answer, any_output, any_prefix, loses_none, no_refusal}
 use Rattle.ceal_cli.proofs.top.ceal_main.Goals as goal
 
 pub returns-in-Ok-Some-Gen-clause-headline : goal.returns-in-Ok-Some-Gen-clause-headline
@@ -50,17 +52,40 @@ returns-in-Ok-Some-Gen-clause-refuses g c =
     let asked = rw (c.in-Ok-Some-Gen.field-0-is, c.in-Ok-Some-Gen.field-0-0-is) at c.in-Ok-Some-Gen.ensures in
     λ reads. absurd (not_both _ (c.in-Ok-Some-Gen.kind, c.in-Ok-Some-Gen.seed, c.in-Ok-Some-Gen.size, asked) reads)
 
+pub returns-in-Ok-Some-Gen-clause-answered : goal.returns-in-Ok-Some-Gen-clause-answered
+returns-in-Ok-Some-Gen-clause-answered g c =
+    let asked = rw (c.in-Ok-Some-Gen.field-0-is, c.in-Ok-Some-Gen.field-0-0-is) at c.in-Ok-Some-Gen.ensures in
+    λ is mode asks.
+    rw (one_mode _ mode (Gen c.in-Ok-Some-Gen.kind c.in-Ok-Some-Gen.seed c.in-Ok-Some-Gen.size) asks asked)
+    (any_answer _ _ _ _ _ _ (c.answer_workload.ensures.output (subst IsWhole (sym is) tt)))
+
+pub returns-in-Ok-Some-Gen-clause-told : goal.returns-in-Ok-Some-Gen-clause-told
+returns-in-Ok-Some-Gen-clause-told g c = λ is mode asks. absurd (no_refusal c.answer_workload.result c.answer_workload.ensures.answer is)
+
+pub returns-in-Ok-Some-Gen-clause-lost : goal.returns-in-Ok-Some-Gen-clause-lost
+returns-in-Ok-Some-Gen-clause-lost g c = loses_none _ _
+
+pub returns-in-Ok-None-clause-lost : goal.returns-in-Ok-None-clause-lost
+returns-in-Ok-None-clause-lost g c = loses_none _ _
+
+pub returns-in-Err-clause-lost : goal.returns-in-Err-clause-lost
+returns-in-Err-clause-lost g c = loses_none _ _
+
 pub returns-in-Ok-Some : goal.returns-in-Ok-Some
 returns-in-Ok-Some g c =
     let asked = rw c.in-Ok-Some.field-0-is at c.in-Ok-Some.ensures in
     let input = c.answer_input.ensures.reads in
     record {
       headline = λ whole mode asks. rw (one_mode _ mode c.in-Ok-Some.mode asks asked) (c.answer_input.ensures.output whole);
+      answered = λ is mode asks. rw (one_mode _ mode c.in-Ok-Some.mode asks asked) (c.answer_input.ensures.answered is);
+      told = λ is mode asks. rw (one_mode _ mode c.in-Ok-Some.mode asks asked) (c.answer_input.ensures.told is);
       read = λ whole _. c.answer_input.ensures.read whole;
       within = λ whole _. c.answer_input.ensures.within whole;
       prefix = λ mode asks. rw (one_mode _ mode c.in-Ok-Some.mode asks asked) c.answer_input.ensures.prefix;
       silent = c.answer_input.ensures.silent;
-      unread = λ generates. absurd (not_both _ generates (c.in-Ok-Some.mode, asked, input));
+      early = c.answer_input.ensures.early;
+      lost = c.answer_input.ensures.lost;
+      unread = λ none. absurd (none (c.in-Ok-Some.mode, asked, input));
       generated = λ _ kind seed size asks. absurd (not_both _ (kind, seed, size, asks) (c.in-Ok-Some.mode, asked, input));
       generated_prefix = λ kind seed size asks. absurd (not_both _ (kind, seed, size, asks) (c.in-Ok-Some.mode, asked, input));
       done = λ is _. c.answer_input.ensures.done is;

@@ -1,6 +1,6 @@
+use Rattle.std.proofs.Common.{[]}
 use Rattle.ceal_base.specs.Answers.{Gives}
 use Rattle.ceal_grammar.specs.declared.state.State.TheVariants.{Top}
-use Rattle.std.proofs.Common.{[]}
 use Rattle.ceal_grammar.specs.Judged.{judged}
 use Rattle.ceal_parse.proofs.Outcomes.{found_from, all_from, fault_from, only_from}
 use Rattle.ceal_parse.proofs.parse.parse.Goals as goal
@@ -8,10 +8,11 @@ use Rattle.ceal_parse.proofs.parse.parse.Goals as goal
 pub returns : goal.returns
 returns c =
     let tokens = c.args.tokens.now in
+    let law = c.judges.ensures in
     let gives : Gives c.read.result (judged (Top []) tokens) = rw c.items.ensures.value at c.read.ensures.value in
     record {
-      found = found_from tokens c.read.result gives;
-      all = all_from tokens c.read.result gives;
-      fault = fault_from tokens c.read.result c.requires.ended gives;
-      only = only_from tokens c.read.result gives;
+      found = found_from tokens (law.accepted tokens) c.read.result gives;
+      all = all_from tokens (law.complete tokens) c.read.result gives;
+      fault = fault_from tokens (law.faulty tokens) c.read.result c.requires.ended gives;
+      only = only_from tokens (law.first tokens) c.read.result gives;
     }

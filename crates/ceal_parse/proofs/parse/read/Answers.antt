@@ -4,15 +4,16 @@ use Rattle.ceal_parse.proofs.parse.read.Goals as goal
 
 pub returns-in-Err : goal.returns-in-Err
 returns-in-Err c = record {
-  value = loop_fault c.loop-token.state c.args.tokens.now c.loop-token.token-index c.token-item.result (omega arith) _ c.loop-token.invariant.same c.in-Err.error
+  value = loop_fault c.loop-token.parser.state c.args.tokens.now c.loop-token.token-index c.token-item.result (omega arith) _ c.loop-token.invariant.same c.in-Err.error
       (rw (← c.token-item.is) c.in-Err.ensures.value);
 }
 
 pub loop-token-preserved : goal.loop-token-preserved
 loop-token-preserved c =
-    let keeps = kept c.loop-token.state c.token-item.result c.in-Ok.next c.in-Ok.ensures.value in
+    let next = c.advance.new.self.state in
+    let keeps = kept c.loop-token.parser.state c.token-item.result next c.in-Ok.ensures.value in
     record {
-      same = loop_on c.loop-token.state c.args.tokens.now c.loop-token.token-index c.token-item.result (omega arith) _ c.loop-token.invariant.same c.in-Ok.next
+      same = loop_on c.loop-token.parser.state c.args.tokens.now c.loop-token.token-index c.token-item.result (omega arith) _ c.loop-token.invariant.same next
           (rw (← c.token-item.is) c.in-Ok.ensures.value);
       shallow = keeps.0;
       few = keeps.1;
@@ -20,12 +21,12 @@ loop-token-preserved c =
 
 pub returns-in-Some : goal.returns-in-Some
 returns-in-Some c = record {
-  value = at_end c.loop-token.state c.args.tokens.now c.loop-token.token-index _ (omega arith) c.loop-token.invariant.same
-      ∙ has_entries c.loop-token.state c.in-Some.entries (sym c.in-Some.ensures.value);
+  value = at_end c.loop-token.parser.state c.args.tokens.now c.loop-token.token-index _ (omega arith) c.loop-token.invariant.same
+      ∙ has_entries c.loop-token.parser.state c.in-Some.entries (sym c.in-Some.ensures.value);
 }
 
-pub returns : goal.returns
-returns c = record {
-  value = at_end c.loop-token.state c.args.tokens.now c.loop-token.token-index _ (omega arith) c.loop-token.invariant.same
-      ∙ has_none c.loop-token.state (sym c.in-None.ensures.value);
+pub returns-in-None : goal.returns-in-None
+returns-in-None c = record {
+  value = at_end c.loop-token.parser.state c.args.tokens.now c.loop-token.token-index _ (omega arith) c.loop-token.invariant.same
+      ∙ has_none c.loop-token.parser.state (sym c.in-None.ensures.value);
 }

@@ -1,5 +1,0 @@
-use Rattle.std.proofs.Common.{length}
-use Rattle.ceal_adjust.proofs.premises.+extends.Given as goal
-
-abbrev pub decreases-extends : goal.decreases-extends
-decreases-extends l = length l.old.now

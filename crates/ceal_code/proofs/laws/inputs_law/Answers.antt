@@ -1,0 +1,5 @@
+use Rattle.ceal_code.proofs.Ends.{inputs-law}
+use Rattle.ceal_code.proofs.laws.inputs_law.Goals as goal
+
+pub returns : goal.returns
+returns c = record { law = inputs-law }

@@ -1,0 +1,4 @@
+pub mod CellsLemmas
+pub mod TallyLemmas
+pub mod TableLemmas
+pub mod HeapLemmas

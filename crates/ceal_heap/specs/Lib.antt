@@ -1,0 +1,4 @@
+pub mod Cells
+pub mod Stack
+pub mod Table
+pub mod Heap

@@ -1,0 +1,165 @@
+-- The table of numbers: how each of them stands, those that were revoked, and for each shape those that are free.
+use Rattle.std.specs.Prelude.{◌≡◌, ◌≢◌, ◌⊎◌, ℕ, ◌+◌, ◌*◌, ◌<◌, ◌≤◌, ◌^◌, ◌==◌, ◌&&◌, Bool, true, false, List, [], ◌∷◌, ◌++◌, length, Option, Some, None, slice_get, slice_set, slice_index_or}
+use Rattle.ceal_base.specs.declared.kind.Shape.{Shape}
+use Rattle.ceal_base.specs.declared.kind.Shape.TheVariants.{Struct, ModInt, ModPtr}
+use Rattle.ceal_heap.specs.Stack.{Pile}
+use Rattle.ceal_heap.specs.declared.number.Held.{Held}
+use Rattle.ceal_heap.specs.declared.number.Number.{Number}
+use Rattle.ceal_heap.specs.declared.number.State.{State}
+use Rattle.ceal_heap.specs.declared.number.State.TheVariants.{Live, Revoked, Released}
+use Rattle.ceal_heap.specs.declared.shelf.Shelf.{Shelf}
+
+-- what the table has: the numbers from 0 on and the room for them, those that were revoked, a shelf for each shape, and how many are live
+pub record Ledger : Type 0 where
+  pub numbers : List Number
+  pub room : ℕ
+  pub limbo : Pile
+  pub shelves : List Shelf
+  pub live : ℕ
+
+-- which shelf is that of a shape
+abbrev pub shelf_of : Shape → ℕ
+shelf_of ModInt = 0
+shelf_of (Struct s) = 2 * s + 1
+shelf_of (ModPtr s) = 2 * s + 2
+
+-- what is kept of a block, of a live one and of a revoked one alike
+abbrev pub held_in : State → Option Held
+held_in (Live held) = Some held
+held_in (Revoked held) = Some held
+held_in Released = None
+
+-- the state of a live block that is revoked
+abbrev pub revoked_state : State → State
+revoked_state (Live held) = Revoked held
+revoked_state (Revoked held) = Revoked held
+revoked_state Released = Released
+
+abbrev pub held_of : Option Number → Option Held
+held_of None = None
+held_of (Some number) = held_in number.state
+
+abbrev pub held_at : List Number → ℕ → Option Held
+held_at numbers n = held_of (slice_get numbers n)
+
+-- the states of numbers, as tests
+abbrev pub state_is_live : State → Bool
+state_is_live (Live held) = true
+state_is_live (Revoked held) = false
+state_is_live Released = false
+
+abbrev pub state_is_revoked : State → Bool
+state_is_revoked (Live held) = false
+state_is_revoked (Revoked held) = true
+state_is_revoked Released = false
+
+abbrev pub state_is_released : State → Bool
+state_is_released (Live held) = false
+state_is_released (Revoked held) = false
+state_is_released Released = true
+
+abbrev pub is_live : Number → Bool
+is_live number = state_is_live number.state
+
+abbrev pub is_revoked : Number → Bool
+is_revoked number = state_is_revoked number.state
+
+-- a number of the shelf's shape, and one that is free besides
+abbrev pub is_shaped : ℕ → Number → Bool
+is_shaped k number = shelf_of number.shape == k
+
+abbrev pub is_released : ℕ → Number → Bool
+is_released k number = is_shaped k number && state_is_released number.state
+
+-- 1 for a number that passes the test
+abbrev pub one_if : Bool → ℕ
+one_if true = 1
+one_if false = 0
+
+abbrev pub mark : (Number → Bool) → Option Number → ℕ
+mark test None = 0
+mark test (Some number) = one_if (test number)
+
+-- how many numbers pass the test
+abbrev pub tally : (Number → Bool) → List Number → ℕ
+tally test [] = 0
+tally test (number ∷ numbers) = one_if (test number) + tally test numbers
+
+-- how often a number stands in a list
+abbrev pub times : ℕ → List ℕ → ℕ
+times n [] = 0
+times n (m ∷ ms) = one_if (m == n) + times n ms
+
+-- the list has exactly the numbers that pass the test, each once
+pub record Tracks (test : Number → Bool) (ns : List ℕ) (numbers : List Number) : Type 0 where
+  pub each : (n : ℕ) → times n ns ≡ mark test (slice_get numbers n)
+  pub all : length ns ≡ tally test numbers
+
+-- a shelf that is not there has nothing
+abbrev pub bare : Shelf
+bare = record { free = record { items = []; room = 0 }; made = 0 }
+
+abbrev pub shelf_at : List Shelf → ℕ → Shelf
+shelf_at shelves k = slice_index_or shelves k bare
+
+-- how the parts of a table fit together
+pub record IsSound (t : Ledger) : Type 0 where
+  pub few : length t.numbers < 2 ^ 32
+  pub live : t.live ≡ tally is_live t.numbers
+  pub limbo : Tracks is_revoked t.limbo.items t.numbers
+  pub limbo_room : length t.numbers ≤ t.limbo.room
+  pub free : (k : ℕ) → Tracks (is_released k) (shelf_at t.shelves k).free.items t.numbers
+  pub made : (k : ℕ) → (shelf_at t.shelves k).made ≡ tally (is_shaped k) t.numbers
+  pub room : (k : ℕ) → (shelf_at t.shelves k).made ≤ (shelf_at t.shelves k).free.room
+
+-- a number can be added for the shelf without taking memory
+pub record HasRoom (k : ℕ) (t : Ledger) : Type 0 where
+  pub few : length t.numbers + 1 < 2 ^ 32
+  pub numbers : length t.numbers < t.room
+  pub limbo : length t.numbers < t.limbo.room
+  pub shelf : k < length t.shelves
+  pub free : (shelf_at t.shelves k).made < (shelf_at t.shelves k).free.room
+  pub none_free : (shelf_at t.shelves k).free.items ≡ []
+
+-- a number can be given out for the shelf without taking memory
+abbrev pub IsReady : ℕ → Ledger → Type 0
+IsReady k t = (0 < length (shelf_at t.shelves k).free.items) ⊎ HasRoom k t
+
+-- the number is that of a live block
+abbrev pub IsLiveAt : List Number → ℕ → Type 0
+IsLiveAt numbers n = (shape : Shape) × (held : Held) × (slice_get numbers n ≡ Some (record { shape = shape; state = Live held }))
+
+-- no number of the shape is free
+abbrev pub NoneFree : List Number → Shape → Type 0
+NoneFree numbers shape = (n : ℕ) → slice_get numbers n ≢ Some (record { shape = shape; state = Released })
+
+-- a free number of the shape was given to a block
+pub record Reuses (before after : List Number) (shape : Shape) (held : Held) (n : ℕ) : Type 0 where
+  pub was : slice_get before n ≡ Some (record { shape = shape; state = Released })
+  pub now : after ≡ slice_set before n (record { shape = shape; state = Live held })
+
+-- a number more was given to a block
+pub record Adds (before after : List Number) (shape : Shape) (held : Held) (n : ℕ) : Type 0 where
+  pub next : n ≡ length before
+  pub none_free : NoneFree before shape
+  pub now : after ≡ before ++ record { shape = shape; state = Live held } ∷ []
+
+abbrev pub GivesOut : List Number → List Number → Shape → Held → ℕ → Type 0
+GivesOut before after shape held n = Reuses before after shape held n ⊎ Adds before after shape held n
+
+-- a live number was revoked
+abbrev pub Revokes : List Number → List Number → ℕ → Type 0
+Revokes before after n = (shape : Shape) × (held : Held) × (slice_get before n ≡ Some (record { shape = shape; state = Live held }))
+    × (after ≡ slice_set before n (record { shape = shape; state = Revoked held }))
+
+-- a revoked number was released, and this is what was kept of its block
+abbrev pub Releases : List Number → List Number → Held → Type 0
+Releases before after held = (n : ℕ) × (shape : Shape) × (slice_get before n ≡ Some (record { shape = shape; state = Revoked held }))
+    × (after ≡ slice_set before n (record { shape = shape; state = Released }))
+
+abbrev pub NoneRevoked : List Number → Type 0
+NoneRevoked numbers = (n : ℕ) (shape : Shape) (held : Held) → slice_get numbers n ≢ Some (record { shape = shape; state = Revoked held })
+
+-- the shelves have the free numbers that they had, and as many numbers were made
+abbrev pub SameShelves : List Shelf → List Shelf → Type 0
+SameShelves before after = (k : ℕ) → ((shelf_at after k).free.items ≡ (shelf_at before k).free.items) × ((shelf_at after k).made ≡ (shelf_at before k).made)

@@ -1,0 +1,150 @@
+// The heap.
+
+ghost use Rattle.std.specs.Prelude.{◌≡◌, ◌+◌, ◌≤◌, false, None, length, IsSome, IfSome, IfOk, OnOk, OnErr, IsTrue};
+ghost use Rattle.ceal_heap.specs.Heap.{standing, block_of, plain_of, word_at, live_count, revoked_count, revoked, number_of, IsLive, IsMade, IsFreeFor, KeepsBlocks, ReleasesRevoked, ReleasesAlike, IsUnchanged, HasSlots, IsNew};
+
+use crate::number::Held;
+use crate::pieces::Pieces;
+use crate::table::Table;
+use ceal_base::forest::Key;
+use ceal_base::kind::Shape;
+use ceal_base::no_memory::NoMemory;
+use ceal_base::word::{BlockId, Word};
+use std::alloc::Global;
+use std::marker::Model;
+
+/// The core blocks, each with its shape, its key and its words. A live block that is revoked can be read until the
+/// revoked blocks are released; its number is given out again only then, and only to blocks of its shape. All memory
+/// is taken by `make`.
+#[derive(Drop)]
+pub struct Heap {
+    table: Table,
+    pieces: Pieces,
+}
+
+impl Model for Heap {
+    ghost use Rattle.ceal_heap.specs.Table.{held_at};
+    ghost use Rattle.ceal_heap.specs.Heap.{Contents, IsKept};
+
+    ghost Value = { Contents };
+
+    ghost view = { λ h. record { numbers = h.table.numbers; region = h.pieces } };
+
+    ghost invariant = { λ h. IsKept (held_at h.table.numbers) h.pieces };
+}
+
+impl Heap {
+    /// No block was made.
+    pub fn new(alloc: Global) -> Result<Heap, NoMemory>
+        ensures new { IfOk result (λ heap. IsNew heap) }
+        ensures slots { IfOk result (λ heap. HasSlots heap) }
+    {
+        let pieces = Pieces::new(alloc)?;
+        let table = Table::new(alloc);
+        Ok(Heap { table, pieces })
+    }
+
+    /// Makes a block of at most 255 words. It gets the number of a released block of its shape, or else the next
+    /// number. `NoMemory` also comes where 2^32 - 1 numbers were given out and none of the shape is free.
+    pub fn make(&mut self, shape: Shape, key: Key, words: &[Word]) -> Result<BlockId, NoMemory>
+        requires few { length words.now ≤ 255 }
+        ensures new { IfOk result (λ block. block_of self.old block ≡ None) }
+        ensures free { IfOk result (λ block. IsFreeFor shape self.old block) }
+        ensures made { IfOk result (λ block. IsMade self.new block shape key words.now) }
+        ensures others { IfOk result (λ block. KeepsBlocks block self.old self.new) }
+        ensures count { OnOk result (live_count self.new ≡ live_count self.old + 1) }
+        ensures err { OnErr result (IsUnchanged self.old self.new) }
+        ensures slots { HasSlots self.new }
+    {
+        self.table.prepare(shape)?;
+        let slot = self.pieces.put(words)?;
+        let fields = words.len() as u32;
+        let held = Held { key, slot, fields };
+        Ok(BlockId::Core(self.table.give_out(shape, held)))
+    }
+
+    /// A word of a live or revoked block. Past its words it is the number 0.
+    pub fn field(&self, block: BlockId, index: u32) -> Word
+        requires known { IsSome (block_of self.now block) }
+        ensures word { IfSome (plain_of self.now block) (λ b. result ≡ word_at b.words index) }
+    {
+        let held = self.table.held(number_of(block));
+        if index < held.fields {
+            self.pieces.word(&held.slot, index)
+        } else {
+            Word::Num(0)
+        }
+    }
+
+    /// The shape of a live or revoked block.
+    pub fn shape(&self, block: BlockId) -> Shape
+        requires known { IsSome (block_of self.now block) }
+        ensures shape { IfSome (plain_of self.now block) (λ b. result ≡ b.shape) }
+    {
+        self.table.shape(number_of(block))
+    }
+
+    /// The key of a live or revoked block.
+    pub fn key(&self, block: BlockId) -> &Key
+        requires known { IsSome (block_of self.now block) }
+        ensures key { IfSome (block_of self.now block) (λ b. result.now ≡ b.key) }
+    {
+        let held = self.table.held(number_of(block));
+        &held.key
+    }
+
+    /// Revokes a live block. It can still be read.
+    pub fn revoke(&mut self, block: BlockId)
+        requires live { IsLive self.old block }
+        ensures revoked { standing self.new block ≡ revoked (standing self.old block) }
+        ensures others { KeepsBlocks block self.old self.new }
+        ensures region { self.new.region ≡ self.old.region }
+        ensures count { live_count self.new + 1 ≡ live_count self.old }
+        ensures slots { HasSlots self.new }
+    {
+        self.table.revoke(number_of(block));
+    }
+
+    /// Takes all revoked blocks away. Their slots go back, and their numbers can be given out again.
+    pub fn release_revoked(&mut self)
+        ensures released { ReleasesRevoked self.old self.new }
+        ensures count { live_count self.new ≡ live_count self.old }
+        ensures slots { HasSlots self.new }
+    {
+        while self.release_one() {}
+    }
+
+    // Takes one revoked block away, if there is one.
+    fn release_one(&mut self) -> bool
+        ensures alike { ReleasesAlike self.old self.new }
+        ensures fewer { IsTrue result → revoked_count self.new + 1 ≡ revoked_count self.old }
+        ensures none { result ≡ false → ReleasesRevoked self.new self.new }
+        ensures count { live_count self.new ≡ live_count self.old }
+        ensures slots { HasSlots self.new }
+    {
+        match self.table.release_one() {
+            None => false,
+            Some(held) => {
+                self.pieces.give(held.into_slot());
+                true
+            }
+        }
+    }
+
+    /// How many blocks are live.
+    pub fn live_count(&self) -> u32
+        ensures { result ≡ live_count self.now }
+    {
+        self.table.live()
+    }
+}
+
+// The number of a block.
+fn number_of(block: BlockId) -> u32
+    ensures { result ≡ number_of block }
+{
+    match block {
+        BlockId::Input(number) => number,
+        BlockId::Core(number) => number,
+    }
+}

@@ -1,0 +1,48 @@
+-- Where the parser's answers leave a reading.
+use Rattle.std.specs.Prelude.{Bool, true, false, Option, Some, None}
+use Rattle.ceal_lex.specs.declared.token.Sign.{Sign}
+use Rattle.ceal_grammar.specs.declared.state.Inside.{Inside}
+use Rattle.ceal_grammar.specs.declared.state.Mode.{Mode}
+use Rattle.ceal_grammar.specs.declared.state.Mode.TheVariants as Modes
+use Rattle.ceal_grammar.specs.declared.state.Place.{Place}
+use Rattle.ceal_grammar.specs.declared.state.Place.TheVariants.{Have}
+use Rattle.ceal_grammar.specs.declared.state.State.{State}
+use Rattle.ceal_grammar.specs.declared.state.State.TheVariants.{Top, In}
+use Rattle.ceal_grammar.specs.declared.state.Whole.{Whole}
+use Rattle.ceal_grammar.specs.Machine.{within, received}
+use Rattle.ceal_parse.specs.declared.turn.Part.{Part}
+use Rattle.ceal_parse.specs.declared.turn.Part.TheVariants as Parts
+use Rattle.ceal_parse.specs.declared.turn.Turn.{Turn}
+use Rattle.ceal_parse.specs.declared.turn.Turn.TheVariants as Turns
+
+-- Where the reading stands behind the sign c, at which the whole expression w has ended with the operand at p.
+abbrev pub ended : Inside → Whole → Place → Sign → Option State
+ended i w (Have p) c = received i w.nesting w.receiver p.expr c
+ended i w _ c = None
+
+-- Where the reading stands behind a token within a whole expression.
+abbrev pub part_state : Inside → Whole → Place → Part → Option State
+part_state i w p Parts.Refused = None
+part_state i w p Parts.On = Some (within i w p)
+part_state i w p (Parts.Ended c) = ended i w p c
+
+-- The same of a place within a body.
+abbrev pub mode_ended : Inside → Mode → Sign → Option State
+mode_ended i (Modes.Within w p) c = ended i w p c
+mode_ended i _ c = None
+
+-- The place is within a whole expression.
+abbrev pub is_within : Mode → Bool
+is_within (Modes.Within w p) = true
+is_within _ = false
+
+-- The place is within the body of a function.
+abbrev pub is_inside : State → Bool
+is_inside (In i m) = true
+is_inside _ = false
+
+-- Where the reading stands behind a token within a body.
+abbrev pub turn_state : Inside → Mode → Turn → Option State
+turn_state i m Turns.Refused = None
+turn_state i m Turns.On = Some (In i m)
+turn_state i m Turns.Closed = Some (Top i.entries)

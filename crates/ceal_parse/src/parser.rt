@@ -1,0 +1,197 @@
+// The parser: a program that is being read.
+
+ghost use Rattle.std.specs.Prelude.{◌≡◌, ◌≤◌, [], true, false, IfOk, MatchResult, Ok};
+ghost use Rattle.ceal_base.specs.Answers.{Fails};
+ghost use Rattle.ceal_grammar.specs.Judged.{advanced, tested, entries_of, code_at, fault_at};
+ghost use Rattle.ceal_grammar.specs.Machine.{at_part, at_top, nesting_of, operators_of, step, wants};
+ghost use Rattle.ceal_parse.specs.Reading.{is_inside};
+
+use crate::body::take_mode;
+use crate::head::take_head;
+use crate::limits::{item, nesting, operators};
+use crate::marks::same_word;
+use crate::structs::take_struct;
+use crate::turn::{Turn, put};
+use ceal_base::fault::{Fault, FaultCode, FrontError};
+use ceal_base::items::Items;
+use ceal_base::no_memory::NoMemory;
+use ceal_base::syntax::Entry;
+use ceal_grammar::state::{HeadPlace, State, StructPlace};
+use ceal_lex::token::{Reserved, Token, TokenKind};
+use std::alloc::Global;
+use std::mem;
+
+fn take_part(entries: Items<Entry>, word: Reserved) -> Option<State>
+    ensures value { result ≡ at_part entries word }
+{
+    if same_word(word, Reserved::Struct) {
+        Some(State::Struct(entries, StructPlace::Begun))
+    } else if same_word(word, Reserved::Ceal) {
+        Some(State::Head(entries, HeadPlace::Ceal))
+    } else if same_word(word, Reserved::Init) {
+        Some(State::Head(entries, HeadPlace::Init))
+    } else {
+        drop(entries);
+        None
+    }
+}
+
+/// The beginning of an entry, or the end of the program.
+fn take_top(entries: Items<Entry>, token: &Token) -> Option<State>
+    ensures value { result ≡ at_top entries token.now.kind }
+{
+    match token.kind {
+        TokenKind::End => Some(State::Finished(entries)),
+        TokenKind::Reserved(word) => take_part(entries, word),
+        _ => {
+            drop(entries);
+            None
+        }
+    }
+}
+
+/// A token within no body.
+fn take_outside(alloc: Global, state: State, token: &Token) -> Result<Option<State>, NoMemory>
+    requires outside { is_inside state ≡ false }
+    ensures value { IfOk result (λ next. next ≡ step state token.now) }
+{
+    match state {
+        State::Top(entries) => Ok(take_top(entries, token)),
+        State::Struct(entries, place) => {
+            let next = take_struct(alloc, entries, place, token)?;
+            Ok(next)
+        }
+        State::Head(entries, place) => {
+            let next = take_head(alloc, entries, place, token)?;
+            Ok(next)
+        }
+        State::In(_, _) => unreachable!(),
+        State::Finished(entries) => {
+            drop(entries);
+            Ok(None)
+        }
+    }
+}
+
+/// The fault at a token with which no program goes on.
+fn code(token: &Token) -> FaultCode
+    ensures value { result ≡ code_at token.now.kind }
+{
+    match token.kind {
+        TokenKind::End => FaultCode::S5,
+        TokenKind::Cut => FaultCode::S5,
+        _ => FaultCode::S3,
+    }
+}
+
+fn fault(code: FaultCode, token: &Token) -> FrontError
+    ensures value { result ≡ FrontError.Fault (fault_at code token.now) }
+{
+    FrontError::Fault(Fault {
+        code,
+        span: token.span,
+    })
+}
+
+/// A program that is being read, token by token. After an error nothing is said of where the reading stands.
+#[derive(Drop)]
+pub struct Parser {
+    alloc: Global,
+    state: State,
+}
+
+impl Parser {
+    /// Nothing was read.
+    pub fn new(alloc: Global) -> Parser
+        ensures value { result.state ≡ State.Top [] }
+    {
+        Parser {
+            alloc,
+            state: State::Top(Items::empty(alloc)),
+        }
+    }
+
+    /// A token within no body: whether a program goes on so.
+    fn step_outside(&mut self, token: &Token) -> Result<bool, NoMemory>
+        requires outside { is_inside self.old.state ≡ false }
+        ensures value { IfOk result (λ on. wants on self.new.state ≡ step self.old.state token.now) }
+    {
+        let state = mem::replace(&mut self.state, State::Top(Items::empty(self.alloc)));
+        match take_outside(self.alloc, state, token)? {
+            Some(next) => {
+                put(&mut self.state, next);
+                Ok(true)
+            }
+            None => Ok(false),
+        }
+    }
+
+    /// Takes a token: whether a program goes on so.
+    fn step(&mut self, token: &Token) -> Result<bool, NoMemory>
+        requires shallow { nesting_of self.old.state ≤ 64 }
+        requires few { operators_of self.old.state ≤ 255 }
+        ensures value { IfOk result (λ on. wants on self.new.state ≡ step self.old.state token.now) }
+    {
+        let alloc = self.alloc;
+        match &mut self.state {
+            State::In(inside, mode) => match take_mode(alloc, inside, mode, token)? {
+                Turn::Refused => Ok(false),
+                Turn::On => Ok(true),
+                Turn::Closed => {
+                    let entries = mem::replace(&mut inside.entries, Items::empty(alloc));
+                    put(&mut self.state, State::Top(entries));
+                    Ok(true)
+                }
+            },
+            _ => {
+                let on = self.step_outside(token)?;
+                Ok(on)
+            }
+        }
+    }
+
+    /// Whether the token, which was taken last and begins the item of this number, keeps the limits.
+    fn test(&self, item: usize, token: &Token) -> Result<(), FrontError>
+        ensures value { MatchResult result (λ _. tested item token.now self.now.state ≡ Ok self.now.state)
+            (λ error. Fails error (tested item token.now self.now.state)) }
+    {
+        if nesting(&self.state) >= 65 {
+            Err(fault(FaultCode::S4, token))
+        } else if item >= 256 {
+            Err(fault(FaultCode::S6, token))
+        } else if operators(&self.state) >= 256 {
+            Err(fault(FaultCode::S6, token))
+        } else {
+            Ok(())
+        }
+    }
+
+    /// Takes a token, or answers the fault at it.
+    pub fn advance(&mut self, token: &Token) -> Result<(), FrontError>
+        requires shallow { nesting_of self.old.state ≤ 64 }
+        requires few { operators_of self.old.state ≤ 255 }
+        ensures value { MatchResult result (λ _. advanced self.old.state token.now (step self.old.state token.now) ≡ Ok self.new.state)
+            (λ error. Fails error (advanced self.old.state token.now (step self.old.state token.now))) }
+    {
+        let item = item(&self.state, token);
+        match self.step(token) {
+            Ok(true) => {
+                self.test(item, token)?;
+                Ok(())
+            }
+            Ok(false) => Err(fault(code(token), token)),
+            Err(NoMemory) => Err(FrontError::Memory),
+        }
+    }
+
+    /// The entries of a finished program, taken out of the parser.
+    pub fn take_entries(&mut self) -> Option<Items<Entry>>
+        ensures value { result ≡ entries_of self.old.state }
+    {
+        let alloc = self.alloc;
+        match &mut self.state {
+            State::Finished(entries) => Some(mem::replace(entries, Items::empty(alloc))),
+            _ => None,
+        }
+    }
+}

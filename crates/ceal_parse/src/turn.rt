@@ -1,0 +1,47 @@
+// What the parser answers of a token, and how values change places.
+
+ghost use Rattle.std.specs.Prelude.{◌≡◌, IfOk};
+
+use ceal_base::boxed::Boxed;
+use ceal_base::no_memory::NoMemory;
+use ceal_lex::token::Sign;
+use std::alloc::Global;
+
+/// A token within a whole expression.
+#[derive(Clone, Copy)]
+pub enum Part {
+    /// no program goes on so
+    Refused,
+    /// the expression goes on
+    On,
+    /// the expression has ended with the operand that was read, and this sign stands behind it
+    Ended(Sign),
+}
+
+/// A token within a body.
+#[derive(Clone, Copy)]
+pub enum Turn {
+    /// no program goes on so
+    Refused,
+    /// the body goes on
+    On,
+    /// the function has ended, and stands behind the entries before it
+    Closed,
+}
+
+/// Puts the value at the place, and drops the one that stood there.
+pub fn put<T: Drop>(place: &mut T, value: T)
+    ensures value { place.new ≡ value }
+{
+    *place = value;
+}
+
+/// Both values on the heap.
+pub fn boxed<T: Drop>(alloc: Global, first: T, second: T) -> Result<(Boxed<T>, Boxed<T>), NoMemory>
+    ensures first { IfOk result (λ both. both.0 ≡ first) }
+    ensures second { IfOk result (λ both. both.1 ≡ second) }
+{
+    let first = Boxed::new(alloc, first)?;
+    let second = Boxed::new(alloc, second)?;
+    Ok((first, second))
+}

@@ -1,0 +1,16 @@
+//! The tests of the runtime's containers: order maintenance, traces, modifiables, the queue, the memo tables and raw
+//! words, by public calls alone. No crate stands on this one.
+#![tactic(auto)]
+
+#[cfg(test)]
+mod memo;
+#[cfg(test)]
+mod mods;
+#[cfg(test)]
+mod order;
+#[cfg(test)]
+mod queue;
+#[cfg(test)]
+mod trace;
+#[cfg(test)]
+mod words;

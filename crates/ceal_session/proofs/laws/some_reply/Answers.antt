@@ -1,0 +1,7 @@
+use Rattle.ceal_session.proofs.SomeReply.{begun-stands, some-reply, some-script}
+use Rattle.ceal_session.proofs.laws.some_reply.Goals as goal
+
+pub returns : goal.returns
+returns c =
+    let reply = some-reply c.progress_law.ensures.law c.command_or_none.ensures c.fitting_is_whole.ensures.law c.some_text.ensures.law in
+    record { begun = begun-stands; reply = reply; script = some-script reply }

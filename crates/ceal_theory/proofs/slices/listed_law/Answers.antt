@@ -1,0 +1,5 @@
+use Rattle.ceal_theory.proofs.Listed.{listed-law}
+use Rattle.ceal_theory.proofs.slices.listed_law.Goals as goal
+
+pub returns : goal.returns
+returns c = record { law = listed-law }
