@@ -1,5 +1,5 @@
 -- Steps of the machine as the code keeps it.
-use Rattle.std.proofs.Common.{◌≡◌, ℕ, Bool, false, Some, None, List, [], ◌∷◌, ◌++◌, ◌+◌, drop, reverse, refl, ap, ◌∙◌, Result, Ok, Err, IfOk}
+use Rattle.std.proofs.Common.{◌≡◌, ℕ, Bool, false, Some, None, List, [], ◌∷◌, ◌++◌, ◌+◌, drop, reverse, refl, ap, sym, ◌∙◌, Result, Ok, Err, IfOk}
 use Rattle.std.proofs.lemmas.List.{reverse-append}
 use Rattle.ceal_base.specs.Operators.{same_word}
 use Rattle.ceal_base.specs.declared.forest.Item.{Item}
@@ -126,3 +126,6 @@ pub machine-work : (mode : CodeMode) (s : State) (stack : CodeStack) (n : ℕ) (
 unfolding machine_of
 machine-work IsFixing s stack n fs is = refl
 machine-work IsRunning s stack n fs is = refl
+
+pub work-in : (r : Repair) (work : ℕ) → work ≡ (state_in r).work → (machine_in r).state.work ≡ work
+work-in r work e = machine-work r.mode (state_in r) r.stack r.levels r.frames.items (drop r.rest r.items) ∙ sym e

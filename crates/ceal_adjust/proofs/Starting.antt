@@ -21,10 +21,10 @@ use Rattle.ceal_adjust.specs.declared.adjust.Adjusted.{Adjusted}
 use Rattle.ceal_adjust.specs.declared.frame.Mode.TheVariants.{Fixing as IsFixing, Running as IsRunning}
 
 pub first-begins : (code : Code) (inputs : List Block) (f : ℕ) (args : List Word) (x : Plain) (s : Store) (stack : CodeStack) (is : List Item)
-    → s ≡ bases code inputs → x ≡ input_plain code inputs → stack_in stack ≡ started code f args → is ≡ []
+    → s ≡ bases code inputs → x ≡ input_plain code inputs → stack_in stack ≡ started code f args
     → machine_of IsRunning (record { store = s; plain = x; number = 0; work = 0 }) stack 0 [] is ≡ begin code inputs f args
 unfolding machine_of
-first-begins code inputs f args x s stack is e k l o = rw (e, k, l, o) refl
+first-begins code inputs f args x s stack is e k l = rw (e, k, l) refl
 
 pub fix-begins : (code : Code) (inputs : List Block) (l : Trace) (number : ℕ) (forest : List Item) (x y : Plain) (s : Store) (stack : CodeStack) → forest ≡ flat l → s ≡ bases code inputs
     → y ≡ input_plain code inputs → x ≡ plain_flat code y forest

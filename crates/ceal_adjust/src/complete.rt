@@ -61,11 +61,12 @@ pub fn complete(alloc: Global, repair: Repair<'_>, fuel: u32) -> Result<Adjusted
     let mut out = Vec::new(alloc);
     let mut steps: u32 = 0;
     for _turn in 0..u64::MAX {
+        let before = repair.work();
         match repair.turn()? {
             Turn::Ended => {
                 return Ok(Adjusted::Done {
                     forest: Forest::new(out),
-                    work: repair.work(),
+                    work: before,
                 });
             }
             Turn::Went { stepped, item } => {

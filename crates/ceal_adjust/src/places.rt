@@ -28,7 +28,7 @@ impl Places {
     }
 
     /// With one place more.
-    #[tactic(auto, unfolding(crate::specs::Places::listed))]
+    #[tactic(auto, unfolding(crate::specs::Places::listed, crate::specs::Marks::same_mark))]
     pub fn add(&mut self, alloc: Global, mark: Mark, at: usize) -> Result<(), NoMemory>
         ensures added { OnOk result ((m : AnyMark) → listed self.new m ≡ (if same_mark mark m then listed self.old m ++ at ∷ [] else listed self.old m)) }
     {

@@ -1,5 +1,5 @@
-use Rattle.std.proofs.Common.{◌∙◌}
-use Rattle.ceal_code.specs.Tables.{plain_in, store_in}
+use Rattle.std.proofs.Common.{◌∙◌, ap, sym}
+use Rattle.ceal_code.specs.Tables.{plain_in, plain_flat, store_in}
 use Rattle.ceal_adjust.proofs.Completing.{begin-fix, adjust-answer}
 use Rattle.ceal_adjust.proofs.Starting.{fix-begins, answered-by}
 use Rattle.ceal_adjust.specs.Machines.{code_of, machine_in}
@@ -13,6 +13,8 @@ returns c = record {
       (c.new-repair.ensures.machine
       ∙ fix-begins c.args.code.now c.args.inputs.now l c.args.next c.in_ok-old.old (plain_in c.learn_items.new.self) (plain_in c.new-memory.result) (store_in c.learn_items.new.self) c.empty.result
           (c.in_ok-old.ensures.value ∙ (c.items-2.ensures.value ∙ flat)) (c.in_ok-learn_items.ensures.store ∙ c.new-memory.ensures.store) c.new-memory.ensures.plain
-          (rw (c.new-memory.ensures.code, c.items.ensures.value, ← c.items-2.ensures.value, ← c.in_ok-old.ensures.value) at c.in_ok-learn_items.ensures.plain))
+          (c.in_ok-learn_items.ensures.plain
+          ∙ (ap (λ k. plain_flat k (plain_in c.new-memory.result) c.items.result.now) c.new-memory.ensures.code
+          ∙ ap (plain_flat c.args.code.now (plain_in c.new-memory.result)) (c.items.ensures.value ∙ (sym c.items-2.ensures.value ∙ sym c.in_ok-old.ensures.value)))))
       c.in_ok-answer.ensures);
 }
