@@ -102,7 +102,7 @@ make-bare old new key v u i env block at n m rest state stack find =
     (machine-by new IsRunning (clears (code_of old) (works (state_in old)) block key) new.stack n old.frames.items (drop at old.items)
     (ap (λ r. r.mode) rest ∙ m) state refl (ap (λ r. r.levels) rest) (ap (λ r. r.frames.items) rest) (ap (λ r. drop r.rest r.items) rest))
     ∙ make-taken (code_of old) (state_in old) (clears (code_of old) (works (state_in old)) block key) old.frames.items (drop old.rest old.items) old.levels key v u i env (stack_in old.stack)
-        (record { block = block; rest = drop at old.items; levels = n }) new.stack find stack refl
+    (record { block = block; rest = drop at old.items; levels = n }) new.stack find stack refl
 
 -- a block is taken, in code
 pub make-some : (old stepped new : Repair) (key : Key) (v u i : ℕ) (env : Variables) (block : BlockId) (at n : ℕ) → old.mode ≡ IsRunning

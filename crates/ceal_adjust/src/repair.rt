@@ -96,7 +96,11 @@ impl<'a> Repair<'a> {
     ) -> Repair<'a>
         ensures code { code_of result ≡ code_in memory.entry }
         ensures machine { machine_in result ≡ machine_of mode (record {
-            store = store_in memory.entry; plain = plain_in memory.entry; number = number; work = 0 })
+          store = store_in memory.entry;
+          plain = plain_in memory.entry;
+          number = number;
+          work = 0;
+        })
             stack 0 [] items.entry }
     {
         let alloc = stack.allocator();
@@ -153,10 +157,11 @@ impl<'a> Repair<'a> {
     fn open(&mut self, closure: &Closure, same: bool, now: Word) -> Result<(), NoMemory>
         ensures code { OnOk result (code_of self.new ≡ code_of self.old) }
         ensures machine { OnOk result (machine_in self.new ≡ record {
-            state = state_in self.old;
-            mode = opened (code_of self.old) same closure.now.unit closure.now.var closure.now.args
-                now (first (ahead self.old));
-            frames = frames_in (reverse self.old.frames.items) (around (ahead self.old)) }) }
+          state = state_in self.old;
+          mode = opened (code_of self.old) same closure.now.unit closure.now.var closure.now.args
+              now (first (ahead self.old));
+          frames = frames_in (reverse self.old.frames.items) (around (ahead self.old));
+        }) }
     {
         if same {
             self.mode = Mode::Fixing;

@@ -155,7 +155,7 @@ pub fn find_value(
     ensures value { IfOk result (λ found. MatchOption found
         (find_closure closure.now levels (drop rest old.now) ≡ None)
         (λ f. find_closure closure.now levels (drop rest old.now)
-            ≡ Some (record { value = f.value; rest = drop f.rest old.now; levels = f.levels }))) }
+        ≡ Some (record { value = f.value; rest = drop f.rest old.now; levels = f.levels }))) }
 {
     let Some(spot) = seek_value(old, rest, levels, closure)? else {
         return Ok(None);

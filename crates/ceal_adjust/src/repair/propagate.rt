@@ -21,7 +21,7 @@ impl<'a> Repair<'a> {
             (state_in self.old)
             (frames_in (reverse self.old.frames.items) (around (around (ahead self.old))))
             (Was_read closure.place value closure.unit closure.var closure.args
-                (first (ahead self.old)) (first (around (ahead self.old))))) }
+            (first (ahead self.old)) (first (around (ahead self.old))))) }
     {
         let now = self.memory.value(closure.place);
         self.frames.push(Frame::Fix)?;
@@ -37,7 +37,7 @@ impl<'a> Repair<'a> {
         ensures turn { IfOk result (λ t. turn_in t (machine_in self.new) ≡ fixing (code_of self.old)
             (state_in self.old)
             (frames_in (reverse self.old.frames.items)
-                (around (levels_of (item.now ∷ drop self.old.rest self.old.items))))
+            (around (levels_of (item.now ∷ drop self.old.rest self.old.items))))
             (first (levels_of (item.now ∷ drop self.old.rest self.old.items)))) }
     {
         match item {

@@ -70,7 +70,13 @@ impl<'a> Repair<'a> {
                 self.rest = found.rest;
                 self.levels = found.levels;
                 self.go_on_with(&key, var, unit, found.block)?;
-                Ok(wrote(true, Item::Alloc { block: found.block, key }))
+                Ok(wrote(
+                    true,
+                    Item::Alloc {
+                        block: found.block,
+                        key,
+                    },
+                ))
             }
             None => {
                 let block = BlockId::Core(self.number);

@@ -12,9 +12,9 @@ returns c = record {
       (c.new-repair.ensures.code ∙ (c.in_ok-learn_items.ensures.code ∙ c.new-memory.ensures.code))
       (c.new-repair.ensures.machine
       ∙ fix-begins c.args.code.now c.args.inputs.now l c.args.next c.in_ok-old.old (plain_in c.learn_items.new.self) (plain_in c.new-memory.result) (store_in c.learn_items.new.self) c.empty.result
-          (c.in_ok-old.ensures.value ∙ (c.items-2.ensures.value ∙ flat)) (c.in_ok-learn_items.ensures.store ∙ c.new-memory.ensures.store) c.new-memory.ensures.plain
-          (c.in_ok-learn_items.ensures.plain
-          ∙ (ap (λ k. plain_flat k (plain_in c.new-memory.result) c.items.result.now) c.new-memory.ensures.code
-          ∙ ap (plain_flat c.args.code.now (plain_in c.new-memory.result)) (c.items.ensures.value ∙ (sym c.items-2.ensures.value ∙ sym c.in_ok-old.ensures.value)))))
+      (c.in_ok-old.ensures.value ∙ (c.items-2.ensures.value ∙ flat)) (c.in_ok-learn_items.ensures.store ∙ c.new-memory.ensures.store) c.new-memory.ensures.plain
+      (c.in_ok-learn_items.ensures.plain
+      ∙ (ap (λ k. plain_flat k (plain_in c.new-memory.result) c.items.result.now) c.new-memory.ensures.code
+      ∙ ap (plain_flat c.args.code.now (plain_in c.new-memory.result)) (c.items.ensures.value ∙ (sym c.items-2.ensures.value ∙ sym c.in_ok-old.ensures.value)))))
       c.in_ok-answer.ensures);
 }

@@ -12,6 +12,6 @@ returns c = record {
       (c.new-repair.ensures.code ∙ c.new-memory.ensures.code)
       (c.new-repair.ensures.machine
       ∙ first-begins c.args.code.now c.args.inputs.now c.args.function c.args.args.now (plain_in c.new-memory.result) (store_in c.new-memory.result) c.in_ok-stack.stack c.in_ok-old.old
-          c.new-memory.ensures.store c.new-memory.ensures.plain c.in_ok-stack.ensures.started)
+      c.new-memory.ensures.store c.new-memory.ensures.plain c.in_ok-stack.ensures.started)
       c.in_ok-answer.ensures);
 }
