@@ -1,5 +1,5 @@
 -- What a machine that is turned until it has ended, or has written more steps than the fuel allows, comes to.
-use Rattle.std.proofs.Common.{◌≡◌, ℕ, ◌+◌, ◌≤◌, ◌<◌, Option, Some, None, List, [], ◌++◌, append_assoc, append-nil, refl, sym, ap, ◌∙◌, arith}
+use Rattle.std.proofs.Common.{◌≡◌, ℕ, ◌+◌, ◌≤◌, ◌<◌, Option, Some, None, List, [], ◌++◌, append_assoc, append-nil, refl, sym, ap, subst, ◌∙◌, arith}
 use Rattle.ceal_base.specs.Block.{Block}
 use Rattle.ceal_base.specs.Finished.{Finished}
 use Rattle.ceal_base.specs.Trace.{Trace, Nothing, flat, steps_in, steps_of}
@@ -22,9 +22,13 @@ use Rattle.ceal_adjust.specs.Answers.{Comes, Completes, Exceeds, Answered, IsRep
 use Rattle.ceal_theory.specs.Computed.{adjusted, first_of}
 use Rattle.ceal_theory.specs.Laws.{Edited}
 use Rattle.ceal_theory.specs.Repair.{State, own, begins}
-use Rattle.ceal_theory.specs.Turns.{Machine, Fixing, Running, Bottom, Ended, Went, turn, Resumes, Finishes, Goes}
+use Rattle.ceal_theory.specs.Turns.{Machine, Turn, Fixing, Running, Bottom, Ended, Went, turn, Resumes, Finishes, Goes}
 use Rattle.ceal_adjust.specs.declared.adjust.Adjusted.{Adjusted}
 use Rattle.ceal_adjust.specs.declared.adjust.Adjusted.TheVariants.{Done, OutOfFuel}
+
+-- a turn of the same code
+pub turned : (code now : Code) (m : Machine) (t : Turn) → now ≡ code → turn now own m ≡ t → turn code own m ≡ t
+turned code now m t e h = subst (λ k. turn k own m ≡ t) e h
 
 module _ (code : Code) (fuel : ℕ) where
   -- at the beginning

@@ -1,11 +1,6 @@
-pub mod ValueSteps
-pub mod InitSteps
-pub mod StackSteps
 pub mod Keys
 pub mod MarkSteps
 pub mod Spotting
-pub mod ContentSteps
-pub mod BeginSteps
 pub mod MachineSteps
 pub mod Completing
 pub mod Starting

@@ -4,16 +4,11 @@ use Rattle.ceal_base.specs.Finished.{Finished}
 use Rattle.ceal_base.specs.Trace.{Trace, flat, steps_in}
 use Rattle.ceal_base.specs.declared.forest.Item.{Item}
 use Rattle.ceal_code.specs.Program.{Code}
-use Rattle.ceal_code.specs.Replay.{Store}
 use Rattle.ceal_theory.specs.Computed.{Repaired}
-use Rattle.ceal_adjust.specs.Machines.{machine_in}
 use Rattle.ceal_theory.specs.Repair.{State, own}
 use Rattle.ceal_theory.specs.Turns.{Machine, Finishes, Goes}
 use Rattle.ceal_adjust.specs.declared.adjust.Adjusted.{Adjusted}
 use Rattle.ceal_adjust.specs.declared.adjust.Adjusted.TheVariants.{Done, OutOfFuel}
-use Rattle.ceal_adjust.specs.declared.progress.Repair.{Repair}
-use Rattle.ceal_adjust.specs.declared.progress.Progress.{Progress}
-use Rattle.ceal_adjust.specs.declared.progress.Progress.TheVariants.{Answer, Under}
 
 -- The machine that began has come to this one, and has written these items with so many steps among them. Whatever the
 -- one finishes with, the other does.
@@ -37,14 +32,6 @@ Exceeds code fuel start = (s' : State) (items : List Item) → Finishes code own
 abbrev pub Answered : Code → ℕ → Machine → Adjusted → Type 0
 Answered code fuel start (Done forest work) = Completes code fuel start forest work
 Answered code fuel start OutOfFuel = Exceeds code fuel start
-
--- how far a repair has come
-abbrev pub Comes_to : Code → Store → List Item → ℕ → Machine → Repair → Type 0
-Comes_to code bases old fuel start r = Comes code fuel start (machine_in code bases old r.machine) r.out.items r.steps
-
-abbrev pub Progresses : Code → Store → List Item → ℕ → Machine → Progress → Type 0
-Progresses code bases old fuel start (Answer a) = Answered code fuel start a
-Progresses code bases old fuel start (Under r) = Comes_to code bases old fuel start r
 
 -- the flat form of the repair that the definition gives, with its work, where the run from scratch ends
 pub record IsRepair (forest : List Item) (work : ℕ) (defined : Option Repaired) (run : Option Finished) : Type 0 where

@@ -1,9 +1,6 @@
-pub mod Tables
-pub mod Stacks
 pub mod Marks
 pub mod Places
 pub mod Spots
-pub mod Contents
-pub mod Plain
+pub mod Closures
 pub mod Machines
 pub mod Answers

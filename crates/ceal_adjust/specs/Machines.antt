@@ -1,50 +1,65 @@
 -- The machine of repair as the code keeps it, which has a place in the old items.
-use Rattle.std.specs.Prelude.{Bool, true, false, Option, Some, None, List, [], ◌∷◌, drop, reverse}
+use Rattle.std.specs.Prelude.{ℕ, Bool, true, false, Option, Some, None, List, [], ◌∷◌, drop, reverse}
 use Rattle.ceal_base.specs.Trace.{Trace}
 use Rattle.ceal_base.specs.declared.forest.Item.{Item}
 use Rattle.ceal_base.specs.declared.forest.Item.TheVariants.{Step}
 use Rattle.ceal_code.specs.Program.{Code}
-use Rattle.ceal_code.specs.Replay.{Store}
-use Rattle.ceal_adjust.specs.Contents.{store_in}
+use Rattle.ceal_code.specs.Stacks.{stack_in}
+use Rattle.ceal_code.specs.Tables.{code_in, plain_in, store_in}
+use Rattle.ceal_code.specs.declared.stack.Stack.{Stack as CodeStack}
 use Rattle.ceal_theory.specs.Levels.{first, around, levels, loose, beyond}
 use Rattle.ceal_theory.specs.Repair.{State}
-use Rattle.ceal_adjust.specs.Stacks.{stack_in}
-use Rattle.ceal_adjust.specs.Tables.{plain_in}
 use Rattle.ceal_theory.specs.Turns.{Fixing, Running, Frames, Bottom, After_fix, After_mend, After_run, Machine, Turn, Ended, Went}
-use Rattle.ceal_adjust.specs.declared.machine.State.{State as CodeState}
-use Rattle.ceal_adjust.specs.declared.machine.Mode.{Mode as CodeMode}
-use Rattle.ceal_adjust.specs.declared.machine.Mode.TheVariants.{Fixing as IsFixing, Running as IsRunning}
-use Rattle.ceal_adjust.specs.declared.machine.Frame.{Frame}
-use Rattle.ceal_adjust.specs.declared.machine.Frame.TheVariants.{Fix, Mend, Run}
-use Rattle.ceal_adjust.specs.declared.machine.Machine.{Machine as CodeMachine}
-use Rattle.ceal_adjust.specs.declared.machine.Turn.{Turn as CodeTurn}
-use Rattle.ceal_adjust.specs.declared.machine.Turn.TheVariants.{Ended as HasEnded, Went as HasGone}
+use Rattle.ceal_adjust.specs.declared.frame.Frame.{Frame}
+use Rattle.ceal_adjust.specs.declared.frame.Frame.TheVariants.{Fix, Mend, Run}
+use Rattle.ceal_adjust.specs.declared.frame.Mode.{Mode as CodeMode}
+use Rattle.ceal_adjust.specs.declared.frame.Mode.TheVariants.{Fixing as IsFixing, Running as IsRunning}
+use Rattle.ceal_adjust.specs.declared.frame.Turn.{Turn as CodeTurn}
+use Rattle.ceal_adjust.specs.declared.frame.Turn.TheVariants.{Ended as HasEnded, Went as HasGone}
+use Rattle.ceal_adjust.specs.declared.repair.Repair.{Repair}
 
--- a repair's state, where the store at the beginning was this one
-abbrev pub state_in : Code → Store → CodeState → State
-state_in code bases s = record {
-  store = store_in code bases s.contents;
-  plain = plain_in s.known;
-  number = s.number;
-  work = s.work;
+-- the code of a repair
+abbrev pub code_of : Repair → Code
+code_of r = code_in r.memory
+
+-- its store, its plain words, the number of the next new block, and the work so far
+abbrev pub state_in : Repair → State
+state_in r = record {
+  store = store_in r.memory;
+  plain = plain_in r.memory;
+  number = r.number;
+  work = r.work;
 }
 
 -- what follows, the next first, where these levels stand around the items of now
 abbrev pub frames_in : List Frame → List Trace → Frames
 frames_in [] ts = Bottom
 frames_in (Fix ∷ fs) ts = After_fix (first ts) (frames_in fs (around ts))
-frames_in (Mend below n ∷ fs) ts = After_mend (stack_in below.items) (loose n ts) (frames_in fs (beyond n ts))
-frames_in (Run below ∷ fs) ts = After_run (stack_in below.items) (frames_in fs ts)
+frames_in (Mend below n ∷ fs) ts = After_mend (stack_in below) (loose n ts) (frames_in fs (beyond n ts))
+frames_in (Run below ∷ fs) ts = After_run (stack_in below) (frames_in fs ts)
 
-abbrev pub machine_at : State → CodeMode → List Frame → List Trace → Machine
-machine_at s IsFixing fs ts = record { state = s; mode = Fixing (first ts); frames = frames_in fs (around ts) }
-machine_at s (IsRunning stack n) fs ts = record { state = s; mode = Running (stack_in stack.items) (loose n ts); frames = frames_in fs (beyond n ts) }
+-- the levels of the old items from the cursor on
+abbrev pub ahead : Repair → List Trace
+ahead r = levels (drop r.rest r.items)
 
-unfoldable pub machine_of : State → CodeMode → List Frame → List Item → Machine
-machine_of s mode fs is = machine_at s mode (reverse fs) (levels is)
+-- what follows, after so many of them
+abbrev pub after : Repair → ℕ → Frames
+after r n = frames_in (reverse r.frames.items) (beyond n (ahead r))
 
-abbrev pub machine_in : Code → Store → List Item → CodeMachine → Machine
-machine_in code bases old m = machine_of (state_in code bases m.state) m.mode m.frames.items (drop m.rest old)
+-- what the running stack has left over
+abbrev pub left_over : Repair → Trace
+left_over r = loose r.levels (ahead r)
+
+abbrev pub machine_at : CodeMode → State → CodeStack → ℕ → List Frame → List Trace → Machine
+machine_at IsFixing s stack n fs ts = record { state = s; mode = Fixing (first ts); frames = frames_in fs (around ts) }
+machine_at IsRunning s stack n fs ts = record { state = s; mode = Running (stack_in stack) (loose n ts); frames = frames_in fs (beyond n ts) }
+
+unfoldable pub machine_of : CodeMode → State → CodeStack → ℕ → List Frame → List Item → Machine
+machine_of mode s stack n fs is = machine_at mode s stack n (reverse fs) (levels is)
+
+-- the machine
+abbrev pub machine_in : Repair → Machine
+machine_in r = machine_of r.mode (state_in r) r.stack r.levels r.frames.items (drop r.rest r.items)
 
 abbrev pub item_list : Option Item → List Item
 item_list None = []
@@ -54,6 +69,7 @@ abbrev pub written : Bool → Option Item → List Item
 written true i = Step ∷ item_list i
 written false i = item_list i
 
-abbrev pub turn_in : Code → Store → List Item → CodeTurn → Turn
-turn_in code bases old HasEnded = Ended
-turn_in code bases old (HasGone stepped i m) = Went (written stepped i) (machine_in code bases old m)
+-- a turn, where the machine after it is this one
+abbrev pub turn_in : CodeTurn → Machine → Turn
+turn_in HasEnded m = Ended
+turn_in (HasGone stepped i) m = Went (written stepped i) m

@@ -11,16 +11,17 @@ ghost use Rattle.ceal_adjust.specs.Answers.{Is_answer};
 ghost use Rattle.ceal_theory.specs.Computed.{adjusted, first_of};
 ghost use Rattle.ceal_theory.specs.Laws.{Edited};
 
-use crate::begin::{first_stack, known_inputs, learn_items};
-use crate::contents::Contents;
-use crate::machine::{Machine, Mode, State, running};
+use crate::complete::complete;
+use crate::frame::Mode;
 use crate::old::Old;
-use crate::progress::complete;
+use crate::repair::Repair;
 use ceal_base::forest::Forest;
 use ceal_base::memory::Inputs;
 use ceal_base::no_memory::NoMemory;
 use ceal_base::word::Word;
 use ceal_code::code::Code;
+use ceal_code::stack::Stack;
+use ceal_code::trace_memory::TraceMemory;
 use std::alloc::Global;
 
 /// What a repair comes to.
@@ -46,27 +47,16 @@ pub fn first_forest(
     requires fits { Fits code.now inputs.now function args.now }
     ensures answer { IfOk result (λ a. Is_answer (first_of code.now inputs.now fuel function args.now) (fresh code.now function args.now inputs.now fuel) a) }
 {
+    let memory = TraceMemory::new(alloc, code, inputs);
     let old = Old::new(alloc, &[])?;
-    let known = known_inputs(alloc, code, inputs.items())?;
-    let stack = first_stack(alloc, code, function, args)?;
-    let state = State {
-        contents: Contents::new(alloc),
-        known,
-        number: 0,
-        work: 0,
-    };
-    let machine = Machine {
-        state,
-        mode: running(stack, 0),
-        frames: Vec::new(alloc),
-        rest: 0,
-    };
-    let answer = complete(alloc, code, inputs, fuel, &old, machine)?;
+    let stack = Stack::call(alloc, code, function, args)?;
+    let repair = Repair::new(memory, old, 0, Mode::Running, stack);
+    let answer = complete(alloc, repair, fuel)?;
     Ok(answer)
 }
 
-/// The repair of a trace on other inputs: change propagation, by one walk over the old items. Two passes before it
-/// make the tables by which what is taken is found, and one learns the plain words; a look-up by a table is a binary
+/// The repair of a trace on other inputs: change propagation, by one walk over the old items. One pass before it
+/// makes the tables by which what is taken is found, and one learns the plain words; a look-up by a table is a binary
 /// search among the old items with that key. The forest is the flat form of a trace of a call of this code, on inputs
 /// that the given ones extend with any bases; new blocks have the numbers from `next` on. It is out of fuel exactly
 /// where a run from scratch on the given inputs needs more steps than the fuel allows, although only a part is run anew.
@@ -83,21 +73,10 @@ pub fn adjust(
     requires room { next + fuel < 2 ^ 32 }
     ensures answer { IfOk result (λ a. (old : List Block) (f : ℕ) (args : List WordOf) (l : Trace) → forest.now ≡ flat l → Edited code.now old inputs.now f args l next → Is_answer (adjusted code.now inputs.now next fuel l) (fresh code.now f args inputs.now fuel) a) }
 {
+    let mut memory = TraceMemory::new(alloc, code, inputs);
+    memory.learn_items(forest.items())?;
     let old = Old::new(alloc, forest.items())?;
-    let known = known_inputs(alloc, code, inputs.items())?;
-    let known = learn_items(alloc, code, known, forest.items())?;
-    let state = State {
-        contents: Contents::new(alloc),
-        known,
-        number: next,
-        work: 0,
-    };
-    let machine = Machine {
-        state,
-        mode: Mode::Fixing,
-        frames: Vec::new(alloc),
-        rest: 0,
-    };
-    let answer = complete(alloc, code, inputs, fuel, &old, machine)?;
+    let repair = Repair::new(memory, old, next, Mode::Fixing, Stack::empty(alloc));
+    let answer = complete(alloc, repair, fuel)?;
     Ok(answer)
 }

@@ -15,7 +15,7 @@ use ceal_base::no_memory::NoMemory;
 use std::alloc::Global;
 use std::marker::Model;
 
-/// The old items, which contracts see as their list. Two passes over them make the tables; then a look-up by a mark
+/// The old items, which contracts see as their list. One pass over them makes the tables; then a look-up by a mark
 /// takes a binary search among the places with that mark.
 #[derive(Drop)]
 pub struct Old<'a> {
@@ -45,32 +45,24 @@ pub struct Spot {
     pub levels: usize,
 }
 
-/// How many reads are open before each item.
-fn depths_of(alloc: Global, items: &[Item]) -> Result<Vec<usize>, NoMemory>
-    ensures { IfOk result (λ d. d.items ≡ depths items.now (length items.now)) }
+/// How many reads are open before each item, and the places of the items by their marks, in one pass. It begins with as
+/// many reads open as there are items, so that no End is without one.
+fn tables_of(alloc: Global, items: &[Item]) -> Result<(Vec<usize>, Places), NoMemory>
+    ensures depths { IfOk result (λ t. t.0.items ≡ depths items.now (length items.now)) }
+    ensures places { IfOk result
+        (λ t. (m : AnyMark) → listed t.1 m ≡ places items.now m (length items.now)) }
 {
-    let mut all = Vec::new(alloc);
-    let mut depth = items.len();
-    for item in items {
-        all.push(depth)?;
-        depth = levels_after(item, depth)?;
-    }
-    Ok(all)
-}
-
-/// The places of the items by their marks.
-fn places_of(alloc: Global, items: &[Item]) -> Result<Places, NoMemory>
-    ensures { IfOk result (λ p. (m : AnyMark) → listed p m ≡ places items.now m (length items.now)) }
-{
-    let mut all = Places::new(alloc);
+    let mut nesting = Vec::new(alloc);
+    let mut table = Places::new(alloc);
     let mut depth = items.len();
     let mut at = 0;
     for item in items {
-        add(alloc, &mut all, item, depth, at)?;
+        nesting.push(depth)?;
+        add(alloc, &mut table, item, depth, at)?;
         depth = levels_after(item, depth)?;
         at += 1;
     }
-    Ok(all)
+    Ok((nesting, table))
 }
 
 /// With the place of an item, if it has a mark.
@@ -113,8 +105,7 @@ impl<'a> Old<'a> {
     pub fn new(alloc: Global, items: &'a [Item]) -> Result<Old<'a>, NoMemory>
         ensures value { IfOk result (λ o. o ≡ items.now) }
     {
-        let nesting = depths_of(alloc, items)?;
-        let table = places_of(alloc, items)?;
+        let (nesting, table) = tables_of(alloc, items)?;
         Ok(Old {
             items,
             nesting,
@@ -123,7 +114,7 @@ impl<'a> Old<'a> {
     }
 
     /// The item at a place; the items from there on are it and those from the next place on.
-    pub fn item(&self, at: usize) -> Option<&Item>
+    pub fn item(&self, at: usize) -> Option<&'a Item>
         ensures value { MatchOption result (drop at self.now ≡ []) (λ i. drop at self.now ≡ i.now ∷ drop (at + 1) self.now) }
         ensures small { MatchOption result ⊤ (λ i. at < 2 ^ 63) }
     {

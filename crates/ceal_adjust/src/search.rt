@@ -1,10 +1,11 @@
 // What is found in the old items that are left over.
 
 ghost use Rattle.std.specs.Prelude.{◌≡◌, ◌+◌, ◌<◌, ◌^◌, ⊤, Some, None, drop, MatchOption, IfOk};
-ghost use Rattle.ceal_theory.specs.Levels.{block_of_key, find_alloc, same_read, value_of_read, find_read};
+ghost use Rattle.ceal_theory.specs.Levels.{block_of_key, find_alloc, same_read, value_of_read};
+ghost use Rattle.ceal_adjust.specs.Closures.{mark_of_read, find_closure};
 ghost use Rattle.ceal_adjust.specs.Spots.{Absent, Found};
 ghost use Rattle.ceal_theory.specs.Take.{same_key, same_words};
-ghost use Rattle.ceal_adjust.specs.declared.mark.Mark.TheVariants.{Made, Taken};
+ghost use Rattle.ceal_adjust.specs.declared.mark.Mark.TheVariants.{Made};
 
 use crate::mark::Mark;
 use crate::old::{Old, Spot};
@@ -12,6 +13,7 @@ use ceal_base::forest::{Item, Key, UnitId};
 use ceal_base::no_memory::NoMemory;
 use ceal_base::word::{BlockId, Place, Word};
 use ceal_base::words::Words;
+use ceal_code::stack::Closure;
 
 /// An allocation: its block, the place after it, and how many levels are left over there.
 #[derive(Clone, Copy)]
@@ -42,20 +44,15 @@ fn are_words(words: &Words, args: &Words) -> bool
     words.same_as(args)
 }
 
-/// Whether a read has this place, unit, variable and arguments; its value is not compared.
-fn is_read(
-    place: Place,
-    unit: UnitId,
-    var: u32,
-    words: &Words,
-    p: Place,
-    u: UnitId,
-    v: u32,
-    args: &Words,
-) -> bool
-    ensures { result ≡ same_read place unit var words.now p u v args.now }
+/// Whether a read of this place is one of the closure; its value is not compared.
+fn is_read(place: Place, unit: UnitId, var: u32, words: &Words, closure: &Closure) -> bool
+    ensures { result ≡ same_read place unit var words.now
+        closure.now.place closure.now.unit closure.now.var closure.now.args }
 {
-    place == p && unit.0 == u.0 && var == v && are_words(words, args)
+    place == closure.place
+        && unit.0 == closure.unit.0
+        && var == closure.var
+        && are_words(words, &closure.args)
 }
 
 fn allocated(item: &Item, key: &Key) -> Option<BlockId>
@@ -104,8 +101,9 @@ pub fn find_block(
     }
 }
 
-fn was_read(item: &Item, p: Place, u: UnitId, v: u32, args: &Words) -> Option<Word>
-    ensures { result ≡ value_of_read item.now p u v args.now }
+fn was_read(item: &Item, closure: &Closure) -> Option<Word>
+    ensures { result ≡ value_of_read item.now
+        closure.now.place closure.now.unit closure.now.var closure.now.args }
 {
     match item {
         Item::Read {
@@ -113,9 +111,9 @@ fn was_read(item: &Item, p: Place, u: UnitId, v: u32, args: &Words) -> Option<Wo
             value,
             unit,
             var,
-            args: words,
+            args,
         } => {
-            if is_read(*place, *unit, *var, words, p, u, v, args) {
+            if is_read(*place, *unit, *var, args, closure) {
                 Some(*value)
             } else {
                 None
@@ -132,43 +130,40 @@ fn seek_value(
     old: &Old,
     rest: usize,
     levels: usize,
-    p: Place,
-    u: UnitId,
-    v: u32,
-    args: &Words,
+    closure: &Closure,
 ) -> Result<Option<Spot>, NoMemory>
-    ensures found { IfOk result (λ o. MatchOption o (Absent old.now (Taken p u v args.now) rest levels) (λ s. Found old.now (Taken p u v args.now) rest levels s.at s.levels)) }
+    ensures found { IfOk result (λ o. MatchOption o (Absent old.now (mark_of_read closure.now) rest levels)
+        (λ s. Found old.now (mark_of_read closure.now) rest levels s.at s.levels)) }
     ensures small { IfOk result (λ o. MatchOption o ⊤ (λ s. s.at + 1 < 2 ^ 64)) }
 {
     let mark = Mark::Taken {
-        place: p,
-        unit: u,
-        var: v,
-        args: args.copy()?,
+        place: closure.place,
+        unit: closure.unit,
+        var: closure.var,
+        args: closure.args.copy()?,
     };
-    let spot = old.find(&mark, rest, levels)?;
-    Ok(spot)
+    old.find(&mark, rest, levels)
 }
 
-/// The earliest read of this place with this unit, variable and arguments in so many levels from a place on.
+/// The earliest read of the closure in so many levels from a place on.
 pub fn find_value(
     old: &Old,
     rest: usize,
     levels: usize,
-    p: Place,
-    u: UnitId,
-    v: u32,
-    args: &Words,
+    closure: &Closure,
 ) -> Result<Option<FoundValue>, NoMemory>
-    ensures value { IfOk result (λ found. MatchOption found (find_read p u v args.now levels (drop rest old.now) ≡ None) (λ f. find_read p u v args.now levels (drop rest old.now) ≡ Some (record { value = f.value; rest = drop f.rest old.now; levels = f.levels }))) }
+    ensures value { IfOk result (λ found. MatchOption found
+        (find_closure closure.now levels (drop rest old.now) ≡ None)
+        (λ f. find_closure closure.now levels (drop rest old.now)
+        ≡ Some (record { value = f.value; rest = drop f.rest old.now; levels = f.levels }))) }
 {
-    let Some(spot) = seek_value(old, rest, levels, p, u, v, args)? else {
+    let Some(spot) = seek_value(old, rest, levels, closure)? else {
         return Ok(None);
     };
     let Some(item) = old.item(spot.at) else {
         return Ok(None);
     };
-    match was_read(item, p, u, v, args) {
+    match was_read(item, closure) {
         None => Ok(None),
         Some(value) => Ok(Some(FoundValue {
             value,

@@ -1,0 +1,10 @@
+use Rattle.std.proofs.Common.{◌≡◌}
+use Rattle.ceal_adjust.specs.Answers.{Comes}
+use Rattle.ceal_adjust.specs.Machines.{code_of, machine_in}
+use Rattle.ceal_adjust.proofs.complete.complete.Given as goal
+
+abbrev pub invariant-loop-turn : goal.invariant-loop-turn
+invariant-loop-turn l = record {
+  code : code_of l.repair ≡ code_of l.fn.repair;
+  comes : Comes (code_of l.fn.repair) l.fuel (machine_in l.fn.repair) (machine_in l.repair) l.out.items l.steps;
+}

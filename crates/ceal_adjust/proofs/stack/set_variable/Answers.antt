@@ -1,6 +1,0 @@
-use Rattle.ceal_adjust.proofs.StackSteps.{arguments-set, padded-length}
-use Rattle.ceal_adjust.proofs.stack.set_variable.Goals as goal
-
-pub returns : goal.returns
-returns c = arguments-set c.args.env.now.items c.args.v c.args.word c.fill.new.env.items c.in_ok-fill.ensures
-    (padded-length c.args.env.now.items c.args.v c.fill.new.env.items c.in_ok-fill.ensures)

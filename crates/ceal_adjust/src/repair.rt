@@ -1,0 +1,194 @@
+// A repair that is under way: the machine of change propagation.
+
+ghost use Rattle.std.specs.Prelude.{◌≡◌, ◌+◌, [], drop, reverse, Option, IfOk, OnOk};
+ghost use Rattle.ceal_base.specs.Operators.{same_word};
+ghost use Rattle.ceal_base.specs.declared.forest.Item.TheVariants.{Read as ReadItem};
+ghost use Rattle.ceal_code.specs.Stacks.{stack_in};
+ghost use Rattle.ceal_code.specs.Tables.{code_in, plain_in, store_in};
+ghost use Rattle.ceal_theory.specs.Levels.{first, around};
+ghost use Rattle.ceal_theory.specs.Repair.{own};
+ghost use Rattle.ceal_theory.specs.Turns.{closed, opened, turn};
+ghost use Rattle.ceal_adjust.specs.Machines.{code_of, state_in, frames_in, ahead, after, left_over, machine_of, machine_in, turn_in};
+
+use crate::frame::{Frame, Mode, Turn};
+use crate::old::Old;
+use ceal_base::forest::Item;
+use ceal_base::no_memory::NoMemory;
+use ceal_base::word::Word;
+use ceal_code::stack::{Closure, Stack};
+use ceal_code::step::advance;
+use ceal_code::trace_memory::TraceMemory;
+use std::alloc::Global;
+
+mod propagate;
+mod rerun;
+
+/// A repair that is under way. It walks the old items once, with a cursor that only moves on. The stack runs in the mode
+/// Running alone, with a number of levels of old items left over to it.
+#[derive(Drop)]
+pub struct Repair<'a> {
+    alloc: Global,
+    memory: TraceMemory<'a>,
+    items: Old<'a>,
+    rest: usize,
+    number: u32,
+    work: u32,
+    mode: Mode,
+    stack: Stack,
+    levels: usize,
+    frames: Vec<Frame>,
+}
+
+fn is_same(a: Word, b: Word) -> bool
+    ensures { result ≡ same_word a b }
+{
+    a == b
+}
+
+fn wrote(stepped: bool, item: Item) -> Turn
+    ensures { result ≡ Turn.Went stepped (Option.Some item) }
+{
+    Turn::Went {
+        stepped,
+        item: Some(item),
+    }
+}
+
+/// The next number; where it has no room in 32 bits, there is no memory for so many steps or blocks.
+fn one_more(n: u32) -> Result<u32, NoMemory>
+    ensures { IfOk result (λ m. m ≡ n + 1) }
+{
+    match n.checked_add(1) {
+        None => Err(NoMemory),
+        Some(m) => Ok(m),
+    }
+}
+
+/// The item of a read that finds this content.
+fn read_item(closure: Closure, value: Word) -> Item
+    ensures { result ≡ ReadItem closure.place value closure.unit closure.var closure.args }
+{
+    let Closure {
+        place,
+        unit,
+        var,
+        args,
+    } = closure;
+    Item::Read {
+        place,
+        value,
+        unit,
+        var,
+        args,
+    }
+}
+
+impl<'a> Repair<'a> {
+    /// A repair that begins in this mode, with this stack and nothing left over to it; new blocks have the numbers from
+    /// `number` on.
+    #[tactic(auto, using(crate::proofs::MachineSteps::frame_steps), unfolding(crate::specs::Machines::machine_of))]
+    pub fn new(
+        memory: TraceMemory<'a>,
+        items: Old<'a>,
+        number: u32,
+        mode: Mode,
+        stack: Stack,
+    ) -> Repair<'a>
+        ensures code { code_of result ≡ code_in memory.entry }
+        ensures machine { machine_in result ≡ machine_of mode (record {
+          store = store_in memory.entry;
+          plain = plain_in memory.entry;
+          number = number;
+          work = 0;
+        })
+            stack 0 [] items.entry }
+    {
+        let alloc = stack.allocator();
+        Repair {
+            alloc,
+            memory,
+            items,
+            rest: 0,
+            number,
+            work: 0,
+            mode,
+            stack,
+            levels: 0,
+            frames: Vec::new(alloc),
+        }
+    }
+
+    /// How many steps were run anew.
+    pub fn work(&self) -> u32
+        ensures value { result ≡ (state_in self.now).work }
+    {
+        self.work
+    }
+
+    /// A part is over; what follows it is left, and what is left over to the part is passed on or revoked.
+    #[tactic(auto, using(crate::proofs::MachineSteps::frame_steps), unfolding(crate::specs::Machines::machine_of))]
+    fn close(&mut self) -> Turn
+        ensures code { code_of self.new ≡ code_of self.old }
+        ensures turn { turn_in result (machine_in self.new)
+            ≡ closed (state_in self.old) (left_over self.old) (after self.old self.old.levels) }
+    {
+        match self.frames.pop() {
+            None => return Turn::Ended,
+            Some(Frame::Fix) => {
+                self.rest = self.items.skip(self.rest, self.levels);
+                self.mode = Mode::Fixing;
+            }
+            Some(Frame::Mend { below, levels }) => {
+                self.rest = self.items.skip(self.rest, self.levels);
+                self.mode = Mode::Running;
+                self.stack = below;
+                self.levels = levels;
+            }
+            Some(Frame::Run { below }) => {
+                self.mode = Mode::Running;
+                self.stack = below;
+            }
+        }
+        wrote(false, Item::End)
+    }
+
+    /// Goes into a read: where the content is the same its old items are walked, else its unit runs.
+    #[tactic(auto, using(crate::proofs::MachineSteps::frame_steps), unfolding(crate::specs::Machines::machine_of))]
+    fn open(&mut self, closure: &Closure, same: bool, now: Word) -> Result<(), NoMemory>
+        ensures code { OnOk result (code_of self.new ≡ code_of self.old) }
+        ensures machine { OnOk result (machine_in self.new ≡ record {
+          state = state_in self.old;
+          mode = opened (code_of self.old) same closure.now.unit closure.now.var closure.now.args
+              now (first (ahead self.old));
+          frames = frames_in (reverse self.old.frames.items) (around (ahead self.old));
+        }) }
+    {
+        if same {
+            self.mode = Mode::Fixing;
+            return Ok(());
+        }
+        let mut stack = Stack::empty(self.alloc);
+        stack.resume(self.memory.code(), closure, now)?;
+        self.mode = Mode::Running;
+        self.stack = stack;
+        self.levels = 1;
+        Ok(())
+    }
+
+    /// One turn: it writes a step, moves on in the old items, or ends a read. After want of memory the repair is of no
+    /// further use.
+    #[tactic(auto, unfolding(crate::specs::Machines::machine_of, ceal_theory::specs::Turns::turn))]
+    pub fn turn(&mut self) -> Result<Turn, NoMemory>
+        ensures code { OnOk result (code_of self.new ≡ code_of self.old) }
+        ensures turn { IfOk result (λ t. turn (code_of self.old) own (machine_in self.old)
+            ≡ turn_in t (machine_in self.new)) }
+    {
+        match self.mode {
+            Mode::Fixing => self.propagate(),
+            Mode::Running => {
+                let act = advance(self.memory.code(), &self.memory, &mut self.stack)?;
+                self.perform(act)
+            }
+        }
+    }
+}
