@@ -10,6 +10,7 @@ use Rattle.ceal_base.specs.declared.word.BlockId.TheVariants.{Input, Core}
 use Rattle.ceal_base.specs.Block.{Block}
 use Rattle.ceal_base.specs.declared.word.Word.{Word}
 use Rattle.ceal_base.specs.declared.word.Word.TheVariants.{Num}
+use Rattle.ceal_code.specs.PlainWords.{block_word}
 use Rattle.ceal_words.specs.Region.{words_of, KeepsAll, KeepsOthers}
 use Rattle.ceal_words.specs.SizeClass.{SizeClass}
 use Rattle.ceal_words.specs.declared.slot.Slot.{Slot}
@@ -358,14 +359,15 @@ pub all_stay : (c : Contents) → NoneRevoked c.numbers → (b : BlockId) → st
 all_stay c none (Input n) = refl
 all_stay c none (Core n) = number_stays c.region (slice_get c.numbers n) (none n)
 
-words_past : (c : Contents) (b : BlockId) (h : Held) (i : ℕ) → IsKept (held_at c.numbers) c.region → held_at c.numbers (number_of b) ≡ Some h → h.fields ≤ i
-    → (block : Known) → block_of c b ≡ Some block → Num (pos 0) ≡ word_at block.words i
-words_past c b h i kept held past block some =
+-- a block has as many words as are kept of it
+words_short : (c : Contents) (b : BlockId) (h : Held) (i : ℕ) → IsKept (held_at c.numbers) c.region → held_at c.numbers (number_of b) ≡ Some h → h.fields ≤ i
+    → (block : Known) → block_of c b ≡ Some block → length block.words ≤ i
+words_short c b h i kept held past block some =
     let found = (found_at c b block some).1 in
     let same : found.1 ≡ h = same_Some found.1 h (sym (ap held_of found.2 ∙ found.3) ∙ held) in
     let words = ap (λ (k : Known). k.words) found.4 ∙ ap (λ (x : Held). words_read (words_of c.region x.slot)) same in
     let long = ap length words ∙ length_read (words_of c.region h.slot) h.fields (kept.cells (number_of b) h held) in
-    sym (get_or_past block.words i (Num (pos 0)) (omega (arith, long, past)))
+    omega (arith, long, past)
 
 if_plain : (o : Option Known) (P : Block → Type 0) → ((k : Known) → o ≡ Some k → P (plain_block k)) → IfSome (option_map plain_block o) P
 if_plain None P all = tt
@@ -374,7 +376,17 @@ if_plain (Some k) P all = all k refl
 -- past the words of a block each word is 0
 pub none_past : (c : Contents) (b : BlockId) (h : Held) (i : ℕ) → IsKept (held_at c.numbers) c.region → held_at c.numbers (number_of b) ≡ Some h → h.fields ≤ i
     → IfSome (plain_of c b) (λ block. Num (pos 0) ≡ word_at block.words i)
-none_past c b h i kept held past = if_plain (block_of c b) (λ block. Num (pos 0) ≡ word_at block.words i) (words_past c b h i kept held past)
+none_past c b h i kept held past = if_plain (block_of c b) (λ block. Num (pos 0) ≡ word_at block.words i)
+    (λ block some. sym (get_or_past block.words i (Num (pos 0)) (words_short c b h i kept held past block some)))
+
+no_word : (o : Option Known) (i : ℕ) → ((k : Known) → o ≡ Some k → length k.words ≤ i) → None ≡ block_word (option_map plain_block o) i
+no_word None i all = refl
+no_word (Some k) i all = sym (slice_get_past k.words i (all k refl))
+
+-- past the words of a block there is none
+pub none_there : (c : Contents) (b : BlockId) (h : Held) (i : ℕ) → IsKept (held_at c.numbers) c.region → held_at c.numbers (number_of b) ≡ Some h → h.fields ≤ i
+    → None ≡ block_word (plain_of c b) i
+none_there c b h i kept held past = no_word (block_of c b) i (words_short c b h i kept held past)
 
 state_unknown : (region : List SizeClass) (shape : Shape) (s : State) → held_in s ≡ None → known (state_standing region shape s) ≡ None
 state_unknown region shape (LiveState h) none = absurd (none-some h (sym none))

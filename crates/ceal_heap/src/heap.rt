@@ -1,6 +1,7 @@
 // The heap.
 
 ghost use Rattle.std.specs.Prelude.{◌≡◌, ◌+◌, ◌≤◌, false, None, length, IsSome, IfSome, IfOk, OnOk, OnErr, IsTrue};
+ghost use Rattle.ceal_code.specs.PlainWords.{block_shape, block_word};
 ghost use Rattle.ceal_heap.specs.Heap.{standing, block_of, plain_of, word_at, live_count, revoked_count, revoked, number_of, IsLive, IsMade, IsFreeFor, KeepsBlocks, ReleasesRevoked, ReleasesAlike, IsUnchanged, HasSlots, IsNew};
 
 use crate::number::Held;
@@ -91,6 +92,36 @@ impl Heap {
     {
         let held = self.table.held(number_of(block));
         &held.key
+    }
+
+    /// The shape of a block that can be read, and None of any other.
+    pub fn find_shape(&self, block: BlockId) -> Option<Shape>
+        ensures shape { result ≡ block_shape (plain_of self.now block) }
+    {
+        match block {
+            BlockId::Input(_) => None,
+            BlockId::Core(number) => {
+                let _held = self.table.find(number)?;
+                Some(self.table.shape(number))
+            }
+        }
+    }
+
+    /// A word of a block that can be read, and None of any other and past its words.
+    pub fn find_word(&self, block: BlockId, index: u32) -> Option<Word>
+        ensures word { result ≡ block_word (plain_of self.now block) index }
+    {
+        match block {
+            BlockId::Input(_) => None,
+            BlockId::Core(number) => {
+                let held = self.table.find(number)?;
+                if index < held.fields {
+                    Some(self.pieces.word(&held.slot, index))
+                } else {
+                    None
+                }
+            }
+        }
     }
 
     /// Revokes a live block. It can still be read.

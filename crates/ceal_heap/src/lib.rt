@@ -4,7 +4,8 @@
 //! Contracts see how each number stands, with shape, key, words and slot of the blocks that are live or revoked, and
 //! the region of raw words, whose slots are exactly those of these blocks.
 //!
-//! `heap` has the calls. `table` keeps how each number stands (`number`), those that were revoked, and for each shape
+//! `heap` has the calls, and `plain_words` reads blocks of a heap and of inputs alike, as the stepper of trace code does.
+//! `table` keeps how each number stands (`number`), those that were revoked, and for each shape
 //! those that are free (`shelf`, `stack`); `pieces` keeps the words of blocks in slots, two cells a word (`cells`).
 #![tactic(auto)]
 
@@ -12,6 +13,7 @@ mod cells;
 pub mod heap;
 mod number;
 mod pieces;
+pub mod plain_words;
 mod shelf;
 mod stack;
 mod table;

@@ -1,6 +1,6 @@
 // The table of numbers.
 
-ghost use Rattle.std.specs.Prelude.{◌≡◌, ◌+◌, ◌-◌, ◌<◌, ◌≤◌, ◌↔◌, ◌∷◌, [], ◌++◌, Some, length, option_map, slice_get, IsSome, IsTrue, IfSome, IfNone, OnOk, vec_len, vec_capacity};
+ghost use Rattle.std.specs.Prelude.{◌≡◌, ◌+◌, ◌-◌, ◌<◌, ◌≤◌, ◌↔◌, ◌∷◌, [], ◌++◌, Some, length, option_copied, option_map, slice_get, IsSome, IsTrue, IfSome, IfNone, OnOk, vec_len, vec_capacity};
 ghost use Rattle.ceal_heap.specs.Table.{shelf_of, shelf_at, held_at, IsReady, HasRoom, IsLiveAt, Revokes, Reuses, Adds, GivesOut, Releases, NoneRevoked, SameShelves, tally, is_live};
 
 use crate::number::{Held, Number, State};
@@ -63,6 +63,13 @@ impl Table {
             Some(held) => held,
             None => unreachable!(),
         }
+    }
+
+    /// What is kept of a block, if it can be read.
+    pub fn find(&self, number: u32) -> Option<&Held>
+        ensures { option_copied result ≡ held_at self.now.numbers number }
+    {
+        self.numbers.get(number as usize)?.held()
     }
 
     /// The shape of the blocks of a number.
