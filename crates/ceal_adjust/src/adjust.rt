@@ -45,7 +45,9 @@ pub fn first_forest(
 ) -> Result<Adjusted, NoMemory>
     requires valid { valid code.now ≡ true }
     requires fits { Fits code.now inputs.now function args.now }
-    ensures answer { IfOk result (λ a. Is_answer (first_of code.now inputs.now fuel function args.now) (fresh code.now function args.now inputs.now fuel) a) }
+    ensures answer { IfOk result
+        (λ a. Is_answer (first_of code.now inputs.now fuel function args.now)
+        (fresh code.now function args.now inputs.now fuel) a) }
 {
     let memory = TraceMemory::new(alloc, code, inputs);
     let old = Old::new(alloc, &[])?;
@@ -69,9 +71,14 @@ pub fn adjust(
     fuel: u32,
 ) -> Result<Adjusted, NoMemory>
     requires valid { valid code.now ≡ true }
-    requires trace { (old : List Block) × (f : ℕ) × (args : List WordOf) × (l : Trace) × (forest.now ≡ flat l) × Edited code.now old inputs.now f args l next }
+    requires trace { (old : List Block) × (f : ℕ) × (args : List WordOf) × (l : Trace)
+        × (forest.now ≡ flat l) × Edited code.now old inputs.now f args l next }
     requires room { next + fuel < 2 ^ 32 }
-    ensures answer { IfOk result (λ a. (old : List Block) (f : ℕ) (args : List WordOf) (l : Trace) → forest.now ≡ flat l → Edited code.now old inputs.now f args l next → Is_answer (adjusted code.now inputs.now next fuel l) (fresh code.now f args inputs.now fuel) a) }
+    ensures answer { IfOk result
+        (λ a. (old : List Block) (f : ℕ) (args : List WordOf) (l : Trace) → forest.now ≡ flat l
+        → Edited code.now old inputs.now f args l next
+        → Is_answer (adjusted code.now inputs.now next fuel l)
+        (fresh code.now f args inputs.now fuel) a) }
 {
     let mut memory = TraceMemory::new(alloc, code, inputs);
     memory.learn_items(forest.items())?;

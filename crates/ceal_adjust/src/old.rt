@@ -73,7 +73,11 @@ fn add(
     depth: usize,
     at: usize,
 ) -> Result<(), NoMemory>
-    ensures { OnOk result ((m : AnyMark) → listed all.new m ≡ (if has (mark_of item.now depth) m then listed all.old m ++ at ∷ [] else listed all.old m)) }
+    ensures { OnOk result
+        ((m : AnyMark)
+        → listed all.new m
+        ≡ (if has (mark_of item.now depth) m then listed all.old m
+        ++ at ∷ [] else listed all.old m)) }
 {
     if let Some(mark) = mark_for(item, depth)? {
         all.add(alloc, mark, at)?;
@@ -115,7 +119,8 @@ impl<'a> Old<'a> {
 
     /// The item at a place; the items from there on are it and those from the next place on.
     pub fn item(&self, at: usize) -> Option<&'a Item>
-        ensures value { MatchOption result (drop at self.now ≡ []) (λ i. drop at self.now ≡ i.now ∷ drop (at + 1) self.now) }
+        ensures value { MatchOption result (drop at self.now ≡ [])
+            (λ i. drop at self.now ≡ i.now ∷ drop (at + 1) self.now) }
         ensures small { MatchOption result ⊤ (λ i. at < 2 ^ 63) }
     {
         self.items.get(at)
@@ -123,7 +128,8 @@ impl<'a> Old<'a> {
 
     /// The first place from this one on that has the mark.
     fn next(&self, mark: &Mark, from: usize) -> Option<usize>
-        ensures next { MatchOption result (Free self.now mark.now from (length self.now)) (λ at. Next self.now mark.now from at) }
+        ensures next { MatchOption result (Free self.now mark.now from (length self.now))
+            (λ at. Next self.now mark.now from at) }
     {
         let places = self.table.of(mark);
         match places.binary_search(&from) {
@@ -141,7 +147,8 @@ impl<'a> Old<'a> {
 
     /// The End from this place on that leads back to this depth.
     fn next_end(&self, outside: usize, from: usize) -> Option<usize>
-        ensures next { MatchOption result (Free self.now (Closed outside) from (length self.now)) (λ at. Next self.now (Closed outside) from at) }
+        ensures next { MatchOption result (Free self.now (Closed outside) from (length self.now))
+            (λ at. Next self.now (Closed outside) from at) }
     {
         let mark = Mark::Closed(outside);
         self.next(&mark, from)
@@ -176,7 +183,9 @@ impl<'a> Old<'a> {
 
     /// The first item with the mark in so many levels from a place on.
     pub fn find(&self, mark: &Mark, from: usize, levels: usize) -> Result<Option<Spot>, NoMemory>
-        ensures found { IfOk result (λ o. MatchOption o (Absent self.now mark.now from levels) (λ s. Found self.now mark.now from levels s.at s.levels)) }
+        ensures found { IfOk result
+            (λ o. MatchOption o (Absent self.now mark.now from levels)
+            (λ s. Found self.now mark.now from levels s.at s.levels)) }
         ensures small { IfOk result (λ o. MatchOption o ⊤ (λ s. s.at + 1 < 2 ^ 64)) }
     {
         if from > self.items.len() {

@@ -31,7 +31,8 @@ impl Places {
     #[tactic(auto, unfolding(crate::specs::Places::listed, crate::specs::Marks::same_mark))]
     fn take(&mut self, alloc: Global, mark: &Mark) -> Items<usize>
         ensures taken { result ≡ listed self.old mark.now }
-        ensures others { (m : AnyMark) → same_mark mark.now m ≡ false → listed self.new m ≡ listed self.old m }
+        ensures others { (m : AnyMark) → same_mark mark.now m ≡ false
+            → listed self.new m ≡ listed self.old m }
     {
         match self.table.remove(mark) {
             Some(places) => places,
@@ -42,7 +43,10 @@ impl Places {
     /// With one place more.
     #[tactic(auto, unfolding(crate::specs::Places::listed))]
     pub fn add(&mut self, alloc: Global, mark: Mark, at: usize) -> Result<(), NoMemory>
-        ensures added { OnOk result ((m : AnyMark) → listed self.new m ≡ (if same_mark mark m then listed self.old m ++ at ∷ [] else listed self.old m)) }
+        ensures added { OnOk result
+            ((m : AnyMark)
+            → listed self.new m
+            ≡ (if same_mark mark m then listed self.old m ++ at ∷ [] else listed self.old m)) }
     {
         let mut places = self.take(alloc, &mark);
         places.push(at)?;

@@ -68,7 +68,9 @@ fn allocated(item: &Item, key: &Key) -> Option<BlockId>
 }
 
 fn seek_block(old: &Old, rest: usize, levels: usize, key: &Key) -> Result<Option<Spot>, NoMemory>
-    ensures found { IfOk result (λ o. MatchOption o (Absent old.now (Made key.now) rest levels) (λ s. Found old.now (Made key.now) rest levels s.at s.levels)) }
+    ensures found { IfOk result
+        (λ o. MatchOption o (Absent old.now (Made key.now) rest levels)
+        (λ s. Found old.now (Made key.now) rest levels s.at s.levels)) }
     ensures small { IfOk result (λ o. MatchOption o ⊤ (λ s. s.at + 1 < 2 ^ 64)) }
 {
     let mark = Mark::Made(key.copy()?);
@@ -83,7 +85,10 @@ pub fn find_block(
     levels: usize,
     key: &Key,
 ) -> Result<Option<FoundBlock>, NoMemory>
-    ensures value { IfOk result (λ found. MatchOption found (find_alloc key.now levels (drop rest old.now) ≡ None) (λ f. find_alloc key.now levels (drop rest old.now) ≡ Some (record { block = f.block; rest = drop f.rest old.now; levels = f.levels }))) }
+    ensures value { IfOk result
+        (λ found. MatchOption found (find_alloc key.now levels (drop rest old.now) ≡ None)
+        (λ f. find_alloc key.now levels (drop rest old.now)
+        ≡ Some (record { block = f.block; rest = drop f.rest old.now; levels = f.levels }))) }
 {
     let Some(spot) = seek_block(old, rest, levels, key)? else {
         return Ok(None);

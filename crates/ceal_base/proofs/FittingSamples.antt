@@ -11,7 +11,7 @@ use Rattle.ceal_base.specs.declared.word.Word.TheVariants.{Num, Null, Block as B
 
 -- struct cell { int head; mod struct cell tail; };
 abbrev structs : List StructInfo
-structs = record { name = []; fields = record { name = []; kind = Plain Int } ∷ record { name = []; kind = CellPtr 0 } ∷ [] } ∷ []
+structs = record { name = []; fields = record { name = []; kind = Plain Int; row = 0 } ∷ record { name = []; kind = CellPtr 0; row = 0 } ∷ [] } ∷ []
 
 -- a cell, and a modifiable that holds it
 abbrev inputs : List Block

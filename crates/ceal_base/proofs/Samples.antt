@@ -6,12 +6,12 @@ use Rattle.ceal_base.specs.Operators.{binary_value}
 use Rattle.ceal_base.specs.Same.{Same, renamed_block}
 use Rattle.ceal_base.specs.Trace.{trace_of, Nothing, Stepped, Was_read, Wrote}
 use Rattle.ceal_base.specs.declared.forest.Item.TheVariants.{Step, Write, Read, End}
-use Rattle.ceal_base.specs.declared.operators.Binary.TheVariants.{Add, Div, Rem}
+use Rattle.ceal_base.specs.declared.operators.Binary.TheVariants.{Add, Div, Rem, Pick}
 use Rattle.ceal_base.specs.declared.word.BlockId.TheVariants.{Input, Core}
 use Rattle.ceal_base.specs.declared.word.Place.{Place}
 use Rattle.ceal_base.specs.declared.kind.Shape.TheVariants.{Struct}
 use Rattle.ceal_base.specs.declared.word.Word.{Word}
-use Rattle.ceal_base.specs.declared.word.Word.TheVariants.{Num, Null, Block as BlockWord}
+use Rattle.ceal_base.specs.declared.word.Word.TheVariants.{Num, Null, Block as BlockWord, At}
 use Rattle.std.proofs.Common.{negsuc}
 
 abbrev a : Place
@@ -35,6 +35,22 @@ remainder_sign = refl
 
 no_number : binary_value Add Null (Num (pos 1)) ≡ Num (pos 1)
 no_number = refl
+
+-- a row of four from field 1 on: an element, and no element past it and before it
+abbrev row : Word
+row = At (record { block = Input 0; field = 1 })
+
+an_element : binary_value (Pick 4) row (Num (pos 3)) ≡ At (record { block = Input 0; field = 4 })
+an_element = refl
+
+none_past_it : binary_value (Pick 4) row (Num (pos 4)) ≡ Null
+none_past_it = refl
+
+none_before_it : binary_value (Pick 4) row (Num (negsuc 0)) ≡ Null
+none_before_it = refl
+
+none_of_null : binary_value (Pick 4) Null (Num (pos 0)) ≡ Null
+none_of_null = refl
 
 abbrev cell : Word → Word → Block
 cell head tail = record { shape = Struct 0; words = head ∷ tail ∷ [] }

@@ -40,5 +40,5 @@ inc_typed : StmtsTyped (context_of [] (inc ∷ []) inc) (numbers_below 2) 2 inc.
 unfolding StmtsTyped StmtTyped FormTyped hidden-the_row-TypedExpr-0 shape-the_row-TypedExpr-0 denote.Hole.Carrier.hidden
 inc_typed = (
   (refl, refl, (((1, omega arith, refl), refl, refl), refl)),
-  ((((1, omega arith, refl), refl, refl), ((((0, omega arith, refl), refl, refl), refl, (refl, refl), refl), refl)), tt),
+  ((((1, omega arith, refl), refl, refl), ((((0, omega arith, refl), refl, refl), refl, (refl, refl), tt, refl), refl)), tt),
 )

@@ -1,5 +1,5 @@
 -- What the operators give.
-use Rattle.std.specs.Prelude.{ℤ, pos, Bool, true, false, not, ◌==◌, ◌&&◌, ◌||◌, if◌then◌else◌, int_lt, int_le, int_rem}
+use Rattle.std.specs.Prelude.{ℕ, ◌+◌, ◌^◌, nat_lt, ℤ, pos, negsuc, Bool, true, false, not, ◌==◌, ◌&&◌, ◌||◌, if◌then◌else◌, int_lt, int_le, int_rem}
 use Rattle.std.specs.Ordering.{int_eq}
 use Rattle.std.specs.Int.{w64, int_wrapping_add, int_wrapping_sub, int_wrapping_mul, int_wrapping_div, int_wrapping_neg}
 use Rattle.ceal_base.specs.declared.word.BlockId.{BlockId}
@@ -10,7 +10,7 @@ use Rattle.ceal_base.specs.declared.word.Word.TheVariants.{Num, Null, Block, At}
 use Rattle.ceal_base.specs.declared.operators.Unary.{Unary}
 use Rattle.ceal_base.specs.declared.operators.Unary.TheVariants.{Neg, Not}
 use Rattle.ceal_base.specs.declared.operators.Binary.{Binary}
-use Rattle.ceal_base.specs.declared.operators.Binary.TheVariants.{Add, Sub, Mul, Div, Rem, Less, LessEq, More, MoreEq, Same, Differ, And, Or}
+use Rattle.ceal_base.specs.declared.operators.Binary.TheVariants.{Add, Sub, Mul, Div, Rem, Less, LessEq, More, MoreEq, Same, Differ, And, Or, Pick}
 
 -- a word that is no number counts as 0
 abbrev pub number_of : Word → ℤ
@@ -67,8 +67,20 @@ numbers_value Same x y = truth (int_eq x y)
 numbers_value Differ x y = truth (not (int_eq x y))
 numbers_value And x y = truth (not (is_zero x) && not (is_zero y))
 numbers_value Or x y = truth (not (is_zero x) || not (is_zero y))
+numbers_value (Pick row) x y = Null
+
+-- the modifiable so many behind the first one of a row: null where the row has none there
+abbrev pub element : ℕ → Place → ℤ → Word
+element row p (pos i) =
+    if nat_lt i row && nat_lt (p.field + i) (2 ^ 32) then At (record { block = p.block; field = p.field + i }) else Null
+element row p (negsuc i) = Null
+
+abbrev pub picked : ℕ → Word → Word → Word
+picked row (At p) (Num i) = element row p i
+picked row _ _ = Null
 
 abbrev pub binary_value : Binary → Word → Word → Word
 binary_value Same a b = truth (same_word a b)
 binary_value Differ a b = truth (not (same_word a b))
+binary_value (Pick row) a b = picked row a b
 binary_value op a b = numbers_value op (number_of a) (number_of b)

@@ -1,5 +1,5 @@
 -- What a block of a shape has: the types of its fields, and their defaults.
-use Rattle.std.specs.Prelude.{pos, Option, Some, None, List, [], ◌∷◌, map, slice_get}
+use Rattle.std.specs.Prelude.{ℕ, pos, Option, Some, None, List, [], ◌∷◌, map, slice_get}
 use Rattle.ceal_base.specs.Block.{Block}
 use Rattle.ceal_base.specs.declared.kind.FieldKind.{FieldKind}
 use Rattle.ceal_base.specs.declared.kind.FieldKind.TheVariants.{Plain, CellInt, CellPtr}
@@ -32,6 +32,18 @@ kind_of_field f = f.kind
 abbrev pub field_kinds : Option StructInfo → List FieldKind
 field_kinds None = []
 field_kinds (Some s) = map kind_of_field s.fields
+
+abbrev pub row_of_field : FieldInfo → ℕ
+row_of_field f = f.row
+
+-- how long the row is that begins at each field, in text order: 0 where none begins
+abbrev pub field_rows : Option StructInfo → List ℕ
+field_rows None = []
+field_rows (Some s) = map row_of_field s.fields
+
+-- the same of a field by the number of its struct and its own
+abbrev pub row_at : List StructInfo → ℕ → ℕ → Option ℕ
+row_at structs s field = slice_get (field_rows (slice_get structs s)) field
 
 -- the types of the fields of a block of this shape
 abbrev pub kinds_of_shape : List StructInfo → Shape → List FieldKind

@@ -1,11 +1,11 @@
 -- A program that keeps the rules of usage: fields are written by initialisers alone, on `self` alone, and an
 -- initialiser does nothing else.
-use Rattle.std.specs.Prelude.{◌≡◌, Option, Some, None, IsSome, IsNone, IsSomeAnd, List, slice_get, All}
+use Rattle.std.specs.Prelude.{◌≡◌, Bool, true, false, Option, Some, None, IsSome, IsNone, IsSomeAnd, List, slice_get, All}
 use Rattle.ceal_base.specs.declared.typed.Typed.{Typed}
 use Rattle.ceal_base.specs.declared.typed.TypedForm.TheBlock.{Row_of-TypedExpr, end_of-TypedExpr, more_of-TypedExpr}
 use Rattle.ceal_base.specs.declared.typed.TypedForm.{TypedForm, Num, Null, Var, Own, Unary', Binary', Field', Address'}
 use Rattle.ceal_base.specs.declared.typed.TypedFunction.{TypedFunction}
-use Rattle.ceal_base.specs.declared.typed.TypedStmt.{TypedStmt, Declare, Assign, SetField, Write, Call, If', While', Return}
+use Rattle.ceal_base.specs.declared.typed.TypedStmt.{TypedStmt, Declare, Assign, SetField, Write, Call, If', While', Return, Break, Continue}
 use Rattle.ceal_base.specs.declared.typed.TypedStmt.{Row_of-TypedStmt, end_of-TypedStmt, more_of-TypedStmt}
 use Rattle.ceal_base.specs.declared.typed.TypedValue.{TypedValue}
 use Rattle.ceal_base.specs.declared.typed.TypedValue.TheVariants.{Plain, Read, Alloc, ModrefInt, Modref}
@@ -41,21 +41,24 @@ ValueUsage fs (Alloc at shape f name args) = IsInitialiser (slice_get fs f)
 ValueUsage fs (ModrefInt at) = Unit {0}
 ValueUsage fs (Modref at s) = Unit {0}
 
--- a statement of a core function: no field is written, and only core functions are called
+-- a statement of a core function: no field is written, only core functions are called, and `break` and `continue`
+-- stand in a loop; the truth value says whether the statement stands in one
 unfoldable mutual
-  pub CoreUsage : List TypedFunction → TypedStmt → Type 0
-  CoreUsage fs (Declare at n kind value) = ValueUsage fs value
-  CoreUsage fs (Assign at n value) = ValueUsage fs value
-  CoreUsage fs (SetField at left s field e) = ⊥
-  CoreUsage fs (Write at place e) = Unit {0}
-  CoreUsage fs (Call at f args) = IsCore (slice_get fs f)
-  CoreUsage fs (If' at test _ first _ second) = RowCoreUsage fs first × RowCoreUsage fs second
-  CoreUsage fs (While' at test _ body) = RowCoreUsage fs body
-  CoreUsage fs (Return at) = Unit {0}
+  pub CoreUsage : List TypedFunction → Bool → TypedStmt → Type 0
+  CoreUsage fs looped (Declare at n kind value) = ValueUsage fs value
+  CoreUsage fs looped (Assign at n value) = ValueUsage fs value
+  CoreUsage fs looped (SetField at left s field e) = ⊥
+  CoreUsage fs looped (Write at place e) = Unit {0}
+  CoreUsage fs looped (Call at f args) = IsCore (slice_get fs f)
+  CoreUsage fs looped (If' at test _ first _ second) = RowCoreUsage fs looped first × RowCoreUsage fs looped second
+  CoreUsage fs looped (While' at test _ body) = RowCoreUsage fs true body
+  CoreUsage fs looped (Return at) = Unit {0}
+  CoreUsage fs looped (Break at) = looped ≡ true
+  CoreUsage fs looped (Continue at) = looped ≡ true
 
-  pub RowCoreUsage : List TypedFunction → {n : _} → Row_of-TypedStmt n → Type 0
-  RowCoreUsage fs end_of-TypedStmt = Unit {0}
-  RowCoreUsage fs (more_of-TypedStmt s rest) = CoreUsage fs s × RowCoreUsage fs rest
+  pub RowCoreUsage : List TypedFunction → Bool → {n : _} → Row_of-TypedStmt n → Type 0
+  RowCoreUsage fs looped end_of-TypedStmt = Unit {0}
+  RowCoreUsage fs looped (more_of-TypedStmt s rest) = CoreUsage fs looped s × RowCoreUsage fs looped rest
 
 -- a statement of an initialiser: `self->f = E`, or an `if`, with `self` nowhere else
 unfoldable mutual
@@ -68,13 +71,15 @@ unfoldable mutual
   InitUsage (If' at test _ first _ second) = WithoutOwn test.form × RowInitUsage first × RowInitUsage second
   InitUsage (While' at test _ body) = ⊥
   InitUsage (Return at) = ⊥
+  InitUsage (Break at) = ⊥
+  InitUsage (Continue at) = ⊥
 
   pub RowInitUsage : {n : _} → Row_of-TypedStmt n → Type 0
   RowInitUsage end_of-TypedStmt = Unit {0}
   RowInitUsage (more_of-TypedStmt s rest) = InitUsage s × RowInitUsage rest
 
 abbrev pub FunctionUsage : List TypedFunction → TypedFunction → Type 0
-FunctionUsage fs f = elim f.initialiser [ None ↦ All (CoreUsage fs) f.body | Some s ↦ All InitUsage f.body ]
+FunctionUsage fs f = elim f.initialiser [ None ↦ All (CoreUsage fs false) f.body | Some s ↦ All InitUsage f.body ]
 
 abbrev pub KeepsUsage : Typed → Type 0
 KeepsUsage program = All (FunctionUsage program.functions) program.functions

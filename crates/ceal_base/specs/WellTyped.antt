@@ -3,13 +3,13 @@
 use Rattle.std.specs.Prelude.{◌≡◌, ℕ, zero, suc, ◌+◌, ◌<◌, ◌≤◌, Option, Some, None, MatchOption, IfSome, IsSome, List, [], ◌∷◌, length, map, take, slice_get, All, Contains}
 use Rattle.std.specs.List.{IsDistinct}
 use Rattle.std.specs.Str.{bytes_eq}
-use Rattle.ceal_base.specs.Shapes.{field_kinds}
+use Rattle.ceal_base.specs.Shapes.{field_kinds, row_at}
 use Rattle.ceal_base.specs.declared.kind.FieldKind.{FieldKind}
 use Rattle.ceal_base.specs.declared.kind.FieldKind.TheVariants.{Plain, CellInt, CellPtr}
 use Rattle.ceal_base.specs.declared.kind.Kind.{Kind}
 use Rattle.ceal_base.specs.declared.kind.Kind.TheVariants.{Int, Ptr, ModInt, ModPtr}
 use Rattle.ceal_base.specs.declared.operators.Binary.{Binary}
-use Rattle.ceal_base.specs.declared.operators.Binary.TheVariants.{Same, Differ}
+use Rattle.ceal_base.specs.declared.operators.Binary.TheVariants.{Same, Differ, Pick}
 use Rattle.ceal_base.specs.declared.typed.FieldInfo.{FieldInfo}
 use Rattle.ceal_base.specs.declared.typed.StructInfo.{StructInfo}
 use Rattle.ceal_base.specs.declared.typed.Typed.{Typed}
@@ -17,7 +17,7 @@ use Rattle.ceal_base.specs.declared.typed.TypedExpr.{TypedExpr}
 use Rattle.ceal_base.specs.declared.typed.TypedForm.TheBlock.{Row_of-TypedExpr, end_of-TypedExpr, more_of-TypedExpr}
 use Rattle.ceal_base.specs.declared.typed.TypedForm.{TypedForm, Num, Null, Var, Own, Unary', Binary', Field', Address'}
 use Rattle.ceal_base.specs.declared.typed.TypedFunction.{TypedFunction}
-use Rattle.ceal_base.specs.declared.typed.TypedStmt.{TypedStmt, Declare, Assign, SetField, Write, Call, If', While', Return}
+use Rattle.ceal_base.specs.declared.typed.TypedStmt.{TypedStmt, Declare, Assign, SetField, Write, Call, If', While', Return, Break, Continue}
 use Rattle.ceal_base.specs.declared.typed.TypedStmt.{Row_of-TypedStmt, end_of-TypedStmt, more_of-TypedStmt}
 use Rattle.ceal_base.specs.declared.typed.TypedValue.{TypedValue}
 use Rattle.ceal_base.specs.declared.typed.TypedValue.TheVariants.{Plain as PlainValue, Read, Alloc, ModrefInt, Modref}
@@ -54,7 +54,13 @@ Comparable (Some kind) (Some other) = kind ≡ other
 abbrev pub OperandsSuit : Binary → Option Kind → Option Kind → Type 0
 OperandsSuit Same left right = Comparable left right
 OperandsSuit Differ left right = Comparable left right
+OperandsSuit (Pick row) left right = IsSome left × (right ≡ Some Int)
 OperandsSuit op left right = (left ≡ Some Int) × (right ≡ Some Int)
+
+-- the kind of what the operator gives; an element of a row has the kind of the address of the first one
+abbrev pub kind_given : Binary → Option Kind → Option Kind
+kind_given (Pick row) left = left
+kind_given op left = Some Int
 
 -- the kind of what a modifiable holds, given the kind of a pointer to it
 abbrev pub kind_held : Option Kind → Option Kind
@@ -88,6 +94,20 @@ abbrev pub operand_kind : {n : _} → Row_of-TypedExpr n → Option Kind
 operand_kind end_of-TypedExpr = None
 operand_kind (more_of-TypedExpr span kind form rest) = kind
 
+-- the form is the address of the first modifiable of a row of this length
+abbrev pub FormStartsRow : List StructInfo → ℕ → TypedForm → Type 0
+FormStartsRow structs row (Address' _ a s field) = (0 < row) × (row_at structs s field ≡ Some row)
+FormStartsRow structs row _ = ⊥
+
+abbrev pub StartsRow : List StructInfo → ℕ → {n : _} → Row_of-TypedExpr n → Type 0
+StartsRow structs row end_of-TypedExpr = ⊥
+StartsRow structs row (more_of-TypedExpr span kind form rest) = FormStartsRow structs row form
+
+-- what else the operator asks of its left operand
+abbrev pub LeftSuits : List StructInfo → Binary → {n : _} → Row_of-TypedExpr n → Type 0
+LeftSuits structs (Pick row) a = StartsRow structs row a
+LeftSuits structs op a = Unit {0}
+
 -- an expression of this form has this kind, where these variables are in scope
 unfoldable mutual
   pub FormTyped : Context → List ℕ → Option Kind → TypedForm → Type 0
@@ -97,7 +117,8 @@ unfoldable mutual
   FormTyped c seen kind Own = IfSome c.own (λ s. kind ≡ Some (Ptr s)) × IsSome c.own
   FormTyped c seen kind (Unary' op _ a) = OperandTyped c seen a × (operand_kind a ≡ Some Int) × (kind ≡ Some Int)
   FormTyped c seen kind (Binary' op at _ a _ b) =
-      OperandTyped c seen a × OperandTyped c seen b × OperandsSuit op (operand_kind a) (operand_kind b) × (kind ≡ Some Int)
+      OperandTyped c seen a × OperandTyped c seen b × OperandsSuit op (operand_kind a) (operand_kind b)
+      × LeftSuits c.structs op a × (kind ≡ kind_given op (operand_kind a))
   FormTyped c seen kind (Field' _ a s field) =
       OperandTyped c seen a × (operand_kind a ≡ Some (Ptr s)) × IsSome kind × (plain_kind (field_kind c.structs s field) ≡ kind)
   FormTyped c seen kind (Address' _ a s field) =
@@ -178,6 +199,8 @@ unfoldable mutual
       ExprTyped c seen test × (test.kind ≡ Some Int) × RowTyped c seen next first × RowTyped c seen (next + row_declarations first) second
   StmtTyped c seen next (While' at test _ body) = ExprTyped c seen test × (test.kind ≡ Some Int) × RowTyped c seen next body
   StmtTyped c seen next (Return at) = Unit {0}
+  StmtTyped c seen next (Break at) = Unit {0}
+  StmtTyped c seen next (Continue at) = Unit {0}
 
   pub RowTyped : Context → List ℕ → ℕ → {n : _} → Row_of-TypedStmt n → Type 0
   RowTyped c seen next end_of-TypedStmt = Unit {0}
@@ -215,11 +238,27 @@ function_name f = f.name.text
 abbrev pub name_of_field : FieldInfo → List ℕ
 name_of_field f = f.name
 
--- the struct has at most 255 fields, of different names, whose structs are there
+abbrev pub IsCell : FieldKind → Type 0
+IsCell (Plain kind) = ⊥
+IsCell CellInt = Unit {0}
+IsCell (CellPtr s) = Unit {0}
+
+-- behind the first modifiable of a row come the others, of the same kind
+abbrev pub RowWhole : ℕ → FieldKind → List FieldInfo → Type 0
+RowWhole zero kind rest = Unit {0}
+RowWhole (suc n) kind rest =
+    IsCell kind × (n ≤ length rest) × All (λ f. (f.kind ≡ kind) × (f.row ≡ 0)) (take n rest)
+
+unfoldable pub RowsWhole : List FieldInfo → Type 0
+RowsWhole [] = Unit {0}
+RowsWhole (f ∷ rest) = RowWhole f.row f.kind rest × RowsWhole rest
+
+-- the struct has at most 255 fields, of different names, whose structs are there, and its rows are whole
 pub record StructTyped (structs : List StructInfo) (s : StructInfo) : Type 0 where
   pub few : length s.fields ≤ 255
   pub names : IsDistinct bytes_eq (map name_of_field s.fields)
   pub fields : All (FieldKnown structs) s.fields
+  pub rows : RowsWhole s.fields
 
 pub record WellTyped (program : Typed) : Type 0 where
   pub struct_names : IsDistinct bytes_eq (map struct_name program.structs)

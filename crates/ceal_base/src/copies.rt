@@ -143,6 +143,8 @@ pub fn copied_stmt(alloc: Global, s: &TypedStmt) -> Result<TypedStmt, NoMemory>
             Ok(TypedStmt::While(*at, test, body))
         }
         TypedStmt::Return(at) => Ok(TypedStmt::Return(*at)),
+        TypedStmt::Break(at) => Ok(TypedStmt::Break(*at)),
+        TypedStmt::Continue(at) => Ok(TypedStmt::Continue(*at)),
     }
 }
 
@@ -208,6 +210,7 @@ fn copied_fields(alloc: Global, fields: &[FieldInfo]) -> Result<Items<FieldInfo>
         copies.push(FieldInfo {
             name,
             kind: field.kind,
+            row: field.row,
         })?;
     }
     Ok(Items::new(copies))

@@ -50,6 +50,8 @@ pub enum FaultCode {
     U4,
     /// an `alloc` by a core function
     U5,
+    /// a `break` or `continue` in no loop
+    U6,
     /// too many blocks
     L1,
 }

@@ -19,6 +19,7 @@ pub mod laws;
 pub mod memory;
 pub mod no_memory;
 pub mod operators;
+pub mod recorded;
 pub mod shapes;
 pub mod syntax;
 pub mod text;

@@ -32,7 +32,8 @@ impl BlockWords {
     }
 
     pub fn push(&mut self, item: Word) -> Result<(), NoMemory>
-        ensures ok { OnOk result (self.new ≡ record self.old { words = self.old.words ++ item ∷ [] }) }
+        ensures ok { OnOk result
+            (self.new ≡ record self.old { words = self.old.words ++ item ∷ [] }) }
         ensures err { OnErr result (self.new ≡ self.old) }
     {
         self.words.push(item)?;
@@ -138,7 +139,8 @@ impl Memory {
     }
 
     pub fn push(&mut self, item: BlockWords) -> Result<(), NoMemory>
-        ensures ok { OnOk result (self.new ≡ record self.old { made = self.old.made ++ item ∷ [] }) }
+        ensures ok { OnOk result
+            (self.new ≡ record self.old { made = self.old.made ++ item ∷ [] }) }
         ensures err { OnErr result (self.new ≡ self.old) }
     {
         self.made.push(item)?;

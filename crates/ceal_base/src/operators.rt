@@ -1,9 +1,9 @@
 // The operators of the language, which are total. Numbers have 64 bits and wrap, as C's unsigned arithmetic does.
 
 ghost use Rattle.std.specs.Prelude.{◌≡◌};
-ghost use Rattle.ceal_base.specs.Operators.{number_of, truth, unary_value, binary_value};
+ghost use Rattle.ceal_base.specs.Operators.{number_of, truth, unary_value, binary_value, element, picked};
 
-use crate::word::Word;
+use crate::word::{Place, Word};
 
 /// An operator on one word. Both take a word that is no number as 0.
 #[derive(Clone, Copy, PartialEq, Eq, Debug)]
@@ -14,7 +14,7 @@ pub enum Unary {
     Not,
 }
 
-/// An operator on two words. Every one but `Same` and `Differ` takes a word that is no number as 0.
+/// An operator on two words. Every one but `Same`, `Differ` and `Pick` takes a word that is no number as 0.
 #[derive(Clone, Copy, PartialEq, Eq, Debug)]
 pub enum Binary {
     Add,
@@ -34,6 +34,9 @@ pub enum Binary {
     Differ,
     And,
     Or,
+    /// the element of a row of so many modifiables, by the place of its first one and an index; null of an index below 0
+    /// or past the row
+    Pick(u32),
 }
 
 /// The number in a word, and 0 of any other word.
@@ -61,6 +64,31 @@ pub fn apply_unary(op: Unary, a: Word) -> Word
     }
 }
 
+/// The place so many modifiables behind the first one of a row.
+fn row_element(row: u32, first: Place, index: i64) -> Word
+    ensures value { result ≡ element row first index }
+{
+    if index < 0 || index >= row as i64 {
+        return Word::Null;
+    }
+    match first.field.checked_add(index as u32) {
+        Some(field) => Word::At(Place {
+            block: first.block,
+            field,
+        }),
+        None => Word::Null,
+    }
+}
+
+fn picked_word(row: u32, first: Word, index: Word) -> Word
+    ensures value { result ≡ picked row first index }
+{
+    match (first, index) {
+        (Word::At(first), Word::Num(index)) => row_element(row, first, index),
+        _ => Word::Null,
+    }
+}
+
 pub fn apply_binary(op: Binary, a: Word, b: Word) -> Word
     ensures value { result ≡ binary_value op a b }
 {
@@ -80,5 +108,6 @@ pub fn apply_binary(op: Binary, a: Word, b: Word) -> Word
         Binary::Differ => truth_word(a != b),
         Binary::And => truth_word(x != 0 && y != 0),
         Binary::Or => truth_word(x != 0 || y != 0),
+        Binary::Pick(row) => picked_word(row, a, b),
     }
 }

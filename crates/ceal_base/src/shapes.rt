@@ -42,7 +42,8 @@ pub fn field_kind(structs: &[StructInfo], shape: Shape, field: u32) -> Option<Fi
 }
 
 fn default_words(alloc: Global, fields: &[FieldInfo]) -> Result<Vec<Word>, NoMemory>
-    ensures { IfOk result (λ words. words.items ≡ map default_of_field (map kind_of_field fields.now)) }
+    ensures { IfOk result
+        (λ words. words.items ≡ map default_of_field (map kind_of_field fields.now)) }
 {
     let mut words = Vec::new(alloc);
     for f in fields {

@@ -38,6 +38,8 @@ pub enum ExprForm {
     Field(Boxed<Expr>, Ident),
     /// `&E`
     Address(Boxed<Expr>),
+    /// `&E[I]`: the field access, which names a row of modifiables, and the index
+    Pick(Boxed<Expr>, Boxed<Expr>),
 }
 
 /// Expressions in text order.
@@ -58,6 +60,10 @@ pub enum TypeForm {
     CellInt,
     /// `mod struct S f`, of a field alone
     CellPtr(Ident),
+    /// `mod int f[N]`, of a field alone: a row of N modifiables
+    CellRow(u32),
+    /// `mod struct S f[N]`, of a field alone
+    CellPtrRow(Ident, u32),
 }
 
 /// What a variable is given. The span is that of `read`, `alloc` or `modref`.
@@ -84,6 +90,8 @@ pub enum Stmt {
     If(Span, Expr, Items<Stmt>, Items<Stmt>),
     While(Span, Expr, Items<Stmt>),
     Return(Span),
+    Break(Span),
+    Continue(Span),
 }
 
 /// Statements in text order.

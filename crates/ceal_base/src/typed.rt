@@ -10,11 +10,13 @@ use crate::operators::{Binary, Unary};
 use crate::syntax::Ident;
 use crate::text::Text;
 
-/// A field of a struct.
+/// A field of a struct. A row of modifiables `f[N]` is N fields of one kind, named `f[0]` to `f[N-1]`: `row` is N at the
+/// first of them, and 0 at every other field.
 #[derive(Drop)]
 pub struct FieldInfo {
     pub name: Text,
     pub kind: FieldKind,
+    pub row: u32,
 }
 
 /// A struct: its name, and its fields in text order.
@@ -47,7 +49,8 @@ pub enum TypedForm {
     /// `self`
     Own,
     Unary(Unary, Boxed<TypedExpr>),
-    /// the span is that of the operator
+    /// the span is that of the operator; of `Pick` it is that of the field's name, and its operands are the address of
+    /// the row's first modifiable and the index
     Binary(Binary, Span, Boxed<TypedExpr>, Boxed<TypedExpr>),
     /// a plain field: what stands left of the last `->`, the struct's number, the field's number
     Field(Boxed<TypedExpr>, u32, u32),
@@ -89,6 +92,8 @@ pub enum TypedStmt {
     If(Span, TypedExpr, Items<TypedStmt>, Items<TypedStmt>),
     While(Span, TypedExpr, Items<TypedStmt>),
     Return(Span),
+    Break(Span),
+    Continue(Span),
 }
 
 /// Statements in text order.

@@ -3,10 +3,9 @@ use Rattle.std.proofs.Common.{◌≡◌, inl, inr, ℕ, Bool, true, List, [], �
 use Rattle.std.specs.List.{starts_with}
 use Rattle.std.proofs.lemmas.Bool.Decides.{Decides-eqb}
 use Rattle.std.proofs.lemmas.Slice.Eq.{starts_is}
-use Rattle.ceal_session.specs.Replies.{Answers}
-use Rattle.ceal_session.specs.State.{State}
-use Rattle.ceal_cli.specs.Growth.{WritesReplies, BeginsToReply, BeginRepliesFromRun, WritesFromRun, BeginsFromRun}
-use Rattle.ceal_cli.specs.Output.{IsRunLine, AreRepliesFromRun}
+use Rattle.ceal_session.specs.State.{Situation}
+use Rattle.ceal_cli.specs.Growth.{Serves, AreServedFromRun, BeginServedFromRun, WritesReplies, BeginsToReply, WritesFromRun, BeginsFromRun}
+use Rattle.ceal_cli.specs.Output.{IsRunLine}
 use Rattle.ceal_cli.proofs.Growing.{nothing, weaker}
 
 -- what is compared with `run ` at its front
@@ -16,17 +15,17 @@ run_line line r e =
     ((λ t. record { rest = drop 4 line; same = sym (begins.0 t) }), λ p. begins.1 p.rest (sym p.same))
 
 -- Lines were answered, none of them a run, and these are left.
-pub record Before (start here : State) (all left : List (List ℕ)) : Type 0 where
-  pub whole : (out : List ℕ) → AreRepliesFromRun here left out → AreRepliesFromRun start all out
-  pub begun : (out : List ℕ) → BeginRepliesFromRun here left out → BeginRepliesFromRun start all out
+pub record Before (start here : Situation) (all left : List (List ℕ)) : Type 0 where
+  pub whole : (out : List ℕ) → AreServedFromRun here left out → AreServedFromRun start all out
+  pub begun : (out : List ℕ) → BeginServedFromRun here left out → BeginServedFromRun start all out
 
-pub none_before : (s : State) (lines : List (List ℕ)) → Before s s lines lines
+pub none_before : (s : Situation) (lines : List (List ℕ)) → Before s s lines lines
 none_before s lines = record { whole = λ out h. h; begun = λ out h. h }
 
-module _ (start here : State) (all lines : List (List ℕ)) (line : List ℕ) (before : Before start here all (line ∷ lines)) where
+module _ (start here : Situation) (all lines : List (List ℕ)) (line : List ℕ) (before : Before start here all (line ∷ lines)) where
   -- one more line was answered
-  pub one_before : (next : State) (text : List ℕ) → (IsRunLine line → ⊥) → Answers here line text next → Before start next all lines
-  unfolding AreRepliesFromRun BeginRepliesFromRun
+  pub one_before : (next : Situation) (text : List ℕ) → (IsRunLine line → ⊥) → Serves here line text next → Before start next all lines
+  unfolding AreServedFromRun BeginServedFromRun
   one_before next text other answers = record {
     whole = λ out h. before.whole out (inr (other, text, next, answers, h));
     begun = λ out h. before.begun out (inr (inr (other, text, next, answers, h)));
@@ -35,25 +34,25 @@ module _ (start here : State) (all lines : List (List ℕ)) (line : List ℕ) (b
   module _ (old a b : Option (List ℕ)) (same : a ≡ old) where
     -- the line is a run, and the replies from it on were written
     pub from_here : {E : Type 0} (r : Result (Unit {0}) E) → IsRunLine line → OnOk r (WritesReplies a b here (line ∷ lines)) → OnOk r (WritesFromRun old b start all)
-    unfolding AreRepliesFromRun
+    unfolding AreServedFromRun
     from_here (Ok u) is h = subst (λ (o : Option (List ℕ)). WritesFromRun o b start all) same (weaker (λ out replies. before.whole out (inl (is, replies))) h)
     from_here (Err e) is h = tt
 
     pub begun_here : IsRunLine line → BeginsToReply a b here (line ∷ lines) → BeginsFromRun old b start all
-    unfolding BeginRepliesFromRun
+    unfolding BeginServedFromRun
     begun_here is h = subst (λ (o : Option (List ℕ)). BeginsFromRun o b start all) same (weaker (λ out begins. before.begun out (inr (inl (is, begins)))) h)
 
   -- nothing was written
   pub none_begun : (old a : Option (List ℕ)) → a ≡ old → BeginsFromRun old a start all
-  unfolding BeginRepliesFromRun
+  unfolding BeginServedFromRun
   none_begun old a same = subst (λ (o : Option (List ℕ)). BeginsFromRun o a start all) same (nothing a _ (before.begun [] (inl refl)))
 
 -- no line is left
-module _ (start here : State) (all : List (List ℕ)) (before : Before start here all []) (old a : Option (List ℕ)) (same : a ≡ old) where
+module _ (start here : Situation) (all : List (List ℕ)) (before : Before start here all []) (old a : Option (List ℕ)) (same : a ≡ old) where
   pub no_run : WritesFromRun old a start all
-  unfolding AreRepliesFromRun
+  unfolding AreServedFromRun
   no_run = subst (λ (o : Option (List ℕ)). WritesFromRun o a start all) same (nothing a _ (before.whole [] refl))
 
   pub no_run_begun : BeginsFromRun old a start all
-  unfolding BeginRepliesFromRun
+  unfolding BeginServedFromRun
   no_run_begun = subst (λ (o : Option (List ℕ)). BeginsFromRun o a start all) same (nothing a _ (before.begun [] refl))

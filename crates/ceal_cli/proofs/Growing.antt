@@ -3,9 +3,8 @@ use Rattle.std.proofs.Common.{◌≡◌, ◌⊎◌, inl, inr, ℕ, ◌≤◌, Li
 use Rattle.std.specs.Io.KnownBytes.{Appends}
 use Rattle.std.proofs.KnownBytes.{Appends-trans, Appends-nil}
 use Rattle.ceal_io.specs.Streams.{GrowsByPrefix}
-use Rattle.ceal_session.specs.Replies.{Answers, AreReplies}
-use Rattle.ceal_session.specs.State.{State}
-use Rattle.ceal_cli.specs.Growth.{Grows, WritesReply, WritesPart, BeginsReply, BeginReplies, WritesReplies, BeginsToReply}
+use Rattle.ceal_session.specs.State.{Situation}
+use Rattle.ceal_cli.specs.Growth.{Grows, Serves, AreServed, BeginServed, WritesReply, WritesPart, BeginsReply, WritesReplies, BeginsToReply}
 use Rattle.ceal_cli.specs.Output.{IsPrefix}
 
 -- what was written of a piece begins it
@@ -20,22 +19,22 @@ pub weaker : {a b : Option (List ℕ)} {P Q : List ℕ → Type 0} → ((out : L
 weaker f g = record { out = g.out; is = f g.out g.is; appends = g.appends }
 
 -- So far some text was written behind which the replies to what is left, or their beginning, are to be put.
-pub record SoFar (old now : Option (List ℕ)) (start here : State) (all left : List (List ℕ)) : Type 0 where
+pub record SoFar (old now : Option (List ℕ)) (start here : Situation) (all left : List (List ℕ)) : Type 0 where
   pub part : List ℕ
   pub appends : Appends old now part
-  pub whole : (rest : List ℕ) → AreReplies here left rest → AreReplies start all (part ++ rest)
-  pub begun : (rest : List ℕ) → BeginReplies here left rest → BeginReplies start all (part ++ rest)
+  pub whole : (rest : List ℕ) → AreServed here left rest → AreServed start all (part ++ rest)
+  pub begun : (rest : List ℕ) → BeginServed here left rest → BeginServed start all (part ++ rest)
 
-pub at_start : (a : Option (List ℕ)) (s : State) (lines : List (List ℕ)) → SoFar a a s s lines lines
+pub at_start : (a : Option (List ℕ)) (s : Situation) (lines : List (List ℕ)) → SoFar a a s s lines lines
 at_start a s lines = record { part = []; appends = Appends-nil a; whole = λ rest h. h; begun = λ rest h. h }
 
-module _ (a b c : Option (List ℕ)) (start here next : State) (all lines : List (List ℕ)) (line : List ℕ) (so_far : SoFar a b start here all (line ∷ lines)) where
-  more_replies : (text rest : List ℕ) → Answers here line text next → AreReplies next lines rest → AreReplies here (line ∷ lines) (text ++ rest)
-  unfolding AreReplies
+module _ (a b c : Option (List ℕ)) (start here next : Situation) (all lines : List (List ℕ)) (line : List ℕ) (so_far : SoFar a b start here all (line ∷ lines)) where
+  more_replies : (text rest : List ℕ) → Serves here line text next → AreServed next lines rest → AreServed here (line ∷ lines) (text ++ rest)
+  unfolding AreServed
   more_replies text rest answers h = (text, next, rest, answers, h, refl)
 
-  more_begun : (text rest : List ℕ) → Answers here line text next → BeginReplies next lines rest → BeginReplies here (line ∷ lines) (text ++ rest)
-  unfolding BeginReplies
+  more_begun : (text rest : List ℕ) → Serves here line text next → BeginServed next lines rest → BeginServed here (line ∷ lines) (text ++ rest)
+  unfolding BeginServed
   more_begun text rest answers h = inr (text, next, answers, inr (rest, refl, h))
 
   -- one more reply was written whole
@@ -47,8 +46,8 @@ module _ (a b c : Option (List ℕ)) (start here next : State) (all lines : List
     begun = λ rest h. rw (append_assoc so_far.part w.out rest) (so_far.begun (w.out ++ rest) (more_begun w.out rest w.is h));
   }
 
-  part_begun : (out : List ℕ) → BeginsReply here line out → BeginReplies here (line ∷ lines) out
-  unfolding BeginReplies
+  part_begun : (out : List ℕ) → BeginsReply here line out → BeginServed here (line ∷ lines) out
+  unfolding BeginServed
   part_begun out (inl e) = inl e
   part_begun out (inr (text, after, answers, prefix)) = inr (text, after, answers, inl prefix)
 
@@ -60,13 +59,13 @@ module _ (a b c : Option (List ℕ)) (start here next : State) (all lines : List
     appends = Appends-trans a b c so_far.part w.out so_far.appends w.appends;
   }
 
-module _ (a b : Option (List ℕ)) (start here : State) (all : List (List ℕ)) (so_far : SoFar a b start here all []) where
-  none_left : AreReplies here [] []
-  unfolding AreReplies
+module _ (a b : Option (List ℕ)) (start here : Situation) (all : List (List ℕ)) (so_far : SoFar a b start here all []) where
+  none_left : AreServed here [] []
+  unfolding AreServed
   none_left = refl
 
-  none_begun : BeginReplies here [] []
-  unfolding BeginReplies
+  none_begun : BeginServed here [] []
+  unfolding BeginServed
   none_begun = refl
 
   pub all_written : WritesReplies a b start all
@@ -76,6 +75,6 @@ module _ (a b : Option (List ℕ)) (start here : State) (all : List (List ℕ)) 
   all_begun = record { out = so_far.part; is = rw (← append-nil so_far.part) (so_far.begun [] none_begun); appends = so_far.appends }
 
 -- what was written of the reply to a line begins it
-pub begins_reply : (a b : Option (List ℕ)) (s next : State) (line text : List ℕ) → Answers s line text next → GrowsByPrefix a b text → WritesPart a b s line
+pub begins_reply : (a b : Option (List ℕ)) (s next : Situation) (line text : List ℕ) → Serves s line text next → GrowsByPrefix a b text → WritesPart a b s line
 begins_reply a b s next line text answers grows =
     weaker (λ out prefix. inr (text, next, answers, prefix)) (of_prefix a b text grows)

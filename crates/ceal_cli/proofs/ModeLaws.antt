@@ -1,10 +1,10 @@
 -- Words ask for one thing at most.
-use Rattle.std.proofs.Common.{◌≡◌, ◌≤◌, ◌^◌, arith, ◌∙◌, List, [], ◌∷◌, ℕ, Option, Some, None, sym, ap, ap₂, subst, codes, if◌then◌else◌}
+use Rattle.std.proofs.Common.{◌≡◌, ◌≤◌, ◌^◌, inl, inr, arith, ◌∙◌, List, [], ◌∷◌, ℕ, Option, Some, None, sym, ap, ap₂, subst, codes, if◌then◌else◌}
 use Rattle.std.specs.Str.{bytes_eq}
 use Rattle.std.specs.Str.Parse.{digits_value}
 use Rattle.ceal_cli.specs.CommandLine.{Chooses, IsFuel}
 use Rattle.ceal_cli.specs.Fuel.{DEFAULT_FUEL}
-use Rattle.ceal_cli.specs.Modes.{Asks, AskToGenerate, AskToRead, ReadsInput}
+use Rattle.ceal_cli.specs.Modes.{Asks, AskToGenerate, AskToRead, KeepsLimits, ReadsInput}
 use Rattle.ceal_cli.specs.declared.words.Mode.{Mode}
 use Rattle.ceal_gen.specs.declared.kind.Workload.{Workload}
 use Rattle.ceal_cli.specs.declared.words.Mode.TheVariants.{Check, List as Listing, Run, Gen}
@@ -57,3 +57,11 @@ one_workload P words k l m n s t x y h = subst (of_workload P) (one_mode words (
 -- the size of a workload that words ask for is far below the limit on inputs
 pub small_size : (words : List (List ℕ)) (kind : Workload) (seed size : ℕ) → Asks words (Gen kind seed size) → size ≤ 2 ^ 24
 small_size words kind seed size asks = let most = asks.1.size_is.most in omega (arith, most)
+
+-- the fuel that words ask for is within the limits
+pub keeps_limits : (words : List (List ℕ)) (mode : Mode) → Asks words mode → KeepsLimits mode
+keeps_limits words Check asks = tt
+keeps_limits words Listing asks = tt
+keeps_limits words (Run fuel) (inl asks) = let e = asks.1 in (omega (arith, e), omega (arith, e))
+keeps_limits words (Run fuel) (inr asks) = let spells = asks.2.1 in let least = spells.least in let most = spells.most in (omega (arith, least), omega (arith, most))
+keeps_limits words (Gen kind seed size) asks = tt

@@ -1,5 +1,5 @@
 -- An input has one output at most, whatever the words ask for.
-use Rattle.std.proofs.Common.{◌≡◌, ◌⊎◌, inl, inr, ℕ, Result, Ok, Err, List, [], ◌∷◌, ◌++◌, refl, sym, ap, ◌∙◌, subst}
+use Rattle.std.proofs.Common.{◌≡◌, ◌⊎◌, inl, inr, ℕ, Option, None, Result, Ok, Err, List, [], ◌∷◌, ◌++◌, refl, sym, ap, ◌∙◌, subst}
 use Rattle.ceal_base.specs.declared.fault.Fault.{Fault}
 use Rattle.ceal_base.specs.declared.typed.Typed.{Typed}
 use Rattle.ceal_code.specs.Listing.{listing_text}
@@ -9,15 +9,17 @@ use Rattle.ceal_compile.specs.Laws.{One_code_law}
 use Rattle.ceal_compile.specs.Source.{Comes, IsProgram, IsFirstFault}
 use Rattle.ceal_lex.specs.Parts.{IsSplit}
 use Rattle.ceal_lex.specs.declared.parts.Split.{Split}
-use Rattle.ceal_session.specs.Laws.{One_state_law, One_script_law}
-use Rattle.ceal_session.specs.Replies.{AreReplies}
+use Rattle.ceal_session.specs.Laws.{One_command_law, One_state_law, One_script_law, One_works_law}
+use Rattle.ceal_session.specs.Replies.{Works, taken, AreReplies, IsReplied}
 use Rattle.ceal_session.specs.Runs.{begun}
 use Rattle.ceal_session.specs.State.{State}
+use Rattle.ceal_session.specs.Works.{completes}
 use Rattle.ceal_cli.specs.Fuel.{DEFAULT_FUEL}
 use Rattle.ceal_cli.specs.Laws.{One_output_law}
 use Rattle.ceal_cli.specs.Lines.{script_of, script_lines}
 use Rattle.ceal_cli.specs.Modes.{ReadsInput}
-use Rattle.ceal_cli.specs.Output.{AreRepliesFromRun, Programmed, first_state, lines_behind, IsListing, IsOutputFromRun, IsAnswer, IsRefusal, IsOutput}
+use Rattle.ceal_code.specs.Program.{Code}
+use Rattle.ceal_cli.specs.Output.{AreRepliesFromRun, IsRepliedFromRun, Programmed, first_state, lines_behind, IsListing, IsOutputFromRun, IsAnswer, IsRefusal, IsOutput}
 use Rattle.ceal_cli.specs.declared.words.Mode.{Mode}
 use Rattle.ceal_cli.specs.declared.words.Mode.TheVariants.{Check, List as Listing, Run, Gen}
 use Rattle.ceal_gen.specs.Text.{workload_text}
@@ -31,17 +33,34 @@ abbrev pub Answer_law : Type 0
 Answer_law = (input : List ℕ) (a b : Result Typed Fault) → Comes input a → Comes input b → a ≡ b
 
 -- one text of replies from that of the first run on
-from-run : One_state_law → One_script_law → (s : State) (lines : List (List ℕ)) (a b : List ℕ) → AreRepliesFromRun s lines a → AreRepliesFromRun s lines b → a ≡ b
+from-run : One_command_law → One_state_law → One_script_law → (s : State) (works : Works) (lines : List (List ℕ)) (a b : List ℕ)
+    → AreRepliesFromRun s works lines a → AreRepliesFromRun s works lines b → a ≡ b
 unfolding AreRepliesFromRun
-from-run state script s [] a b h k = h ∙ sym k
-from-run state script s (line ∷ lines) a b (inl h) (inl k) = script s (line ∷ lines) a b h.1 k.1
-from-run state script s (line ∷ lines) a b (inl h) (inr k) = absurd (k.0 h.0)
-from-run state script s (line ∷ lines) a b (inr h) (inl k) = absurd (h.0 k.0)
-from-run state script s (line ∷ lines) a b (inr h) (inr k) =
-    let next = state s line h.1 k.1 h.2 k.2 h.3 k.3 in
-    from-run state script k.2 lines a b (subst (λ t. AreRepliesFromRun t lines a) next h.4) k.4
+from-run command state script s works [] a b h k = h ∙ sym k
+from-run command state script s works (line ∷ lines) a b (inl h) (inl k) = script s works (line ∷ lines) a b h.1 k.1
+from-run command state script s works (line ∷ lines) a b (inl h) (inr k) = absurd (k.0 h.0)
+from-run command state script s works (line ∷ lines) a b (inr h) (inl k) = absurd (h.0 k.0)
+from-run command state script s works (line ∷ lines) a b (inr h) (inr k) =
+    let next = state s works.latest works.latest line h.1 k.1 h.2 k.2 h.3 k.3 in
+    let same = command line h.3.command k.3.command h.3.reads k.3.reads in
+    let later = subst (λ c. AreRepliesFromRun h.2 (taken (completes s c) works.latest works.coming) lines a) same h.4 in
+    from-run command state script k.2 (taken (completes s k.3.command) works.latest works.coming) lines a b
+    (subst (λ t. AreRepliesFromRun t (taken (completes s k.3.command) works.latest works.coming) lines a) next later) k.4
 
-module _ (split : Split_law) (answer : Answer_law) (code : One_code_law) (state : One_state_law) (script : One_script_law) where
+-- one text with its work numbers
+module _ (numbers : One_works_law) where
+  one-replied : One_script_law → (code : Code) (s : State) (lines : List (List ℕ)) (a b : List ℕ) → IsReplied code s lines a → IsReplied code s lines b → a ≡ b
+  one-replied script code s lines a b h k =
+      let same = numbers code s None lines h.works k.works h.repair k.repair in
+      script s (record { latest = 0; coming = k.works }) lines a b (subst (λ w. AreReplies s (record { latest = 0; coming = w }) lines a) same h.replies) k.replies
+
+  one-from-run : One_command_law → One_state_law → One_script_law → (code : Code) (s : State) (lines : List (List ℕ)) (a b : List ℕ)
+      → IsRepliedFromRun code s lines a → IsRepliedFromRun code s lines b → a ≡ b
+  one-from-run command state script code s lines a b h k =
+      let same = numbers code s None lines h.works k.works h.repair k.repair in
+      from-run command state script s (record { latest = 0; coming = k.works }) lines a b (subst (λ w. AreRepliesFromRun s (record { latest = 0; coming = w }) lines a) same h.replies) k.replies
+
+module _ (split : Split_law) (answer : Answer_law) (code : One_code_law) (command : One_command_law) (state : One_state_law) (script : One_script_law) (numbers : One_works_law) where
   one-program : (input : List ℕ) (p q : Typed) → IsProgram input p → IsProgram input q → p ≡ q
   one-program input p q h k = cc (answer input (Ok p) (Ok q) h k)
 
@@ -55,21 +74,24 @@ module _ (split : Split_law) (answer : Answer_law) (code : One_code_law) (state 
       h.text ∙ ap listing_text c ∙ sym k.text
 
   -- two readings of a program and its script are one
-  module _ (P : State → List (List ℕ) → List ℕ → Type 0) (once : (s : State) (lines : List (List ℕ)) (a b : List ℕ) → P s lines a → P s lines b → a ≡ b) where
-    one-run : (input : List ℕ) (fuel : ℕ) (a b : List ℕ) (p q : Programmed input) → P (first_state p fuel) (lines_behind p) a → P (first_state q fuel) (lines_behind q) b → a ≡ b
+  module _ (P : Code → State → List (List ℕ) → List ℕ → Type 0) (once : (c : Code) (s : State) (lines : List (List ℕ)) (a b : List ℕ) → P c s lines a → P c s lines b → a ≡ b) where
+    one-run : (input : List ℕ) (fuel : ℕ) (a b : List ℕ) (p q : Programmed input) → P p.code (first_state p fuel) (lines_behind p) a → P q.code (first_state q fuel) (lines_behind q) b → a ≡ b
     one-run input fuel a b p q h k =
         let parts : p.part ≡ q.part = split input p.part q.part p.split q.split in
         let programs : p.program ≡ q.program = one-program input p.program q.program p.reads q.reads in
-        let moved : P (begun q.program fuel) (script_lines (script_of input p.part)) a =
-        subst (λ t. P (begun t fuel) (script_lines (script_of input p.part)) a) programs h in
-        once (begun q.program fuel) (script_lines (script_of input q.part)) a b (subst (λ t. P (begun q.program fuel) (script_lines (script_of input t)) a) parts moved) k
+        let codes : p.code ≡ q.code = code q.program p.code q.code (subst (λ t. IsCodeOf t p.code) programs p.is_code) q.is_code in
+        let coded : P q.code (begun p.program fuel) (script_lines (script_of input p.part)) a =
+        subst (λ c. P c (begun p.program fuel) (script_lines (script_of input p.part)) a) codes h in
+        let moved : P q.code (begun q.program fuel) (script_lines (script_of input p.part)) a =
+        subst (λ t. P q.code (begun t fuel) (script_lines (script_of input p.part)) a) programs coded in
+        once q.code (begun q.program fuel) (script_lines (script_of input q.part)) a b (subst (λ t. P q.code (begun q.program fuel) (script_lines (script_of input t)) a) parts moved) k
 
   one-answer : (mode : Mode) (input a b : List ℕ) → IsAnswer mode input a → IsAnswer mode input b → a ≡ b
   one-answer Check input a b h k = h.1 ∙ sym k.1
   one-answer Listing input a b h k = one-listing input a b h k
-  one-answer (Run fuel) input a b h k = one-run AreReplies script input fuel a b h.0 k.0 h.1 k.1
+  one-answer (Run fuel) input a b h k = one-run IsReplied (one-replied numbers script) input fuel a b h.0 k.0 h.1 k.1
   one-answer (Gen kind seed size) input a b h k =
-      one-run AreRepliesFromRun (from-run state script) (workload_text kind seed size) DEFAULT_FUEL a b h.0 k.0 h.1 k.1
+      one-run IsRepliedFromRun (one-from-run numbers command state script) (workload_text kind seed size) DEFAULT_FUEL a b h.0 k.0 h.1 k.1
 
   -- an input is not both answered and refused
   not-both : (mode : Mode) (input a b : List ℕ) → IsAnswer mode input a → IsRefusal mode input b → ⊥

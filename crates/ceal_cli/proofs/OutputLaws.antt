@@ -1,28 +1,29 @@
 -- What is written for an input.
-use Rattle.std.proofs.Common.{◌≡◌, ◌⊎◌, inl, inr, ℕ, List, [], ◌++◌, Option, Result, Ok, Err, OnOk, IfOk, refl, sym, ap, ◌∙◌, subst}
+use Rattle.std.proofs.Common.{◌≡◌, ◌⊎◌, inl, inr, ℕ, List, [], ◌++◌, Option, None, Result, Ok, Err, OnOk, IfOk, refl, sym, ap, ◌∙◌, subst}
 use Rattle.std.specs.Io.KnownBytes.{Appends}
 use Rattle.ceal_base.specs.declared.fault.Fault.{Fault}
 use Rattle.ceal_base.specs.declared.typed.Typed.{Typed}
 use Rattle.ceal_code.specs.Listing.{listing_text}
 use Rattle.ceal_code.specs.Program.{Code}
-use Rattle.ceal_compile.specs.Compiled.{IsCodeOf}
+use Rattle.ceal_compile.specs.Compiled.{IsCodeOf, IsCompiled}
+use Rattle.ceal_compile.specs.declared.program.Program.{Program}
 use Rattle.ceal_compile.specs.FaultLine.{fault_line}
 use Rattle.ceal_compile.specs.Source.{Comes, IsAccepted, IsProgram, IsFirstFault}
 use Rattle.ceal_io.specs.Streams.{GrowsByPrefix}
 use Rattle.ceal_lex.specs.Parts.{IsSplit}
 use Rattle.ceal_lex.specs.declared.parts.Split.{Split}
-use Rattle.ceal_session.specs.Replies.{AreReplies}
-use Rattle.ceal_session.specs.Runs.{begun}
-use Rattle.ceal_session.specs.State.{State}
+use Rattle.ceal_session.specs.Following.{opened}
+use Rattle.ceal_session.specs.Laws.{Begun_law, Kept_law, Some_reply_law, Some_script_law}
+use Rattle.ceal_theory.specs.Laws.{Renamed_repair}
 use Rattle.ceal_cli.specs.Fuel.{DEFAULT_FUEL}
 use Rattle.ceal_cli.specs.Growth.{Grows, WritesAnswer, WritesRefusal, WritesOutput, WritesPrefix, WritesReplies, BeginsToReply, WritesFromRun, BeginsFromRun}
 use Rattle.ceal_cli.specs.Lines.{script_of, script_lines}
 use Rattle.ceal_cli.specs.Modes.{ReadsInput}
-use Rattle.ceal_cli.specs.Output.{IsPrefix, IsAnswer, IsRefusal, IsListing, Programmed, accepted_text, Begins, AreRepliesFromRun, IsOutputFromRun}
+use Rattle.ceal_cli.specs.Output.{IsPrefix, IsAnswer, IsRefusal, IsListing, Programmed, accepted_text, Begins, IsOutputFromRun}
 use Rattle.ceal_cli.specs.declared.words.Mode.{Mode}
 use Rattle.ceal_cli.specs.declared.words.Mode.TheVariants.{Check, List as Listing, Run, Gen}
 use Rattle.ceal_cli.proofs.Growing.{of_prefix, weaker}
-use Rattle.ceal_cli.proofs.Prefixes.{Begin_law, Begin_from_law}
+use Rattle.ceal_cli.proofs.Prefixes.{At, served, served-from-run, begun, begun-from-run}
 
 module _ (a b : Option (List ℕ)) (input : List ℕ) where
   -- of the word `accepted`
@@ -48,34 +49,46 @@ module _ (a b : Option (List ℕ)) (input : List ℕ) where
   refused_part mode reads fault is text same grows =
       weaker (λ out prefix. inr (fault_line input fault, inr (reads, fault, is, refl), subst (IsPrefix out) same prefix)) (of_prefix a b text grows)
 
-  module _ (part : Split) (split : IsSplit input part) (program : Typed) (reads : IsProgram input program) where
+  module _ (part : Split) (split : IsSplit input part) (p : Program) (reads : IsProgram input p.typed) (compiled : IsCompiled p) (begins : Begun_law) (kept : Kept_law) where
     programmed : Programmed input
-    programmed = record { part = part; split = split; program = program; reads = reads }
+    programmed = record { part = part; split = split; program = p.typed; reads = reads; code = p.code; is_code = compiled.code }
+
+    abbrev lines : List (List ℕ)
+    lines = script_lines (script_of input part)
+
+    at-begin : (fuel : ℕ) → At (opened p fuel) None 0
+    at-begin fuel = record { stands = begins p fuel compiled; is = tt; alike = Renamed_repair.none }
 
     module _ (fuel : ℕ) where
       -- of the replies
-      pub replied : {E : Type 0} (r : Result (Unit {0}) E) → OnOk r (WritesReplies a b (begun program fuel) (script_lines (script_of input part))) → OnOk r (WritesOutput a b (Run fuel) input)
+      pub replied : {E : Type 0} (r : Result (Unit {0}) E) → OnOk r (WritesReplies a b (opened p fuel) lines) → OnOk r (WritesOutput a b (Run fuel) input)
       unfolding programmed
-      replied (Ok u) h = weaker (λ out replies. inl (programmed, replies)) h
+      replied (Ok u) h = weaker (λ out serves.
+          let w = served kept (opened p fuel) None 0 lines out (at-begin fuel) serves in
+          inl (programmed, record { works = w.works; repair = w.repair; replies = w.is })) h
       replied (Err e) h = tt
 
-      pub replied_part : Begin_law → (whole : List ℕ) × AreReplies (begun program fuel) (script_lines (script_of input part)) whole
-          → BeginsToReply a b (begun program fuel) (script_lines (script_of input part)) → WritesPrefix a b (Run fuel) input
+      pub replied_part : Some_script_law → BeginsToReply a b (opened p fuel) lines → WritesPrefix a b (Run fuel) input
       unfolding programmed
-      replied_part law whole h =
-          weaker (λ out begins. inr (whole.0, inl (programmed, whole.1), law (begun program fuel) (script_lines (script_of input part)) out whole.0 begins whole.1)) h
+      replied_part script h =
+          weaker (λ out begins.
+          let w = begun kept script (opened p fuel) None 0 lines out (at-begin fuel) begins in
+          inr (w.text, inl (programmed, record { works = w.told.works; repair = w.told.repair; replies = w.told.is }), w.prefix)) h
 
     -- of the replies from that of the first run on
-    pub from_run : {E : Type 0} (r : Result (Unit {0}) E) → OnOk r (WritesFromRun a b (begun program DEFAULT_FUEL) (script_lines (script_of input part))) → OnOk r (Grows a b (IsOutputFromRun input))
+    pub from_run : {E : Type 0} (r : Result (Unit {0}) E) → OnOk r (WritesFromRun a b (opened p DEFAULT_FUEL) lines) → OnOk r (Grows a b (IsOutputFromRun input))
     unfolding programmed
-    from_run (Ok u) h = weaker (λ out replies. (programmed, replies)) h
+    from_run (Ok u) h = weaker (λ out serves.
+        let w = served-from-run kept (opened p DEFAULT_FUEL) None 0 lines out (at-begin DEFAULT_FUEL) serves in
+        (programmed, record { works = w.works; repair = w.repair; replies = w.is })) h
     from_run (Err e) h = tt
 
-    pub from_run_part : Begin_from_law → (whole : List ℕ) × AreRepliesFromRun (begun program DEFAULT_FUEL) (script_lines (script_of input part)) whole
-        → BeginsFromRun a b (begun program DEFAULT_FUEL) (script_lines (script_of input part)) → Grows a b (Begins (IsOutputFromRun input))
+    pub from_run_part : Some_reply_law → Some_script_law → BeginsFromRun a b (opened p DEFAULT_FUEL) lines → Grows a b (Begins (IsOutputFromRun input))
     unfolding programmed
-    from_run_part law whole h =
-        weaker (λ out begins. inr (whole.0, (programmed, whole.1), law (begun program DEFAULT_FUEL) (script_lines (script_of input part)) out whole.0 begins whole.1)) h
+    from_run_part reply script h =
+        weaker (λ out begins.
+        let w = begun-from-run reply script kept (opened p DEFAULT_FUEL) None 0 lines out (at-begin DEFAULT_FUEL) begins in
+        inr (w.text, (programmed, record { works = w.told.works; repair = w.told.repair; replies = w.told.is }), w.prefix)) h
 
 -- a refused input is not accepted
 pub not_accepted : (input : List ℕ) (fault : Fault) → ((a b : Result Typed Fault) → Comes input a → Comes input b → a ≡ b)

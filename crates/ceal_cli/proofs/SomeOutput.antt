@@ -1,5 +1,5 @@
 -- An input has an output for `check` and for `list`, and where it is not accepted for `run`.
-use Rattle.std.proofs.Common.{◌≡◌, ◌<◌, ◌^◌, inl, inr, ℕ, Result, Ok, Err, List, length, refl}
+use Rattle.std.proofs.Common.{◌≡◌, ◌<◌, ◌^◌, inl, inr, ℕ, Option, None, Result, Ok, Err, List, length, refl}
 use Rattle.ceal_base.specs.declared.fault.Fault.{Fault}
 use Rattle.ceal_base.specs.declared.typed.Typed.{Typed}
 use Rattle.ceal_code.specs.Listing.{listing_text}
@@ -44,5 +44,10 @@ refused comes mode input reads small none = by_answer (comes input small).0 (com
 
 pub replied : Begun_law → Some_script_law → Replied_law
 replied begins scripts input p fuel reads compiled =
-    let w = scripts p.code (begun p.typed fuel) (script_lines (script_of input reads.part)) (begins p fuel compiled) in
-    (w.0, inl (record { part = reads.part; split = reads.split; program = p.typed; reads = reads }, w.1))
+    let w = scripts p.code (begun p.typed fuel) None 0 (script_lines (script_of input reads.part)) (begins p fuel compiled) tt in (
+      w.text,
+      inl (
+        record { part = reads.part; split = reads.split; program = p.typed; reads = reads; code = p.code; is_code = compiled.code },
+        record { works = w.works; repair = w.repair; replies = w.replies },
+      ),
+    )

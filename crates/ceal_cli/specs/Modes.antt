@@ -6,6 +6,7 @@ use Rattle.ceal_cli.specs.Workloads.{NamesWorkload}
 use Rattle.ceal_cli.specs.declared.words.Mode.{Mode}
 use Rattle.ceal_cli.specs.declared.words.Mode.TheVariants.{Check, List as Listing, Run, Gen}
 use Rattle.ceal_gen.specs.declared.kind.Workload.{Workload}
+use Rattle.ceal_session.specs.Following.{IsAllowed}
 
 abbrev pub Text : Type 0
 Text = List ℕ
@@ -53,6 +54,13 @@ ReadsInput Check = Unit {0}
 ReadsInput Listing = Unit {0}
 ReadsInput (Run fuel) = Unit {0}
 ReadsInput (Gen kind seed size) = ⊥
+
+-- a run may take as many steps as a session allows
+abbrev pub KeepsLimits : Mode → Type 0
+KeepsLimits Check = Unit {0}
+KeepsLimits Listing = Unit {0}
+KeepsLimits (Run fuel) = IsAllowed fuel
+KeepsLimits (Gen kind seed size) = Unit {0}
 
 -- The words ask for an answer to the input.
 abbrev pub AskToRead : List Text → Type 0

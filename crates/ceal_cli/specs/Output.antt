@@ -1,5 +1,5 @@
 -- What the program writes for its input.
-use Rattle.std.specs.Prelude.{◌≡◌, ◌⊎◌, ℕ, List, [], ◌∷◌, ◌++◌, codes}
+use Rattle.std.specs.Prelude.{◌≡◌, ◌⊎◌, ℕ, Option, None, List, [], ◌∷◌, ◌++◌, codes}
 use Rattle.ceal_base.specs.declared.fault.Fault.{Fault}
 use Rattle.ceal_base.specs.declared.typed.Typed.{Typed}
 use Rattle.ceal_code.specs.Listing.{listing_text}
@@ -9,9 +9,10 @@ use Rattle.ceal_compile.specs.FaultLine.{fault_line}
 use Rattle.ceal_compile.specs.Source.{IsProgram, IsFirstFault, IsAccepted}
 use Rattle.ceal_lex.specs.Parts.{IsSplit}
 use Rattle.ceal_lex.specs.declared.parts.Split.{Split}
-use Rattle.ceal_session.specs.Replies.{Answers, AreReplies}
+use Rattle.ceal_session.specs.Replies.{Answers, Works, taken, AreReplies, AreWorks, IsReplied}
 use Rattle.ceal_session.specs.Runs.{begun}
 use Rattle.ceal_session.specs.State.{State}
+use Rattle.ceal_session.specs.Works.{completes}
 use Rattle.ceal_cli.specs.Fuel.{DEFAULT_FUEL}
 use Rattle.ceal_cli.specs.Lines.{script_of, script_lines}
 use Rattle.ceal_cli.specs.Modes.{ReadsInput}
@@ -31,19 +32,28 @@ IsRunLine line = IsPrefix (codes "run ") line
 
 -- The text is the replies to the lines from the first one on that begins with `run `. The lines
 -- before it are answered too, and their replies left out.
-unfoldable pub AreRepliesFromRun : State → List (List ℕ) → List ℕ → Type 0
-AreRepliesFromRun s [] out = out ≡ []
-AreRepliesFromRun s (line ∷ lines) out =
-    (IsRunLine line × AreReplies s (line ∷ lines) out)
+unfoldable pub AreRepliesFromRun : State → Works → List (List ℕ) → List ℕ → Type 0
+AreRepliesFromRun s works [] out = out ≡ []
+AreRepliesFromRun s works (line ∷ lines) out =
+    (IsRunLine line × AreReplies s works (line ∷ lines) out)
     ⊎ ((¬ IsRunLine line) × (text : List ℕ) × (next : State)
-    × Answers s line text next × AreRepliesFromRun next lines out)
+    × (a : Answers s works.latest line text next)
+    × AreRepliesFromRun next (taken (completes s a.command) works.latest works.coming) lines out)
 
--- An accepted program, and the script behind it.
+-- So it is with the work of trace repair for the lines `work`.
+pub record IsRepliedFromRun (code : Code) (s : State) (lines : List (List ℕ)) (out : List ℕ) : Type 0 where
+  pub works : List ℕ
+  pub repair : AreWorks code s None lines works
+  pub replies : AreRepliesFromRun s (record { latest = 0; coming = works }) lines out
+
+-- An accepted program, its trace code, and the script behind it.
 pub record Programmed (input : List ℕ) : Type 0 where
   pub part : Split
   pub split : IsSplit input part
   pub program : Typed
   pub reads : IsProgram input program
+  pub code : Code
+  pub is_code : IsCodeOf program code
 
 -- the state before the first line, and the lines
 abbrev pub first_state : {input : List ℕ} → Programmed input → ℕ → State
@@ -67,7 +77,8 @@ pub record IsListing (input out : List ℕ) : Type 0 where
 -- as many steps as where the words do not say it.
 abbrev pub IsOutputFromRun : List ℕ → List ℕ → Type 0
 IsOutputFromRun input out =
-    (p : Programmed input) × AreRepliesFromRun (first_state p DEFAULT_FUEL) (lines_behind p) out
+    (p : Programmed input)
+    × IsRepliedFromRun p.code (first_state p DEFAULT_FUEL) (lines_behind p) out
 
 -- The text is empty, or it is the beginning of such a text. Of an empty text nothing more is said: it
 -- is what is written where there was no memory to find out what the input comes to.
@@ -84,7 +95,7 @@ abbrev pub IsAnswer : Mode → List ℕ → List ℕ → Type 0
 IsAnswer Check input out = IsAccepted input × (out ≡ accepted_text)
 IsAnswer Listing input out = IsListing input out
 IsAnswer (Run fuel) input out =
-    (p : Programmed input) × AreReplies (first_state p fuel) (lines_behind p) out
+    (p : Programmed input) × IsReplied p.code (first_state p fuel) (lines_behind p) out
 IsAnswer (Gen kind seed size) input out = IsGenerated kind seed size out
 
 -- What a mode that reads writes for an input that is not accepted: the line of its first fault.

@@ -4,9 +4,10 @@ ghost use Rattle.std.specs.Prelude.{◌≡◌, ◌<◌, ◌≤◌, ◌^◌, ◌�
 ghost use Rattle.ceal_base.specs.Answers.{IfFault};
 ghost use Rattle.ceal_compile.specs.Compiled.{IsCompiled};
 ghost use Rattle.ceal_compile.specs.Source.{IsAccepted, IsFirstFault, IsProgram};
+ghost use Rattle.ceal_session.specs.Following.{IsAllowed};
 ghost use Rattle.ceal_io.specs.Streams.{Rose};
 ghost use Rattle.ceal_cli.specs.Growth.{WritesOutput, WritesPrefix};
-ghost use Rattle.ceal_cli.specs.Modes.{ReadsInput};
+ghost use Rattle.ceal_cli.specs.Modes.{KeepsLimits, ReadsInput};
 
 use crate::lines::script;
 use crate::replies::reply_all;
@@ -20,7 +21,7 @@ use ceal_compile::fault_line::fault_line;
 use ceal_compile::program::Program;
 use ceal_io::{Sink, Stopped, write_all};
 use ceal_lex::split::split;
-use ceal_session::laws::{one_reply, some_reply};
+use ceal_session::laws::{kept_line, some_reply};
 use ceal_session::session::Session;
 use std::alloc::Global;
 
@@ -87,13 +88,14 @@ fn run<K: Sink>(
     requires small { length input.now < 2 ^ 32 }
     requires program { IsProgram input.now program.typed }
     requires compiled { IsCompiled program }
+    requires fuel { IsAllowed fuel }
     ensures all { OnOk result
         (WritesOutput (K.written sink.old) (K.written sink.new) (Mode.Run fuel) input.now) }
     ensures part { WritesPrefix (K.written sink.old) (K.written sink.new)
         (Mode.Run fuel) input.now }
     ensures fault { IsErrOf result Stopped.Failed → Rose (K.faults sink.old) (K.faults sink.new) }
 {
-    one_reply();
+    kept_line();
     some_reply();
     match Session::new(alloc, program, fuel) {
         Ok(session) => {
@@ -115,6 +117,7 @@ fn answer<K: Sink>(
     requires program { IsProgram input.now program.typed }
     requires compiled { IsCompiled program }
     requires reads { ReadsInput mode }
+    requires limits { KeepsLimits mode }
     ensures all { OnOk result
         (WritesOutput (K.written sink.old) (K.written sink.new) mode input.now) }
     ensures part { WritesPrefix (K.written sink.old) (K.written sink.new) mode input.now }
@@ -137,6 +140,7 @@ pub fn write_answer<K: Sink>(
 ) -> Result<bool, Stopped>
     requires small { length input.now < 2 ^ 32 }
     requires reads { ReadsInput mode }
+    requires limits { KeepsLimits mode }
     ensures accepted { IfOk result (λ accepted. IsTrue accepted ↔ IsAccepted input.now) }
     ensures all { OnOk result
         (WritesOutput (K.written sink.old) (K.written sink.new) mode input.now) }

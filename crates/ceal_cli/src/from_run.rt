@@ -2,8 +2,7 @@
 
 ghost use Rattle.std.specs.Prelude.{◌≡◌, ◌↔◌, ℕ, List, IsTrue, OnOk, IsErrOf};
 ghost use Rattle.ceal_io.specs.Streams.{Rose};
-ghost use Rattle.ceal_session.specs.Replies.{Answers};
-ghost use Rattle.ceal_cli.specs.Growth.{WritesFromRun, BeginsFromRun};
+ghost use Rattle.ceal_cli.specs.Growth.{Serves, WritesFromRun, BeginsFromRun};
 ghost use Rattle.ceal_cli.specs.Lines.{script_lines};
 ghost use Rattle.ceal_cli.specs.Output.{IsRunLine};
 
@@ -23,7 +22,7 @@ fn is_run_line(line: &[u8]) -> bool
 // Carries out a line whose reply is not written.
 fn carry_out(session: &mut Session, line: &[u8]) -> Result<(), Stopped>
     ensures answered { OnOk result ((text : List ℕ)
-        × Answers session.old line.now text session.new) }
+        × Serves session.old line.now text session.new) }
     ensures memory { ¬ IsErrOf result Stopped.Failed }
 {
     match session.command(line) {

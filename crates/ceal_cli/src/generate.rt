@@ -19,7 +19,7 @@ use ceal_gen::kind::Workload;
 use ceal_gen::text::workload;
 use ceal_io::{Sink, Stopped};
 use ceal_lex::split::split;
-use ceal_session::laws::{one_reply, some_reply};
+use ceal_session::laws::{kept_line, some_reply};
 use ceal_session::session::Session;
 use std::alloc::Global;
 
@@ -49,7 +49,7 @@ fn run<K: Sink>(alloc: Global, text: &[u8], program: Program, sink: &mut K) -> R
         (Begins (IsOutputFromRun text.now)) }
     ensures fault { IsErrOf result Stopped.Failed → Rose (K.faults sink.old) (K.faults sink.new) }
 {
-    one_reply();
+    kept_line();
     some_reply();
     match Session::new(alloc, program, DEFAULT_FUEL) {
         Ok(session) => {

@@ -6,7 +6,7 @@ ghost use Rattle.ceal_io.specs.Streams.{Rose, LosesAtMost, LosesCount};
 ghost use Rattle.ceal_cli.specs.Answers.{IsWhole, IsAfterReading, IsSilent, status_number as number_of, status_text};
 ghost use Rattle.ceal_compile.specs.Source.{IsAccepted};
 ghost use Rattle.ceal_cli.specs.Growth.{WritesAnswer, WritesRefusal, WritesOutput, WritesPrefix, WritesGenerated, WritesGeneratedPrefix};
-ghost use Rattle.ceal_cli.specs.Modes.{texts, Asks, AreDefined, AskToRead, AskToGenerate, ReadsInput};
+ghost use Rattle.ceal_cli.specs.Modes.{texts, Asks, AreDefined, AskToRead, AskToGenerate, KeepsLimits, ReadsInput};
 ghost use Rattle.ceal_cli.specs.declared.words.Mode.{Mode as ModeOf};
 ghost use Rattle.ceal_gen.specs.declared.kind.Workload.{Workload as WorkloadOf};
 
@@ -48,7 +48,8 @@ fn answer_input<S: Source, K: Sink>(
     source: &mut S,
     sink: &mut K,
 ) -> Status
-    requires { ReadsInput mode }
+    requires reads { ReadsInput mode }
+    requires limits { KeepsLimits mode }
     ensures reads { ReadsInput mode }
     ensures output { IsWhole result → IfSome (S.left source.old)
         (λ input. WritesOutput (K.written sink.old) (K.written sink.new) mode input) }

@@ -1,8 +1,8 @@
 -- Trace code treats the numbers of core blocks alike.
-use Rattle.std.proofs.Common.{◌≡◌, ℕ, zero, suc, Bool, true, false, ◌==◌, ◌&&◌, not, if◌then◌else◌, Option, Some, None, List, [], ◌∷◌, refl, ap, ◌∙◌, subst, slice_get, unwrap_or, is_some, map, arith}
+use Rattle.std.proofs.Common.{◌≡◌, ℕ, zero, suc, ◌+◌, ◌^◌, nat_lt, ℤ, pos, negsuc, Bool, true, false, ◌==◌, ◌&&◌, not, if◌then◌else◌, Option, Some, None, List, [], ◌∷◌, refl, ap, ◌∙◌, subst, slice_get, unwrap_or, is_some, map, arith}
 use Rattle.ceal_base.specs.Access.{of_struct, is_struct, place_in, holds}
 use Rattle.ceal_base.specs.Block.{Block}
-use Rattle.ceal_base.specs.Operators.{number_of, unary_value, binary_value, truth, same_block, same_place, same_word}
+use Rattle.ceal_base.specs.Operators.{number_of, unary_value, binary_value, element, picked, truth, same_block, same_place, same_word}
 use Rattle.ceal_base.specs.Shapes.{default_of_field, default_block, kinds_of_shape, default_of_kind}
 use Rattle.ceal_base.specs.Trace.{Trace, steps_of}
 use Rattle.ceal_base.specs.declared.forest.Key.{Key}
@@ -13,15 +13,16 @@ use Rattle.ceal_base.specs.declared.kind.Kind.{Kind}
 use Rattle.ceal_base.specs.declared.kind.Shape.{Shape}
 use Rattle.ceal_base.specs.declared.kind.Shape.TheVariants.{Struct, ModInt, ModPtr}
 use Rattle.ceal_base.specs.declared.operators.Binary.{Binary}
-use Rattle.ceal_base.specs.declared.operators.Binary.TheVariants.{Add, Sub, Mul, Div, Rem, Less, LessEq, More, MoreEq, Same, Differ, And, Or}
+use Rattle.ceal_base.specs.declared.operators.Binary.TheVariants.{Add, Sub, Mul, Div, Rem, Less, LessEq, More, MoreEq, Same, Differ, And, Or, Pick}
 use Rattle.ceal_base.specs.declared.operators.Unary.{Unary}
 use Rattle.ceal_base.specs.declared.operators.Unary.TheVariants.{Neg, Not}
 use Rattle.ceal_base.specs.declared.typed.StructInfo.{StructInfo}
 use Rattle.ceal_base.specs.declared.word.BlockId.{BlockId}
 use Rattle.ceal_base.specs.declared.word.Place.{Place}
 use Rattle.ceal_base.specs.declared.word.Word.{Word}
-use Rattle.ceal_base.specs.declared.word.Word.TheVariants.{Null, Block as BlockWord}
+use Rattle.ceal_base.specs.declared.word.Word.TheVariants.{Null, Block as BlockWord, At}
 use Rattle.ceal_code.proofs.Closed.{unary-of, binary-of, default-of, field_default-of, kind_default-of}
+use Rattle.ceal_code.proofs.Picks.{If_pick}
 use Rattle.ceal_code.specs.Alike.{Pairs, Tied, Id_alike, Place_alike, Word_alike, Words_alike, Key_alike, Variables_alike, Stack_alike, Act_alike, Fields_alike, Block_alike, Maybe_alike, Plain_alike, Trace_alike, Within, One_to_one}
 use Rattle.ceal_code.specs.Init.{set_plain, set_by, set_by_row, set_by_all, arguments, made_by, made, pointer}
 use Rattle.ceal_code.specs.Program.{Code}
@@ -289,25 +290,57 @@ module _ (ps : Pairs) where
     place-if true h = Word_alike.at (record { block = h; field = refl })
     place-if false h = Word_alike.null
 
+module _ (ps : Pairs) where
+  element-if : (i : ℕ) (t : Bool) {p q : Place} → Place_alike ps p q
+      → Word_alike ps (if t then At (record { block = p.block; field = p.field + i }) else Null) (if t then At (record { block = q.block; field = q.field + i }) else Null)
+  element-if i true h = Word_alike.at (record { block = h.block; field = ap (λ n. n + i) h.field })
+  element-if i false h = Word_alike.null
+
+  element-alike : (row : ℕ) {p q : Place} → Place_alike ps p q → (i : ℤ) → Word_alike ps (element row p i) (element row q i)
+  element-alike row {p} {q} h (negsuc i) = Word_alike.null
+  element-alike row {p} {q} h (pos i) =
+      subst (λ n. Word_alike ps (element row p (pos i)) (if nat_lt i row && nat_lt (n + i) (2 ^ 32) then At (record { block = q.block; field = q.field + i }) else Null)) h.field
+      (element-if i (nat_lt i row && nat_lt (p.field + i) (2 ^ 32)) h)
+
+  -- the element of a row is that of the row's block, whatever its number
+  pick-alike : (row : ℕ) {v w v' w' : Word} → Word_alike ps v v' → Word_alike ps w w' → Word_alike ps (picked row v w) (picked row v' w')
+  pick-alike row (Word_alike.at h) (Word_alike.num {n = n}) = element-alike row h n
+  pick-alike row (Word_alike.at h) Word_alike.null = Word_alike.null
+  pick-alike row (Word_alike.at h) (Word_alike.block k) = Word_alike.null
+  pick-alike row (Word_alike.at h) (Word_alike.at k) = Word_alike.null
+  pick-alike row Word_alike.num k = Word_alike.null
+  pick-alike row Word_alike.null k = Word_alike.null
+  pick-alike row (Word_alike.block h) k = Word_alike.null
+
 module _ (ps : Pairs) (one : One_to_one ps) where
+  number-equal : (op : Binary) {v w v' w' : Word} → Word_alike ps v v' → Word_alike ps w w' → If_pick op (λ row. ⊥) → binary_value op v w ≡ binary_value op v' w'
+  number-equal Add h k p = rw (number-alike ps h, number-alike ps k)
+  number-equal Sub h k p = rw (number-alike ps h, number-alike ps k)
+  number-equal Mul h k p = rw (number-alike ps h, number-alike ps k)
+  number-equal Div h k p = rw (number-alike ps h, number-alike ps k)
+  number-equal Rem h k p = rw (number-alike ps h, number-alike ps k)
+  number-equal Less h k p = rw (number-alike ps h, number-alike ps k)
+  number-equal LessEq h k p = rw (number-alike ps h, number-alike ps k)
+  number-equal More h k p = rw (number-alike ps h, number-alike ps k)
+  number-equal MoreEq h k p = rw (number-alike ps h, number-alike ps k)
+  number-equal Same h k p = ap truth (word-both ps one h k)
+  number-equal Differ h k p = ap (λ t. truth (not t)) (word-both ps one h k)
+  number-equal And h k p = rw (number-alike ps h, number-alike ps k)
+  number-equal Or h k p = rw (number-alike ps h, number-alike ps k)
+  number-equal (Pick row) h k p = absurd p
+
+  no-pick : (op : Binary) (T : ℕ → Type 0) → If_pick op (λ row. ⊥) → If_pick op T
+  no-pick (Pick row) T p = absurd p
+  no-pick op T p = tt
+
+  number-like : (op : Binary) {v w v' w' : Word} → Word_alike ps v v' → Word_alike ps w w' → If_pick op (λ row. ⊥) → Word_alike ps (binary_value op v w) (binary_value op v' w')
+  number-like op {v} {w} {v'} {w'} h k p =
+      subst (λ z. Word_alike ps (binary_value op v w) z) (number-equal op h k p)
+      (binary-of (λ w. Word_alike ps w w) (λ n. Word_alike.num) Word_alike.null op v w (no-pick op (λ row. Word_alike ps (picked row v w) (picked row v w)) p))
+
   binary-alike : (op : Binary) {v w v' w' : Word} → Word_alike ps v v' → Word_alike ps w w' → Word_alike ps (binary_value op v w) (binary_value op v' w')
-  binary-alike op {v} {w} {v'} {w'} h k =
-      subst (λ z. Word_alike ps (binary_value op v w) z) (same op) (binary-of (λ w. Word_alike ps w w) (λ n. Word_alike.num) Word_alike.null op v w)
-    where
-      same : (op : Binary) → binary_value op v w ≡ binary_value op v' w'
-      same Add = rw (number-alike ps h, number-alike ps k)
-      same Sub = rw (number-alike ps h, number-alike ps k)
-      same Mul = rw (number-alike ps h, number-alike ps k)
-      same Div = rw (number-alike ps h, number-alike ps k)
-      same Rem = rw (number-alike ps h, number-alike ps k)
-      same Less = rw (number-alike ps h, number-alike ps k)
-      same LessEq = rw (number-alike ps h, number-alike ps k)
-      same More = rw (number-alike ps h, number-alike ps k)
-      same MoreEq = rw (number-alike ps h, number-alike ps k)
-      same Same = ap truth (word-both ps one h k)
-      same Differ = ap (λ t. truth (not t)) (word-both ps one h k)
-      same And = rw (number-alike ps h, number-alike ps k)
-      same Or = rw (number-alike ps h, number-alike ps k)
+  binary-alike (Pick row) h k = pick-alike ps row h k
+  binary-alike op h k = number-like op h k tt
 
   module _ (structs : List StructInfo) (x y : Plain) (plain : Plain_alike structs ps x y) where
     field-alike : {v w : Word} → Word_alike ps v w → (s f : ℕ) → Word_alike ps (field_value structs x v s f) (field_value structs y w s f)

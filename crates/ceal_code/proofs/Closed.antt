@@ -1,10 +1,10 @@
 -- A property of words that numbers and null have, that passes from a block's word to its plain fields and to the places
--- of its modifiables, passes from a stack to all that its next step gives.
+-- of its modifiables, and from rows to their elements, passes from a stack to all that its next step gives.
 use Rattle.std.proofs.Common.{◌≡◌, ℕ, ℤ, pos, zero, suc, ◌+◌, ◌==◌, Bool, true, false, Option, Some, None, List, [], ◌∷◌, if◌then◌else◌, refl, ap, ap₂, ◌∙◌, subst, slice_get, unwrap_or}
 use Rattle.std.specs.Prelude.{⊤}
 use Rattle.ceal_base.specs.Access.{holds}
 use Rattle.ceal_base.specs.Block.{Block}
-use Rattle.ceal_base.specs.Operators.{unary_value, binary_value, truth}
+use Rattle.ceal_base.specs.Operators.{unary_value, binary_value, picked, truth}
 use Rattle.ceal_base.specs.Shapes.{default_of_kind}
 use Rattle.ceal_base.specs.declared.forest.Key.{Key}
 use Rattle.ceal_base.specs.declared.forest.Key.TheVariants.{Init, ModInt as IntKey, ModPtr as PtrKey}
@@ -16,13 +16,14 @@ use Rattle.ceal_base.specs.declared.kind.Kind.TheVariants.{Int, Ptr, ModInt as M
 use Rattle.ceal_base.specs.declared.kind.Shape.{Shape}
 use Rattle.ceal_base.specs.declared.kind.Shape.TheVariants.{Struct, ModInt, ModPtr}
 use Rattle.ceal_base.specs.declared.operators.Binary.{Binary}
-use Rattle.ceal_base.specs.declared.operators.Binary.TheVariants.{Add, Sub, Mul, Div, Rem, Less, LessEq, More, MoreEq, Same, Differ, And, Or}
+use Rattle.ceal_base.specs.declared.operators.Binary.TheVariants.{Add, Sub, Mul, Div, Rem, Less, LessEq, More, MoreEq, Same, Differ, And, Or, Pick}
 use Rattle.ceal_base.specs.declared.operators.Unary.{Unary}
 use Rattle.ceal_base.specs.declared.operators.Unary.TheVariants.{Neg, Not}
 use Rattle.ceal_base.specs.declared.typed.StructInfo.{StructInfo}
 use Rattle.ceal_base.specs.declared.word.BlockId.{BlockId}
 use Rattle.ceal_base.specs.declared.word.Word.{Word}
 use Rattle.ceal_base.specs.declared.word.Word.TheVariants.{Num, Null, Block as BlockWord, At}
+use Rattle.ceal_code.proofs.Picks.{If_pick, Picks_row, Picks, Picks_operand, Picks_all, Picks_command, Picks_code}
 use Rattle.ceal_code.proofs.Same.{some-same, none-some}
 use Rattle.ceal_code.specs.Program.{Code}
 use Rattle.ceal_code.specs.Step.{Stack, Empty, Run, Act, Over, Quiet, Makes, Writes, Reads, unit_at, command_at, entry_of, variable_default, kind_default, bound, entered, chosen, first_word, later_words, woven, given, key_of, place_of, writes_at, reads_at, act, landed, settled_at, settled, acted, next, kinds_of}
@@ -58,12 +59,13 @@ each-at W [] n w h e = none-some w e
 each-at W (v ∷ ws) zero w h e = subst W (some-same v w e) h.0
 each-at W (v ∷ ws) (suc n) w h e = each-at W ws n w h.1 e
 
--- it passes to what a block's word leads to
-pub record Closed (structs : List StructInfo) (x : Plain) (W : Word → Type 0) : Type 0 where
+-- it passes to what a block's word leads to, and to the elements of such rows
+pub record Closed (structs : List StructInfo) (x : Plain) (S : ℕ → CodeExpr → Type 0) (W : Word → Type 0) : Type 0 where
   pub num : (n : ℤ) → W (Num n)
   pub null : W Null
   pub field : (b : BlockId) (s f : ℕ) → W (BlockWord b) → W (field_value structs x (BlockWord b) s f)
   pub address : (b : BlockId) (s f : ℕ) → W (BlockWord b) → W (address_value structs x (BlockWord b) s f)
+  pub element : (env : Variables) (row : ℕ) (a : CodeExpr) (i : Word) → S row a → W (expr_value structs x env a) → W (picked row (expr_value structs x env a) i)
 
 -- where a block's word has it, both plain words lead to the same
 pub record Equal (structs : List StructInfo) (x y : Plain) (W : Word → Type 0) : Type 0 where
@@ -155,22 +157,23 @@ module _ (W : Word → Type 0) (num : (n : ℤ) → W (Num n)) (null : W Null) w
   unary-of Neg w = num _
   unary-of Not w = truth-of _
 
-  pub binary-of : (op : Binary) (v w : Word) → W (binary_value op v w)
-  binary-of Add v w = num _
-  binary-of Sub v w = num _
-  binary-of Mul v w = num _
-  binary-of Div v w = num _
-  binary-of Rem v w = num _
-  binary-of Less v w = truth-of _
-  binary-of LessEq v w = truth-of _
-  binary-of More v w = truth-of _
-  binary-of MoreEq v w = truth-of _
-  binary-of Same v w = truth-of _
-  binary-of Differ v w = truth-of _
-  binary-of And v w = truth-of _
-  binary-of Or v w = truth-of _
+  pub binary-of : (op : Binary) (v w : Word) → If_pick op (λ row. W (picked row v w)) → W (binary_value op v w)
+  binary-of Add v w h = num _
+  binary-of Sub v w h = num _
+  binary-of Mul v w h = num _
+  binary-of Div v w h = num _
+  binary-of Rem v w h = num _
+  binary-of Less v w h = truth-of _
+  binary-of LessEq v w h = truth-of _
+  binary-of More v w h = truth-of _
+  binary-of MoreEq v w h = truth-of _
+  binary-of Same v w h = truth-of _
+  binary-of Differ v w h = truth-of _
+  binary-of And v w h = truth-of _
+  binary-of Or v w h = truth-of _
+  binary-of (Pick row) v w h = h
 
-module _ (W : Word → Type 0) (structs : List StructInfo) (x : Plain) (closed : Closed structs x W) where
+module _ (S : ℕ → CodeExpr → Type 0) (W : Word → Type 0) (structs : List StructInfo) (x : Plain) (closed : Closed structs x S W) where
   field-of : (w : Word) (s field : ℕ) → W w → W (field_value structs x w s field)
   field-of (Num n) s field h = field_default-of W closed.num closed.null (field_kind structs (Struct s) field)
   field-of Null s field h = field_default-of W closed.num closed.null (field_kind structs (Struct s) field)
@@ -188,26 +191,47 @@ module _ (W : Word → Type 0) (structs : List StructInfo) (x : Plain) (closed :
   address-of (At p) s field h = null-if _
 
   module _ (env : Variables) (all : (v : ℕ) → W (env v)) where
+    element-of : (op : Binary) {n : _} (row : Row_of-CodeExpr n) (i : Word) → If_pick op (λ length. Picks_row S length row) → W (operand_value structs x env row)
+        → If_pick op (λ length. W (picked length (operand_value structs x env row) i))
+    unfolding operand_value
+    element-of (Pick length) end_of-CodeExpr i h k = closed.null
+    element-of (Pick length) (more_of-CodeExpr e rest) i h k = closed.element env length e i h k
+    element-of Add row i h k = tt
+    element-of Sub row i h k = tt
+    element-of Mul row i h k = tt
+    element-of Div row i h k = tt
+    element-of Rem row i h k = tt
+    element-of Less row i h k = tt
+    element-of LessEq row i h k = tt
+    element-of More row i h k = tt
+    element-of MoreEq row i h k = tt
+    element-of Same row i h k = tt
+    element-of Differ row i h k = tt
+    element-of And row i h k = tt
+    element-of Or row i h k = tt
+
     mutual
-      unfolding expr_value
+      unfolding expr_value Picks
 
-      pub value-of : (e : CodeExpr) → W (expr_value structs x env e)
-      value-of (NumExpr n) = closed.num n
-      value-of NullExpr = closed.null
-      value-of (Var v) = all v.0
-      value-of (Unary' op _ a) = unary-of W closed.num closed.null op (operand_value structs x env a)
-      value-of (Binary' op _ a _ b) = binary-of W closed.num closed.null op (operand_value structs x env a) (operand_value structs x env b)
-      value-of (Field' _ a s field) = field-of (operand_value structs x env a) s field (operand-of a)
-      value-of (Address' _ a s field) = address-of (operand_value structs x env a) s field (operand-of a)
+      pub value-of : (e : CodeExpr) → Picks S e → W (expr_value structs x env e)
+      value-of (NumExpr n) h = closed.num n
+      value-of NullExpr h = closed.null
+      value-of (Var v) h = all v.0
+      value-of (Unary' op _ a) h = unary-of W closed.num closed.null op (operand_value structs x env a)
+      value-of (Binary' op _ a _ b) h =
+          binary-of W closed.num closed.null op (operand_value structs x env a) (operand_value structs x env b)
+          (element-of op a (operand_value structs x env b) h.0 (operand-of a h.1))
+      value-of (Field' _ a s field) h = field-of (operand_value structs x env a) s field (operand-of a h)
+      value-of (Address' _ a s field) h = address-of (operand_value structs x env a) s field (operand-of a h)
 
-      operand-of : {n : _} (row : Row_of-CodeExpr n) → W (operand_value structs x env row)
-      operand-of end_of-CodeExpr = closed.null
-      operand-of (more_of-CodeExpr e rest) = value-of e
+      operand-of : {n : _} (row : Row_of-CodeExpr n) → Picks_operand S row → W (operand_value structs x env row)
+      operand-of end_of-CodeExpr h = closed.null
+      operand-of (more_of-CodeExpr e rest) h = value-of e h
 
-    pub values-of : (es : List CodeExpr) → Each W (values structs x env es)
-    unfolding values
-    values-of [] = tt
-    values-of (e ∷ es) = (value-of e, values-of es)
+    pub values-of : (es : List CodeExpr) → Picks_all S es → Each W (values structs x env es)
+    unfolding values Picks_all
+    values-of [] h = tt
+    values-of (e ∷ es) h = (value-of e h.0, values-of es h.1)
 
     module _ (y : Plain) (equal : Equal structs x y W) where
       field-equal : (w : Word) (s field : ℕ) → W w → field_value structs x w s field ≡ field_value structs y w s field
@@ -223,29 +247,29 @@ module _ (W : Word → Type 0) (structs : List StructInfo) (x : Plain) (closed :
       address-equal (At p) s field h = refl
 
       mutual
-        unfolding expr_value
+        unfolding expr_value Picks
 
-        pub value-equal : (e : CodeExpr) → expr_value structs x env e ≡ expr_value structs y env e
-        value-equal (NumExpr n) = refl
-        value-equal NullExpr = refl
-        value-equal (Var v) = refl
-        value-equal (Unary' op _ a) = ap (unary_value op) (operand-equal a)
-        value-equal (Binary' op _ a _ b) = ap₂ (binary_value op) (operand-equal a) (operand-equal b)
-        value-equal (Field' _ a s field) =
-            field-equal (operand_value structs x env a) s field (operand-of a) ∙ ap (λ w. field_value structs y w s field) (operand-equal a)
-        value-equal (Address' _ a s field) =
-            address-equal (operand_value structs x env a) s field (operand-of a) ∙ ap (λ w. address_value structs y w s field) (operand-equal a)
+        pub value-equal : (e : CodeExpr) → Picks S e → expr_value structs x env e ≡ expr_value structs y env e
+        value-equal (NumExpr n) h = refl
+        value-equal NullExpr h = refl
+        value-equal (Var v) h = refl
+        value-equal (Unary' op _ a) h = ap (unary_value op) (operand-equal a h)
+        value-equal (Binary' op _ a _ b) h = ap₂ (binary_value op) (operand-equal a h.1) (operand-equal b h.2)
+        value-equal (Field' _ a s field) h =
+            field-equal (operand_value structs x env a) s field (operand-of a h) ∙ ap (λ w. field_value structs y w s field) (operand-equal a h)
+        value-equal (Address' _ a s field) h =
+            address-equal (operand_value structs x env a) s field (operand-of a h) ∙ ap (λ w. address_value structs y w s field) (operand-equal a h)
 
-        operand-equal : {n : _} (row : Row_of-CodeExpr n) → operand_value structs x env row ≡ operand_value structs y env row
-        operand-equal end_of-CodeExpr = refl
-        operand-equal (more_of-CodeExpr e rest) = value-equal e
+        operand-equal : {n : _} (row : Row_of-CodeExpr n) → Picks_operand S row → operand_value structs x env row ≡ operand_value structs y env row
+        operand-equal end_of-CodeExpr h = refl
+        operand-equal (more_of-CodeExpr e rest) h = value-equal e h
 
-      pub values-equal : (es : List CodeExpr) → values structs x env es ≡ values structs y env es
-      unfolding values
-      values-equal [] = refl
-      values-equal (e ∷ es) = ap₂ ◌∷◌ (value-equal e) (values-equal es)
+      pub values-equal : (es : List CodeExpr) → Picks_all S es → values structs x env es ≡ values structs y env es
+      unfolding values Picks_all
+      values-equal [] h = refl
+      values-equal (e ∷ es) h = ap₂ ◌∷◌ (value-equal e h.0) (values-equal es h.1)
 
-module _ (W : Word → Type 0) (code : Code) (x : Plain) (closed : Closed code.structs x W) where
+module _ (S : ℕ → CodeExpr → Type 0) (W : Word → Type 0) (code : Code) (x : Plain) (closed : Closed code.structs x S W) (picks : Picks_code S code) where
   at-of : (w value : Word) (after : Stack) → W w → W value → Of_stack W after → Of_act W (writes_at (place_of w) value after)
   at-of (Num n) value after h k l = l
   at-of Null value after h k l = l
@@ -271,26 +295,26 @@ module _ (W : Word → Type 0) (code : Code) (x : Plain) (closed : Closed code.s
   key-of (Struct s) = tt
 
   module _ (u i : ℕ) (env : Variables) (below : Stack) (h : (v : ℕ) → W (env v)) (k : Of_stack W below) where
-    val : (e : CodeExpr) → W (expr_value code.structs x env e)
-    val = value-of W code.structs x closed env h
+    val : (e : CodeExpr) → Picks S e → W (expr_value code.structs x env e)
+    val = value-of S W code.structs x closed env h
 
-    vals : (es : List CodeExpr) → Each W (values code.structs x env es)
-    vals = values-of W code.structs x closed env h
+    vals : (es : List CodeExpr) → Picks_all S es → Each W (values code.structs x env es)
+    vals = values-of S W code.structs x closed env h
 
-    into : (u : ℕ) (es : List CodeExpr) (st : Stack) → Of_stack W st → Of_stack W (entered code u (values code.structs x env es) st)
-    into u es st l = entered-of W closed.num closed.null code u (values code.structs x env es) st (vals es) l
+    into : (u : ℕ) (es : List CodeExpr) (st : Stack) → Picks_all S es → Of_stack W st → Of_stack W (entered code u (values code.structs x env es) st)
+    into u es st p l = entered-of W closed.num closed.null code u (values code.structs x env es) st (vals es p) l
 
-    act-of : (c : Cmd) → Of_act W (act code x c u i env below)
-    act-of (Move v e) = (set-of W closed.num closed.null env v.0 (expr_value code.structs x env e) h (val e), k)
-    act-of Tick = (h, k)
-    act-of (Alloc v f args) = (vals args, h, k)
-    act-of (Modref v shape) = (key-of shape, h, k)
-    act-of (Write p e) = at-of (expr_value code.structs x env p) (expr_value code.structs x env e) (Run u (i + 1) env below) (val p) (val e) (h, k)
-    act-of (If test first second) = (h, k)
-    act-of Done = tt
-    act-of (Tail w args) = tt
-    act-of (Read v p w args) = reads-of (expr_value code.structs x env p) w v.0 (values code.structs x env args) below (val p) (vals args) k
-    act-of (Call f args w rest) = into (entry_of code f) args (entered code w.0 (values code.structs x env rest) below) (into w.0 rest below k)
+    act-of : (c : Cmd) → Picks_command S c → Of_act W (act code x c u i env below)
+    act-of (Move v e) p = (set-of W closed.num closed.null env v.0 (expr_value code.structs x env e) h (val e p), k)
+    act-of Tick p = (h, k)
+    act-of (Alloc v f args) p = (vals args p, h, k)
+    act-of (Modref v shape) p = (key-of shape, h, k)
+    act-of (Write q e) p = at-of (expr_value code.structs x env q) (expr_value code.structs x env e) (Run u (i + 1) env below) (val q p.0) (val e p.1) (h, k)
+    act-of (If test first second) p = (h, k)
+    act-of Done p = tt
+    act-of (Tail w args) p = tt
+    act-of (Read v q w args) p = reads-of (expr_value code.structs x env q) w v.0 (values code.structs x env args) below (val q p.0) (vals args p.1) k
+    act-of (Call f args w rest) p = into (entry_of code f) args (entered code w.0 (values code.structs x env rest) below) p.0 (into w.0 rest below p.1 k)
 
     landed-of : (c : Cmd) (arrived rest : Stack) → Of_stack W arrived → Of_stack W rest → Of_stack W (landed c arrived rest)
     landed-of Done arrived rest p q = q
@@ -304,28 +328,28 @@ module _ (W : Word → Type 0) (code : Code) (x : Plain) (closed : Closed code.s
     landed-of (Read v a w args) arrived rest p q = p
     landed-of (Call f args w others) arrived rest p q = p
 
-    at_settled-of : (c : Cmd) (rest : Stack) → Of_stack W rest → Of_stack W (settled_at code x c u i env below rest)
-    at_settled-of Done rest q = q
-    at_settled-of (Tail w args) rest q =
-        landed-of (command_at code w.0 0) (entered code w.0 (values code.structs x env args) below) rest (into w.0 args below k) q
-    at_settled-of (Move v e) rest q = (h, k)
-    at_settled-of Tick rest q = (h, k)
-    at_settled-of (Alloc v f args) rest q = (h, k)
-    at_settled-of (Modref v shape) rest q = (h, k)
-    at_settled-of (Write a e) rest q = (h, k)
-    at_settled-of (If test first second) rest q = (h, k)
-    at_settled-of (Read v a w args) rest q = (h, k)
-    at_settled-of (Call f args w others) rest q = (h, k)
+    at_settled-of : (c : Cmd) → Picks_command S c → (rest : Stack) → Of_stack W rest → Of_stack W (settled_at code x c u i env below rest)
+    at_settled-of Done p rest q = q
+    at_settled-of (Tail w args) p rest q =
+        landed-of (command_at code w.0 0) (entered code w.0 (values code.structs x env args) below) rest (into w.0 args below p k) q
+    at_settled-of (Move v e) p rest q = (h, k)
+    at_settled-of Tick p rest q = (h, k)
+    at_settled-of (Alloc v f args) p rest q = (h, k)
+    at_settled-of (Modref v shape) p rest q = (h, k)
+    at_settled-of (Write a e) p rest q = (h, k)
+    at_settled-of (If test first second) p rest q = (h, k)
+    at_settled-of (Read v a w args) p rest q = (h, k)
+    at_settled-of (Call f args w others) p rest q = (h, k)
 
   pub settled-of : (st : Stack) → Of_stack W st → Of_stack W (settled code x st)
   unfolding settled
   settled-of Empty h = h
   settled-of (Run u i env below) h =
-      at_settled-of u i env below h.0 h.1 (command_at code u i) (settled code x below) (settled-of below h.1)
+      at_settled-of u i env below h.0 h.1 (command_at code u i) (picks.commands u i) (settled code x below) (settled-of below h.1)
 
   acted-of : (st : Stack) → Of_stack W st → Of_act W (acted code x st)
   acted-of Empty h = tt
-  acted-of (Run u i env below) h = act-of u i env below h.0 h.1 (command_at code u i)
+  acted-of (Run u i env below) h = act-of u i env below h.0 h.1 (command_at code u i) (picks.commands u i)
 
   -- what the next step gives has the property that the stack has
   pub next-of : (st : Stack) → Of_stack W st → Of_act W (next code x st)
@@ -334,46 +358,46 @@ module _ (W : Word → Type 0) (code : Code) (x : Plain) (closed : Closed code.s
 
   module _ (y : Plain) (equal : Equal code.structs x y W) where
     module _ (u i : ℕ) (env : Variables) (below : Stack) (h : (v : ℕ) → W (env v)) where
-      same : (e : CodeExpr) → expr_value code.structs x env e ≡ expr_value code.structs y env e
-      same = value-equal W code.structs x closed env h y equal
+      same : (e : CodeExpr) → Picks S e → expr_value code.structs x env e ≡ expr_value code.structs y env e
+      same = value-equal S W code.structs x closed env h y equal
 
-      sames : (es : List CodeExpr) → values code.structs x env es ≡ values code.structs y env es
-      sames = values-equal W code.structs x closed env h y equal
+      sames : (es : List CodeExpr) → Picks_all S es → values code.structs x env es ≡ values code.structs y env es
+      sames = values-equal S W code.structs x closed env h y equal
 
-      act-equal : (c : Cmd) → act code x c u i env below ≡ act code y c u i env below
-      act-equal (Move v e) = ap (λ w. Quiet (Run u (i + 1) (set env v.0 w) below)) (same e)
-      act-equal Tick = refl
-      act-equal (Alloc v f args) = ap (λ ws. Makes (Init f ws) v.0 u (i + 1) env below) (sames args)
-      act-equal (Modref v shape) = refl
-      act-equal (Write p e) = ap₂ (λ w z. writes_at (place_of w) z (Run u (i + 1) env below)) (same p) (same e)
-      act-equal (If test first second) = ap (λ w. Quiet (Run u (if holds w then first else second) env below)) (same test)
-      act-equal Done = refl
-      act-equal (Tail w args) = refl
-      act-equal (Read v p w args) = ap₂ (λ z ws. reads_at code (place_of z) w v.0 ws below) (same p) (sames args)
-      act-equal (Call f args w rest) = ap₂ (λ vs ws. Quiet (entered code (entry_of code f) vs (entered code w.0 ws below))) (sames args) (sames rest)
+      act-equal : (c : Cmd) → Picks_command S c → act code x c u i env below ≡ act code y c u i env below
+      act-equal (Move v e) h = ap (λ w. Quiet (Run u (i + 1) (set env v.0 w) below)) (same e h)
+      act-equal Tick h = refl
+      act-equal (Alloc v f args) h = ap (λ ws. Makes (Init f ws) v.0 u (i + 1) env below) (sames args h)
+      act-equal (Modref v shape) h = refl
+      act-equal (Write p e) h = ap₂ (λ w z. writes_at (place_of w) z (Run u (i + 1) env below)) (same p h.0) (same e h.1)
+      act-equal (If test first second) h = ap (λ w. Quiet (Run u (if holds w then first else second) env below)) (same test h)
+      act-equal Done h = refl
+      act-equal (Tail w args) h = refl
+      act-equal (Read v p w args) h = ap₂ (λ z ws. reads_at code (place_of z) w v.0 ws below) (same p h.0) (sames args h.1)
+      act-equal (Call f args w rest) h = ap₂ (λ vs ws. Quiet (entered code (entry_of code f) vs (entered code w.0 ws below))) (sames args h.0) (sames rest h.1)
 
-      at_settled-equal : (c : Cmd) (rest : Stack) → settled_at code x c u i env below rest ≡ settled_at code y c u i env below rest
-      at_settled-equal Done rest = refl
-      at_settled-equal (Tail w args) rest = ap (λ ws. landed (command_at code w.0 0) (entered code w.0 ws below) rest) (sames args)
-      at_settled-equal (Move v e) rest = refl
-      at_settled-equal Tick rest = refl
-      at_settled-equal (Alloc v f args) rest = refl
-      at_settled-equal (Modref v shape) rest = refl
-      at_settled-equal (Write a e) rest = refl
-      at_settled-equal (If test first second) rest = refl
-      at_settled-equal (Read v a w args) rest = refl
-      at_settled-equal (Call f args w others) rest = refl
+      at_settled-equal : (c : Cmd) → Picks_command S c → (rest : Stack) → settled_at code x c u i env below rest ≡ settled_at code y c u i env below rest
+      at_settled-equal Done h rest = refl
+      at_settled-equal (Tail w args) h rest = ap (λ ws. landed (command_at code w.0 0) (entered code w.0 ws below) rest) (sames args h)
+      at_settled-equal (Move v e) h rest = refl
+      at_settled-equal Tick h rest = refl
+      at_settled-equal (Alloc v f args) h rest = refl
+      at_settled-equal (Modref v shape) h rest = refl
+      at_settled-equal (Write a e) h rest = refl
+      at_settled-equal (If test first second) h rest = refl
+      at_settled-equal (Read v a w args) h rest = refl
+      at_settled-equal (Call f args w others) h rest = refl
 
     settled-equal : (st : Stack) → Of_stack W st → settled code x st ≡ settled code y st
     unfolding settled
     settled-equal Empty h = refl
     settled-equal (Run u i env below) h =
-        at_settled-equal u i env below h.0 (command_at code u i) (settled code x below)
+        at_settled-equal u i env below h.0 (command_at code u i) (picks.commands u i) (settled code x below)
         ∙ ap (settled_at code y (command_at code u i) u i env below) (settled-equal below h.1)
 
     acted-equal : (st : Stack) → Of_stack W st → acted code x st ≡ acted code y st
     acted-equal Empty h = refl
-    acted-equal (Run u i env below) h = act-equal u i env below h.0 (command_at code u i)
+    acted-equal (Run u i env below) h = act-equal u i env below h.0 (command_at code u i) (picks.commands u i)
 
     -- and both plain words have the same next step
     pub next-equal : (st : Stack) → Of_stack W st → next code x st ≡ next code y st

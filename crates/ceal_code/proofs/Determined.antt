@@ -23,6 +23,9 @@ use Rattle.ceal_code.proofs.Closed.{Of_stack, Of_key, Of_act, next-of, set-of, g
 use Rattle.ceal_code.proofs.Memory.{contents, Cell_there, content-read, altered, written-here, written-other, written-count, written-contents, grown-here, grown-other, grown-count, grown-contents}
 use Rattle.ceal_code.proofs.Over.{next-on}
 use Rattle.ceal_code.proofs.Pairs.{within-trans, one-within, more-pair, tied-with, tied-case}
+use Rattle.ceal_code.proofs.PicksValid.{Starts, picks-valid}
+use Rattle.ceal_code.proofs.TypedInit.{rows-valid}
+use Rattle.ceal_code.specs.Valid.{valid}
 use Rattle.ceal_code.proofs.Placed.{content-placed, Placed, Well_placed, Keeps, placed-keeps, stack-keeps, placed-closed, written-keeps, written-well, grown-keeps, grown-well, pointer-placed}
 use Rattle.ceal_code.proofs.Same.{block-same}
 use Rattle.ceal_code.specs.Alike.{Pairs, Tied, Id_alike, Place_alike, Word_alike, Key_alike, Stack_alike, Act_alike, Fields_alike, Maybe_alike, Plain_alike, Store_alike, Within, One_to_one}
@@ -164,8 +167,9 @@ module _ (code : Code) where
     acts : (ps : Pairs) (s : Store) (m : Blocks) → Stands ps s m → {st st' : Stack} → Stack_alike ps st st' → (a : Act) → next code x st ≡ a → Act_alike ps a (next code (block_at m) st')
     acts ps s m h {st} {st'} k a e = subst (λ a. Act_alike ps a (next code (block_at m) st')) e (next-alike ps (one-within ps big h.within one) code x (block_at m) h.plain k)
 
-    places : (ps : Pairs) (s : Store) (m : Blocks) → Stands ps s m → (st : Stack) → Of_stack (Placed code.structs m) st → (a : Act) → next code (block_at m) st ≡ a → Of_act (Placed code.structs m) a
-    places ps s m h st k a e = subst (Of_act (Placed code.structs m)) e (next-of (Placed code.structs m) code (block_at m) (placed-closed code.structs m h.well) st k)
+    places : valid code ≡ true → (ps : Pairs) (s : Store) (m : Blocks) → Stands ps s m → (st : Stack) → Of_stack (Placed code.structs m) st → (a : Act) → next code (block_at m) st ≡ a → Of_act (Placed code.structs m) a
+    places ok ps s m h st k a e = subst (Of_act (Placed code.structs m)) e
+        (next-of (Starts code.structs) (Placed code.structs m) code (block_at m) (placed-closed code.structs m h.well (rows-valid code ok)) (picks-valid code ok) st k)
 
     runs-over : (ps : Pairs) (s : Store) (m : Blocks) (st : Stack) → Stands ps s m → next code (block_at m) st ≡ Over → Runs ps m st Nothing s
     runs-over ps s m st h e = record {
@@ -351,9 +355,9 @@ module _ (code : Code) where
         go (inl e) = omega (arith, e.1, grown-count m block)
         go (inr t) = omega (arith, h d c t, grown-count m block)
 
-    stands-new : (ps : Pairs) (s : Store) (m : Blocks) (b : ℕ) (key key' : Key) → Stands ps s m → Key_alike ps key key' → Of_key (Placed code.structs m) key' → x (Core b) ≡ Some (made code x key) → Tied b (length m.made) big
+    stands-new : valid code ≡ true → (ps : Pairs) (s : Store) (m : Blocks) (b : ℕ) (key key' : Key) → Stands ps s m → Key_alike ps key key' → Of_key (Placed code.structs m) key' → x (Core b) ≡ Some (made code x key) → Tied b (length m.made) big
         → Stands (record { left = b; right = length m.made } ∷ ps) (cleared code s (Core b) key) (with_block m (made code (block_at m) key'))
-    stands-new ps s m b key key' h kk c e t =
+    stands-new ok ps s m b key key' h kk c e t =
         let within = tied-with b (length m.made) ps big h.within t in
         let one' = one-within (record { left = b; right = length m.made } ∷ ps) big within one in
         record {
@@ -361,7 +365,7 @@ module _ (code : Code) where
               (grown-here m (made code (block_at m) key')) (made-alike ps (one-within ps big h.within one) code x (block_at m) h.plain kk);
           store = store-is (record { left = b; right = length m.made } ∷ ps) (cleared code s (Core b) key) (cleared code (contents code m) (Core (length m.made)) key')
               (contents code (with_block m (made code (block_at m) key'))) (cleared-alike code b (length m.made) ps one' kk s (contents code m) h.store) (grown-contents code (block_at m) m key');
-          well = grown-well code m h.well key' c;
+          well = grown-well code m h.well key' ok c;
           within = within;
           bound = bound-with m (made code (block_at m) key') ps b h.bound;
         }
@@ -374,17 +378,17 @@ module _ (code : Code) where
     first-within : (n : ℕ) (is ls : List BlockId) (rest : List ℕ) → Within (numbered n (core_numbers (is ++ ls) ++ rest)) big → Within (numbered n (core_numbers is ++ (core_numbers ls ++ rest))) big
     first-within n is ls rest z = rw (cores-append is ls, append_assoc (core_numbers is) (core_numbers ls) rest) at z
 
-    pub determined : {st : Stack} {l : Trace} → Yields code x st l → (ps : Pairs) (s : Store) (m : Blocks) → Stands ps s m → {st' : Stack} → Stack_alike ps st st' → Of_stack (Placed code.structs m) st'
+    pub determined : valid code ≡ true → {st : Stack} {l : Trace} → Yields code x st l → (ps : Pairs) (s : Store) (m : Blocks) → Stands ps s m → {st' : Stack} → Stack_alike ps st st' → Of_stack (Placed code.structs m) st'
         → {s' : Store} → Honest code s l s' → (rest : List ℕ) → Within (numbered (length m.made) (core_numbers (blocks_of l) ++ rest)) big → Runs ps m st' l s'
-    determined (Yields.over e) ps s m h {st'} k c Honest.end rest z = runs-over ps s m st' h (over-too ps (next code (block_at m) st') (acts ps s m h k Over e))
-    determined (Yields.quiet {after = after} {rest = l} e r) ps s m h {st'} k c {s'} (Honest.step w) rest z =
-        go (quiet-too ps after (next code (block_at m) st') (acts ps s m h k (Quiet after) e)) (λ after' alike placed. determined r ps s m h alike placed w rest z)
+    determined ok (Yields.over e) ps s m h {st'} k c Honest.end rest z = runs-over ps s m st' h (over-too ps (next code (block_at m) st') (acts ps s m h k Over e))
+    determined ok (Yields.quiet {after = after} {rest = l} e r) ps s m h {st'} k c {s'} (Honest.step w) rest z =
+        go (quiet-too ps after (next code (block_at m) st') (acts ps s m h k (Quiet after) e)) (λ after' alike placed. determined ok r ps s m h alike placed w rest z)
       where
         go : Quiet_too ps after (next code (block_at m) st') → ((after' : Stack) → Stack_alike ps after after' → Of_stack (Placed code.structs m) after' → Runs ps m after' l s') → Runs ps m st' (Stepped l) s'
-        go q f = runs-quiet ps m st' q.after' l s' q.is (f q.after' q.alike (places ps s m h st' c (Quiet q.after') q.is))
-    determined (Yields.makes {key = key} {v = v} {u = u} {i = i} {env = env} {below = below} {b = b} {rest = l} e g r) ps s m h {st'} k c {s'} (Honest.step (Honest.alloc w)) rest z =
+        go q f = runs-quiet ps m st' q.after' l s' q.is (f q.after' q.alike (places ok ps s m h st' c (Quiet q.after') q.is))
+    determined ok (Yields.makes {key = key} {v = v} {u = u} {i = i} {env = env} {below = below} {b = b} {rest = l} e g r) ps s m h {st'} k c {s'} (Honest.step (Honest.alloc w)) rest z =
         go (makes-too ps key v u i env below (next code (block_at m) st') (acts ps s m h k (Makes key v u i env below) e))
-        (λ key' st'' stands alike placed. determined r (record { left = b; right = length m.made } ∷ ps) (cleared code s (Core b) key) (with_block m (made code (block_at m) key')) stands alike placed w rest
+        (λ key' st'' stands alike placed. determined ok r (record { left = b; right = length m.made } ∷ ps) (cleared code s (Core b) key) (with_block m (made code (block_at m) key')) stands alike placed w rest
         (within-trans (numbered (length (with_block m (made code (block_at m) key')).made) (core_numbers (blocks_of l) ++ rest)) (numbered (length m.made) (b ∷ (core_numbers (blocks_of l) ++ rest))) big
         (numbered-rest (length m.made) (length (with_block m (made code (block_at m) key')).made) (b ∷ []) (core_numbers (blocks_of l) ++ rest) (omega (arith, grown-count m (made code (block_at m) key')))) z))
       where
@@ -395,13 +399,13 @@ module _ (code : Code) where
             → Runs (record { left = b; right = length m.made } ∷ ps) (with_block m (made code (block_at m) key')) st'' l s')
             → Runs ps m st' (Stepped (Allocated (Core b) key l)) s'
         go q f =
-            let a = places ps s m h st' c (Makes q.key' v u i q.env' q.below') q.is in
+            let a = places ok ps s m h st' c (Makes q.key' v u i q.env' q.below') q.is in
             let m' : Blocks = with_block m (made code (block_at m) q.key') in
             let keeps = grown-keeps code m h.well q.key' in
             let more = more-pair (record { left = b; right = length m.made }) ps in
             runs-makes ps m st' q.below' q.key' v u i b q.env' key l s' h.well q.is
             (f q.key' (Run u i (set q.env' v (pointer q.key' (Core (length m.made)))) q.below')
-            (stands-new ps s m b key q.key' h q.keys a.0 g (z b (length m.made) Tied.here))
+            (stands-new ok ps s m b key q.key' h q.keys a.0 g (z b (length m.made) Tied.here))
             (Stack_alike.run (set-alike (record { left = b; right = length m.made } ∷ ps) (variables-wider ps (record { left = b; right = length m.made } ∷ ps) more q.envs) v
             (pointer-alike (record { left = b; right = length m.made } ∷ ps) (key-wider ps (record { left = b; right = length m.made } ∷ ps) more q.keys) (Id_alike.core Tied.here)))
             (stack-wider ps (record { left = b; right = length m.made } ∷ ps) more q.alike)) (
@@ -409,9 +413,9 @@ module _ (code : Code) where
                   (pointer-placed code m h.well q.key' q.key' refl),
               stack-keeps code.structs m m' keeps q.below' a.2,
             ))
-    determined (Yields.writes {after = after} {p = p} {value = value} {rest = l} e r) ps s m h {st'} k c {s'} (Honest.step (Honest.write w)) rest z =
+    determined ok (Yields.writes {after = after} {p = p} {value = value} {rest = l} e r) ps s m h {st'} k c {s'} (Honest.step (Honest.write w)) rest z =
         go (writes-too ps p value after (next code (block_at m) st') (acts ps s m h k (Writes p value after) e))
-        (λ p' value' after' count stands alike placed. determined r ps (stored s p value) (written_at m p'.block p'.field value') stands alike placed w rest
+        (λ p' value' after' count stands alike placed. determined ok r ps (stored s p value) (written_at m p'.block p'.field value') stands alike placed w rest
         (rw count z))
       where
         go : Writes_too ps p value after (next code (block_at m) st')
@@ -419,22 +423,22 @@ module _ (code : Code) where
             → Stack_alike ps after after' → Of_stack (Placed code.structs (written_at m p'.block p'.field value')) after' → Runs ps (written_at m p'.block p'.field value') after' l s')
             → Runs ps m st' (Stepped (Wrote p value l)) s'
         go q f =
-            let a = places ps s m h st' c (Writes q.p' q.value' q.after') q.is in
+            let a = places ok ps s m h st' c (Writes q.p' q.value' q.after') q.is in
             let cell = cell-there code.structs ps x m h.plain q.places a.0 in
             runs-writes ps m st' q.after' p q.p' value q.value' l s' h.well cell q.is
             (f q.p' q.value' q.after' (written-count m q.p'.block q.p'.field q.value' cell.block cell.there) (stands-write ps s m p q.p' value q.value' h q.places q.words cell a.1) q.alike
             (stack-keeps code.structs m (written_at m q.p'.block q.p'.field q.value') (written-keeps code.structs m h.well q.p'.block q.p'.field q.value' cell.block cell.there) q.after' a.2))
-    determined (Yields.reads {below = below} {p = p} {u = u} {v = y} {args = args} {value = value} {inside = i} {rest = l} e r1 r2) ps s m h {st'} k c {s'} (Honest.step (Honest.read {t = t} f w1 w2)) rest z =
+    determined ok (Yields.reads {below = below} {p = p} {u = u} {v = y} {args = args} {value = value} {inside = i} {rest = l} e r1 r2) ps s m h {st'} k c {s'} (Honest.step (Honest.read {t = t} f w1 w2)) rest z =
         go (reads-too ps p u y args below (next code (block_at m) st') (acts ps s m h k (Reads p u y args below) e))
-        (λ st'' alike placed. determined r1 ps s m h alike placed w1 (core_numbers (blocks_of l) ++ rest) (first-within (length m.made) (blocks_of i) (blocks_of l) rest z))
-        (λ qs m1 st'' count stands alike placed. determined r2 qs t m1 stands alike placed w2 rest (rest-within (length m.made) (length m1.made) (blocks_of i) (blocks_of l) rest count z))
+        (λ st'' alike placed. determined ok r1 ps s m h alike placed w1 (core_numbers (blocks_of l) ++ rest) (first-within (length m.made) (blocks_of i) (blocks_of l) rest z))
+        (λ qs m1 st'' count stands alike placed. determined ok r2 qs t m1 stands alike placed w2 rest (rest-within (length m.made) (length m1.made) (blocks_of i) (blocks_of l) rest count z))
       where
         go : Reads_too ps p u y args below (next code (block_at m) st')
             → ((st'' : Stack) → Stack_alike ps (entered code u.0 (given code u.0 y args value) Empty) st'' → Of_stack (Placed code.structs m) st'' → Runs ps m st'' i t)
             → ((qs : Pairs) (m1 : Blocks) (st'' : Stack) → length m1.made ≡ length m.made + length (core_numbers (blocks_of i)) → Stands qs t m1 → Stack_alike qs below st'' → Of_stack (Placed code.structs m1) st'' → Runs qs m1 st'' l s')
             → Runs ps m st' (Stepped (Was_read p value u y args i l)) s'
         go q g1 g2 =
-            let a = places ps s m h st' c (Reads q.p' u y q.args' q.below') q.is in
+            let a = places ok ps s m h st' c (Reads q.p' u y q.args' q.below') q.is in
             let cell = cell-there code.structs ps x m h.plain q.places a.0 in
             let w : Word = contents code m q.p' in
             let kw : Word_alike ps value (contents code m q.p') = rw f at (h.store p q.p' q.places) in

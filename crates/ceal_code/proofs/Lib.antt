@@ -38,3 +38,6 @@ pub mod TableSteps
 pub mod AfterLaws
 pub mod Ends
 pub mod InputFits
+pub mod Picks
+pub mod PicksValid
+pub mod Rows

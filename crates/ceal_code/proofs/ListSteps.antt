@@ -1,10 +1,11 @@
 -- Lists of kinds, fields, structs, parameters and units, item by item.
-use Rattle.std.proofs.Common.{◌≡◌, ℕ, ◌+◌, true, false, ◌&&◌, List, [], ◌∷◌, refl, length, arith, nat_lt, nat_le, ◌==◌}
+use Rattle.std.proofs.Common.{◌≡◌, ℕ, zero, suc, ◌+◌, ◌-◌, ◌<◌, true, false, ◌&&◌, List, [], ◌∷◌, refl, length, arith, nat_lt, nat_le, ◌==◌}
+use Rattle.ceal_base.specs.declared.kind.FieldKind.{FieldKind}
 use Rattle.ceal_base.specs.declared.kind.Kind.{Kind}
 use Rattle.ceal_base.specs.declared.typed.FieldInfo.{FieldInfo}
 use Rattle.ceal_base.specs.declared.typed.StructInfo.{StructInfo}
 use Rattle.ceal_code.specs.Program.{Unit, Code}
-use Rattle.ceal_code.specs.Valid.{kind_ok, kinds_ok, field_ok, fields_ok, structs_ok, same_kind, is_prefix, below, unit_ok, units_ok, function_ok, functions_ok}
+use Rattle.ceal_code.specs.Valid.{kind_ok, kinds_ok, field_ok, fields_ok, same_field, row_goes_on, row_whole, rows_ok, structs_ok, same_kind, is_prefix, below, unit_ok, units_ok, function_ok, functions_ok}
 use Rattle.ceal_code.specs.declared.expr.VarId.{VarId}
 use Rattle.ceal_code.specs.declared.function.FunctionCode.{FunctionCode}
 
@@ -28,7 +29,7 @@ module _ (structs : List StructInfo) where
   fields-end (f ∷ fs) h = absurd (omega (arith, h))
 
   pub structs-cons : (s : StructInfo) (ss : List StructInfo)
-      → structs_ok structs (s ∷ ss) ≡ ((nat_le (length s.fields) 255 && fields_ok structs s.fields) && structs_ok structs ss)
+      → structs_ok structs (s ∷ ss) ≡ ((nat_le (length s.fields) 255 && (fields_ok structs s.fields && rows_ok s.fields)) && structs_ok structs ss)
   unfolding structs_ok
   structs-cons s ss = refl
 
@@ -36,6 +37,37 @@ module _ (structs : List StructInfo) where
   unfolding structs_ok
   structs-end [] h = refl
   structs-end (s ∷ ss) h = absurd (omega (arith, h))
+
+pub going-none : (kind : FieldKind) (fs : List FieldInfo) → row_goes_on 0 kind fs ≡ true
+unfolding row_goes_on
+going-none kind fs = refl
+
+pub going-over : (n : ℕ) (kind : FieldKind) (fs : List FieldInfo) → n ≡ 0 → row_goes_on n kind fs ≡ true
+unfolding row_goes_on
+going-over zero kind fs h = refl
+going-over (suc n) kind fs h = absurd (omega (arith, h))
+
+pub going-cons : (n : ℕ) (kind : FieldKind) (f : FieldInfo) (fs : List FieldInfo) → 0 < n
+    → row_goes_on n kind (f ∷ fs) ≡ ((same_field kind f.kind && (f.row == 0)) && row_goes_on (n - 1) kind fs)
+unfolding row_goes_on
+going-cons zero kind f fs h = absurd (omega (arith, h))
+going-cons (suc n) kind f fs h =
+    let e : (suc n - 1) ≡ n = omega arith in rw e refl
+
+pub going-end : (n : ℕ) (kind : FieldKind) (fs : List FieldInfo) → 0 < n → length fs ≡ 0 → row_goes_on n kind fs ≡ false
+unfolding row_goes_on
+going-end zero kind fs h k = absurd (omega (arith, h))
+going-end (suc n) kind [] h k = refl
+going-end (suc n) kind (f ∷ fs) h k = absurd (omega (arith, k))
+
+pub rows-cons : (f : FieldInfo) (fs : List FieldInfo) → rows_ok (f ∷ fs) ≡ (row_whole f.row f.kind fs && rows_ok fs)
+unfolding rows_ok
+rows-cons f fs = refl
+
+pub rows-end : (fs : List FieldInfo) → length fs ≡ 0 → rows_ok fs ≡ true
+unfolding rows_ok
+rows-end [] h = refl
+rows-end (f ∷ fs) h = absurd (omega (arith, h))
 
 pub prefix-cons : (p : Kind) (ps : List Kind) (k : Kind) (ks : List Kind) → is_prefix (p ∷ ps) (k ∷ ks) ≡ (same_kind p k && is_prefix ps ks)
 unfolding is_prefix
@@ -89,6 +121,10 @@ module _ (code : Code) where
 pub ruleset kinds_steps = (kinds-cons, kinds-end)
 
 pub ruleset fields_steps = (fields-cons, fields-end)
+
+pub ruleset going_steps = (going-none, going-cons, going-end)
+
+pub ruleset rows_steps = (rows-cons, rows-end)
 
 pub ruleset structs_steps = (structs-cons, structs-end)
 

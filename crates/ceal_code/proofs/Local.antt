@@ -1,22 +1,25 @@
 -- A step depends on the plain words of known blocks alone, and leads to known blocks.
-use Rattle.std.proofs.Common.{◌≡◌, ℕ, ◌&&◌, Bool, true, false, List, [], ◌∷◌, if◌then◌else◌, ap, is_some}
+use Rattle.std.proofs.Common.{◌≡◌, ℕ, ◌+◌, ◌^◌, nat_lt, pos, negsuc, ◌&&◌, Bool, true, false, List, [], ◌∷◌, if◌then◌else◌, ap, is_some}
 use Rattle.ceal_base.specs.Access.{of_struct, is_struct, place_in}
 use Rattle.ceal_base.specs.declared.forest.Key.{Key}
 use Rattle.ceal_base.specs.declared.forest.Key.TheVariants.{Init, ModInt as IntKey, ModPtr as PtrKey}
+use Rattle.ceal_base.specs.Operators.{picked}
 use Rattle.ceal_base.specs.declared.kind.Shape.TheVariants.{Struct}
 use Rattle.ceal_base.specs.declared.typed.StructInfo.{StructInfo}
 use Rattle.ceal_base.specs.declared.word.BlockId.{BlockId}
 use Rattle.ceal_base.specs.declared.word.BlockId.TheVariants.{Input, Core}
+use Rattle.ceal_base.specs.declared.word.Place.{Place}
 use Rattle.ceal_base.specs.declared.word.Word.{Word}
 use Rattle.ceal_base.specs.declared.word.Word.TheVariants.{Num, Null, Block as BlockWord, At}
 use Rattle.ceal_code.proofs.Closed.{Each, Of_stack, Of_key, Of_act, Closed, Equal, field_in-of, set-of, given-of, next-of, next-equal}
 use Rattle.ceal_code.proofs.ClosedInit.{made-of, made-equal}
+use Rattle.ceal_code.proofs.Picks.{Any, any-code}
 use Rattle.ceal_code.specs.Init.{made}
 use Rattle.ceal_code.specs.Known.{Subset, Agree, Holds, Known_variables, Known_stack, Known_act}
 use Rattle.ceal_code.specs.Program.{Code}
 use Rattle.ceal_code.specs.Replay.{Known_block, Known_word, Known_words, Known_key}
 use Rattle.ceal_code.specs.Step.{Stack, Empty, Run, Act, Over, Quiet, Makes, Writes, Reads, entered, given, next}
-use Rattle.ceal_code.specs.Value.{Plain, Variables, set, field_kind, is_cell, field_in}
+use Rattle.ceal_code.specs.Value.{Plain, Variables, set, field_kind, is_cell, field_in, expr_value}
 
 module _ (inputs : ℕ) (bs cs : List ℕ) (sub : Subset bs cs) where
   pub block-more : (b : BlockId) → Known_block inputs bs b → Known_block inputs cs b
@@ -99,12 +102,27 @@ module _ (inputs : ℕ) (bs : List ℕ) where
         let k = has b h in
         rw k.there (field_in-of (Known_word inputs bs) (λ n. tt) tt (field_kind structs (Struct s) f) (is_struct s k.block.shape) k.block f (each-words k.block.words k.known))
 
-    known-closed : (structs : List StructInfo) → Closed structs x (Known_word inputs bs)
+    known-if : (row : ℕ) (p : Place) (f : ℕ) (b : Bool) → Known_block inputs bs p.block → Known_word inputs bs (if b then At (record { block = p.block; field = f }) else Null)
+    known-if row p f true h = h
+    known-if row p f false h = tt
+
+    element-known : (row : ℕ) (w i : Word) → Known_word inputs bs w → Known_word inputs bs (picked row w i)
+    element-known row (At p) (Num (pos i)) h = known-if row p (p.field + i) (nat_lt i row && nat_lt (p.field + i) (2 ^ 32)) h
+    element-known row (At p) (Num (negsuc i)) h = tt
+    element-known row (At p) Null h = tt
+    element-known row (At p) (BlockWord b) h = tt
+    element-known row (At p) (At q) h = tt
+    element-known row (Num n) i h = tt
+    element-known row Null i h = tt
+    element-known row (BlockWord b) i h = tt
+
+    known-closed : (structs : List StructInfo) → Closed structs x Any (Known_word inputs bs)
     known-closed structs = record {
       num = λ n. tt;
       null = tt;
       field = field-known structs;
       address = λ b s f h. address-known (is_cell (field_kind structs (Struct s) f) && is_some (of_struct s (x b))) b f h;
+      element = λ env row a i s h. element-known row (expr_value structs x env a) i h;
     }
 
     module _ (y : Plain) (agree : Agree inputs bs x y) where
@@ -117,16 +135,16 @@ module _ (inputs : ℕ) (bs : List ℕ) where
       module _ (code : Code) where
         -- the next step knows what the stack knows
         pub next-known : (st : Stack) → Known_stack inputs bs st → Known_act inputs bs (next code x st)
-        next-known st h = act-of (next code x st) (next-of (Known_word inputs bs) code x (known-closed code.structs) st (of-stack st h))
+        next-known st h = act-of (next code x st) (next-of Any (Known_word inputs bs) code x (known-closed code.structs) (any-code code) st (of-stack st h))
 
         -- and is the same over more plain words
         pub next-same : (st : Stack) → Known_stack inputs bs st → next code x st ≡ next code y st
-        next-same st h = next-equal (Known_word inputs bs) code x (known-closed code.structs) y (known-equal code.structs) st (of-stack st h)
+        next-same st h = next-equal Any (Known_word inputs bs) code x (known-closed code.structs) (any-code code) y (known-equal code.structs) st (of-stack st h)
 
         -- the words of a new block name blocks that its key knows
         pub made-known : (key : Key) → Known_key inputs bs key → Known_words inputs bs (made code x key).words
-        made-known key h = words-each (made code x key).words (made-of (Known_word inputs bs) code x (known-closed code.structs) key (of-key key h))
+        made-known key h = words-each (made code x key).words (made-of Any (Known_word inputs bs) code x (known-closed code.structs) (any-code code) key (of-key key h))
 
         -- and are the same over any plain words that agree on the known blocks
         pub made-same : (key : Key) → Known_key inputs bs key → made code x key ≡ made code y key
-        made-same key h = made-equal (Known_word inputs bs) code x (known-closed code.structs) y (known-equal code.structs) key (of-key key h)
+        made-same key h = made-equal Any (Known_word inputs bs) code x (known-closed code.structs) (any-code code) y (known-equal code.structs) key (of-key key h)

@@ -1,12 +1,12 @@
 -- Each place that a memory or a stack names is that of a modifiable. A run keeps it so.
-use Rattle.std.proofs.Common.{◌≡◌, ℕ, ◌&&◌, Bool, true, false, Option, Some, None, List, [], ◌∷◌, length, if◌then◌else◌, refl, sym, ap, ◌∙◌, subst, slice_get, is_some, arith}
+use Rattle.std.proofs.Common.{◌≡◌, ℕ, ◌+◌, ◌<◌, ◌^◌, nat_lt, pos, negsuc, ◌&&◌, Bool, true, false, Option, Some, None, List, [], ◌∷◌, length, if◌then◌else◌, refl, sym, ap, ◌∙◌, subst, slice_get, is_some, arith}
 use Rattle.std.specs.Prelude.{⊤}
 use Rattle.ceal_base.specs.Access.{of_struct, is_struct, place_in}
 use Rattle.ceal_base.specs.Block.{Block, Blocks, block_at, written_at}
 use Rattle.ceal_base.specs.Finished.{with_block}
 use Rattle.ceal_base.specs.Fitting.{kind_in, kind_at}
-use Rattle.ceal_base.specs.Operators.{same_block}
-use Rattle.ceal_base.specs.Shapes.{kinds_of_shape}
+use Rattle.ceal_base.specs.Operators.{picked, same_block}
+use Rattle.ceal_base.specs.Shapes.{kinds_of_shape, row_at}
 use Rattle.ceal_base.specs.declared.forest.Key.{Key}
 use Rattle.ceal_base.specs.declared.forest.Key.TheVariants.{Init, ModInt as IntKey, ModPtr as PtrKey}
 use Rattle.ceal_base.specs.declared.kind.Shape.{Shape}
@@ -20,12 +20,17 @@ use Rattle.ceal_base.specs.declared.word.Word.TheVariants.{Num, Null, Block as B
 use Rattle.ceal_code.proofs.Closed.{Each, each-at, Of_stack, Of_key, Closed, field_in-of, field_default-of}
 use Rattle.ceal_code.proofs.ClosedInit.{put-of, made-of}
 use Rattle.ceal_code.proofs.Memory.{contents, Cell_there, content-there, get-push_other, altered, written-here, written-other, grown-here, made-shape}
+use Rattle.ceal_code.proofs.PicksValid.{Starts, picks-valid}
+use Rattle.ceal_code.proofs.Rows.{Rows_hold}
+use Rattle.ceal_code.proofs.TypedInit.{rows-valid}
 use Rattle.ceal_code.proofs.Same.{both, block-same, some-same, struct-shape}
 use Rattle.ceal_code.specs.Init.{made, pointer}
 use Rattle.ceal_code.specs.Program.{Code}
 use Rattle.ceal_code.specs.Replay.{shape_of}
 use Rattle.ceal_code.specs.Step.{Stack, Empty, Run}
-use Rattle.ceal_code.specs.Value.{field_kind, is_cell, field_in}
+use Rattle.ceal_code.specs.Valid.{is_row_of, valid}
+use Rattle.ceal_code.specs.Value.{Variables, field_kind, is_cell, field_in, address_value, expr_value, operand_value}
+use Rattle.ceal_code.specs.declared.expr.CodeExpr.{CodeExpr, Num as NumExpr, Null as NullExpr, Var, Unary', Binary', Field', Address'}
 
 -- a place is that of a modifiable
 abbrev pub Placed : List StructInfo → Blocks → Word → Type 0
@@ -79,12 +84,57 @@ module _ (structs : List StructInfo) (m : Blocks) (well : Well_placed structs m)
       let shape : block.shape ≡ Struct s = struct-shape s block.shape (some-if block (is_struct s block.shape) k.1) in
       subst (λ shape. is_cell (slice_get (kinds_of_shape structs shape) f) ≡ true) (sym shape) k.0
 
-  pub placed-closed : Closed structs (block_at m) (Placed structs m)
-  placed-closed = record {
+  module _ (rows : Rows_hold structs) (s f row : ℕ) (starts : is_row_of row (row_at structs s f) ≡ true) where
+    below-row : (n : ℕ) (c : Bool) → (nat_lt n row && c) ≡ true → n < row
+    below-row n c h = let p = both (nat_lt n row) c h in grind (arith, p.0)
+
+    -- an element of a row of a block
+    element-if : (b : BlockId) (n : ℕ) (c : Bool) → (c ≡ true → n < row) → (is_cell (field_kind structs (Struct s) f) && is_some (of_struct s (block_at m b))) ≡ true
+        → Placed structs m (if c then At (record { block = b; field = f + n }) else Null)
+    element-if b n false l h = tt
+    element-if b n true l h =
+        cell-placed b s (f + n) (block_at m b) refl (subst (λ k. (is_cell k && is_some (of_struct s (block_at m b))) ≡ true) (sym (rows s f row starts n (l refl))) h)
+
+    element-placed : (b : BlockId) (i : Word) → (is_cell (field_kind structs (Struct s) f) && is_some (of_struct s (block_at m b))) ≡ true → Placed structs m (picked row (At (record { block = b; field = f })) i)
+    element-placed b (Num (pos n)) h = element-if b n (nat_lt n row && nat_lt (f + n) (2 ^ 32)) (below-row n (nat_lt (f + n) (2 ^ 32))) h
+    element-placed b (Num (negsuc n)) h = tt
+    element-placed b Null h = tt
+    element-placed b (BlockWord c) h = tt
+    element-placed b (At p) h = tt
+
+    pick-if : (b : BlockId) (i : Word) (t : Bool) → (is_cell (field_kind structs (Struct s) f) && is_some (of_struct s (block_at m b))) ≡ t
+        → Placed structs m (picked row (if t then At (record { block = b; field = f }) else Null) i)
+    pick-if b i true h = element-placed b i h
+    pick-if b i false h = tt
+
+    pick-null : (i : Word) (t : Bool) → Placed structs m (picked row (if t then Null else Null) i)
+    pick-null i true = tt
+    pick-null i false = tt
+
+    -- what is picked from the row that an address begins
+    pick-placed : (w i : Word) → Placed structs m (picked row (address_value structs (block_at m) w s f) i)
+    pick-placed (Num n) i = pick-null i _
+    pick-placed Null i = pick-null i _
+    pick-placed (BlockWord b) i = pick-if b i (is_cell (field_kind structs (Struct s) f) && is_some (of_struct s (block_at m b))) refl
+    pick-placed (At p) i = pick-null i _
+
+  picked-placed : Rows_hold structs → (env : Variables) (row : ℕ) (a : CodeExpr) (i : Word) → Starts structs row a → Placed structs m (picked row (expr_value structs (block_at m) env a) i)
+  unfolding expr_value
+  picked-placed rows env row NullExpr i h = tt
+  picked-placed rows env row (Address' _ a s f) i h = pick-placed rows s f row h (operand_value structs (block_at m) env a) i
+  picked-placed rows env row (NumExpr n) i h = absurd (grind (arith, h))
+  picked-placed rows env row (Var v) i h = absurd (grind (arith, h))
+  picked-placed rows env row (Unary' op _ a) i h = absurd (grind (arith, h))
+  picked-placed rows env row (Binary' op _ a _ b) i h = absurd (grind (arith, h))
+  picked-placed rows env row (Field' _ a s f) i h = absurd (grind (arith, h))
+
+  pub placed-closed : Rows_hold structs → Closed structs (block_at m) (Starts structs) (Placed structs m)
+  placed-closed rows = record {
     num = λ n. tt;
     null = tt;
     field = λ b s f h. field-placed b s f (block_at m b) refl;
     address = λ b s f h. place-if (is_cell (field_kind structs (Struct s) f) && is_some (of_struct s (block_at m b))) b f (cell-placed b s f (block_at m b) refl);
+    element = λ env row a i s h. picked-placed rows env row a i s;
   }
 
   module _ (b : BlockId) (f : ℕ) (w : Word) (block : Block) (there : block_at m b ≡ Some block) where
@@ -127,18 +177,18 @@ module _ (code : Code) (m : Blocks) (well : Well_placed code.structs m) (key : K
   pub grown-keeps : Keeps code.structs m (with_block m (made code (block_at m) key))
   grown-keeps p h = grown-kind (same_block p.block (Core (length m.made))) p.block refl p.field h
 
-  grown-if : (t : Bool) (c : BlockId) → same_block c (Core (length m.made)) ≡ t → Of_key (Placed code.structs m) key → (block : Block)
+  grown-if : valid code ≡ true → (t : Bool) (c : BlockId) → same_block c (Core (length m.made)) ≡ t → Of_key (Placed code.structs m) key → (block : Block)
       → block_at (with_block m (made code (block_at m) key)) c ≡ Some block → Each (Placed code.structs m) block.words
-  grown-if true c e h block g =
+  grown-if ok true c e h block g =
       let e' : block_at (with_block m (made code (block_at m) key)) (Core (length m.made)) ≡ Some block = rw (block-same c (Core (length m.made)) e) at g in
       let is : made code (block_at m) key ≡ block = some-same (made code (block_at m) key) block (sym (grown-here m (made code (block_at m) key)) ∙ e') in
-      subst (λ block. Each (Placed code.structs m) block.words) is (made-of (Placed code.structs m) code (block_at m) (placed-closed code.structs m well) key h)
-  grown-if false (Input i) e h block g = well (Input i) block g
-  grown-if false (Core c) e h block g = well (Core c) block (sym (get-push_other m.made (made code (block_at m) key) c e) ∙ g)
+      subst (λ block. Each (Placed code.structs m) block.words) is (made-of (Starts code.structs) (Placed code.structs m) code (block_at m) (placed-closed code.structs m well (rows-valid code ok)) (picks-valid code ok) key h)
+  grown-if ok false (Input i) e h block g = well (Input i) block g
+  grown-if ok false (Core c) e h block g = well (Core c) block (sym (get-push_other m.made (made code (block_at m) key) c e) ∙ g)
 
-  pub grown-well : Of_key (Placed code.structs m) key → Well_placed code.structs (with_block m (made code (block_at m) key))
-  grown-well h c block g =
-      each-keeps code.structs m (with_block m (made code (block_at m) key)) grown-keeps block.words (grown-if (same_block c (Core (length m.made))) c refl h block g)
+  pub grown-well : valid code ≡ true → Of_key (Placed code.structs m) key → Well_placed code.structs (with_block m (made code (block_at m) key))
+  grown-well ok h c block g =
+      each-keeps code.structs m (with_block m (made code (block_at m) key)) grown-keeps block.words (grown-if ok (same_block c (Core (length m.made))) c refl h block g)
 
   cell-pointer : (shape : Shape) → is_cell (field_kind code.structs shape 0) ≡ true → (block : Block) → block.shape ≡ shape
       → is_cell (kind_in code.structs (Some block) 0) ≡ true

@@ -163,7 +163,7 @@ module _ (code : Code) (inputs : List Block) (f : ℕ) (args : List Word) (fits 
   -- the run that stands for the trace
   the-run : Runs code (plain_of code inputs l) (numbered 0 (core_numbers (blocks_of l))) (numbered-one (core_numbers (blocks_of l)) r.distinct) [] (record { inputs = inputs; made = [] }) (started code f args) l h.after
   the-run =
-      determined code (plain_of code inputs l) (numbered 0 (core_numbers (blocks_of l))) (numbered-one (core_numbers (blocks_of l)) r.distinct) r.yields [] (bases code inputs) (record { inputs = inputs; made = [] }) begin
+      determined code (plain_of code inputs l) (numbered 0 (core_numbers (blocks_of l))) (numbered-one (core_numbers (blocks_of l)) r.distinct) fits.is_valid r.yields [] (bases code inputs) (record { inputs = inputs; made = [] }) begin
       (started-alike code (length inputs) [] f args (args-known code inputs f args fits))
       (entered-of (Placed code.structs (record { inputs = inputs; made = [] })) (λ n. tt) tt code (entry_of code f) (chosen (unit_at code (entry_of code f)).params args) Empty
       (chosen-of (Placed code.structs (record { inputs = inputs; made = [] })) (λ n. tt) tt (unit_at code (entry_of code f)).params args (args-placed code inputs f args fits)) tt)

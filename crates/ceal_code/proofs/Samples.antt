@@ -1,10 +1,13 @@
 -- INC: unit 0 reads its first parameter, and unit 1 writes one more than the value to the second.
 use Rattle.std.proofs.Common.{◌≡◌, ℕ, pos, true, false, Some, None, List, [], ◌∷◌, refl}
+use Rattle.std.specs.Prelude.{codes}
 use Rattle.ceal_base.specs.Block.{Block}
 use Rattle.ceal_base.specs.Trace.{Trace, Nothing, Stepped, Wrote, Was_read}
-use Rattle.ceal_base.specs.declared.kind.Kind.TheVariants.{Int, ModInt as ModIntKind}
+use Rattle.ceal_base.specs.declared.kind.FieldKind.TheVariants.{Plain as PlainField, CellInt, CellPtr}
+use Rattle.ceal_base.specs.declared.kind.Kind.TheVariants.{Int, Ptr, ModInt as ModIntKind}
 use Rattle.ceal_base.specs.declared.kind.Shape.TheVariants.{ModInt}
-use Rattle.ceal_base.specs.declared.operators.Binary.TheVariants.{Add}
+use Rattle.ceal_base.specs.declared.operators.Binary.TheVariants.{Add, Pick}
+use Rattle.ceal_base.specs.declared.typed.StructInfo.{StructInfo}
 use Rattle.ceal_base.specs.declared.word.BlockId.TheVariants.{Input}
 use Rattle.ceal_base.specs.declared.word.Place.{Place}
 use Rattle.ceal_base.specs.declared.word.Word.{Word}
@@ -13,12 +16,14 @@ use Rattle.ceal_code.specs.Fresh.{fresh, run}
 use Rattle.ceal_code.specs.Program.{Code}
 use Rattle.ceal_code.specs.Replay.{Yields, Honest, plain_of, bases, stored}
 use Rattle.ceal_code.specs.Step.{started, settled, next, chosen, bound, woven}
-use Rattle.ceal_code.specs.Valid.{valid, structs_ok, functions_ok, units_ok, unit_ok, is_prefix, kinds_ok, below, all_forward, is_tree, reached, all_followers, all_true, paths_ok, with_params, type_of, params_fit, others}
+use Rattle.ceal_code.specs.Valid.{valid, structs_ok, functions_ok, units_ok, unit_ok, is_prefix, kinds_ok, below, all_forward, is_tree, reached, all_followers, all_true, paths_ok, with_params, type_of, params_fit, others, row_goes_on, rows_ok}
 use Rattle.ceal_code.specs.Value.{expr_value, values, set, unset}
 use Rattle.ceal_code.specs.declared.command.Cmd.TheVariants.{Write, If, Done, Read, Call}
 use Rattle.ceal_code.specs.declared.expr.CodeExpr.TheBlock.{hidden-the_row-CodeExpr-0, shape-the_row-CodeExpr-0}
 use Rattle.ceal_code.specs.declared.expr.CodeExpr.TheVariants.{Null, Var, Num as NumExpr}
-use Rattle.ceal_code.specs.declared.expr.CodeExpr.TheViews.{Binary}
+use Rattle.ceal_code.specs.declared.expr.CodeExpr.TheViews.{Binary, Address}
+use Rattle.ceal_code.specs.declared.expr.CodeExpr.{CodeExpr}
+use Rattle.ceal_code.specs.declared.typing.ExprType.TheVariants.{Of, AnyPlace}
 use Rattle.ceal_code.specs.declared.expr.VarId.{VarId}
 use Rattle.ceal_code.specs.declared.function.FunctionCode.TheVariants.{Core as CoreFunction}
 
@@ -86,3 +91,40 @@ detached = record {
 detached-not-valid : valid detached ≡ false
 unfolding valid structs_ok functions_ok units_ok unit_ok is_prefix kinds_ok below all_forward is_tree reached all_followers all_true paths_ok with_params type_of params_fit others hidden-the_row-CodeExpr-0 shape-the_row-CodeExpr-0 denote.Hole.Carrier.hidden
 detached-not-valid = refl
+
+-- struct row { int n; mod int s[2]; };
+abbrev rows : List StructInfo
+rows = record {
+  name = codes "row";
+  fields = record { name = codes "n"; kind = PlainField Int; row = 0 } ∷ record { name = codes "s[0]"; kind = CellInt; row = 2 } ∷ record { name = codes "s[1]"; kind = CellInt; row = 0 } ∷ [];
+} ∷ []
+
+-- `&v0->s[1]`, where `v0` is a pointer to such a struct
+abbrev an_element : CodeExpr
+an_element = Binary (Pick 2) (Address (Var (var 0)) 0 1) (NumExpr (pos 1))
+
+element-type : type_of rows (Ptr 0 ∷ []) (true ∷ []) an_element ≡ Some (Of ModIntKind)
+unfolding type_of hidden-the_row-CodeExpr-0 shape-the_row-CodeExpr-0 denote.Hole.Carrier.hidden
+element-type = refl
+
+-- no row of three begins there, and none at the second element
+not-three : type_of rows (Ptr 0 ∷ []) (true ∷ []) (Binary (Pick 3) (Address (Var (var 0)) 0 1) (NumExpr (pos 1))) ≡ None
+unfolding type_of hidden-the_row-CodeExpr-0 shape-the_row-CodeExpr-0 denote.Hole.Carrier.hidden
+not-three = refl
+
+not-second : type_of rows (Ptr 0 ∷ []) (true ∷ []) (Binary (Pick 2) (Address (Var (var 0)) 0 2) (NumExpr (pos 1))) ≡ None
+unfolding type_of hidden-the_row-CodeExpr-0 shape-the_row-CodeExpr-0 denote.Hole.Carrier.hidden
+not-second = refl
+
+-- an element of null may stand for a place, and for no pointer to a struct
+null-element : type_of rows [] [] (Binary (Pick 2) Null (NumExpr (pos 1))) ≡ Some AnyPlace
+unfolding type_of hidden-the_row-CodeExpr-0 shape-the_row-CodeExpr-0 denote.Hole.Carrier.hidden
+null-element = refl
+
+rows-whole : rows_ok (record { name = codes "s[0]"; kind = CellInt; row = 2 } ∷ record { name = codes "s[1]"; kind = CellInt; row = 0 } ∷ []) ≡ true
+unfolding rows_ok row_goes_on
+rows-whole = refl
+
+row-cut : rows_ok (record { name = codes "s[0]"; kind = CellInt; row = 2 } ∷ record { name = codes "s[1]"; kind = CellPtr 0; row = 0 } ∷ []) ≡ false
+unfolding rows_ok row_goes_on
+row-cut = refl

@@ -1,10 +1,10 @@
 -- The text of code, piece by piece.
-use Rattle.std.proofs.Common.{◌≡◌, ℕ, zero, suc, ℤ, ◌+◌, List, [], ◌∷◌, ◌++◌, refl, length, arith, codes, ap, append_assoc, append-nil, ◌∙◌, sym}
+use Rattle.std.proofs.Common.{◌≡◌, if◌then◌else◌, ℕ, zero, suc, ℤ, ◌+◌, List, [], ◌∷◌, ◌++◌, refl, length, arith, codes, ap, append_assoc, append-nil, ◌∙◌, sym}
 use Rattle.std.specs.Fmt.{signed_decimal}
 use Rattle.ceal_base.specs.declared.operators.Binary.{Binary as BinaryOp}
 use Rattle.ceal_base.specs.declared.operators.Unary.{Unary as UnaryOp}
 use Rattle.ceal_base.specs.declared.typed.StructInfo.{StructInfo}
-use Rattle.ceal_code.specs.Listing.{expr_text, field_name, unary_sign, binary_sign, var_text, more_exprs, more_vars, indent}
+use Rattle.ceal_code.specs.Listing.{expr_text, field_name, unary_sign, binary_sign, is_pick, without_index, var_text, more_exprs, more_vars, indent}
 use Rattle.ceal_code.specs.declared.expr.CodeExpr.{CodeExpr}
 use Rattle.ceal_code.specs.declared.expr.CodeExpr.TheBlock.{hidden-the_row-CodeExpr-0, shape-the_row-CodeExpr-0}
 use Rattle.ceal_code.specs.declared.expr.CodeExpr.TheVariants.{Num, Null, Var}
@@ -29,7 +29,9 @@ module _ (structs : List StructInfo) where
   text-unary op a = refl
 
   pub text-binary : (op : BinaryOp) (a b : CodeExpr)
-      → expr_text structs (Binary op a b) ≡ codes "(" ++ expr_text structs a ++ binary_sign op ++ expr_text structs b ++ codes ")"
+      → expr_text structs (Binary op a b)
+      ≡ (if is_pick op then without_index (expr_text structs a) ++ binary_sign op ++ expr_text structs b ++ codes "]"
+      else codes "(" ++ expr_text structs a ++ binary_sign op ++ expr_text structs b ++ codes ")")
   unfolding expr_text hidden-the_row-CodeExpr-0 shape-the_row-CodeExpr-0 denote.Hole.Carrier.hidden
   text-binary op a b = refl
 

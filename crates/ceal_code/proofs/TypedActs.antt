@@ -15,7 +15,7 @@ use Rattle.ceal_code.proofs.FittingLemmas.{int-is_cell, pointer-is_cell}
 use Rattle.ceal_code.proofs.Memory.{get-within}
 use Rattle.ceal_code.proofs.Same.{both, nat-same, some-same}
 use Rattle.ceal_code.proofs.Typed.{Has_type, Env_typed, Memory_typed, maybe-fits, fits-word, value-fits, asked-there}
-use Rattle.ceal_code.proofs.TypedInit.{function-valid}
+use Rattle.ceal_code.proofs.TypedInit.{rows-valid, function-valid}
 use Rattle.ceal_code.proofs.TypedStack.{Params_typed, Stack_typed, Takes, Gives, enter}
 use Rattle.ceal_code.specs.Program.{Unit as CodeUnit, Code}
 use Rattle.ceal_code.specs.Running.{Modifiable, Expr_there, Exprs_there, Unit_there}
@@ -24,6 +24,7 @@ use Rattle.ceal_code.specs.Valid.{Typing, fits, fits_maybe, type_of, all_fit, pa
 use Rattle.ceal_code.specs.Value.{Variables, expr_value, values}
 use Rattle.ceal_code.specs.declared.command.Cmd.{Cmd}
 use Rattle.ceal_code.specs.declared.command.Cmd.TheVariants.{Move, Tick, Alloc, Modref, Write, If, Done, Tail, Read, Call}
+use Rattle.ceal_code.specs.declared.typing.ExprType.TheVariants.{Of, AnyPointer, AnyPlace}
 use Rattle.ceal_code.specs.declared.expr.CodeExpr.{CodeExpr}
 use Rattle.ceal_code.specs.declared.expr.VarId.{VarId}
 use Rattle.ceal_code.specs.declared.function.FunctionCode.{FunctionCode}
@@ -70,11 +71,12 @@ module _ (code : Code) (m : Blocks) where
   -- where a write goes
   pub write-place : (s t : Typing) (w : Word) → write_fits s t ≡ true → Has_type code.structs m s w → Modifiable code.structs m w
   write-place None t w h k = absurd (grind (arith, h))
-  write-place (Some None) t w h k = rw k tt
-  write-place (Some (Some Int)) t w h k = absurd (grind (arith, h))
-  write-place (Some (Some (Ptr s))) t w h k = absurd (grind (arith, h))
-  write-place (Some (Some ModInt)) t w h k = int-place w k
-  write-place (Some (Some (ModPtr s))) t w h k = pointer-place s w k
+  write-place (Some AnyPointer) t w h k = rw k tt
+  write-place (Some AnyPlace) t w h k = rw k tt
+  write-place (Some (Of Int)) t w h k = absurd (grind (arith, h))
+  write-place (Some (Of (Ptr s))) t w h k = absurd (grind (arith, h))
+  write-place (Some (Of ModInt)) t w h k = int-place w k
+  write-place (Some (Of (ModPtr s))) t w h k = pointer-place s w k
 
   -- where a read comes from
   pub read-place : (k : Option Kind) (t : Typing) (w : Word) → place_fits k t ≡ true → Has_type code.structs m t w → Modifiable code.structs m w
@@ -98,11 +100,12 @@ module _ (code : Code) (m : Blocks) where
 
   pub takes-typed : (p : Place) (value : Word) (s t : Typing) → write_fits s t ≡ true → Has_type code.structs m s (At p) → Has_type code.structs m t value → Takes code m p value
   takes-typed p value None t h k l = absurd (grind (arith, h))
-  takes-typed p value (Some None) t h k l = absurd (grind (arith, k))
-  takes-typed p value (Some (Some Int)) t h k l = absurd (grind (arith, h))
-  takes-typed p value (Some (Some (Ptr s))) t h k l = absurd (grind (arith, h))
-  takes-typed p value (Some (Some ModInt)) t h k l = int-takes p value (kind_at code.structs m p) refl k (fits-word code.structs m Int t value h l)
-  takes-typed p value (Some (Some (ModPtr s))) t h k l = pointer-takes s p value (kind_at code.structs m p) refl k (fits-word code.structs m (Ptr s) t value h l)
+  takes-typed p value (Some AnyPointer) t h k l = absurd (grind (arith, k))
+  takes-typed p value (Some AnyPlace) t h k l = absurd (grind (arith, k))
+  takes-typed p value (Some (Of Int)) t h k l = absurd (grind (arith, h))
+  takes-typed p value (Some (Of (Ptr s))) t h k l = absurd (grind (arith, h))
+  takes-typed p value (Some (Of ModInt)) t h k l = int-takes p value (kind_at code.structs m p) refl k (fits-word code.structs m Int t value h l)
+  takes-typed p value (Some (Of (ModPtr s))) t h k l = pointer-takes s p value (kind_at code.structs m p) refl k (fits-word code.structs m (Ptr s) t value h l)
 
   int-gives : (F : Word → Type 0) (p : Place) (o : Option FieldKind) → kind_at code.structs m p ≡ o → is_int_cell o ≡ true → ((w : Word) → fits_kind code.structs m Int w ≡ true → F w) → Gives code m p F
   int-gives F p None e h g = absurd (grind (arith, h))
@@ -144,11 +147,11 @@ module _ (code : Code) (ok : valid code ≡ true) (m : Blocks) (typed : Memory_t
     pub asked : (theirs : List Kind) (v : ℕ) (e : CodeExpr) (kind : Kind) → fits_maybe (slice_get theirs v) (type_of code.structs (kinds_of code f) known e) ≡ true → slice_get theirs v ≡ Some kind
         → fits_kind code.structs m kind (expr_value code.structs (block_at m) env e) ≡ true
     asked theirs v e kind h i =
-        let j : fits kind (type_of code.structs (kinds_of code f) known e) ≡ true = rw i at h in value-fits code.structs m typed (kinds_of code f) known env envs kind e j
+        let j : fits kind (type_of code.structs (kinds_of code f) known e) ≡ true = rw i at h in value-fits code.structs m (rows-valid code ok) typed (kinds_of code f) known env envs kind e j
 
     pub there-if : (k : Option Kind) (e : CodeExpr) → fits_maybe k (type_of code.structs (kinds_of code f) known e) ≡ true → Expr_there code.structs m (kinds_of code f) env e
     there-if None e h = absurd (grind (arith, h))
-    there-if (Some kind) e h = asked-there code.structs m typed (kinds_of code f) known env envs kind e h
+    there-if (Some kind) e h = asked-there code.structs m (rows-valid code ok) typed (kinds_of code f) known env envs kind e h
 
     params-typed : (theirs : List Kind) (ps : List VarId) (es : List CodeExpr) → params_fit code.structs (kinds_of code f) known theirs ps es ≡ true → Params_typed code m theirs ps (values code.structs (block_at m) env es)
     unfolding params_fit values
@@ -175,7 +178,7 @@ module _ (code : Code) (ok : valid code ≡ true) (m : Blocks) (typed : Memory_t
     all-there (p ∷ params) [] h = absurd (grind (arith, h))
     all-there (p ∷ params) (e ∷ es) h =
         let k = both (fits p (type_of code.structs (kinds_of code f) known e)) (all_fit code.structs (kinds_of code f) known params es) h in
-        (asked-there code.structs m typed (kinds_of code f) known env envs p e k.0, all-there params es k.1)
+        (asked-there code.structs m (rows-valid code ok) typed (kinds_of code f) known env envs p e k.0, all-there params es k.1)
 
     params-count : (theirs : List Kind) (ps : List VarId) (es : List CodeExpr) → params_fit code.structs (kinds_of code f) known theirs ps es ≡ true → length es ≡ length ps
     unfolding params_fit

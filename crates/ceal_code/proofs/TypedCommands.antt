@@ -12,10 +12,11 @@ use Rattle.ceal_base.specs.declared.word.Word.{Word}
 use Rattle.ceal_base.specs.declared.word.Word.TheVariants.{Num, Null, Block as BlockWord, At}
 use Rattle.ceal_code.proofs.Kept.{Shapes_kept, fits-kept}
 use Rattle.ceal_code.proofs.Memory.{get-within}
+use Rattle.ceal_code.proofs.Rows.{kind-same}
 use Rattle.ceal_code.proofs.Same.{both}
-use Rattle.ceal_code.proofs.Typed.{Has_type, Typed, Env_typed, Memory_typed, kind-same, fits-typed, default-fits, value-type, expr-there, asked-there}
+use Rattle.ceal_code.proofs.Typed.{Has_type, Env_typed, Memory_typed, write-types, place-typed, default-fits, value-type, expr-there, asked-there}
 use Rattle.ceal_code.proofs.TypedActs.{Step_command, maybe-within, path-within, write-place, read-place, takes-typed, gives-typed, asked, there-if, all-there, Goes_to, unit-entered, Reader, reader-entered, Callee, callee}
-use Rattle.ceal_code.proofs.TypedInit.{all-values, initialiser-there}
+use Rattle.ceal_code.proofs.TypedInit.{rows-valid, all-values, initialiser-there}
 use Rattle.ceal_code.proofs.TypedStack.{no-tail, pointer_kind, set-typed, Frame_typed, Stack_typed, At_command, at-command, stack-kept, Act_typed}
 use Rattle.ceal_code.specs.Program.{Unit as CodeUnit, Code}
 use Rattle.ceal_code.specs.Running.{Command_there, Stack_there}
@@ -24,30 +25,12 @@ use Rattle.ceal_code.specs.Valid.{Typing, fits, fits_maybe, type_of, all_fit, un
 use Rattle.ceal_code.specs.Value.{Variables, set, expr_value, values}
 use Rattle.ceal_code.specs.declared.command.Cmd.{Cmd}
 use Rattle.ceal_code.specs.declared.command.Cmd.TheVariants.{Move, Tick, Alloc, Modref, Write, If, Done, Tail, Read, Call}
+use Rattle.ceal_code.specs.declared.typing.ExprType.{ExprType}
+use Rattle.ceal_code.specs.declared.typing.ExprType.TheVariants.{Of, AnyPointer, AnyPlace}
 use Rattle.ceal_code.specs.declared.expr.CodeExpr.{CodeExpr}
 use Rattle.ceal_code.specs.declared.expr.VarId.{VarId}
 use Rattle.ceal_code.specs.declared.function.FunctionCode.{FunctionCode}
 use Rattle.ceal_code.specs.declared.function.FunctionCode.TheVariants.{Core as CoreFunction, Init as InitFunction}
-
--- what is written is of a type
-write-types : (s t : Typing) → write_fits s t ≡ true → Typed s × Typed t
-write-types None t h = absurd (grind (arith, h))
-write-types (Some s) None h = absurd (none s h)
-  where
-    none : (s : Option Kind) → write_fits (Some s) None ≡ true → ⊥
-    none None h = absurd (grind (arith, h))
-    none (Some Int) h = absurd (grind (arith, h))
-    none (Some (Ptr s)) h = absurd (grind (arith, h))
-    none (Some ModInt) h = absurd (grind (arith, h))
-    none (Some (ModPtr s)) h = absurd (grind (arith, h))
-write-types (Some s) (Some t) h = (tt, tt)
-
-place-typed : (k : Option Kind) (t : Typing) → place_fits k t ≡ true → Typed t
-place-typed None t h = absurd (grind (arith, h))
-place-typed (Some Int) t h = fits-typed ModInt t h
-place-typed (Some (Ptr s)) t h = fits-typed (ModPtr s) t h
-place-typed (Some ModInt) t h = absurd (grind (arith, h))
-place-typed (Some (ModPtr s)) t h = absurd (grind (arith, h))
 
 place-some : (kinds : List Kind) (v : ℕ) (t : Typing) → place_fits (slice_get kinds v) t ≡ true → v < length kinds
 place-some kinds v t h = go (slice_get kinds v) refl h
@@ -78,13 +61,13 @@ module _ (code : Code) (ok : valid code ≡ true) (m : Blocks) (typed : Memory_t
 
   -- the unit goes on with a new block
   goes-on : (u i : ℕ) (env : Variables) (v : VarId) (shape : Shape) (below : Stack) (unit : CodeUnit) (known : List Bool) (fuel : ℕ) → slice_get code.units u ≡ Some unit → Env_typed code.structs m (kinds_of code unit.function) known env
-      → paths_ok code unit.function unit.body fuel (i + 1) (slice_set known v.0 true) true ≡ true → fits_maybe (slice_get (kinds_of code unit.function) v.0) (Some (Some (pointer_kind shape))) ≡ true → Stack_typed code m below
+      → paths_ok code unit.function unit.body fuel (i + 1) (slice_set known v.0 true) true ≡ true → fits_maybe (slice_get (kinds_of code unit.function) v.0) (Some (Of (pointer_kind shape))) ≡ true → Stack_typed code m below
       → (m' : Blocks) (w : Word) → Shapes_kept m m' → fits_kind code.structs m' (pointer_kind shape) w ≡ true → Stack_typed code m' (Run u (i + 1) (set env v.0 w) below)
   goes-on u i env v shape below unit known fuel e envs path asks h m' w kept k = (frame, stack-kept code m m' kept below h)
     where
       pointed : (kind : Kind) → slice_get (kinds_of code unit.function) v.0 ≡ Some kind → fits_kind code.structs m' kind w ≡ true
       pointed kind j =
-          let a : fits kind (Some (Some (pointer_kind shape))) ≡ true = rw j at asks in
+          let a : fits kind (Some (Of (pointer_kind shape))) ≡ true = rw j at asks in
           subst (λ kind. fits_kind code.structs m' kind w ≡ true) (sym (kind-same kind (pointer_kind shape) a)) k
 
       frame : Frame_typed code m' u (i + 1) (set env v.0 w)
@@ -105,8 +88,8 @@ module _ (code : Code) (ok : valid code ≡ true) (m : Blocks) (typed : Memory_t
     alloc-typed v g args at None e h = absurd (grind (arith, h))
     alloc-typed v g args at (Some (CoreFunction name entry params)) e h = absurd (grind (arith, h))
     alloc-typed v g args at (Some (InitFunction name s params body)) e h =
-        let k = both (fits_maybe (slice_get (kinds_of code at.unit.function) v.0) (Some (Some (Ptr s)))) (all_fit code.structs (kinds_of code at.unit.function) at.known params args) h in
-        let ws = all-values code.structs m typed (kinds_of code at.unit.function) at.known env at.envs params args k.1 in
+        let k = both (fits_maybe (slice_get (kinds_of code at.unit.function) v.0) (Some (Of (Ptr s)))) (all_fit code.structs (kinds_of code at.unit.function) at.known params args) h in
+        let ws = all-values code.structs m (rows-valid code ok) typed (kinds_of code at.unit.function) at.known env at.envs params args k.1 in
         (rw e ws, λ m' w kept j. let j' : fits_kind code.structs m' (Ptr s) w ≡ true = rw e at j in goes-on u i env v (Struct s) below at.unit at.known at.fuel at.there at.envs at.onward' k.0 under m' w kept j')
 
     modref-typed : (v : VarId) (shape : Shape) → At_command code m u i env (Modref v shape) → Act_typed code m (act code (block_at m) (Modref v shape) u i env below)
@@ -121,7 +104,7 @@ module _ (code : Code) (ok : valid code ≡ true) (m : Blocks) (typed : Memory_t
     write-typed p e at (BlockWord b) h = (on-frame u i env (Write p e) at (i + 1) at.onward', under)
     write-typed p e at (At q) h = (
       takes-typed code m q (expr_value code.structs (block_at m) env e) (type_of code.structs (kinds_of code at.unit.function) at.known p) (type_of code.structs (kinds_of code at.unit.function) at.known e) at.ok h
-          (value-type code.structs m typed (kinds_of code at.unit.function) at.known env at.envs e),
+          (value-type code.structs m (rows-valid code ok) typed (kinds_of code at.unit.function) at.known env at.envs e),
       (on-frame u i env (Write p e) at (i + 1) at.onward', under),
     )
 
@@ -181,12 +164,12 @@ module _ (code : Code) (ok : valid code ≡ true) (m : Blocks) (typed : Memory_t
     act-typed (Alloc v g args) at s = alloc-typed v g args at (slice_get code.functions g) refl at.ok
     act-typed (Modref v shape) at s = modref-typed v shape at
     act-typed (Write p e) at s =
-        write-typed p e at (expr_value code.structs (block_at m) env p) (value-type code.structs m typed (kinds_of code at.unit.function) at.known env at.envs p)
+        write-typed p e at (expr_value code.structs (block_at m) env p) (value-type code.structs m (rows-valid code ok) typed (kinds_of code at.unit.function) at.known env at.envs p)
     act-typed (If test first second) at s = if-typed test first second at (holds (expr_value code.structs (block_at m) env test))
     act-typed Done at s = absurd s
     act-typed (Tail w args) at s = absurd s
     act-typed (Read v p w args) at s =
-        read-typed v p w args at (expr_value code.structs (block_at m) env p) (value-type code.structs m typed (kinds_of code at.unit.function) at.known env at.envs p)
+        read-typed v p w args at (expr_value code.structs (block_at m) env p) (value-type code.structs m (rows-valid code ok) typed (kinds_of code at.unit.function) at.known env at.envs p)
     act-typed (Call g args w rest) at s =
         let k = callee-at g args w rest at in
         k.0.goes.enters (entered code w.0 (values code.structs (block_at m) env rest) below) (k.1.enters below under)
@@ -196,17 +179,17 @@ module _ (code : Code) (ok : valid code ≡ true) (m : Blocks) (typed : Memory_t
     alloc-there v g args at None e h = absurd (grind (arith, h))
     alloc-there v g args at (Some (CoreFunction name entry params)) e h = absurd (grind (arith, h))
     alloc-there v g args at (Some (InitFunction name s params body)) e h =
-        let k = both (fits_maybe (slice_get (kinds_of code at.unit.function) v.0) (Some (Some (Ptr s)))) (all_fit code.structs (kinds_of code at.unit.function) at.known params args) h in
-        let ws = all-values code.structs m typed (kinds_of code at.unit.function) at.known env at.envs params args k.1 in
+        let k = both (fits_maybe (slice_get (kinds_of code at.unit.function) v.0) (Some (Of (Ptr s)))) (all_fit code.structs (kinds_of code at.unit.function) at.known params args) h in
+        let ws = all-values code.structs m (rows-valid code ok) typed (kinds_of code at.unit.function) at.known env at.envs params args k.1 in
         rw (at.there, e) (
-          maybe-within (kinds_of code at.unit.function) v.0 (Some (Some (Ptr s))) k.0,
+          maybe-within (kinds_of code at.unit.function) v.0 (Some (Of (Ptr s))) k.0,
           all-there code ok m typed at.unit.function at.known env at.envs params args k.1,
           initialiser-there code ok m typed g (values code.structs (block_at m) env args) (Some (InitFunction name s params body)) e ws,
         )
 
     modref-there : (v : VarId) (shape : Shape) → At_command code m u i env (Modref v shape) → Command_there code m u env (Modref v shape)
-    modref-there v OneInt at = rw at.there (maybe-within (kinds_of code at.unit.function) v.0 (Some (Some ModInt)) at.ok, tt)
-    modref-there v (OnePtr s) at = rw at.there (maybe-within (kinds_of code at.unit.function) v.0 (Some (Some (ModPtr s))) at.ok, tt)
+    modref-there v OneInt at = rw at.there (maybe-within (kinds_of code at.unit.function) v.0 (Some (Of ModInt)) at.ok, tt)
+    modref-there v (OnePtr s) at = rw at.there (maybe-within (kinds_of code at.unit.function) v.0 (Some (Of (ModPtr s))) at.ok, tt)
     modref-there v (Struct s) at = absurd (grind (arith, at.ok))
 
     -- where a tail goes
@@ -228,15 +211,15 @@ module _ (code : Code) (ok : valid code ≡ true) (m : Blocks) (typed : Memory_t
     command-there (Write p e) at =
         let k = write-types (type_of code.structs (kinds_of code at.unit.function) at.known p) (type_of code.structs (kinds_of code at.unit.function) at.known e) at.ok in
         rw at.there (
-          expr-there code.structs m typed (kinds_of code at.unit.function) at.known env at.envs p k.0,
-          expr-there code.structs m typed (kinds_of code at.unit.function) at.known env at.envs e k.1,
+          expr-there code.structs m (rows-valid code ok) typed (kinds_of code at.unit.function) at.known env at.envs p k.0,
+          expr-there code.structs m (rows-valid code ok) typed (kinds_of code at.unit.function) at.known env at.envs e k.1,
           write-place code m (type_of code.structs (kinds_of code at.unit.function) at.known p) (type_of code.structs (kinds_of code at.unit.function) at.known e) (expr_value code.structs (block_at m) env p) at.ok
-              (value-type code.structs m typed (kinds_of code at.unit.function) at.known env at.envs p),
+              (value-type code.structs m (rows-valid code ok) typed (kinds_of code at.unit.function) at.known env at.envs p),
         )
     command-there (If test first second) at =
         let l = both (paths_ok code at.unit.function at.unit.body at.fuel first at.known true) (paths_ok code at.unit.function at.unit.body at.fuel second at.known true) at.onward' in
         rw at.there (
-          asked-there code.structs m typed (kinds_of code at.unit.function) at.known env at.envs Int test at.ok,
+          asked-there code.structs m (rows-valid code ok) typed (kinds_of code at.unit.function) at.known env at.envs Int test at.ok,
           path-within code at.unit.function at.unit.body at.fuel first at.known true l.0,
           path-within code at.unit.function at.unit.body at.fuel second at.known true l.1,
         )
@@ -247,10 +230,10 @@ module _ (code : Code) (ok : valid code ≡ true) (m : Blocks) (typed : Memory_t
         let k = reader-at v p w args at in
         rw at.there (
           place-some (kinds_of code at.unit.function) v.0 (type_of code.structs (kinds_of code at.unit.function) at.known p) k.0,
-          expr-there code.structs m typed (kinds_of code at.unit.function) at.known env at.envs p
+          expr-there code.structs m (rows-valid code ok) typed (kinds_of code at.unit.function) at.known env at.envs p
               (place-typed (slice_get (kinds_of code at.unit.function) v.0) (type_of code.structs (kinds_of code at.unit.function) at.known p) k.0),
           read-place code m (slice_get (kinds_of code at.unit.function) v.0) (type_of code.structs (kinds_of code at.unit.function) at.known p) (expr_value code.structs (block_at m) env p) k.0
-              (value-type code.structs m typed (kinds_of code at.unit.function) at.known env at.envs p),
+              (value-type code.structs m (rows-valid code ok) typed (kinds_of code at.unit.function) at.known env at.envs p),
           k.1.args',
           k.1.unit,
         )

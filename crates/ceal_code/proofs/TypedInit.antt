@@ -15,6 +15,7 @@ use Rattle.ceal_base.specs.declared.kind.Shape.TheVariants.{Struct}
 use Rattle.ceal_base.specs.declared.typed.StructInfo.{StructInfo}
 use Rattle.ceal_base.specs.declared.word.Word.{Word}
 use Rattle.ceal_base.specs.declared.word.Word.TheVariants.{Null}
+use Rattle.ceal_code.proofs.Rows.{Rows_hold, rows-hold}
 use Rattle.ceal_code.proofs.Same.{both, some-same, none-some, both-true}
 use Rattle.ceal_code.proofs.Typed.{Typed, Env_typed, Memory_typed, fits-typed, default-fits, expr-there, asked-there, value-fits}
 use Rattle.ceal_code.specs.Init.{set_plain, set_by, set_by_row, set_by_all, arguments, made_by, made}
@@ -67,6 +68,13 @@ module _ (code : Code) (ok : valid code ≡ true) where
       let k = both (structs_ok code.structs code.structs) (functions_ok code 0 code.functions code.kinds && units_ok code code.units) ok in
       (both (functions_ok code 0 code.functions code.kinds) (units_ok code code.units) k.1).0
 
+  -- and of its structs
+  pub rows-valid : Rows_hold code.structs
+  unfolding valid
+  rows-valid =
+      let k = both (structs_ok code.structs code.structs) (functions_ok code 0 code.functions code.kinds && units_ok code code.units) ok in
+      rows-hold code.structs k.0
+
   pub unit-valid : (u : ℕ) (unit : CodeUnit) → slice_get code.units u ≡ Some unit → unit_ok code unit ≡ true
   unit-valid = units-in code code.units units-valid
 
@@ -112,7 +120,7 @@ module _ (structs : List StructInfo) (m : Blocks) where
   unfolding arguments
   arguments-typed params known args h v kind e k = word-at params args h v kind e
 
-  module _ (typed : Memory_typed structs m) where
+  module _ (rows : Rows_hold structs) (typed : Memory_typed structs m) where
     pub all-values : (kinds : List Kind) (known : List Bool) (env : Variables) → Env_typed structs m kinds known env → (params : List Kind) (es : List CodeExpr) → all_fit structs kinds known params es ≡ true
         → words_fit structs m params (values structs (block_at m) env es) ≡ true
     unfolding all_fit values
@@ -121,7 +129,7 @@ module _ (structs : List StructInfo) (m : Blocks) where
     all-values kinds known env envs (k ∷ params) [] h = absurd (grind (arith, h))
     all-values kinds known env envs (k ∷ params) (e ∷ es) h =
         let p = both (fits k (type_of structs kinds known e)) (all_fit structs kinds known params es) h in
-        both-true (fits_kind structs m k (expr_value structs (block_at m) env e)) (words_fit structs m params (values structs (block_at m) env es)) (value-fits structs m typed kinds known env envs k e p.0)
+        both-true (fits_kind structs m k (expr_value structs (block_at m) env e)) (words_fit structs m params (values structs (block_at m) env es)) (value-fits structs m rows typed kinds known env envs k e p.0)
         (all-values kinds known env envs params es p.1)
 
     module _ (params : List Kind) (known : List Bool) (env : Variables) (envs : Env_typed structs m params known env) (s : ℕ) where
@@ -131,7 +139,7 @@ module _ (structs : List StructInfo) (m : Blocks) where
       set-typed field e (Some CellInt) i h ws g = absurd (grind (arith, h))
       set-typed field e (Some (CellPtr z)) i h ws g = absurd (grind (arith, h))
       set-typed field e (Some (PlainField kind)) i h ws g =
-          fields-set (kinds_of_shape structs (Struct s)) ws field (PlainField kind) (expr_value structs (block_at m) env e) g i (value-fits structs m typed params known env envs kind e h)
+          fields-set (kinds_of_shape structs (Struct s)) ws field (PlainField kind) (expr_value structs (block_at m) env e) g i (value-fits structs m rows typed params known env envs kind e h)
 
       fits-if : (b : Bool) (kinds : List FieldKind) (vs ws : List Word) → fields_fit structs m kinds vs ≡ true → fields_fit structs m kinds ws ≡ true → fields_fit structs m kinds (if b then vs else ws) ≡ true
       fits-if true kinds vs ws h k = h
@@ -174,11 +182,11 @@ module _ (structs : List StructInfo) (m : Blocks) where
 
         stmt-there : (stmt : InitStmt) → stmt_ok structs params known s stmt ≡ true → Stmt_there structs m params env s stmt
         stmt-there (Set field e) h =
-            let p = field-there (field_kind structs (Struct s) field) (type_of structs params known e) h in (p.0, expr-there structs m typed params known env envs e p.1)
+            let p = field-there (field_kind structs (Struct s) field) (type_of structs params known e) h in (p.0, expr-there structs m rows typed params known env envs e p.1)
         stmt-there (IfStmt' test _ first _ second) h =
             let p = both (fits Int (type_of structs params known test)) (row_ok structs params known s first && row_ok structs params known s second) h in
             let q = both (row_ok structs params known s first) (row_ok structs params known s second) p.1 in
-            (asked-there structs m typed params known env envs Int test p.0, row-there first q.0, row-there second q.1)
+            (asked-there structs m rows typed params known env envs Int test p.0, row-there first q.0, row-there second q.1)
 
         row-there : {n : _} (row : Row_of-InitStmt n) → row_ok structs params known s row ≡ true → Row_there structs m params env s row
         row-there end_of-InitStmt h = tt
@@ -220,7 +228,7 @@ module _ (code : Code) (ok : valid code ≡ true) (m : Blocks) (typed : Memory_t
       let known = replicate (length params) true in (
         words-count code.structs m params args h,
         p.0,
-        stmts-there code.structs m typed params known (arguments args) (arguments-typed code.structs m params known args h) s body p.1,
+        stmts-there code.structs m (rows-valid code ok) typed params known (arguments args) (arguments-typed code.structs m params known args h) s body p.1,
       )
 
   made_by-fits : (f : ℕ) (args : List Word) (function : Option FunctionCode) → slice_get code.functions f ≡ function → Init_typed code m args function
@@ -230,7 +238,7 @@ module _ (code : Code) (ok : valid code ≡ true) (m : Blocks) (typed : Memory_t
   made_by-fits f args (Some (InitFunction name s params body)) e h =
       let g = function-valid code ok f (InitFunction name s params body) e in
       let p = init-ok f name s params body g.kinds' g.ok in
-      all-set code.structs m typed params (replicate (length params) true) (arguments args) (arguments-typed code.structs m params (replicate (length params) true) args h) s body
+      all-set code.structs m (rows-valid code ok) typed params (replicate (length params) true) (arguments args) (arguments-typed code.structs m params (replicate (length params) true) args h) s body
       (default_block code.structs (Struct s)).words p.1 (defaults-fit code.structs m (kinds_of_shape code.structs (Struct s)))
 
   -- a new block fits

@@ -25,7 +25,8 @@ use Rattle.ceal_code.proofs.FittingLemmas.{input-fits}
 use Rattle.ceal_code.proofs.Kept.{fields-kept, kept-written, kept-grown}
 use Rattle.ceal_code.proofs.Memory.{altered, written-here, written-other, get-push_other, grown-here, made-shape}
 use Rattle.ceal_code.proofs.Same.{both, nat-same, nat-refl, some-same, none-some, block-same, both-true}
-use Rattle.ceal_code.proofs.Typed.{Memory_typed, kind-same}
+use Rattle.ceal_code.proofs.Rows.{kind-same}
+use Rattle.ceal_code.proofs.Typed.{Memory_typed}
 use Rattle.ceal_code.proofs.TypedActs.{Step_command}
 use Rattle.ceal_code.proofs.TypedCommands.{act-typed, stack-there, tail-typed}
 use Rattle.ceal_code.proofs.TypedInit.{Key_typed, Init_typed, function-valid, fields-set, word-at, made-fits}

@@ -1,10 +1,11 @@
--- A call that may be run: a core function on arguments and inputs that fit.
+-- A call that may be run: a core function of valid code, on arguments and inputs that fit.
 use Rattle.std.specs.Prelude.{◌≡◌, ℕ, Bool, true, false, Option, Some, None, List, [], slice_get}
 use Rattle.ceal_base.specs.Block.{Block, Blocks}
 use Rattle.ceal_base.specs.Fitting.{words_fit, inputs_fit}
 use Rattle.ceal_base.specs.declared.typed.StructInfo.{StructInfo}
 use Rattle.ceal_base.specs.declared.word.Word.{Word}
 use Rattle.ceal_code.specs.Program.{Code}
+use Rattle.ceal_code.specs.Valid.{valid}
 use Rattle.ceal_code.specs.declared.function.FunctionCode.{FunctionCode}
 use Rattle.ceal_code.specs.declared.function.FunctionCode.TheVariants.{Core as CoreFunction, Init as InitFunction}
 
@@ -15,5 +16,6 @@ args_fit structs m (Some (InitFunction name s params body)) args = false
 args_fit structs m None args = false
 
 pub record Fits (code : Code) (inputs : List Block) (f : ℕ) (args : List Word) : Type 0 where
+  pub is_valid : valid code ≡ true
   pub blocks : inputs_fit code.structs inputs ≡ true
   pub words : args_fit code.structs (record { inputs = inputs; made = [] }) (slice_get code.functions f) args ≡ true

@@ -1,11 +1,12 @@
 -- The text of code.
-use Rattle.std.specs.Prelude.{ℕ, zero, suc, ◌+◌, Option, Some, None, List, [], ◌∷◌, ◌++◌, length, replicate, slice_get, slice_set, codes}
+use Rattle.std.specs.Prelude.{ℕ, zero, suc, ◌+◌, ◌-◌, ◌==◌, Bool, true, false, if◌then◌else◌, Option, Some, None, List, [], ◌∷◌, ◌++◌, length, take, replicate, slice_get, slice_set, codes}
+use Rattle.std.specs.List.{ends_with}
 use Rattle.std.specs.Fmt.{decimal, signed_decimal}
 use Rattle.ceal_base.specs.declared.forest.UnitId.{UnitId}
 use Rattle.ceal_base.specs.declared.kind.Shape.{Shape}
 use Rattle.ceal_base.specs.declared.kind.Shape.TheVariants.{Struct, ModInt, ModPtr}
 use Rattle.ceal_base.specs.declared.operators.Binary.{Binary}
-use Rattle.ceal_base.specs.declared.operators.Binary.TheVariants.{Add, Sub, Mul, Div, Rem, Less, LessEq, More, MoreEq, Same, Differ, And, Or}
+use Rattle.ceal_base.specs.declared.operators.Binary.TheVariants.{Add, Sub, Mul, Div, Rem, Less, LessEq, More, MoreEq, Same, Differ, And, Or, Pick}
 use Rattle.ceal_base.specs.declared.operators.Unary.{Unary}
 use Rattle.ceal_base.specs.declared.operators.Unary.TheVariants.{Neg, Not}
 use Rattle.ceal_base.specs.declared.typed.FieldInfo.{FieldInfo}
@@ -59,6 +60,15 @@ binary_sign Same = codes " == "
 binary_sign Differ = codes " != "
 binary_sign And = codes " && "
 binary_sign Or = codes " || "
+binary_sign (Pick row) = codes "["
+
+abbrev pub is_pick : Binary → Bool
+is_pick (Pick row) = true
+is_pick op = false
+
+-- a text without `[0]` at its end: the name of a row in place of that of its first field
+abbrev pub without_index : List ℕ → List ℕ
+without_index text = if ends_with ◌==◌ text (codes "[0]") then take (length text - 3) text else text
 
 abbrev pub var_text : VarId → List ℕ
 var_text v = codes "v" ++ decimal v.0
@@ -72,7 +82,9 @@ unfoldable mutual
   expr_text structs Null = codes "null"
   expr_text structs (Var v) = var_text v
   expr_text structs (Unary' op _ a) = codes "(" ++ unary_sign op ++ operand_text structs a ++ codes ")"
-  expr_text structs (Binary' op _ a _ b) = codes "(" ++ operand_text structs a ++ binary_sign op ++ operand_text structs b ++ codes ")"
+  expr_text structs (Binary' op _ a _ b) =
+      if is_pick op then without_index (operand_text structs a) ++ binary_sign op ++ operand_text structs b ++ codes "]"
+      else codes "(" ++ operand_text structs a ++ binary_sign op ++ operand_text structs b ++ codes ")"
   expr_text structs (Field' _ a s field) = operand_text structs a ++ codes "->" ++ field_name structs s field
   expr_text structs (Address' _ a s field) = codes "&" ++ operand_text structs a ++ codes "->" ++ field_name structs s field
 

@@ -2,6 +2,7 @@
 -- command of it lies on a path from the first, a variable is used only where it has a word, and expressions have the
 -- types that are asked.
 use Rattle.std.specs.Prelude.{ℕ, zero, suc, ◌+◌, ◌==◌, ◌&&◌, nat_lt, nat_le, Bool, true, false, not, if◌then◌else◌, Option, Some, None, List, [], ◌∷◌, ◌++◌, length, replicate, slice_get, slice_set, unwrap_or}
+use Rattle.ceal_base.specs.Shapes.{row_at}
 use Rattle.ceal_base.specs.declared.kind.FieldKind.{FieldKind}
 use Rattle.ceal_base.specs.declared.kind.FieldKind.TheVariants.{Plain as PlainField, CellInt, CellPtr}
 use Rattle.ceal_base.specs.declared.kind.Kind.{Kind}
@@ -9,12 +10,12 @@ use Rattle.ceal_base.specs.declared.kind.Kind.TheVariants.{Int, Ptr, ModInt, Mod
 use Rattle.ceal_base.specs.declared.kind.Shape.{Shape}
 use Rattle.ceal_base.specs.declared.kind.Shape.TheVariants.{Struct, ModInt as OneInt, ModPtr as OnePtr}
 use Rattle.ceal_base.specs.declared.operators.Binary.{Binary}
-use Rattle.ceal_base.specs.declared.operators.Binary.TheVariants.{Same, Differ}
+use Rattle.ceal_base.specs.declared.operators.Binary.TheVariants.{Same, Differ, Pick}
 use Rattle.ceal_base.specs.declared.typed.FieldInfo.{FieldInfo}
 use Rattle.ceal_base.specs.declared.typed.StructInfo.{StructInfo}
 use Rattle.ceal_code.specs.Program.{Unit, Code}
 use Rattle.ceal_code.specs.Step.{kinds_of}
-use Rattle.ceal_code.specs.Value.{field_kind}
+use Rattle.ceal_code.specs.Value.{field_kind, is_cell}
 use Rattle.ceal_code.specs.declared.command.Cmd.{Cmd}
 use Rattle.ceal_code.specs.declared.command.Cmd.TheVariants.{Move, Tick, Alloc, Modref, Write, If, Done, Tail, Read, Call}
 use Rattle.ceal_code.specs.declared.expr.CodeExpr.{CodeExpr, Num, Null, Var, Unary', Binary', Field', Address'}
@@ -23,16 +24,33 @@ use Rattle.ceal_code.specs.declared.expr.VarId.{VarId}
 use Rattle.ceal_code.specs.declared.function.FunctionCode.{FunctionCode}
 use Rattle.ceal_code.specs.declared.function.FunctionCode.TheVariants.{Core as CoreFunction, Init as InitFunction}
 use Rattle.ceal_code.specs.declared.function.InitStmt.{InitStmt, Set, If' as IfStmt', Row_of-InitStmt, end_of-InitStmt, more_of-InitStmt}
+use Rattle.ceal_code.specs.declared.typing.ExprType.{ExprType}
+use Rattle.ceal_code.specs.declared.typing.ExprType.TheVariants.{Of, AnyPointer, AnyPlace}
 
--- The type of an expression: None where it is ill typed, and Some None for null, which has every pointer type.
+-- The type of an expression: None where it is ill typed. Null has every pointer type, and an element of null every type
+-- of a pointer to a modifiable.
 abbrev pub Typing : Type 0
-Typing = Option (Option Kind)
+Typing = Option ExprType
 
 abbrev pub is_pointer : Kind → Bool
 is_pointer Int = false
 is_pointer (Ptr s) = true
 is_pointer ModInt = true
 is_pointer (ModPtr s) = true
+
+-- a pointer to a modifiable
+abbrev pub is_place : Kind → Bool
+is_place Int = false
+is_place (Ptr s) = false
+is_place ModInt = true
+is_place (ModPtr s) = true
+
+-- a modifiable may hold it
+abbrev pub is_content : Kind → Bool
+is_content Int = true
+is_content (Ptr s) = true
+is_content ModInt = false
+is_content (ModPtr s) = false
 
 abbrev pub same_kind : Kind → Kind → Bool
 same_kind Int Int = true
@@ -44,8 +62,9 @@ same_kind _ _ = false
 -- an expression of this type may stand where the kind is asked
 abbrev pub fits : Kind → Typing → Bool
 fits kind None = false
-fits kind (Some None) = is_pointer kind
-fits kind (Some (Some other)) = same_kind kind other
+fits kind (Some AnyPointer) = is_pointer kind
+fits kind (Some AnyPlace) = is_place kind
+fits kind (Some (Of other)) = same_kind kind other
 
 abbrev pub fits_maybe : Option Kind → Typing → Bool
 fits_maybe None t = false
@@ -54,51 +73,83 @@ fits_maybe (Some kind) t = fits kind t
 -- both sides of `==` and `!=` are of one type
 abbrev pub one_type : Typing → Typing → Bool
 one_type None t = false
-one_type (Some None) None = false
-one_type (Some None) (Some None) = true
-one_type (Some None) (Some (Some kind)) = is_pointer kind
-one_type (Some (Some kind)) t = fits kind t
+one_type (Some AnyPointer) None = false
+one_type (Some AnyPointer) (Some (Of kind)) = is_pointer kind
+one_type (Some AnyPointer) (Some t) = true
+one_type (Some AnyPlace) None = false
+one_type (Some AnyPlace) (Some (Of kind)) = is_place kind
+one_type (Some AnyPlace) (Some t) = true
+one_type (Some (Of kind)) t = fits kind t
 
 abbrev pub int_if : Bool → Typing
-int_if true = Some (Some Int)
+int_if true = Some (Of Int)
 int_if false = None
+
+-- the type of an element of a row, given that of the row's address or of null
+abbrev pub element_type : Typing → Typing
+element_type None = None
+element_type (Some AnyPointer) = Some AnyPlace
+element_type (Some AnyPlace) = Some AnyPlace
+element_type (Some (Of kind)) = Some (Of kind)
 
 abbrev pub binary_type : Binary → Typing → Typing → Typing
 binary_type Same s t = int_if (one_type s t)
 binary_type Differ s t = int_if (one_type s t)
+binary_type (Pick row) s t = if fits Int t then element_type s else None
 binary_type op s t = int_if (fits Int s && fits Int t)
+
+abbrev pub is_row_of : ℕ → Option ℕ → Bool
+is_row_of row None = false
+is_row_of row (Some n) = nat_lt 0 row && (n == row)
+
+-- null, or the address of the first one of so many fields that make one row
+abbrev pub starts_row : List StructInfo → ℕ → CodeExpr → Bool
+starts_row structs row Null = true
+starts_row structs row (Address' _ a s field) = is_row_of row (row_at structs s field)
+starts_row structs row _ = false
+
+-- what `Pick` asks of its left operand beside its type
+abbrev pub left_suits : List StructInfo → Binary → CodeExpr → Bool
+left_suits structs (Pick row) a = starts_row structs row a
+left_suits structs op a = true
+
+abbrev pub operand_suits : List StructInfo → Binary → {n : _} → Row_of-CodeExpr n → Bool
+operand_suits structs op end_of-CodeExpr = false
+operand_suits structs op (more_of-CodeExpr e rest) = left_suits structs op e
 
 -- a known variable's kind
 abbrev pub variable_type : Option Kind → Bool → Typing
 variable_type None known = None
-variable_type (Some kind) known = if known then Some (Some kind) else None
+variable_type (Some kind) known = if known then Some (Of kind) else None
 
 -- the type asked left of `->`
 abbrev pub points_to : ℕ → Typing → Bool
-points_to s (Some (Some kind)) = same_kind (Ptr s) kind
-points_to s (Some None) = false
+points_to s (Some (Of kind)) = same_kind (Ptr s) kind
+points_to s (Some AnyPointer) = false
+points_to s (Some AnyPlace) = false
 points_to s None = false
 
 abbrev pub plain_type : Option FieldKind → Typing
-plain_type (Some (PlainField kind)) = Some (Some kind)
+plain_type (Some (PlainField kind)) = Some (Of kind)
 plain_type (Some CellInt) = None
 plain_type (Some (CellPtr s)) = None
 plain_type None = None
 
 abbrev pub cell_type : Option FieldKind → Typing
 cell_type (Some (PlainField kind)) = None
-cell_type (Some CellInt) = Some (Some ModInt)
-cell_type (Some (CellPtr s)) = Some (Some (ModPtr s))
+cell_type (Some CellInt) = Some (Of ModInt)
+cell_type (Some (CellPtr s)) = Some (Of (ModPtr s))
 cell_type None = None
 
 -- the type of an expression, where the function's variables have these kinds and those that are known have a word
 unfoldable mutual
   pub type_of : List StructInfo → List Kind → List Bool → CodeExpr → Typing
-  type_of structs kinds known (Num n) = Some (Some Int)
-  type_of structs kinds known Null = Some None
+  type_of structs kinds known (Num n) = Some (Of Int)
+  type_of structs kinds known Null = Some AnyPointer
   type_of structs kinds known (Var v) = variable_type (slice_get kinds v.0) (unwrap_or (slice_get known v.0) false)
   type_of structs kinds known (Unary' op _ a) = int_if (fits Int (operand_type structs kinds known a))
-  type_of structs kinds known (Binary' op _ a _ b) = binary_type op (operand_type structs kinds known a) (operand_type structs kinds known b)
+  type_of structs kinds known (Binary' op _ a _ b) =
+      if operand_suits structs op a then binary_type op (operand_type structs kinds known a) (operand_type structs kinds known b) else None
   type_of structs kinds known (Field' _ a s field) =
       if points_to s (operand_type structs kinds known a) then plain_type (field_kind structs (Struct s) field) else None
   type_of structs kinds known (Address' _ a s field) =
@@ -150,27 +201,34 @@ call_fits code f known g None args = false
 
 abbrev pub alloc_fits : Code → ℕ → List Bool → Option Kind → Option FunctionCode → List CodeExpr → Bool
 alloc_fits code f known kind (Some (InitFunction name s params body)) args =
-    fits_maybe kind (Some (Some (Ptr s))) && all_fit code.structs (kinds_of code f) known params args
+    fits_maybe kind (Some (Of (Ptr s))) && all_fit code.structs (kinds_of code f) known params args
 alloc_fits code f known kind (Some (CoreFunction name entry params)) args = false
 alloc_fits code f known kind None args = false
 
 abbrev pub modref_fits : Option Kind → Shape → Bool
-modref_fits kind OneInt = fits_maybe kind (Some (Some ModInt))
-modref_fits kind (OnePtr s) = fits_maybe kind (Some (Some (ModPtr s)))
+modref_fits kind OneInt = fits_maybe kind (Some (Of ModInt))
+modref_fits kind (OnePtr s) = fits_maybe kind (Some (Of (ModPtr s)))
 modref_fits kind (Struct s) = false
 
--- a place of this type is one of a modifiable that holds such values; the constant null may stand for it
+-- a place of this type is one of a modifiable that holds such values; null and an element of null may stand for it
 abbrev pub place_fits : Option Kind → Typing → Bool
 place_fits (Some Int) t = fits ModInt t
 place_fits (Some (Ptr s)) t = fits (ModPtr s) t
 place_fits _ t = false
 
+-- a value of this type goes into some modifiable
+abbrev pub content_fits : Typing → Bool
+content_fits None = false
+content_fits (Some AnyPointer) = true
+content_fits (Some AnyPlace) = false
+content_fits (Some (Of kind)) = is_content kind
+
 -- a value of the second type goes into a place of the first
 abbrev pub write_fits : Typing → Typing → Bool
-write_fits (Some (Some ModInt)) t = fits Int t
-write_fits (Some (Some (ModPtr s))) t = fits (Ptr s) t
-write_fits (Some None) (Some None) = true
-write_fits (Some None) (Some (Some kind)) = place_fits (Some kind) (Some None)
+write_fits (Some (Of ModInt)) t = fits Int t
+write_fits (Some (Of (ModPtr s))) t = fits (Ptr s) t
+write_fits (Some AnyPointer) t = content_fits t
+write_fits (Some AnyPlace) t = content_fits t
 write_fits _ t = false
 
 -- a command of a unit of the function, where these variables are known; `stepped` says that a command before it
@@ -337,10 +395,32 @@ unfoldable pub fields_ok : List StructInfo → List FieldInfo → Bool
 fields_ok structs [] = true
 fields_ok structs (field ∷ fields) = field_ok structs field.kind && fields_ok structs fields
 
--- no struct has more than 255 fields
+abbrev pub same_field : FieldKind → FieldKind → Bool
+same_field (PlainField kind) (PlainField other) = same_kind kind other
+same_field CellInt CellInt = true
+same_field (CellPtr s) (CellPtr t) = s == t
+same_field _ _ = false
+
+-- so many fields come that are of this kind, and at which no row begins
+unfoldable pub row_goes_on : ℕ → FieldKind → List FieldInfo → Bool
+row_goes_on zero kind rest = true
+row_goes_on (suc n) kind [] = false
+row_goes_on (suc n) kind (f ∷ rest) = (same_field kind f.kind && (f.row == 0)) && row_goes_on n kind rest
+
+-- behind the first modifiable of a row come the others
+abbrev pub row_whole : ℕ → FieldKind → List FieldInfo → Bool
+row_whole zero kind rest = true
+row_whole (suc n) kind rest = is_cell (Some kind) && row_goes_on n kind rest
+
+unfoldable pub rows_ok : List FieldInfo → Bool
+rows_ok [] = true
+rows_ok (f ∷ rest) = row_whole f.row f.kind rest && rows_ok rest
+
+-- no struct has more than 255 fields, and rows are whole
 unfoldable pub structs_ok : List StructInfo → List StructInfo → Bool
 structs_ok structs [] = true
-structs_ok structs (s ∷ rest) = (nat_le (length s.fields) 255 && fields_ok structs s.fields) && structs_ok structs rest
+structs_ok structs (s ∷ rest) =
+    (nat_le (length s.fields) 255 && (fields_ok structs s.fields && rows_ok s.fields)) && structs_ok structs rest
 
 unfoldable pub is_prefix : List Kind → List Kind → Bool
 is_prefix [] kinds = true

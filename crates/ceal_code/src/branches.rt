@@ -16,7 +16,8 @@ use std::alloc::Global;
 /// Adds a command's line, without what stands before it and its end.
 #[tactic(auto, using(crate::proofs::TextSteps::joins), unfolding(crate::specs::Listing::command_text))]
 fn put_command(alloc: Global, out: &mut Vec<u8>, code: &Code, command: &Cmd) -> Result<(), NoMemory>
-    ensures { IfOk result (λ _. out.new.items ≡ out.old.items ++ command_text code.now command.now) }
+    ensures { IfOk result
+        (λ _. out.new.items ≡ out.old.items ++ command_text code.now command.now) }
 {
     let structs = code.structs.items();
     match command {
@@ -110,7 +111,8 @@ fn put_line(
     depth: usize,
     command: &Cmd,
 ) -> Result<(), NoMemory>
-    ensures { IfOk result (λ _. out.new.items ≡ out.old.items ++ line depth (command_text code.now command.now)) }
+    ensures { IfOk result
+        (λ _. out.new.items ≡ out.old.items ++ line depth (command_text code.now command.now)) }
 {
     put_indent(out, depth)?;
     put_command(alloc, out, code, command)?;
@@ -158,7 +160,9 @@ fn put_branch(
 ) -> Result<(), NoMemory>
     ensures text { IfOk result (λ _. branches_text code.now body.now branches.new.items
         ≡ branch_text code.now body.now branch ++ branches_text code.now body.now branches.old.items) }
-    ensures heavier { IfOk result (λ _. branch_weights branches.new.items ≡ weight branch.left + branch_weights branches.old.items) }
+    ensures heavier { IfOk result
+        (λ _. branch_weights branches.new.items
+        ≡ weight branch.left + branch_weights branches.old.items) }
 {
     branches.push(branch)?;
     Ok(())
@@ -175,7 +179,8 @@ fn put_next(
 ) -> Result<(), NoMemory>
     ensures text { IfOk result (λ _. branches_text code.now body.now branches.new.items
         ≡ commands code.now body.now left index depth ++ branches_text code.now body.now branches.old.items) }
-    ensures heavier { IfOk result (λ _. branch_weights branches.new.items ≡ weight left + branch_weights branches.old.items) }
+    ensures heavier { IfOk result
+        (λ _. branch_weights branches.new.items ≡ weight left + branch_weights branches.old.items) }
 {
     let branch = Branch {
         index,
@@ -199,7 +204,8 @@ fn put_no(
     ensures text { IfOk result (λ _. branches_text code.now body.now branches.new.items
         ≡ (line depth (codes "else") ++ commands code.now body.now left index (depth + 1))
         ++ branches_text code.now body.now branches.old.items) }
-    ensures heavier { IfOk result (λ _. branch_weights branches.new.items ≡ weight left + branch_weights branches.old.items) }
+    ensures heavier { IfOk result
+        (λ _. branch_weights branches.new.items ≡ weight left + branch_weights branches.old.items) }
 {
     let branch = Branch {
         index,
@@ -227,7 +233,9 @@ fn put_following(
     ensures text { IfOk result (λ _. branches_text code.now body.now branches.new.items
         ≡ follows (commands code.now body.now (left - 1)) command.now index depth
         ++ branches_text code.now body.now branches.old.items) }
-    ensures lighter { IfOk result (λ _. branch_weights branches.new.items + 1 ≤ branch_weights branches.old.items + weight left) }
+    ensures lighter { IfOk result
+        (λ _. branch_weights branches.new.items + 1
+        ≤ branch_weights branches.old.items + weight left) }
 {
     let left = left - 1;
     match command {
@@ -283,7 +291,9 @@ fn write_command(
         ≡ out.old.items ++ ((line depth (command_text code.now command.now)
         ++ follows (commands code.now body.now (left - 1)) command.now index depth)
         ++ branches_text code.now body.now branches.old.items)) }
-    ensures lighter { IfOk result (λ _. branch_weights branches.new.items + 1 ≤ branch_weights branches.old.items + weight left) }
+    ensures lighter { IfOk result
+        (λ _. branch_weights branches.new.items + 1
+        ≤ branch_weights branches.old.items + weight left) }
 {
     put_line(alloc, out, code, depth, command)?;
     put_following(code, body, branches, command, index, depth, left)?;
@@ -306,7 +316,9 @@ fn write_at(
     ensures text { IfOk result (λ _. out.new.items ++ branches_text code.now body.now branches.new.items
         ≡ out.old.items ++ (commands_at code.now (commands code.now body.now (left - 1)) (slice_get body.now index) index depth
         ++ branches_text code.now body.now branches.old.items)) }
-    ensures lighter { IfOk result (λ _. branch_weights branches.new.items + 1 ≤ branch_weights branches.old.items + weight left) }
+    ensures lighter { IfOk result
+        (λ _. branch_weights branches.new.items + 1
+        ≤ branch_weights branches.old.items + weight left) }
 {
     match body.get(index) {
         None => Ok(()),
@@ -332,7 +344,9 @@ fn write_commands(
 ) -> Result<(), NoMemory>
     ensures text { IfOk result (λ _. out.new.items ++ branches_text code.now body.now branches.new.items
         ≡ out.old.items ++ (commands code.now body.now left index depth ++ branches_text code.now body.now branches.old.items)) }
-    ensures lighter { IfOk result (λ _. branch_weights branches.new.items + 1 ≤ branch_weights branches.old.items + weight left) }
+    ensures lighter { IfOk result
+        (λ _. branch_weights branches.new.items + 1
+        ≤ branch_weights branches.old.items + weight left) }
 {
     if left == 0 {
         return Ok(());
@@ -353,7 +367,9 @@ fn write_branch(
 ) -> Result<(), NoMemory>
     ensures text { IfOk result (λ _. out.new.items ++ branches_text code.now body.now branches.new.items
         ≡ out.old.items ++ (branch_text code.now body.now branch ++ branches_text code.now body.now branches.old.items)) }
-    ensures lighter { IfOk result (λ _. branch_weights branches.new.items + 1 ≤ branch_weights branches.old.items + weight branch.left) }
+    ensures lighter { IfOk result
+        (λ _. branch_weights branches.new.items + 1
+        ≤ branch_weights branches.old.items + weight branch.left) }
 {
     let Branch {
         index,
@@ -375,7 +391,8 @@ fn write_branch(
 /// Adds the lines of a body, indented once.
 #[tactic(auto, using(crate::proofs::BranchSteps::body_steps))]
 pub fn put_body(alloc: Global, out: &mut Vec<u8>, code: &Code, body: &[Cmd]) -> Result<(), NoMemory>
-    ensures { IfOk result (λ _. out.new.items ≡ out.old.items ++ commands code.now body.now (length body.now) 0 1) }
+    ensures { IfOk result
+        (λ _. out.new.items ≡ out.old.items ++ commands code.now body.now (length body.now) 0 1) }
 {
     let mut branches = Vec::new(alloc);
     branches.push(Branch {

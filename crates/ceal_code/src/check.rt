@@ -2,13 +2,13 @@
 
 ghost use Rattle.std.specs.Prelude.{◌≡◌, ℕ, Bool, List, Option, false, true, slice_get, length};
 ghost use Rattle.ceal_code.specs.Step.{kinds_of};
-ghost use Rattle.ceal_code.specs.Valid.{all_fit, params_fit, others, unit_fits, read_fits, entry_fits, call_fits, alloc_fits, modref_fits, place_fits, write_fits, command_ok};
+ghost use Rattle.ceal_code.specs.Valid.{all_fit, params_fit, others, unit_fits, read_fits, entry_fits, call_fits, alloc_fits, modref_fits, place_fits, is_content, content_fits, write_fits, command_ok};
 
 use crate::code::Code;
 use crate::command::Cmd;
 use crate::expr::{CodeExpr, VarId};
 use crate::function::FunctionCode;
-use crate::typing::{is_fit, is_fit_maybe, kind_at, type_of_expr};
+use crate::typing::{ExprType, is_fit, is_fit_maybe, kind_at, type_of_expr};
 use ceal_base::forest::UnitId;
 use ceal_base::kind::{Kind, Shape};
 use ceal_base::typed::StructInfo;
@@ -81,7 +81,8 @@ fn do_others_fit(
     params: &[VarId],
     args: &[CodeExpr],
 ) -> bool
-    ensures { result ≡ params_fit structs.now kinds.now known.now kinds.now (others v.0 params.now) args.now }
+    ensures { result
+        ≡ params_fit structs.now kinds.now known.now kinds.now (others v.0 params.now) args.now }
 {
     let mut params = params;
     let mut args = args;
@@ -132,7 +133,8 @@ fn does_read_fit(
     unit: UnitId,
     args: &[CodeExpr],
 ) -> bool
-    ensures { result ≡ read_fits code.now f known.now v.0 (slice_get code.now.units unit.0) args.now }
+    ensures { result
+        ≡ read_fits code.now f known.now v.0 (slice_get code.now.units unit.0) args.now }
 {
     match code.units().get(unit.0 as usize) {
         None => false,
@@ -158,7 +160,8 @@ fn does_entry_fit(
     unit: UnitId,
     args: &[CodeExpr],
 ) -> bool
-    ensures { result ≡ entry_fits code.now f known.now g (slice_get code.now.units unit.0) args.now }
+    ensures { result
+        ≡ entry_fits code.now f known.now g (slice_get code.now.units unit.0) args.now }
 {
     match code.units().get(unit.0 as usize) {
         None => false,
@@ -193,11 +196,12 @@ fn does_alloc_fit(
     function: u32,
     args: &[CodeExpr],
 ) -> bool
-    ensures { result ≡ alloc_fits code.now f known.now kind (slice_get code.now.functions function) args.now }
+    ensures { result
+        ≡ alloc_fits code.now f known.now kind (slice_get code.now.functions function) args.now }
 {
     match code.functions().get(function as usize) {
         Some(FunctionCode::Init { shape, params, .. }) => {
-            is_fit_maybe(kind, Some(Some(Kind::Ptr(*shape))))
+            is_fit_maybe(kind, Some(ExprType::Of(Kind::Ptr(*shape))))
                 && do_all_fit(
                     code.structs.items(),
                     code.kinds_of(f),
@@ -215,13 +219,13 @@ fn does_modref_fit(kind: Option<Kind>, shape: Shape) -> bool
     ensures { result ≡ modref_fits kind shape }
 {
     match shape {
-        Shape::ModInt => is_fit_maybe(kind, Some(Some(Kind::ModInt))),
-        Shape::ModPtr(s) => is_fit_maybe(kind, Some(Some(Kind::ModPtr(s)))),
+        Shape::ModInt => is_fit_maybe(kind, Some(ExprType::Of(Kind::ModInt))),
+        Shape::ModPtr(s) => is_fit_maybe(kind, Some(ExprType::Of(Kind::ModPtr(s)))),
         Shape::Struct(_) => false,
     }
 }
 
-fn does_place_fit(kind: Option<Kind>, t: Option<Option<Kind>>) -> bool
+fn does_place_fit(kind: Option<Kind>, t: Option<ExprType>) -> bool
     ensures { result ≡ place_fits kind t }
 {
     match kind {
@@ -233,19 +237,39 @@ fn does_place_fit(kind: Option<Kind>, t: Option<Option<Kind>>) -> bool
     }
 }
 
-fn does_write_fit(place: Option<Option<Kind>>, t: Option<Option<Kind>>) -> bool
+fn is_content_kind(kind: Kind) -> bool
+    ensures { result ≡ is_content kind }
+{
+    match kind {
+        Kind::Int => true,
+        Kind::Ptr(_) => true,
+        Kind::ModInt => false,
+        Kind::ModPtr(_) => false,
+    }
+}
+
+/// Whether a value of this type goes into some modifiable.
+fn does_content_fit(t: Option<ExprType>) -> bool
+    ensures { result ≡ content_fits t }
+{
+    match t {
+        None => false,
+        Some(ExprType::AnyPointer) => true,
+        Some(ExprType::AnyPlace) => false,
+        Some(ExprType::Of(kind)) => is_content_kind(kind),
+    }
+}
+
+fn does_write_fit(place: Option<ExprType>, t: Option<ExprType>) -> bool
     ensures { result ≡ write_fits place t }
 {
     match place {
-        Some(Some(Kind::ModInt)) => is_fit(Kind::Int, t),
-        Some(Some(Kind::ModPtr(s))) => is_fit(Kind::Ptr(s), t),
-        Some(None) => match t {
-            Some(None) => true,
-            Some(Some(kind)) => does_place_fit(Some(kind), Some(None)),
-            None => false,
-        },
-        Some(Some(Kind::Int)) => false,
-        Some(Some(Kind::Ptr(_))) => false,
+        Some(ExprType::Of(Kind::ModInt)) => is_fit(Kind::Int, t),
+        Some(ExprType::Of(Kind::ModPtr(s))) => is_fit(Kind::Ptr(s), t),
+        Some(ExprType::AnyPointer) => does_content_fit(t),
+        Some(ExprType::AnyPlace) => does_content_fit(t),
+        Some(ExprType::Of(Kind::Int)) => false,
+        Some(ExprType::Of(Kind::Ptr(_))) => false,
         None => false,
     }
 }

@@ -72,7 +72,8 @@ impl Code {
     }
 
     pub fn push_functions(&mut self, item: FunctionCode) -> Result<(), NoMemory>
-        ensures ok { OnOk result (self.new ≡ record self.old { functions = self.old.functions ++ item ∷ [] }) }
+        ensures ok { OnOk result
+            (self.new ≡ record self.old { functions = self.old.functions ++ item ∷ [] }) }
         ensures err { OnErr result (self.new ≡ self.old) }
     {
         self.functions.push(item)?;
@@ -86,7 +87,8 @@ impl Code {
     }
 
     pub fn push_units(&mut self, item: Unit) -> Result<(), NoMemory>
-        ensures ok { OnOk result (self.new ≡ record self.old { units = self.old.units ++ item ∷ [] }) }
+        ensures ok { OnOk result
+            (self.new ≡ record self.old { units = self.old.units ++ item ∷ [] }) }
         ensures err { OnErr result (self.new ≡ self.old) }
     {
         self.units.push(item)?;
@@ -100,7 +102,8 @@ impl Code {
     }
 
     pub fn push_kinds(&mut self, item: Kinds) -> Result<(), NoMemory>
-        ensures ok { OnOk result (self.new ≡ record self.old { kinds = self.old.kinds ++ item ∷ [] }) }
+        ensures ok { OnOk result
+            (self.new ≡ record self.old { kinds = self.old.kinds ++ item ∷ [] }) }
         ensures err { OnErr result (self.new ≡ self.old) }
     {
         self.kinds.push(item)?;

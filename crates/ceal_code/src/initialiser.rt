@@ -4,11 +4,11 @@ ghost use Rattle.std.specs.Prelude.{◌≡◌, ◌&&◌, true, false, length};
 ghost use Rattle.ceal_code.specs.Valid.{set_ok, stmt_ok, stmts_ok};
 
 use crate::function::InitStmt;
-use crate::typing::{is_fit, kind_of_field, type_of_expr};
+use crate::typing::{ExprType, is_fit, kind_of_field, type_of_expr};
 use ceal_base::kind::{FieldKind, Kind};
 use ceal_base::typed::StructInfo;
 
-fn is_set_ok(kind: Option<FieldKind>, t: Option<Option<Kind>>) -> bool
+fn is_set_ok(kind: Option<FieldKind>, t: Option<ExprType>) -> bool
     ensures { result ≡ set_ok kind t }
 {
     match kind {

@@ -34,7 +34,9 @@ fn put_unit_lines(
 }
 
 fn put_unit_at(alloc: Global, out: &mut Vec<u8>, code: &Code, n: usize) -> Result<(), NoMemory>
-    ensures { IfOk result (λ _. out.new.items ≡ out.old.items ++ unit_text_at code.now n (slice_get code.now.units n)) }
+    ensures { IfOk result
+        (λ _. out.new.items
+        ≡ out.old.items ++ unit_text_at code.now n (slice_get code.now.units n)) }
 {
     match code.units().get(n) {
         None => Ok(()),
@@ -69,7 +71,8 @@ fn put_stmt(
     depth: usize,
     stmt: &InitStmt,
 ) -> Result<(), NoMemory>
-    ensures { IfOk result (λ _. out.new.items ≡ out.old.items ++ stmt_text structs.now s depth stmt.now) }
+    ensures { IfOk result
+        (λ _. out.new.items ≡ out.old.items ++ stmt_text structs.now s depth stmt.now) }
 {
     match stmt {
         InitStmt::Set { field, value } => {
@@ -104,7 +107,8 @@ fn put_no_part(
     depth: usize,
     stmts: &[InitStmt],
 ) -> Result<(), NoMemory>
-    ensures { IfOk result (λ _. out.new.items ≡ out.old.items ++ else_text structs.now s depth stmts.now) }
+    ensures { IfOk result
+        (λ _. out.new.items ≡ out.old.items ++ else_text structs.now s depth stmts.now) }
 {
     match stmts {
         [] => Ok(()),
@@ -127,7 +131,8 @@ fn put_stmts(
     depth: usize,
     stmts: &[InitStmt],
 ) -> Result<(), NoMemory>
-    ensures { IfOk result (λ _. out.new.items ≡ out.old.items ++ stmts_text structs.now s depth stmts.now) }
+    ensures { IfOk result
+        (λ _. out.new.items ≡ out.old.items ++ stmts_text structs.now s depth stmts.now) }
 {
     for stmt in stmts {
         put_stmt(alloc, out, structs, s, depth, stmt)?;
@@ -144,7 +149,8 @@ fn put_function_lines(
     function: &FunctionCode,
     units: &[usize],
 ) -> Result<(), NoMemory>
-    ensures { IfOk result (λ _. out.new.items ≡ out.old.items ++ function_text code.now function.now units.now) }
+    ensures { IfOk result
+        (λ _. out.new.items ≡ out.old.items ++ function_text code.now function.now units.now) }
 {
     match function {
         FunctionCode::Core { name, entry, .. } => {
@@ -180,7 +186,8 @@ fn put_functions(
     functions: &[FunctionCode],
     groups: &[Items<usize>],
 ) -> Result<(), NoMemory>
-    ensures { IfOk result (λ _. out.new.items ≡ out.old.items ++ functions_text code.now functions.now groups.now) }
+    ensures { IfOk result
+        (λ _. out.new.items ≡ out.old.items ++ functions_text code.now functions.now groups.now) }
 {
     let mut functions = functions;
     let mut groups = groups;

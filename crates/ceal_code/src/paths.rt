@@ -75,7 +75,8 @@ fn put(
 ) -> Result<(), NoMemory>
     ensures paths { IfOk result (λ _. parts_ok code.now f body.now parts.new.items
         ≡ (paths_ok code.now f body.now left index known.items true && parts_ok code.now f body.now parts.old.items)) }
-    ensures heavier { IfOk result (λ _. weights parts.new.items ≡ weight left + weights parts.old.items) }
+    ensures heavier { IfOk result
+        (λ _. weights parts.new.items ≡ weight left + weights parts.old.items) }
 {
     parts.push(Part {
         index,
@@ -101,7 +102,8 @@ fn go_on(
     ensures paths { IfOk result (λ _. parts_ok code.now f body.now parts.new.items
         ≡ (onward (paths_ok code.now f body.now (part.left - 1)) command.now part.index part.known.items
         && parts_ok code.now f body.now parts.old.items)) }
-    ensures lighter { IfOk result (λ _. weights parts.new.items + 1 ≤ weights parts.old.items + weight part.left) }
+    ensures lighter { IfOk result
+        (λ _. weights parts.new.items + 1 ≤ weights parts.old.items + weight part.left) }
 {
     let Part {
         index,
@@ -151,7 +153,8 @@ fn pass(
         ≡ (path_ok code.now f (paths_ok code.now f body.now (part.left - 1)) (slice_get body.now part.index)
         part.index part.known.items part.stepped
         && parts_ok code.now f body.now parts.old.items)) }
-    ensures lighter { IfOk result (λ _. weights parts.new.items + 1 ≤ weights parts.old.items + weight part.left) }
+    ensures lighter { IfOk result
+        (λ _. weights parts.new.items + 1 ≤ weights parts.old.items + weight part.left) }
 {
     match body.get(part.index) {
         None => Ok(false),
@@ -178,7 +181,8 @@ fn step(
     ensures paths { IfOk result (λ ok. (ok && parts_ok code.now f body.now parts.new.items)
         ≡ (paths_ok code.now f body.now part.left part.index part.known.items part.stepped
         && parts_ok code.now f body.now parts.old.items)) }
-    ensures lighter { IfOk result (λ _. weights parts.new.items + 1 ≤ weights parts.old.items + weight part.left) }
+    ensures lighter { IfOk result
+        (λ _. weights parts.new.items + 1 ≤ weights parts.old.items + weight part.left) }
 {
     if part.left == 0 {
         return Ok(false);

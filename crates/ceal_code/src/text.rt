@@ -2,7 +2,7 @@
 
 ghost use Rattle.std.specs.Prelude.{◌≡◌, ◌++◌, ◌∷◌, [], codes, length, slice_get, IfOk};
 ghost use Rattle.std.specs.Fmt.{decimal, signed_decimal};
-ghost use Rattle.ceal_code.specs.Listing.{field_name, name_of_struct, name_of_function, unary_sign, binary_sign, var_text, unit_text, expr_text, more_exprs, exprs_inside, exprs_text, more_vars, vars_inside, vars_text, shape_text, indent};
+ghost use Rattle.ceal_code.specs.Listing.{field_name, name_of_struct, name_of_function, unary_sign, binary_sign, is_pick, without_index, var_text, unit_text, expr_text, more_exprs, exprs_inside, exprs_text, more_vars, vars_inside, vars_text, shape_text, indent};
 
 use crate::code::Code;
 use crate::expr::{CodeExpr, VarId};
@@ -77,7 +77,8 @@ pub fn put_field(
 }
 
 fn put_struct(out: &mut Vec<u8>, structs: &[StructInfo], s: u32) -> Result<(), NoMemory>
-    ensures { IfOk result (λ _. out.new.items ≡ out.old.items ++ name_of_struct (slice_get structs.now s)) }
+    ensures { IfOk result
+        (λ _. out.new.items ≡ out.old.items ++ name_of_struct (slice_get structs.now s)) }
 {
     match structs.get(s as usize) {
         None => Ok(()),
@@ -87,7 +88,8 @@ fn put_struct(out: &mut Vec<u8>, structs: &[StructInfo], s: u32) -> Result<(), N
 
 /// Adds the name of the function of this number.
 pub fn put_function(out: &mut Vec<u8>, code: &Code, f: u32) -> Result<(), NoMemory>
-    ensures { IfOk result (λ _. out.new.items ≡ out.old.items ++ name_of_function (slice_get code.now.functions f)) }
+    ensures { IfOk result
+        (λ _. out.new.items ≡ out.old.items ++ name_of_function (slice_get code.now.functions f)) }
 {
     match code.functions().get(f as usize) {
         None => Ok(()),
@@ -122,6 +124,38 @@ fn put_binary(out: &mut Vec<u8>, op: Binary) -> Result<(), NoMemory>
         Binary::Differ => put_str(out, " != "),
         Binary::And => put_str(out, " && "),
         Binary::Or => put_str(out, " || "),
+        Binary::Pick(_) => put_str(out, "["),
+    }
+}
+
+fn is_pick_sign(op: Binary) -> bool
+    ensures { result ≡ is_pick op }
+{
+    match op {
+        Binary::Add => false,
+        Binary::Sub => false,
+        Binary::Mul => false,
+        Binary::Div => false,
+        Binary::Rem => false,
+        Binary::Less => false,
+        Binary::LessEq => false,
+        Binary::More => false,
+        Binary::MoreEq => false,
+        Binary::Same => false,
+        Binary::Differ => false,
+        Binary::And => false,
+        Binary::Or => false,
+        Binary::Pick(_) => true,
+    }
+}
+
+/// The text of the address of a row's first modifiable without its index.
+fn row_text(text: &[u8]) -> &[u8]
+    ensures { result.now ≡ without_index text.now }
+{
+    match text.strip_suffix(b"[0]") {
+        None => text,
+        Some(row) => row,
     }
 }
 
@@ -144,6 +178,15 @@ pub fn put_expr(
             put_unary(out, *op)?;
             put_expr(alloc, out, structs, a.get())?;
             put_str(out, ")")?;
+            Ok(())
+        }
+        CodeExpr::Binary(op, a, b) if is_pick_sign(*op) => {
+            let mut row = Vec::new(alloc);
+            put_expr(alloc, &mut row, structs, a.get())?;
+            put(out, row_text(&row))?;
+            put_binary(out, *op)?;
+            put_expr(alloc, out, structs, b.get())?;
+            put_str(out, "]")?;
             Ok(())
         }
         CodeExpr::Binary(op, a, b) => {

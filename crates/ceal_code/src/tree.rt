@@ -64,7 +64,8 @@ fn mark(marks: &mut Vec<bool>, at: usize) -> bool
 /// Marks both, and says whether both were there and not marked.
 #[tactic(auto, using(crate::proofs::TreeSteps::mark_steps))]
 fn mark_both(marks: &mut Vec<bool>, first: usize, second: usize) -> bool
-    ensures { reached marks.old.items (first ∷ second ∷ []) ≡ (if result then Some marks.new.items else None) }
+    ensures { reached marks.old.items (first ∷ second ∷ [])
+        ≡ (if result then Some marks.new.items else None) }
 {
     if mark(marks, first) {
         mark(marks, second)
@@ -77,7 +78,8 @@ fn mark_both(marks: &mut Vec<bool>, first: usize, second: usize) -> bool
 #[tactic(auto, using(crate::proofs::TreeSteps::mark_steps))]
 fn mark_followers(marks: &mut Vec<bool>, command: &Cmd, index: usize) -> bool
     requires room { index < 2 ^ 63 }
-    ensures { reached marks.old.items (followers command.now index) ≡ (if result then Some marks.new.items else None) }
+    ensures { reached marks.old.items (followers command.now index)
+        ≡ (if result then Some marks.new.items else None) }
 {
     match command {
         Cmd::Move { .. } => mark(marks, index + 1),
@@ -119,7 +121,8 @@ fn are_all_but_first(flags: &[bool]) -> bool
 /// Marks what is reached from the commands of a body, and says whether each index was there and not marked.
 #[tactic(auto, using(crate::proofs::TreeSteps::walk_steps))]
 fn mark_all(marks: &mut Vec<bool>, body: &[Cmd]) -> bool
-    ensures { reached marks.old.items (all_followers body.now 0) ≡ (if result then Some marks.new.items else None) }
+    ensures { reached marks.old.items (all_followers body.now 0)
+        ≡ (if result then Some marks.new.items else None) }
 {
     let mut rest = body;
     let mut index = 0;

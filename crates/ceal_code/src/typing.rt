@@ -2,13 +2,25 @@
 
 ghost use Rattle.std.specs.Prelude.{◌≡◌, slice_get, unwrap_or, false};
 ghost use Rattle.ceal_base.specs.declared.kind.Shape.TheVariants.{Struct};
-ghost use Rattle.ceal_code.specs.Valid.{same_kind, is_pointer, fits, fits_maybe, one_type, int_if, binary_type, variable_type, points_to, plain_type, cell_type, type_of};
+ghost use Rattle.ceal_base.specs.Shapes.{row_at};
+ghost use Rattle.ceal_code.specs.Valid.{same_kind, is_pointer, is_place, fits, fits_maybe, one_type, int_if, element_type, binary_type, is_row_of, starts_row, left_suits, variable_type, points_to, plain_type, cell_type, type_of};
 ghost use Rattle.ceal_code.specs.Value.{field_kind};
 
 use crate::expr::{CodeExpr, VarId};
 use ceal_base::kind::{FieldKind, Kind};
 use ceal_base::operators::Binary;
 use ceal_base::typed::StructInfo;
+
+/// The type of an expression.
+#[derive(Clone, Copy)]
+pub enum ExprType {
+    /// this one alone
+    Of(Kind),
+    /// every pointer type: that of null
+    AnyPointer,
+    /// every type of a pointer to a modifiable: that of an element of null
+    AnyPlace,
+}
 
 pub fn is_same_kind(a: Kind, b: Kind) -> bool
     ensures { result ≡ same_kind a b }
@@ -27,19 +39,30 @@ fn is_pointer_kind(kind: Kind) -> bool
     }
 }
 
-/// Whether an expression of this type may stand where the kind is asked. Of null, which has every pointer type,
-/// the type is `Some(None)`, and of an ill typed expression it is `None`.
-pub fn is_fit(kind: Kind, t: Option<Option<Kind>>) -> bool
+fn is_place_kind(kind: Kind) -> bool
+    ensures { result ≡ is_place kind }
+{
+    match kind {
+        Kind::Int => false,
+        Kind::Ptr(_) => false,
+        Kind::ModInt => true,
+        Kind::ModPtr(_) => true,
+    }
+}
+
+/// Whether an expression of this type may stand where the kind is asked; an ill typed expression has no type.
+pub fn is_fit(kind: Kind, t: Option<ExprType>) -> bool
     ensures { result ≡ fits kind t }
 {
     match t {
         None => false,
-        Some(None) => is_pointer_kind(kind),
-        Some(Some(other)) => is_same_kind(kind, other),
+        Some(ExprType::AnyPointer) => is_pointer_kind(kind),
+        Some(ExprType::AnyPlace) => is_place_kind(kind),
+        Some(ExprType::Of(other)) => is_same_kind(kind, other),
     }
 }
 
-pub fn is_fit_maybe(kind: Option<Kind>, t: Option<Option<Kind>>) -> bool
+pub fn is_fit_maybe(kind: Option<Kind>, t: Option<ExprType>) -> bool
     ensures { result ≡ fits_maybe kind t }
 {
     match kind {
@@ -48,31 +71,49 @@ pub fn is_fit_maybe(kind: Option<Kind>, t: Option<Option<Kind>>) -> bool
     }
 }
 
-fn is_one_type(s: Option<Option<Kind>>, t: Option<Option<Kind>>) -> bool
+fn is_one_type(s: Option<ExprType>, t: Option<ExprType>) -> bool
     ensures { result ≡ one_type s t }
 {
     match s {
         None => false,
-        Some(None) => match t {
+        Some(ExprType::AnyPointer) => match t {
             None => false,
-            Some(None) => true,
-            Some(Some(kind)) => is_pointer_kind(kind),
+            Some(ExprType::Of(kind)) => is_pointer_kind(kind),
+            Some(ExprType::AnyPointer) => true,
+            Some(ExprType::AnyPlace) => true,
         },
-        Some(Some(kind)) => is_fit(kind, t),
+        Some(ExprType::AnyPlace) => match t {
+            None => false,
+            Some(ExprType::Of(kind)) => is_place_kind(kind),
+            Some(ExprType::AnyPointer) => true,
+            Some(ExprType::AnyPlace) => true,
+        },
+        Some(ExprType::Of(kind)) => is_fit(kind, t),
     }
 }
 
-fn int_where(holds: bool) -> Option<Option<Kind>>
+fn int_where(holds: bool) -> Option<ExprType>
     ensures { result ≡ int_if holds }
 {
-    if holds { Some(Some(Kind::Int)) } else { None }
+    if holds {
+        Some(ExprType::Of(Kind::Int))
+    } else {
+        None
+    }
 }
 
-fn type_of_binary(
-    op: Binary,
-    s: Option<Option<Kind>>,
-    t: Option<Option<Kind>>,
-) -> Option<Option<Kind>>
+fn type_of_element(t: Option<ExprType>) -> Option<ExprType>
+    ensures { result ≡ element_type t }
+{
+    match t {
+        None => None,
+        Some(ExprType::AnyPointer) => Some(ExprType::AnyPlace),
+        Some(ExprType::AnyPlace) => Some(ExprType::AnyPlace),
+        Some(ExprType::Of(kind)) => Some(ExprType::Of(kind)),
+    }
+}
+
+fn type_of_binary(op: Binary, s: Option<ExprType>, t: Option<ExprType>) -> Option<ExprType>
     ensures { result ≡ binary_type op s t }
 {
     match op {
@@ -89,6 +130,73 @@ fn type_of_binary(
         Binary::MoreEq => int_where(is_fit(Kind::Int, s) && is_fit(Kind::Int, t)),
         Binary::And => int_where(is_fit(Kind::Int, s) && is_fit(Kind::Int, t)),
         Binary::Or => int_where(is_fit(Kind::Int, s) && is_fit(Kind::Int, t)),
+        Binary::Pick(_) => {
+            if is_fit(Kind::Int, t) {
+                type_of_element(s)
+            } else {
+                None
+            }
+        }
+    }
+}
+
+/// The length of the row that begins at a field, where there is such a field; 0 where none begins.
+fn row_of_field(structs: &[StructInfo], s: u32, field: u32) -> Option<u32>
+    ensures { result ≡ row_at structs.now s field }
+{
+    match structs.get(s as usize) {
+        None => None,
+        Some(info) => match info.fields.items().get(field as usize) {
+            None => None,
+            Some(field) => Some(field.row),
+        },
+    }
+}
+
+fn is_row(row: u32, found: Option<u32>) -> bool
+    ensures { result ≡ is_row_of row found }
+{
+    match found {
+        None => false,
+        Some(n) => row > 0 && n == row,
+    }
+}
+
+/// Whether the expression is null, or the address of the first modifiable of a row of this length.
+#[tactic(auto, using(crate::proofs::TypeSteps::row_steps))]
+fn does_start_row(structs: &[StructInfo], row: u32, e: &CodeExpr) -> bool
+    ensures { result ≡ starts_row structs.now row e.now }
+{
+    match e {
+        CodeExpr::Num(_) => false,
+        CodeExpr::Null => true,
+        CodeExpr::Var(_) => false,
+        CodeExpr::Unary(_, _) => false,
+        CodeExpr::Binary(_, _, _) => false,
+        CodeExpr::Field(_, _, _) => false,
+        CodeExpr::Address(_, s, field) => is_row(row, row_of_field(structs, *s, *field)),
+    }
+}
+
+/// Whether the left operand has the form that the operator asks.
+fn does_left_suit(structs: &[StructInfo], op: Binary, a: &CodeExpr) -> bool
+    ensures { result ≡ left_suits structs.now op a.now }
+{
+    match op {
+        Binary::Add => true,
+        Binary::Sub => true,
+        Binary::Mul => true,
+        Binary::Div => true,
+        Binary::Rem => true,
+        Binary::Less => true,
+        Binary::LessEq => true,
+        Binary::More => true,
+        Binary::MoreEq => true,
+        Binary::Same => true,
+        Binary::Differ => true,
+        Binary::And => true,
+        Binary::Or => true,
+        Binary::Pick(row) => does_start_row(structs, row, a),
     }
 }
 
@@ -105,22 +213,29 @@ fn is_known(known: &[bool], v: VarId) -> bool
     known.get(v.0 as usize).copied().unwrap_or(false)
 }
 
-fn type_of_variable(kind: Option<Kind>, known: bool) -> Option<Option<Kind>>
+fn type_of_variable(kind: Option<Kind>, known: bool) -> Option<ExprType>
     ensures { result ≡ variable_type kind known }
 {
     match kind {
         None => None,
-        Some(kind) => { if known { Some(Some(kind)) } else { None } }
+        Some(kind) => {
+            if known {
+                Some(ExprType::Of(kind))
+            } else {
+                None
+            }
+        }
     }
 }
 
-fn is_pointer_to(s: u32, t: Option<Option<Kind>>) -> bool
+fn is_pointer_to(s: u32, t: Option<ExprType>) -> bool
     ensures { result ≡ points_to s t }
 {
     match t {
         None => false,
-        Some(None) => false,
-        Some(Some(kind)) => is_same_kind(Kind::Ptr(s), kind),
+        Some(ExprType::AnyPointer) => false,
+        Some(ExprType::AnyPlace) => false,
+        Some(ExprType::Of(kind)) => is_same_kind(Kind::Ptr(s), kind),
     }
 }
 
@@ -137,24 +252,24 @@ pub fn kind_of_field(structs: &[StructInfo], s: u32, field: u32) -> Option<Field
     }
 }
 
-fn type_of_plain(kind: Option<FieldKind>) -> Option<Option<Kind>>
+fn type_of_plain(kind: Option<FieldKind>) -> Option<ExprType>
     ensures { result ≡ plain_type kind }
 {
     match kind {
-        Some(FieldKind::Plain(kind)) => Some(Some(kind)),
+        Some(FieldKind::Plain(kind)) => Some(ExprType::Of(kind)),
         Some(FieldKind::CellInt) => None,
         Some(FieldKind::CellPtr(_)) => None,
         None => None,
     }
 }
 
-fn type_of_cell(kind: Option<FieldKind>) -> Option<Option<Kind>>
+fn type_of_cell(kind: Option<FieldKind>) -> Option<ExprType>
     ensures { result ≡ cell_type kind }
 {
     match kind {
         Some(FieldKind::Plain(_)) => None,
-        Some(FieldKind::CellInt) => Some(Some(Kind::ModInt)),
-        Some(FieldKind::CellPtr(s)) => Some(Some(Kind::ModPtr(s))),
+        Some(FieldKind::CellInt) => Some(ExprType::Of(Kind::ModInt)),
+        Some(FieldKind::CellPtr(s)) => Some(ExprType::Of(Kind::ModPtr(s))),
         None => None,
     }
 }
@@ -166,18 +281,21 @@ pub fn type_of_expr(
     kinds: &[Kind],
     known: &[bool],
     e: &CodeExpr,
-) -> Option<Option<Kind>>
+) -> Option<ExprType>
     ensures { result ≡ type_of structs.now kinds.now known.now e.now }
 {
     match e {
-        CodeExpr::Num(_) => Some(Some(Kind::Int)),
-        CodeExpr::Null => Some(None),
+        CodeExpr::Num(_) => Some(ExprType::Of(Kind::Int)),
+        CodeExpr::Null => Some(ExprType::AnyPointer),
         CodeExpr::Var(v) => type_of_variable(kind_at(kinds, *v), is_known(known, *v)),
         CodeExpr::Unary(_, a) => int_where(is_fit(
             Kind::Int,
             type_of_expr(structs, kinds, known, a.get()),
         )),
         CodeExpr::Binary(op, a, b) => {
+            if !does_left_suit(structs, *op, a.get()) {
+                return None;
+            }
             let s = type_of_expr(structs, kinds, known, a.get());
             let t = type_of_expr(structs, kinds, known, b.get());
             type_of_binary(*op, s, t)

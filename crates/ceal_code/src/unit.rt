@@ -30,7 +30,8 @@ impl Model for Unit {
 
 impl Unit {
     pub fn new(function: u32, params: Vec<VarId>, body: Vec<Cmd>) -> Unit
-        ensures value { result ≡ record { function = function; params = params.items; body = body.items } }
+        ensures value { result
+            ≡ record { function = function; params = params.items; body = body.items } }
     {
         Unit {
             function,
@@ -40,7 +41,8 @@ impl Unit {
     }
 
     pub fn push_params(&mut self, item: VarId) -> Result<(), NoMemory>
-        ensures ok { OnOk result (self.new ≡ record self.old { params = self.old.params ++ item ∷ [] }) }
+        ensures ok { OnOk result
+            (self.new ≡ record self.old { params = self.old.params ++ item ∷ [] }) }
         ensures err { OnErr result (self.new ≡ self.old) }
     {
         self.params.push(item)?;
@@ -54,7 +56,8 @@ impl Unit {
     }
 
     pub fn push_body(&mut self, item: Cmd) -> Result<(), NoMemory>
-        ensures ok { OnOk result (self.new ≡ record self.old { body = self.old.body ++ item ∷ [] }) }
+        ensures ok { OnOk result
+            (self.new ≡ record self.old { body = self.old.body ++ item ∷ [] }) }
         ensures err { OnErr result (self.new ≡ self.old) }
     {
         self.body.push(item)?;

@@ -1,9 +1,10 @@
 // Whether code is valid.
 
 ghost use Rattle.std.specs.Prelude.{◌≡◌, ◌<◌, ◌≤◌, ◌&&◌, ◌+◌, ◌^◌, ℕ, Bool, List, true, false, length, replicate, slice_get, IfOk};
-ghost use Rattle.ceal_code.specs.Valid.{kind_ok, kinds_ok, field_ok, fields_ok, structs_ok, is_prefix, below, is_core, unit_ok, units_ok, entry_ok, is_empty, function_ok, functions_ok, valid};
+ghost use Rattle.ceal_code.specs.Valid.{kind_ok, kinds_ok, field_ok, fields_ok, same_field, row_goes_on, row_whole, rows_ok, structs_ok, is_prefix, below, is_core, unit_ok, units_ok, entry_ok, is_empty, function_ok, functions_ok, valid};
 
 use crate::code::Code;
+use crate::evaluate::is_modifiable;
 use crate::expr::VarId;
 use crate::function::FunctionCode;
 use crate::initialiser::are_stmts_ok;
@@ -52,6 +53,22 @@ fn is_field_ok(structs: &[StructInfo], kind: FieldKind) -> bool
     }
 }
 
+fn is_same_field(a: FieldKind, b: FieldKind) -> bool
+    ensures { result ≡ same_field a b }
+{
+    match (a, b) {
+        (FieldKind::Plain(a), FieldKind::Plain(b)) => is_same_kind(a, b),
+        (FieldKind::CellInt, FieldKind::CellInt) => true,
+        (FieldKind::CellPtr(a), FieldKind::CellPtr(b)) => a == b,
+        (FieldKind::Plain(_), FieldKind::CellInt) => false,
+        (FieldKind::Plain(_), FieldKind::CellPtr(_)) => false,
+        (FieldKind::CellInt, FieldKind::Plain(_)) => false,
+        (FieldKind::CellInt, FieldKind::CellPtr(_)) => false,
+        (FieldKind::CellPtr(_), FieldKind::Plain(_)) => false,
+        (FieldKind::CellPtr(_), FieldKind::CellInt) => false,
+    }
+}
+
 #[tactic(auto, using(crate::proofs::ListSteps::fields_steps))]
 fn are_fields_ok(structs: &[StructInfo], fields: &[FieldInfo]) -> bool
     ensures { result ≡ fields_ok structs.now fields.now }
@@ -59,6 +76,51 @@ fn are_fields_ok(structs: &[StructInfo], fields: &[FieldInfo]) -> bool
     let mut fields = fields;
     while let Some((field, more)) = fields.split_first() {
         if !is_field_ok(structs, field.kind) {
+            return false;
+        }
+        fields = more;
+    }
+    true
+}
+
+/// Whether so many fields come that are of this kind, and at which no row begins.
+#[tactic(auto, using(crate::proofs::ListSteps::going_steps))]
+fn does_row_go_on(n: u32, kind: FieldKind, rest: &[FieldInfo]) -> bool
+    ensures { result ≡ row_goes_on n kind rest.now }
+{
+    let mut n = n;
+    let mut rest = rest;
+    while n > 0 {
+        match rest.split_first() {
+            None => return false,
+            Some((field, more)) => {
+                if !is_same_field(kind, field.kind) || field.row != 0 {
+                    return false;
+                }
+                n -= 1;
+                rest = more;
+            }
+        }
+    }
+    true
+}
+
+fn is_row_whole(row: u32, kind: FieldKind, rest: &[FieldInfo]) -> bool
+    ensures { result ≡ row_whole row kind rest.now }
+{
+    if row == 0 {
+        return true;
+    }
+    is_modifiable(Some(kind)) && does_row_go_on(row - 1, kind, rest)
+}
+
+#[tactic(auto, using(crate::proofs::ListSteps::rows_steps))]
+fn are_rows_ok(fields: &[FieldInfo]) -> bool
+    ensures { result ≡ rows_ok fields.now }
+{
+    let mut fields = fields;
+    while let Some((field, more)) = fields.split_first() {
+        if !is_row_whole(field.row, field.kind, more) {
             return false;
         }
         fields = more;
@@ -77,6 +139,9 @@ fn are_structs_ok(structs: &[StructInfo], rest: &[StructInfo]) -> bool
             return false;
         }
         if !are_fields_ok(structs, fields) {
+            return false;
+        }
+        if !are_rows_ok(fields) {
             return false;
         }
         rest = more;

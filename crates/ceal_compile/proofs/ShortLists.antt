@@ -1,14 +1,15 @@
 -- A program within the limits has short lists of fields and of parameters.
-use Rattle.std.proofs.Common.{◌≤◌, ℕ, suc, ◌+◌, List, [], ◌∷◌, length, All, arith}
+use Rattle.std.proofs.Common.{◌≡◌, ◌≤◌, ℕ, suc, ◌+◌, List, [], ◌∷◌, length, All, refl, arith}
 use Rattle.std.proofs.lemmas.List.Elements.{All-nil, All-cons}
 use Rattle.ceal_base.specs.declared.syntax.Tree.{Tree}
 use Rattle.ceal_base.specs.declared.fault.Span.{Span}
 use Rattle.ceal_lex.specs.declared.token.Token.{Token}
 use Rattle.ceal_grammar.specs.Faults.{AllWithin, Accepts}
-use Rattle.ceal_grammar.specs.Grammar.{Phrase, number, null, variable, own, parens, arrow, prefix, address, binary, Written, int, pointer, mod_int, mod_pointer, cell_int, cell_pointer, Arguments, no_arguments, arguments, Given, plainly, reading, allocation, modref_int, modref, Statement, declare, assign, set, store, call, branch, loop, exit, Branch, when, Otherwise, nothing, otherwise, chained, Block, block, Statements, ended, followed, Parameter, Parameters, no_parameters, parameters, Signature, core, init, Member, Part, structure, function}
-use Rattle.ceal_grammar.specs.Spelled.{Mark, spelled, spelled_type, spelled_more, spelled_arguments, spelled_given, spelled_statement, spelled_branch, spelled_otherwise, spelled_block, spelled_statements, spelled_others, spelled_parameters, spelled_signature, spelled_members, spelled_part, spelled_parts}
-use Rattle.ceal_grammar.specs.Trees.{member_trees, other_trees, parameter_trees, part_tree, part_trees}
-use Rattle.ceal_types.specs.Limits.{IsShort, HasShortLists}
+use Rattle.ceal_grammar.specs.Grammar.{Phrase, number, null, variable, own, parens, arrow, prefix, address, element, binary, Written, int, pointer, mod_int, mod_pointer, cell_int, cell_pointer, Arguments, no_arguments, arguments, Given, plainly, reading, allocation, modref_int, modref, Statement, declare, assign, set, store, call, branch, loop, exit, break, continue, Branch, when, Otherwise, nothing, otherwise, chained, Block, block, Statements, ended, followed, Parameter, Parameters, no_parameters, parameters, Signature, core, init, Size, single, row, Member, SizeProper, MembersProper, Part, structure, function, PartProper, PartsProper}
+use Rattle.ceal_grammar.specs.Spelled.{Mark, spelled, spelled_type, spelled_more, spelled_arguments, spelled_given, spelled_statement, spelled_branch, spelled_otherwise, spelled_block, spelled_statements, spelled_others, spelled_parameters, spelled_signature, counted, spelled_size, spelled_members, spelled_part, spelled_parts}
+use Rattle.ceal_grammar.specs.Trees.{type_form, sized_form, member_trees, other_trees, parameter_trees, part_tree, part_trees}
+use Rattle.ceal_types.specs.Heads.{row_of}
+use Rattle.ceal_types.specs.Limits.{width, fields_in, IsShort, HasShortLists}
 
 -- what stands behind a phrase is within the limits too
 after_phrase : (d i n : ℕ) (a : Phrase) (rest : List Mark) → AllWithin (spelled d i n a rest) → AllWithin rest
@@ -21,6 +22,7 @@ after_phrase d i n (parens l a r) rest h = (after_phrase (suc d) 0 n a _ h.1).1
 after_phrase d i n (arrow a s x) rest h = (after_phrase d i n a _ h).1.1
 after_phrase d i n (prefix op s a) rest h = after_phrase d 0 (suc n) a rest h.1
 after_phrase d i n (address s a) rest h = after_phrase d 0 (suc n) a rest h.1
+after_phrase d i n (element s a l b r) rest h = (after_phrase (suc d) 0 _ b _ (after_phrase d 0 (suc n) a _ h.1).1).1
 after_phrase d i n (binary op a s b) rest h = after_phrase d 0 _ b rest (after_phrase d i n a _ h).1
 
 after_type : (d i : ℕ) (w : Written) (rest : List Mark) → AllWithin (spelled_type d i w rest) → AllWithin rest
@@ -71,6 +73,8 @@ mutual
   after_statement d (branch b) rest h = after_branch d b rest h
   after_statement d (loop s l e r b) rest h = after_block d b rest (after_phrase (suc d) 0 0 e _ h.1.1).1
   after_statement d (exit s semi) rest h = h.1.1
+  after_statement d (break s semi) rest h = h.1.1
+  after_statement d (continue s semi) rest h = h.1.1
 
   after_branch : (d : ℕ) (b : Branch) (rest : List Mark) → AllWithin (spelled_branch d b rest) → AllWithin rest
   after_branch d (when s l e r b other) rest h =
@@ -88,18 +92,48 @@ mutual
   after_statements d ended rest h = h
   after_statements d (followed s ss) rest h = after_statements d ss rest (after_statement d s _ h)
 
--- fields are items, from the number i on
-members_short : (i : ℕ) (ms : List Member) (rest : List Mark) → i ≤ 256 → AllWithin (spelled_members i ms rest) → i + length (member_trees ms) ≤ 256
-unfolding AllWithin spelled_members member_trees
-members_short i [] rest few h = omega (arith, few)
-members_short i (m ∷ ms) rest few h =
-    let item = type_item 1 i m.type _ h in
-    let more = members_short (suc i) ms rest (omega (arith, item)) (after_type 1 i m.type _ h).1.1 in omega (arith, more)
+-- a member is one field, or as many as its row is long
+width_is : (w : Written) (s : Size) (c : ℕ) → SizeProper w s → counted c s ≡ c + width (row_of (sized_form (type_form w) s))
+width_is (int s) single c h = omega arith
+width_is (pointer s x t) single c h = omega arith
+width_is (mod_int s k t) single c h = omega arith
+width_is (mod_pointer s k x t) single c h = omega arith
+width_is (cell_int s k) single c h = omega arith
+width_is (cell_pointer s k x) single c h = omega arith
+width_is (int s) (row l n a r) c h = absurd h.0
+width_is (pointer s x t) (row l n a r) c h = absurd h.0
+width_is (mod_int s k t) (row l n a r) c h = absurd h.0
+width_is (mod_pointer s k x t) (row l n a r) c h = absurd h.0
+width_is (cell_int s k) (row l n a r) c h = refl
+width_is (cell_pointer s k x) (row l n a r) c h = refl
 
-after_members : (i : ℕ) (ms : List Member) (rest : List Mark) → AllWithin (spelled_members i ms rest) → AllWithin rest
+after_size : (c : ℕ) (s : Size) (rest : List Mark) → AllWithin (spelled_size c s rest) → AllWithin rest
+unfolding AllWithin
+after_size c single rest h = h
+after_size c (row l n a r) rest h = h.1.1.1
+
+-- the last of them is an item
+size_item : (c : ℕ) (s : Size) (rest : List Mark) → suc c ≤ 255 → AllWithin (spelled_size c s rest) → counted c s ≤ 255
+unfolding AllWithin
+size_item c single rest few h = few
+size_item c (row l n a r) rest few h = let here = h.1.0 in here.item
+
+-- fields are items, behind c others
+members_short : (c : ℕ) (ms : List Member) (rest : List Mark) → MembersProper ms → c ≤ 255 → AllWithin (spelled_members c ms rest)
+    → c + fields_in (member_trees ms) ≤ 255
+unfolding MembersProper AllWithin spelled_members member_trees fields_in
+members_short c [] rest proper few h = omega (arith, few)
+members_short c (m ∷ ms) rest proper few h =
+    let named = after_type 1 (suc c) m.type _ h in
+    let item = size_item c m.size _ (type_item 1 (suc c) m.type _ h) named.1 in
+    let wide = width_is m.type m.size c proper.0 in
+    let more = members_short (counted c m.size) ms rest proper.1 item (after_size c m.size _ named.1).1 in omega (arith, more, wide)
+
+after_members : (c : ℕ) (ms : List Member) (rest : List Mark) → AllWithin (spelled_members c ms rest) → AllWithin rest
 unfolding AllWithin spelled_members
-after_members i [] rest h = h
-after_members i (m ∷ ms) rest h = after_members (suc i) ms rest (after_type 1 i m.type _ h).1.1
+after_members c [] rest h = h
+after_members c (m ∷ ms) rest h =
+    let named = after_type 1 (suc c) m.type _ h in after_members (counted c m.size) ms rest (after_size c m.size _ named.1).1
 
 -- so are parameters
 others_short : (i : ℕ) (more : List (Span × Parameter)) (rest : List Mark) → i ≤ 256 → AllWithin (spelled_others i more rest) → i + length (other_trees more) ≤ 256
@@ -132,19 +166,19 @@ after_signature (init s x l k y t o more r) rest h = (after_others 1 more _ h.1.
 
 after_part : (p : Part) (rest : List Mark) → AllWithin (spelled_part p rest) → AllWithin rest
 unfolding AllWithin
-after_part (structure s x l ms r semi) rest h = (after_members 1 ms _ h.1.1.1).1.1
+after_part (structure s x l ms r semi) rest h = (after_members 0 ms _ h.1.1.1).1.1
 after_part (function head b) rest h = after_block 0 b rest (after_signature head _ h)
 
-part_short : (p : Part) (rest : List Mark) → AllWithin (spelled_part p rest) → IsShort (part_tree p)
+part_short : (p : Part) (rest : List Mark) → PartProper p → AllWithin (spelled_part p rest) → IsShort (part_tree p)
 unfolding AllWithin
-part_short (structure s x l ms r semi) rest h = let few = members_short 1 ms _ (omega arith) h.1.1.1 in omega (arith, few)
-part_short (function (core s x l ps r) b) rest h = parameters_short ps _ h.1.1.1
-part_short (function (init s x l k y t o more r) b) rest h = let few = others_short 1 more _ (omega arith) h.1.1.1.1.1.1.1 in omega (arith, few)
+part_short (structure s x l ms r semi) rest proper h = let few = members_short 0 ms _ proper (omega arith) h.1.1.1 in omega (arith, few)
+part_short (function (core s x l ps r) b) rest proper h = parameters_short ps _ h.1.1.1
+part_short (function (init s x l k y t o more r) b) rest proper h = let few = others_short 1 more _ (omega arith) h.1.1.1.1.1.1.1 in omega (arith, few)
 
-parts_short : (ps : List Part) (rest : List Mark) → AllWithin (spelled_parts ps rest) → All IsShort (part_trees ps)
-unfolding spelled_parts part_trees
-parts_short [] rest h = All-nil IsShort
-parts_short (p ∷ ps) rest h = All-cons IsShort (part_tree p) (part_trees ps) (part_short p _ h) (parts_short ps rest (after_part p _ h))
+parts_short : (ps : List Part) (rest : List Mark) → PartsProper ps → AllWithin (spelled_parts ps rest) → All IsShort (part_trees ps)
+unfolding PartsProper spelled_parts part_trees
+parts_short [] rest proper h = All-nil IsShort
+parts_short (p ∷ ps) rest proper h = All-cons IsShort (part_tree p) (part_trees ps) (part_short p _ proper.0 h) (parts_short ps rest proper.1 (after_part p _ h))
 
 pub short_lists : (ts : List Token) (tree : Tree) → Accepts ts tree → HasShortLists tree
-short_lists ts tree a = rw (← a.same) (parts_short a.program.parts _ a.within)
+short_lists ts tree a = rw (← a.same) (parts_short a.program.parts _ a.proper a.within)

@@ -3,7 +3,7 @@ use Rattle.std.specs.Prelude.{ℕ, ◌+◌, ◌==◌, ◌++◌, List, [], ◌∷
 use Rattle.std.specs.Fmt.{decimal}
 use Rattle.ceal_base.specs.declared.fault.Fault.{Fault}
 use Rattle.ceal_base.specs.declared.fault.FaultCode.{FaultCode}
-use Rattle.ceal_base.specs.declared.fault.FaultCode.TheVariants.{S1, S2, S3, S4, S5, S6, N1, N2, T1, T2, T3, T4, T5, U1, U2, U3, U4, U5, L1}
+use Rattle.ceal_base.specs.declared.fault.FaultCode.TheVariants.{S1, S2, S3, S4, S5, S6, N1, N2, T1, T2, T3, T4, T5, U1, U2, U3, U4, U5, U6, L1}
 
 -- how many bytes are line feeds
 unfoldable pub line_feeds : List ℕ → ℕ
@@ -42,6 +42,7 @@ code_text U2 = codes "U2"
 code_text U3 = codes "U3"
 code_text U4 = codes "U4"
 code_text U5 = codes "U5"
+code_text U6 = codes "U6"
 code_text L1 = codes "L1"
 
 abbrev pub meaning_text : FaultCode → List ℕ
@@ -63,6 +64,7 @@ meaning_text U2 = codes "statement not allowed in an initialiser"
 meaning_text U3 = codes "self used otherwise"
 meaning_text U4 = codes "initialiser called"
 meaning_text U5 = codes "alloc by a core function"
+meaning_text U6 = codes "not in a loop"
 meaning_text L1 = codes "too many blocks"
 
 -- the bytes of the input before the fault

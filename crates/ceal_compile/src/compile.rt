@@ -81,7 +81,8 @@ fn read_tokens(alloc: Global, tokens: &Tokens) -> Result<Program, FrontError>
     ensures found { IfOk result (λ program. TokensCome tokens.now (OkOf program.typed)) }
     ensures compiled { IfOk result IsCompiled }
     ensures fault { IfFault result (λ fault. TokensCome tokens.now (ErrOf fault)) }
-    ensures only { (r : ResultOf TypedRecord FaultRecord) → TokensCome tokens.now r → Gives (typed_of result) r }
+    ensures only { (r : ResultOf TypedRecord FaultRecord) → TokensCome tokens.now r
+        → Gives (typed_of result) r }
 {
     match parse(alloc, tokens) {
         Ok(tree) => settle(alloc, &tree),
@@ -95,7 +96,8 @@ fn read_part(alloc: Global, input: &[u8], part: &Split) -> Result<Program, Front
     ensures found { IfOk result (λ program. PartComes input.now part.now (OkOf program.typed)) }
     ensures compiled { IfOk result IsCompiled }
     ensures fault { IfFault result (λ fault. PartComes input.now part.now (ErrOf fault)) }
-    ensures only { (r : ResultOf TypedRecord FaultRecord) → PartComes input.now part.now r → Gives (typed_of result) r }
+    ensures only { (r : ResultOf TypedRecord FaultRecord) → PartComes input.now part.now r
+        → Gives (typed_of result) r }
 {
     match lex(alloc, input, part) {
         Ok(tokens) => read_tokens(alloc, &tokens),
@@ -111,7 +113,8 @@ pub fn compile(alloc: Global, input: &[u8]) -> Result<Program, FrontError>
     ensures found { IfOk result (λ program. IsProgram input.now program.typed) }
     ensures compiled { IfOk result IsCompiled }
     ensures fault { IfFault result (λ fault. IsFirstFault input.now fault) }
-    ensures only { (r : ResultOf TypedRecord FaultRecord) → Comes input.now r → Gives (typed_of result) r }
+    ensures only { (r : ResultOf TypedRecord FaultRecord) → Comes input.now r
+        → Gives (typed_of result) r }
 {
     one_split();
     read_part(alloc, input, &split(input))
@@ -119,7 +122,8 @@ pub fn compile(alloc: Global, input: &[u8]) -> Result<Program, FrontError>
 
 /// A law: an input comes to one program or one first fault at most.
 pub fn one_answer()
-    ensures law { (input : List ℕ) (a b : ResultOf TypedRecord FaultRecord) → Comes input a → Comes input b → a ≡ b }
+    ensures law { (input : List ℕ) (a b : ResultOf TypedRecord FaultRecord) → Comes input a
+        → Comes input b → a ≡ b }
 {
     one_split();
     ceal_lex::lex::one_reading();

@@ -32,6 +32,7 @@ fn code(code: FaultCode) -> &'static str
         FaultCode::U3 => "U3",
         FaultCode::U4 => "U4",
         FaultCode::U5 => "U5",
+        FaultCode::U6 => "U6",
         FaultCode::L1 => "L1",
     }
 }
@@ -58,6 +59,7 @@ fn meaning(code: FaultCode) -> &'static str
         FaultCode::U3 => "self used otherwise",
         FaultCode::U4 => "initialiser called",
         FaultCode::U5 => "alloc by a core function",
+        FaultCode::U6 => "not in a loop",
         FaultCode::L1 => "too many blocks",
     }
 }

@@ -8,7 +8,8 @@ ghost use Rattle.ceal_compile.specs.Source.{Comes};
 
 /// A law: an input comes to a program or to a first fault, where it is no longer than a place in it can be told.
 pub fn some_answer()
-    ensures law { (input : List ℕ) → length input < 2 ^ 32 → (r : ResultOf TypedRecord FaultRecord) × Comes input r }
+    ensures law { (input : List ℕ) → length input < 2 ^ 32
+        → (r : ResultOf TypedRecord FaultRecord) × Comes input r }
 {
     ceal_lex::split::some_split();
     ceal_lex::lex::either();

@@ -1,10 +1,11 @@
--- Inputs that fit still fit with one input more, and with another base.
-use Rattle.std.proofs.Common.{◌≡◌, ℕ, zero, suc, ◌+◌, ◌-◌, ◌<◌, ◌≤◌, ◌&&◌, Bool, true, Option, Some, None, List, [], ◌∷◌, ◌++◌, length, drop, refl, sym, ap, ◌∙◌, subst, slice_get, slice_set, append_assoc, arith}
+-- Inputs that fit still fit with one input more, and with another base; both extend what they were.
+use Rattle.std.proofs.Common.{◌≡◌, ℕ, zero, suc, ◌==◌, ◌&&◌, Bool, true, false, if◌then◌else◌, Option, Some, None, List, [], ◌∷◌, ◌++◌, length, refl, sym, ap, ◌∙◌, subst, slice_get, slice_set, arith}
 use Rattle.std.specs.List.{list_all}
+use Rattle.std.specs.Option.{option_map}
 use Rattle.std.specs.Prelude.{IfSome}
 use Rattle.ceal_base.specs.Block.{Block, block_at, changed}
 use Rattle.ceal_base.specs.Fitting.{kind_in, kind_at, fits_field, block_fits, inputs_fit}
-use Rattle.ceal_base.specs.Shapes.{kinds_of_shape}
+use Rattle.ceal_base.specs.Shapes.{kinds_of_shape, default_of_field}
 use Rattle.ceal_base.specs.declared.kind.FieldKind.{FieldKind}
 use Rattle.ceal_base.specs.declared.typed.StructInfo.{StructInfo}
 use Rattle.ceal_base.specs.declared.word.BlockId.{BlockId}
@@ -12,17 +13,18 @@ use Rattle.ceal_base.specs.declared.word.BlockId.TheVariants.{Input, Core}
 use Rattle.ceal_base.specs.declared.word.Place.{Place}
 use Rattle.ceal_base.specs.declared.word.Word.{Word}
 use Rattle.ceal_code.proofs.Kept.{Shapes_kept, words-kept, fields-kept, kept-written}
-use Rattle.ceal_code.proofs.Memory.{altered, get-before, get-within}
-use Rattle.ceal_code.proofs.Same.{both, both-true, none-some}
-use Rattle.ceal_code.proofs.TypedInit.{fields-set}
+use Rattle.ceal_code.proofs.Memory.{altered, get-before, get-within, get-set_here, get-set_other}
+use Rattle.ceal_code.proofs.Same.{both, both-true, none-some, nat-same}
+use Rattle.ceal_code.proofs.TypedInit.{fields-set, words-count}
 use Rattle.ceal_code.specs.Fitting.{args_fit, Fits}
 use Rattle.ceal_code.specs.Program.{Code}
+use Rattle.ceal_code.specs.Replay.{plain_words, plain_block}
 use Rattle.ceal_code.specs.Value.{is_cell}
 use Rattle.ceal_code.specs.declared.function.FunctionCode.{FunctionCode}
 use Rattle.ceal_code.specs.declared.function.FunctionCode.TheVariants.{Core as CoreFunction, Init as InitFunction}
-use Rattle.ceal_engine.proofs.Numbered.{stored-made}
 use Rattle.ceal_engine.specs.Engine.{alone, fits_in, with_base}
-use Rattle.ceal_engine.specs.Keeping.{with_later}
+use Rattle.ceal_engine.specs.Keeping.{argument_count}
+use Rattle.ceal_theory.specs.Adjust.{Extended}
 use Rattle.ceal_base.specs.declared.call.Call.{Call}
 
 all-kept : (test test' : Block → Bool) → ((b : Block) → test b ≡ true → test' b ≡ true) → (xs : List Block) → list_all test xs ≡ true → list_all test' xs ≡ true
@@ -130,35 +132,54 @@ module _ (code : Code) (xs ys : List Block) (kept : Shapes_kept (alone xs) (alon
 
   pub call-kept : (call : Option Call) → IfSome call (λ call. Fits code xs call.function call.args) → IfSome call (λ call. Fits code ys call.function call.args)
   call-kept None h = tt
-  call-kept (Some call) h = record { blocks = fits; words = args-kept (slice_get code.functions call.function) call.args h.words }
+  call-kept (Some call) h = record { is_valid = h.is_valid; blocks = fits; words = args-kept (slice_get code.functions call.function) call.args h.words }
 
--- an input more comes at the end
-drop-push : (k : ℕ) (xs : List Block) (b : Block) → k ≤ length xs → drop k (xs ++ b ∷ []) ≡ drop k xs ++ b ∷ []
-drop-push zero xs b h = refl
-drop-push (suc k) [] b h = absurd (omega (arith, h))
-drop-push (suc k) (x ∷ xs) b h = drop-push k xs b (omega (arith, h))
+-- a trace goes on where each old input has its shape and its plain words
+pub extended-refl : (code : Code) (inputs : List Block) → Extended code inputs inputs
+extended-refl code inputs i block e = ap (option_map (plain_block code.structs)) e
 
-pub later-push : (before inputs : List Block) (b : Block) → length before ≤ length inputs → with_later before (inputs ++ b ∷ []) ≡ with_later before inputs ++ b ∷ []
-later-push before inputs b h = rw (drop-push (length before) inputs b h) (sym (append_assoc before (drop (length before) inputs) (b ∷ [])))
+pub extended-longer : (code : Code) (inputs : List Block) (b : Block) → Extended code inputs (inputs ++ b ∷ [])
+extended-longer code inputs b i block e = ap (option_map (plain_block code.structs)) (get-before inputs (b ∷ []) i (get-within inputs i block e) ∙ e)
 
--- the block of an input by the run, or by the inputs that came after it
-get-drop : (k n : ℕ) (xs : List Block) → slice_get (drop k xs) n ≡ slice_get xs (k + n)
-get-drop zero n xs = let e : 0 + n ≡ n = omega arith in rw e refl
-get-drop (suc k) n [] = refl
-get-drop (suc k) n (x ∷ xs) = let e : suc k + n ≡ suc (k + n) = omega arith in rw e (get-drop k n xs)
+plain-set : (kinds : List FieldKind) (words : List Word) (f : ℕ) (w : Word) → is_cell (slice_get kinds f) ≡ true → plain_words kinds (slice_set words f w) ≡ plain_words kinds words
+plain-set [] words f w e = absurd (grind (arith, e))
+plain-set (kind ∷ kinds) [] f w e = refl
+plain-set (kind ∷ kinds) (v ∷ words) zero w e = rw e refl
+plain-set (kind ∷ kinds) (v ∷ words) (suc f) w e = ap (λ ws. (if is_cell (Some kind) then default_of_field kind else v) ∷ ws) (plain-set kinds words f w e)
 
-get-append : (xs ys : List Block) (n : ℕ) → length xs ≤ n → (k : ℕ) → n ≡ length xs + k → slice_get (xs ++ ys) n ≡ slice_get ys k
-get-append [] ys n h k e = let i : n ≡ k = omega (arith, e) in rw i refl
-get-append (x ∷ xs) ys zero h k e = absurd (omega (arith, h))
-get-append (x ∷ xs) ys (suc n) h k e = get-append xs ys n (omega (arith, h)) k (omega (arith, e))
+module _ (code : Code) (inputs : List Block) (n f : ℕ) (w : Word) (block : Block) (there : slice_get inputs n ≡ Some block) (cell : is_cell (slice_get (kinds_of_shape code.structs block.shape) f) ≡ true) where
+  plain-altered : plain_block code.structs (altered block f w) ≡ plain_block code.structs block
+  plain-altered = ap (λ ws. record { shape = block.shape; words = ws }) (plain-set (kinds_of_shape code.structs block.shape) block.words f w cell)
 
-pub later-ran : (before inputs : List Block) (n : ℕ) → n < length before → slice_get (with_later before inputs) n ≡ slice_get before n
-later-ran before inputs n h = get-before before (drop (length before) inputs) n h
+  extended-set : Extended code inputs (slice_set inputs n (altered block f w))
+  extended-set i b e = go (i == n) refl
+    where
+      same : Some block ≡ Some b → option_map (plain_block code.structs) (Some (altered block f w)) ≡ Some (plain_block code.structs b)
+      same h = ap Some plain-altered ∙ ap (option_map (plain_block code.structs)) h
 
-pub later-new : (before inputs : List Block) (n : ℕ) → length before ≤ n → slice_get (with_later before inputs) n ≡ slice_get inputs n
-later-new before inputs n h = go (n - length before) (omega (arith, h))
+      go : (t : Bool) → (i == n) ≡ t → option_map (plain_block code.structs) (slice_get (slice_set inputs n (altered block f w)) i) ≡ Some (plain_block code.structs b)
+      go true k =
+          let m : i ≡ n = nat-same i n k in
+          rw m (ap (option_map (plain_block code.structs)) (get-set_here inputs n (altered block f w) block there) ∙ same (sym there ∙ (ap (slice_get inputs) (sym m) ∙ e)))
+      go false k = ap (option_map (plain_block code.structs)) (get-set_other inputs n i (altered block f w) k ∙ e)
+
+pub extended-edit : (code : Code) (inputs : List Block) (p : Place) (w : Word) → is_cell (kind_at code.structs (alone inputs) p) ≡ true → Extended code inputs (with_base inputs p w)
+extended-edit code inputs p w t = of-block p.block t
   where
-    go : (k : ℕ) → n ≡ length before + k → slice_get (with_later before inputs) n ≡ slice_get inputs n
-    go k e = get-append before (drop (length before) inputs) n h k e ∙ get-drop (length before) k inputs ∙ ap (slice_get inputs) (sym e)
+    of-input : (n : ℕ) (o : Option Block) → slice_get inputs n ≡ o → is_cell (kind_in code.structs o p.field) ≡ true → Extended code inputs (with_base inputs (record { block = Input n; field = p.field }) w)
+    of-input n None e g = absurd (grind (arith, g))
+    of-input n (Some block) e g =
+        subst (λ ys. Extended code inputs ys) (sym (ap (λ o. changed inputs o n p.field w) e)) (extended-set code inputs n p.field w block e g)
 
-pub ruleset later_steps = (later-ran, later-new, stored-made)
+    of-block : (b : BlockId) → is_cell (kind_in code.structs (block_at (alone inputs) b) p.field) ≡ true → Extended code inputs (with_base inputs (record { block = b; field = p.field }) w)
+    of-block (Input n) g = of-input n (slice_get inputs n) refl g
+    of-block (Core c) g = absurd (grind (arith, g))
+
+-- a call has as many arguments as its function has parameters
+pub argument-number : (code : Code) (inputs : List Block) (f : ℕ) (args : List Word) → Fits code inputs f args → argument_count (slice_get code.functions f) ≡ length args
+argument-number code inputs f args h = go (slice_get code.functions f) h.words
+  where
+    go : (o : Option FunctionCode) → args_fit code.structs (alone inputs) o args ≡ true → argument_count o ≡ length args
+    go None e = absurd (grind (arith, e))
+    go (Some (InitFunction name s params body)) e = absurd (grind (arith, e))
+    go (Some (CoreFunction name entry params)) e = words-count code.structs (alone inputs) params args e

@@ -1,117 +1,173 @@
 -- What an engine keeps is the run from scratch on its present inputs.
-use Rattle.std.proofs.Common.{◌≡◌, ℕ, zero, suc, ◌+◌, true, Option, Some, None, List, [], length, map, refl, ap, ◌∙◌, subst, append-nil, slice_get, arith}
-use Rattle.std.proofs.lemmas.List.{drop_all}
-use Rattle.ceal_base.specs.Block.{Block, Blocks, block_at, written_at}
+use Rattle.std.proofs.Common.{◌≡◌, ℕ, zero, suc, ◌+◌, ◌<◌, ◌≤◌, ◌==◌, Bool, true, false, if◌then◌else◌, Option, Some, None, List, [], ◌∷◌, length, map, slice_index, refl, sym, ap, ◌∙◌, subst, arith}
+use Rattle.std.specs.Option.{option_map}
+use Rattle.std.specs.Prelude.{IfSome, IsSome, is_some}
+use Rattle.ceal_base.proofs.TraceLemmas.{trace-flat}
+use Rattle.ceal_base.specs.Block.{Block}
 use Rattle.ceal_base.specs.Finished.{Finished}
 use Rattle.ceal_base.specs.Fitting.{memory_fits}
+use Rattle.ceal_base.specs.Same.{Same, index_of, renamed_block}
+use Rattle.ceal_base.specs.Trace.{Trace, flat, trace_of, steps_of, blocks_of}
+use Rattle.ceal_base.specs.declared.call.Call.{Call}
 use Rattle.ceal_base.specs.declared.word.BlockId.{BlockId}
 use Rattle.ceal_base.specs.declared.word.BlockId.TheVariants.{Input, Core}
-use Rattle.ceal_base.specs.declared.word.Word.{Word}
-use Rattle.ceal_code.proofs.Same.{some-same, none-some}
+use Rattle.ceal_code.proofs.AfterLaws.{store-law, inputs-law}
+use Rattle.ceal_code.proofs.Ends.{ended-law}
+use Rattle.ceal_code.proofs.FinalMemory.{list-same}
+use Rattle.ceal_code.proofs.Pairs.{one_if}
+use Rattle.ceal_code.proofs.Replayed.{trace-law}
+use Rattle.ceal_code.proofs.Same.{none-some}
+use Rattle.ceal_code.proofs.TypedRun.{progress}
+use Rattle.ceal_code.specs.After.{memory_after}
+use Rattle.ceal_code.specs.Determined.{Determined}
 use Rattle.ceal_code.specs.Fitting.{Fits}
-use Rattle.ceal_code.specs.Fresh.{ran, only_over, run, fresh}
-use Rattle.ceal_code.specs.Laws.{Progress_law}
+use Rattle.ceal_code.specs.Fresh.{fresh}
 use Rattle.ceal_code.specs.Program.{Code}
-use Rattle.ceal_code.specs.Running.{Steps, Reaches}
-use Rattle.ceal_code.specs.Step.{Stack, Act, Over, Quiet, Makes, Writes, Reads, started, next}
+use Rattle.ceal_code.specs.Replay.{count, core_numbers, bases, plain_of, block_after, inputs_after}
 use Rattle.ceal_code.specs.Valid.{valid}
-use Rattle.ceal_engine.proofs.Longer.{length-with}
-use Rattle.ceal_engine.proofs.Numbered.{numbers, numbered-same, numbered-only}
-use Rattle.ceal_engine.specs.Engine.{IsPresent, IsEngine, at_number}
-use Rattle.ceal_engine.specs.Keeping.{with_later, state_of, Sound}
-use Rattle.ceal_base.specs.declared.call.Call.{Call}
+use Rattle.ceal_engine.proofs.MoreMemory.{core-none}
+use Rattle.ceal_engine.specs.Engine.{NUMBERS, EngineState, Replays_call, IsPresent, IsTraced, IsEngine, has_run, core, stands_for}
+use Rattle.ceal_engine.specs.Keeping.{Kept, forest_in, state_of, IsRunOf, IsUpToDate, IsKept, Keeps, Sound}
 use Rattle.ceal_engine.specs.declared.phase.Phase.{Phase}
-use Rattle.ceal_engine.specs.declared.phase.Phase.TheVariants.{New, Finished as IsFinished, Pending, Dropped}
+use Rattle.ceal_engine.specs.declared.phase.Phase.TheVariants.{Finished as IsFinished, Dropped}
+use Rattle.ceal_engine.specs.declared.run.Run.{Run}
+use Rattle.ceal_theory.specs.Adjust.{Above}
 
-module _ (code : Code) (m0 : Blocks) (st0 : Stack) where
-  pub record Ended (r : Finished) : Type 0 where
-    pub stack : Stack
-    pub reaches : Reaches code m0 st0 r.memory stack
+index-below : (b : ℕ) (bs : List ℕ) → 1 ≤ count b bs → index_of bs b < length bs
+index-below b [] h = absurd (omega (arith, h))
+index-below b (c ∷ bs) h = go (c == b) refl (index-below b bs)
+  where
+    none : (c == b) ≡ false → one_if b c ≡ 0
+    none e = rw e refl
 
-  over-ends : (steps : ℕ) (m : Blocks) (st : Stack) (a : Act) (r : Finished) → Reaches code m0 st0 m st → only_over steps m a ≡ Some r → Ended r
-  over-ends steps m st Over r h e =
-      let i : m ≡ r.memory = ap (λ r. r.memory) (some-same (record { memory = m; steps = steps; blocks = length m.made }) r e) in
-      record { stack = st; reaches = subst (λ m. Reaches code m0 st0 m st) i h }
-  over-ends steps m st (Quiet after) r h e = none-some r e
-  over-ends steps m st (Makes key v u i env under) r h e = none-some r e
-  over-ends steps m st (Writes p value after) r h e = none-some r e
-  over-ends steps m st (Reads p u v args under) r h e = none-some r e
+    go : (t : Bool) → (c == b) ≡ t → (1 ≤ count b bs → index_of bs b < length bs) → (if t then 0 else index_of bs b + 1) < suc (length bs)
+    go true e f = omega arith
+    go false e f = omega (arith, f (omega (arith, h, none e)))
 
-  -- a finished run is at a state that it came to
-  run-ends : (fuel steps : ℕ) (m : Blocks) (st : Stack) (r : Finished) → Reaches code m0 st0 m st → run code fuel steps m st ≡ Some r → Ended r
-  unfolding run
-  run-ends zero steps m st r h e = over-ends steps m st (next code (block_at m) st) r h e
-  run-ends (suc fuel) steps m st r h e = go (run-ends fuel) (next code (block_at m) st) refl e
-    where
-      go : ((steps : ℕ) (m : Blocks) (st : Stack) (r : Finished) → Reaches code m0 st0 m st → run code fuel steps m st ≡ Some r → Ended r) → (a : Act) → next code (block_at m) st ≡ a → ran code (run code fuel (steps + 1)) steps m a ≡ Some r → Ended r
-      go ih Over i e = over-ends steps m st Over r h e
-      go ih (Quiet after) i e = ih (steps + 1) m after r (Reaches.step h (Steps.quiet i)) e
-      go ih (Makes key v u j env under) i e = ih (steps + 1) _ _ r (Reaches.step h (Steps.makes i)) e
-      go ih (Writes p value after) i e = ih (steps + 1) (written_at m p.block p.field value) after r (Reaches.step h (Steps.writes i)) e
-      go ih (Reads p u v args under) i e = ih (steps + 1) m _ r (Reaches.step h (Steps.reads i)) e
+module _ (code : Code) (ok : valid code ≡ true) (fuel : ℕ) (inputs : List Block) (call : Call) (fits : Fits code inputs call.function call.args) (run : Run) (l : Trace) (of : IsRunOf code fuel inputs call run l)
+    (up : IsUpToDate code inputs run l) where
+  abbrev det : Determined code inputs call.function call.args l up.honest.after
+  det = trace-law code inputs call.function call.args fits l of.replays up.honest
 
--- a run makes no input
-inputs-written : (m : Blocks) (b : BlockId) (f : ℕ) (w : Word) → length (written_at m b f w).inputs ≡ length m.inputs
-inputs-written m (Input n) f w = length-with m.inputs n f w
-inputs-written m (Core c) f w = refl
+  abbrev ran : Finished
+  ran = record { memory = det.memory; steps = steps_of l; blocks = length (blocks_of l) }
 
-module _ (code : Code) where
-  inputs-step : {m m' : Blocks} {st st' : Stack} → Steps code m st m' st' → length m'.inputs ≡ length m.inputs
-  inputs-step (Steps.quiet e) = refl
-  inputs-step (Steps.makes e) = refl
-  inputs-step (Steps.writes {m = m} {p = p} {value = value} e) = inputs-written m p.block p.field value
-  inputs-step (Steps.reads e) = refl
+  ends : fresh code call.function call.args inputs fuel ≡ Some ran
+  ends = det.ends fuel of.few
 
-  inputs-reached : {m : Blocks} {st : Stack} {m' : Blocks} {st' : Stack} → Reaches code m st m' st' → length m'.inputs ≡ length m.inputs
-  inputs-reached Reaches.begin = refl
-  inputs-reached (Reaches.step r s) = inputs-step s ∙ inputs-reached r
+  after-is : (b : BlockId) → memory_after code inputs l b ≡ block_after code (plain_of code inputs l) up.honest.after b
+  after-is b = ap (λ s. block_after code (plain_of code inputs l) s b) (sym (store-law code (bases code inputs) up.honest.after l up.honest.walk))
 
-module _ (code : Code) (inputs : List Block) (f : ℕ) (args : List Word) (fuel : ℕ) (r : Finished) (h : fresh code f args inputs fuel ≡ Some r) where
-  pub fresh-ends : Ended code (record { inputs = inputs; made = [] }) (started code f args) r
-  unfolding fresh
-  fresh-ends = run-ends code (record { inputs = inputs; made = [] }) (started code f args) fuel 0 (record { inputs = inputs; made = [] }) (started code f args) r Reaches.begin h
+  module _ (phase : Phase) (work : ℕ) where
+    abbrev e : EngineState
+    e = state_of code fuel inputs (Some call) phase (Some run) work
 
-  pub fresh-count : length r.memory.inputs ≡ length inputs
-  fresh-count = inputs-reached code fresh-ends.reaches
+    inputs-are : e.memory.inputs ≡ inputs_after code up.honest.after 0 inputs
+    inputs-are =
+        list-same e.memory.inputs (inputs_after code up.honest.after 0 inputs)
+        (λ n. up.input_blocks n ∙ (after-is (Input n) ∙ sym (inputs-law code inputs call.function call.args l of.replays up.honest.after n)))
 
-  pub fresh-fits : Progress_law → valid code ≡ true → Fits code inputs f args → memory_fits code.structs r.memory ≡ true
-  fresh-fits law ok fits = (law code ok inputs f args fits r.memory fresh-ends.stack fresh-ends.reaches).memory
+    same : Same (core_numbers (blocks_of l)) e.memory.inputs (core e.memory) det.memory
+    same = record {
+      distinct = det.same.distinct;
+      each_input = ap (map (renamed_block (core_numbers (blocks_of l)))) inputs-are ∙ det.same.each_input;
+      count = det.same.count;
+      each_core = λ i h.
+          ap (option_map (renamed_block (core_numbers (blocks_of l)))) (up.core_blocks (slice_index (core_numbers (blocks_of l)) i) ∙ after-is (Core (slice_index (core_numbers (blocks_of l)) i)))
+          ∙ det.same.each_core i h;
+    }
 
--- no input came after it
-pub none-later : (before inputs : List Block) → length before ≡ length inputs → with_later before inputs ≡ before
-none-later before inputs h = rw (drop_all (length before) inputs (omega (arith, h))) (append-nil before)
+    no-block : (o : Option Block) → IsSome o → o ≡ None → ⊥
+    no-block None h k = absurd (grind (arith, h))
+    no-block (Some block) h k = none-some block (sym k)
 
-pub no-core : (cores : List Block) (n : ℕ) → cores ≡ [] → at_number (slice_get (map Some cores) n) ≡ None
-no-core cores n h = rw h refl
+    only : (n : ℕ) → IsSome (core e.memory n) → index_of (core_numbers (blocks_of l)) n < length (core_numbers (blocks_of l))
+    only n h = go (count n (core_numbers (blocks_of l))) refl
+      where
+        go : (k : ℕ) → count n (core_numbers (blocks_of l)) ≡ k → index_of (core_numbers (blocks_of l)) n < length (core_numbers (blocks_of l))
+        go zero c = absurd (no-block (core e.memory n) h (up.core_blocks n ∙ core-none code inputs call.function call.args l of.replays n c))
+        go (suc k) c = index-below n (core_numbers (blocks_of l)) (omega (arith, c))
 
-module _ (law : Progress_law) where
-  -- a kept run is that of the call
-  pub kept-present : (code : Code) (fuel : ℕ) (inputs : List Block) (call : Option Call) (phase : Phase) (m : Blocks) (steps : ℕ) → Sound code fuel inputs call phase m steps → phase ≡ IsFinished
-      → IsPresent (state_of code fuel inputs call phase m steps)
-  kept-present code fuel inputs None phase m steps s e = none-some (record { memory = record { inputs = with_later m.inputs inputs; made = m.made }; steps = steps; blocks = length m.made }) (s.ran e)
-  kept-present code fuel inputs (Some call) phase m steps s e =
-      let kept : Blocks = record { inputs = with_later m.inputs inputs; made = m.made } in
-      let fits = fresh-fits code inputs call.function call.args fuel (record { memory = kept; steps = steps; blocks = length m.made }) (s.ran e) law s.is_valid s.calls in
-      record {
-        run = record { memory = kept; steps = steps; blocks = length m.made };
-        fresh = s.ran e;
-        is = record { numbers = numbers code.structs kept; same = numbered-same code.structs kept fits; only = numbered-only code.structs kept; steps = refl; live = refl; fits = fits };
-      }
+    memory-fits : memory_fits code.structs det.memory ≡ true
+    memory-fits =
+        let end = ended-law code inputs call.function call.args fuel ran ends in
+        (progress code ok inputs call.function call.args fits det.memory end.stack end.reaches).memory
 
-  dropped-other : (phase : Phase) → phase ≡ Dropped → phase ≡ IsFinished → ⊥
-  dropped-other New h k = absurd (grind (arith, h))
-  dropped-other IsFinished h k = absurd (grind (arith, h))
-  dropped-other Pending h k = absurd (grind (arith, h))
-  dropped-other Dropped h k = absurd (grind (arith, k))
+    pub is-present : IsPresent (state_of code fuel inputs (Some call) phase (Some run) work)
+    is-present = record {
+      run = ran;
+      fresh = ends;
+      is = record { numbers = core_numbers (blocks_of l); same = same; only = only; steps = up.steps; live = up.live; fits = memory-fits };
+    }
 
-  pub kept-engine : (code : Code) (fuel : ℕ) (inputs : List Block) (call : Option Call) (phase : Phase) (m : Blocks) (steps : ℕ) → Sound code fuel inputs call phase m steps
-      → IsEngine (state_of code fuel inputs call phase m steps)
-  kept-engine code fuel inputs call phase m steps s = record {
+    pub is-traced : IsTraced (state_of code fuel inputs (Some call) phase (Some run) work) l
+    is-traced = record { honest = up.honest; inputs = up.input_blocks; cores = up.core_blocks; steps = up.steps; live = up.live }
+
+-- the trace that is kept
+pub trace-kept : (code : Code) (fuel : ℕ) (inputs : List Block) (call : Call) (run : Run) (l : Trace) → IsRunOf code fuel inputs call run l → trace_of run.forest ≡ Some l
+trace-kept code fuel inputs call run l of = ap trace_of of.flat_form ∙ trace-flat l
+
+no-run : (phase : Phase) → phase ≡ Dropped → has_run phase ≡ true → ⊥
+no-run phase e h = absurd (grind (arith, rw e at h))
+
+module _ (code : Code) (fuel : ℕ) (inputs : List Block) (kept : Kept) (phase : Phase) (run : Option Run) (work : ℕ) (s : Sound code fuel inputs kept phase run) where
+  is-kept : (call : Option Call) (run : Option Run) → Keeps code fuel inputs phase call run → is_some (stands_for (forest_in run)) ≡ has_run phase
+  is-kept call None h = sym h
+  is-kept None (Some run) h = elim h [ ]
+  is-kept (Some call) (Some run) h = ap is_some (trace-kept code fuel inputs call run h.trace h.of) ∙ sym h.there
+
+  flat-form : (call : Option Call) (run : Option Run) → Keeps code fuel inputs phase call run → forest_in run ≡ option_map flat (stands_for (forest_in run))
+  flat-form call None h = refl
+  flat-form None (Some run) h = elim h [ ]
+  flat-form (Some call) (Some run) h = ap Some h.of.flat_form ∙ sym (ap (option_map flat) (trace-kept code fuel inputs call run h.trace h.of))
+
+  of-trace : (P : Trace → Type 0) (call : Option Call) (run : Option Run) → Keeps code fuel inputs phase call run
+      → ((c : Call) (r : Run) (k : IsKept code fuel inputs phase c r) → call ≡ Some c → run ≡ Some r → P k.trace) → IfSome (stands_for (forest_in run)) P
+  of-trace P call None h f = tt
+  of-trace P None (Some run) h f = elim h [ ]
+  of-trace P (Some call) (Some run) h f = subst (λ o. IfSome o P) (sym (trace-kept code fuel inputs call run h.trace h.of)) (f call run h refl refl)
+
+  present : (call : Option Call) → IfSome call (λ call. Fits code inputs call.function call.args) → (run : Option Run) → Keeps code fuel inputs phase call run → phase ≡ IsFinished
+      → IsPresent (state_of code fuel inputs call phase run work)
+  present call fits None h e = absurd (grind (arith, rw e at h))
+  present None fits (Some run) h e = elim h [ ]
+  present (Some call) fits (Some run) h e = is-present code s.is_valid fuel inputs call fits run h.trace h.of (h.present e) phase work
+
+  traced : (call : Option Call) → IfSome call (λ call. Fits code inputs call.function call.args) → (run : Option Run) → Keeps code fuel inputs phase call run → phase ≡ IsFinished
+      → IfSome (stands_for (forest_in run)) (IsTraced (state_of code fuel inputs call phase run work))
+  traced call fits None h e = tt
+  traced None fits (Some run) h e = elim h [ ]
+  traced (Some call) fits (Some run) h e =
+      subst (λ o. IfSome o (IsTraced (state_of code fuel inputs (Some call) phase (Some run) work))) (sym (trace-kept code fuel inputs call run h.trace h.of))
+      (is-traced code s.is_valid fuel inputs call fits run h.trace h.of (h.present e) phase work)
+
+  replays : (call : Option Call) (run : Option Run) → Keeps code fuel inputs phase call run → IfSome (stands_for (forest_in run)) (Replays_call (state_of code fuel inputs call phase run work))
+  replays call None h = tt
+  replays None (Some run) h = elim h [ ]
+  replays (Some call) (Some run) h =
+      subst (λ o. IfSome o (Replays_call (state_of code fuel inputs (Some call) phase (Some run) work))) (sym (trace-kept code fuel inputs call run h.trace h.of)) h.of.replays
+
+  none-left : (call : Option Call) (run : Option Run) → Keeps code fuel inputs phase call run → phase ≡ Dropped → (n : ℕ) → core (state_of code fuel inputs call phase run work).memory n ≡ None
+  none-left call None h e n = refl
+  none-left None (Some run) h e n = elim h [ ]
+  none-left (Some call) (Some run) h e n = absurd (no-run phase e h.there)
+
+  pub sound-engine : IsEngine (state_of code fuel inputs kept.call phase run work)
+  sound-engine = record {
     valid = s.is_valid;
+    fuel = s.limits;
     inputs = s.fit;
     call = s.calls;
     uncalled = s.uncalled;
     new = s.new;
-    present = λ e. kept-present code fuel inputs call phase m steps s e;
-    none_left = λ e n. no-core m.made n (s.gone (dropped-other phase e));
+    kept = is-kept kept.call run s.keeps;
+    flat_form = flat-form kept.call run s.keeps;
+    replays = replays kept.call run s.keeps;
+    numbers = of-trace (Above NUMBERS) kept.call run s.keeps (λ c r k i j b h. k.of.above b (omega (arith, h, k.of.room)));
+    traced = traced kept.call s.calls run s.keeps;
+    present = present kept.call s.calls run s.keeps;
+    none_left = none-left kept.call run s.keeps;
   }
+
+  pub sound-present : phase ≡ IsFinished → IsPresent (state_of code fuel inputs kept.call phase run work)
+  sound-present = present kept.call s.calls run s.keeps

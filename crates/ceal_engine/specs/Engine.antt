@@ -1,9 +1,12 @@
 -- What an engine has, and when it is the run from scratch on the present inputs.
-use Rattle.std.specs.Prelude.{◌≡◌, ℕ, ◌<◌, ◌&&◌, Bool, true, false, Option, Some, None, IfSome, IsSome, Result, Ok, Err, List, [], length, slice_get, ⊤}
+use Rattle.std.specs.Option.{option_map}
+use Rattle.std.specs.Prelude.{◌≡◌, ℕ, ◌<◌, ◌≤◌, ◌&&◌, Bool, true, false, Option, Some, None, IfSome, IsSome, is_some, Result, Ok, Err, List, [], length, slice_get, ⊤}
 use Rattle.ceal_base.specs.Block.{Block, Blocks, written_at}
 use Rattle.ceal_base.specs.Finished.{Finished}
 use Rattle.ceal_base.specs.Fitting.{kind_at, fits_field, memory_fits, inputs_fit}
 use Rattle.ceal_base.specs.Same.{Same, index_of}
+use Rattle.ceal_base.specs.Trace.{Trace, flat, trace_of, steps_of, blocks_of}
+use Rattle.ceal_base.specs.declared.forest.Item.{Item}
 use Rattle.ceal_base.specs.declared.kind.FieldKind.{FieldKind}
 use Rattle.ceal_base.specs.declared.kind.FieldKind.TheVariants.{Plain}
 use Rattle.ceal_base.specs.declared.typed.StructInfo.{StructInfo}
@@ -11,16 +14,30 @@ use Rattle.ceal_base.specs.declared.word.BlockId.{BlockId}
 use Rattle.ceal_base.specs.declared.word.BlockId.TheVariants.{Input, Core}
 use Rattle.ceal_base.specs.declared.word.Place.{Place}
 use Rattle.ceal_base.specs.declared.word.Word.{Word}
+use Rattle.ceal_base.specs.declared.call.Call.{Call}
+use Rattle.ceal_code.specs.After.{memory_after}
 use Rattle.ceal_code.specs.Fitting.{Fits}
 use Rattle.ceal_code.specs.Fresh.{fresh}
 use Rattle.ceal_code.specs.Program.{Code}
+use Rattle.ceal_code.specs.Replay.{Replays, IsHonest}
 use Rattle.ceal_code.specs.Valid.{valid}
 use Rattle.ceal_code.specs.Value.{is_cell}
-use Rattle.ceal_base.specs.declared.call.Call.{Call}
 use Rattle.ceal_engine.specs.declared.phase.Phase.{Phase}
 use Rattle.ceal_engine.specs.declared.phase.Phase.TheVariants.{New, Finished as IsFinished, Pending, Dropped}
 use Rattle.ceal_engine.specs.declared.run_error.RunError.{RunError}
 use Rattle.ceal_engine.specs.declared.run_error.RunError.TheVariants.{Memory, OutOfFuel}
+use Rattle.ceal_theory.specs.Adjust.{Above}
+
+-- how many steps a run may be allowed to take
+abbrev pub LARGEST_FUEL : ℕ
+LARGEST_FUEL = 4194304
+
+abbrev pub In_limits : ℕ → Type 0
+In_limits fuel = (1 ≤ fuel) × (fuel ≤ LARGEST_FUEL)
+
+-- the numbers of core blocks are below this one
+abbrev pub NUMBERS : ℕ
+NUMBERS = 8388608
 
 -- the memory of a finished run: its input blocks, and its core blocks by their numbers, which may be any
 pub record Store : Type 0 where
@@ -39,16 +56,27 @@ abbrev pub stored_at : Store → BlockId → Option Block
 stored_at m (Input n) = slice_get m.inputs n
 stored_at m (Core n) = core m n
 
--- `inputs` are the input blocks with their present bases. The last three say something in Finished alone
+-- `inputs` are the input blocks with their present bases, `forest` has the flat items of the last run's trace, in Finished
+-- and Pending, and `work` is the number of steps that were run anew for it. The last four say something in Finished alone
 pub record EngineState : Type 0 where
   pub code : Code
   pub fuel : ℕ
   pub inputs : List Block
   pub call : Option Call
   pub phase : Phase
+  pub forest : Option (List Item)
   pub memory : Store
   pub steps : ℕ
   pub live : ℕ
+  pub work : ℕ
+
+abbrev pub stands_for : Option (List Item) → Option Trace
+stands_for None = None
+stands_for (Some items) = trace_of items
+
+-- the trace of the last run
+abbrev pub trace : EngineState → Option Trace
+trace e = stands_for e.forest
 
 -- input blocks as a memory without core blocks
 abbrev pub alone : List Block → Blocks
@@ -86,15 +114,41 @@ pub record IsPresent (e : EngineState) : Type 0 where
   pub fresh : fresh_of e ≡ Some run
   pub is : IsRun e run
 
+-- the trace is one of the call on the present inputs
+abbrev pub Replays_call : EngineState → Trace → Type 0
+Replays_call e l = IfSome e.call (λ call. Replays e.code e.inputs call.function call.args l)
+
+-- What the engine has of its run is what the trace gives, which is honest on the present inputs.
+pub record IsTraced (e : EngineState) (l : Trace) : Type 0 where
+  pub honest : IsHonest e.code e.inputs l
+  pub inputs : (n : ℕ) → slice_get e.memory.inputs n ≡ memory_after e.code e.inputs l (Input n)
+  pub cores : (n : ℕ) → core e.memory n ≡ memory_after e.code e.inputs l (Core n)
+  pub steps : e.steps ≡ steps_of l
+  pub live : e.live ≡ length (blocks_of l)
+
+-- a run, though maybe not on the present inputs
+abbrev pub has_run : Phase → Bool
+has_run New = false
+has_run IsFinished = true
+has_run Pending = true
+has_run Dropped = false
+
 -- What is true of every engine.
 pub record IsEngine (e : EngineState) : Type 0 where
   pub valid : valid e.code ≡ true
+  pub fuel : In_limits e.fuel
   -- the inputs fit, and so does the call
   pub inputs : inputs_fit e.code.structs e.inputs ≡ true
   pub call : IfSome e.call (λ call. Fits e.code e.inputs call.function call.args)
   -- New is the phase where nothing was called
   pub uncalled : e.phase ≡ New → e.call ≡ None
   pub new : e.call ≡ None → e.phase ≡ New
+  -- the trace is there where there is a run, and is one of the call
+  pub kept : is_some (trace e) ≡ has_run e.phase
+  pub flat_form : e.forest ≡ option_map flat (trace e)
+  pub replays : IfSome (trace e) (Replays_call e)
+  pub numbers : IfSome (trace e) (Above NUMBERS)
+  pub traced : e.phase ≡ IsFinished → IfSome (trace e) (IsTraced e)
   pub present : e.phase ≡ IsFinished → IsPresent e
   -- in Dropped there is no core block
   pub none_left : e.phase ≡ Dropped → (n : ℕ) → core e.memory n ≡ None

@@ -1,5 +1,6 @@
 pub mod Engine
-pub mod Laws
-pub mod Seen
-pub mod Frames
+pub mod Repaired
+pub mod Items
+pub mod Numbers
 pub mod Keeping
+pub mod Completed

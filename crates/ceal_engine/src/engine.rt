@@ -1,46 +1,51 @@
 // The engine.
 
-ghost use Rattle.std.specs.Prelude.{◌≡◌, ◌⊎◌, ◌∷◌, [], ◌++◌, ◌<◌, ◌+◌, ◌^◌, ⊤, true, Some, None, IfOk, IfSome, IsSome, OnOk, OnErr, length};
-ghost use Rattle.std.specs.Option.{option_map};
+ghost use Rattle.std.specs.Prelude.{◌≡◌, ◌∷◌, [], ◌++◌, ◌<◌, ◌+◌, ◌^◌, true, Some, None, IfOk, IfSome, IsSome, IsOk, OnOk, OnErr, List, length, slice_get};
+ghost use Rattle.std.specs.Option.{option_map, IsSomeAnd};
 ghost use Rattle.ceal_base.specs.Access.{word_in};
+ghost use Rattle.ceal_base.specs.Block.{Block};
 ghost use Rattle.ceal_base.specs.Fitting.{block_fits, kind_in};
+ghost use Rattle.ceal_base.specs.Trace.{Trace};
 ghost use Rattle.ceal_base.specs.declared.word.BlockId.TheVariants.{Input};
 ghost use Rattle.ceal_code.specs.Fitting.{Fits};
+ghost use Rattle.ceal_code.specs.Replay.{IsHonest};
 ghost use Rattle.ceal_code.specs.Valid.{valid};
 ghost use Rattle.ceal_code.specs.Value.{is_cell};
-ghost use Rattle.ceal_engine.specs.Engine.{alone, block_in, block_of, stored_at, edited, takes, with_base, is_plain, fresh_of, fresh_call, IsPresent, IsEngine, Shows, IfOutOfFuel, IfNoMemory};
-ghost use Rattle.ceal_engine.specs.Keeping.{come_to, store_of};
-ghost use Rattle.ceal_engine.specs.declared.phase.Phase.TheVariants.{New, Finished, Dropped};
+ghost use Rattle.ceal_engine.specs.Engine.{In_limits, alone, block_in, block_of, core, stored_at, trace, edited, takes, with_base, is_plain, fresh_of, IsPresent, IsEngine, Shows, IfOutOfFuel};
+ghost use Rattle.ceal_engine.specs.Completed.{finished, IsDraftOf, IsFirstRun, IsOldRun, IsRepairOf};
+ghost use Rattle.ceal_engine.specs.Keeping.{Keeps, store_in};
+ghost use Rattle.ceal_engine.specs.Repaired.{IsFirst, IsRepaired, IsUnchanged};
+ghost use Rattle.ceal_engine.specs.declared.phase.Phase.TheVariants.{New, Finished, Pending, Dropped};
 
-use crate::interpret::{Run, interpret};
-use crate::laws::input_law;
+use crate::draft::Draft;
+use crate::kept_call::{KeptCall, most_arguments};
 use crate::phase::Phase;
+use crate::run::{Completed, Run};
 use crate::run_error::RunError;
-use ceal_base::call::Call;
+use ceal_adjust::adjust::{Adjusted, adjust, first_forest};
+use ceal_base::forest::Forest;
 use ceal_base::kind::Shape;
-use ceal_base::memory::{BlockWords, Inputs, Memory};
+use ceal_base::memory::{BlockWords, Inputs};
 use ceal_base::no_memory::NoMemory;
 use ceal_base::word::{BlockId, Place, Word};
-use ceal_base::words::Words;
 use ceal_code::code::Code;
-use ceal_code::laws::progress_law;
 use std::alloc::Global;
 use std::marker::Model;
 
 /// Runs trace code on inputs, and keeps the memory of the run up to date where inputs are edited.
 ///
-/// Contracts see the code and the fuel, the inputs with their present bases, the call, the phase, and what a finished
-/// run came to: its memory by block numbers, its steps and its number of core blocks.
+/// Contracts see the code and the fuel, the inputs with their present bases, the call, the phase, the trace of the last
+/// run, and what a finished run came to: its memory by block numbers, its steps, its number of core blocks, and the work.
 #[derive(Drop)]
 pub struct Engine {
     alloc: Global,
     code: Code,
     fuel: u32,
     inputs: Inputs,
-    call: Option<Call>,
+    call: KeptCall,
     phase: Phase,
-    memory: Memory,
-    steps: u32,
+    run: Option<Run>,
+    work: u32,
 }
 
 impl Model for Engine {
@@ -54,34 +59,9 @@ impl Model for Engine {
 
     ghost coded = { Prim.hlevel (codes, expr.the_row.coded, stmt.the_row.coded) };
 
-    ghost view = { λ e. state_of e.code e.fuel e.inputs e.call e.phase e.memory e.steps };
+    ghost view = { λ e. state_of e.code e.fuel e.inputs e.call.call e.phase e.run e.work };
 
-    ghost invariant = { λ e. Sound e.code e.fuel e.inputs e.call e.phase e.memory e.steps };
-}
-
-/// The run of a call from scratch.
-fn anew(
-    alloc: Global,
-    code: &Code,
-    inputs: &Inputs,
-    call: &Call,
-    fuel: u32,
-) -> Result<Run, RunError>
-    ensures ok { IfOk result (λ run. fresh_call code.now inputs.now fuel (Some call.now) ≡ Some (come_to run)) }
-    ensures few { IfOk result (λ run. length run.memory.made < 2 ^ 32) }
-    ensures out { IfOutOfFuel result (fresh_call code.now inputs.now fuel (Some call.now) ≡ None) }
-{
-    let run = interpret(alloc, code, call.function, call.args.items(), inputs, fuel)?;
-    match run {
-        Some(run) => Ok(run),
-        None => Err(RunError::OutOfFuel),
-    }
-}
-
-fn no_memory(alloc: Global) -> Memory
-    ensures { result ≡ record { inputs = []; made = [] } }
-{
-    Memory::new(Inputs::new(Vec::new(alloc)), Vec::new(alloc))
+    ghost invariant = { λ e. Sound e.code e.fuel e.inputs e.call e.phase e.run };
 }
 
 /// Sets the word of a field of an input.
@@ -105,49 +85,47 @@ fn phase_edited(phase: Phase) -> Phase
     }
 }
 
-/// The words of a call.
-fn copied_call(alloc: Global, function: u32, args: &[Word]) -> Result<Call, NoMemory>
-    ensures { IfOk result (λ call. call ≡ record { function = function; args = args.now }) }
-{
-    let args = Words::from_slice(alloc, args)?;
-    Ok(Call { function, args })
-}
-
 impl Engine {
-    /// An engine without inputs. A run may take `fuel` steps.
+    /// An engine without inputs. A run may take `fuel` steps. It takes the room for the arguments of a call.
     pub fn new(alloc: Global, code: Code, fuel: u32) -> Result<Engine, NoMemory>
-        requires { valid code ≡ true }
+        requires valid { valid code ≡ true }
+        requires fuel { In_limits fuel }
         ensures code { IfOk result (λ e. e.code ≡ code) }
         ensures fuel { IfOk result (λ e. e.fuel ≡ fuel) }
         ensures inputs { IfOk result (λ e. e.inputs ≡ []) }
         ensures call { IfOk result (λ e. e.call ≡ None) }
         ensures phase { IfOk result (λ e. e.phase ≡ New) }
     {
+        let call = KeptCall::new(alloc, most_arguments(code.functions()))?;
         Ok(Engine {
             alloc,
             code,
             fuel,
             inputs: Inputs::new(Vec::new(alloc)),
-            call: None,
+            call,
             phase: Phase::New,
-            memory: no_memory(alloc),
-            steps: 0,
+            run: None,
+            work: 0,
         })
     }
 
     /// One input more, with a word for each field. The run, if there is one, is also that on the longer inputs.
     pub fn add_input(&mut self, shape: Shape, words: &[Word]) -> Result<BlockId, NoMemory>
-        requires fits { block_fits self.old.code.structs (alone self.old.inputs) (record { shape = shape; words = words.now }) ≡ true }
+        requires fits { block_fits self.old.code.structs (alone self.old.inputs)
+            (record { shape = shape; words = words.now }) ≡ true }
         requires room { length self.old.inputs + 1 < 2 ^ 32 }
         ensures code { self.new.code ≡ self.old.code }
         ensures fuel { self.new.fuel ≡ self.old.fuel }
         ensures call { self.new.call ≡ self.old.call }
         ensures phase { self.new.phase ≡ self.old.phase }
+        ensures forest { self.new.forest ≡ self.old.forest }
+        ensures work { self.new.work ≡ self.old.work }
         ensures number { IfOk result (λ id. id ≡ Input (length self.old.inputs)) }
-        ensures inputs { OnOk result (self.new.inputs ≡ self.old.inputs ++ record { shape = shape; words = words.now } ∷ []) }
+        ensures inputs { OnOk result
+            (self.new.inputs ≡ self.old.inputs ++
+            record { shape = shape; words = words.now } ∷ []) }
         ensures err { OnErr result (self.new ≡ self.old) }
     {
-        input_law();
         let block = BlockWords::new(shape, Vec::from_slice(self.alloc, words)?);
         let at = self.inputs.items().len() as u32;
         self.inputs.push(block)?;
@@ -161,98 +139,171 @@ impl Engine {
         ensures code { self.new.code ≡ self.old.code }
         ensures fuel { self.new.fuel ≡ self.old.fuel }
         ensures call { self.new.call ≡ self.old.call }
+        ensures forest { self.new.forest ≡ self.old.forest }
+        ensures work { self.new.work ≡ self.old.work }
         ensures phase { OnOk result (self.new.phase ≡ edited self.old.phase) }
         ensures inputs { OnOk result (self.new.inputs ≡ with_base self.old.inputs place value) }
         ensures err { OnErr result (self.new ≡ self.old) }
     {
         set_base(&mut self.inputs, place, value);
         self.phase = phase_edited(self.phase);
-        self.memory = no_memory(self.alloc);
         Ok(())
     }
 
-    /// Takes what a run of the call came to.
-    fn finish(&mut self, outcome: Result<Run, RunError>) -> Result<(), RunError>
+    /// The first trace of the call, as a run.
+    fn first(&self) -> Result<Completed, RunError>
+        requires called { IsSome self.now.call }
+        ensures ok { IfOk result (λ c.
+            IsFirstRun self.now.code self.now.fuel self.now.inputs self.now.call c) }
+        ensures out { IfOutOfFuel result (fresh_of self.now ≡ None) }
+    {
+        match self.call.function() {
+            None => unreachable!(),
+            Some(function) => {
+                let args = self.call.args();
+                let answer = first_forest(
+                    self.alloc,
+                    &self.code,
+                    function,
+                    args,
+                    &self.inputs,
+                    self.fuel,
+                )?;
+                match answer {
+                    Adjusted::OutOfFuel => Err(RunError::OutOfFuel),
+                    Adjusted::Done { forest, work } => {
+                        let run = Run::new(self.alloc, &self.code, &self.inputs, forest)?;
+                        Ok(Completed { run, work })
+                    }
+                }
+            }
+        }
+    }
+
+    /// The repair of an old run's trace on the present inputs.
+    fn drafted(&self, old: &Run) -> Result<Draft, RunError>
+        requires old { IsOldRun self.now.code self.now.fuel self.now.inputs self.now.call old.now }
+        ensures ok { IfOk result (λ draft.
+            IsDraftOf self.now.code self.now.fuel self.now.inputs self.now.call old.now draft) }
+        ensures out { IfOutOfFuel result (fresh_of self.now ≡ None) }
+    {
+        let next = old.counts.bound;
+        let fuel = self.fuel;
+        let answer = adjust(
+            self.alloc,
+            &self.code,
+            &old.forest,
+            &self.inputs,
+            next,
+            fuel,
+        )?;
+        match answer {
+            Adjusted::OutOfFuel => Err(RunError::OutOfFuel),
+            Adjusted::Done { forest, work } => {
+                let draft = Draft::new(self.alloc, &old.forest, next, forest, work)?;
+                Ok(draft)
+            }
+        }
+    }
+
+    /// The same as a run, its new blocks with numbers of their own.
+    fn repaired(&self, old: Run) -> Result<Completed, RunError>
+        requires old { IsOldRun self.now.code self.now.fuel self.now.inputs self.now.call old }
+        ensures ok { IfOk result (λ c.
+            IsRepairOf self.now.code self.now.fuel self.now.inputs self.now.call old c) }
+        ensures out { IfOutOfFuel result (fresh_of self.now ≡ None) }
+    {
+        let draft = self.drafted(&old);
+        drop(old);
+        let draft = draft?;
+        let completed = draft.settle(self.alloc, &self.code, &self.inputs)?;
+        Ok(completed)
+    }
+
+    /// Takes a run of the call on the present inputs.
+    fn keep(&mut self, completed: Completed)
+        requires kept { Keeps self.old.code self.old.fuel self.old.inputs Finished
+            self.old.call (Some completed.run) }
+        ensures state { self.new
+            ≡ finished self.old.code self.old.fuel self.old.inputs self.old.call completed }
+        ensures present { IsPresent self.new }
+    {
+        let Completed { run, work } = completed;
+        self.run = Some(run);
+        self.work = work;
+        self.phase = Phase::Finished;
+    }
+
+    /// Runs the call, of which there is no run.
+    fn run_anew(&mut self) -> Result<(), RunError>
+        requires dropped { self.old.phase ≡ Dropped }
         requires called { IsSome self.old.call }
-        requires ok { IfOk outcome (λ run. fresh_of self.old ≡ Some (come_to run)) }
-        requires few { IfOk outcome (λ run. length run.memory.made < 2 ^ 32) }
-        requires out { IfOutOfFuel outcome (fresh_of self.old ≡ None) }
         ensures code { self.new.code ≡ self.old.code }
         ensures fuel { self.new.fuel ≡ self.old.fuel }
         ensures inputs { self.new.inputs ≡ self.old.inputs }
         ensures call { self.new.call ≡ self.old.call }
         ensures phase { OnOk result (self.new.phase ≡ Finished) }
-        ensures dropped { OnErr result (self.new.phase ≡ Dropped) }
         ensures present { OnOk result (IsPresent self.new) }
-        ensures out_of_fuel { IfOutOfFuel result (fresh_of self.old ≡ None) }
+        ensures first { OnOk result (IsSomeAnd (trace self.new) (IsFirst self.new)) }
+        ensures out_of_fuel { IfOutOfFuel result (fresh_of self.new ≡ None) }
+        ensures dropped { OnErr result (self.new.phase ≡ Dropped) }
     {
-        progress_law();
-        match outcome {
-            Ok(run) => {
-                self.memory = run.memory;
-                self.steps = run.steps;
-                self.phase = Phase::Finished;
-                Ok(())
-            }
-            Err(error) => {
-                self.memory = no_memory(self.alloc);
-                self.phase = Phase::Dropped;
-                Err(error)
-            }
-        }
+        let completed = self.first()?;
+        self.keep(completed);
+        Ok(())
     }
 
-    /// Sets the call. There is no run of it yet.
-    fn set_call(&mut self, call: Call)
-        requires { Fits self.old.code self.old.inputs call.function call.args }
+    /// Repairs the run after edits.
+    fn propagate_edits(&mut self) -> Result<(), RunError>
+        requires pending { self.old.phase ≡ Pending }
         ensures code { self.new.code ≡ self.old.code }
         ensures fuel { self.new.fuel ≡ self.old.fuel }
         ensures inputs { self.new.inputs ≡ self.old.inputs }
-        ensures call { self.new.call ≡ Some call }
-        ensures phase { self.new.phase ≡ Dropped }
+        ensures call { self.new.call ≡ self.old.call }
+        ensures phase { OnOk result (self.new.phase ≡ Finished) }
+        ensures present { OnOk result (IsPresent self.new) }
+        ensures repaired { OnOk result ((l : Trace) → trace self.old ≡ Some l →
+            IsSomeAnd (trace self.new) (IsRepaired self.new l)) }
+        ensures unchanged { OnOk result ((l : Trace) → trace self.old ≡ Some l →
+            IsHonest self.old.code self.old.inputs l → IsUnchanged self.new l) }
+        ensures out_of_fuel { IfOutOfFuel result (fresh_of self.new ≡ None) }
+        ensures dropped { OnErr result (self.new.phase ≡ Dropped) }
     {
-        self.call = Some(call);
         self.phase = Phase::Dropped;
-        self.memory = no_memory(self.alloc);
-    }
-
-    /// The run of the call on the present inputs.
-    fn outcome(&self) -> Result<Run, RunError>
-        requires { IsSome self.now.call }
-        ensures ok { IfOk result (λ run. fresh_of self.now ≡ Some (come_to run)) }
-        ensures few { IfOk result (λ run. length run.memory.made < 2 ^ 32) }
-        ensures out { IfOutOfFuel result (fresh_of self.now ≡ None) }
-    {
-        match &self.call {
-            Some(call) => anew(self.alloc, &self.code, &self.inputs, call, self.fuel),
+        match self.run.take() {
             None => unreachable!(),
+            Some(old) => {
+                let completed = self.repaired(old)?;
+                self.keep(completed);
+                Ok(())
+            }
         }
     }
 
     /// Runs the core function of this number. OutOfFuel comes exactly where the run from scratch takes more steps than
-    /// the fuel; after it the phase is Dropped.
+    /// the fuel. After an error the phase is Dropped, and the call is kept for `propagate`.
     pub fn run(&mut self, function: u32, args: &[Word]) -> Result<(), RunError>
         requires new { self.old.phase ≡ New }
         requires fits { Fits self.old.code self.old.inputs function args.now }
         ensures code { self.new.code ≡ self.old.code }
         ensures fuel { self.new.fuel ≡ self.old.fuel }
         ensures inputs { self.new.inputs ≡ self.old.inputs }
-        ensures call { OnOk result (self.new.call ≡ Some (record { function = function; args = args.now })) }
+        ensures call { self.new.call ≡ Some (record { function = function; args = args.now }) }
         ensures phase { OnOk result (self.new.phase ≡ Finished) }
         ensures present { OnOk result (IsPresent self.new) }
+        ensures first { OnOk result (IsSomeAnd (trace self.new) (IsFirst self.new)) }
         ensures out_of_fuel { IfOutOfFuel result (fresh_of self.new ≡ None) }
-        ensures out_call { IfOutOfFuel result (self.new.call ≡ Some (record { function = function; args = args.now })) }
-        ensures out_phase { IfOutOfFuel result (self.new.phase ≡ Dropped) }
-        ensures memory { IfNoMemory result ((self.new ≡ self.old) ⊎ ((self.new.call ≡ Some (record { function = function; args = args.now })) × (self.new.phase ≡ Dropped))) }
+        ensures dropped { OnErr result (self.new.phase ≡ Dropped) }
     {
-        let call = copied_call(self.alloc, function, args)?;
-        self.set_call(call);
-        let outcome = self.outcome();
-        self.finish(outcome)
+        self.call.set(function, args);
+        self.phase = Phase::Dropped;
+        self.run_anew()
     }
 
-    /// Brings the run up to date after edits. OutOfFuel comes exactly where the run from scratch takes more steps than
-    /// the fuel. After an error the phase is Dropped, and another `propagate` runs the call anew.
+    /// Brings the run up to date after edits, by change propagation (Acar, *Self-Adjusting Computation*, 2005).
+    /// OutOfFuel comes exactly where the run from scratch takes more steps than the fuel, although only a part is run
+    /// anew. After an error the phase is Dropped, and another `propagate` runs the call anew. In Finished it takes no
+    /// memory.
     pub fn propagate(&mut self) -> Result<(), RunError>
         requires { self.old.phase ≡ New → ⊥ }
         ensures code { self.new.code ≡ self.old.code }
@@ -261,15 +312,26 @@ impl Engine {
         ensures call { self.new.call ≡ self.old.call }
         ensures phase { OnOk result (self.new.phase ≡ Finished) }
         ensures present { OnOk result (IsPresent self.new) }
+        ensures first { OnOk result (self.old.phase ≡ Dropped →
+            IsSomeAnd (trace self.new) (IsFirst self.new)) }
+        ensures repaired { OnOk result ((l : Trace) → trace self.old ≡ Some l →
+            IsSomeAnd (trace self.new) (IsRepaired self.new l)) }
+        ensures unchanged { OnOk result ((l : Trace) → trace self.old ≡ Some l →
+            IsHonest self.old.code self.old.inputs l → IsUnchanged self.new l) }
+        ensures sure { self.old.phase ≡ Finished → IsOk result }
+        ensures still { self.old.phase ≡ Finished → self.new ≡ record self.old { work = 0 } }
         ensures out_of_fuel { IfOutOfFuel result (fresh_of self.new ≡ None) }
         ensures dropped { OnErr result (self.new.phase ≡ Dropped) }
     {
-        progress_law();
-        if let Phase::Finished = self.phase {
-            return Ok(());
+        match self.phase {
+            Phase::New => unreachable!(),
+            Phase::Finished => {
+                self.work = 0;
+                Ok(())
+            }
+            Phase::Pending => self.propagate_edits(),
+            Phase::Dropped => self.run_anew(),
         }
-        let outcome = self.outcome();
-        self.finish(outcome)
     }
 
     /// Its contract also tells what is true of every engine.
@@ -277,27 +339,29 @@ impl Engine {
         ensures value { result ≡ self.now.phase }
         ensures whole { IsEngine self.now }
     {
-        progress_law();
         self.phase
     }
 
     /// The content of a modifiable at the end of the run.
     pub fn value(&self, place: Place) -> Word
         requires finished { self.now.phase ≡ Finished }
-        requires there { is_cell (kind_in self.now.code.structs (block_in self.now place.block) place.field) ≡ true }
-        ensures value { result ≡ word_in (stored_at self.now.memory place.block) place.field Word.Null }
+        requires there { is_cell
+            (kind_in self.now.code.structs (block_in self.now place.block) place.field) ≡ true }
+        ensures value { result
+            ≡ word_in (stored_at self.now.memory place.block) place.field Word.Null }
     {
-        let block = stored(&self.memory, &self.inputs, place.block);
+        let block = stored(&self.run, &self.inputs, place.block);
         word_of(block, place.field)
     }
 
     /// The word of a plain field, by its index, of an input or of a core block of the run.
     pub fn field(&self, block: BlockId, index: u32) -> Word
         requires shows { Shows self.now block }
-        requires there { is_plain (kind_in self.now.code.structs (block_in self.now block) index) ≡ true }
+        requires there { is_plain (kind_in self.now.code.structs (block_in self.now block) index)
+            ≡ true }
         ensures value { result ≡ word_in (block_in self.now block) index Word.Null }
     {
-        word_of(seen_block(&self.memory, &self.inputs, block), index)
+        word_of(seen_block(&self.run, &self.inputs, block), index)
     }
 
     /// The shape of an input or of a core block of the run.
@@ -306,7 +370,7 @@ impl Engine {
         requires there { IsSome (block_in self.now block) }
         ensures value { option_map (λ b. b.shape) (block_in self.now block) ≡ Some result }
     {
-        match seen_block(&self.memory, &self.inputs, block) {
+        match seen_block(&self.run, &self.inputs, block) {
             Some(found) => found.shape,
             None => unreachable!(),
         }
@@ -317,7 +381,19 @@ impl Engine {
         requires { self.now.phase ≡ Finished }
         ensures value { result ≡ self.now.steps }
     {
-        self.steps
+        match &self.run {
+            Some(run) => run.counts.steps,
+            None => 0,
+        }
+    }
+
+    /// How many steps were run anew for the last `run` or `propagate`. The step of a read belongs to what stands before
+    /// the read, so a stale read by itself is no work.
+    pub fn work(&self) -> u32
+        requires { self.now.phase ≡ Finished }
+        ensures value { result ≡ self.now.work }
+    {
+        self.work
     }
 
     /// How many core blocks the run made.
@@ -325,7 +401,21 @@ impl Engine {
         requires { self.now.phase ≡ Finished }
         ensures value { result ≡ self.now.live }
     {
-        self.memory.items().len() as u32
+        match &self.run {
+            Some(run) => run.counts.live,
+            None => 0,
+        }
+    }
+
+    /// A copy of the trace of the run, flat.
+    pub fn forest(&self) -> Result<Forest, NoMemory>
+        requires { self.now.phase ≡ Finished }
+        ensures value { IfOk result (λ forest. self.now.forest ≡ Some forest) }
+    {
+        match &self.run {
+            Some(run) => run.forest.copy(),
+            None => Err(NoMemory),
+        }
     }
 
     pub fn code(&self) -> &Code
@@ -335,10 +425,17 @@ impl Engine {
     }
 
     /// The input blocks with their present bases.
-    pub fn inputs(&self) -> &Inputs
+    pub fn input_blocks(&self) -> &Inputs
         ensures value { result.now ≡ self.now.inputs }
     {
         &self.inputs
+    }
+
+    /// A copy of the input blocks with their present bases.
+    pub fn inputs(&self) -> Result<Inputs, NoMemory>
+        ensures value { IfOk result (λ inputs. inputs ≡ self.now.inputs) }
+    {
+        self.inputs.copy()
     }
 
     pub fn fuel(&self) -> u32
@@ -348,31 +445,54 @@ impl Engine {
     }
 }
 
+/// The core block of the run of this number.
+fn core_block(run: &Option<Run>, n: u32) -> Option<&BlockWords>
+    ensures { (inputs : List Block) →
+        option_map (λ b. b.now) result ≡ core (store_in run.now inputs) n }
+{
+    match run {
+        None => None,
+        Some(run) => match run.stored.cores.get(n as usize) {
+            None => None,
+            Some(block) => block.as_ref(),
+        },
+    }
+}
+
+/// The input block of the run; those that were added later are as they are.
+#[tactic(auto, using(crate::proofs::Later::later_steps))]
+fn input_block<'a>(run: &'a Option<Run>, inputs: &'a Inputs, n: u32) -> Option<&'a BlockWords>
+    ensures { option_map (λ b. b.now) result ≡ slice_get (store_in run.now inputs.now).inputs n }
+{
+    let n = n as usize;
+    match run {
+        None => inputs.items().get(n),
+        Some(run) if n < run.stored.inputs.len() => run.stored.inputs.get(n),
+        Some(_) => inputs.items().get(n),
+    }
+}
+
 /// The block of the run's memory, to which the inputs that were added later belong.
-#[tactic(auto, using(crate::proofs::Inputs::later_steps))]
-fn stored<'a>(memory: &'a Memory, inputs: &'a Inputs, block: BlockId) -> Option<&'a BlockWords>
-    ensures { option_map (λ b. b.now) result ≡ stored_at (store_of memory.now inputs.now) block }
+fn stored<'a>(run: &'a Option<Run>, inputs: &'a Inputs, block: BlockId) -> Option<&'a BlockWords>
+    ensures { option_map (λ b. b.now) result ≡ stored_at (store_in run.now inputs.now) block }
 {
     match block {
-        BlockId::Core(n) => memory.items().get(n as usize),
-        BlockId::Input(n) => {
-            let n = n as usize;
-            if n < memory.inputs.items().len() {
-                memory.inputs.items().get(n)
-            } else {
-                inputs.items().get(n)
-            }
-        }
+        BlockId::Core(n) => core_block(run, n),
+        BlockId::Input(n) => input_block(run, inputs, n),
     }
 }
 
 /// An input with its bases, or a core block of the run.
-#[tactic(auto, using(crate::proofs::Inputs::later_steps))]
-fn seen_block<'a>(memory: &'a Memory, inputs: &'a Inputs, block: BlockId) -> Option<&'a BlockWords>
-    ensures { option_map (λ b. b.now) result ≡ block_of inputs.now (store_of memory.now inputs.now) block }
+fn seen_block<'a>(
+    run: &'a Option<Run>,
+    inputs: &'a Inputs,
+    block: BlockId,
+) -> Option<&'a BlockWords>
+    ensures { option_map
+        (λ b. b.now) result ≡ block_of inputs.now (store_in run.now inputs.now) block }
 {
     match block {
-        BlockId::Core(n) => memory.items().get(n as usize),
+        BlockId::Core(n) => core_block(run, n),
         BlockId::Input(n) => inputs.items().get(n as usize),
     }
 }

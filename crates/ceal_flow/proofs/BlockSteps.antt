@@ -7,11 +7,12 @@ use Rattle.ceal_base.specs.declared.kind.Kind.{Kind}
 use Rattle.ceal_base.specs.declared.typed.TypedExpr.{TypedExpr}
 use Rattle.ceal_base.specs.declared.typed.TypedStmt.{TypedStmt, If', While', Row_of-TypedStmt, end_of-TypedStmt, more_of-TypedStmt}
 use Rattle.ceal_base.specs.declared.typed.TypedStmt.TheBlock.{hidden-the_row-TypedStmt-0, shape-the_row-TypedStmt-0}
-use Rattle.ceal_base.specs.declared.typed.TypedStmt.TheVariants.{Declare, Assign, SetField, Write, Call, Return}
+use Rattle.ceal_base.specs.declared.typed.TypedStmt.TheVariants.{Declare, Assign, SetField, Write, Call, Return, Break, Continue}
 use Rattle.ceal_base.specs.declared.typed.TypedStmt.TheViews.{If, While}
 use Rattle.ceal_base.specs.declared.typed.TypedValue.{TypedValue}
-use Rattle.ceal_flow.specs.Blocks.{size, row_size, sizes, goes_on, row_goes_on, all_go_on, row_entry, entry, blocks_of, row_blocks, all_blocks}
+use Rattle.ceal_flow.specs.Blocks.{size, row_size, sizes, goes_on, row_goes_on, all_go_on, in_loop, row_entry, entry, blocks_of, row_blocks, all_blocks}
 use Rattle.ceal_flow.specs.declared.block.GraphBlock.{GraphBlock}
+use Rattle.ceal_flow.specs.declared.exits.Exits.{Exits}
 use Rattle.ceal_flow.specs.declared.block.GraphBlock.TheVariants.{Test, Act, Unreached}
 
 -- what holds of a row of statements as of their list
@@ -25,18 +26,18 @@ unfolding goes_on all_go_on hidden-the_row-TypedStmt-0 shape-the_row-TypedStmt-0
 row-go_on [] = refl
 row-go_on (s ∷ xs) = ap (λ b. goes_on s && b) (row-go_on xs)
 
-pub row-entry : (xs : List TypedStmt) (n after done : ℕ) → row_entry (hidden-the_row-TypedStmt-0 xs) n after done ≡ entry xs n after done
+pub row-entry : (xs : List TypedStmt) (n after : ℕ) (exits : Exits) → row_entry (hidden-the_row-TypedStmt-0 xs) n after exits ≡ entry xs n after exits
 unfolding hidden-the_row-TypedStmt-0 shape-the_row-TypedStmt-0 denote.Hole.Carrier.hidden
-row-entry [] n after done = refl
-row-entry (s ∷ xs) n after done = refl
+row-entry [] n after exits = refl
+row-entry (s ∷ xs) n after exits = refl
 
-pub row-blocks : (xs : List TypedStmt) (n after done : ℕ) → row_blocks (hidden-the_row-TypedStmt-0 xs) n after done ≡ all_blocks xs n after done
+pub row-blocks : (xs : List TypedStmt) (n after : ℕ) (exits : Exits) → row_blocks (hidden-the_row-TypedStmt-0 xs) n after exits ≡ all_blocks xs n after exits
 unfolding blocks_of all_blocks hidden-the_row-TypedStmt-0 shape-the_row-TypedStmt-0 denote.Hole.Carrier.hidden
-row-blocks [] n after done = refl
-row-blocks (s ∷ xs) n after done =
-    ap (λ m. blocks_of s n m done ++ (if goes_on s then row_blocks (hidden-the_row-TypedStmt-0 xs) (n + size s) after done else replicate (row_size (hidden-the_row-TypedStmt-0 xs)) Unreached))
-    (row-entry xs (n + size s) after done)
-    ∙ ap₂ (λ bs k. blocks_of s n (entry xs (n + size s) after done) done ++ (if goes_on s then bs else replicate k Unreached)) (row-blocks xs (n + size s) after done) (row-sizes xs)
+row-blocks [] n after exits = refl
+row-blocks (s ∷ xs) n after exits =
+    ap (λ m. blocks_of s n m exits ++ (if goes_on s then row_blocks (hidden-the_row-TypedStmt-0 xs) (n + size s) after exits else replicate (row_size (hidden-the_row-TypedStmt-0 xs)) Unreached))
+    (row-entry xs (n + size s) after exits)
+    ∙ ap₂ (λ bs k. blocks_of s n (entry xs (n + size s) after exits) exits ++ (if goes_on s then bs else replicate k Unreached)) (row-blocks xs (n + size s) after exits) (row-sizes xs)
 
 -- sizes
 pub size-declare : (at : Span) (n : ℕ) (kind : Kind) (v : TypedValue) → size (Declare at n kind v) ≡ 1
@@ -62,6 +63,14 @@ size-call at f args = refl
 pub size-return : (at : Span) → size (Return at) ≡ 0
 unfolding size
 size-return at = refl
+
+pub size-break : (at : Span) → size (Break at) ≡ 0
+unfolding size
+size-break at = refl
+
+pub size-continue : (at : Span) → size (Continue at) ≡ 0
+unfolding size
+size-continue at = refl
 
 pub size-if : (at : Span) (test : TypedExpr) (first second : List TypedStmt) → size (If at test first second) ≡ 1 + sizes first + sizes second
 unfolding size
@@ -121,6 +130,14 @@ pub on-return : (at : Span) → goes_on (Return at) ≡ false
 unfolding goes_on
 on-return at = refl
 
+pub on-break : (at : Span) → goes_on (Break at) ≡ false
+unfolding goes_on
+on-break at = refl
+
+pub on-continue : (at : Span) → goes_on (Continue at) ≡ false
+unfolding goes_on
+on-continue at = refl
+
 pub on-if : (at : Span) (test : TypedExpr) (first second : List TypedStmt) → goes_on (If at test first second) ≡ (all_go_on first || all_go_on second)
 unfolding goes_on
 on-if at test first second = ap₂ (λ a b. a || b) (row-go_on first) (row-go_on second)
@@ -138,49 +155,57 @@ unfolding all_go_on
 on-cons s rest = refl
 
 -- blocks
-module _ (n after done : ℕ) where
-  pub blocks-declare : (at : Span) (v : ℕ) (kind : Kind) (value : TypedValue) → blocks_of (Declare at v kind value) n after done ≡ Act (Declare at v kind value) after ∷ []
+module _ (n after : ℕ) (exits : Exits) where
+  pub blocks-declare : (at : Span) (v : ℕ) (kind : Kind) (value : TypedValue) → blocks_of (Declare at v kind value) n after exits ≡ Act (Declare at v kind value) after ∷ []
   unfolding blocks_of
   blocks-declare at v kind value = refl
 
-  pub blocks-assign : (at : Span) (v : ℕ) (value : TypedValue) → blocks_of (Assign at v value) n after done ≡ Act (Assign at v value) after ∷ []
+  pub blocks-assign : (at : Span) (v : ℕ) (value : TypedValue) → blocks_of (Assign at v value) n after exits ≡ Act (Assign at v value) after ∷ []
   unfolding blocks_of
   blocks-assign at v value = refl
 
   pub blocks-set : (at : Span) (left : TypedExpr) (s field : ℕ) (e : TypedExpr)
-      → blocks_of (SetField at left s field e) n after done ≡ Act (SetField at left s field e) after ∷ []
+      → blocks_of (SetField at left s field e) n after exits ≡ Act (SetField at left s field e) after ∷ []
   unfolding blocks_of
   blocks-set at left s field e = refl
 
-  pub blocks-write : (at : Span) (p e : TypedExpr) → blocks_of (Write at p e) n after done ≡ Act (Write at p e) after ∷ []
+  pub blocks-write : (at : Span) (p e : TypedExpr) → blocks_of (Write at p e) n after exits ≡ Act (Write at p e) after ∷ []
   unfolding blocks_of
   blocks-write at p e = refl
 
-  pub blocks-call : (at : Span) (f : ℕ) (args : List TypedExpr) → blocks_of (Call at f args) n after done ≡ Act (Call at f args) after ∷ []
+  pub blocks-call : (at : Span) (f : ℕ) (args : List TypedExpr) → blocks_of (Call at f args) n after exits ≡ Act (Call at f args) after ∷ []
   unfolding blocks_of
   blocks-call at f args = refl
 
-  pub blocks-return : (at : Span) → blocks_of (Return at) n after done ≡ []
+  pub blocks-return : (at : Span) → blocks_of (Return at) n after exits ≡ []
   unfolding blocks_of
   blocks-return at = refl
 
-  pub blocks-if : (at : Span) (test : TypedExpr) (first second : List TypedStmt) → blocks_of (If at test first second) n after done
-      ≡ Test test (entry first (n + 1) after done) (entry second (n + 1 + sizes first) after done)
-      ∷ (all_blocks first (n + 1) after done ++ all_blocks second (n + 1 + sizes first) after done)
+  pub blocks-break : (at : Span) → blocks_of (Break at) n after exits ≡ []
+  unfolding blocks_of
+  blocks-break at = refl
+
+  pub blocks-continue : (at : Span) → blocks_of (Continue at) n after exits ≡ []
+  unfolding blocks_of
+  blocks-continue at = refl
+
+  pub blocks-if : (at : Span) (test : TypedExpr) (first second : List TypedStmt) → blocks_of (If at test first second) n after exits
+      ≡ Test test (entry first (n + 1) after exits) (entry second (n + 1 + sizes first) after exits)
+      ∷ (all_blocks first (n + 1) after exits ++ all_blocks second (n + 1 + sizes first) after exits)
   unfolding blocks_of
   blocks-if at test first second = simp (row-entry, row-blocks, row-sizes)
 
   pub blocks-while : (at : Span) (test : TypedExpr) (body : List TypedStmt)
-      → blocks_of (While at test body) n after done ≡ Test test (entry body (n + 1) n done) after ∷ all_blocks body (n + 1) n done
+      → blocks_of (While at test body) n after exits ≡ Test test (entry body (n + 1) n (in_loop exits n after)) after ∷ all_blocks body (n + 1) n (in_loop exits n after)
   unfolding blocks_of
   blocks-while at test body = simp (row-entry, row-blocks)
 
-  pub all-nil : all_blocks [] n after done ≡ []
+  pub all-nil : all_blocks [] n after exits ≡ []
   unfolding all_blocks
   all-nil = refl
 
-  pub all-cons : (s : TypedStmt) (rest : List TypedStmt) → all_blocks (s ∷ rest) n after done
-      ≡ blocks_of s n (entry rest (n + size s) after done) done ++ (if goes_on s then all_blocks rest (n + size s) after done else replicate (sizes rest) Unreached)
+  pub all-cons : (s : TypedStmt) (rest : List TypedStmt) → all_blocks (s ∷ rest) n after exits
+      ≡ blocks_of s n (entry rest (n + size s) after exits) exits ++ (if goes_on s then all_blocks rest (n + size s) after exits else replicate (sizes rest) Unreached)
   unfolding all_blocks
   all-cons s rest = refl
 
@@ -192,29 +217,31 @@ behind-length false xs k h = length-replicate k Unreached
 mutual
   unfolding blocks_of size
 
-  pub blocks-length : (s : TypedStmt) (n after done : ℕ) → length (blocks_of s n after done) ≡ size s
-  blocks-length (Declare at v kind value) n after done = refl
-  blocks-length (Assign at v value) n after done = refl
-  blocks-length (SetField at left s field e) n after done = refl
-  blocks-length (Write at p e) n after done = refl
-  blocks-length (Call at f args) n after done = refl
-  blocks-length (Return at) n after done = refl
-  blocks-length (If' at test _ first _ second) n after done =
-      let a = row-length first (n + 1) after done in
-      let b = row-length second (n + 1 + row_size first) after done in
+  pub blocks-length : (s : TypedStmt) (n after : ℕ) (exits : Exits) → length (blocks_of s n after exits) ≡ size s
+  blocks-length (Declare at v kind value) n after exits = refl
+  blocks-length (Assign at v value) n after exits = refl
+  blocks-length (SetField at left s field e) n after exits = refl
+  blocks-length (Write at p e) n after exits = refl
+  blocks-length (Call at f args) n after exits = refl
+  blocks-length (Return at) n after exits = refl
+  blocks-length (Break at) n after exits = refl
+  blocks-length (Continue at) n after exits = refl
+  blocks-length (If' at test _ first _ second) n after exits =
+      let a = row-length first (n + 1) after exits in
+      let b = row-length second (n + 1 + row_size first) after exits in
       simp length-append (omega (arith, a, b))
-  blocks-length (While' at test _ body) n after done = let a = row-length body (n + 1) n done in omega (arith, a)
+  blocks-length (While' at test _ body) n after exits = let a = row-length body (n + 1) n (in_loop exits n after) in omega (arith, a)
 
-  pub row-length : {m : _} (r : Row_of-TypedStmt m) (n after done : ℕ) → length (row_blocks r n after done) ≡ row_size r
-  row-length end_of-TypedStmt n after done = refl
-  row-length (more_of-TypedStmt s rest) n after done =
-      let a = blocks-length s n (row_entry rest (n + size s) after done) done in
-      let b = behind-length (goes_on s) (row_blocks rest (n + size s) after done) (row_size rest) (row-length rest (n + size s) after done) in
+  pub row-length : {m : _} (r : Row_of-TypedStmt m) (n after : ℕ) (exits : Exits) → length (row_blocks r n after exits) ≡ row_size r
+  row-length end_of-TypedStmt n after exits = refl
+  row-length (more_of-TypedStmt s rest) n after exits =
+      let a = blocks-length s n (row_entry rest (n + size s) after exits) exits in
+      let b = behind-length (goes_on s) (row_blocks rest (n + size s) after exits) (row_size rest) (row-length rest (n + size s) after exits) in
       simp length-append (omega (arith, a, b))
 
-pub all-length : (xs : List TypedStmt) (n after done : ℕ) → length (all_blocks xs n after done) ≡ sizes xs
-all-length xs n after done = sym (ap length (row-blocks xs n after done)) ∙ row-length (hidden-the_row-TypedStmt-0 xs) n after done ∙ row-sizes xs
+pub all-length : (xs : List TypedStmt) (n after : ℕ) (exits : Exits) → length (all_blocks xs n after exits) ≡ sizes xs
+all-length xs n after exits = sym (ap length (row-blocks xs n after exits)) ∙ row-length (hidden-the_row-TypedStmt-0 xs) n after exits ∙ row-sizes xs
 
-pub ruleset size_steps = (size-declare, size-assign, size-set, size-write, size-call, size-return, size-if, size-while, sizes-nil, sizes-cons)
+pub ruleset size_steps = (size-declare, size-assign, size-set, size-write, size-call, size-return, size-break, size-continue, size-if, size-while, sizes-nil, sizes-cons)
 
-pub ruleset put_steps = (size_steps, on-declare, on-assign, on-set, on-write, on-call, on-return, on-if, on-while, blocks-declare, blocks-assign, blocks-set, blocks-write, blocks-call, blocks-return)
+pub ruleset put_steps = (size_steps, on-declare, on-assign, on-set, on-write, on-call, on-return, on-break, on-continue, on-if, on-while, blocks-declare, blocks-assign, blocks-set, blocks-write, blocks-call, blocks-return, blocks-break, blocks-continue)

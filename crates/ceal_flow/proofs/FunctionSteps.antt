@@ -5,6 +5,7 @@ use Rattle.std.proofs.lemmas.List.{take_more, take-append-drop}
 use Rattle.ceal_base.specs.declared.fault.Span.{Span}
 use Rattle.ceal_base.specs.declared.typed.TypedFunction.{TypedFunction}
 use Rattle.ceal_base.specs.declared.typed.TypedStmt.{TypedStmt}
+use Rattle.ceal_flow.specs.Blocks.{no_loop}
 use Rattle.ceal_flow.specs.Lowering.{size_in, function_size, function_sizes, end_of, function_at, blocks_in, blocks_at, functions_from, blocks_from, places_in, places_of, function_places}
 use Rattle.ceal_flow.proofs.BlockSteps.{all-length}
 use Rattle.ceal_flow.proofs.ListFacts.{get-left, get-right}
@@ -72,7 +73,7 @@ function_places-at fs i f is h k j at here e =
 
 -- blocks
 pub blocks_in-length : (i : Option ℕ) (body : List TypedStmt) (n : ℕ) → length (blocks_in i body n) ≡ size_in i body
-blocks_in-length None body n = let h = all-length body n (end_of body n) (end_of body n) in simp length-append (omega (arith, h))
+blocks_in-length None body n = let h = all-length body n (end_of body n) (no_loop (end_of body n)) in simp length-append (omega (arith, h))
 blocks_in-length (Some s) body n = refl
 
 pub blocks_from-length : (fs : List TypedFunction) (n : ℕ) → length (blocks_from n fs) ≡ function_sizes fs

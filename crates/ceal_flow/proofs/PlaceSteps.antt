@@ -7,7 +7,7 @@ use Rattle.ceal_base.specs.declared.kind.Kind.{Kind}
 use Rattle.ceal_base.specs.declared.typed.TypedExpr.{TypedExpr}
 use Rattle.ceal_base.specs.declared.typed.TypedStmt.{TypedStmt, If', While', Row_of-TypedStmt, end_of-TypedStmt, more_of-TypedStmt}
 use Rattle.ceal_base.specs.declared.typed.TypedStmt.TheBlock.{hidden-the_row-TypedStmt-0, shape-the_row-TypedStmt-0}
-use Rattle.ceal_base.specs.declared.typed.TypedStmt.TheVariants.{Declare, Assign, SetField, Write, Call, Return}
+use Rattle.ceal_base.specs.declared.typed.TypedStmt.TheVariants.{Declare, Assign, SetField, Write, Call, Return, Break, Continue}
 use Rattle.ceal_base.specs.declared.typed.TypedStmt.TheViews.{If, While}
 use Rattle.ceal_base.specs.declared.typed.TypedValue.{TypedValue}
 use Rattle.ceal_flow.specs.Blocks.{size, row_size, sizes}
@@ -45,6 +45,14 @@ pub places-return : (at : Span) → places (Return at) ≡ []
 unfolding places
 places-return at = refl
 
+pub places-break : (at : Span) → places (Break at) ≡ []
+unfolding places
+places-break at = refl
+
+pub places-continue : (at : Span) → places (Continue at) ≡ []
+unfolding places
+places-continue at = refl
+
 pub places-if : (at : Span) (test : TypedExpr) (first second : List TypedStmt) → places (If at test first second) ≡ at ∷ (all_places first ++ all_places second)
 unfolding places
 places-if at test first second = ap₂ (λ a b. at ∷ (a ++ b)) (row-places first) (row-places second)
@@ -64,6 +72,8 @@ mutual
   places-length (Write at p e) = refl
   places-length (Call at f args) = refl
   places-length (Return at) = refl
+  places-length (Break at) = refl
+  places-length (Continue at) = refl
   places-length (If' at test _ first _ second) =
       let a = row-places-length first in let b = row-places-length second in simp length-append (omega (arith, a, b))
   places-length (While' at test _ body) = let a = row-places-length body in omega (arith, a)
@@ -103,4 +113,4 @@ all-places-at xs i s is h k j at here e =
 pub place-first : (at : Span) (ps : List Span) (count : ℕ) (place : Span) → place ≡ at → count ≡ BLOCK_LIMIT → slice_get (at ∷ ps) (BLOCK_LIMIT - count) ≡ Some place
 place-first at ps count place e full = let z : BLOCK_LIMIT - count ≡ 0 = omega arith in rw (z, e) refl
 
-pub ruleset place_steps = (size_steps, places-declare, places-assign, places-set, places-write, places-call, places-return)
+pub ruleset place_steps = (size_steps, places-declare, places-assign, places-set, places-write, places-call, places-return, places-break, places-continue)

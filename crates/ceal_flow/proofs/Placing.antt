@@ -6,6 +6,7 @@ use Rattle.ceal_base.specs.declared.typed.TypedStmt.{TypedStmt}
 use Rattle.ceal_flow.specs.Blocks.{size, sizes, goes_on, entry, blocks_of, all_blocks}
 use Rattle.ceal_flow.specs.Lowering.{function_size, function_at, blocks_at, functions_from, blocks_from}
 use Rattle.ceal_flow.specs.declared.block.GraphBlock.{GraphBlock}
+use Rattle.ceal_flow.specs.declared.exits.Exits.{Exits}
 use Rattle.ceal_flow.specs.declared.block.GraphBlock.TheVariants.{Unreached}
 use Rattle.ceal_flow.specs.declared.function.GraphFunction.{GraphFunction}
 use Rattle.ceal_flow.proofs.BlockSteps.{blocks-length, all-cons}
@@ -34,16 +35,16 @@ module _ (blocks : List GraphBlock) where
   placed-tail n x xs h = placed-right n (x ∷ []) xs 1 refl h
 
   -- the first statement, and those behind it
-  pub placed-first : (s : TypedStmt) (ss : List TypedStmt) (n after done : ℕ) → Placed blocks n (all_blocks (s ∷ ss) n after done)
-      → Placed blocks n (blocks_of s n (entry ss (n + size s) after done) done)
-  placed-first s ss n after done h =
-      placed-left n _ (if goes_on s then all_blocks ss (n + size s) after done else replicate (sizes ss) Unreached) (rw all-cons at h)
+  pub placed-first : (s : TypedStmt) (ss : List TypedStmt) (n after : ℕ) (exits : Exits) → Placed blocks n (all_blocks (s ∷ ss) n after exits)
+      → Placed blocks n (blocks_of s n (entry ss (n + size s) after exits) exits)
+  placed-first s ss n after exits h =
+      placed-left n _ (if goes_on s then all_blocks ss (n + size s) after exits else replicate (sizes ss) Unreached) (rw all-cons at h)
 
-  pub placed-rest : (s : TypedStmt) (ss : List TypedStmt) (n after done : ℕ) → goes_on s ≡ true → Placed blocks n (all_blocks (s ∷ ss) n after done)
-      → Placed blocks (n + size s) (all_blocks ss (n + size s) after done)
-  placed-rest s ss n after done on h =
-      placed-right n (blocks_of s n (entry ss (n + size s) after done) done) (all_blocks ss (n + size s) after done) (size s)
-      (sym (blocks-length s n (entry ss (n + size s) after done) done)) (rw (all-cons, on) at h)
+  pub placed-rest : (s : TypedStmt) (ss : List TypedStmt) (n after : ℕ) (exits : Exits) → goes_on s ≡ true → Placed blocks n (all_blocks (s ∷ ss) n after exits)
+      → Placed blocks (n + size s) (all_blocks ss (n + size s) after exits)
+  placed-rest s ss n after exits on h =
+      placed-right n (blocks_of s n (entry ss (n + size s) after exits) exits) (all_blocks ss (n + size s) after exits) (size s)
+      (sym (blocks-length s n (entry ss (n + size s) after exits) exits)) (rw (all-cons, on) at h)
 
 -- a part stands where it is put
 pub placed-part : (before xs after : List GraphBlock) (n : ℕ) → n ≡ length before → Placed (before ++ (xs ++ after)) n xs

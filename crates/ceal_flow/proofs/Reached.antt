@@ -3,27 +3,28 @@ use Rattle.std.proofs.Common.{◌≡◌, ◌⊎◌, inl, inr, ℕ, zero, suc, �
 use Rattle.std.proofs.lemmas.List.Elements.{Contains-push, Contains-push_cases, Contains-append_cases, Contains-append_left, Contains-append_right}
 use Rattle.ceal_base.specs.declared.typed.Typed.{Typed}
 use Rattle.ceal_base.specs.declared.typed.TypedFunction.{TypedFunction}
-use Rattle.ceal_base.specs.declared.typed.TypedStmt.{TypedStmt, Declare, Assign, SetField, Write, Call, If', While', Return, Row_of-TypedStmt, end_of-TypedStmt, more_of-TypedStmt}
+use Rattle.ceal_base.specs.declared.typed.TypedStmt.{TypedStmt, Declare, Assign, SetField, Write, Call, If', While', Return, Break, Continue, Row_of-TypedStmt, end_of-TypedStmt, more_of-TypedStmt}
 use Rattle.ceal_base.specs.declared.typed.TypedStmt.TheBlock.{hidden-the_row-TypedStmt-0}
-use Rattle.ceal_flow.specs.Blocks.{size, row_size, sizes, goes_on, row_goes_on, all_go_on, target, row_entry, entry, blocks_of, row_blocks, all_blocks}
+use Rattle.ceal_flow.specs.Blocks.{size, row_size, sizes, goes_on, row_goes_on, all_go_on, no_loop, in_loop, target, row_entry, entry, blocks_of, row_blocks, all_blocks}
 use Rattle.ceal_flow.specs.Laws.{IsKept, firsts, IsReached, IsSimple}
 use Rattle.ceal_flow.specs.Lowering.{function_size, end_of, first_of, core_blocks, function_in, function_at, blocks_in, blocks_at, functions_from, blocks_from, graph_of}
 use Rattle.ceal_flow.specs.Paths.{stays, jumps_to, jumps, Leads}
 use Rattle.ceal_flow.specs.declared.block.GraphBlock.{GraphBlock}
+use Rattle.ceal_flow.specs.declared.exits.Exits.{Exits}
 use Rattle.ceal_flow.specs.declared.block.GraphBlock.TheVariants.{Done, Act, Unreached}
 use Rattle.ceal_flow.specs.declared.function.GraphFunction.{GraphFunction}
 use Rattle.ceal_flow.specs.declared.function.GraphFunction.TheVariants.{Core, Init}
 use Rattle.ceal_flow.proofs.BlockSteps.{row-go_on, row-entry, row-blocks, blocks-length, row-length, all-length}
 use Rattle.ceal_flow.proofs.FunctionSteps.{blocks_in-length}
 use Rattle.ceal_flow.proofs.Placing.{Placed, placed-head, placed-left, placed-right, placed-tail, placed-part}
-use Rattle.ceal_flow.proofs.Reach.{Laws, Kept, parted, nothing-laws, return-laws, act-laws, seq-laws, last-laws, if-laws, while-laws}
+use Rattle.ceal_flow.proofs.Reach.{IsExit, Laws, LeadsOut, AllKept, Kept, parted, nothing-laws, jump-laws, act-laws, seq-laws, last-laws, if-laws, while-laws}
 
 module _ (blocks : List GraphBlock) where
   -- a statement, and then others
-  cons-laws : (start mid : ℕ) (xs ys : List GraphBlock) (n k m after done : ℕ) (a b : Bool) → length xs ≡ k → Laws blocks start xs n mid done a
-      → (a ≡ true → Laws blocks mid ys (n + k) after done b) → Laws blocks start (xs ++ (if a then ys else replicate m Unreached)) n after done (a && b)
-  cons-laws start mid xs ys n k m after done true b long one two = seq-laws blocks start mid xs ys n k after done b long one (two refl)
-  cons-laws start mid xs ys n k m after done false b long one two = last-laws blocks start mid xs n m after done one
+  cons-laws : (start mid : ℕ) (xs ys : List GraphBlock) (n k m after : ℕ) (exits : Exits) (a b : Bool) → length xs ≡ k → Laws blocks start xs n mid exits a
+      → (a ≡ true → Laws blocks mid ys (n + k) after exits b) → Laws blocks start (xs ++ (if a then ys else replicate m Unreached)) n after exits (a && b)
+  cons-laws start mid xs ys n k m after exits true b long one two = seq-laws blocks start mid xs ys n k after exits b long one (two refl)
+  cons-laws start mid xs ys n k m after exits false b long one two = last-laws blocks start mid xs n m after exits one
 
   behind-placed : (xs ys : List GraphBlock) (n k m : ℕ) (a : Bool) → length xs ≡ k → a ≡ true
       → Placed blocks n (xs ++ (if a then ys else replicate m Unreached)) → Placed blocks (n + k) ys
@@ -33,42 +34,45 @@ module _ (blocks : List GraphBlock) where
   mutual
     unfolding blocks_of size goes_on
 
-    stmt-laws : (s : TypedStmt) (n after done : ℕ) → Placed blocks n (blocks_of s n after done) → Laws blocks (target s n done) (blocks_of s n after done) n after done (goes_on s)
-    stmt-laws (Declare at v kind value) n after done h = act-laws blocks (Declare at v kind value) n after done (placed-head blocks n _ [] h) tt
-    stmt-laws (Assign at v value) n after done h = act-laws blocks (Assign at v value) n after done (placed-head blocks n _ [] h) tt
-    stmt-laws (SetField at left k field e) n after done h = act-laws blocks (SetField at left k field e) n after done (placed-head blocks n _ [] h) tt
-    stmt-laws (Write at place e) n after done h = act-laws blocks (Write at place e) n after done (placed-head blocks n _ [] h) tt
-    stmt-laws (Call at f args) n after done h = act-laws blocks (Call at f args) n after done (placed-head blocks n _ [] h) tt
-    stmt-laws (If' at test _ first _ second) n after done h =
+    stmt-laws : (s : TypedStmt) (n after : ℕ) (exits : Exits) → Placed blocks n (blocks_of s n after exits) → Laws blocks (target s n exits) (blocks_of s n after exits) n after exits (goes_on s)
+    stmt-laws (Declare at v kind value) n after exits h = act-laws blocks (Declare at v kind value) n after exits (placed-head blocks n _ [] h) tt
+    stmt-laws (Assign at v value) n after exits h = act-laws blocks (Assign at v value) n after exits (placed-head blocks n _ [] h) tt
+    stmt-laws (SetField at left k field e) n after exits h = act-laws blocks (SetField at left k field e) n after exits (placed-head blocks n _ [] h) tt
+    stmt-laws (Write at place e) n after exits h = act-laws blocks (Write at place e) n after exits (placed-head blocks n _ [] h) tt
+    stmt-laws (Call at f args) n after exits h = act-laws blocks (Call at f args) n after exits (placed-head blocks n _ [] h) tt
+    stmt-laws (If' at test _ first _ second) n after exits h =
         let m = n + 1 + row_size first in
-        let parts = placed-tail blocks n _ (row_blocks first (n + 1) after done ++ row_blocks second m after done) h in
-        let long = row-length first (n + 1) after done in
-        let one = row-laws first (n + 1) after done (placed-left blocks (n + 1) (row_blocks first (n + 1) after done) (row_blocks second m after done) parts) in
-        let two = row-laws second m after done (placed-right blocks (n + 1) (row_blocks first (n + 1) after done) (row_blocks second m after done) (row_size first) (sym long) parts) in
-        if-laws blocks test _ _ (row_blocks first (n + 1) after done) (row_blocks second m after done) n (row_size first) after done (row_goes_on first) (row_goes_on second) long
+        let parts = placed-tail blocks n _ (row_blocks first (n + 1) after exits ++ row_blocks second m after exits) h in
+        let long = row-length first (n + 1) after exits in
+        let one = row-laws first (n + 1) after exits (placed-left blocks (n + 1) (row_blocks first (n + 1) after exits) (row_blocks second m after exits) parts) in
+        let two = row-laws second m after exits (placed-right blocks (n + 1) (row_blocks first (n + 1) after exits) (row_blocks second m after exits) (row_size first) (sym long) parts) in
+        if-laws blocks test _ _ (row_blocks first (n + 1) after exits) (row_blocks second m after exits) n (row_size first) after exits (row_goes_on first) (row_goes_on second) long
         (placed-head blocks n _ _ h) one two
-    stmt-laws (While' at test _ body) n after done h =
-        let part = placed-tail blocks n _ (row_blocks body (n + 1) n done) h in
-        while-laws blocks test _ (row_blocks body (n + 1) n done) n after done (row_goes_on body) (placed-head blocks n _ _ h) (row-laws body (n + 1) n done part)
-    stmt-laws (Return at) n after done h = return-laws blocks n after done
+    stmt-laws (While' at test _ body) n after exits h =
+        let inside = in_loop exits n after in
+        let part = placed-tail blocks n _ (row_blocks body (n + 1) n inside) h in
+        while-laws blocks test _ (row_blocks body (n + 1) n inside) n after exits (row_goes_on body) (placed-head blocks n _ _ h) (row-laws body (n + 1) n inside part)
+    stmt-laws (Return at) n after exits h = jump-laws blocks n after exits exits.done (inl refl)
+    stmt-laws (Break at) n after exits h = jump-laws blocks n after exits exits.behind (inr (inl refl))
+    stmt-laws (Continue at) n after exits h = jump-laws blocks n after exits exits.test (inr (inr refl))
 
-    row-laws : {m : _} (r : Row_of-TypedStmt m) (n after done : ℕ) → Placed blocks n (row_blocks r n after done)
-        → Laws blocks (row_entry r n after done) (row_blocks r n after done) n after done (row_goes_on r)
-    row-laws end_of-TypedStmt n after done h = nothing-laws blocks n after done
-    row-laws (more_of-TypedStmt s rest) n after done h =
-        let mid = row_entry rest (n + size s) after done in
-        let xs = blocks_of s n mid done in
-        let ys = row_blocks rest (n + size s) after done in
-        let long = blocks-length s n mid done in
+    row-laws : {m : _} (r : Row_of-TypedStmt m) (n after : ℕ) (exits : Exits) → Placed blocks n (row_blocks r n after exits)
+        → Laws blocks (row_entry r n after exits) (row_blocks r n after exits) n after exits (row_goes_on r)
+    row-laws end_of-TypedStmt n after exits h = nothing-laws blocks n after exits
+    row-laws (more_of-TypedStmt s rest) n after exits h =
+        let mid = row_entry rest (n + size s) after exits in
+        let xs = blocks_of s n mid exits in
+        let ys = row_blocks rest (n + size s) after exits in
+        let long = blocks-length s n mid exits in
         let here = placed-left blocks n xs (if goes_on s then ys else replicate (row_size rest) Unreached) h in
-        cons-laws (target s n done) mid xs ys n (size s) (row_size rest) after done (goes_on s) (row_goes_on rest) long (stmt-laws s n mid done here)
-        (λ e. row-laws rest (n + size s) after done (behind-placed xs ys n (size s) (row_size rest) (goes_on s) long e h))
+        cons-laws (target s n exits) mid xs ys n (size s) (row_size rest) after exits (goes_on s) (row_goes_on rest) long (stmt-laws s n mid exits here)
+        (λ e. row-laws rest (n + size s) after exits (behind-placed xs ys n (size s) (row_size rest) (goes_on s) long e h))
 
-  all-laws : (ss : List TypedStmt) (n after done : ℕ) → Placed blocks n (all_blocks ss n after done)
-      → Laws blocks (entry ss n after done) (all_blocks ss n after done) n after done (all_go_on ss)
-  all-laws ss n after done h =
+  all-laws : (ss : List TypedStmt) (n after : ℕ) (exits : Exits) → Placed blocks n (all_blocks ss n after exits)
+      → Laws blocks (entry ss n after exits) (all_blocks ss n after exits) n after exits (all_go_on ss)
+  all-laws ss n after exits h =
       let r = hidden-the_row-TypedStmt-0 ss in
-      rw (← row-entry, ← row-blocks, ← row-go_on) (row-laws r n after done (rw row-blocks h))
+      rw (← row-entry, ← row-blocks, ← row-go_on) (row-laws r n after exits (rw row-blocks h))
 
   -- a core function
   pub record Whole (body : List TypedStmt) (n : ℕ) : Type 0 where
@@ -77,34 +81,43 @@ module _ (blocks : List GraphBlock) where
     pub closed : (i : ℕ) (block : GraphBlock) (c : ℕ) → slice_get (core_blocks body n) i ≡ Some block → Contains (jumps block) c → Kept blocks c
     pub acts : (i : ℕ) (s : TypedStmt) (next : ℕ) → slice_get (core_blocks body n) i ≡ Some (Act s next) → IsSimple s
 
-  either-way : (b : Bool) (a c : ℕ) → Leads blocks a (if b then c else c) → Leads blocks a c
-  either-way true a c h = h
-  either-way false a c h = h
+  -- in no loop every path leads to the end
+  exit-done : (done c : ℕ) → IsExit (no_loop done) c → c ≡ done
+  exit-done done c (inl e) = sym e
+  exit-done done c (inr (inl e)) = sym e
+  exit-done done c (inr (inr e)) = sym e
+
+  either-way : (b : Bool) (start done : ℕ) → (b ≡ true → Leads blocks start done) → (b ≡ false → LeadsOut blocks start (no_loop done)) → Leads blocks start done
+  either-way true start done h k = h refl
+  either-way false start done h k = let l = k refl in subst (λ x. Leads blocks start x) (exit-done done l.0 l.1) l.2
 
   module _ (body : List TypedStmt) (n : ℕ) (placed : Placed blocks n (core_blocks body n)) where
     there : slice_get blocks (end_of body n) ≡ Some Done
     there =
         let done = end_of body n in
-        placed-head blocks done Done [] (placed-right blocks n (all_blocks body n done done) (Done ∷ []) (sizes body) (sym (all-length body n done done)) placed)
+        placed-head blocks done Done [] (placed-right blocks n (all_blocks body n done (no_loop done)) (Done ∷ []) (sizes body) (sym (all-length body n done (no_loop done))) placed)
 
-    stmts : Laws blocks (first_of body n) (all_blocks body n (end_of body n) (end_of body n)) n (end_of body n) (end_of body n) (all_go_on body)
+    stmts : Laws blocks (first_of body n) (all_blocks body n (end_of body n) (no_loop (end_of body n))) n (end_of body n) (no_loop (end_of body n)) (all_go_on body)
     stmts =
         let done = end_of body n in
-        all-laws body n done done (placed-left blocks n (all_blocks body n done done) (Done ∷ []) placed)
+        all-laws body n done (no_loop done) (placed-left blocks n (all_blocks body n done (no_loop done)) (Done ∷ []) placed)
 
     kept-end : Kept blocks (end_of body n)
     kept-end = rw there tt
 
-    at-last : (j i : ℕ) → i ≡ length (all_blocks body n (end_of body n) (end_of body n)) + j → IsKept (slice_get (Done ∷ []) j) → Leads blocks (first_of body n) (n + i)
+    kept-ends : AllKept blocks (no_loop (end_of body n))
+    kept-ends = record { done = kept-end; behind = kept-end; test = kept-end }
+
+    at-last : (j i : ℕ) → i ≡ length (all_blocks body n (end_of body n) (no_loop (end_of body n))) + j → IsKept (slice_get (Done ∷ []) j) → Leads blocks (first_of body n) (n + i)
     at-last zero i e h =
         let done = end_of body n in
-        let long = all-length body n done done in
+        let long = all-length body n done (no_loop done) in
         let same : done ≡ n + i = omega (arith, e, long) in
-        subst (λ m. Leads blocks (first_of body n) m) same (either-way (all_go_on body) (first_of body n) done stmts.out)
+        subst (λ m. Leads blocks (first_of body n) m) same (either-way (all_go_on body) (first_of body n) done stmts.onward stmts.out)
     at-last (suc j) i e h = absurd h
 
     whole-inside : (i : ℕ) → IsKept (slice_get (core_blocks body n) i) → Leads blocks (first_of body n) (n + i)
-    whole-inside i h = elim (parted IsKept (all_blocks body n (end_of body n) (end_of body n)) (Done ∷ []) i h) [
+    whole-inside i h = elim (parted IsKept (all_blocks body n (end_of body n) (no_loop (end_of body n))) (Done ∷ []) i h) [
       | inl l ↦ stmts.inside i l.1
       | inr l ↦ at-last l.0 i l.1 l.2
     ]
@@ -116,8 +129,8 @@ module _ (blocks : List GraphBlock) where
     none-after (suc j) block c e h = cc
 
     whole-closed : (i : ℕ) (block : GraphBlock) (c : ℕ) → slice_get (core_blocks body n) i ≡ Some block → Contains (jumps block) c → Kept blocks c
-    whole-closed i block c e h = elim (parted (λ o. o ≡ Some block) (all_blocks body n (end_of body n) (end_of body n)) (Done ∷ []) i e) [
-      | inl l ↦ stmts.closed kept-end (λ t. kept-end) i block c l.1 h
+    whole-closed i block c e h = elim (parted (λ o. o ≡ Some block) (all_blocks body n (end_of body n) (no_loop (end_of body n))) (Done ∷ []) i e) [
+      | inl l ↦ stmts.closed kept-ends (λ t. kept-end) i block c l.1 h
       | inr l ↦ absurd (none-after l.0 block c l.2 h)
     ]
 
@@ -126,13 +139,13 @@ module _ (blocks : List GraphBlock) where
     no-act (suc j) s next e = cc
 
     whole-acts : (i : ℕ) (s : TypedStmt) (next : ℕ) → slice_get (core_blocks body n) i ≡ Some (Act s next) → IsSimple s
-    whole-acts i s next e = elim (parted (λ o. o ≡ Some (Act s next)) (all_blocks body n (end_of body n) (end_of body n)) (Done ∷ []) i e) [
+    whole-acts i s next e = elim (parted (λ o. o ≡ Some (Act s next)) (all_blocks body n (end_of body n) (no_loop (end_of body n))) (Done ∷ []) i e) [
       | inl l ↦ stmts.acts i s next l.1
       | inr l ↦ absurd (no-act l.0 s next l.2)
     ]
 
     pub whole : Whole body n
-    whole = record { inside = whole-inside; entry = stmts.entry kept-end (λ t. kept-end); closed = whole-closed; acts = whole-acts }
+    whole = record { inside = whole-inside; entry = stmts.entry kept-ends (λ t. kept-end); closed = whole-closed; acts = whole-acts }
 
 -- the core function to which a block belongs
 record Owner (blocks : List GraphBlock) (functions : List GraphFunction) (b : ℕ) (block : GraphBlock) : Type 0 where

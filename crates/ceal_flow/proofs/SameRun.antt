@@ -1,5 +1,5 @@
 -- The graph of a program runs as the program does.
-use Rattle.std.proofs.Common.{◌≡◌, ℕ, zero, suc, ◌+◌, Bool, true, false, ◌||◌, ◌⊎◌, inl, inr, Option, Some, None, IsSomeAnd, IsSome, IsNone, List, [], ◌∷◌, ◌++◌, slice_get, slice_set, if◌then◌else◌, refl, ap, sym, ◌∙◌, All, subst}
+use Rattle.std.proofs.Common.{◌≡◌, ℕ, zero, suc, ◌+◌, Bool, true, false, ◌||◌, ◌⊎◌, inl, inr, Option, Some, None, IsSomeAnd, IsSome, IsNone, List, [], ◌∷◌, ◌++◌, map, slice_get, slice_set, if◌then◌else◌, refl, ap, sym, ◌∙◌, All, subst}
 use Rattle.std.proofs.lemmas.List.{append-nil}
 use Rattle.std.proofs.lemmas.List.Elements.{All-nil, All-cons}
 use Rattle.ceal_base.specs.Access.{holds}
@@ -9,27 +9,29 @@ use Rattle.ceal_base.specs.declared.typed.Typed.{Typed}
 use Rattle.ceal_base.specs.declared.typed.TypedFunction.{TypedFunction}
 use Rattle.ceal_base.specs.declared.typed.TypedStmt.{TypedStmt, out-TypedStmt, roll-TypedStmt, roll-out-TypedStmt}
 use Rattle.ceal_base.specs.declared.typed.TypedStmt.TheBlock.{hidden-the_row-TypedStmt-0, shape-the_row-TypedStmt-0}
-use Rattle.ceal_base.specs.declared.typed.TypedStmt.TheOpen.{TypedStmt-F, Declare as OpenDeclare, Assign as OpenAssign, SetField as OpenSetField, Write as OpenWrite, Call as OpenCall, If as OpenIf, While as OpenWhile, Return as OpenReturn}
-use Rattle.ceal_base.specs.declared.typed.TypedStmt.TheVariants.{Declare, Assign, SetField, Write, Call, Return, rolls-Declare, rolls-Assign, rolls-SetField, rolls-Write, rolls-Call, rolls-If, rolls-While, rolls-Return}
+use Rattle.ceal_base.specs.declared.typed.TypedStmt.TheOpen.{TypedStmt-F, Declare as OpenDeclare, Assign as OpenAssign, SetField as OpenSetField, Write as OpenWrite, Call as OpenCall, If as OpenIf, While as OpenWhile, Return as OpenReturn, Break as OpenBreak, Continue as OpenContinue}
+use Rattle.ceal_base.specs.declared.typed.TypedStmt.TheVariants.{Declare, Assign, SetField, Write, Call, Return, Break, Continue, rolls-Declare, rolls-Assign, rolls-SetField, rolls-Write, rolls-Call, rolls-If, rolls-While, rolls-Return, rolls-Break, rolls-Continue}
 use Rattle.ceal_base.specs.declared.typed.TypedStmt.TheViews.{If, While}
 use Rattle.ceal_base.specs.declared.typed.TypedValue.{TypedValue}
 use Rattle.ceal_base.specs.declared.typed.TypedValue.TheVariants.{Plain, Read, Alloc, ModrefInt, Modref}
 use Rattle.ceal_base.specs.declared.word.Word.{Word}
-use Rattle.ceal_mean.specs.Exec.{taken, first_env, entered, given, effect, is_return, is_over, settled, stepped, new_block}
-use Rattle.ceal_mean.specs.Frame.{Frame, State}
+use Rattle.ceal_mean.specs.Exec.{taken, first_env, entered, given, effect, is_over, settled, stepped, new_block}
+use Rattle.ceal_mean.specs.Frame.{Item, Do, Again, statement_of, Frame, State}
 use Rattle.ceal_mean.specs.Fresh.{run_settled}
 use Rattle.ceal_mean.specs.Init.{made_by}
+use Rattle.ceal_mean.specs.Jumps.{ready}
 use Rattle.ceal_mean.specs.Value.{value_of, values_of}
-use Rattle.ceal_flow.specs.Blocks.{sizes, all_go_on, target, entry, blocks_of, all_blocks}
+use Rattle.ceal_flow.specs.Blocks.{sizes, all_go_on, no_loop, in_loop, target, entry, blocks_of, all_blocks}
 use Rattle.ceal_flow.specs.Fresh.{Point, State as GraphState, initialiser_in, taken as graph_taken, entered as graph_entered, given as graph_given, is_over as block_is_over, settled as graph_settled, stepped as graph_stepped, run_settled as graph_run_settled}
 use Rattle.ceal_flow.specs.Laws.{RunsAs}
 use Rattle.ceal_flow.specs.Lowering.{end_of, first_of, core_blocks, function_at, function_in, blocks_at, graph_of}
 use Rattle.ceal_flow.specs.Program.{Graph}
 use Rattle.ceal_flow.specs.declared.block.GraphBlock.{GraphBlock}
 use Rattle.ceal_flow.specs.declared.block.GraphBlock.TheVariants.{Done, Test, Act}
+use Rattle.ceal_flow.specs.declared.exits.Exits.{Exits}
 use Rattle.ceal_flow.proofs.BlockSteps.{on-declare, on-assign, on-set, on-write, on-call, on-if, on-while, blocks-declare, blocks-assign, blocks-set, blocks-write, blocks-call, blocks-if, blocks-while, all-length}
 use Rattle.ceal_flow.proofs.Placing.{Placed, placed-head, placed-left, placed-right, placed-tail, made-at, all-at}
-use Rattle.ceal_flow.proofs.Simulation.{Stands, ends, goes, stops, Front, front, at-end}
+use Rattle.ceal_flow.proofs.Simulation.{is_jump, Stands, Around, part-stands, part-around, Ready, all-ready, Front, front}
 
 -- the function of which it holds
 pub record Found (o : Option TypedFunction) (P : TypedFunction → Type 0) : Type 0 where
@@ -53,38 +55,40 @@ or-right : (b : Bool) → (b || true) ≡ true
 or-right true = refl
 or-right false = refl
 
-row-usage : (fs : List TypedFunction) (xs : List TypedStmt) → RowCoreUsage fs (hidden-the_row-TypedStmt-0 xs) → All (CoreUsage fs) xs
+row-usage : (fs : List TypedFunction) (looped : Bool) (xs : List TypedStmt) → RowCoreUsage fs looped (hidden-the_row-TypedStmt-0 xs) → All (CoreUsage fs looped) xs
 unfolding CoreUsage hidden-the_row-TypedStmt-0 shape-the_row-TypedStmt-0 denote.Hole.Carrier.hidden
-row-usage fs [] h = All-nil (CoreUsage fs)
-row-usage fs (x ∷ xs) h = All-cons (CoreUsage fs) x xs h.0 (row-usage fs xs h.1)
+row-usage fs looped [] h = All-nil (CoreUsage fs looped)
+row-usage fs looped (x ∷ xs) h = All-cons (CoreUsage fs looped) x xs h.0 (row-usage fs looped xs h.1)
 
 abbrev BodyUsage : List TypedFunction → List TypedStmt → Option ℕ → Type 0
-BodyUsage fs body None = All (CoreUsage fs) body
+BodyUsage fs body None = All (CoreUsage fs false) body
 BodyUsage fs body (Some s) = All InitUsage body
 
-usage-of : (fs : List TypedFunction) (f : TypedFunction) → f.initialiser ≡ None → FunctionUsage fs f → All (CoreUsage fs) f.body
+usage-of : (fs : List TypedFunction) (f : TypedFunction) → f.initialiser ≡ None → FunctionUsage fs f → All (CoreUsage fs false) f.body
 usage-of fs f e u = let P : Option ℕ → Type 0 = λ i. BodyUsage fs f.body i in subst P e u
 
--- the block at which a statement begins
-abbrev looked : TypedStmt-F TypedStmt → ℕ → ℕ → ℕ → GraphBlock
-looked (OpenDeclare at v kind value) n after done = Act (Declare at v kind value) after
-looked (OpenAssign at v value) n after done = Act (Assign at v value) after
-looked (OpenSetField at left s field e) n after done = Act (SetField at left s field e) after
-looked (OpenWrite at place e) n after done = Act (Write at place e) after
-looked (OpenCall at f args) n after done = Act (Call at f args) after
-looked (OpenIf at test first second) n after done = Test test (entry first (n + 1) after done) (entry second (n + 1 + sizes first) after done)
-looked (OpenWhile at test body) n after done = Test test (entry body (n + 1) n done) after
-looked (OpenReturn at) n after done = Done
+-- the block at which a statement begins that is no jump
+abbrev looked : TypedStmt-F TypedStmt → ℕ → ℕ → Exits → GraphBlock
+looked (OpenDeclare at v kind value) n after exits = Act (Declare at v kind value) after
+looked (OpenAssign at v value) n after exits = Act (Assign at v value) after
+looked (OpenSetField at left s field e) n after exits = Act (SetField at left s field e) after
+looked (OpenWrite at place e) n after exits = Act (Write at place e) after
+looked (OpenCall at f args) n after exits = Act (Call at f args) after
+looked (OpenIf at test first second) n after exits = Test test (entry first (n + 1) after exits) (entry second (n + 1 + sizes first) after exits)
+looked (OpenWhile at test body) n after exits = Test test (entry body (n + 1) n (in_loop exits n after)) after
+looked _ n after exits = Done
 
 module _ (p : Typed) (kept : KeepsUsage p) where
   abbrev g : Graph
   g = graph_of p
 
-  -- a frame and a point: the statements stand at the block, and the words of the variables are the same
+  -- a frame and a point: the items stand at the block, and the words of the variables are the same
   pub record Along (f : Frame) (q : Point) : Type 0 where
     pub done : ℕ
     pub over : slice_get g.blocks done ≡ Some Done
-    pub stands : Stands p.functions g.blocks done f.todo q.block
+    pub exits : Exits
+    pub stands : Stands p.functions g.blocks done exits f.todo q.block
+    pub around : Around p.functions g.blocks done exits f.todo
     pub env : f.env ≡ q.env
 
   abbrev pub AllAlong : List Frame → List Point → Type 0
@@ -121,14 +125,19 @@ module _ (p : Typed) (kept : KeepsUsage p) where
   taken-same env m (Modref at s) u = refl
 
   -- a call
-  core-along : (f : TypedFunction) (n : ℕ) (args : List Word) → f.initialiser ≡ None → All (CoreUsage p.functions) f.body → Placed g.blocks n (core_blocks f.body n)
-      → Along (record { todo = f.body; env = first_env f args }) (record { block = first_of f.body n; env = first_env f args })
+  core-along : (f : TypedFunction) (n : ℕ) (args : List Word) → f.initialiser ≡ None → All (CoreUsage p.functions false) f.body → Placed g.blocks n (core_blocks f.body n)
+      → Along (record { todo = map Do f.body; env = first_env f args }) (record { block = first_of f.body n; env = first_env f args })
   core-along f n args i usage placed =
       let done = end_of f.body n in
+      let exits : Exits = no_loop done in
+      let all : map Do f.body ++ [] ≡ map Do f.body = append-nil (map Do f.body) in
       record {
         done = done;
-        over = placed-head g.blocks done Done [] (placed-right g.blocks n (all_blocks f.body n done done) (Done ∷ []) (sizes f.body) (sym (all-length f.body n done done)) placed);
-        stands = goes f.body [] n done (sym (append-nil f.body)) refl usage (placed-left g.blocks n (all_blocks f.body n done done) (Done ∷ []) placed) (ends refl refl);
+        over = placed-head g.blocks done Done [] (placed-right g.blocks n (all_blocks f.body n done exits) (Done ∷ []) (sizes f.body) (sym (all-length f.body n done exits)) placed);
+        exits = exits;
+        stands = subst (λ todo. Stands p.functions g.blocks done exits todo (first_of f.body n)) all
+            (part-stands p.functions g.blocks done exits false f.body [] n done usage (placed-left g.blocks n (all_blocks f.body n done exits) (Done ∷ []) placed) (λ on. refl));
+        around = subst (λ todo. Around p.functions g.blocks done exits todo) all (part-around p.functions g.blocks done exits f.body [] refl);
         env = refl;
       }
 
@@ -147,177 +156,218 @@ module _ (p : Typed) (kept : KeepsUsage p) where
       let h = found (slice_get p.functions k) (λ x. IsNone x.initialiser) u in call-of k h.function args h.is (none-is h.function.initialiser h.holds)
 
   module _ (done : ℕ) (over : slice_get g.blocks done ≡ Some Done) where
-    abbrev Stand : List TypedStmt → ℕ → Type 0
-    Stand todo at = Stands p.functions g.blocks done todo at
+    abbrev Stand : Exits → List Item → ℕ → Type 0
+    Stand exits todo at = Stands p.functions g.blocks done exits todo at
 
-    abbrev Fronts : TypedStmt → List TypedStmt → ℕ → Type 0
+    abbrev Surround : Exits → List Item → Type 0
+    Surround exits todo = Around p.functions g.blocks done exits todo
+
+    abbrev Fronts : TypedStmt → List Item → ℕ → Type 0
     Fronts s rest at = Front p.functions g.blocks done s rest at
 
-    -- the block of a statement that is no `return`
-    first-block : (s : TypedStmt) (rest : List TypedStmt) (at : ℕ) (fr : Fronts s rest at) (b : GraphBlock) (bs : List GraphBlock)
-        → target s fr.n done ≡ fr.n → blocks_of s fr.n fr.after done ≡ b ∷ bs → slice_get g.blocks at ≡ Some b
-    first-block s rest at fr b bs t e = ap (slice_get g.blocks) (fr.here ∙ t) ∙ placed-head g.blocks fr.n b bs (rw e at fr.placed)
+    -- the block of a statement that is no jump
+    first-block : (s : TypedStmt) (rest : List Item) (at : ℕ) (fr : Fronts s rest at) (b : GraphBlock) (bs : List GraphBlock)
+        → target s fr.n fr.exits ≡ fr.n → blocks_of s fr.n fr.after fr.exits ≡ b ∷ bs → slice_get g.blocks at ≡ Some b
+    first-block s rest at fr b bs t e =
+        let st = fr.stands in ap (slice_get g.blocks) (fr.here ∙ t) ∙ placed-head g.blocks fr.n b bs (rw e at st.placed)
 
-    look-at : (s : TypedStmt) (o : TypedStmt-F TypedStmt) (rest : List TypedStmt) (at : ℕ) (fr : Fronts s rest at) → out-TypedStmt s ≡ o
-        → slice_get g.blocks at ≡ Some (looked o fr.n fr.after done)
-    look-at s (OpenDeclare sp v kind value) rest at fr e =
+    look-at : (s : TypedStmt) (o : TypedStmt-F TypedStmt) (rest : List Item) (at : ℕ) (fr : Fronts s rest at) → out-TypedStmt s ≡ o → is_jump s ≡ false
+        → slice_get g.blocks at ≡ Some (looked o fr.n fr.after fr.exits)
+    look-at s (OpenDeclare sp v kind value) rest at fr e r =
         let is : s ≡ Declare sp v kind value = sym (roll-out-TypedStmt s) ∙ ap roll-TypedStmt e ∙ rolls-Declare sp v kind value in
-        let blocks : blocks_of s fr.n fr.after done ≡ Act (Declare sp v kind value) fr.after ∷ [] = rw is (blocks-declare fr.n fr.after done sp v kind value) in
+        let blocks : blocks_of s fr.n fr.after fr.exits ≡ Act (Declare sp v kind value) fr.after ∷ [] = rw is (blocks-declare fr.n fr.after fr.exits sp v kind value) in
         first-block s rest at fr _ _ (rw is refl) blocks
-    look-at s (OpenAssign sp v value) rest at fr e =
+    look-at s (OpenAssign sp v value) rest at fr e r =
         let is : s ≡ Assign sp v value = sym (roll-out-TypedStmt s) ∙ ap roll-TypedStmt e ∙ rolls-Assign sp v value in
-        let blocks : blocks_of s fr.n fr.after done ≡ Act (Assign sp v value) fr.after ∷ [] = rw is (blocks-assign fr.n fr.after done sp v value) in
+        let blocks : blocks_of s fr.n fr.after fr.exits ≡ Act (Assign sp v value) fr.after ∷ [] = rw is (blocks-assign fr.n fr.after fr.exits sp v value) in
         first-block s rest at fr _ _ (rw is refl) blocks
-    look-at s (OpenSetField sp left k field x) rest at fr e =
+    look-at s (OpenSetField sp left k field x) rest at fr e r =
         let is : s ≡ SetField sp left k field x = sym (roll-out-TypedStmt s) ∙ ap roll-TypedStmt e ∙ rolls-SetField sp left k field x in
-        let blocks : blocks_of s fr.n fr.after done ≡ Act (SetField sp left k field x) fr.after ∷ [] = rw is (blocks-set fr.n fr.after done sp left k field x) in
+        let blocks : blocks_of s fr.n fr.after fr.exits ≡ Act (SetField sp left k field x) fr.after ∷ [] = rw is (blocks-set fr.n fr.after fr.exits sp left k field x) in
         first-block s rest at fr _ _ (rw is refl) blocks
-    look-at s (OpenWrite sp place x) rest at fr e =
+    look-at s (OpenWrite sp place x) rest at fr e r =
         let is : s ≡ Write sp place x = sym (roll-out-TypedStmt s) ∙ ap roll-TypedStmt e ∙ rolls-Write sp place x in
-        let blocks : blocks_of s fr.n fr.after done ≡ Act (Write sp place x) fr.after ∷ [] = rw is (blocks-write fr.n fr.after done sp place x) in
+        let blocks : blocks_of s fr.n fr.after fr.exits ≡ Act (Write sp place x) fr.after ∷ [] = rw is (blocks-write fr.n fr.after fr.exits sp place x) in
         first-block s rest at fr _ _ (rw is refl) blocks
-    look-at s (OpenCall sp f args) rest at fr e =
+    look-at s (OpenCall sp f args) rest at fr e r =
         let is : s ≡ Call sp f args = sym (roll-out-TypedStmt s) ∙ ap roll-TypedStmt e ∙ rolls-Call sp f args in
-        let blocks : blocks_of s fr.n fr.after done ≡ Act (Call sp f args) fr.after ∷ [] = rw is (blocks-call fr.n fr.after done sp f args) in
+        let blocks : blocks_of s fr.n fr.after fr.exits ≡ Act (Call sp f args) fr.after ∷ [] = rw is (blocks-call fr.n fr.after fr.exits sp f args) in
         first-block s rest at fr _ _ (rw is refl) blocks
-    look-at s (OpenIf sp test first second) rest at fr e =
+    look-at s (OpenIf sp test first second) rest at fr e r =
         let is : s ≡ If sp test first second = sym (roll-out-TypedStmt s) ∙ ap roll-TypedStmt e ∙ rolls-If sp test first second in
-        let blocks : blocks_of s fr.n fr.after done ≡ looked (OpenIf sp test first second) fr.n fr.after done
-        ∷ (all_blocks first (fr.n + 1) fr.after done ++ all_blocks second (fr.n + 1 + sizes first) fr.after done) =
-        rw is (blocks-if fr.n fr.after done sp test first second) in
+        let blocks : blocks_of s fr.n fr.after fr.exits ≡ looked (OpenIf sp test first second) fr.n fr.after fr.exits
+        ∷ (all_blocks first (fr.n + 1) fr.after fr.exits ++ all_blocks second (fr.n + 1 + sizes first) fr.after fr.exits) =
+        rw is (blocks-if fr.n fr.after fr.exits sp test first second) in
         first-block s rest at fr _ _ (rw is refl) blocks
-    look-at s (OpenWhile sp test body) rest at fr e =
+    look-at s (OpenWhile sp test body) rest at fr e r =
         let is : s ≡ While sp test body = sym (roll-out-TypedStmt s) ∙ ap roll-TypedStmt e ∙ rolls-While sp test body in
-        let blocks : blocks_of s fr.n fr.after done ≡ looked (OpenWhile sp test body) fr.n fr.after done ∷ all_blocks body (fr.n + 1) fr.n done =
-        rw is (blocks-while fr.n fr.after done sp test body) in
+        let blocks : blocks_of s fr.n fr.after fr.exits ≡ looked (OpenWhile sp test body) fr.n fr.after fr.exits ∷ all_blocks body (fr.n + 1) fr.n (in_loop fr.exits fr.n fr.after) =
+        rw is (blocks-while fr.n fr.after fr.exits sp test body) in
         first-block s rest at fr _ _ (rw is refl) blocks
-    look-at s (OpenReturn sp) rest at fr e =
-        let is : s ≡ Return sp = sym (roll-out-TypedStmt s) ∙ ap roll-TypedStmt e ∙ rolls-Return sp in
-        let there : at ≡ done = fr.here ∙ rw is refl in ap (slice_get g.blocks) there ∙ over
+    look-at s (OpenReturn sp) rest at fr e r =
+        let is : s ≡ Return sp = sym (roll-out-TypedStmt s) ∙ ap roll-TypedStmt e ∙ rolls-Return sp in let no : true ≡ false = rw is at r in cc
+    look-at s (OpenBreak sp) rest at fr e r =
+        let is : s ≡ Break sp = sym (roll-out-TypedStmt s) ∙ ap roll-TypedStmt e ∙ rolls-Break sp in let no : true ≡ false = rw is at r in cc
+    look-at s (OpenContinue sp) rest at fr e r =
+        let is : s ≡ Continue sp = sym (roll-out-TypedStmt s) ∙ ap roll-TypedStmt e ∙ rolls-Continue sp in let no : true ≡ false = rw is at r in cc
 
     -- a frame is over where its point is
-    over-looked : (o : TypedStmt-F TypedStmt) (n after : ℕ) → is_return o ≡ block_is_over (Some (looked o n after done))
-    over-looked (OpenDeclare sp v kind value) n after = refl
-    over-looked (OpenAssign sp v value) n after = refl
-    over-looked (OpenSetField sp left k field x) n after = refl
-    over-looked (OpenWrite sp place x) n after = refl
-    over-looked (OpenCall sp f args) n after = refl
-    over-looked (OpenIf sp test first second) n after = refl
-    over-looked (OpenWhile sp test body) n after = refl
-    over-looked (OpenReturn sp) n after = refl
+    runs-looked : (s : TypedStmt) (o : TypedStmt-F TypedStmt) (n after : ℕ) (exits : Exits) → out-TypedStmt s ≡ o → is_jump s ≡ false → block_is_over (Some (looked o n after exits)) ≡ false
+    runs-looked s (OpenDeclare sp v kind value) n after exits e r = refl
+    runs-looked s (OpenAssign sp v value) n after exits e r = refl
+    runs-looked s (OpenSetField sp left k field x) n after exits e r = refl
+    runs-looked s (OpenWrite sp place x) n after exits e r = refl
+    runs-looked s (OpenCall sp f args) n after exits e r = refl
+    runs-looked s (OpenIf sp test first second) n after exits e r = refl
+    runs-looked s (OpenWhile sp test body) n after exits e r = refl
+    runs-looked s (OpenReturn sp) n after exits e r =
+        let is : s ≡ Return sp = sym (roll-out-TypedStmt s) ∙ ap roll-TypedStmt e ∙ rolls-Return sp in let no : true ≡ false = rw is at r in cc
+    runs-looked s (OpenBreak sp) n after exits e r =
+        let is : s ≡ Break sp = sym (roll-out-TypedStmt s) ∙ ap roll-TypedStmt e ∙ rolls-Break sp in let no : true ≡ false = rw is at r in cc
+    runs-looked s (OpenContinue sp) n after exits e r =
+        let is : s ≡ Continue sp = sym (roll-out-TypedStmt s) ∙ ap roll-TypedStmt e ∙ rolls-Continue sp in let no : true ≡ false = rw is at r in cc
 
-    pub over-same : (todo : List TypedStmt) (at : ℕ) → Stand todo at → is_over todo ≡ block_is_over (slice_get g.blocks at)
-    over-same [] at st = let there = at-end p.functions g.blocks done [] at refl st in rw (there, over) refl
-    over-same (s ∷ rest) at st =
-        let fr = front p.functions g.blocks done s rest (s ∷ rest) at refl st in
-        rw (look-at s (out-TypedStmt s) rest at fr refl) (over-looked (out-TypedStmt s) fr.n fr.after)
+    pub over-same : (items : List Item) (at : ℕ) → Ready p.functions g.blocks done items at → is_over items ≡ block_is_over (slice_get g.blocks at)
+    over-same [] at r = rw (r.stands, over) refl
+    over-same (item ∷ rest) at r =
+        let s = statement_of item in
+        let fr = front p.functions g.blocks done item rest at r in
+        rw (look-at s (out-TypedStmt s) rest at fr refl r.first) (sym (runs-looked s (out-TypedStmt s) fr.n fr.after fr.exits refl r.first))
 
-    -- a part of a statement, which is followed by what follows the statement
-    part-stands-at : (ss rest : List TypedStmt) (n after : ℕ) (b : Bool) → all_go_on ss ≡ b → All (CoreUsage p.functions) ss → Placed g.blocks n (all_blocks ss n after done)
-        → (all_go_on ss ≡ true → Stand rest after) → Stand (ss ++ rest) (entry ss n after done)
-    part-stands-at ss rest n after true e usage placed next = goes ss rest n after refl refl usage placed (next e)
-    part-stands-at ss rest n after false e usage placed next = stops ss rest n after refl refl usage placed e
-
-    if-stands : (b : Bool) (first second rest : List TypedStmt) (n m after : ℕ) → Stand (first ++ rest) n → Stand (second ++ rest) m
-        → Stand ((if b then first else second) ++ rest) (if b then n else m)
-    if-stands true first second rest n m after h k = h
-    if-stands false first second rest n m after h k = k
-
-    while-stands : (b : Bool) (body : List TypedStmt) (s : TypedStmt) (rest : List TypedStmt) (n after : ℕ) → Stand (body ++ s ∷ rest) n → Stand rest after
-        → Stand (if b then body ++ s ∷ rest else rest) (if b then n else after)
-    while-stands true body s rest n after h k = h
-    while-stands false body s rest n after h k = k
-
-    module _ (m : Blocks) (env : List Word) (rest : List TypedStmt) (below : List Frame) (points : List Point) (along : AllAlong below points) where
+    module _ (m : Blocks) (env : List Word) (rest : List Item) (below : List Frame) (points : List Point) (along : AllAlong below points) where
       -- one statement and one block
-      next-along : (todo : List TypedStmt) (at : ℕ) (words : List Word) → Stand todo at
+      next-along : (exits : Exits) (todo : List Item) (at : ℕ) (words : List Word) → Stand exits todo at → Surround exits todo
           → AllAlong (record { todo = todo; env = words } ∷ below) (record { block = at; env = words } ∷ points)
-      next-along todo at words st = (record { done = done; over = over; stands = st; env = refl }, along)
+      next-along exits todo at words st ar = (record { done = done; over = over; exits = exits; stands = st; around = ar; env = refl }, along)
 
-      given-along : (v : ℕ) (value : TypedValue) (after : ℕ) → ValueUsage p.functions value → Stand rest after
+      -- a part of an `if`, which is followed by what follows the `if`
+      if-along : (exits : Exits) (b : Bool) (first second : List TypedStmt) (n k : ℕ) → Surround exits rest
+          → Stand exits (map Do first ++ rest) n → Stand exits (map Do second ++ rest) k
+          → AllAlong (record { todo = map Do (if b then first else second) ++ rest; env = env } ∷ below) (record { block = (if b then n else k); env = env } ∷ points)
+      if-along exits true first second n k ar one two =
+          next-along exits (map Do first ++ rest) n env one (part-around p.functions g.blocks done exits first rest ar)
+      if-along exits false first second n k ar one two =
+          next-along exits (map Do second ++ rest) k env two (part-around p.functions g.blocks done exits second rest ar)
+
+      -- the body of a `while`, which is followed by the `while` again
+      while-along : (exits inside : Exits) (b : Bool) (body : List TypedStmt) (s : TypedStmt) (n k : ℕ)
+          → Surround inside (Again s ∷ rest) → Stand inside (map Do body ++ Again s ∷ rest) n → Surround exits rest → Stand exits rest k
+          → AllAlong (record { todo = (if b then map Do body ++ Again s ∷ rest else rest); env = env } ∷ below) (record { block = (if b then n else k); env = env } ∷ points)
+      while-along exits inside true body s n k within one ar two =
+          next-along inside (map Do body ++ Again s ∷ rest) n env one (part-around p.functions g.blocks done inside body (Again s ∷ rest) within)
+      while-along exits inside false body s n k within one ar two = next-along exits rest k env two ar
+
+      given-along : (exits : Exits) (v : ℕ) (value : TypedValue) (after : ℕ) → ValueUsage p.functions value → Stand exits rest after → Surround exits rest
           → StatesAlong (given (taken p env m value) v rest env below) (graph_given (graph_taken g env m value) v after env points)
-      given-along v value after u st = rw (taken-same env m value u) (record { memory = refl; frames = next-along rest after (slice_set env v (graph_taken g env m value).word) st })
+      given-along exits v value after u st ar =
+          rw (taken-same env m value u) (record { memory = refl; frames = next-along exits rest after (slice_set env v (graph_taken g env m value).word) st ar })
 
-      step-of : (s : TypedStmt) (o : TypedStmt-F TypedStmt) (at : ℕ) → out-TypedStmt s ≡ o → is_return o ≡ false → Stand (s ∷ rest) at → (fr : Fronts s rest at)
-          → StatesAlong (effect p m env rest below s o) (graph_stepped g m env points (Some (looked o fr.n fr.after done)))
+      step-of : (s : TypedStmt) (o : TypedStmt-F TypedStmt) (at : ℕ) → out-TypedStmt s ≡ o → is_jump s ≡ false → (fr : Fronts s rest at)
+          → StatesAlong (effect p m env rest below s o) (graph_stepped g m env points (Some (looked o fr.n fr.after fr.exits)))
       unfolding CoreUsage
-      step-of s (OpenDeclare sp v kind value) at e r st fr =
+      step-of s (OpenDeclare sp v kind value) at e r fr =
           let is : s ≡ Declare sp v kind value = sym (roll-out-TypedStmt s) ∙ ap roll-TypedStmt e ∙ rolls-Declare sp v kind value in
-          given-along v value fr.after (rw is at fr.usage) (fr.next (rw is (on-declare sp v kind value)))
-      step-of s (OpenAssign sp v value) at e r st fr =
+          let st = fr.stands in
+          given-along fr.exits v value fr.after (rw is at st.usage) (fr.next (rw is (on-declare sp v kind value))) fr.around
+      step-of s (OpenAssign sp v value) at e r fr =
           let is : s ≡ Assign sp v value = sym (roll-out-TypedStmt s) ∙ ap roll-TypedStmt e ∙ rolls-Assign sp v value in
-          given-along v value fr.after (rw is at fr.usage) (fr.next (rw is (on-assign sp v value)))
-      step-of s (OpenSetField sp left k field x) at e r st fr =
+          let st = fr.stands in
+          given-along fr.exits v value fr.after (rw is at st.usage) (fr.next (rw is (on-assign sp v value))) fr.around
+      step-of s (OpenSetField sp left k field x) at e r fr =
           let is : s ≡ SetField sp left k field x = sym (roll-out-TypedStmt s) ∙ ap roll-TypedStmt e ∙ rolls-SetField sp left k field x in
-          record { memory = refl; frames = next-along rest fr.after env (fr.next (rw is (on-set sp left k field x))) }
-      step-of s (OpenWrite sp place x) at e r st fr =
+          record { memory = refl; frames = next-along fr.exits rest fr.after env (fr.next (rw is (on-set sp left k field x))) fr.around }
+      step-of s (OpenWrite sp place x) at e r fr =
           let is : s ≡ Write sp place x = sym (roll-out-TypedStmt s) ∙ ap roll-TypedStmt e ∙ rolls-Write sp place x in
-          record { memory = refl; frames = next-along rest fr.after env (fr.next (rw is (on-write sp place x))) }
-      step-of s (OpenCall sp f args) at e r st fr =
+          record { memory = refl; frames = next-along fr.exits rest fr.after env (fr.next (rw is (on-write sp place x))) fr.around }
+      step-of s (OpenCall sp f args) at e r fr =
           let is : s ≡ Call sp f args = sym (roll-out-TypedStmt s) ∙ ap roll-TypedStmt e ∙ rolls-Call sp f args in
+          let st = fr.stands in
           record {
             memory = refl;
             frames = along-append (entered p f (values_of env m args)) _ (graph_entered g f (values_of env m args)) _
-                (call-along f (values_of env m args) (rw is at fr.usage)) (next-along rest fr.after env (fr.next (rw is (on-call sp f args))));
+                (call-along f (values_of env m args) (rw is at st.usage)) (next-along fr.exits rest fr.after env (fr.next (rw is (on-call sp f args))) fr.around);
           }
-      step-of s (OpenIf sp test first second) at e r st fr =
+      step-of s (OpenIf sp test first second) at e r fr =
           let is : s ≡ If sp test first second = sym (roll-out-TypedStmt s) ∙ ap roll-TypedStmt e ∙ rolls-If sp test first second in
-          let usage = rw is at fr.usage in
-          let blocks = rw (is, blocks-if) at fr.placed in
+          let st = fr.stands in
+          let looped = st.looped in
+          let usage = rw is at st.usage in
+          let blocks = rw (is, blocks-if) at st.placed in
           let parts = placed-tail g.blocks fr.n _ _ blocks in
           let k = fr.n + 1 in
           let other = k + sizes first in
-          let one = part-stands-at first rest k fr.after (all_go_on first) refl (row-usage p.functions first usage.0)
-          (placed-left g.blocks k (all_blocks first k fr.after done) (all_blocks second other fr.after done) parts)
+          let one = part-stands p.functions g.blocks done fr.exits looped first rest k fr.after (row-usage p.functions looped first usage.0)
+          (placed-left g.blocks k (all_blocks first k fr.after fr.exits) (all_blocks second other fr.after fr.exits) parts)
           (λ on. fr.next (rw (is, on-if, on) refl)) in
-          let two = part-stands-at second rest other fr.after (all_go_on second) refl (row-usage p.functions second usage.1)
-          (placed-right g.blocks k (all_blocks first k fr.after done) (all_blocks second other fr.after done) (sizes first) (sym (all-length first k fr.after done)) parts)
+          let two = part-stands p.functions g.blocks done fr.exits looped second rest other fr.after (row-usage p.functions looped second usage.1)
+          (placed-right g.blocks k (all_blocks first k fr.after fr.exits) (all_blocks second other fr.after fr.exits) (sizes first) (sym (all-length first k fr.after fr.exits)) parts)
           (λ on. fr.next (rw (is, on-if, on) (or-right (all_go_on first)))) in
-          record { memory = refl; frames = next-along _ _ env (if-stands (holds (value_of env m test)) first second rest _ _ fr.after one two) }
-      step-of s (OpenWhile sp test body) at e r st fr =
+          record { memory = refl; frames = if-along fr.exits (holds (value_of env m test)) first second _ _ fr.around one two }
+      step-of s (OpenWhile sp test body) at e r fr =
           let is : s ≡ While sp test body = sym (roll-out-TypedStmt s) ∙ ap roll-TypedStmt e ∙ rolls-While sp test body in
-          let usage = rw is at fr.usage in
-          let blocks = rw (is, blocks-while) at fr.placed in
+          let st = fr.stands in
+          let inside : Exits = in_loop fr.exits fr.n fr.after in
+          let usage = rw is at st.usage in
+          let blocks = rw (is, blocks-while) at st.placed in
           let part = placed-tail g.blocks fr.n _ _ blocks in
-          let here : at ≡ fr.n = fr.here ∙ rw is refl in
-          let again : Stand (s ∷ rest) fr.n = subst (λ i. Stand (s ∷ rest) i) here st in
-          let one = goes body (s ∷ rest) (fr.n + 1) fr.n refl refl (row-usage p.functions body usage) part again in
-          record { memory = refl; frames = next-along _ _ env (while-stands (holds (value_of env m test)) body s rest _ fr.after one (fr.next (rw is (on-while sp test body)))) }
-      step-of s (OpenReturn sp) at e r st fr = cc
+          let on = fr.next (rw is (on-while sp test body)) in
+          let within : Surround inside (Again s ∷ rest) = (fr.exits, record { ends = refl; steps = r; stands = st }, on, fr.around) in
+          let one = part-stands p.functions g.blocks done inside true body (Again s ∷ rest) (fr.n + 1) fr.n (row-usage p.functions true body usage) part (λ on. refl) in
+          record { memory = refl; frames = while-along fr.exits inside (holds (value_of env m test)) body s _ fr.after within one fr.around on }
+      step-of s (OpenReturn sp) at e r fr =
+          let is : s ≡ Return sp = sym (roll-out-TypedStmt s) ∙ ap roll-TypedStmt e ∙ rolls-Return sp in let no : true ≡ false = rw is at r in cc
+      step-of s (OpenBreak sp) at e r fr =
+          let is : s ≡ Break sp = sym (roll-out-TypedStmt s) ∙ ap roll-TypedStmt e ∙ rolls-Break sp in let no : true ≡ false = rw is at r in cc
+      step-of s (OpenContinue sp) at e r fr =
+          let is : s ≡ Continue sp = sym (roll-out-TypedStmt s) ∙ ap roll-TypedStmt e ∙ rolls-Continue sp in let no : true ≡ false = rw is at r in cc
 
-  step-along : (m : Blocks) (f : Frame) (todo : List TypedStmt) (below : List Frame) (q : Point) (points : List Point) → todo ≡ f.todo → Along f q → AllAlong below points
-      → is_over todo ≡ false → StatesAlong (stepped p m f todo below) (graph_stepped g m q.env points (slice_get g.blocks q.block))
-  step-along m f [] below q points e a along o = cc
-  step-along m f (s ∷ rest) below q points e a along o =
-      let st : Stands p.functions g.blocks a.done (s ∷ rest) q.block = rw (← e) at a.stands in
-      let fr = front p.functions g.blocks a.done s rest (s ∷ rest) q.block refl st in
-      rw (← a.env, look-at a.done a.over s (out-TypedStmt s) rest q.block fr refl)
-      (step-of a.done a.over m f.env rest below points along s (out-TypedStmt s) q.block refl o st fr)
+  -- a frame of which the first item is a step, and its point
+  pub record ReadyAlong (items : List Item) (words : List Word) (q : Point) : Type 0 where
+    pub done : ℕ
+    pub over : slice_get g.blocks done ≡ Some Done
+    pub ready : Ready p.functions g.blocks done items q.block
+    pub env : words ≡ q.env
+
+  ready-along : (f : Frame) (q : Point) → Along f q → ReadyAlong (ready f.todo) f.env q
+  ready-along f q a = record { done = a.done; over = a.over; ready = all-ready p.functions g.blocks a.done a.exits f.todo q.block a.stands a.around; env = a.env }
+
+  step-along : (m : Blocks) (item : Item) (rest : List Item) (env : List Word) (below : List Frame) (q : Point) (points : List Point) → ReadyAlong (item ∷ rest) env q
+      → AllAlong below points
+      → StatesAlong (stepped p m (record { todo = item ∷ rest; env = env }) (item ∷ rest) below) (graph_stepped g m q.env points (slice_get g.blocks q.block))
+  step-along m item rest env below q points a along =
+      let s = statement_of item in
+      let r = a.ready in
+      let fr = front p.functions g.blocks a.done item rest q.block r in
+      rw (← a.env, look-at a.done a.over s (out-TypedStmt s) rest q.block fr refl r.first)
+      (step-of a.done a.over m env rest below points along s (out-TypedStmt s) q.block refl r.first fr)
 
   -- the running frame and the running point
   pub record Running (fs : List Frame) (qs : List Point) : Type 0 where
-    pub frame : Frame
+    pub item : Item
+    pub rest : List Item
+    pub env : List Word
     pub below : List Frame
     pub point : Point
     pub points : List Point
-    pub frames_are : settled fs ≡ frame ∷ below
+    pub frames_are : settled fs ≡ record { todo = item ∷ rest; env = env } ∷ below
     pub points_are : graph_settled g qs ≡ point ∷ points
-    pub along : Along frame point
+    pub along : ReadyAlong (item ∷ rest) env point
     pub others : AllAlong below points
-    pub runs : is_over frame.todo ≡ false
 
   abbrev Settled : List Frame → List Point → Type 0
   Settled fs qs = ((settled fs ≡ []) × (graph_settled g qs ≡ [])) ⊎ Running fs qs
 
-  settle-first : (f : Frame) (fs : List Frame) (q : Point) (qs : List Point) → Along f q × AllAlong fs qs → Settled fs qs → (b : Bool) → is_over f.todo ≡ b
-      → block_is_over (slice_get g.blocks q.block) ≡ is_over f.todo → Settled (f ∷ fs) (q ∷ qs)
-  settle-first f fs q qs h later true e o =
+  settle-first : (f : Frame) (fs : List Frame) (q : Point) (qs : List Point) → AllAlong fs qs → Settled fs qs → (items : List Item) → ready f.todo ≡ items
+      → ReadyAlong items f.env q → block_is_over (slice_get g.blocks q.block) ≡ is_over items → Settled (f ∷ fs) (q ∷ qs)
+  settle-first f fs q qs h later [] e a o =
       let s : settled (f ∷ fs) ≡ settled fs = rw e refl in
-      let t : graph_settled g (q ∷ qs) ≡ graph_settled g qs = rw (o, e) refl in
+      let t : graph_settled g (q ∷ qs) ≡ graph_settled g qs = rw o refl in
       elim later [
         | inl n ↦ inl (s ∙ n.0, t ∙ n.1)
         | inr r ↦ inr (record {
-          frame = r.frame;
+          item = r.item;
+          rest = r.rest;
+          env = r.env;
           below = r.below;
           point = r.point;
           points = r.points;
@@ -325,19 +375,19 @@ module _ (p : Typed) (kept : KeepsUsage p) where
           points_are = t ∙ r.points_are;
           along = r.along;
           others = r.others;
-          runs = r.runs;
         })
       ]
-  settle-first f fs q qs h later false e o = inr (record {
-    frame = f;
+  settle-first f fs q qs h later (item ∷ rest) e a o = inr (record {
+    item = item;
+    rest = rest;
+    env = f.env;
     below = fs;
     point = q;
     points = qs;
     frames_are = rw e refl;
-    points_are = rw (o, e) refl;
-    along = h.0;
-    others = h.1;
-    runs = e;
+    points_are = rw o refl;
+    along = a;
+    others = h;
   })
 
   settle : (fs : List Frame) (qs : List Point) → AllAlong fs qs → Settled fs qs
@@ -345,7 +395,8 @@ module _ (p : Typed) (kept : KeepsUsage p) where
   settle [] (q ∷ qs) h = absurd h
   settle (f ∷ fs) [] h = absurd h
   settle (f ∷ fs) (q ∷ qs) h =
-      settle-first f fs q qs h (settle fs qs h.1) (is_over f.todo) refl (sym (over-same h.0.done h.0.over f.todo q.block h.0.stands))
+      let a = ready-along f q h.0 in
+      settle-first f fs q qs h.1 (settle fs qs h.1) (ready f.todo) refl a (sym (over-same a.done a.over (ready f.todo) q.block a.ready))
 
   run-same : (fuel steps : ℕ) (m : Blocks) (fs : List Frame) (qs : List Point) → AllAlong fs qs
       → graph_run_settled g fuel steps m (graph_settled g qs) ≡ run_settled p fuel steps m (settled fs)
@@ -356,8 +407,8 @@ module _ (p : Typed) (kept : KeepsUsage p) where
     | inl n ↦ rw (n.0, n.1) refl
     | inr r ↦
         let t = graph_stepped g m r.point.env r.points (slice_get g.blocks r.point.block) in
-        let s = stepped p m r.frame r.frame.todo r.below in
-        let a = step-along m r.frame r.frame.todo r.below r.point r.points refl r.along r.others r.runs in
+        let s = stepped p m (record { todo = r.item ∷ r.rest; env = r.env }) (r.item ∷ r.rest) r.below in
+        let a = step-along m r.item r.rest r.env r.below r.point r.points r.along r.others in
         rw (r.frames_are, r.points_are)
         (ap (λ mm. graph_run_settled g fuel (steps + 1) mm (graph_settled g t.points)) (sym a.memory) ∙ run-same fuel (steps + 1) s.memory s.frames t.points a.frames)
   ]

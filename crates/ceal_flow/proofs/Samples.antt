@@ -9,7 +9,7 @@ use Rattle.ceal_base.specs.declared.typed.TypedExpr.{TypedExpr}
 use Rattle.ceal_base.specs.declared.typed.TypedForm.{TypedForm, Num, Var}
 use Rattle.ceal_base.specs.declared.typed.TypedStmt.{TypedStmt}
 use Rattle.ceal_base.specs.declared.typed.TypedStmt.TheBlock.{hidden-the_row-TypedStmt-0, shape-the_row-TypedStmt-0}
-use Rattle.ceal_base.specs.declared.typed.TypedStmt.TheVariants.{Assign, Declare, Write, Return}
+use Rattle.ceal_base.specs.declared.typed.TypedStmt.TheVariants.{Assign, Declare, Write, Return, Break, Continue}
 use Rattle.ceal_base.specs.declared.typed.TypedStmt.TheViews.{If, While}
 use Rattle.ceal_base.specs.declared.typed.TypedValue.TheVariants.{Plain}
 use Rattle.ceal_flow.specs.Blocks.{size, sizes, goes_on, all_go_on, blocks_of, all_blocks}
@@ -63,6 +63,17 @@ leaving = program (If at (number 1) (Return at ∷ []) (Return at ∷ []) ∷ Wr
 leaving_blocks : (graph_of leaving).blocks ≡ Test (number 1) 2 2 ∷ Unreached ∷ Done ∷ []
 unfolding blocks_from all_blocks blocks_of sizes size goes_on all_go_on hidden-the_row-TypedStmt-0 shape-the_row-TypedStmt-0 denote.Hole.Carrier.hidden
 leaving_blocks = refl
+
+-- while (n) { if (n) { break; } continue; write(o, n); } write(o, n);
+abbrev jumping : Typed
+jumping = program
+    (While at (number 1) (If at (number 1) (Break at ∷ []) [] ∷ Continue at ∷ Write at place (number 1) ∷ [])
+    ∷ Write at place (number 1) ∷ [])
+
+jumping_blocks : (graph_of jumping).blocks
+    ≡ Test (number 1) 1 3 ∷ Test (number 1) 3 0 ∷ Unreached ∷ Act (Write at place (number 1)) 4 ∷ Done ∷ []
+unfolding blocks_from all_blocks blocks_of sizes size goes_on all_go_on hidden-the_row-TypedStmt-0 shape-the_row-TypedStmt-0 denote.Hole.Carrier.hidden
+jumping_blocks = refl
 
 -- x is live behind its use, by the path back to the test and into the body
 looping_live : Live (graph_of looping).blocks 2 3

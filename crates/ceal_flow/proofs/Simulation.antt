@@ -1,74 +1,153 @@
--- A run of the graph goes along with a run of the source: each frame's statements still to do stand at the block of the
+-- A run of the graph goes along with a run of the source: what each frame has still to do stands at the block of the
 -- point that goes with it.
-use Rattle.std.proofs.Common.{◌≡◌, ℕ, ◌+◌, Bool, true, false, ◌&&◌, List, [], ◌∷◌, ◌++◌, refl, sym, ◌∙◌, All}
+use Rattle.std.proofs.Common.{◌≡◌, ℕ, ◌+◌, Bool, true, false, List, [], ◌∷◌, ◌++◌, map, refl, sym, ◌∙◌, ap, subst, All}
 use Rattle.std.proofs.lemmas.List.Elements.{All-head, All-tail}
 use Rattle.ceal_base.specs.Usage.{CoreUsage}
 use Rattle.ceal_base.specs.declared.typed.TypedFunction.{TypedFunction}
-use Rattle.ceal_base.specs.declared.typed.TypedStmt.{TypedStmt}
-use Rattle.ceal_flow.specs.Blocks.{size, goes_on, all_go_on, target, entry, blocks_of, all_blocks}
+use Rattle.ceal_base.specs.declared.typed.TypedStmt.{TypedStmt, Declare, Assign, SetField, Write, Call, If', While', Return, Break, Continue}
+use Rattle.ceal_mean.specs.Frame.{Item, Do, Again, statement_of}
+use Rattle.ceal_mean.specs.Jumps.{next_turn, ready, ready_behind}
+use Rattle.ceal_flow.specs.Blocks.{size, goes_on, all_go_on, no_loop, target, entry, blocks_of, all_blocks}
 use Rattle.ceal_flow.specs.declared.block.GraphBlock.{GraphBlock}
+use Rattle.ceal_flow.specs.declared.exits.Exits.{Exits}
 use Rattle.ceal_flow.proofs.BlockSteps.{on-cons, on-nil}
 use Rattle.ceal_flow.proofs.Placing.{Placed, placed-first, placed-rest}
 
-module _ (fs : List TypedFunction) (blocks : List GraphBlock) (done : ℕ) where
-  -- the statements still to do stand at a block: they are parts of bodies, each of which stands where the part before it
-  -- leads; behind a part that does not go on anything may follow
-  pub data Stands : List TypedStmt → ℕ → Type 0 where
-    ends : {todo : List TypedStmt} {at : ℕ} → todo ≡ [] → at ≡ done → Stands todo at
-    goes : {todo : List TypedStmt} {at : ℕ} → (ss rest : List TypedStmt) (n after : ℕ) → todo ≡ ss ++ rest → at ≡ entry ss n after done
-        → All (CoreUsage fs) ss → Placed blocks n (all_blocks ss n after done) → Stands rest after → Stands todo at
-    stops : {todo : List TypedStmt} {at : ℕ} → (ss rest : List TypedStmt) (n after : ℕ) → todo ≡ ss ++ rest → at ≡ entry ss n after done
-        → All (CoreUsage fs) ss → Placed blocks n (all_blocks ss n after done) → all_go_on ss ≡ false → Stands todo at
+-- a statement that takes no step
+abbrev pub is_jump : TypedStmt → Bool
+is_jump (Return at) = true
+is_jump (Break at) = true
+is_jump (Continue at) = true
+is_jump _ = false
 
-  -- the first statement, and what stands behind it where it goes on
-  pub record Front (s : TypedStmt) (rest : List TypedStmt) (at : ℕ) : Type 0 where
+target-stays : (s : TypedStmt) (n : ℕ) (exits : Exits) → is_jump s ≡ false → target s n exits ≡ n
+target-stays (Declare at v kind value) n exits h = refl
+target-stays (Assign at v value) n exits h = refl
+target-stays (SetField at left k field x) n exits h = refl
+target-stays (Write at place x) n exits h = refl
+target-stays (Call at f args) n exits h = refl
+target-stays (If' at test _ first _ second) n exits h = refl
+target-stays (While' at test _ body) n exits h = refl
+target-stays (Return at) n exits h = cc
+target-stays (Break at) n exits h = cc
+target-stays (Continue at) n exits h = cc
+
+-- the first item is no jump
+abbrev pub FirstSteps : List Item → Type 0
+FirstSteps [] = Unit {0}
+FirstSteps (item ∷ rest) = is_jump (statement_of item) ≡ false
+
+module _ (fs : List TypedFunction) (blocks : List GraphBlock) (done : ℕ) where
+  -- a statement stands at block `n`, and leads to `after`
+  pub record Placement (exits : Exits) (s : TypedStmt) (n after : ℕ) : Type 0 where
+    pub looped : Bool
+    pub usage : CoreUsage fs looped s
+    pub placed : Placed blocks n (blocks_of s n after exits)
+
+  -- the items still to do stand at a block, from which jumps lead to these exits: each statement stands where the one
+  -- before it leads, and behind one that does not go on anything may follow
+  abbrev pub Stands : Exits → List Item → ℕ → Type 0
+  Stands exits [] at = at ≡ done
+  Stands exits (Do s ∷ rest) at =
+      (n : ℕ) × (after : ℕ) × (at ≡ target s n exits) × Placement exits s n after × (goes_on s ≡ true → Stands exits rest after)
+  Stands exits (Again w ∷ rest) at = at ≡ exits.test
+
+  -- the loop of these exits, which stands among those outside of it
+  pub record Loop (exits : Exits) (w : TypedStmt) (outer : Exits) : Type 0 where
+    pub ends : exits.done ≡ outer.done
+    pub steps : is_jump w ≡ false
+    pub stands : Placement outer w exits.test exits.behind
+
+  -- the loops around the items stand where the exits lead
+  abbrev pub Around : Exits → List Item → Type 0
+  Around exits [] = exits ≡ no_loop done
+  Around exits (Do s ∷ rest) = Around exits rest
+  Around exits (Again w ∷ rest) = (outer : Exits) × Loop exits w outer × Stands outer rest exits.behind × Around outer rest
+
+  around-done : (exits : Exits) (items : List Item) → Around exits items → exits.done ≡ done
+  around-done exits [] h = ap (λ (e : Exits). e.done) h
+  around-done exits (Do s ∷ rest) h = around-done exits rest h
+  around-done exits (Again w ∷ rest) h = let l = h.1 in l.ends ∙ around-done h.0 rest h.3
+
+  -- a body before other items
+  pub part-stands : (exits : Exits) (looped : Bool) (ss : List TypedStmt) (rest : List Item) (n after : ℕ) → All (CoreUsage fs looped) ss
+      → Placed blocks n (all_blocks ss n after exits) → (all_go_on ss ≡ true → Stands exits rest after) → Stands exits (map Do ss ++ rest) (entry ss n after exits)
+  part-stands exits looped [] rest n after usage placed next = next on-nil
+  part-stands exits looped (s ∷ ss) rest n after usage placed next = (
+    n,
+    entry ss (n + size s) after exits,
+    refl,
+    record { looped = looped; usage = All-head (CoreUsage fs looped) s ss usage; placed = placed-first blocks s ss n after exits placed },
+    λ on. part-stands exits looped ss rest (n + size s) after (All-tail (CoreUsage fs looped) s ss usage) (placed-rest blocks s ss n after exits on placed)
+        (λ all. next (rw (on-cons, on, all) refl)),
+  )
+
+  pub part-around : (exits : Exits) (ss : List TypedStmt) (rest : List Item) → Around exits rest → Around exits (map Do ss ++ rest)
+  part-around exits [] rest h = h
+  part-around exits (s ∷ ss) rest h = part-around exits ss rest h
+
+  -- where the first item is no jump
+  pub record Ready (items : List Item) (at : ℕ) : Type 0 where
+    pub exits : Exits
+    pub stands : Stands exits items at
+    pub around : Around exits items
+    pub first : FirstSteps items
+
+  ended : (at : ℕ) → at ≡ done → Ready [] at
+  ended at e = record { exits = no_loop done; stands = e; around = refl; first = tt }
+
+  -- a jump is made from one block to the same
+  turn-ready : (exits : Exits) (items : List Item) → Around exits items → Ready (next_turn items) exits.test
+  turn-ready exits [] h = ended exits.test (ap (λ (e : Exits). e.test) h)
+  turn-ready exits (Do s ∷ rest) h = turn-ready exits rest h
+  turn-ready exits (Again w ∷ rest) h = let l = h.1 in record { exits = exits; stands = refl; around = h; first = l.steps }
+
+  mutual
+    unfolding ready
+
+    pub all-ready : (exits : Exits) (items : List Item) (at : ℕ) → Stands exits items at → Around exits items → Ready (ready items) at
+    all-ready exits [] at st h = ended at st
+    all-ready exits (Do (Return sp) ∷ rest) at st h = ended at (st.2 ∙ around-done exits rest h)
+    all-ready exits (Do (Break sp) ∷ rest) at st h = subst (λ b. Ready (ready_behind rest) b) (sym st.2) (behind-ready exits rest h)
+    all-ready exits (Do (Continue sp) ∷ rest) at st h = subst (λ b. Ready (next_turn rest) b) (sym st.2) (turn-ready exits rest h)
+    all-ready exits (Do (Declare sp v kind value) ∷ rest) at st h = record { exits = exits; stands = st; around = h; first = refl }
+    all-ready exits (Do (Assign sp v value) ∷ rest) at st h = record { exits = exits; stands = st; around = h; first = refl }
+    all-ready exits (Do (SetField sp left k field x) ∷ rest) at st h = record { exits = exits; stands = st; around = h; first = refl }
+    all-ready exits (Do (Write sp place x) ∷ rest) at st h = record { exits = exits; stands = st; around = h; first = refl }
+    all-ready exits (Do (Call sp f args) ∷ rest) at st h = record { exits = exits; stands = st; around = h; first = refl }
+    all-ready exits (Do (If' sp test _ first _ second) ∷ rest) at st h = record { exits = exits; stands = st; around = h; first = refl }
+    all-ready exits (Do (While' sp test _ body) ∷ rest) at st h = record { exits = exits; stands = st; around = h; first = refl }
+    all-ready exits (Again w ∷ rest) at st h = let l = h.1 in record { exits = exits; stands = st; around = h; first = l.steps }
+
+    behind-ready : (exits : Exits) (items : List Item) → Around exits items → Ready (ready_behind items) exits.behind
+    behind-ready exits [] h = ended exits.behind (ap (λ (e : Exits). e.behind) h)
+    behind-ready exits (Do s ∷ rest) h = behind-ready exits rest h
+    behind-ready exits (Again w ∷ rest) h = all-ready h.0 rest exits.behind h.2 h.3
+
+  -- the first statement, what stands behind it where it goes on, and the loops around it
+  pub record Front (s : TypedStmt) (rest : List Item) (at : ℕ) : Type 0 where
+    pub exits : Exits
     pub n : ℕ
     pub after : ℕ
-    pub here : at ≡ target s n done
-    pub usage : CoreUsage fs s
-    pub placed : Placed blocks n (blocks_of s n after done)
-    pub next : goes_on s ≡ true → Stands rest after
+    pub here : at ≡ target s n exits
+    pub stands : Placement exits s n after
+    pub next : goes_on s ≡ true → Stands exits rest after
+    pub around : Around exits rest
 
-  both-on : (a b : Bool) → a ≡ true → (a && b) ≡ false → b ≡ false
-  both-on true b h e = e
-  both-on false b h e = cc
-
-  pub front : (s : TypedStmt) (rest todo : List TypedStmt) (at : ℕ) → todo ≡ s ∷ rest → Stands todo at → Front s rest at
-  front s rest todo at e (ends todo_is at_is) = cc
-  front s rest todo at e (goes [] more n after todo_is at_is usage placed stands) =
-      let f = front s rest more after (sym todo_is ∙ e) stands in
-      record { n = f.n; after = f.after; here = at_is ∙ f.here; usage = f.usage; placed = f.placed; next = f.next }
-  front s rest todo at e (goes (x ∷ ss) more n after todo_is at_is usage placed stands) =
-      let same : x ≡ s = cc in
-      let rest_is : ss ++ more ≡ rest = cc in
+  pub front : (item : Item) (rest : List Item) (at : ℕ) → Ready (item ∷ rest) at → Front (statement_of item) rest at
+  front (Do s) rest at r =
+      let st = r.stands in
+      record { exits = r.exits; n = st.0; after = st.1; here = st.2; stands = st.3; next = st.4; around = r.around }
+  front (Again w) rest at r =
+      let h = r.around in
+      let l = h.1 in
+      let k = h.2 in
       record {
-        n = n;
-        after = entry ss (n + size x) after done;
-        here = rw (← same) at_is;
-        usage = rw (← same) (All-head (CoreUsage fs) x ss usage);
-        placed = rw (← same) (placed-first blocks x ss n after done placed);
-        next = λ on. goes ss more (n + size x) after (sym rest_is) refl (All-tail (CoreUsage fs) x ss usage)
-            (placed-rest blocks x ss n after done (rw (← same) at on) placed) stands;
+        exits = h.0;
+        n = r.exits.test;
+        after = r.exits.behind;
+        here = r.stands ∙ sym (target-stays w r.exits.test h.0 l.steps);
+        stands = l.stands;
+        next = λ on. k;
+        around = h.3;
       }
-  front s rest todo at e (stops [] more n after todo_is at_is usage placed off) = let on : true ≡ false = sym on-nil ∙ off in cc
-  front s rest todo at e (stops (x ∷ ss) more n after todo_is at_is usage placed off) =
-      let same : x ≡ s = cc in
-      let rest_is : ss ++ more ≡ rest = cc in
-      record {
-        n = n;
-        after = entry ss (n + size x) after done;
-        here = rw (← same) at_is;
-        usage = rw (← same) (All-head (CoreUsage fs) x ss usage);
-        placed = rw (← same) (placed-first blocks x ss n after done placed);
-        next = λ on. stops ss more (n + size x) after (sym rest_is) refl (All-tail (CoreUsage fs) x ss usage)
-            (placed-rest blocks x ss n after done (rw (← same) at on) placed)
-            (both-on (goes_on x) (all_go_on ss) (rw (← same) at on) (sym (on-cons x ss) ∙ off));
-      }
-
-  -- where nothing is left, it stands at the end
-  pub at-end : (todo : List TypedStmt) (at : ℕ) → todo ≡ [] → Stands todo at → at ≡ done
-  at-end todo at e (ends todo_is at_is) = at_is
-  at-end todo at e (goes [] more n after todo_is at_is usage placed stands) = at_is ∙ at-end more after (sym todo_is ∙ e) stands
-  at-end todo at e (goes (x ∷ ss) more n after todo_is at_is usage placed stands) = cc
-  at-end todo at e (stops [] more n after todo_is at_is usage placed off) = let on : true ≡ false = sym on-nil ∙ off in cc
-  at-end todo at e (stops (x ∷ ss) more n after todo_is at_is usage placed off) = cc

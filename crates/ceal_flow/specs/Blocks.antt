@@ -1,10 +1,11 @@
 -- The blocks of statements (our own). A statement has one block, and after it those of the statements in it, in text
--- order; a `return` has none, and is a jump to the function's end. What no path leads to is left out.
+-- order; `return`, `break` and `continue` have none, and are jumps. What no path leads to is left out.
 use Rattle.std.specs.Prelude.{ℕ, ◌+◌, Bool, true, false, ◌&&◌, ◌||◌, List, [], ◌∷◌, ◌++◌, replicate, if◌then◌else◌}
-use Rattle.ceal_base.specs.declared.typed.TypedStmt.{TypedStmt, If', While', Return}
+use Rattle.ceal_base.specs.declared.typed.TypedStmt.{TypedStmt, If', While', Return, Break, Continue}
 use Rattle.ceal_base.specs.declared.typed.TypedStmt.{Row_of-TypedStmt, end_of-TypedStmt, more_of-TypedStmt}
 use Rattle.ceal_flow.specs.declared.block.GraphBlock.{GraphBlock}
 use Rattle.ceal_flow.specs.declared.block.GraphBlock.TheVariants.{Test, Act, Unreached}
+use Rattle.ceal_flow.specs.declared.exits.Exits.{Exits}
 
 -- how many blocks a statement has
 unfoldable mutual
@@ -12,6 +13,8 @@ unfoldable mutual
   size (If' at test _ first _ second) = 1 + row_size first + row_size second
   size (While' at test _ body) = 1 + row_size body
   size (Return at) = 0
+  size (Break at) = 0
+  size (Continue at) = 0
   size _ = 1
 
   pub row_size : {n : _} → Row_of-TypedStmt n → ℕ
@@ -22,11 +25,13 @@ unfoldable pub sizes : List TypedStmt → ℕ
 sizes [] = 0
 sizes (s ∷ rest) = size s + sizes rest
 
--- whether some path goes on behind a statement: not behind a `return`, nor behind an `if` of which neither part goes on
+-- whether some path goes on behind a statement: not behind a jump, nor behind an `if` of which neither part goes on
 unfoldable mutual
   pub goes_on : TypedStmt → Bool
   goes_on (If' at test _ first _ second) = row_goes_on first || row_goes_on second
   goes_on (Return at) = false
+  goes_on (Break at) = false
+  goes_on (Continue at) = false
   goes_on _ = true
 
   pub row_goes_on : {n : _} → Row_of-TypedStmt n → Bool
@@ -37,39 +42,52 @@ unfoldable pub all_go_on : List TypedStmt → Bool
 all_go_on [] = true
 all_go_on (s ∷ rest) = goes_on s && all_go_on rest
 
--- where a jump to a statement leads, `n` being the number of its first block and `done` that of the function's end
-abbrev pub target : TypedStmt → ℕ → ℕ → ℕ
-target (Return at) n done = done
-target _ n done = n
+-- where jumps lead in a body whose end is block `done`: in no loop `break` and `continue` lead there too
+abbrev pub no_loop : ℕ → Exits
+no_loop done = record { done = done; behind = done; test = done }
+
+-- and in the body of a loop that stands among these exits: its test is block `test`, and block `behind` comes after it
+abbrev pub in_loop : Exits → ℕ → ℕ → Exits
+in_loop exits test behind = record { done = exits.done; behind = behind; test = test }
+
+-- where a jump to a statement leads, `n` being the number of its first block
+abbrev pub target : TypedStmt → ℕ → Exits → ℕ
+target (Return at) n exits = exits.done
+target (Break at) n exits = exits.behind
+target (Continue at) n exits = exits.test
+target _ n exits = n
 
 -- where a jump to statements leads, which are followed by a jump to `after`
-abbrev pub row_entry : {m : _} → Row_of-TypedStmt m → ℕ → ℕ → ℕ → ℕ
-row_entry end_of-TypedStmt n after done = after
-row_entry (more_of-TypedStmt s rest) n after done = target s n done
+abbrev pub row_entry : {m : _} → Row_of-TypedStmt m → ℕ → ℕ → Exits → ℕ
+row_entry end_of-TypedStmt n after exits = after
+row_entry (more_of-TypedStmt s rest) n after exits = target s n exits
 
-abbrev pub entry : List TypedStmt → ℕ → ℕ → ℕ → ℕ
-entry [] n after done = after
-entry (s ∷ rest) n after done = target s n done
+abbrev pub entry : List TypedStmt → ℕ → ℕ → Exits → ℕ
+entry [] n after exits = after
+entry (s ∷ rest) n after exits = target s n exits
 
 -- the blocks of a statement, from block `n` on, which is followed by a jump to `after`
 unfoldable mutual
-  pub blocks_of : TypedStmt → ℕ → ℕ → ℕ → List GraphBlock
-  blocks_of (If' at test _ first _ second) n after done =
+  pub blocks_of : TypedStmt → ℕ → ℕ → Exits → List GraphBlock
+  blocks_of (If' at test _ first _ second) n after exits =
       let m = n + 1 + row_size first in
-      Test test (row_entry first (n + 1) after done) (row_entry second m after done)
-      ∷ (row_blocks first (n + 1) after done ++ row_blocks second m after done)
-  blocks_of (While' at test _ body) n after done = Test test (row_entry body (n + 1) n done) after ∷ row_blocks body (n + 1) n done
-  blocks_of (Return at) n after done = []
-  blocks_of s n after done = Act s after ∷ []
+      Test test (row_entry first (n + 1) after exits) (row_entry second m after exits)
+      ∷ (row_blocks first (n + 1) after exits ++ row_blocks second m after exits)
+  blocks_of (While' at test _ body) n after exits =
+      let inside = in_loop exits n after in Test test (row_entry body (n + 1) n inside) after ∷ row_blocks body (n + 1) n inside
+  blocks_of (Return at) n after exits = []
+  blocks_of (Break at) n after exits = []
+  blocks_of (Continue at) n after exits = []
+  blocks_of s n after exits = Act s after ∷ []
 
-  pub row_blocks : {m : _} → Row_of-TypedStmt m → ℕ → ℕ → ℕ → List GraphBlock
-  row_blocks end_of-TypedStmt n after done = []
-  row_blocks (more_of-TypedStmt s rest) n after done =
-      blocks_of s n (row_entry rest (n + size s) after done) done
-      ++ (if goes_on s then row_blocks rest (n + size s) after done else replicate (row_size rest) Unreached)
+  pub row_blocks : {m : _} → Row_of-TypedStmt m → ℕ → ℕ → Exits → List GraphBlock
+  row_blocks end_of-TypedStmt n after exits = []
+  row_blocks (more_of-TypedStmt s rest) n after exits =
+      blocks_of s n (row_entry rest (n + size s) after exits) exits
+      ++ (if goes_on s then row_blocks rest (n + size s) after exits else replicate (row_size rest) Unreached)
 
-unfoldable pub all_blocks : List TypedStmt → ℕ → ℕ → ℕ → List GraphBlock
-all_blocks [] n after done = []
-all_blocks (s ∷ rest) n after done =
-    blocks_of s n (entry rest (n + size s) after done) done
-    ++ (if goes_on s then all_blocks rest (n + size s) after done else replicate (sizes rest) Unreached)
+unfoldable pub all_blocks : List TypedStmt → ℕ → ℕ → Exits → List GraphBlock
+all_blocks [] n after exits = []
+all_blocks (s ∷ rest) n after exits =
+    blocks_of s n (entry rest (n + size s) after exits) exits
+    ++ (if goes_on s then all_blocks rest (n + size s) after exits else replicate (sizes rest) Unreached)

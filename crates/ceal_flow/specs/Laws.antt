@@ -3,7 +3,7 @@ use Rattle.std.specs.Prelude.{◌≡◌, ◌↔◌, ℕ, Option, Some, None, Lis
 use Rattle.ceal_base.specs.Block.{Block}
 use Rattle.ceal_base.specs.Usage.{IsCore}
 use Rattle.ceal_base.specs.declared.typed.Typed.{Typed}
-use Rattle.ceal_base.specs.declared.typed.TypedStmt.{TypedStmt, If', While', Return}
+use Rattle.ceal_base.specs.declared.typed.TypedStmt.{TypedStmt, If', While', Return, Break, Continue}
 use Rattle.ceal_base.specs.declared.word.Word.{Word}
 use Rattle.ceal_mean.specs.Fresh.{fresh as source_fresh}
 use Rattle.ceal_flow.specs.Fresh.{fresh}
@@ -46,6 +46,8 @@ abbrev pub IsSimple : TypedStmt → Type 0
 IsSimple (If' at test _ first _ second) = ⊥
 IsSimple (While' at test _ body) = ⊥
 IsSimple (Return at) = ⊥
+IsSimple (Break at) = ⊥
+IsSimple (Continue at) = ⊥
 IsSimple _ = Unit {0}
 
 -- blocks act by such statements alone

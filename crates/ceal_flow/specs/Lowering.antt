@@ -5,9 +5,9 @@ use Rattle.ceal_base.specs.declared.fault.FaultCode.TheVariants.{L1}
 use Rattle.ceal_base.specs.declared.fault.Span.{Span}
 use Rattle.ceal_base.specs.declared.typed.Typed.{Typed}
 use Rattle.ceal_base.specs.declared.typed.TypedFunction.{TypedFunction}
-use Rattle.ceal_base.specs.declared.typed.TypedStmt.{TypedStmt, Declare, Assign, SetField, Write, Call, If', While', Return}
+use Rattle.ceal_base.specs.declared.typed.TypedStmt.{TypedStmt, Declare, Assign, SetField, Write, Call, If', While', Return, Break, Continue}
 use Rattle.ceal_base.specs.declared.typed.TypedStmt.{Row_of-TypedStmt, end_of-TypedStmt, more_of-TypedStmt}
-use Rattle.ceal_flow.specs.Blocks.{sizes, entry, all_blocks}
+use Rattle.ceal_flow.specs.Blocks.{sizes, no_loop, entry, all_blocks}
 use Rattle.ceal_flow.specs.Program.{Graph}
 use Rattle.ceal_flow.specs.declared.block.GraphBlock.{GraphBlock}
 use Rattle.ceal_flow.specs.declared.block.GraphBlock.TheVariants.{Done}
@@ -33,7 +33,7 @@ end_of body n = n + sizes body
 
 -- where a call of a body that begins at block `n` leads
 abbrev pub first_of : List TypedStmt → ℕ → ℕ
-first_of body n = entry body n (end_of body n) (end_of body n)
+first_of body n = entry body n (end_of body n) (no_loop (end_of body n))
 
 -- the function, where it begins at block `n`
 abbrev pub core_at : TypedFunction → ℕ → GraphFunction
@@ -48,7 +48,7 @@ function_at f n = function_in f.initialiser f n
 
 -- its blocks: those of its statements, and then its end
 abbrev pub core_blocks : List TypedStmt → ℕ → List GraphBlock
-core_blocks body n = all_blocks body n (end_of body n) (end_of body n) ++ Done ∷ []
+core_blocks body n = all_blocks body n (end_of body n) (no_loop (end_of body n)) ++ Done ∷ []
 
 abbrev pub blocks_in : Option ℕ → List TypedStmt → ℕ → List GraphBlock
 blocks_in None body n = core_blocks body n
@@ -81,6 +81,8 @@ unfoldable mutual
   places (If' at test _ first _ second) = at ∷ (row_places first ++ row_places second)
   places (While' at test _ body) = at ∷ row_places body
   places (Return at) = []
+  places (Break at) = []
+  places (Continue at) = []
 
   pub row_places : {n : _} → Row_of-TypedStmt n → List Span
   row_places end_of-TypedStmt = []

@@ -47,10 +47,15 @@ fn set_word(words: &mut Vec<u64>, at: usize, word: u64)
 pub fn put_bits(words: &mut Vec<u64>, at: usize, bits: u64) -> Result<bool, NoMemory>
     requires within { at < 2 ^ 26 }
     requires few { length words.old.items ≤ 2 ^ 26 }
-    ensures here { OnOk result (word_at words.new.items at ≡ bit_or (word_at words.old.items at) bits) }
-    ensures others { OnOk result ((k : ℕ) → k ≢ at → word_at words.new.items k ≡ word_at words.old.items k) }
+    ensures here { OnOk result
+        (word_at words.new.items at ≡ bit_or (word_at words.old.items at) bits) }
+    ensures others { OnOk result
+        ((k : ℕ) → k ≢ at → word_at words.new.items k ≡ word_at words.old.items k) }
     ensures same { IfOk result (λ changed. changed ≡ false → words.new.items ≡ words.old.items) }
-    ensures more { IfOk result (λ changed. changed ≡ true → (j : ℕ) × (j < 64) × (bit_at (word_at words.old.items at) j ≢ bit_at (word_at words.new.items at) j)) }
+    ensures more { IfOk result
+        (λ changed. changed ≡ true
+        → (j : ℕ) × (j < 64)
+        × (bit_at (word_at words.old.items at) j ≢ bit_at (word_at words.new.items at) j)) }
     ensures few { length words.new.items ≤ 2 ^ 26 }
 {
     let old = word(words.as_slice(), at);
@@ -65,7 +70,8 @@ pub fn put_bits(words: &mut Vec<u64>, at: usize, bits: u64) -> Result<bool, NoMe
 
 /// The bits of the word at an index, without that of a number.
 fn bits_but(word: u64, at: usize, except: Option<u32>) -> u64
-    ensures { (j : ℕ) → j < 64 → bit_at result j ≡ (if is_that except (at * 64 + j) then 0 else bit_at word j) }
+    ensures { (j : ℕ) → j < 64
+        → bit_at result j ≡ (if is_that except (at * 64 + j) then 0 else bit_at word j) }
 {
     match except {
         None => word,
@@ -87,9 +93,14 @@ pub fn join_words(
 ) -> Result<bool, NoMemory>
     requires few { length words.old.items ≤ 2 ^ 26 }
     requires few_others { length others.now ≤ 2 ^ 26 }
-    ensures joined { OnOk result ((w : ℕ) → has_bit words.new.items w ≡ (has_bit words.old.items w || (has_bit others.now w && not (is_that except w)))) }
+    ensures joined { OnOk result
+        ((w : ℕ)
+        → has_bit words.new.items w
+        ≡ (has_bit words.old.items w || (has_bit others.now w && not (is_that except w)))) }
     ensures same { IfOk result (λ changed. changed ≡ false → words.new.items ≡ words.old.items) }
-    ensures more { IfOk result (λ changed. changed ≡ true → (w : ℕ) × (has_bit words.old.items w ≡ false) × (has_bit words.new.items w ≡ true)) }
+    ensures more { IfOk result
+        (λ changed. changed ≡ true
+        → (w : ℕ) × (has_bit words.old.items w ≡ false) × (has_bit words.new.items w ≡ true)) }
     ensures few { length words.new.items ≤ 2 ^ 26 }
 {
     let mut changed = false;
@@ -102,7 +113,8 @@ pub fn join_words(
 }
 
 fn push_if(numbers: &mut Vec<u32>, is_there: bool, v: u32) -> Result<(), NoMemory>
-    ensures { OnOk result (numbers.new.items ≡ numbers.old.items ++ (if is_there then v ∷ [] else [])) }
+    ensures { OnOk result
+        (numbers.new.items ≡ numbers.old.items ++ (if is_there then v ∷ [] else [])) }
 {
     if is_there {
         numbers.push(v)?;

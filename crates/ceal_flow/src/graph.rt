@@ -32,7 +32,8 @@ impl Model for Graph {
 
 impl Graph {
     pub fn new(structs: Structs, functions: Vec<GraphFunction>, blocks: Vec<GraphBlock>) -> Graph
-        ensures value { result ≡ record { structs = structs; functions = functions.items; blocks = blocks.items } }
+        ensures value { result
+            ≡ record { structs = structs; functions = functions.items; blocks = blocks.items } }
     {
         Graph {
             structs,
@@ -42,7 +43,8 @@ impl Graph {
     }
 
     pub fn push_functions(&mut self, item: GraphFunction) -> Result<(), NoMemory>
-        ensures ok { OnOk result (self.new ≡ record self.old { functions = self.old.functions ++ item ∷ [] }) }
+        ensures ok { OnOk result
+            (self.new ≡ record self.old { functions = self.old.functions ++ item ∷ [] }) }
         ensures err { OnErr result (self.new ≡ self.old) }
     {
         self.functions.push(item)?;
@@ -56,7 +58,8 @@ impl Graph {
     }
 
     pub fn push_blocks(&mut self, item: GraphBlock) -> Result<(), NoMemory>
-        ensures ok { OnOk result (self.new ≡ record self.old { blocks = self.old.blocks ++ item ∷ [] }) }
+        ensures ok { OnOk result
+            (self.new ≡ record self.old { blocks = self.old.blocks ++ item ∷ [] }) }
         ensures err { OnErr result (self.new ≡ self.old) }
     {
         self.blocks.push(item)?;

@@ -7,7 +7,7 @@ pub fn kept_law()
     ensures law { Kept_law }
 {}
 
-/// The statement of a block is no `if`, no `while` and no `return`.
+/// The statement of a block is no `if`, no `while` and no jump: no `return`, `break` or `continue`.
 pub fn act_law()
     ensures law { Act_law }
 {}

@@ -8,6 +8,7 @@
 
 mod bits;
 pub mod block;
+mod exits;
 pub mod function;
 pub mod graph;
 pub mod laws;

@@ -50,6 +50,8 @@ fn count_stmt(count: u32, s: &TypedStmt) -> Result<u32, Span>
             count_stmts(count, body.items())
         }
         TypedStmt::Return(_) => Ok(count),
+        TypedStmt::Break(_) => Ok(count),
+        TypedStmt::Continue(_) => Ok(count),
     }
 }
 
@@ -59,7 +61,8 @@ fn count_stmts(count: u32, stmts: &[TypedStmt]) -> Result<u32, Span>
     requires { count ≤ BLOCK_LIMIT }
     ensures more { IfOk result (λ n. n ≡ count + sizes stmts.now) }
     ensures within { IfOk result (λ n. n ≤ BLOCK_LIMIT) }
-    ensures past { IfErr result (λ at. slice_get (all_places stmts.now) (BLOCK_LIMIT - count) ≡ Some at) }
+    ensures past { IfErr result
+        (λ at. slice_get (all_places stmts.now) (BLOCK_LIMIT - count) ≡ Some at) }
 {
     let mut total = count;
     for s in stmts {
@@ -72,7 +75,8 @@ fn count_function(count: u32, function: &TypedFunction) -> Result<u32, Span>
     requires { count ≤ BLOCK_LIMIT }
     ensures more { IfOk result (λ n. n ≡ count + function_size function.now) }
     ensures within { IfOk result (λ n. n ≤ BLOCK_LIMIT) }
-    ensures past { IfErr result (λ at. slice_get (places_of function.now) (BLOCK_LIMIT - count) ≡ Some at) }
+    ensures past { IfErr result
+        (λ at. slice_get (places_of function.now) (BLOCK_LIMIT - count) ≡ Some at) }
 {
     match function.initialiser {
         Some(_) => Ok(count),
@@ -88,7 +92,8 @@ fn count_function(count: u32, function: &TypedFunction) -> Result<u32, Span>
 pub fn count_functions(functions: &[TypedFunction]) -> Result<u32, Span>
     ensures all { IfOk result (λ n. n ≡ function_sizes functions.now) }
     ensures within { IfOk result (λ n. n ≤ BLOCK_LIMIT) }
-    ensures past { IfErr result (λ at. slice_get (function_places functions.now) BLOCK_LIMIT ≡ Some at) }
+    ensures past { IfErr result
+        (λ at. slice_get (function_places functions.now) BLOCK_LIMIT ≡ Some at) }
 {
     let mut total = 0;
     for function in functions {

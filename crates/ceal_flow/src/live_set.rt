@@ -52,7 +52,10 @@ impl LiveSet {
 
     /// Adds the variables of the other set but one, and says whether any was added.
     pub fn join(&mut self, other: &LiveSet, except: Option<u32>) -> Result<bool, NoMemory>
-        ensures ok { OnOk result ((w : ℕ) → is_in w self.new ≡ (is_in w self.old || (is_in w other.now && not (is_that except w)))) }
+        ensures ok { OnOk result
+            ((w : ℕ)
+            → is_in w self.new
+            ≡ (is_in w self.old || (is_in w other.now && not (is_that except w)))) }
         ensures same { IfOk result (λ changed. changed ≡ false → self.new ≡ self.old) }
         ensures more { IfOk result (λ changed. changed ≡ true → length self.old < length self.new) }
         ensures ascending { IsAscending self.new }

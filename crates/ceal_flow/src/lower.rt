@@ -8,6 +8,7 @@ ghost use Rattle.ceal_flow.specs.Laws.{RunsAs};
 ghost use Rattle.ceal_flow.specs.Lowering.{function_size, function_sizes, core_at, function_at, core_blocks, blocks_at, functions_from, blocks_from, graph_of, lowered};
 
 use crate::block::GraphBlock;
+use crate::exits::Exits;
 use crate::function::GraphFunction;
 use crate::graph::Graph;
 use crate::limit::{BLOCK_LIMIT, count_functions};
@@ -26,14 +27,17 @@ fn put_core(
     function: &TypedFunction,
 ) -> Result<GraphFunction, NoMemory>
     requires room { length blocks.old.items + sizes function.now.body + 1 ≤ BLOCK_LIMIT }
-    ensures blocks { OnOk result (blocks.new.items ≡ blocks.old.items ++ core_blocks function.now.body (length blocks.old.items)) }
+    ensures blocks { OnOk result
+        (blocks.new.items ≡ blocks.old.items
+        ++ core_blocks function.now.body (length blocks.old.items)) }
     ensures function { IfOk result (λ f. f ≡ core_at function.now (length blocks.old.items)) }
 {
     let body = function.body.items();
     let at = next_number(blocks);
     let done = at + sizes_of(body);
-    let first = entry_of(body, at, done, done);
-    put_stmts(alloc, blocks, body, done, done)?;
+    let exits = Exits::no_loop(done);
+    let first = entry_of(body, at, done, exits);
+    put_stmts(alloc, blocks, body, done, exits)?;
     blocks.push(GraphBlock::Done)?;
     let name = function.name.text.copy()?;
     let kinds = function.kinds.copy()?;
@@ -52,7 +56,8 @@ fn put_function(
     function: &TypedFunction,
 ) -> Result<GraphFunction, NoMemory>
     requires room { length blocks.old.items + function_size function.now ≤ BLOCK_LIMIT }
-    ensures blocks { OnOk result (blocks.new.items ≡ blocks.old.items ++ blocks_at function.now (length blocks.old.items)) }
+    ensures blocks { OnOk result
+        (blocks.new.items ≡ blocks.old.items ++ blocks_at function.now (length blocks.old.items)) }
     ensures function { IfOk result (λ f. f ≡ function_at function.now (length blocks.old.items)) }
 {
     match function.initialiser {
@@ -74,8 +79,11 @@ fn put_functions(
     functions: &[TypedFunction],
 ) -> Result<Vec<GraphFunction>, NoMemory>
     requires room { length blocks.old.items + function_sizes functions.now ≤ BLOCK_LIMIT }
-    ensures blocks { OnOk result (blocks.new.items ≡ blocks.old.items ++ blocks_from (length blocks.old.items) functions.now) }
-    ensures functions { IfOk result (λ fs. fs.items ≡ functions_from (length blocks.old.items) functions.now) }
+    ensures blocks { OnOk result
+        (blocks.new.items ≡ blocks.old.items
+        ++ blocks_from (length blocks.old.items) functions.now) }
+    ensures functions { IfOk result
+        (λ fs. fs.items ≡ functions_from (length blocks.old.items) functions.now) }
 {
     let mut put = Vec::new(alloc);
     for function in functions {

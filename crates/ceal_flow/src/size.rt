@@ -3,6 +3,7 @@
 ghost use Rattle.std.specs.Prelude.{◌≡◌, ◌≤◌};
 ghost use Rattle.ceal_flow.specs.Blocks.{size, sizes, target, entry};
 
+use crate::exits::Exits;
 use crate::limit::BLOCK_LIMIT;
 use ceal_base::typed::TypedStmt;
 
@@ -24,6 +25,8 @@ pub fn size_of(s: &TypedStmt) -> u32
             + sizes_of(second.items()),
         TypedStmt::While(_, _, body) => 1 + sizes_of(body.items()),
         TypedStmt::Return(_) => 0,
+        TypedStmt::Break(_) => 0,
+        TypedStmt::Continue(_) => 0,
     }
 }
 
@@ -41,22 +44,24 @@ pub fn sizes_of(stmts: &[TypedStmt]) -> u32
     total
 }
 
-fn target_of(s: &TypedStmt, n: u32, done: u32) -> u32
-    ensures { result ≡ target s.now n done }
+fn target_of(s: &TypedStmt, n: u32, exits: Exits) -> u32
+    ensures { result ≡ target s.now n exits }
 {
     match s {
-        TypedStmt::Return(_) => done,
+        TypedStmt::Return(_) => exits.done,
+        TypedStmt::Break(_) => exits.behind,
+        TypedStmt::Continue(_) => exits.test,
         _ => n,
     }
 }
 
-/// Where a jump to statements leads: to block `n`, which is the first statement's, or to `done` for a `return`, or to
-/// `after` where there is none.
-pub fn entry_of(stmts: &[TypedStmt], n: u32, after: u32, done: u32) -> u32
-    ensures value { result ≡ entry stmts.now n after done }
+/// Where a jump to statements leads: to block `n`, which is the first statement's, or out by that statement where it is
+/// a jump, or to `after` where there is none.
+pub fn entry_of(stmts: &[TypedStmt], n: u32, after: u32, exits: Exits) -> u32
+    ensures value { result ≡ entry stmts.now n after exits }
 {
     match stmts.first() {
-        Some(s) => target_of(s, n, done),
+        Some(s) => target_of(s, n, exits),
         None => after,
     }
 }

@@ -5,6 +5,7 @@ ghost use Rattle.ceal_flow.specs.Blocks.{size, sizes, goes_on, all_go_on, blocks
 ghost use Rattle.ceal_flow.specs.declared.block.GraphBlock.TheVariants.{Test, Act, Unreached};
 
 use crate::block::GraphBlock;
+use crate::exits::Exits;
 use crate::limit::BLOCK_LIMIT;
 use crate::size::{entry_of, size_of, sizes_of};
 use ceal_base::copies::{copied_expr, copied_stmt};
@@ -67,31 +68,36 @@ fn put_stmt(
     blocks: &mut Vec<GraphBlock>,
     s: &TypedStmt,
     after: u32,
-    done: u32,
+    exits: Exits,
 ) -> Result<bool, NoMemory>
     requires room { length blocks.old.items + size s.now ≤ BLOCK_LIMIT }
-    ensures blocks { OnOk result (blocks.new.items ≡ blocks.old.items ++ blocks_of s.now (length blocks.old.items) after done) }
+    ensures blocks { OnOk result
+        (blocks.new.items ≡ blocks.old.items
+        ++ blocks_of s.now (length blocks.old.items) after exits) }
     ensures on { IfOk result (λ on. on ≡ goes_on s.now) }
 {
     match s {
         TypedStmt::If(_, test, first, second) => {
             let first_at = next_number(blocks) + 1;
             let second_at = first_at + sizes_of(first.items());
-            let yes = entry_of(first.items(), first_at, after, done);
-            let no = entry_of(second.items(), second_at, after, done);
+            let yes = entry_of(first.items(), first_at, after, exits);
+            let no = entry_of(second.items(), second_at, after, exits);
             put_test(alloc, blocks, test, yes, no)?;
-            let first_on = put_stmts(alloc, blocks, first.items(), after, done)?;
-            let second_on = put_stmts(alloc, blocks, second.items(), after, done)?;
+            let first_on = put_stmts(alloc, blocks, first.items(), after, exits)?;
+            let second_on = put_stmts(alloc, blocks, second.items(), after, exits)?;
             Ok(first_on | second_on)
         }
         TypedStmt::While(_, test, body) => {
             let at = next_number(blocks);
-            let yes = entry_of(body.items(), at + 1, at, done);
+            let inside = exits.in_loop(at, after);
+            let yes = entry_of(body.items(), at + 1, at, inside);
             put_test(alloc, blocks, test, yes, after)?;
-            put_stmts(alloc, blocks, body.items(), at, done)?;
+            put_stmts(alloc, blocks, body.items(), at, inside)?;
             Ok(true)
         }
         TypedStmt::Return(_) => Ok(false),
+        TypedStmt::Break(_) => Ok(false),
+        TypedStmt::Continue(_) => Ok(false),
         TypedStmt::Declare(..) => put_act(alloc, blocks, s, after),
         TypedStmt::Assign(..) => put_act(alloc, blocks, s, after),
         TypedStmt::SetField(..) => put_act(alloc, blocks, s, after),
@@ -109,17 +115,19 @@ pub fn put_stmts(
     blocks: &mut Vec<GraphBlock>,
     stmts: &[TypedStmt],
     after: u32,
-    done: u32,
+    exits: Exits,
 ) -> Result<bool, NoMemory>
     requires room { length blocks.old.items + sizes stmts.now ≤ BLOCK_LIMIT }
-    ensures blocks { OnOk result (blocks.new.items ≡ blocks.old.items ++ all_blocks stmts.now (length blocks.old.items) after done) }
+    ensures blocks { OnOk result
+        (blocks.new.items ≡ blocks.old.items
+        ++ all_blocks stmts.now (length blocks.old.items) after exits) }
     ensures on { IfOk result (λ on. on ≡ all_go_on stmts.now) }
 {
     for (i, s) in stmts.iter().enumerate() {
         let rest = &stmts[i + 1..];
         let behind = next_number(blocks) + size_of(s);
-        let next = entry_of(rest, behind, after, done);
-        if !put_stmt(alloc, blocks, s, next, done)? {
+        let next = entry_of(rest, behind, after, exits);
+        if !put_stmt(alloc, blocks, s, next, exits)? {
             leave_out(blocks, sizes_of(rest))?;
             return Ok(false);
         }

@@ -3,8 +3,8 @@ use Rattle.std.proofs.Common.{◌≡◌, ℕ, zero, suc, ◌+◌, ◌<◌, ◌==
 use Rattle.ceal_base.specs.declared.kind.Kind.{Kind}
 use Rattle.ceal_base.specs.declared.kind.Kind.TheVariants.{Int, Ptr}
 use Rattle.ceal_base.specs.declared.typed.StructInfo.{StructInfo}
+use Rattle.ceal_code.proofs.Rows.{kind-same}
 use Rattle.ceal_code.proofs.Same.{both, both-true, nat-same}
-use Rattle.ceal_code.proofs.Typed.{kind-same}
 use Rattle.ceal_code.proofs.TypedInit.{units-valid, functions-valid}
 use Rattle.ceal_code.specs.Program.{Unit as CodeUnit, Code}
 use Rattle.ceal_code.specs.Step.{kinds_of}
@@ -13,6 +13,7 @@ use Rattle.ceal_code.specs.declared.command.Cmd.{Cmd}
 use Rattle.ceal_code.specs.declared.command.Cmd.TheVariants.{Move, Tick, Alloc, Modref, Write, If, Done, Tail, Read, Call}
 use Rattle.ceal_code.specs.declared.expr.CodeExpr.{CodeExpr, Num as NumExpr, Null as NullExpr, Var, Unary', Binary', Field', Address'}
 use Rattle.ceal_code.specs.declared.expr.VarId.{VarId}
+use Rattle.ceal_code.specs.declared.typing.ExprType.TheVariants.{Of, AnyPointer, AnyPlace}
 use Rattle.ceal_code.specs.declared.function.FunctionCode.{FunctionCode}
 use Rattle.ceal_code.specs.declared.function.FunctionCode.TheVariants.{Core as CoreFunction, Init as InitFunction}
 use Rattle.ceal_fold.proofs.Forward.{forward-at, forward-folded}
@@ -56,11 +57,11 @@ set-kept known known' v u n h k = go (u == v) refl
     go false e = set-other known' v u e ∙ h e (sym (set-other known v u e) ∙ k)
 
 module _ (structs : List StructInfo) (kinds : List Kind) (known : List Bool) where
-  variable-if : (k : Kind) (b : Bool) (t : Typing) → Refined (Some (Some k)) t → Refined (variable_type (Some k) b) t
+  variable-if : (k : Kind) (b : Bool) (t : Typing) → Refined (Some (Of k)) t → Refined (variable_type (Some k) b) t
   variable-if k true t h = h
   variable-if k false t h = tt
 
-  variable-maybe : (o : Option Kind) (b : Bool) (t : Typing) → ((k : Kind) → o ≡ Some k → Refined (Some (Some k)) t) → Refined (variable_type o b) t
+  variable-maybe : (o : Option Kind) (b : Bool) (t : Typing) → ((k : Kind) → o ≡ Some k → Refined (Some (Of k)) t) → Refined (variable_type o b) t
   variable-maybe None b t h = tt
   variable-maybe (Some k) b t h = variable-if k b t (h k refl)
 
@@ -108,10 +109,11 @@ module _ (structs : List StructInfo) (kinds : List Kind) (known : List Bool) whe
         go false e = other-typed w (copies w.0) e (good w)
 
     -- what a kind asks of a type that may stand there
-    fits-refined : (k : Kind) (t : Typing) → fits k t ≡ true → Refined (Some (Some k)) t
+    fits-refined : (k : Kind) (t : Typing) → fits k t ≡ true → Refined (Some (Of k)) t
     fits-refined k None h = absurd (grind (arith, h))
-    fits-refined k (Some None) h = inr (refl, h)
-    fits-refined k (Some (Some other)) h = inl (ap (λ k. Some (Some k)) (sym (kind-same k other h)))
+    fits-refined k (Some AnyPointer) h = inr (inl (refl, h))
+    fits-refined k (Some AnyPlace) h = inr (inr (refl, h))
+    fits-refined k (Some (Of other)) h = inl (ap (λ k. Some (Of k)) (sym (kind-same k other h)))
 
     fits-of : (o : Option Kind) (k : Kind) (t : Typing) → o ≡ Some k → fits_maybe o t ≡ true → fits k t ≡ true
     fits-of o k t e h = subst (λ o. fits_maybe o t ≡ true) e h
@@ -194,8 +196,8 @@ module _ (code : Code) (ok : valid code ≡ true) where
     alloc-go kind None args h k = absurd (grind (arith, k))
     alloc-go kind (Some (CoreFunction name entry params)) args h k = absurd (grind (arith, k))
     alloc-go kind (Some (InitFunction name s params body)) args h k =
-        let p = both (fits_maybe kind (Some (Some (Ptr s)))) (all_fit code.structs (kinds_of code f) known params args) k in
-        both-true (fits_maybe kind (Some (Some (Ptr s)))) (all_fit code.structs (kinds_of code f) known' params (fold-all args)) p.0
+        let p = both (fits_maybe kind (Some (Of (Ptr s)))) (all_fit code.structs (kinds_of code f) known params args) k in
+        both-true (fits_maybe kind (Some (Of (Ptr s)))) (all_fit code.structs (kinds_of code f) known' params (fold-all args)) p.0
         (all-final code.structs (kinds_of code f) known known' copies good params args h p.1)
 
     -- a folded command, where the variables that it uses are still known

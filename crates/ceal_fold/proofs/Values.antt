@@ -2,13 +2,13 @@
 -- have the same words.
 use Rattle.std.proofs.Common.{◌≡◌, ℕ, ◌==◌, ◌||◌, ◌&&◌, Bool, true, false, if◌then◌else◌, Option, Some, None, List, [], ◌∷◌, refl, sym, ap, ap₂, ◌∙◌, subst, arith}
 use Rattle.std.specs.Prelude.{⊤}
-use Rattle.ceal_base.specs.Operators.{unary_value, binary_value, truth}
+use Rattle.ceal_base.specs.Operators.{unary_value, binary_value, picked, truth}
 use Rattle.ceal_base.specs.declared.kind.FieldKind.{FieldKind}
 use Rattle.ceal_base.specs.declared.kind.FieldKind.TheVariants.{Plain as PlainField, CellInt, CellPtr}
 use Rattle.ceal_base.specs.declared.kind.Kind.TheVariants.{Int, Ptr, ModInt, ModPtr}
 use Rattle.ceal_base.specs.declared.kind.Shape.TheVariants.{Struct}
 use Rattle.ceal_base.specs.declared.operators.Binary.{Binary as BinaryOp}
-use Rattle.ceal_base.specs.declared.operators.Binary.TheVariants.{Add, Sub, Mul, Div, Rem, Less, LessEq, More, MoreEq, Same, Differ, And, Or}
+use Rattle.ceal_base.specs.declared.operators.Binary.TheVariants.{Add, Sub, Mul, Div, Rem, Less, LessEq, More, MoreEq, Same, Differ, And, Or, Pick}
 use Rattle.ceal_base.specs.declared.operators.Unary.{Unary as UnaryOp}
 use Rattle.ceal_base.specs.declared.operators.Unary.TheVariants.{Neg, Not}
 use Rattle.ceal_base.specs.declared.typed.StructInfo.{StructInfo}
@@ -89,20 +89,36 @@ module _ (structs : List StructInfo) (x : Plain) where
     unary-plain Neg w = tt
     unary-plain Not w = truth-plain _
 
-    binary-plain : (op : BinaryOp) (v w : Word) → Plainly (binary_value op v w)
-    binary-plain Add v w = tt
-    binary-plain Sub v w = tt
-    binary-plain Mul v w = tt
-    binary-plain Div v w = tt
-    binary-plain Rem v w = tt
-    binary-plain Less v w = truth-plain _
-    binary-plain LessEq v w = truth-plain _
-    binary-plain More v w = truth-plain _
-    binary-plain MoreEq v w = truth-plain _
-    binary-plain Same v w = truth-plain _
-    binary-plain Differ v w = truth-plain _
-    binary-plain And v w = truth-plain _
-    binary-plain Or v w = truth-plain _
+    constant-plain : (a : CodeExpr) (w : Word) → constant a ≡ Some w → Plainly w
+    constant-plain (NumExpr n) w e = subst Plainly (some-same (Num n) w e) tt
+    constant-plain NullExpr w e = subst Plainly (some-same Null w e) tt
+    constant-plain (Var v) w e = none-some w e
+    constant-plain (Unary' op _ a) w e = none-some w e
+    constant-plain (Binary' op _ a _ b) w e = none-some w e
+    constant-plain (Field' _ a s f) w e = none-some w e
+    constant-plain (Address' _ a s f) w e = none-some w e
+
+    picked-plain : (row : ℕ) (v w : Word) → Plainly v → Plainly (picked row v w)
+    picked-plain row (Num n) w p = tt
+    picked-plain row Null w p = tt
+    picked-plain row (BlockWord b) w p = tt
+    picked-plain row (At q) w p = absurd p
+
+    binary-plain : (op : BinaryOp) (v w : Word) → Plainly v → Plainly (binary_value op v w)
+    binary-plain Add v w p = tt
+    binary-plain Sub v w p = tt
+    binary-plain Mul v w p = tt
+    binary-plain Div v w p = tt
+    binary-plain Rem v w p = tt
+    binary-plain Less v w p = truth-plain _
+    binary-plain LessEq v w p = truth-plain _
+    binary-plain More v w p = truth-plain _
+    binary-plain MoreEq v w p = truth-plain _
+    binary-plain Same v w p = truth-plain _
+    binary-plain Differ v w p = truth-plain _
+    binary-plain And v w p = truth-plain _
+    binary-plain Or v w p = truth-plain _
+    binary-plain (Pick row) v w p = picked-plain row v w p
 
     default-plain : (k : Option FieldKind) → Plainly (field_default k)
     default-plain None = tt
@@ -122,7 +138,7 @@ module _ (structs : List StructInfo) (x : Plain) where
     binary-same op a b None p e f = value-binary op a b
     binary-same op a b (Some v) None e f = value-binary op a b
     binary-same op a b (Some v) (Some w) e f =
-        constant-of (binary_value op v w) (binary-plain op v w) ∙ ap₂ (binary_value op) (sym (constant-value a v e)) (sym (constant-value b w f))
+        constant-of (binary_value op v w) (binary-plain op v w (constant-plain a v e)) ∙ ap₂ (binary_value op) (sym (constant-value a v e)) (sym (constant-value b w f))
 
     null-is : (a : CodeExpr) → is_null a ≡ true → a ≡ NullExpr
     null-is (NumExpr n) e = absurd (grind (arith, e))

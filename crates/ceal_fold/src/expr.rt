@@ -204,7 +204,8 @@ fn fold_exprs(
     known: &Known,
     es: &[CodeExpr],
 ) -> Result<CodeExprs, NoMemory>
-    ensures value { IfOk result (λ list. list ≡ folded_exprs structs.now (copy_at known.now) es.now) }
+    ensures value { IfOk result
+        (λ list. list ≡ folded_exprs structs.now (copy_at known.now) es.now) }
 {
     let mut list = Vec::new(alloc);
     let mut rest = es;
@@ -223,7 +224,8 @@ pub fn fold_command(
     known: &Known,
     command: &Cmd,
 ) -> Result<Cmd, NoMemory>
-    ensures value { IfOk result (λ c. c ≡ folded_command structs.now (copy_at known.now) command.now) }
+    ensures value { IfOk result
+        (λ c. c ≡ folded_command structs.now (copy_at known.now) command.now) }
 {
     match command {
         Cmd::Move { var, value } => {

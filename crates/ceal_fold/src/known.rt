@@ -110,7 +110,8 @@ impl Known {
     #[tactic(auto, using(crate::proofs::KnownSteps::pass_steps))]
     pub fn pass(&mut self, command: &Cmd, at: usize) -> Result<(), NoMemory>
         requires earlier { (u : ℕ) → time (last_of self.old u) < at }
-        ensures value { IfOk result (λ _. copy_at self.new ≡ copies_after (copy_at self.old) command.now) }
+        ensures value { IfOk result
+            (λ _. copy_at self.new ≡ copies_after (copy_at self.old) command.now) }
         ensures times { IfOk result (λ _. (u : ℕ) → time (last_of self.new u) ≤ at) }
     {
         match command {

@@ -104,7 +104,8 @@ fn replace_at(
     requires room { index < 2 ^ 63 }
     requires earlier { All_until index states.old.items }
     ensures times { IfOk result (λ c. All_until (index + 1) states.new.items) }
-    ensures command { IfOk result (λ c. c ≡ folded_command structs.now (copies_at states.old.items index) command.now) }
+    ensures command { IfOk result
+        (λ c. c ≡ folded_command structs.now (copies_at states.old.items index) command.now) }
     ensures length { IfOk result (λ c. length states.new.items ≡ length states.old.items) }
     ensures handed { IfOk result (λ c. (j : ℕ) → index < j → j < length states.old.items
         → copies_at states.new.items j ≡ handed (copies_at states.old.items) index c j) }

@@ -91,9 +91,11 @@ fn put_set(sets: &mut Vec<Vars>, at: usize, set: Vars)
 fn tick_at(alloc: Global, sets: &mut Vec<Vars>, command: Cmd, index: usize) -> Result<Cmd, NoMemory>
     requires there { index < length sets.old.items }
     requires room { index < 2 ^ 63 }
-    ensures command { IfOk result (λ c. c ≡ ticked (used_in (has_at sets.old.items) (followers command index)) command) }
+    ensures command { IfOk result
+        (λ c. c ≡ ticked (used_in (has_at sets.old.items) (followers command index)) command) }
     ensures length { IfOk result (λ c. length sets.new.items ≡ length sets.old.items) }
-    ensures here { IfOk result (λ c. (u : ℕ) → has_at sets.new.items index u ≡ used_by (has_at sets.old.items) c index u) }
+    ensures here { IfOk result
+        (λ c. (u : ℕ) → has_at sets.new.items index u ≡ used_by (has_at sets.old.items) c index u) }
     ensures left { IfOk result (λ c. (j u : ℕ) → (j ≡ index → ⊥) → is_among j (followers command index) ≡ false
         → has_at sets.new.items j u ≡ has_at sets.old.items j u) }
 {

@@ -12,7 +12,8 @@ use ceal_code::expr::{CodeExpr, VarId};
 /// Adds the variables that an expression mentions. It recurses as deep as the expression is.
 #[tactic(auto, using(crate::proofs::UseSteps::mention_steps))]
 fn put_mentions(vars: &mut Vars, e: &CodeExpr) -> Result<(), NoMemory>
-    ensures value { IfOk result (λ _. (u : ℕ) → has vars.new u ≡ (has vars.old u || mentions e.now u)) }
+    ensures value { IfOk result
+        (λ _. (u : ℕ) → has vars.new u ≡ (has vars.old u || mentions e.now u)) }
 {
     match e {
         CodeExpr::Num(_) => Ok(()),
@@ -43,7 +44,8 @@ fn put_mentions(vars: &mut Vars, e: &CodeExpr) -> Result<(), NoMemory>
 
 #[tactic(auto, using(crate::proofs::UseSteps::all_steps))]
 fn put_all_mentions(vars: &mut Vars, es: &[CodeExpr]) -> Result<(), NoMemory>
-    ensures value { IfOk result (λ _. (u : ℕ) → has vars.new u ≡ (has vars.old u || all_mention es.now u)) }
+    ensures value { IfOk result
+        (λ _. (u : ℕ) → has vars.new u ≡ (has vars.old u || all_mention es.now u)) }
 {
     let mut rest = es;
     while let Some((e, more)) = rest.split_first() {
@@ -74,7 +76,8 @@ fn clear_assigned(vars: &mut Vars, command: &Cmd)
 /// Adds the variables that a command uses.
 #[tactic(auto, using(crate::proofs::UseSteps::or_steps))]
 fn put_uses(vars: &mut Vars, command: &Cmd) -> Result<(), NoMemory>
-    ensures value { IfOk result (λ _. (u : ℕ) → has vars.new u ≡ (has vars.old u || uses command.now u)) }
+    ensures value { IfOk result
+        (λ _. (u : ℕ) → has vars.new u ≡ (has vars.old u || uses command.now u)) }
 {
     match command {
         Cmd::Move { value, .. } => {

@@ -53,7 +53,8 @@ impl Vars {
     }
 
     fn add(&mut self, other: Vars) -> Result<(), NoMemory>
-        ensures value { IfOk result (λ _. (u : ℕ) → has self.new u ≡ (has self.old u || has other u)) }
+        ensures value { IfOk result
+            (λ _. (u : ℕ) → has self.new u ≡ (has self.old u || has other u)) }
     {
         let mut rest = other;
         while let Some(v) = rest.set.pop_first() {

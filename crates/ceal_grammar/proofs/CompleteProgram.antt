@@ -1,31 +1,32 @@
 -- Each program is read.
-use Rattle.std.proofs.Common.{◌≡◌, ℕ, suc, true, false, Some, None, List, [], ◌∷◌, ◌++◌, length, refl, arith, append_assoc, length-append, append-nil}
+use Rattle.std.proofs.Common.{◌≡◌, ℕ, zero, suc, ◌+◌, ◌<◌, pos, ap, true, false, Some, None, List, [], ◌∷◌, ◌++◌, length, refl, arith, append_assoc, length-append, append-nil}
 use Rattle.ceal_base.specs.declared.fault.Span.{Span}
 use Rattle.ceal_base.specs.declared.syntax.Entry.{Entry}
 use Rattle.ceal_base.specs.declared.syntax.Entry.TheVariants.{Function as FunctionEntry}
 use Rattle.ceal_base.specs.declared.syntax.Ident.{Ident}
-use Rattle.ceal_base.specs.declared.syntax.StructDecl.{StructDecl}
+use Rattle.ceal_base.specs.declared.syntax.FieldDecl.{FieldDecl}
 use Rattle.ceal_lex.specs.declared.token.Reserved.{Reserved as ReservedWord}
 use Rattle.ceal_lex.specs.declared.token.Sign.TheVariants as Signs
-use Rattle.ceal_lex.specs.declared.token.TokenKind.TheVariants.{Reserved, Sign}
+use Rattle.ceal_lex.specs.declared.token.TokenKind.TheVariants.{Number, Reserved, Sign}
 use Rattle.ceal_grammar.specs.declared.state.Head.{Head}
 use Rattle.ceal_grammar.specs.declared.state.HeadPlace.TheVariants as Heads
+use Rattle.ceal_grammar.specs.declared.state.Layout.{Layout}
 use Rattle.ceal_grammar.specs.declared.state.State.{State}
 use Rattle.ceal_grammar.specs.declared.state.State.TheVariants.{Top, Struct, Head as InHead}
 use Rattle.ceal_grammar.specs.declared.state.StructPlace.TheVariants as Structs
 use Rattle.ceal_grammar.specs.declared.state.TypePart.{TypePart}
-use Rattle.ceal_grammar.specs.Grammar.{Written, int, pointer, mod_int, mod_pointer, cell_int, cell_pointer, Allowed, Block, block, Parameter, Parameters, no_parameters, parameters, core, init, Member, Part, structure, function, Program, StatementProper, BlockProper, MoreProper, ParametersProper, PartProper, PartsProper}
-use Rattle.ceal_grammar.specs.Spelled.{Mark, plain, spelled_statement, spelled_block, spelled_parameter, spelled_others, spelled_parameters, spelled_members, spelled_part, spelled_parts, spelled_program}
-use Rattle.ceal_grammar.specs.Trees.{type_form, type_first, statement_tree, block_trees, other_trees, parameter_tree, parameter_trees, close_of, member_trees, part_tree, part_trees}
-use Rattle.ceal_grammar.specs.Machine.{same_sign, same_word, type_begin, with_member, with_parameter, step, item_of}
+use Rattle.ceal_grammar.specs.Grammar.{Written, int, pointer, mod_int, mod_pointer, cell_int, cell_pointer, Allowed, Block, block, Parameter, Parameters, no_parameters, parameters, core, init, Size, single, row, Member, Part, structure, function, Program, StatementProper, BlockProper, MoreProper, ParametersProper, IsCell, SizeProper, MembersProper, PartProper, PartsProper}
+use Rattle.ceal_grammar.specs.Spelled.{Mark, plain, spelled_statement, spelled_block, spelled_parameter, spelled_others, spelled_parameters, counted, spelled_size, spelled_members, spelled_part, spelled_parts, spelled_program}
+use Rattle.ceal_grammar.specs.Trees.{type_form, type_first, statement_tree, block_trees, other_trees, parameter_tree, parameter_trees, close_of, row_form, sized_form, member_trees, part_tree, part_trees}
+use Rattle.ceal_grammar.specs.Machine.{same_sign, same_word, type_begin, widened, with_member, is_cell, length_of, at_length, begun_struct, with_parameter, step, length_item, item_of}
 use Rattle.ceal_grammar.specs.Follows.{Follows}
 use Rattle.ceal_grammar.proofs.CompleteStatement.{read_type, read_statements}
 
 module _ (tree : List Entry) (es : List Entry) where
   -- a member begins where its struct is open
-  member_starts : (d : StructDecl) (s : Span) (k : ReservedWord) (p : TypePart) → type_begin k ≡ Some p
-      → step (Struct es (Structs.Members d)) (record { kind = Reserved k; span = s }) ≡ Some (Struct es (Structs.Typing d p))
-  member_starts d s k p e = rw e refl
+  member_starts : (l : Layout) (s : Span) (k : ReservedWord) (p : TypePart) → type_begin k ≡ Some p
+      → step (Struct es (Structs.Members l)) (record { kind = Reserved k; span = s }) ≡ Some (Struct es (Structs.Typing l p))
+  member_starts l s k p e = rw e refl
 
   always : (w : Written) → Allowed true w
   always (int s) = tt
@@ -35,23 +36,68 @@ module _ (tree : List Entry) (es : List Entry) where
   always (cell_int s k) = refl
   always (cell_pointer s k x) = refl
 
-  read_members : (ms : List Member) (d : StructDecl) (k : ℕ) (right : Span) (rest : List Mark) → suc (length d.fields) ≡ k
-      → Follows (Struct es (Structs.Closed (record { name = d.name; fields = d.fields ++ member_trees ms }))) rest tree
-      → Follows (Struct es (Structs.Members d)) (spelled_members k ms (plain 0 (Sign Signs.RightBrace) right ∷ rest)) tree
-  unfolding Follows spelled_members member_trees same_sign
-  read_members [] d k right rest e f = (_, refl, refl, refl, refl, rw append-nil at f)
-  read_members (m ∷ ms) d k right rest e f =
-      read_type tree true 1 (λ p. Struct es (Structs.Typing d p)) (λ form x. Struct es (Structs.Ends d (record { form = form; name = x })))
-      (λ p s j. refl) (λ p. refl) (λ form x. refl) (λ p t. refl) (λ p. refl) (λ form x. refl)
-      m.type m.x k (Struct es (Structs.Members d)) _ (always m.type) (λ j p h. member_starts d (type_first m.type) j p h) (λ j p h. e) (
-        _,
+  -- a member of one field
+  one_field : (c : ℕ) (w : Written) → widened c (type_form w) ≡ suc c
+  one_field c (int s) = refl
+  one_field c (pointer s x t) = refl
+  one_field c (mod_int s k t) = refl
+  one_field c (mod_pointer s k x t) = refl
+  one_field c (cell_int s k) = refl
+  one_field c (cell_pointer s k x) = refl
+
+  -- a row
+  row_fields : (c : ℕ) (w : Written) (n : ℕ) → IsCell w → widened c (row_form (type_form w) n) ≡ c + n
+  row_fields c (cell_int s k) n h = refl
+  row_fields c (cell_pointer s k x) n h = refl
+  row_fields c (int s) n h = absurd h
+  row_fields c (pointer s x t) n h = absurd h
+  row_fields c (mod_int s k t) n h = absurd h
+  row_fields c (mod_pointer s k x t) n h = absurd h
+
+  cell_tells : (w : Written) → IsCell w → is_cell (type_form w) ≡ true
+  cell_tells (cell_int s k) h = refl
+  cell_tells (cell_pointer s k x) h = refl
+  cell_tells (int s) h = absurd h
+  cell_tells (pointer s x t) h = absurd h
+  cell_tells (mod_int s k t) h = absurd h
+  cell_tells (mod_pointer s k x t) h = absurd h
+
+  length_tells : (n : ℕ) → 0 < n → length_of (Number (pos n)) ≡ Some n
+  length_tells zero h = absurd (omega (arith, h))
+  length_tells (suc n) h = refl
+
+  sized_count : (c : ℕ) (w : Written) (z : Size) → SizeProper w z → widened c (sized_form (type_form w) z) ≡ counted c z
+  sized_count c w single h = one_field c w
+  sized_count c w (row l n s r) h = row_fields c w n h.0
+
+  read_size : (z : Size) (w : Written) (x : Ident) (l : Layout) (semi : Span) (rest : List Mark) → SizeProper w z
+      → Follows (Struct es (Structs.Members (with_member l (record { form = sized_form (type_form w) z; name = x })))) rest tree
+      → Follows (Struct es (Structs.Ends l (record { form = type_form w; name = x }))) (spelled_size l.count z (plain 1 (Sign Signs.Semicolon) semi ∷ rest)) tree
+  unfolding Follows same_sign
+  read_size single w x l semi rest h f = (_, refl, refl, refl, refl, f)
+  read_size (row o n s r) w x l semi rest h f =
+      let m : FieldDecl = record { form = type_form w; name = x } in
+      let e = length_tells n h.1 in (
+        Struct es (Structs.Length l m),
+        rw (cell_tells w h.0) refl,
         refl,
         refl,
         refl,
-        refl,
-        read_members ms (with_member d (record { form = type_form m.type; name = m.x })) (suc k) right rest
-            (omega (arith, length-append d.fields (record { form = type_form m.type; name = m.x } ∷ []))) (rw append_assoc f),
+        (Struct es (Structs.Sized l m n), ap (at_length es l m) e, refl, ap (length_item l.count) e, refl, (_, refl, refl, refl, refl, (_, refl, refl, refl, refl, f))),
       )
+
+  read_members : (ms : List Member) (l : Layout) (c : ℕ) (right : Span) (rest : List Mark) → MembersProper ms → l.count ≡ c
+      → Follows (Struct es (Structs.Closed (record { name = l.decl.name; fields = l.decl.fields ++ member_trees ms }))) rest tree
+      → Follows (Struct es (Structs.Members l)) (spelled_members c ms (plain 0 (Sign Signs.RightBrace) right ∷ rest)) tree
+  unfolding Follows spelled_members member_trees MembersProper same_sign
+  read_members [] l c right rest h e f = (_, refl, refl, refl, refl, rw append-nil at f)
+  read_members (m ∷ ms) l c right rest h e f =
+      let d : FieldDecl = record { form = sized_form (type_form m.type) m.size; name = m.x } in
+      read_type tree true 1 (λ p. Struct es (Structs.Typing l p)) (λ form x. Struct es (Structs.Ends l (record { form = form; name = x })))
+      (λ p s j. refl) (λ p. refl) (λ form x. refl) (λ p t. refl) (λ p. refl) (λ form x. refl)
+      m.type m.x (suc c) (Struct es (Structs.Members l)) _ (always m.type) (λ j p b. member_starts l (type_first m.type) j p b) (λ j p b. ap suc e)
+      (rw (← e) (read_size m.size m.type m.x l m.semi _ h.0
+      (read_members ms (with_member l d) (counted l.count m.size) right rest h.1 (sized_count l.count m.type m.size h.0) (rw append_assoc f))))
 
   read_parameter : (p : Parameter) (h : Head) (k : ℕ) (σ : State) (rest : List Mark) → Allowed false p.type
       → ((j : ReservedWord) (q : TypePart) → type_begin j ≡ Some q → step σ (record { kind = Reserved j; span = type_first p.type }) ≡ Some (InHead es (Heads.Typing h q)))
@@ -126,7 +172,7 @@ module _ (tree : List Entry) (es : List Entry) where
         refl,
         refl,
         refl,
-        read_members ms (record { name = x; fields = [] }) 1 r _ refl (_, refl, refl, refl, refl, f),
+        read_members ms (begun_struct x) 0 r _ a refl (_, refl, refl, refl, refl, f),
       ),
     ),
   )

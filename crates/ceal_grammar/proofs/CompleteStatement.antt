@@ -36,20 +36,23 @@ use Rattle.ceal_grammar.specs.declared.state.TypePart.TheVariants as Types
 use Rattle.ceal_grammar.specs.declared.state.Typing.{Typing}
 use Rattle.ceal_grammar.specs.declared.state.Typing.TheVariants.{More as MoreType, Named as NamedType}
 use Rattle.ceal_grammar.specs.declared.state.Whole.{Whole}
-use Rattle.ceal_grammar.specs.Grammar.{Phrase, number, null, variable, own, parens, arrow, prefix, address, binary, Grouped, IsPath, Written, int, pointer, mod_int, mod_pointer, cell_int, cell_pointer, Allowed, Arguments, no_arguments, arguments, AllGrouped, ArgumentsGrouped, Given, plainly, reading, allocation, modref_int, modref, GivenGrouped, Statement, declare, assign, set, store, call, branch, loop, exit, Branch, when, Otherwise, nothing, otherwise, chained, Block, block, Statements, ended, followed, StatementProper, BranchProper, OtherwiseProper, BlockProper, StatementsProper}
+use Rattle.ceal_grammar.specs.Grammar.{Phrase, number, null, variable, own, parens, arrow, prefix, address, element, binary, Grouped, IsPath, Written, int, pointer, mod_int, mod_pointer, cell_int, cell_pointer, Allowed, Arguments, no_arguments, arguments, AllGrouped, ArgumentsGrouped, Given, plainly, reading, allocation, modref_int, modref, GivenGrouped, Statement, declare, assign, set, store, call, branch, loop, exit, break, continue, Branch, when, Otherwise, nothing, otherwise, chained, Block, block, Statements, ended, followed, StatementProper, BranchProper, OtherwiseProper, BlockProper, StatementsProper}
 use Rattle.ceal_grammar.specs.Spelled.{Mark, plain, name, after, spelled, spelled_type, spelled_more, spelled_arguments, spelled_given, spelled_statement, spelled_branch, spelled_otherwise, spelled_block, spelled_statements}
 use Rattle.ceal_grammar.specs.Trees.{first, expression, type_form, type_first, expressions, argument_trees, value_tree, statement_tree, branch_tree, otherwise_trees, block_trees, statement_trees}
-use Rattle.ceal_grammar.specs.Machine.{same_sign, same_word, is_sign, is_word, operator_of, Reduced, reduced, within, begun, placed, at_operand, at_body, at_type, typed, type_begin, given, called, wrapped, with_statement, received, closes, owned, opened_by, moved, step, nesting_of, item_of, operators_of}
+use Rattle.ceal_grammar.specs.Machine.{same_sign, same_word, is_sign, is_word, operator_of, Reduced, reduced, within, begun, placed, at_operand, at_body, at_type, typed, type_begin, given, called, wrapped, with_statement, received, closes, at_sign_after, owned, opened_by, moved, step, nesting_of, item_of, operators_of}
 use Rattle.ceal_grammar.specs.Follows.{Follows}
-use Rattle.ceal_grammar.proofs.CompletePhrase.{having, whole, complete, reduced_pending}
+use Rattle.ceal_grammar.proofs.CompletePhrase.{having, whole, pending, complete, reduced_pending, no_item, sign_behind}
 use Rattle.ceal_grammar.proofs.Telling.{sign_tells, word_tells}
 
 -- the token after a whole expression
-pub received_at : (i : Inside) (d : ℕ) (c : Phrase) (n : ℕ) (r : Receiver) (k : SignOf) (s : Span) → same_sign k Signs.Arrow ≡ false → operator_of k ≡ None → Grouped c
-    → step (having i d c [] n r) (record { kind = Sign k; span = s }) ≡ received i d r (expression c) k
+pub received_at : (i : Inside) (d : ℕ) (c : Phrase) (n : ℕ) (r : Receiver) (k : SignOf) (s : Span) → same_sign k Signs.Arrow ≡ false → same_sign k Signs.LeftBracket ≡ false
+    → operator_of k ≡ None → Grouped c → step (having i d c [] n r) (record { kind = Sign k; span = s }) ≡ received i d r (expression c) k
 unfolding reduced
-received_at i d c n r k s a o g =
-    rw (a, o) (ap (λ (q : Reduced). closes i (whole d (after c n) q.frames r) k q.piece q.frames) (reduced_pending 0 c [] g (omega arith) (omega arith)))
+received_at i d c n r k s a b o g =
+    let q = pending c [] in let w = whole d (after c n) q.frames r in
+    sign_behind i w c q.piece s k a b
+    ∙ (ap (at_sign_after i w q.piece s k) o
+    ∙ ap (λ (q : Reduced). closes i (whole d (after c n) q.frames r) k q.piece q.frames) (reduced_pending 0 c [] g (omega arith) (omega arith)))
 
 -- the first token of a statement is no `else`
 not_else : (i : Inside) (s : Span) (w : ReservedWord) (σ : State) → at_body i s (Reserved w) ≡ Some σ → same_word w Words.Else ≡ false
@@ -118,6 +121,7 @@ path_span (null s) h = absurd h
 path_span (parens l a r) h = absurd h
 path_span (prefix op s a) h = absurd h
 path_span (address s a) h = absurd h
+path_span (element s a l b r) h = absurd h
 path_span (binary op a s b) h = absurd h
 
 -- where a reading stands after a path
@@ -274,12 +278,12 @@ module _ (tree : List Entry) where
       → Follows (In i (Modes.Ends (called c (args ++ expression e ∷ expressions l)))) rest tree
       → Follows (having i d e [] n (To.Argument c args)) (spelled_more d k l (plain i.nesting (Sign Signs.RightParenthesis) right ∷ rest)) tree
   unfolding Follows spelled_more expressions AllGrouped same_sign
-  read_more i d c [] args e n k right rest g gs h f = (_, received_at i d e n (To.Argument c args) Signs.RightParenthesis right refl refl g, refl, refl, refl, f)
+  read_more i d c [] args e n k right rest g gs h f = (_, received_at i d e n (To.Argument c args) Signs.RightParenthesis right refl refl refl g, refl, no_item d e [] n (To.Argument c args), refl, f)
   read_more i d c (a ∷ l) args e n k right rest g gs h f = (
     _,
-    received_at i d e n (To.Argument c args) Signs.Comma a.0 refl refl g,
+    received_at i d e n (To.Argument c args) Signs.Comma a.0 refl refl refl g,
     refl,
-    refl,
+    no_item d e [] n (To.Argument c args),
     refl,
     rw (← h) (complete i (To.Argument c (args ++ expression e ∷ [])) tree d [] 0 a.1 _ gs.0 tt
         (read_more i d c l (args ++ expression e ∷ []) a.1 0 (suc (suc (length (args ++ expression e ∷ [])))) right rest gs.0 gs.1
@@ -319,7 +323,7 @@ module _ (tree : List Entry) where
   read_given (plainly e) es h os ds d t semi rest g f =
       let i = inner es h os ds d in
       plain_value i t _ (complete i (To.Value t) tree d [] 0 e _ g tt
-      (_, received_at i d e 0 (To.Value t) Signs.Semicolon semi refl refl g, refl, refl, refl, f))
+      (_, received_at i d e 0 (To.Value t) Signs.Semicolon semi refl refl refl g, refl, no_item d e [] 0 (To.Value t), refl, f))
   read_given (reading s l e r) es h os ds d t semi rest g f =
       let i = inner es h os ds d in (
         _,
@@ -334,7 +338,7 @@ module _ (tree : List Entry) where
           refl,
           refl,
           complete i (To.Read t s) tree (suc d) [] 0 e _ g tt
-              (_, received_at i (suc d) e 0 (To.Read t s) Signs.RightParenthesis r refl refl g, refl, refl, refl, (_, refl, refl, refl, refl, f)),
+              (_, received_at i (suc d) e 0 (To.Read t s) Signs.RightParenthesis r refl refl refl g, refl, no_item (suc d) e [] 0 (To.Read t s), refl, (_, refl, refl, refl, refl, f)),
         ),
       )
   read_given (allocation s y x l args r) es h os ds d t semi rest g f =
@@ -383,6 +387,7 @@ module _ (tree : List Entry) where
   reached_arrow i (parens l a r) s h = absurd h
   reached_arrow i (prefix op at a) s h = absurd h
   reached_arrow i (address at a) s h = absurd h
+  reached_arrow i (element at a l b r) s h = absurd h
   reached_arrow i (binary op a at b) s h = absurd h
 
   reached_item : (i : Inside) (p : Phrase) (t : Token) → IsPath p → item_of (reached i p) t ≡ 0
@@ -395,6 +400,7 @@ module _ (tree : List Entry) where
   reached_item i (parens l a r) t h = absurd h
   reached_item i (prefix op at a) t h = absurd h
   reached_item i (address at a) t h = absurd h
+  reached_item i (element at a l b r) t h = absurd h
   reached_item i (binary op a at b) t h = absurd h
 
   read_path : (p : Phrase) (i : Inside) (rest : List Mark) → IsPath p → Follows (reached i p) rest tree
@@ -409,6 +415,7 @@ module _ (tree : List Entry) where
   read_path (parens l a r) i rest h f = absurd h
   read_path (prefix op at a) i rest h f = absurd h
   read_path (address at a) i rest h f = absurd h
+  read_path (element at a l b r) i rest h f = absurd h
   read_path (binary op a at b) i rest h f = absurd h
 
   owned_nesting : (i : Inside) (o : Owner) (ss : List Stmt) → nesting_of (In i (owned o ss)) ≡ i.nesting
@@ -460,7 +467,7 @@ module _ (tree : List Entry) where
               refl,
               refl,
               complete i (To.Set (expression p) x) tree d [] 0 e _ g.1 tt
-                  (_, received_at i d e 0 (To.Set (expression p) x) Signs.Semicolon semi refl refl g.1, refl, refl, refl, subst (λ (q : Span). Follows (In (inner es h os (ds ++ SetField q (expression p) x (expression e) ∷ []) d) Modes.Body) rest tree) (sym (path_span p g.0)) f),
+                  (_, received_at i d e 0 (To.Set (expression p) x) Signs.Semicolon semi refl refl refl g.1, refl, no_item d e [] 0 (To.Set (expression p) x), refl, subst (λ (q : Span). Follows (In (inner es h os (ds ++ SetField q (expression p) x (expression e) ∷ []) d) Modes.Body) rest tree) (sym (path_span p g.0)) f),
             ),
           ),
         )
@@ -479,12 +486,12 @@ module _ (tree : List Entry) where
             refl,
             complete i (To.Write s) tree (suc d) [] 0 a _ g.0 tt (
               _,
-              received_at i (suc d) a 0 (To.Write s) Signs.Comma c refl refl g.0,
+              received_at i (suc d) a 0 (To.Write s) Signs.Comma c refl refl refl g.0,
               refl,
-              refl,
+              no_item (suc d) a [] 0 (To.Write s),
               refl,
               complete i (To.Store s (expression a)) tree (suc d) [] 0 e _ g.1 tt
-                  (_, received_at i (suc d) e 0 (To.Store s (expression a)) Signs.RightParenthesis r refl refl g.1, refl, refl, refl, (_, refl, refl, refl, refl, f)),
+                  (_, received_at i (suc d) e 0 (To.Store s (expression a)) Signs.RightParenthesis r refl refl refl g.1, refl, no_item (suc d) e [] 0 (To.Store s (expression a)), refl, (_, refl, refl, refl, refl, f)),
             ),
           ),
         )
@@ -508,15 +515,17 @@ module _ (tree : List Entry) where
             refl,
             complete i (To.While s) tree (suc d) [] 0 e _ g.0 tt (
               _,
-              received_at i (suc d) e 0 (To.While s) Signs.RightParenthesis r refl refl g.0,
+              received_at i (suc d) e 0 (To.While s) Signs.RightParenthesis r refl refl refl g.0,
               refl,
-              refl,
+              no_item (suc d) e [] 0 (To.While s),
               refl,
               read_block b i (OfWhile s (expression e)) _ rest (λ s. refl) (λ t. refl) g.1 (ended_body i _ rest f),
             ),
           ),
         )
     read_statement (exit s semi) es h os ds d rest g f = (_, refl, refl, refl, refl, (_, refl, refl, refl, refl, f))
+    read_statement (break s semi) es h os ds d rest g f = (_, refl, refl, refl, refl, (_, refl, refl, refl, refl, f))
+    read_statement (continue s semi) es h os ds d rest g f = (_, refl, refl, refl, refl, (_, refl, refl, refl, refl, f))
 
     read_branch : (b : Branch) (i : Inside) (σ : State) (rest : List Mark)
         → ((s : Span) → step σ (record { kind = Reserved Words.If; span = s }) ≡ Some (In i (Modes.Before (To.If s)))) → ((t : Token) → item_of σ t ≡ 0)
@@ -537,9 +546,9 @@ module _ (tree : List Entry) where
         refl,
         complete i (To.If s) tree (suc i.nesting) [] 0 e _ g.0 tt (
           _,
-          received_at i (suc i.nesting) e 0 (To.If s) Signs.RightParenthesis r refl refl g.0,
+          received_at i (suc i.nesting) e 0 (To.If s) Signs.RightParenthesis r refl refl refl g.0,
           refl,
-          refl,
+          no_item (suc i.nesting) e [] 0 (To.If s),
           refl,
           read_block b i (OfThen s (expression e)) _ _ (λ s. refl) (λ t. refl) g.1 (read_otherwise other i s (expression e) (block_trees b) rest g.2 f),
         ),

@@ -1,9 +1,10 @@
 -- A reading finds exactly the first fault.
 use Rattle.std.proofs.Common.{◌≡◌, ◌≤◌, ◌≢◌, Bool, true, false, Option, Some, None, Result, Ok, Err, List, [], ◌∷◌, ◌++◌, refl, sym, ap, ◌∙◌, subst, arith, inl, inr, ◌⊎◌, append-nil, append_assoc}
+use Rattle.std.specs.Prelude.{if◌then◌else◌}
 use Rattle.std.proofs.lemmas.Bool.Decides.{leb_tells}
 use Rattle.ceal_base.specs.declared.fault.Fault.{Fault}
 use Rattle.ceal_base.specs.declared.fault.FaultCode.{FaultCode}
-use Rattle.ceal_base.specs.declared.fault.FaultCode.TheVariants.{S1, S2, S3, S4, S5, S6, N1, N2, T1, T2, T3, T4, T5, U1, U2, U3, U4, U5, L1}
+use Rattle.ceal_base.specs.declared.fault.FaultCode.TheVariants.{S1, S2, S3, S4, S5, S6, N1, N2, T1, T2, T3, T4, T5, U1, U2, U3, U4, U5, U6, L1}
 use Rattle.ceal_base.specs.declared.fault.Span.{Span}
 use Rattle.ceal_base.specs.declared.syntax.Entry.{Entry}
 use Rattle.ceal_base.specs.declared.syntax.Ident.{Ident}
@@ -21,7 +22,7 @@ use Rattle.ceal_grammar.specs.declared.state.Making.TheVariants as Makings
 use Rattle.ceal_grammar.specs.declared.state.Mode.{Mode}
 use Rattle.ceal_grammar.specs.declared.state.Mode.TheVariants as Modes
 use Rattle.ceal_grammar.specs.declared.state.Place.{Place}
-use Rattle.ceal_grammar.specs.declared.state.Place.TheVariants.{Want, Post, Have, Pick}
+use Rattle.ceal_grammar.specs.declared.state.Place.TheVariants.{Want, Post, Have, Element, Access}
 use Rattle.ceal_grammar.specs.declared.state.State.{State}
 use Rattle.ceal_grammar.specs.declared.state.State.TheVariants.{Top, Struct, Head as InHead, In, Finished}
 use Rattle.ceal_grammar.specs.declared.state.StructPlace.{StructPlace}
@@ -33,7 +34,7 @@ use Rattle.ceal_grammar.specs.Faults.{Begins, IsWithin, AllWithin, Accepts, IsCl
 use Rattle.ceal_grammar.specs.Follows.{Follows}
 use Rattle.ceal_grammar.specs.Grammar.{Program}
 use Rattle.ceal_grammar.specs.Judged.{code_at, fault_at, finished, tested, advanced, judged}
-use Rattle.ceal_grammar.specs.Machine.{moved, at_type, typed, with_parameter, placed, at_making, at_place, at_struct, at_head, step, nesting_of, item_of, operators_of}
+use Rattle.ceal_grammar.specs.Machine.{moved, at_type, typed, with_parameter, placed, at_making, at_place, is_cell, at_struct, at_head, step, nesting_of, item_of, operators_of}
 use Rattle.ceal_grammar.specs.Spelled.{Mark, spelled_program, tokens_of}
 use Rattle.ceal_grammar.specs.Trees.{part_trees}
 use Rattle.ceal_grammar.proofs.CompleteProgram.{read_program}
@@ -212,6 +213,9 @@ limited (m ∷ ms) s z tree f q =
     let o : m.operators ≤ 255 = omega (arith, ap operators_of e, f.4, q.4) in
     ((record { nesting = n; item = i; operators = o }, r.0), r.1)
 
+abbrev none : Option State
+none = None
+
 abbrev tree_of : List Entry → Tree
 tree_of es = record { entries = es }
 
@@ -252,11 +256,16 @@ complete ts tree a =
 
 -- The first fault.
 module _ (s : Span) (z : State) where
+  no_way : (b : Bool) → (if b then none else none) ≡ Some z → ⊥
+  no_way true h = absurd (cc)
+  no_way false h = absurd (cc)
+
   place_end : (i : Inside) (w : Whole) (p : Place) → at_place i w p s End ≡ Some z → ⊥
   place_end i w Want h = absurd (cc)
   place_end i w Post h = absurd (cc)
   place_end i w (Have p) h = absurd (cc)
-  place_end i w (Pick p) h = absurd (cc)
+  place_end i w (Element p) h = absurd (cc)
+  place_end i w (Access p) h = absurd (cc)
 
   making_end : (i : Inside) (m : Making) → placed i (at_making m s End) ≡ Some z → ⊥
   making_end i (Makings.Alloc t at) h = absurd (cc)
@@ -301,7 +310,9 @@ module _ (s : Span) (z : State) where
   struct_end es (Structs.Named x) h = absurd (cc)
   struct_end es (Structs.Members d) h = absurd (cc)
   struct_end es (Structs.Typing d p) h = type_end (λ q. Struct es (Structs.Typing d q)) (λ form x. Struct es (Structs.Ends d (record { form = form; name = x }))) true p h
-  struct_end es (Structs.Ends d m) h = absurd (cc)
+  struct_end es (Structs.Ends d m) h = no_way (is_cell m.form) h
+  struct_end es (Structs.Length d m) h = absurd (cc)
+  struct_end es (Structs.Sized d m n) h = absurd (cc)
   struct_end es (Structs.Closed d) h = absurd (cc)
 
   head_end : (es : List Entry) (p : HeadPlace) → at_head es p s End ≡ Some z → ⊥
@@ -324,7 +335,8 @@ module _ (s : Span) (z : State) where
   place_cut i w Want h = absurd (cc)
   place_cut i w Post h = absurd (cc)
   place_cut i w (Have p) h = absurd (cc)
-  place_cut i w (Pick p) h = absurd (cc)
+  place_cut i w (Element p) h = absurd (cc)
+  place_cut i w (Access p) h = absurd (cc)
 
   making_cut : (i : Inside) (m : Making) → placed i (at_making m s Cut) ≡ Some z → ⊥
   making_cut i (Makings.Alloc t at) h = absurd (cc)
@@ -369,7 +381,9 @@ module _ (s : Span) (z : State) where
   struct_cut es (Structs.Named x) h = absurd (cc)
   struct_cut es (Structs.Members d) h = absurd (cc)
   struct_cut es (Structs.Typing d p) h = type_cut (λ q. Struct es (Structs.Typing d q)) (λ form x. Struct es (Structs.Ends d (record { form = form; name = x }))) true p h
-  struct_cut es (Structs.Ends d m) h = absurd (cc)
+  struct_cut es (Structs.Ends d m) h = no_way (is_cell m.form) h
+  struct_cut es (Structs.Length d m) h = absurd (cc)
+  struct_cut es (Structs.Sized d m n) h = absurd (cc)
   struct_cut es (Structs.Closed d) h = absurd (cc)
 
   head_cut : (es : List Entry) (p : HeadPlace) → at_head es p s Cut ≡ Some z → ⊥
@@ -564,6 +578,7 @@ stands_fails before t s st U2 h = absurd h
 stands_fails before t s st U3 h = absurd h
 stands_fails before t s st U4 h = absurd h
 stands_fails before t s st U5 h = absurd h
+stands_fails before t s st U6 h = absurd h
 stands_fails before t s st L1 h = absurd h
 stands_fails before t s st S4 h =
     let g = goes before t s st h.0 in

@@ -1,5 +1,5 @@
 -- What may follow where a reading stands.
-use Rattle.std.proofs.Common.{◌≡◌, ◌≤◌, Bool, true, false, List, [], ◌∷◌, ◌⊎◌}
+use Rattle.std.proofs.Common.{◌≡◌, ℕ, ◌≤◌, ◌<◌, pos, Bool, true, false, List, [], ◌∷◌, ◌⊎◌, inl}
 use Rattle.ceal_base.specs.declared.fault.Span.{Span}
 use Rattle.ceal_base.specs.declared.syntax.Ident.{Ident}
 use Rattle.ceal_lex.specs.declared.token.Reserved.{Reserved as ReservedWord}
@@ -8,9 +8,9 @@ use Rattle.ceal_lex.specs.declared.token.Sign.{Sign as SignOf}
 use Rattle.ceal_lex.specs.declared.token.Sign.TheVariants as Signs
 use Rattle.ceal_lex.specs.declared.token.Token.{Token}
 use Rattle.ceal_lex.specs.declared.token.TokenKind.{TokenKind}
-use Rattle.ceal_lex.specs.declared.token.TokenKind.TheVariants.{Reserved, Sign, End}
+use Rattle.ceal_lex.specs.declared.token.TokenKind.TheVariants.{Number, Reserved, Sign, End}
 use Rattle.ceal_grammar.specs.declared.state.Frame.{Frame}
-use Rattle.ceal_grammar.specs.declared.state.Frame.TheVariants.{Open, Prefix, Address as AddressOf, Left}
+use Rattle.ceal_grammar.specs.declared.state.Frame.TheVariants.{Open, Prefix, Address as AddressOf, Index, Left}
 use Rattle.ceal_grammar.specs.declared.state.HeadPlace.{HeadPlace}
 use Rattle.ceal_grammar.specs.declared.state.HeadPlace.TheVariants as Heads
 use Rattle.ceal_grammar.specs.declared.state.Inside.{Inside}
@@ -22,7 +22,7 @@ use Rattle.ceal_grammar.specs.declared.state.Opened.{Opened}
 use Rattle.ceal_grammar.specs.declared.state.Owner.{Owner}
 use Rattle.ceal_grammar.specs.declared.state.Owner.TheVariants.{While as OfWhile, Then as OfThen, Else as OfElse}
 use Rattle.ceal_grammar.specs.declared.state.Place.{Place}
-use Rattle.ceal_grammar.specs.declared.state.Place.TheVariants.{Want, Post, Have, Pick}
+use Rattle.ceal_grammar.specs.declared.state.Place.TheVariants.{Want, Post, Have, Element, Access}
 use Rattle.ceal_grammar.specs.declared.state.Receiver.{Receiver}
 use Rattle.ceal_grammar.specs.declared.state.Receiver.TheVariants as To
 use Rattle.ceal_grammar.specs.declared.state.State.{State}
@@ -32,9 +32,10 @@ use Rattle.ceal_grammar.specs.declared.state.StructPlace.TheVariants as Structs
 use Rattle.ceal_grammar.specs.declared.state.TypePart.{TypePart}
 use Rattle.ceal_grammar.specs.declared.state.TypePart.TheVariants as Types
 use Rattle.ceal_grammar.specs.declared.state.Whole.{Whole}
-use Rattle.ceal_grammar.specs.Grammar.{Phrase, level_of, Grouped, Allowed, Arguments, AllGrouped, ArgumentsGrouped, Given, GivenGrouped, Branch, Otherwise, Block, Statements, BranchProper, OtherwiseProper, BlockProper, StatementsProper, Parameter, Parameters, MoreProper, ParametersProper, Member, Part, PartsProper}
+use Rattle.ceal_grammar.specs.Grammar.{Phrase, level_of, Grouped, Allowed, Arguments, AllGrouped, ArgumentsGrouped, Given, GivenGrouped, Branch, Otherwise, Block, Statements, BranchProper, OtherwiseProper, BlockProper, StatementsProper, Parameter, Parameters, MoreProper, ParametersProper, Member, MembersProper, Part, PartsProper}
+use Rattle.ceal_grammar.specs.Machine.{is_cell}
 use Rattle.ceal_grammar.proofs.Words.{word, named, phrase, items, argument_words, given_words, branch_words, other_words, block_words, statement_words, parameter_words, others, parameters_words, member_words, parts_words}
-use Rattle.ceal_grammar.proofs.Regroup.{Tail, tail_words, TailGrouped}
+use Rattle.ceal_grammar.proofs.Regroup.{Behind, behind_words, BehindGrouped, Tail, tail_words, TailGrouped}
 
 -- one token, and then what follows
 abbrev pub After : TokenKind → (List Token → Type 0) → List Token → Type 0
@@ -54,17 +55,22 @@ abbrev pub TopFuture : List Token → Type 0
 TopFuture u = (ps : List Part) × (s : Span) × PartsProper ps × (u ≡ parts_words ps (word End s ∷ []))
 
 -- the rest of a type, a name, and then what follows
-abbrev pub StarOr : Bool → (List Token → Type 0) → List Token → Type 0
-StarOr cells next u = AfterSign Signs.Star (AfterName next) u ⊎ ((cells ≡ true) × AfterName next u)
+-- What follows may depend on whether the type is that of a modifiable within a struct.
+abbrev pub StarOr : Bool → (Bool → List Token → Type 0) → List Token → Type 0
+StarOr cells next u = AfterSign Signs.Star (AfterName (next false)) u ⊎ ((cells ≡ true) × AfterName (next true) u)
 
-abbrev pub TypeFuture : Bool → (List Token → Type 0) → TypePart → List Token → Type 0
-TypeFuture cells next Types.Struct u = AfterName (AfterSign Signs.Star (AfterName next)) u
-TypeFuture cells next (Types.StructNamed y) u = AfterSign Signs.Star (AfterName next) u
+abbrev pub TypeFuture : Bool → (Bool → List Token → Type 0) → TypePart → List Token → Type 0
+TypeFuture cells next Types.Struct u = AfterName (AfterSign Signs.Star (AfterName (next false))) u
+TypeFuture cells next (Types.StructNamed y) u = AfterSign Signs.Star (AfterName (next false)) u
 TypeFuture cells next Types.Mod u = AfterWord Words.Int (StarOr cells next) u ⊎ AfterWord Words.Struct (AfterName (StarOr cells next)) u
 TypeFuture cells next Types.ModInt u = StarOr cells next u
 TypeFuture cells next Types.ModStruct u = AfterName (StarOr cells next) u
 TypeFuture cells next (Types.ModNamed y) u = StarOr cells next u
-TypeFuture cells next (Types.Done form) u = AfterName next u
+TypeFuture cells next (Types.Done form) u = AfterName (next (is_cell form)) u
+
+-- the same behind each type
+abbrev pub Each : (List Token → Type 0) → Bool → List Token → Type 0
+Each next cell u = next u
 
 -- statements, and the `}` of their block
 abbrev pub BodyFuture : (List Token → Type 0) → List Token → Type 0
@@ -118,22 +124,45 @@ FramesFuture i r [] u = ReceiverFuture i r u
 FramesFuture i r (Prefix op s ∷ fs) u = FramesFuture i r fs u
 FramesFuture i r (AddressOf s ∷ fs) u = FramesFuture i r fs u
 FramesFuture i r (Left a op s ∷ fs) u = FramesFuture i r fs u
-FramesFuture i r (Open o d ∷ fs) u = (s : Span) × (t : Tail) × (v : List Token) × TailGrouped t × (u ≡ word (Sign Signs.RightParenthesis) s ∷ tail_words t v) × FramesFuture i r fs v
+FramesFuture i r (Open o d ∷ fs) u = (s : Span) × (t : Tail) × (v : List Token) × TailGrouped fs t × (u ≡ word (Sign Signs.RightParenthesis) s ∷ tail_words t v) × FramesFuture i r fs v
+FramesFuture i r (Index o e d ∷ fs) u = (s : Span) × (b : Behind) × (v : List Token) × BehindGrouped b × (u ≡ word (Sign Signs.RightBracket) s ∷ behind_words b v) × FramesFuture i r fs v
+
+abbrev pub IndexFuture : Inside → Receiver → List Frame → List Token → Type 0
+IndexFuture i r fs u = (l : Span) × (c : Phrase) × (e : Span) × (b : Behind) × (v : List Token) × Grouped c × BehindGrouped b
+    × (u ≡ word (Sign Signs.LeftBracket) l ∷ phrase c (word (Sign Signs.RightBracket) e ∷ behind_words b v)) × FramesFuture i r fs v
+
+-- after a whole operand: behind the operand of an `&` an index may stand
+abbrev pub OperandFuture : Inside → Receiver → List Frame → List Token → Type 0
+OperandFuture i r (AddressOf s ∷ fs) u = FramesFuture i r fs u ⊎ IndexFuture i r fs u
+OperandFuture i r fs u = FramesFuture i r fs u
+
+pub without_index : (i : Inside) (r : Receiver) (fs : List Frame) (u : List Token) → FramesFuture i r fs u → OperandFuture i r fs u
+unfolding FramesFuture
+without_index i r [] u f = f
+without_index i r (Prefix op s ∷ fs) u f = f
+without_index i r (AddressOf s ∷ fs) u f = inl f
+without_index i r (Left a op s ∷ fs) u f = f
+without_index i r (Open o d ∷ fs) u f = f
+without_index i r (Index o e d ∷ fs) u f = f
 
 abbrev pub WantFuture : Inside → Receiver → List Frame → List Token → Type 0
-WantFuture i r fs u = (c : Phrase) × (v : List Token) × Grouped c × (u ≡ phrase c v) × FramesFuture i r fs v
+WantFuture i r fs u = (c : Phrase) × (v : List Token) × Grouped c × (u ≡ phrase c v) × OperandFuture i r fs v
 
 abbrev pub PostFuture : Inside → Receiver → List Frame → List Token → Type 0
-PostFuture i r fs u = (c : Phrase) × (t : Tail) × (v : List Token) × (8 ≤ level_of c) × Grouped c × TailGrouped t × (u ≡ phrase c (tail_words t v)) × FramesFuture i r fs v
+PostFuture i r fs u = (c : Phrase) × (t : Tail) × (v : List Token) × (8 ≤ level_of c) × Grouped c × TailGrouped fs t × (u ≡ phrase c (tail_words t v)) × FramesFuture i r fs v
 
 abbrev pub HaveFuture : Inside → Receiver → List Frame → List Token → Type 0
-HaveFuture i r fs u = (t : Tail) × (v : List Token) × TailGrouped t × (u ≡ tail_words t v) × FramesFuture i r fs v
+HaveFuture i r fs u = (t : Tail) × (v : List Token) × TailGrouped fs t × (u ≡ tail_words t v) × FramesFuture i r fs v
+
+abbrev pub ElementFuture : Inside → Receiver → List Frame → List Token → Type 0
+ElementFuture i r fs u = (b : Behind) × (v : List Token) × BehindGrouped b × (u ≡ behind_words b v) × FramesFuture i r fs v
 
 abbrev pub PlaceFuture : Inside → Whole → Place → List Token → Type 0
 PlaceFuture i w Want u = WantFuture i w.receiver w.frames u
 PlaceFuture i w Post u = PostFuture i w.receiver w.frames u
 PlaceFuture i w (Have p) u = HaveFuture i w.receiver w.frames u
-PlaceFuture i w (Pick p) u = AfterName (HaveFuture i w.receiver w.frames) u
+PlaceFuture i w (Element p) u = ElementFuture i w.receiver w.frames u
+PlaceFuture i w (Access p) u = AfterName (HaveFuture i w.receiver w.frames) u
 
 abbrev pub ArgumentsFuture : Inside → List Token → Type 0
 ArgumentsFuture i u = (args : Arguments) × (r : Span) × (v : List Token) × ArgumentsGrouped args
@@ -170,7 +199,7 @@ BranchFuture i u = (b : Branch) × (v : List Token) × BranchProper b × (u ≡ 
 
 abbrev pub ModeFuture : Inside → Mode → List Token → Type 0
 ModeFuture i Modes.Body u = In_body i u
-ModeFuture i (Modes.Typing at p) u = TypeFuture false (AfterSign Signs.Equals (ValueFuture i)) p u
+ModeFuture i (Modes.Typing at p) u = TypeFuture false (Each (AfterSign Signs.Equals (ValueFuture i))) p u
 ModeFuture i (Modes.Declared at form x) u = AfterSign Signs.Equals (ValueFuture i) u
 ModeFuture i (Modes.Named x) u = NamedFuture i u
 ModeFuture i (Modes.Owned at) u = AfterSign Signs.Arrow (PathFuture i) u
@@ -189,15 +218,28 @@ ModeFuture i (Modes.Closed at e first) u = OtherFuture (In_body i) u
 ModeFuture i (Modes.Otherwise at e first) u = BlockFuture (In_body i) u ⊎ BranchFuture i u
 
 abbrev pub MembersFuture : List Token → Type 0
-MembersFuture u = (ms : List Member) × (r semi : Span) × (v : List Token)
+MembersFuture u = (ms : List Member) × (r semi : Span) × (v : List Token) × MembersProper ms
     × (u ≡ member_words ms (word (Sign Signs.RightBrace) r ∷ word (Sign Signs.Semicolon) semi ∷ v)) × TopFuture v
+
+-- the `]` of a row's length, and the end of the member
+abbrev pub SizedFuture : List Token → Type 0
+SizedFuture u = AfterSign Signs.RightBracket (AfterSign Signs.Semicolon MembersFuture) u
+
+abbrev pub LengthFuture : List Token → Type 0
+LengthFuture u = (n : ℕ) × (s : Span) × (v : List Token) × (0 < n) × (u ≡ word (Number (pos n)) s ∷ v) × SizedFuture v
+
+-- after the name of a member
+abbrev pub EndFuture : Bool → List Token → Type 0
+EndFuture cell u = AfterSign Signs.Semicolon MembersFuture u ⊎ ((cell ≡ true) × AfterSign Signs.LeftBracket LengthFuture u)
 
 abbrev pub StructFuture : StructPlace → List Token → Type 0
 StructFuture Structs.Begun u = AfterName (AfterSign Signs.LeftBrace MembersFuture) u
 StructFuture (Structs.Named x) u = AfterSign Signs.LeftBrace MembersFuture u
 StructFuture (Structs.Members d) u = MembersFuture u
-StructFuture (Structs.Typing d p) u = TypeFuture true (AfterSign Signs.Semicolon MembersFuture) p u
-StructFuture (Structs.Ends d m) u = AfterSign Signs.Semicolon MembersFuture u
+StructFuture (Structs.Typing d p) u = TypeFuture true EndFuture p u
+StructFuture (Structs.Ends d m) u = EndFuture (is_cell m.form) u
+StructFuture (Structs.Length d m) u = LengthFuture u
+StructFuture (Structs.Sized d m n) u = SizedFuture u
 StructFuture (Structs.Closed d) u = AfterSign Signs.Semicolon TopFuture u
 
 abbrev pub OthersFuture : List Token → Type 0
@@ -224,7 +266,7 @@ HeadFuture (Heads.Shaped h) u = AfterSign Signs.Star OwnFuture u
 HeadFuture (Heads.Starred h) u = OwnFuture u
 HeadFuture (Heads.First h) u = ParametersFuture u
 HeadFuture (Heads.Next h) u = (p : Parameter) × (v : List Token) × Allowed false p.type × (u ≡ parameter_words p v) × OthersFuture v
-HeadFuture (Heads.Typing h p) u = TypeFuture false OthersFuture p u
+HeadFuture (Heads.Typing h p) u = TypeFuture false (Each OthersFuture) p u
 HeadFuture (Heads.Named h) u = OthersFuture u
 HeadFuture (Heads.Done h) u = BlockFuture TopFuture u
 

@@ -13,7 +13,7 @@ use Rattle.ceal_grammar.specs.Machine.{sign_number, word_number, same_sign, same
 abbrev signs : List SignOf
 signs = Signs.Arrow ∷ Signs.AndAnd ∷ Signs.BarBar ∷ Signs.EqualsEquals ∷ Signs.BangEquals ∷ Signs.LessEquals ∷ Signs.GreaterEquals ∷ Signs.Less ∷ Signs.Greater ∷ Signs.Plus
     ∷ Signs.Minus ∷ Signs.Star ∷ Signs.Slash ∷ Signs.Percent ∷ Signs.Bang ∷ Signs.Ampersand ∷ Signs.Equals ∷ Signs.LeftParenthesis ∷ Signs.RightParenthesis ∷ Signs.LeftBrace
-    ∷ Signs.RightBrace ∷ Signs.Comma ∷ Signs.Semicolon ∷ []
+    ∷ Signs.RightBrace ∷ Signs.Comma ∷ Signs.Semicolon ∷ Signs.LeftBracket ∷ Signs.RightBracket ∷ []
 
 abbrev words : List ReservedWord
 words = Words.Struct ∷ Words.Int ∷ Words.Mod ∷ Words.Ceal ∷ Words.Init ∷ Words.Own ∷ Words.Read ∷ Words.Write ∷ Words.Alloc ∷ Words.Modref ∷ Words.If ∷ Words.Else ∷ Words.While
@@ -43,6 +43,8 @@ sign_back Signs.LeftBrace = refl
 sign_back Signs.RightBrace = refl
 sign_back Signs.Comma = refl
 sign_back Signs.Semicolon = refl
+sign_back Signs.LeftBracket = refl
+sign_back Signs.RightBracket = refl
 
 word_back : (a : ReservedWord) → get_or words (word_number a) Words.Struct ≡ a
 word_back Words.Struct = refl

@@ -1,5 +1,5 @@
 -- Where a reading goes on, some program does.
-use Rattle.std.proofs.Common.{◌≡◌, ℕ, suc, Bool, true, false, Option, Some, None, List, [], ◌∷◌, ◌++◌, refl, sym, ap, ◌∙◌, subst, arith, inl, inr, ◌⊎◌}
+use Rattle.std.proofs.Common.{◌≡◌, ℕ, zero, suc, ◌≤◌, ◌<◌, pos, negsuc, Bool, true, false, Option, Some, None, List, [], ◌∷◌, ◌++◌, refl, sym, ap, ◌∙◌, subst, arith, inl, inr, ◌⊎◌}
 use Rattle.std.specs.Prelude.{if◌then◌else◌}
 use Rattle.ceal_base.specs.declared.fault.Span.{Span}
 use Rattle.ceal_base.specs.declared.operators.Unary.{Unary as UnaryOp}
@@ -19,11 +19,12 @@ use Rattle.ceal_lex.specs.declared.token.TokenKind.{TokenKind}
 use Rattle.ceal_lex.specs.declared.token.TokenKind.TheVariants.{Name, Number, Reserved, Sign, End, Cut}
 use Rattle.ceal_grammar.specs.declared.state.Callee.TheVariants.{Call as ToCall, Alloc as ToAlloc}
 use Rattle.ceal_grammar.specs.declared.state.Frame.{Frame}
-use Rattle.ceal_grammar.specs.declared.state.Frame.TheVariants.{Open, Prefix, Address as AddressOf, Left}
+use Rattle.ceal_grammar.specs.declared.state.Frame.TheVariants.{Open, Prefix, Address as AddressOf, Index, Left}
 use Rattle.ceal_grammar.specs.declared.state.Head.{Head}
 use Rattle.ceal_grammar.specs.declared.state.HeadPlace.{HeadPlace}
 use Rattle.ceal_grammar.specs.declared.state.HeadPlace.TheVariants as Heads
 use Rattle.ceal_grammar.specs.declared.state.Inside.{Inside}
+use Rattle.ceal_grammar.specs.declared.state.Layout.{Layout}
 use Rattle.ceal_grammar.specs.declared.state.Making.{Making}
 use Rattle.ceal_grammar.specs.declared.state.Making.TheVariants as Makings
 use Rattle.ceal_grammar.specs.declared.state.Mode.{Mode}
@@ -33,7 +34,7 @@ use Rattle.ceal_grammar.specs.declared.state.Owner.{Owner}
 use Rattle.ceal_grammar.specs.declared.state.Owner.TheVariants.{While as OfWhile, Then as OfThen, Else as OfElse}
 use Rattle.ceal_grammar.specs.declared.state.Piece.{Piece}
 use Rattle.ceal_grammar.specs.declared.state.Place.{Place}
-use Rattle.ceal_grammar.specs.declared.state.Place.TheVariants.{Want, Post, Have, Pick}
+use Rattle.ceal_grammar.specs.declared.state.Place.TheVariants.{Want, Post, Have, Element, Access}
 use Rattle.ceal_grammar.specs.declared.state.Receiver.{Receiver}
 use Rattle.ceal_grammar.specs.declared.state.Receiver.TheVariants as To
 use Rattle.ceal_grammar.specs.declared.state.State.{State}
@@ -47,19 +48,22 @@ use Rattle.ceal_grammar.specs.declared.state.TypePart.TheVariants as Types
 use Rattle.ceal_grammar.specs.declared.state.Typing.{Typing}
 use Rattle.ceal_grammar.specs.declared.state.Typing.TheVariants.{More as MoreType, Named as NamedType}
 use Rattle.ceal_grammar.specs.declared.state.Whole.{Whole}
-use Rattle.ceal_grammar.specs.Grammar.{Phrase, number, null, variable, own, parens, arrow, level, Grouped, IsPath, Written, int, pointer, mod_int, mod_pointer, cell_int, cell_pointer, Allowed, no_arguments, arguments, AllGrouped, plainly, reading, allocation, modref_int, modref, Statement, declare, assign, set, store, call, branch, loop, exit, Branch, when, nothing, otherwise, chained, block, ended, followed, StatementProper, BranchProper, Parameter, no_parameters, parameters, MoreProper, core, init, Part, structure, function, PartProper, PartsProper}
+use Rattle.ceal_grammar.specs.Grammar.{Phrase, number, null, variable, own, parens, arrow, level, IsInfix, level_of, Grouped, IsPath, Written, int, pointer, mod_int, mod_pointer, cell_int, cell_pointer, Allowed, no_arguments, arguments, AllGrouped, plainly, reading, allocation, modref_int, modref, Statement, declare, assign, set, store, call, branch, loop, exit, break, continue, Branch, when, nothing, otherwise, chained, block, ended, followed, StatementProper, BranchProper, Parameter, no_parameters, parameters, MoreProper, core, init, single as one_field, row, Part, structure, function, IsCell, MembersProper, PartProper, PartsProper}
 use Rattle.ceal_grammar.specs.Spelled.{sign_of, prefix_sign}
+use Rattle.ceal_grammar.specs.Trees.{type_form, row_form}
 use Rattle.ceal_grammar.proofs.Words.{word, named, phrase, type_words, items, argument_words, given_words, statement, branch_words, block_words, parameter_words, others, parameters_words, member_words, part_words, parts_words}
-use Rattle.ceal_grammar.proofs.Regroup.{negate, negate_grouped, negate_words, stop, field, more, tail_words, TailGrouped, grown, grown_grouped, grown_words, pointed, pointed_grouped, pointed_words}
+use Rattle.ceal_grammar.proofs.Regroup.{negate, negate_grouped, negate_words, Behind, stop, more, behind_words, BehindGrouped, beside, beside_grouped, beside_words, Tail, ending, field, index, tail_words, TailGrouped, pointed, pointed_grouped, pointed_words}
+use Rattle.std.proofs.lemmas.Bool.{false≢true}
 use Rattle.std.proofs.lemmas.Bool.Decides.{leb_tells}
-use Rattle.ceal_base.specs.declared.syntax.Stmt.{Return, SetField, Write}
+use Rattle.ceal_base.specs.declared.syntax.Stmt.{Return, Break, Continue, SetField, Write}
+use Rattle.ceal_base.specs.declared.syntax.FieldDecl.{FieldDecl}
 use Rattle.ceal_base.specs.declared.syntax.Stmt.TheViews as Trees
 use Rattle.ceal_base.specs.declared.syntax.ExprForm.{Null, Own}
 use Rattle.ceal_base.specs.declared.syntax.TypeForm.TheVariants as Forms
 use Rattle.ceal_base.specs.declared.syntax.Value.TheVariants as Values
-use Rattle.ceal_grammar.specs.Machine.{same_sign, same_word, is_sign, is_word, wants, operator_of, at_name, single, prefixed, addressed, joined, picked, reduced, within, begun, operated, placed, at_prim, at_operand, with_statement, given, called, received, closes, at_sign_after, picks, at_after, at_place, type_begin, type_starts, star_or, at_type, owned, block_closed, opened_by, at_statement, at_word, at_body, typed, path_of, field_of, at_value, at_modref, at_making, at_reached, chained_in, moved, begun_type, at_struct, with_parameter, at_head, at_part, at_top, step}
+use Rattle.ceal_grammar.specs.Machine.{same_sign, same_word, is_sign, is_word, wants, operator_of, at_name, single, prefixed, addressed, joined, accessed, reduced, within, begun, operated, placed, at_prim, at_operand, with_statement, given, called, received, closes, at_sign_after, accesses, at_index, at_after, at_element, at_place, type_begin, type_starts, star_or, at_type, owned, block_closed, opened_by, at_statement, at_word, at_body, typed, path_of, field_of, at_value, at_modref, at_making, at_reached, chained_in, moved, begun_type, with_member, is_cell, length_of, at_member_end, at_length, begun_struct, at_struct, with_parameter, at_head, at_part, at_top, step}
 use Rattle.ceal_grammar.proofs.Telling.{sign_true, word_true, sign_is, word_is}
-use Rattle.ceal_grammar.proofs.Future.{AfterSign, AfterWord, AfterName, TopFuture, StarOr, TypeFuture, BodyFuture, OtherFuture, OwnedFuture, CloseFuture, In_body, SemiFuture, ClosedFuture, BlockFuture, ReceiverFuture, FramesFuture, WantFuture, PostFuture, HaveFuture, PlaceFuture, ArgumentsFuture, ValueFuture, hops, ReachedFuture, PathFuture, MakingFuture, NamedFuture, ModeFuture, MembersFuture, StructFuture, OthersFuture, ParametersFuture, OwnFuture, ShapeFuture, HeadFuture, Future}
+use Rattle.ceal_grammar.proofs.Future.{AfterSign, AfterWord, AfterName, TopFuture, StarOr, TypeFuture, Each, BodyFuture, OtherFuture, OwnedFuture, CloseFuture, In_body, SemiFuture, ClosedFuture, BlockFuture, ReceiverFuture, FramesFuture, OperandFuture, without_index, WantFuture, PostFuture, HaveFuture, ElementFuture, PlaceFuture, ArgumentsFuture, ValueFuture, hops, ReachedFuture, PathFuture, MakingFuture, NamedFuture, ModeFuture, MembersFuture, LengthFuture, EndFuture, StructFuture, OthersFuture, ParametersFuture, OwnFuture, ShapeFuture, HeadFuture, Future}
 
 pub wanted : {A : Type 0} (b : Bool) (x y : A) → wants b x ≡ Some y → (b ≡ true) × (x ≡ y)
 wanted true x y h = (refl, cc)
@@ -170,10 +174,10 @@ begun_tells k p h = elim (chosen (same_word k Words.Int) (Some (Types.Done Forms
     later k = if same_word k Words.Struct then Some Types.Struct else wants (same_word k Words.Mod) Types.Mod
 
 -- a whole type and the name behind it
-abbrev TypeAnd : Bool → (List Token → Type 0) → List Token → Type 0
-TypeAnd cells next u = (w : Written) × (x : Ident) × (v : List Token) × Allowed cells w × (u ≡ type_words w (named x ∷ v)) × next v
+abbrev TypeAnd : Bool → (Bool → List Token → Type 0) → List Token → Type 0
+TypeAnd cells next u = (w : Written) × (x : Ident) × (v : List Token) × Allowed cells w × (u ≡ type_words w (named x ∷ v)) × next (is_cell (type_form w)) v
 
-module _ (cells : Bool) (next : List Token → Type 0) (s : Span) (u : List Token) where
+module _ (cells : Bool) (next : Bool → List Token → Type 0) (s : Span) (u : List Token) where
   starred_int : (at : Span) → StarOr cells next u → TypeAnd cells next (word (Reserved Words.Mod) at ∷ word (Reserved Words.Int) s ∷ u)
   starred_int at (inl f) = let n = f.3 in
       (mod_int at s f.0, n.0, n.1, tt, ahead (Reserved Words.Mod) at _ _ (ahead (Reserved Words.Int) s _ _ (f.2 ∙ ahead (Sign Signs.Star) f.0 _ _ n.2)), n.3)
@@ -192,7 +196,7 @@ module _ (cells : Bool) (next : List Token → Type 0) (s : Span) (u : List Toke
   starred_pointer at y (inr f) = let n = f.1 in
       (cell_pointer at s y, n.0, n.1, f.0, ahead (Reserved Words.Mod) at _ _ (ahead (Reserved Words.Struct) s _ _ (ahead (Name y.text) y.span _ _ n.2)), n.3)
 
-module _ (cells : Bool) (next : List Token → Type 0) (s : Span) (u : List Token) where
+module _ (cells : Bool) (next : Bool → List Token → Type 0) (s : Span) (u : List Token) where
   begun_back : (k : ReservedWord) (p : TypePart) → type_begin k ≡ Some p → TypeFuture cells next p u → TypeAnd cells next (word (Reserved k) s ∷ u)
   begun_back k p h f = elim (begun_tells k p h) [
     | inl a ↦ let n = subst (λ (q : TypePart). TypeFuture cells next q u) (sym a.1) f in
@@ -212,8 +216,8 @@ module _ (cells : Bool) (next : List Token → Type 0) (s : Span) (u : List Toke
           let n = f.3 in let t = starred_pointer cells next f.0 n.1 s n.0 n.3 in
           (t.0, t.1, t.2, t.3, ahead (Reserved Words.Mod) s _ _ (f.2 ∙ ahead (Reserved Words.Struct) f.0 _ _ n.2) ∙ t.4, t.5)
 
-module _ (cells : Bool) (next : List Token → Type 0) (s : Span) (τ : State) (u : List Token) (on : TypePart → State) (done : TypeForm → Ident → State)
-    (from_on : (p : TypePart) → Future (on p) u → TypeFuture cells next p u) (from_done : (form : TypeForm) (x : Ident) → Future (done form x) u → next u) where
+module _ (cells : Bool) (next : Bool → List Token → Type 0) (s : Span) (τ : State) (u : List Token) (on : TypePart → State) (done : TypeForm → Ident → State)
+    (from_on : (p : TypePart) → Future (on p) u → TypeFuture cells next p u) (from_done : (form : TypeForm) (x : Ident) → Future (done form x) u → next (is_cell form) u) where
   begins_back : (o : Option TypePart) → begun_type on o ≡ Some τ → Future τ u → (p : TypePart) × (o ≡ Some p) × TypeFuture cells next p u
   begins_back (Some p) h f = (p, refl, from_on p (at_next u _ τ h f))
   begins_back None h f = never τ h
@@ -234,7 +238,7 @@ module _ (cells : Bool) (next : List Token → Type 0) (s : Span) (τ : State) (
   name_on g End P c h f = never τ h
   name_on g Cut P c h f = never τ h
 
-  name_done : (form : TypeForm) (k : TokenKind) → Typed (at_name (λ x. NamedType form x) s k) → Future τ u → AfterName next (word k s ∷ u)
+  name_done : (form : TypeForm) (k : TokenKind) → Typed (at_name (λ x. NamedType form x) s k) → Future τ u → AfterName (next (is_cell form)) (word k s ∷ u)
   name_done form (Name x) h f = (record { text = x; span = s }, u, refl, from_done form (record { text = x; span = s }) (at_next u _ τ h f))
   name_done form (Number x) h f = never τ h
   name_done form (Reserved x) h f = never τ h
@@ -242,16 +246,17 @@ module _ (cells : Bool) (next : List Token → Type 0) (s : Span) (τ : State) (
   name_done form End h f = never τ h
   name_done form Cut h f = never τ h
 
-  star_back : (form cell : TypeForm) (k : TokenKind) → Typed (star_or cells form cell s k) → Future τ u → StarOr cells next (word k s ∷ u)
-  star_back form cell k h f =
+  star_back : (form cell : TypeForm) → is_cell form ≡ false → is_cell cell ≡ true
+      → (k : TokenKind) → Typed (star_or cells form cell s k) → Future τ u → StarOr cells next (word k s ∷ u)
+  star_back form cell plain one k h f =
       elim (choose (is_sign Signs.Star k) (Some (MoreType (Types.Done form))) (if cells then at_name (λ x. NamedType cell x) s k else None) h) [
-        | inl a ↦ inl (s, u, same_kind _ _ s u (sign_is Signs.Star k a.0), from_on (Types.Done form) (at_next u _ τ a.1 f))
+        | inl a ↦ inl (s, u, same_kind _ _ s u (sign_is Signs.Star k a.0), subst (λ (b : Bool). AfterName (next b) u) plain (from_on (Types.Done form) (at_next u _ τ a.1 f)))
         | inr a ↦ elim (choose cells (at_name (λ x. NamedType cell x) s k) None a.1)
-            [ inl b ↦ inr (b.0, name_done cell k b.1 f) | inr b ↦ never τ b.1 ]
+            [ inl b ↦ inr (b.0, subst (λ (b : Bool). AfterName (next b) (word k s ∷ u)) one (name_done cell k b.1 f)) | inr b ↦ never τ b.1 ]
       ]
 
   type_back : (p : TypePart) (k : TokenKind) → Typed (at_type cells p s k) → Future τ u → TypeFuture cells next p (word k s ∷ u)
-  type_back Types.Struct k h f = name_on (λ x. Types.StructNamed x) k (AfterSign Signs.Star (AfterName next)) (λ x g. g) h f
+  type_back Types.Struct k h f = name_on (λ x. Types.StructNamed x) k (AfterSign Signs.Star (AfterName (next false))) (λ x g. g) h f
   type_back (Types.StructNamed y) k h f =
       elim (choose (is_sign Signs.Star k) (Some (MoreType (Types.Done (Forms.Ptr y)))) None h)
       [ inl a ↦ (s, u, same_kind _ _ s u (sign_is Signs.Star k a.0), from_on (Types.Done (Forms.Ptr y)) (at_next u _ τ a.1 f)) | inr a ↦ never τ a.1 ]
@@ -261,9 +266,9 @@ module _ (cells : Bool) (next : List Token → Type 0) (s : Span) (τ : State) (
         | inr a ↦ elim (choose (is_word Words.Struct k) (Some (MoreType Types.ModStruct)) None a.1)
             [ inl b ↦ inr (s, u, same_kind _ _ s u (word_is Words.Struct k b.0), from_on Types.ModStruct (at_next u _ τ b.1 f)) | inr b ↦ never τ b.1 ]
       ]
-  type_back Types.ModInt k h f = star_back Forms.ModInt Forms.CellInt k h f
+  type_back Types.ModInt k h f = star_back Forms.ModInt Forms.CellInt refl refl k h f
   type_back Types.ModStruct k h f = name_on (λ x. Types.ModNamed x) k (StarOr cells next) (λ x g. g) h f
-  type_back (Types.ModNamed y) k h f = star_back (Forms.ModPtr y) (Forms.CellPtr y) k h f
+  type_back (Types.ModNamed y) k h f = star_back (Forms.ModPtr y) (Forms.CellPtr y) refl refl k h f
   type_back (Types.Done form) k h f = name_done form k h f
 
 -- Paths: an arrow and a name behind a path make a longer one.
@@ -310,10 +315,10 @@ module _ (i : Inside) (s : Span) (τ : State) (u : List Token) where
       (ahead (Name x) s _ _ (f.2 ∙ ahead (Sign Signs.LeftParenthesis) f.0 _ _ (a.4 ∙ ap (λ (v : List Token). argument_words a.0 (word (Sign Signs.RightParenthesis) a.1 ∷ v)) semi.2))) semi.3
   named_back x (inr (inr f)) = set_back (variable (record { text = x; span = s })) tt f
 
-  typing_back : (k : ReservedWord) (p : TypePart) → type_begin k ≡ Some p → TypeFuture false (AfterSign Signs.Equals (ValueFuture i)) p u → In_body i (word (Reserved k) s ∷ u)
+  typing_back : (k : ReservedWord) (p : TypePart) → type_begin k ≡ Some p → TypeFuture false (Each (AfterSign Signs.Equals (ValueFuture i))) p u → In_body i (word (Reserved k) s ∷ u)
   unfolding statement StatementProper
   typing_back k p h f =
-      let t = begun_back false (AfterSign Signs.Equals (ValueFuture i)) s u k p h f in
+      let t = begun_back false (Each (AfterSign Signs.Equals (ValueFuture i))) s u k p h f in
       let q = t.5 in let g = q.3 in let semi = g.4 in
       put _ (declare t.0 t.1 q.0 g.0 semi.0) _ semi.1 (t.3, g.2)
       (t.4 ∙ ap (λ (v : List Token). type_words t.0 (named t.1 ∷ v)) (q.2 ∙ ahead (Sign Signs.Equals) q.0 _ _ (g.3 ∙ ap (given_words g.0) semi.2))) semi.3
@@ -353,11 +358,17 @@ module _ (i : Inside) (s : Span) (τ : State) (u : List Token) where
       (ahead (Reserved Words.Write) s _ _ (f.2 ∙ ahead (Sign Signs.LeftParenthesis) f.0 _ _ (w.3 ∙ ap (phrase w.0)
       (r.5 ∙ ahead (Sign Signs.Comma) r.0 _ _ (ap (λ (v : List Token). phrase r.1 (word (Sign Signs.RightParenthesis) r.2 ∷ v)) semi.2))))) semi.3
 
+  abbrev at_word_7 : ReservedWord → Option Mode
+  at_word_7 k = wants (same_word k Words.Own) (Modes.Owned s)
+
+  abbrev at_word_6 : ReservedWord → Option Mode
+  at_word_6 k = if same_word k Words.Write then Some (Modes.Before (To.Write s)) else at_word_7 k
+
   abbrev at_word_5 : ReservedWord → Option Mode
-  at_word_5 k = wants (same_word k Words.Own) (Modes.Owned s)
+  at_word_5 k = if same_word k Words.Continue then Some (Modes.Ends (Continue s)) else at_word_6 k
 
   abbrev at_word_4 : ReservedWord → Option Mode
-  at_word_4 k = if same_word k Words.Write then Some (Modes.Before (To.Write s)) else at_word_5 k
+  at_word_4 k = if same_word k Words.Break then Some (Modes.Ends (Break s)) else at_word_5 k
 
   abbrev at_word_3 : ReservedWord → Option Mode
   at_word_3 k = if same_word k Words.Return then Some (Modes.Ends (Return s)) else at_word_4 k
@@ -379,9 +390,15 @@ module _ (i : Inside) (s : Span) (τ : State) (u : List Token) where
       | inl r ↦ backed k Words.While r.0 (while_back (at_next u _ τ r.1 f))
       | inr r ↦ elim (chosen_in i (same_word k Words.Return) (Some (Modes.Ends (Return s))) (at_word_4 k) τ r.1) [
         | inl a ↦ backed k Words.Return a.0 (let g = at_next u _ τ a.1 f in put _ (exit s g.0) _ g.1 tt (ahead (Reserved Words.Return) s _ _ g.2) g.3)
-        | inr a ↦ elim (chosen_in i (same_word k Words.Write) (Some (Modes.Before (To.Write s))) (at_word_5 k) τ a.1) [
-          | inl b ↦ backed k Words.Write b.0 (write_back (at_next u _ τ b.1 f))
-          | inr b ↦ let w = wanted_in i _ _ τ b.1 in backed k Words.Own (wanted _ _ τ w).0 (set_back (own s) tt (at_wanted u _ _ τ w f))
+        | inr a ↦ elim (chosen_in i (same_word k Words.Break) (Some (Modes.Ends (Break s))) (at_word_5 k) τ a.1) [
+          | inl b ↦ backed k Words.Break b.0 (let g = at_next u _ τ b.1 f in put _ (break s g.0) _ g.1 tt (ahead (Reserved Words.Break) s _ _ g.2) g.3)
+          | inr b ↦ elim (chosen_in i (same_word k Words.Continue) (Some (Modes.Ends (Continue s))) (at_word_6 k) τ b.1) [
+            | inl c ↦ backed k Words.Continue c.0 (let g = at_next u _ τ c.1 f in put _ (continue s g.0) _ g.1 tt (ahead (Reserved Words.Continue) s _ _ g.2) g.3)
+            | inr c ↦ elim (chosen_in i (same_word k Words.Write) (Some (Modes.Before (To.Write s))) (at_word_7 k) τ c.1) [
+              | inl d ↦ backed k Words.Write d.0 (write_back (at_next u _ τ d.1 f))
+              | inr d ↦ let w = wanted_in i _ _ τ d.1 in backed k Words.Own (wanted _ _ τ w).0 (set_back (own s) tt (at_wanted u _ _ τ w f))
+            ]
+          ]
         ]
       ]
     ]
@@ -426,6 +443,35 @@ operator_is Signs.LeftBrace op h = absurd (cc)
 operator_is Signs.RightBrace op h = absurd (cc)
 operator_is Signs.Comma op h = absurd (cc)
 operator_is Signs.Semicolon op h = absurd (cc)
+operator_is Signs.LeftBracket op h = absurd (cc)
+operator_is Signs.RightBracket op h = absurd (cc)
+
+operator_infix : (c : SignOf) (op : BinaryOp) → operator_of c ≡ Some op → IsInfix op
+operator_infix Signs.Plus op h = subst IsInfix (got _ op h) tt
+operator_infix Signs.Minus op h = subst IsInfix (got _ op h) tt
+operator_infix Signs.Star op h = subst IsInfix (got _ op h) tt
+operator_infix Signs.Slash op h = subst IsInfix (got _ op h) tt
+operator_infix Signs.Percent op h = subst IsInfix (got _ op h) tt
+operator_infix Signs.Less op h = subst IsInfix (got _ op h) tt
+operator_infix Signs.LessEquals op h = subst IsInfix (got _ op h) tt
+operator_infix Signs.Greater op h = subst IsInfix (got _ op h) tt
+operator_infix Signs.GreaterEquals op h = subst IsInfix (got _ op h) tt
+operator_infix Signs.EqualsEquals op h = subst IsInfix (got _ op h) tt
+operator_infix Signs.BangEquals op h = subst IsInfix (got _ op h) tt
+operator_infix Signs.AndAnd op h = subst IsInfix (got _ op h) tt
+operator_infix Signs.BarBar op h = subst IsInfix (got _ op h) tt
+operator_infix Signs.Arrow op h = absurd (cc)
+operator_infix Signs.Bang op h = absurd (cc)
+operator_infix Signs.Ampersand op h = absurd (cc)
+operator_infix Signs.Equals op h = absurd (cc)
+operator_infix Signs.LeftParenthesis op h = absurd (cc)
+operator_infix Signs.RightParenthesis op h = absurd (cc)
+operator_infix Signs.LeftBrace op h = absurd (cc)
+operator_infix Signs.RightBrace op h = absurd (cc)
+operator_infix Signs.Comma op h = absurd (cc)
+operator_infix Signs.Semicolon op h = absurd (cc)
+operator_infix Signs.LeftBracket op h = absurd (cc)
+operator_infix Signs.RightBracket op h = absurd (cc)
 
 -- operators that take a piece leave the future as it is
 kept : (i : Inside) (r : Receiver) (l : ℕ) (p : Piece) (fs : List Frame) (u : List Token)
@@ -433,6 +479,7 @@ kept : (i : Inside) (r : Receiver) (l : ℕ) (p : Piece) (fs : List Frame) (u : 
 unfolding reduced FramesFuture
 kept i r l p [] u f = f
 kept i r l p (Open s d ∷ fs) u f = f
+kept i r l p (Index s e d ∷ fs) u f = f
 kept i r l p (Prefix op s ∷ fs) u f = kept i r l (prefixed op s p) fs u f
 kept i r l p (AddressOf s ∷ fs) u f = kept i r l (addressed s p) fs u f
 kept i r l p (Left a op s ∷ fs) u f = elim (leb_tells l (level op))
@@ -466,24 +513,47 @@ module _ (i : Inside) (s : Span) (τ : State) (u : List Token) where
   closes_back w c p (Open o d ∷ fs) h f =
       let t = at_wanted u _ _ τ h f in
       (s, t.0, t.1, t.2, behind _ _ s _ _ (ap Sign (sign_true c Signs.RightParenthesis (wanted _ _ τ h).0)) t.3, t.4)
+  closes_back w c p (Index o e d ∷ fs) h f =
+      let t = at_wanted u _ _ τ h f in
+      (s, t.0, t.1, t.2, behind _ _ s _ _ (ap Sign (sign_true c Signs.RightBracket (wanted _ _ τ h).0)) t.3, t.4)
   closes_back w c p (Prefix op o ∷ fs) h f = never τ h
   closes_back w c p (AddressOf o ∷ fs) h f = never τ h
   closes_back w c p (Left a op o ∷ fs) h f = never τ h
 
   sign_back : (w : Whole) (p : Piece) (c : SignOf) (o : Option BinaryOp) → operator_of c ≡ o
-      → at_sign_after i w p s c o ≡ Some τ → Future τ u → HaveFuture i w.receiver w.frames (word (Sign c) s ∷ u)
-  unfolding FramesFuture tail_words TailGrouped
+      → at_sign_after i w p s c o ≡ Some τ → Future τ u → ElementFuture i w.receiver w.frames (word (Sign c) s ∷ u)
+  unfolding FramesFuture behind_words BehindGrouped
   sign_back w p c (Some op) e h f =
       let t = at_next u _ τ h f in
-      (more op s t.0, t.1, t.2, behind _ _ s _ _ (ap Sign (operator_is c op e)) t.3, kept i w.receiver (level op) p w.frames _ t.4)
+      (more op s t.0, t.1, (operator_infix c op e, t.2), behind _ _ s _ _ (ap Sign (operator_is c op e)) t.3, kept i w.receiver (level op) p w.frames _ t.4)
   sign_back w p c None e h f =
       let q = reduced 0 p w.frames in
       (stop, _, tt, refl, kept i w.receiver 0 p w.frames _ (closes_back w c q.piece q.frames h f))
 
+  element_back : (w : Whole) (p : Piece) (k : TokenKind) → at_element i w p s k ≡ Some τ → Future τ u → ElementFuture i w.receiver w.frames (word k s ∷ u)
+  element_back w p (Sign c) h f = sign_back w p c (operator_of c) refl h f
+  element_back w p (Name x) h f = never τ h
+  element_back w p (Number x) h f = never τ h
+  element_back w p (Reserved x) h f = never τ h
+  element_back w p End h f = never τ h
+  element_back w p Cut h f = never τ h
+
+  index_back : (w : Whole) (p : Piece) (k : TokenKind) (fs : List Frame) → k ≡ Sign Signs.LeftBracket → at_index i w p fs ≡ Some τ → Future τ u
+      → HaveFuture i w.receiver fs (word k s ∷ u)
+  unfolding FramesFuture tail_words TailGrouped
+  index_back w p k (AddressOf o ∷ fs) e h f =
+      let t = at_next u _ τ h f in let b = t.4 in
+      (index s t.0 b.0 b.1, b.2, (tt, t.2, b.3), behind _ _ s _ _ e (t.3 ∙ ap (phrase t.0) b.4), b.5)
+  index_back w p k [] e h f = never τ h
+  index_back w p k (Open o d ∷ fs) e h f = never τ h
+  index_back w p k (Index o x d ∷ fs) e h f = never τ h
+  index_back w p k (Prefix op o ∷ fs) e h f = never τ h
+  index_back w p k (Left a op o ∷ fs) e h f = never τ h
+
   after_back : (w : Whole) (p : Piece) (k : TokenKind) → at_after i w p s k ≡ Some τ → Future τ u → HaveFuture i w.receiver w.frames (word k s ∷ u)
   unfolding tail_words TailGrouped
   after_back w p (Sign c) h f =
-      elim (chosen (same_sign c Signs.Arrow) (Some (within i (picks w) (Pick p))) (at_sign_after i w p s c (operator_of c)) τ h) [
+      elim (chosen (same_sign c Signs.Arrow) (Some (within i (accesses w) (Access p))) (later c) τ h) [
         | inl a ↦ let n = at_next u _ τ a.1 f in let t = n.3 in (
           field s n.0 t.0,
           t.1,
@@ -491,8 +561,14 @@ module _ (i : Inside) (s : Span) (τ : State) (u : List Token) where
           behind _ _ s _ _ (ap Sign (sign_true c Signs.Arrow a.0)) (n.2 ∙ ahead (Name n.0.text) n.0.span _ _ t.3),
           t.4,
         )
-        | inr a ↦ sign_back w p c (operator_of c) refl a.1 f
+        | inr a ↦ elim (chosen (same_sign c Signs.LeftBracket) (at_index i w p w.frames) (at_sign_after i w p s c (operator_of c)) τ a.1) [
+          | inl b ↦ index_back w p (Sign c) w.frames (ap Sign (sign_true c Signs.LeftBracket b.0)) b.1 f
+          | inr b ↦ let t = sign_back w p c (operator_of c) refl b.1 f in (ending t.0, t.1, t.2, t.3, t.4)
+        ]
       ]
+    where
+      later : SignOf → Option State
+      later c = if same_sign c Signs.LeftBracket then at_index i w p w.frames else at_sign_after i w p s c (operator_of c)
   after_back w p (Name x) h f = never τ h
   after_back w p (Number x) h f = never τ h
   after_back w p (Reserved x) h f = never τ h
@@ -519,8 +595,23 @@ module _ (i : Inside) (s : Span) (τ : State) (u : List Token) where
   prim_back w End h f = never τ h
   prim_back w Cut h f = never τ h
 
-  grow_back : (r : Receiver) (fs : List Frame) (v : List Token) → PostFuture i r fs v → WantFuture i r fs v
-  grow_back r fs v p = (grown p.0 p.1, p.2, grown_grouped p.1 p.0 p.3 p.4 p.5, p.6 ∙ sym (grown_words p.1 p.0 p.2), p.7)
+  -- an index of the operand of an `&`
+  indexed_back : (r : Receiver) (fs : List Frame) (l : Span) (c : Phrase) (e : Span) (b : Behind) (v : List Token) → TailGrouped fs (index l c e b)
+      → FramesFuture i r fs v → OperandFuture i r fs (tail_words (index l c e b) v)
+  unfolding FramesFuture tail_words TailGrouped
+  indexed_back r (AddressOf o ∷ fs) l c e b v k f = inr (l, c, e, b, v, k.1, k.2, refl, f)
+  indexed_back r [] l c e b v k f = absurd k.0
+  indexed_back r (Open o d ∷ fs) l c e b v k f = absurd k.0
+  indexed_back r (Index o x d ∷ fs) l c e b v k f = absurd k.0
+  indexed_back r (Prefix op o ∷ fs) l c e b v k f = absurd k.0
+  indexed_back r (Left a op o ∷ fs) l c e b v k f = absurd k.0
+
+  grow_back : (r : Receiver) (fs : List Frame) (t : Tail) (c : Phrase) (v w : List Token) → 8 ≤ level_of c → Grouped c → TailGrouped fs t → w ≡ phrase c (tail_words t v)
+      → FramesFuture i r fs v → WantFuture i r fs w
+  unfolding tail_words TailGrouped phrase Grouped
+  grow_back r fs (ending b) c v w h g k e f = (beside c b, v, beside_grouped b c (omega arith) g k, e ∙ sym (beside_words b c v), without_index i r fs v f)
+  grow_back r fs (field at x t) c v w h g k e f = grow_back r fs t (arrow c at x) v w (omega arith) (h, g) k e f
+  grow_back r fs (index l d q b) c v w h g k e f = (c, _, g, e, indexed_back r fs l d q b v k f)
 
   operand_back : (w : Whole) (k : TokenKind) → placed i (at_operand w s k) ≡ Some τ → Future τ u → WantFuture i w.receiver w.frames (word k s ∷ u)
   unfolding FramesFuture Grouped phrase
@@ -533,11 +624,11 @@ module _ (i : Inside) (s : Span) (τ : State) (u : List Token) where
             | inl c ↦ let t = at_next u _ τ c.1 f in (
               pointed s t.0 t.1,
               t.2,
-              pointed_grouped s t.1 t.0 t.3 t.4 t.5,
+              pointed_grouped s (AddressOf s ∷ w.frames) t.1 t.0 t.3 t.4 t.5,
               behind _ _ s _ _ (sign_is Signs.Ampersand k c.0) t.6 ∙ sym (pointed_words s t.1 t.0 t.2),
-              t.7,
+              without_index i w.receiver w.frames t.2 t.7,
             )
-            | inr c ↦ grow_back w.receiver w.frames _ (prim_back w k c.1 f)
+            | inr c ↦ let t = prim_back w k c.1 f in grow_back w.receiver w.frames t.1 t.0 t.2 _ t.3 t.4 t.5 t.6 t.7
           ]
         ]
       ]
@@ -554,14 +645,15 @@ module _ (i : Inside) (s : Span) (τ : State) (u : List Token) where
         t.1,
         negate_grouped o s t.0 t.2,
         behind _ _ s _ _ e t.3 ∙ sym (negate_words o s t.0 t.1),
-        t.4,
+        without_index i w.receiver w.frames t.1 t.4,
       )
 
   place_back : (w : Whole) (p : Place) (k : TokenKind) → at_place i w p s k ≡ Some τ → Future τ u → PlaceFuture i w p (word k s ∷ u)
   place_back w Want k h f = operand_back w k h f
   place_back w Post k h f = prim_back w k h f
   place_back w (Have p) k h f = after_back w p k h f
-  place_back w (Pick p) k h f = at_name_back s τ u (λ x. within i w (Have (picked p x))) (HaveFuture i w.receiver w.frames) (λ x g. g) k (name_in i (λ x. Modes.Within w (Have (picked p x))) s k τ h) f
+  place_back w (Element p) k h f = element_back w p k h f
+  place_back w (Access p) k h f = at_name_back s τ u (λ x. within i w (Have (accessed p x))) (HaveFuture i w.receiver w.frames) (λ x g. g) k (name_in i (λ x. Modes.Within w (Have (accessed p x))) s k τ h) f
 
   value_back : (t : Target) (k : TokenKind) → placed i (at_value i.nesting t s k) ≡ Some τ → Future τ u → ValueFuture i (word k s ∷ u)
   unfolding FramesFuture
@@ -632,7 +724,7 @@ module _ (i : Inside) (s : Span) (τ : State) (u : List Token) where
   unfolding CloseFuture FramesFuture statement StatementProper
   mode_back Modes.Body k h f = body_back i s τ u k h f
   mode_back (Modes.Typing at p) k h f =
-      type_back false (AfterSign Signs.Equals (ValueFuture i)) s τ u (λ q. In i (Modes.Typing at q)) (λ form x. In i (Modes.Declared at form x)) (λ q g. g) (λ form x g. g) p k (typed_in i (λ q. Modes.Typing at q) (λ form x. Modes.Declared at form x) (at_type false p s k) τ h) f
+      type_back false (Each (AfterSign Signs.Equals (ValueFuture i))) s τ u (λ q. In i (Modes.Typing at q)) (λ form x. In i (Modes.Declared at form x)) (λ q g. g) (λ form x g. g) p k (typed_in i (λ q. Modes.Typing at q) (λ form x. Modes.Declared at form x) (at_type false p s k) τ h) f
   mode_back (Modes.Declared at form x) k h f = sign_wanted s τ u Signs.Equals k (In i (Modes.Value (ToDeclare at form x))) (ValueFuture i) (λ g. g) (wanted_in i _ _ τ h) f
   mode_back (Modes.Named x) k h f =
       elim (chosen_in i (is_sign Signs.Equals k) (Some (Modes.Value (ToAssign x))) (second k) τ h) [
@@ -685,12 +777,42 @@ module _ (i : Inside) (s : Span) (τ : State) (u : List Token) where
       nested = chained_in i (record { span = at; test = e; first = first })
 
 -- Structs, heads and whole parts.
+cell_is : (w : Written) → is_cell (type_form w) ≡ true → IsCell w
+cell_is (cell_int s k) h = tt
+cell_is (cell_pointer s k x) h = tt
+cell_is (int s) h = absurd (cc)
+cell_is (pointer s x t) h = absurd (cc)
+cell_is (mod_int s k t) h = absurd (cc)
+cell_is (mod_pointer s k x t) h = absurd (cc)
+
+row_no_cell : (form : TypeForm) (n : ℕ) → is_cell (row_form form n) ≡ false
+row_no_cell Forms.Int n = refl
+row_no_cell (Forms.Ptr y) n = refl
+row_no_cell Forms.ModInt n = refl
+row_no_cell (Forms.ModPtr y) n = refl
+row_no_cell Forms.CellInt n = refl
+row_no_cell (Forms.CellPtr y) n = refl
+row_no_cell (Forms.CellRow m) n = refl
+row_no_cell (Forms.CellPtrRow y m) n = refl
+
+length_is : (k : TokenKind) (n : ℕ) → length_of k ≡ Some n → (k ≡ Number (pos n)) × (0 < n)
+length_is (Number (pos (suc m))) n h =
+    let e = got (suc m) n h in
+    let p : 0 < n = omega (arith, e) in (ap (λ (j : ℕ). Number (pos j)) e, p)
+length_is (Number (pos zero)) n h = absurd (cc)
+length_is (Number (negsuc m)) n h = absurd (cc)
+length_is (Name x) n h = absurd (cc)
+length_is (Reserved x) n h = absurd (cc)
+length_is (Sign x) n h = absurd (cc)
+length_is End n h = absurd (cc)
+length_is Cut n h = absurd (cc)
+
 module _ (s : Span) (τ : State) (u : List Token) (es : List Entry) where
   part_more : (p : Part) (v w : List Token) → PartProper p → v ≡ part_words p w → TopFuture w → TopFuture v
   unfolding parts_words PartsProper
   part_more p v w a e t = (p ∷ t.0, t.1, (a, t.2), e ∙ ap (part_words p) t.3)
 
-  starts_back : (on : TypePart → State) (cells : Bool) (next : List Token → Type 0) → ((p : TypePart) → Future (on p) u → TypeFuture cells next p u)
+  starts_back : (on : TypePart → State) (cells : Bool) (next : Bool → List Token → Type 0) → ((p : TypePart) → Future (on p) u → TypeFuture cells next p u)
       → (k : TokenKind) → begun_type on (type_starts k) ≡ Some τ → Future τ u → TypeAnd cells next (word k s ∷ u)
   starts_back on cells next c (Reserved k) h f = go (type_begin k) refl h
     where
@@ -703,28 +825,75 @@ module _ (s : Span) (τ : State) (u : List Token) (es : List Entry) where
   starts_back on cells next c End h f = never τ h
   starts_back on cells next c Cut h f = never τ h
 
+  -- a member and those behind it
+  member_back : (w : Written) (x : Ident) (v l : List Token) → l ≡ type_words w (named x ∷ v) → EndFuture (is_cell (type_form w)) v → MembersFuture l
+  unfolding member_words MembersProper
+  member_back w x v l e (inl c) =
+      let m = c.3 in (
+        record { type = w; x = x; size = one_field; semi = c.0 } ∷ m.0,
+        m.1,
+        m.2,
+        m.3,
+        (tt, m.4),
+        e ∙ ap (λ (y : List Token). type_words w (named x ∷ y)) (c.2 ∙ ahead (Sign Signs.Semicolon) c.0 _ _ m.5),
+        m.6,
+      )
+  member_back w x v l e (inr p) =
+      let o = p.1 in let n = o.3 in let r = n.5 in let c = r.3 in let m = c.3 in (
+        record { type = w; x = x; size = row o.0 n.0 n.1 r.0; semi = c.0 } ∷ m.0,
+        m.1,
+        m.2,
+        m.3,
+        ((cell_is w p.0, n.3), m.4),
+        e ∙ ap (λ (y : List Token). type_words w (named x ∷ y)) (o.2 ∙ ahead (Sign Signs.LeftBracket) o.0 _ _ (n.4 ∙ ahead (Number (pos n.0)) n.1 _ _
+            (r.2 ∙ ahead (Sign Signs.RightBracket) r.0 _ _ (c.2 ∙ ahead (Sign Signs.Semicolon) c.0 _ _ m.5)))),
+        m.6,
+      )
+
+  member_end_back : (l : Layout) (m : FieldDecl) (k : TokenKind) → at_member_end es l m k ≡ Some τ → Future τ u → EndFuture (is_cell m.form) (word k s ∷ u)
+  member_end_back l m k h f =
+      elim (chosen (is_sign Signs.Semicolon k) (Some (Struct es (Structs.Members (with_member l m)))) (later k) τ h) [
+        | inl a ↦ inl (s, u, same_kind _ _ s u (sign_is Signs.Semicolon k a.0), at_next u _ τ a.1 f)
+        | inr a ↦ elim (chosen (is_cell m.form) (wants (is_sign Signs.LeftBracket k) (Struct es (Structs.Length l m))) None τ a.1)
+            [ inl b ↦ inr (b.0, sign_wanted s τ u Signs.LeftBracket k (Struct es (Structs.Length l m)) LengthFuture (λ g. g) b.1 f) | inr b ↦ never τ b.1 ]
+      ]
+    where
+      later : TokenKind → Option State
+      later k = if is_cell m.form then wants (is_sign Signs.LeftBracket k) (Struct es (Structs.Length l m)) else None
+
+  length_back : (l : Layout) (m : FieldDecl) (k : TokenKind) (o : Option ℕ) → length_of k ≡ o → at_length es l m o ≡ Some τ → Future τ u → LengthFuture (word k s ∷ u)
+  length_back l m k (Some n) e h f = let t = length_is k n e in (n, s, u, t.1, same_kind _ _ s u t.0, at_next u _ τ h f)
+  length_back l m k None e h f = never τ h
+
+  -- a row is no modifiable that may be a row
+  row_end : (form : TypeForm) (n : ℕ) (v : List Token) → EndFuture (is_cell (row_form form n)) v → AfterSign Signs.Semicolon MembersFuture v
+  row_end form n v (inl c) = c
+  row_end form n v (inr c) = absurd (false≢true (sym (row_no_cell form n) ∙ c.0))
+
   struct_back : (p : StructPlace) (k : TokenKind) → at_struct es p s k ≡ Some τ → Future τ u → StructFuture p (word k s ∷ u)
-  unfolding member_words
+  unfolding member_words MembersProper
   struct_back Structs.Begun k h f = at_name_back s τ u (λ x. Struct es (Structs.Named x)) (AfterSign Signs.LeftBrace MembersFuture) (λ x g. g) k h f
   struct_back (Structs.Named x) k h f =
-      sign_wanted s τ u Signs.LeftBrace k (Struct es (Structs.Members (record { name = x; fields = [] }))) MembersFuture (λ g. g) h f
-  struct_back (Structs.Members d) k h f =
-      elim (chosen (is_sign Signs.RightBrace k) (Some (Struct es (Structs.Closed d))) (begun_type (λ p. Struct es (Structs.Typing d p)) (type_starts k)) τ h) [
-        | inl a ↦ let t = at_next u _ τ a.1 f in ([], s, t.0, t.1, behind _ _ s _ _ (sign_is Signs.RightBrace k a.0) t.2, t.3)
-        | inr a ↦ let t = starts_back (λ p. Struct es (Structs.Typing d p)) true (AfterSign Signs.Semicolon MembersFuture) (λ p g. g) k a.1 f in
-            let c = t.5 in let m = c.3 in
-            (record { type = t.0; x = t.1; semi = c.0 } ∷ m.0, m.1, m.2, m.3, t.4 ∙ ap (λ (v : List Token). type_words t.0 (named t.1 ∷ v)) (c.2 ∙ ahead (Sign Signs.Semicolon) c.0 _ _ m.4), m.5)
+      sign_wanted s τ u Signs.LeftBrace k (Struct es (Structs.Members (begun_struct x))) MembersFuture (λ g. g) h f
+  struct_back (Structs.Members l) k h f =
+      elim (chosen (is_sign Signs.RightBrace k) (Some (Struct es (Structs.Closed l.decl))) (begun_type (λ p. Struct es (Structs.Typing l p)) (type_starts k)) τ h) [
+        | inl a ↦ let t = at_next u _ τ a.1 f in ([], s, t.0, t.1, tt, behind _ _ s _ _ (sign_is Signs.RightBrace k a.0) t.2, t.3)
+        | inr a ↦ let t = starts_back (λ p. Struct es (Structs.Typing l p)) true EndFuture (λ p g. g) k a.1 f in member_back t.0 t.1 t.2 _ t.4 t.5
       ]
-  struct_back (Structs.Typing d p) k h f =
-      type_back true (AfterSign Signs.Semicolon MembersFuture) s τ u (λ q. Struct es (Structs.Typing d q)) (λ form x. Struct es (Structs.Ends d (record { form = form; name = x })))
+  struct_back (Structs.Typing l p) k h f =
+      type_back true EndFuture s τ u (λ q. Struct es (Structs.Typing l q)) (λ form x. Struct es (Structs.Ends l (record { form = form; name = x })))
       (λ q g. g) (λ form x g. g) p k h f
-  struct_back (Structs.Ends d m) k h f = sign_wanted s τ u Signs.Semicolon k _ MembersFuture (λ g. g) h f
+  struct_back (Structs.Ends l m) k h f = member_end_back l m k h f
+  struct_back (Structs.Length l m) k h f = length_back l m k (length_of k) refl h f
+  struct_back (Structs.Sized l m n) k h f =
+      sign_wanted s τ u Signs.RightBracket k (Struct es (Structs.Ends l (record { form = row_form m.form n; name = m.name }))) (AfterSign Signs.Semicolon MembersFuture)
+      (λ g. row_end m.form n u g) h f
   struct_back (Structs.Closed d) k h f = sign_wanted s τ u Signs.Semicolon k _ TopFuture (λ g. g) h f
 
   next_back : (k : TokenKind) (h : Head) → begun_type (λ p. InHead es (Heads.Typing h p)) (type_starts k) ≡ Some τ → Future τ u
       → (p : Parameter) × (v : List Token) × Allowed false p.type × (word k s ∷ u ≡ parameter_words p v) × OthersFuture v
   next_back k h e f =
-      let t = starts_back (λ p. InHead es (Heads.Typing h p)) false OthersFuture (λ p g. g) k e f in
+      let t = starts_back (λ p. InHead es (Heads.Typing h p)) false (Each OthersFuture) (λ p g. g) k e f in
       (record { type = t.0; x = t.1 }, t.2, t.3, t.4, t.5)
 
   head_back : (p : HeadPlace) (k : TokenKind) → at_head es p s k ≡ Some τ → Future τ u → HeadFuture p (word k s ∷ u)
@@ -746,7 +915,7 @@ module _ (s : Span) (τ : State) (u : List Token) (es : List Entry) where
       ]
   head_back (Heads.Next d) k h f = next_back k d h f
   head_back (Heads.Typing d p) k h f =
-      type_back false OthersFuture s τ u (λ q. InHead es (Heads.Typing d q)) (λ form x. InHead es (Heads.Named (with_parameter d (record { form = form; name = x }))))
+      type_back false (Each OthersFuture) s τ u (λ q. InHead es (Heads.Typing d q)) (λ form x. InHead es (Heads.Named (with_parameter d (record { form = form; name = x }))))
       (λ q g. g) (λ form x g. g) p k h f
   head_back (Heads.Named d) k h f =
       elim (chosen (is_sign Signs.Comma k) (Some (InHead es (Heads.Next d))) (wants (is_sign Signs.RightParenthesis k) (InHead es (Heads.Done d))) τ h) [
@@ -762,8 +931,8 @@ module _ (s : Span) (τ : State) (u : List Token) (es : List Entry) where
   part_back k h f =
       elim (chosen (same_word k Words.Struct) (Some (Struct es Structs.Begun)) (second k) τ h) [
         | inl a ↦ let x = at_next u _ τ a.1 f in let l = x.3 in let m = l.3 in
-            part_more (structure s x.0 l.0 m.0 m.1 m.2) _ m.3 tt
-            (behind _ _ s _ _ (ap Reserved (word_true k Words.Struct a.0)) (x.2 ∙ ahead (Name x.0.text) x.0.span _ _ (l.2 ∙ ahead (Sign Signs.LeftBrace) l.0 _ _ m.4))) m.5
+            part_more (structure s x.0 l.0 m.0 m.1 m.2) _ m.3 m.4
+            (behind _ _ s _ _ (ap Reserved (word_true k Words.Struct a.0)) (x.2 ∙ ahead (Name x.0.text) x.0.span _ _ (l.2 ∙ ahead (Sign Signs.LeftBrace) l.0 _ _ m.5))) m.6
         | inr a ↦ elim (chosen (same_word k Words.Ceal) (Some (InHead es Heads.Ceal)) (wants (same_word k Words.Init) (InHead es Heads.Init)) τ a.1) [
           | inl b ↦ let x = at_next u _ τ b.1 f in let l = x.3 in let p = l.3 in let d = p.5 in
               part_more (function (core s x.0 l.0 p.0 p.1) d.0) _ d.1 (p.3, d.2)

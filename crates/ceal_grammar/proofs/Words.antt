@@ -1,5 +1,5 @@
 -- The tokens of each derivation without their marks.
-use Rattle.std.proofs.Common.{◌≡◌, ℕ, suc, List, [], ◌∷◌, refl, ap, ◌∙◌}
+use Rattle.std.proofs.Common.{◌≡◌, ℕ, suc, pos, List, [], ◌∷◌, refl, ap, ◌∙◌}
 use Rattle.ceal_base.specs.declared.fault.Span.{Span}
 use Rattle.ceal_base.specs.declared.syntax.Ident.{Ident}
 use Rattle.ceal_lex.specs.declared.token.Reserved.TheVariants as Words
@@ -7,8 +7,8 @@ use Rattle.ceal_lex.specs.declared.token.Sign.TheVariants as Signs
 use Rattle.ceal_lex.specs.declared.token.Token.{Token}
 use Rattle.ceal_lex.specs.declared.token.TokenKind.{TokenKind}
 use Rattle.ceal_lex.specs.declared.token.TokenKind.TheVariants.{Name, Number, Reserved, Sign, End}
-use Rattle.ceal_grammar.specs.Grammar.{Phrase, number, null, variable, own, parens, arrow, prefix, address, binary, Written, int, pointer, mod_int, mod_pointer, cell_int, cell_pointer, Arguments, no_arguments, arguments, Given, plainly, reading, allocation, modref_int, modref, Statement, declare, assign, set, store, call, branch, loop, exit, Branch, when, Otherwise, nothing, otherwise, chained, Block, block, Statements, ended, followed, Parameter, Parameters, no_parameters, parameters, Signature, core, init, Member, Part, structure, function, Program}
-use Rattle.ceal_grammar.specs.Spelled.{Mark, mark, plain, sign_of, prefix_sign, after, spelled, spelled_type, spelled_more, spelled_arguments, spelled_given, spelled_statement, spelled_branch, spelled_otherwise, spelled_block, spelled_statements, spelled_others, spelled_parameters, spelled_signature, spelled_members, spelled_part, spelled_parts, spelled_program, tokens_of}
+use Rattle.ceal_grammar.specs.Grammar.{Phrase, number, null, variable, own, parens, arrow, prefix, address, element, binary, Written, int, pointer, mod_int, mod_pointer, cell_int, cell_pointer, Arguments, no_arguments, arguments, Given, plainly, reading, allocation, modref_int, modref, Statement, declare, assign, set, store, call, branch, loop, exit, break, continue, Branch, when, Otherwise, nothing, otherwise, chained, Block, block, Statements, ended, followed, Parameter, Parameters, no_parameters, parameters, Signature, core, init, Size, single, row, Member, Part, structure, function, Program}
+use Rattle.ceal_grammar.specs.Spelled.{Mark, mark, plain, sign_of, prefix_sign, after, spelled, spelled_type, spelled_more, spelled_arguments, spelled_given, spelled_statement, spelled_branch, spelled_otherwise, spelled_block, spelled_statements, spelled_others, spelled_parameters, spelled_signature, counted, spelled_size, spelled_members, spelled_part, spelled_parts, spelled_program, tokens_of}
 
 abbrev pub word : TokenKind → Span → Token
 word k s = record { kind = k; span = s }
@@ -25,6 +25,8 @@ phrase (parens l a r) u = word (Sign Signs.LeftParenthesis) l ∷ phrase a (word
 phrase (arrow a s x) u = phrase a (word (Sign Signs.Arrow) s ∷ named x ∷ u)
 phrase (prefix op s a) u = word (Sign (prefix_sign op)) s ∷ phrase a u
 phrase (address s a) u = word (Sign Signs.Ampersand) s ∷ phrase a u
+phrase (element s a l b r) u =
+    word (Sign Signs.Ampersand) s ∷ phrase a (word (Sign Signs.LeftBracket) l ∷ phrase b (word (Sign Signs.RightBracket) r ∷ u))
 phrase (binary op a s b) u = phrase a (word (Sign (sign_of op)) s ∷ phrase b u)
 
 abbrev pub type_words : Written → List Token → List Token
@@ -67,6 +69,8 @@ unfoldable mutual
   statement (loop s l e r b) u =
       word (Reserved Words.While) s ∷ word (Sign Signs.LeftParenthesis) l ∷ phrase e (word (Sign Signs.RightParenthesis) r ∷ block_words b u)
   statement (exit s semi) u = word (Reserved Words.Return) s ∷ word (Sign Signs.Semicolon) semi ∷ u
+  statement (break s semi) u = word (Reserved Words.Break) s ∷ word (Sign Signs.Semicolon) semi ∷ u
+  statement (continue s semi) u = word (Reserved Words.Continue) s ∷ word (Sign Signs.Semicolon) semi ∷ u
 
   pub branch_words : Branch → List Token → List Token
   branch_words (when s l e r b other) u =
@@ -102,9 +106,13 @@ signature_words (init s x l k y t o more r) u =
     word (Reserved Words.Init) s ∷ named x ∷ word (Sign Signs.LeftParenthesis) l ∷ word (Reserved Words.Struct) k ∷ named y ∷ word (Sign Signs.Star) t
     ∷ word (Reserved Words.Own) o ∷ others more (word (Sign Signs.RightParenthesis) r ∷ u)
 
+abbrev pub size_words : Size → List Token → List Token
+size_words single u = u
+size_words (row l n s r) u = word (Sign Signs.LeftBracket) l ∷ word (Number (pos n)) s ∷ word (Sign Signs.RightBracket) r ∷ u
+
 unfoldable pub member_words : List Member → List Token → List Token
 member_words [] u = u
-member_words (m ∷ ms) u = type_words m.type (named m.x ∷ word (Sign Signs.Semicolon) m.semi ∷ member_words ms u)
+member_words (m ∷ ms) u = type_words m.type (named m.x ∷ size_words m.size (word (Sign Signs.Semicolon) m.semi ∷ member_words ms u))
 
 abbrev pub part_words : Part → List Token → List Token
 part_words (structure s x l ms r semi) u =
@@ -128,6 +136,12 @@ bare_phrase d i n (arrow a s x) rest =
     bare_phrase d i n a (mark d 0 (suc (after a n)) (Sign Signs.Arrow) s ∷ mark d 0 (suc (after a n)) (Name x.text) x.span ∷ rest)
 bare_phrase d i n (prefix op s a) rest = ap (λ u. word (Sign (prefix_sign op)) s ∷ u) (bare_phrase d 0 (suc n) a rest)
 bare_phrase d i n (address s a) rest = ap (λ u. word (Sign Signs.Ampersand) s ∷ u) (bare_phrase d 0 (suc n) a rest)
+bare_phrase d i n (element s a l b r) rest =
+    ap (λ u. word (Sign Signs.Ampersand) s ∷ u)
+    (bare_phrase d 0 (suc n) a (mark (suc d) 0 (suc (after a (suc n))) (Sign Signs.LeftBracket) l
+    ∷ spelled (suc d) 0 (suc (after a (suc n))) b (mark d 0 (after b (suc (after a (suc n)))) (Sign Signs.RightBracket) r ∷ rest))
+    ∙ ap (λ u. phrase a (word (Sign Signs.LeftBracket) l ∷ u))
+    (bare_phrase (suc d) 0 (suc (after a (suc n))) b (mark d 0 (after b (suc (after a (suc n)))) (Sign Signs.RightBracket) r ∷ rest)))
 bare_phrase d i n (binary op a s b) rest =
     bare_phrase d i n a (mark d 0 (suc (after a n)) (Sign (sign_of op)) s ∷ spelled d 0 (suc (after a n)) b rest)
     ∙ ap (λ u. phrase a (word (Sign (sign_of op)) s ∷ u)) (bare_phrase d 0 (suc (after a n)) b rest)
@@ -170,6 +184,8 @@ mutual
   bare_statement (branch b) d rest = bare_branch b d rest
   bare_statement (loop s l e r b) d rest = rw (bare_phrase, bare_block b d rest)
   bare_statement (exit s semi) d rest = refl
+  bare_statement (break s semi) d rest = refl
+  bare_statement (continue s semi) d rest = refl
 
   pub bare_branch : (b : Branch) (d : ℕ) (rest : List Mark) → tokens_of (spelled_branch d b rest) ≡ branch_words b (tokens_of rest)
   bare_branch (when s l e r b other) d rest = rw (bare_phrase, bare_block b d (spelled_otherwise d other rest), bare_other other d rest)
@@ -201,10 +217,15 @@ unfolding tokens_of
 bare_signature (core s x l ps r) rest = rw bare_parameters
 bare_signature (init s x l k y t o more r) rest = rw bare_others
 
-pub bare_members : (i : ℕ) (ms : List Member) (rest : List Mark) → tokens_of (spelled_members i ms rest) ≡ member_words ms (tokens_of rest)
+bare_size : (c : ℕ) (z : Size) (rest : List Mark) → tokens_of (spelled_size c z rest) ≡ size_words z (tokens_of rest)
+unfolding tokens_of
+bare_size c single rest = refl
+bare_size c (row l n s r) rest = refl
+
+pub bare_members : (c : ℕ) (ms : List Member) (rest : List Mark) → tokens_of (spelled_members c ms rest) ≡ member_words ms (tokens_of rest)
 unfolding tokens_of spelled_members member_words
-bare_members i [] rest = refl
-bare_members i (m ∷ ms) rest = rw (bare_type, bare_members (suc i) ms rest)
+bare_members c [] rest = refl
+bare_members c (m ∷ ms) rest = rw (bare_type, bare_size, bare_members (counted c m.size) ms rest)
 
 pub bare_part : (p : Part) (rest : List Mark) → tokens_of (spelled_part p rest) ≡ part_words p (tokens_of rest)
 unfolding tokens_of

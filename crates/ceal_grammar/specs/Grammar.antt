@@ -4,10 +4,10 @@ use Rattle.std.specs.Prelude.{ℕ, ℤ, ◌≤◌, ◌<◌, ◌≡◌, Bool, tru
 use Rattle.ceal_base.specs.declared.fault.Span.{Span}
 use Rattle.ceal_base.specs.declared.operators.Unary.{Unary as UnaryOp}
 use Rattle.ceal_base.specs.declared.operators.Binary.{Binary as BinaryOp}
-use Rattle.ceal_base.specs.declared.operators.Binary.TheVariants.{Add, Sub, Mul, Div, Rem, Less, LessEq, More, MoreEq, Same, Differ, And, Or}
+use Rattle.ceal_base.specs.declared.operators.Binary.TheVariants.{Add, Sub, Mul, Div, Rem, Less, LessEq, More, MoreEq, Same, Differ, And, Or, Pick}
 use Rattle.ceal_base.specs.declared.syntax.Ident.{Ident}
 
--- An expression. `prefix` is `-` or `!`.
+-- An expression. `prefix` is `-` or `!`, and `element` is `&a[index]`.
 pub data Phrase : Type 0 where
   number : (value : ℤ) (at : Span) → Phrase
   null : (at : Span) → Phrase
@@ -17,10 +17,11 @@ pub data Phrase : Type 0 where
   arrow : (a : Phrase) (at : Span) (field : Ident) → Phrase
   prefix : (op : UnaryOp) (at : Span) (a : Phrase) → Phrase
   address : (at : Span) (a : Phrase) → Phrase
+  element : (at : Span) (a : Phrase) (left : Span) (index : Phrase) (right : Span) → Phrase
   binary : (op : BinaryOp) (a : Phrase) (at : Span) (b : Phrase) → Phrase
 
 -- The levels of expressions, each a rule of its own: `or` 1, `and` 2, `eq` 3, `rel` 4, `add` 5, `mul` 6, `unary` 7,
--- `post` 8, `prim` 9.
+-- `post` 8, `prim` 9. `Pick` stands between no two operands: it is written as `element`, and has no level.
 abbrev pub level : BinaryOp → ℕ
 level Or = 1
 level And = 2
@@ -35,6 +36,11 @@ level Sub = 5
 level Mul = 6
 level Div = 6
 level Rem = 6
+level (Pick n) = 0
+
+abbrev pub IsInfix : BinaryOp → Type 0
+IsInfix (Pick n) = ⊥
+IsInfix op = Unit {0}
 
 abbrev pub level_of : Phrase → ℕ
 level_of (number v s) = 9
@@ -45,6 +51,7 @@ level_of (parens l a r) = 9
 level_of (arrow a s x) = 8
 level_of (prefix op s a) = 7
 level_of (address s a) = 7
+level_of (element s a l b r) = 7
 level_of (binary op a s b) = level op
 
 -- Each operand stands at the level that its rule asks: `add = add "+" mul`, `unary = "-" unary`, and so on. The
@@ -58,7 +65,8 @@ Grouped (parens l a r) = Grouped a
 Grouped (arrow a s x) = (8 ≤ level_of a) × Grouped a
 Grouped (prefix op s a) = (7 ≤ level_of a) × Grouped a
 Grouped (address s a) = (8 ≤ level_of a) × Grouped a
-Grouped (binary op a s b) = (level op ≤ level_of a) × (level op < level_of b) × Grouped a × Grouped b
+Grouped (element s a l b r) = (8 ≤ level_of a) × Grouped a × Grouped b
+Grouped (binary op a s b) = (level op ≤ level_of a) × (level op < level_of b) × Grouped a × Grouped b × IsInfix op
 
 -- A name or `self`, and arrows: what may stand left of the last `->` of a field assignment.
 abbrev pub IsPath : Phrase → Type 0
@@ -108,6 +116,8 @@ mutual
     branch : Branch → Statement
     loop : (at left : Span) (e : Phrase) (right : Span) (body : Block) → Statement
     exit : (at semi : Span) → Statement
+    break : (at semi : Span) → Statement
+    continue : (at semi : Span) → Statement
 
   pub data Branch : Type 0 where
     when : (at left : Span) (e : Phrase) (right : Span) (body : Block) (other : Otherwise) → Branch
@@ -137,9 +147,15 @@ pub data Signature : Type 0 where
   core : (at : Span) (x : Ident) (left : Span) (params : Parameters) (right : Span) → Signature
   init : (at : Span) (x : Ident) (left inner : Span) (shape : Ident) (star own : Span) (more : List (Span × Parameter)) (right : Span) → Signature
 
+-- How many modifiables a member is: one, or a row of them, `[length]`.
+pub data Size : Type 0 where
+  single : Size
+  row : (left : Span) (length : ℕ) (at right : Span) → Size
+
 pub record Member : Type 0 where
   pub type : Written
   pub x : Ident
+  pub size : Size
   pub semi : Span
 
 pub data Part : Type 0 where
@@ -177,6 +193,8 @@ unfoldable mutual
   StatementProper (branch b) = BranchProper b
   StatementProper (loop s l e r b) = Grouped e × BlockProper b
   StatementProper (exit s semi) = Unit {0}
+  StatementProper (break s semi) = Unit {0}
+  StatementProper (continue s semi) = Unit {0}
 
   pub BranchProper : Branch → Type 0
   BranchProper (when s l e r b other) = Grouped e × BlockProper b × OtherwiseProper other
@@ -205,8 +223,23 @@ abbrev pub SignatureProper : Signature → Type 0
 SignatureProper (core s x l ps r) = ParametersProper ps
 SignatureProper (init s x l k y t o more r) = MoreProper more
 
+-- a modifiable within a struct
+abbrev pub IsCell : Written → Type 0
+IsCell (cell_int s k) = Unit {0}
+IsCell (cell_pointer s k x) = Unit {0}
+IsCell _ = ⊥
+
+-- A row is of modifiables within the struct, and its length is above 0.
+abbrev pub SizeProper : Written → Size → Type 0
+SizeProper w single = Unit {0}
+SizeProper w (row l n s r) = IsCell w × (0 < n)
+
+unfoldable pub MembersProper : List Member → Type 0
+MembersProper [] = Unit {0}
+MembersProper (m ∷ ms) = SizeProper m.type m.size × MembersProper ms
+
 abbrev pub PartProper : Part → Type 0
-PartProper (structure s x l ms r semi) = Unit {0}
+PartProper (structure s x l ms r semi) = MembersProper ms
 PartProper (function h b) = SignatureProper h × BlockProper b
 
 unfoldable pub PartsProper : List Part → Type 0

@@ -1,5 +1,5 @@
 -- A reading of a program, token by token.
-use Rattle.std.specs.Prelude.{ℕ, suc, Bool, true, false, nat_eq, nat_le, Option, Some, None, List, [], ◌∷◌, ◌++◌, length, if◌then◌else◌}
+use Rattle.std.specs.Prelude.{ℕ, suc, ◌+◌, pos, Bool, true, false, nat_eq, nat_le, Option, Some, None, List, [], ◌∷◌, ◌++◌, length, if◌then◌else◌}
 use Rattle.ceal_base.specs.declared.fault.Span.{Span}
 use Rattle.ceal_base.specs.declared.operators.Unary.{Unary as UnaryOp}
 use Rattle.ceal_base.specs.declared.operators.Unary.TheVariants.{Neg, Not}
@@ -9,14 +9,14 @@ use Rattle.ceal_base.specs.declared.syntax.Entry.{Entry}
 use Rattle.ceal_base.specs.declared.syntax.Entry.TheVariants.{Struct as StructEntry, Function as FunctionEntry}
 use Rattle.ceal_base.specs.declared.syntax.Expr.{Expr}
 use Rattle.ceal_base.specs.declared.syntax.ExprForm.{ExprForm, Num, Null, Var, Own}
-use Rattle.ceal_base.specs.declared.syntax.ExprForm.TheViews.{Unary, Binary, Field, Address}
+use Rattle.ceal_base.specs.declared.syntax.ExprForm.TheViews.{Unary, Binary, Field, Address, Pick}
 use Rattle.ceal_base.specs.declared.syntax.FieldDecl.{FieldDecl}
 use Rattle.ceal_base.specs.declared.syntax.Ident.{Ident}
-use Rattle.ceal_base.specs.declared.syntax.Stmt.{Stmt, Declare, Assign, SetField, Write, Call, Return}
+use Rattle.ceal_base.specs.declared.syntax.Stmt.{Stmt, Declare, Assign, SetField, Write, Call, Return, Break, Continue}
 use Rattle.ceal_base.specs.declared.syntax.Stmt.TheViews.{If, While}
 use Rattle.ceal_base.specs.declared.syntax.StructDecl.{StructDecl}
 use Rattle.ceal_base.specs.declared.syntax.TypeForm.{TypeForm}
-use Rattle.ceal_base.specs.declared.syntax.TypeForm.TheVariants.{Int, Ptr, ModInt, ModPtr, CellInt, CellPtr}
+use Rattle.ceal_base.specs.declared.syntax.TypeForm.TheVariants.{Int, Ptr, ModInt, ModPtr, CellInt, CellPtr, CellRow, CellPtrRow}
 use Rattle.ceal_base.specs.declared.syntax.Value.{Value}
 use Rattle.ceal_base.specs.declared.syntax.Value.TheVariants.{Plain, Read, Alloc, ModrefInt, Modref}
 use Rattle.ceal_lex.specs.declared.token.Reserved.{Reserved as ReservedWord}
@@ -27,15 +27,17 @@ use Rattle.ceal_lex.specs.declared.token.Token.{Token}
 use Rattle.ceal_lex.specs.declared.token.TokenKind.{TokenKind}
 use Rattle.ceal_lex.specs.declared.token.TokenKind.TheVariants.{Name, Number, Reserved, Sign, End}
 use Rattle.ceal_grammar.specs.Grammar.{level}
+use Rattle.ceal_grammar.specs.Trees.{row_form}
 use Rattle.ceal_grammar.specs.declared.state.Callee.{Callee}
 use Rattle.ceal_grammar.specs.declared.state.Callee.TheVariants.{Call as ToCall, Alloc as ToAlloc}
 use Rattle.ceal_grammar.specs.declared.state.Chained.{Chained}
 use Rattle.ceal_grammar.specs.declared.state.Frame.{Frame}
-use Rattle.ceal_grammar.specs.declared.state.Frame.TheVariants.{Open, Prefix, Address as AddressOf, Left}
+use Rattle.ceal_grammar.specs.declared.state.Frame.TheVariants.{Open, Prefix, Address as AddressOf, Index, Left}
 use Rattle.ceal_grammar.specs.declared.state.Head.{Head}
 use Rattle.ceal_grammar.specs.declared.state.HeadPlace.{HeadPlace}
 use Rattle.ceal_grammar.specs.declared.state.HeadPlace.TheVariants as Heads
 use Rattle.ceal_grammar.specs.declared.state.Inside.{Inside}
+use Rattle.ceal_grammar.specs.declared.state.Layout.{Layout}
 use Rattle.ceal_grammar.specs.declared.state.Making.{Making}
 use Rattle.ceal_grammar.specs.declared.state.Making.TheVariants as Makings
 use Rattle.ceal_grammar.specs.declared.state.Mode.{Mode}
@@ -45,7 +47,7 @@ use Rattle.ceal_grammar.specs.declared.state.Owner.{Owner}
 use Rattle.ceal_grammar.specs.declared.state.Owner.TheVariants.{While as OfWhile, Then as OfThen, Else as OfElse}
 use Rattle.ceal_grammar.specs.declared.state.Piece.{Piece}
 use Rattle.ceal_grammar.specs.declared.state.Place.{Place}
-use Rattle.ceal_grammar.specs.declared.state.Place.TheVariants.{Want, Post, Have, Pick}
+use Rattle.ceal_grammar.specs.declared.state.Place.TheVariants.{Want, Post, Have, Element, Access}
 use Rattle.ceal_grammar.specs.declared.state.Receiver.{Receiver}
 use Rattle.ceal_grammar.specs.declared.state.Receiver.TheVariants as To
 use Rattle.ceal_grammar.specs.declared.state.State.{State}
@@ -85,6 +87,8 @@ sign_number Signs.LeftBrace = 19
 sign_number Signs.RightBrace = 20
 sign_number Signs.Comma = 21
 sign_number Signs.Semicolon = 22
+sign_number Signs.LeftBracket = 23
+sign_number Signs.RightBracket = 24
 
 abbrev pub word_number : ReservedWord → ℕ
 word_number Words.Struct = 0
@@ -160,11 +164,14 @@ prefixed op s p = record { from = s; expr = record { span = s; form = Unary op p
 abbrev pub addressed : Span → Piece → Piece
 addressed s p = record { from = s; expr = record { span = s; form = Address p.expr } }
 
+abbrev pub element_of : Span → Expr → Piece → Piece
+element_of s row p = record { from = s; expr = record { span = s; form = Pick row p.expr } }
+
 abbrev pub joined : Piece → BinaryOp → Span → Piece → Piece
 joined a op s b = record { from = a.from; expr = record { span = a.from; form = Binary op s a.expr b.expr } }
 
-abbrev pub picked : Piece → Ident → Piece
-picked p x = record { from = p.from; expr = record { span = p.from; form = Field p.expr x } }
+abbrev pub accessed : Piece → Ident → Piece
+accessed p x = record { from = p.from; expr = record { span = p.from; form = Field p.expr x } }
 
 pub record Reduced : Type 0 where
   pub piece : Piece
@@ -174,6 +181,7 @@ pub record Reduced : Type 0 where
 unfoldable pub reduced : ℕ → Piece → List Frame → Reduced
 reduced l p [] = record { piece = p; frames = [] }
 reduced l p (Open s d ∷ fs) = record { piece = p; frames = Open s d ∷ fs }
+reduced l p (Index s row d ∷ fs) = record { piece = p; frames = Index s row d ∷ fs }
 reduced l p (Prefix op s ∷ fs) = reduced l (prefixed op s p) fs
 reduced l p (AddressOf s ∷ fs) = reduced l (addressed s p) fs
 reduced l p (Left a op s ∷ fs) =
@@ -188,6 +196,11 @@ begun d r = record { nesting = d; operators = 0; frames = []; receiver = r }
 
 abbrev pub opened : Whole → Span → Whole
 opened w s = record { nesting = suc w.nesting; operators = w.operators; frames = Open s w.nesting ∷ w.frames; receiver = w.receiver }
+
+-- an index begins behind the piece p, the operand of the `&` at s
+abbrev pub indexed : Whole → Span → Piece → List Frame → Whole
+indexed w s p fs =
+    record { nesting = suc w.nesting; operators = suc w.operators; frames = Index s p.expr w.nesting ∷ fs; receiver = w.receiver }
 
 abbrev pub operated : Whole → Frame → List Frame → Whole
 operated w f fs = record { nesting = w.nesting; operators = suc w.operators; frames = f ∷ fs; receiver = w.receiver }
@@ -264,6 +277,8 @@ abbrev pub closes : Inside → Whole → SignOf → Piece → List Frame → Opt
 closes i w c p [] = received i w.nesting w.receiver p.expr c
 closes i w c p (Open s d ∷ fs) =
     wants (same_sign c Signs.RightParenthesis) (within i (closed w d fs) (Have (record { from = s; expr = p.expr })))
+closes i w c p (Index s row d ∷ fs) =
+    wants (same_sign c Signs.RightBracket) (within i (closed w d fs) (Element (element_of s row p)))
 closes i w c p (Prefix op s ∷ fs) = None
 closes i w c p (AddressOf s ∷ fs) = None
 closes i w c p (Left a op s ∷ fs) = None
@@ -275,22 +290,34 @@ abbrev pub at_sign_after : Inside → Whole → Piece → Span → SignOf → Op
 at_sign_after i w p s c (Some op) = operates i w op s (reduced (level op) p w.frames)
 at_sign_after i w p s c None = let q = reduced 0 p w.frames in closes i w c q.piece q.frames
 
-abbrev pub picks : Whole → Whole
-picks w = record { nesting = w.nesting; operators = suc w.operators; frames = w.frames; receiver = w.receiver }
+abbrev pub accesses : Whole → Whole
+accesses w = record { nesting = w.nesting; operators = suc w.operators; frames = w.frames; receiver = w.receiver }
+
+-- An index may stand behind the operand of an `&` alone.
+abbrev pub at_index : Inside → Whole → Piece → List Frame → Option State
+at_index i w p (AddressOf s ∷ fs) = Some (within i (indexed w s p fs) Want)
+at_index i w p _ = None
 
 abbrev pub at_after : Inside → Whole → Piece → Span → TokenKind → Option State
 at_after i w p s (Sign c) =
-    if same_sign c Signs.Arrow then Some (within i (picks w) (Pick p)) else at_sign_after i w p s c (operator_of c)
+    if same_sign c Signs.Arrow then Some (within i (accesses w) (Access p))
+    else if same_sign c Signs.LeftBracket then at_index i w p w.frames
+    else at_sign_after i w p s c (operator_of c)
 at_after i w p s _ = None
 
-abbrev pub at_pick : Whole → Piece → Span → TokenKind → Option Mode
-at_pick w p s k = at_name (λ x. Modes.Within w (Have (picked p x))) s k
+abbrev pub at_element : Inside → Whole → Piece → Span → TokenKind → Option State
+at_element i w p s (Sign c) = at_sign_after i w p s c (operator_of c)
+at_element i w p s _ = None
+
+abbrev pub at_access : Whole → Piece → Span → TokenKind → Option Mode
+at_access w p s k = at_name (λ x. Modes.Within w (Have (accessed p x))) s k
 
 abbrev pub at_place : Inside → Whole → Place → Span → TokenKind → Option State
 at_place i w Want s k = placed i (at_operand w s k)
 at_place i w Post s k = placed i (at_prim w s k)
 at_place i w (Have p) s k = at_after i w p s k
-at_place i w (Pick p) s k = placed i (at_pick w p s k)
+at_place i w (Element p) s k = at_element i w p s k
+at_place i w (Access p) s k = placed i (at_access w p s k)
 
 -- Types. `cells` says whether a modifiable within a struct may stand here.
 abbrev pub type_begin : ReservedWord → Option TypePart
@@ -349,6 +376,8 @@ at_statement s k =
     if same_word k Words.If then Some (Modes.Before (To.If s))
     else if same_word k Words.While then Some (Modes.Before (To.While s))
     else if same_word k Words.Return then Some (Modes.Ends (Return s))
+    else if same_word k Words.Break then Some (Modes.Ends (Break s))
+    else if same_word k Words.Continue then Some (Modes.Ends (Continue s))
     else if same_word k Words.Write then Some (Modes.Before (To.Write s))
     else wants (same_word k Words.Own) (Modes.Owned s)
 
@@ -477,25 +506,62 @@ moved i (Modes.Closed at e first) s k = at_closed i at e first s k
 moved i (Modes.Otherwise at e first) s k = at_otherwise i at e first s k
 
 -- Structs.
-abbrev pub with_member : StructDecl → FieldDecl → StructDecl
-with_member d m = record { name = d.name; fields = d.fields ++ m ∷ [] }
+-- how many fields there are with a member of this type, c of them before it
+abbrev pub widened : ℕ → TypeForm → ℕ
+widened c (CellRow n) = c + n
+widened c (CellPtrRow y n) = c + n
+widened c form = suc c
+
+abbrev pub with_member : Layout → FieldDecl → Layout
+with_member l m =
+    record { decl = record { name = l.decl.name; fields = l.decl.fields ++ m ∷ [] }; count = widened l.count m.form }
+
+abbrev pub is_cell : TypeForm → Bool
+is_cell CellInt = true
+is_cell (CellPtr y) = true
+is_cell form = false
+
+-- the length of a row that a token is: a number above 0
+abbrev pub length_of : TokenKind → Option ℕ
+length_of (Number (pos (suc n))) = Some (suc n)
+length_of k = None
 
 abbrev pub begun_type : (TypePart → State) → Option TypePart → Option State
 begun_type more None = None
 begun_type more (Some part) = Some (more part)
 
-abbrev pub at_member : List Entry → StructDecl → TokenKind → Option State
-at_member es d k =
-    if is_sign Signs.RightBrace k then Some (Struct es (Structs.Closed d))
-    else begun_type (λ p. Struct es (Structs.Typing d p)) (type_starts k)
+abbrev pub at_member : List Entry → Layout → TokenKind → Option State
+at_member es l k =
+    if is_sign Signs.RightBrace k then Some (Struct es (Structs.Closed l.decl))
+    else begun_type (λ p. Struct es (Structs.Typing l p)) (type_starts k)
+
+abbrev pub at_member_end : List Entry → Layout → FieldDecl → TokenKind → Option State
+at_member_end es l m k =
+    if is_sign Signs.Semicolon k then Some (Struct es (Structs.Members (with_member l m)))
+    else if is_cell m.form then wants (is_sign Signs.LeftBracket k) (Struct es (Structs.Length l m))
+    else None
+
+abbrev pub at_length : List Entry → Layout → FieldDecl → Option ℕ → Option State
+at_length es l m None = None
+at_length es l m (Some n) = Some (Struct es (Structs.Sized l m n))
+
+abbrev pub at_sized : List Entry → Layout → FieldDecl → ℕ → TokenKind → Option State
+at_sized es l m n k =
+    wants (is_sign Signs.RightBracket k) (Struct es (Structs.Ends l (record { form = row_form m.form n; name = m.name })))
+
+-- a struct of which no member was read
+abbrev pub begun_struct : Ident → Layout
+begun_struct x = record { decl = record { name = x; fields = [] }; count = 0 }
 
 abbrev pub at_struct : List Entry → StructPlace → Span → TokenKind → Option State
 at_struct es Structs.Begun s k = at_name (λ x. Struct es (Structs.Named x)) s k
-at_struct es (Structs.Named x) s k = wants (is_sign Signs.LeftBrace k) (Struct es (Structs.Members (record { name = x; fields = [] })))
-at_struct es (Structs.Members d) s k = at_member es d k
-at_struct es (Structs.Typing d part) s k =
-    typed (λ p. Struct es (Structs.Typing d p)) (λ form x. Struct es (Structs.Ends d (record { form = form; name = x }))) (at_type true part s k)
-at_struct es (Structs.Ends d m) s k = wants (is_sign Signs.Semicolon k) (Struct es (Structs.Members (with_member d m)))
+at_struct es (Structs.Named x) s k = wants (is_sign Signs.LeftBrace k) (Struct es (Structs.Members (begun_struct x)))
+at_struct es (Structs.Members l) s k = at_member es l k
+at_struct es (Structs.Typing l part) s k =
+    typed (λ p. Struct es (Structs.Typing l p)) (λ form x. Struct es (Structs.Ends l (record { form = form; name = x }))) (at_type true part s k)
+at_struct es (Structs.Ends l m) s k = at_member_end es l m k
+at_struct es (Structs.Length l m) s k = at_length es l m (length_of k)
+at_struct es (Structs.Sized l m n) s k = at_sized es l m n k
 at_struct es (Structs.Closed d) s k = wants (is_sign Signs.Semicolon k) (Top (es ++ StructEntry d ∷ []))
 
 -- Heads of functions.
@@ -556,9 +622,11 @@ mode_nesting (Modes.Making m) d = making_nesting m d
 mode_nesting _ d = d
 
 abbrev pub struct_nesting : StructPlace → ℕ
-struct_nesting (Structs.Members d) = 1
-struct_nesting (Structs.Typing d p) = 1
-struct_nesting (Structs.Ends d m) = 1
+struct_nesting (Structs.Members l) = 1
+struct_nesting (Structs.Typing l p) = 1
+struct_nesting (Structs.Ends l m) = 1
+struct_nesting (Structs.Length l m) = 2
+struct_nesting (Structs.Sized l m n) = 2
 struct_nesting _ = 0
 
 abbrev pub head_nesting : HeadPlace → ℕ
@@ -587,7 +655,8 @@ abbrev pub operators_of : State → ℕ
 operators_of (In i m) = operators_in m
 operators_of _ = 0
 
--- The number of the item of a list that begins with the next token, 0 where none begins.
+-- The number of the item of a list that begins with the next token, 0 where none begins; at the length of a row the
+-- number of its last field.
 abbrev pub argument_number : Receiver → ℕ
 argument_number (To.Argument f args) = suc (length args)
 argument_number _ = 0
@@ -605,8 +674,13 @@ mode_item (Modes.First f) k = if is_sign Signs.RightParenthesis k then 0 else 1
 mode_item (Modes.Within w p) k = place_item w p
 mode_item _ k = 0
 
+abbrev pub length_item : ℕ → Option ℕ → ℕ
+length_item c None = 0
+length_item c (Some n) = c + n
+
 abbrev pub struct_item : StructPlace → TokenKind → ℕ
-struct_item (Structs.Members d) k = if is_sign Signs.RightBrace k then 0 else suc (length d.fields)
+struct_item (Structs.Members l) k = if is_sign Signs.RightBrace k then 0 else suc l.count
+struct_item (Structs.Length l m) k = length_item l.count (length_of k)
 struct_item _ k = 0
 
 abbrev pub head_item : HeadPlace → TokenKind → ℕ

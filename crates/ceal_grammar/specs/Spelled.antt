@@ -1,10 +1,10 @@
 -- The tokens of a derivation, and what is counted at each.
-use Rattle.std.specs.Prelude.{ℕ, suc, List, [], ◌∷◌}
+use Rattle.std.specs.Prelude.{ℕ, suc, ◌+◌, pos, List, [], ◌∷◌}
 use Rattle.ceal_base.specs.declared.fault.Span.{Span}
 use Rattle.ceal_base.specs.declared.operators.Unary.{Unary as UnaryOp}
 use Rattle.ceal_base.specs.declared.operators.Unary.TheVariants.{Neg, Not}
 use Rattle.ceal_base.specs.declared.operators.Binary.{Binary as BinaryOp}
-use Rattle.ceal_base.specs.declared.operators.Binary.TheVariants.{Add, Sub, Mul, Div, Rem, Less, LessEq, More, MoreEq, Same, Differ, And, Or}
+use Rattle.ceal_base.specs.declared.operators.Binary.TheVariants.{Add, Sub, Mul, Div, Rem, Less, LessEq, More, MoreEq, Same, Differ, And, Or, Pick}
 use Rattle.ceal_base.specs.declared.syntax.Ident.{Ident}
 use Rattle.ceal_lex.specs.declared.token.Reserved.TheVariants as Words
 use Rattle.ceal_lex.specs.declared.token.Sign.{Sign as SignOf}
@@ -12,10 +12,11 @@ use Rattle.ceal_lex.specs.declared.token.Sign.TheVariants as Signs
 use Rattle.ceal_lex.specs.declared.token.Token.{Token}
 use Rattle.ceal_lex.specs.declared.token.TokenKind.{TokenKind}
 use Rattle.ceal_lex.specs.declared.token.TokenKind.TheVariants.{Name, Number, Reserved, Sign, End}
-use Rattle.ceal_grammar.specs.Grammar.{Phrase, number, null, variable, own, parens, arrow, prefix, address, binary, Written, int, pointer, mod_int, mod_pointer, cell_int, cell_pointer, Arguments, no_arguments, arguments, Given, plainly, reading, allocation, modref_int, modref, Statement, declare, assign, set, store, call, branch, loop, exit, Branch, when, Otherwise, nothing, otherwise, chained, Block, block, Statements, ended, followed, Parameter, Parameters, no_parameters, parameters, Signature, core, init, Member, Part, structure, function, Program}
+use Rattle.ceal_grammar.specs.Grammar.{Phrase, number, null, variable, own, parens, arrow, prefix, address, element, binary, Written, int, pointer, mod_int, mod_pointer, cell_int, cell_pointer, Arguments, no_arguments, arguments, Given, plainly, reading, allocation, modref_int, modref, Statement, declare, assign, set, store, call, branch, loop, exit, break, continue, Branch, when, Otherwise, nothing, otherwise, chained, Block, block, Statements, ended, followed, Parameter, Parameters, no_parameters, parameters, Signature, core, init, Size, single, row, Member, Part, structure, function, Program}
 
 -- A token with the nesting at it, the number of the item of a list that begins with it (0: none), and the
--- number of operators of its whole expression up to it. At a closing `)` or `}` the nesting is that outside.
+-- number of operators of its whole expression up to it. At a closing `)`, `]` or `}` the nesting is that outside.
+-- A row of modifiables is as many items as its length: the item of the length is the last of them.
 pub record Mark : Type 0 where
   pub token : Token
   pub nesting : ℕ
@@ -46,12 +47,14 @@ sign_of Same = Signs.EqualsEquals
 sign_of Differ = Signs.BangEquals
 sign_of And = Signs.AndAnd
 sign_of Or = Signs.BarBar
+sign_of (Pick n) = Signs.LeftBracket
 
 abbrev pub prefix_sign : UnaryOp → SignOf
 prefix_sign Neg = Signs.Minus
 prefix_sign Not = Signs.Bang
 
--- The number of operators after a phrase, where there were n before it. `&` and `->` are operators too.
+-- The number of operators after a phrase, where there were n before it. `&`, `->` and the `[` of an index are
+-- operators too.
 unfoldable pub after : Phrase → ℕ → ℕ
 after (number v s) n = n
 after (null s) n = n
@@ -61,6 +64,7 @@ after (parens l a r) n = after a n
 after (arrow a s x) n = suc (after a n)
 after (prefix op s a) n = after a (suc n)
 after (address s a) n = after a (suc n)
+after (element s a l b r) n = after b (suc (after a (suc n)))
 after (binary op a s b) n = after b (suc (after a n))
 
 -- The tokens of a phrase, and then `rest`: the phrase stands at nesting d, is the item i of a list, and n
@@ -74,6 +78,9 @@ spelled d i n (parens l a r) rest = mark (suc d) i n (Sign Signs.LeftParenthesis
 spelled d i n (arrow a s x) rest = spelled d i n a (mark d 0 (suc (after a n)) (Sign Signs.Arrow) s ∷ mark d 0 (suc (after a n)) (Name x.text) x.span ∷ rest)
 spelled d i n (prefix op s a) rest = mark d i (suc n) (Sign (prefix_sign op)) s ∷ spelled d 0 (suc n) a rest
 spelled d i n (address s a) rest = mark d i (suc n) (Sign Signs.Ampersand) s ∷ spelled d 0 (suc n) a rest
+spelled d i n (element s a l b r) rest =
+    mark d i (suc n) (Sign Signs.Ampersand) s ∷ spelled d 0 (suc n) a (mark (suc d) 0 (suc (after a (suc n))) (Sign Signs.LeftBracket) l
+    ∷ spelled (suc d) 0 (suc (after a (suc n))) b (mark d 0 (after b (suc (after a (suc n)))) (Sign Signs.RightBracket) r ∷ rest))
 spelled d i n (binary op a s b) rest = spelled d i n a (mark d 0 (suc (after a n)) (Sign (sign_of op)) s ∷ spelled d 0 (suc (after a n)) b rest)
 
 abbrev pub spelled_type : ℕ → ℕ → Written → List Mark → List Mark
@@ -127,6 +134,8 @@ unfoldable mutual
   spelled_statement d (loop s l e r b) rest =
       plain d (Reserved Words.While) s ∷ plain (suc d) (Sign Signs.LeftParenthesis) l ∷ spelled (suc d) 0 0 e (plain d (Sign Signs.RightParenthesis) r ∷ spelled_block d b rest)
   spelled_statement d (exit s semi) rest = plain d (Reserved Words.Return) s ∷ plain d (Sign Signs.Semicolon) semi ∷ rest
+  spelled_statement d (break s semi) rest = plain d (Reserved Words.Break) s ∷ plain d (Sign Signs.Semicolon) semi ∷ rest
+  spelled_statement d (continue s semi) rest = plain d (Reserved Words.Continue) s ∷ plain d (Sign Signs.Semicolon) semi ∷ rest
 
   pub spelled_branch : ℕ → Branch → List Mark → List Mark
   spelled_branch d (when s l e r b other) rest =
@@ -165,14 +174,26 @@ spelled_signature (init s x l k y t o more r) rest =
     plain 0 (Reserved Words.Init) s ∷ name 0 x ∷ plain 1 (Sign Signs.LeftParenthesis) l ∷ plain 1 (Reserved Words.Struct) k ∷ name 1 y
     ∷ plain 1 (Sign Signs.Star) t ∷ plain 1 (Reserved Words.Own) o ∷ spelled_others 1 more (plain 0 (Sign Signs.RightParenthesis) r ∷ rest)
 
+-- how many fields there are with a member, c of them before it
+abbrev pub counted : ℕ → Size → ℕ
+counted c single = suc c
+counted c (row l n s r) = c + n
+
+abbrev pub spelled_size : ℕ → Size → List Mark → List Mark
+spelled_size c single rest = rest
+spelled_size c (row l n s r) rest =
+    plain 2 (Sign Signs.LeftBracket) l ∷ mark 2 (c + n) 0 (Number (pos n)) s ∷ plain 1 (Sign Signs.RightBracket) r ∷ rest
+
+-- the members behind c fields
 unfoldable pub spelled_members : ℕ → List Member → List Mark → List Mark
-spelled_members i [] rest = rest
-spelled_members i (m ∷ ms) rest = spelled_type 1 i m.type (name 1 m.x ∷ plain 1 (Sign Signs.Semicolon) m.semi ∷ spelled_members (suc i) ms rest)
+spelled_members c [] rest = rest
+spelled_members c (m ∷ ms) rest =
+    spelled_type 1 (suc c) m.type (name 1 m.x ∷ spelled_size c m.size (plain 1 (Sign Signs.Semicolon) m.semi ∷ spelled_members (counted c m.size) ms rest))
 
 abbrev pub spelled_part : Part → List Mark → List Mark
 spelled_part (structure s x l ms r semi) rest =
     plain 0 (Reserved Words.Struct) s ∷ name 0 x ∷ plain 1 (Sign Signs.LeftBrace) l
-    ∷ spelled_members 1 ms (plain 0 (Sign Signs.RightBrace) r ∷ plain 0 (Sign Signs.Semicolon) semi ∷ rest)
+    ∷ spelled_members 0 ms (plain 0 (Sign Signs.RightBrace) r ∷ plain 0 (Sign Signs.Semicolon) semi ∷ rest)
 spelled_part (function h b) rest = spelled_signature h (spelled_block 0 b rest)
 
 unfoldable pub spelled_parts : List Part → List Mark → List Mark

@@ -1,21 +1,21 @@
 -- The tree of a derivation.
-use Rattle.std.specs.Prelude.{Some, None, List, [], ◌∷◌}
+use Rattle.std.specs.Prelude.{ℕ, Some, None, List, [], ◌∷◌}
 use Rattle.ceal_base.specs.declared.fault.Span.{Span}
 use Rattle.ceal_base.specs.declared.syntax.Entry.{Entry}
 use Rattle.ceal_base.specs.declared.syntax.Entry.TheVariants.{Struct, Function}
 use Rattle.ceal_base.specs.declared.syntax.Expr.{Expr}
 use Rattle.ceal_base.specs.declared.syntax.ExprForm.{Num, Null, Var, Own}
-use Rattle.ceal_base.specs.declared.syntax.ExprForm.TheViews.{Unary, Binary, Field, Address}
+use Rattle.ceal_base.specs.declared.syntax.ExprForm.TheViews.{Unary, Binary, Field, Address, Pick}
 use Rattle.ceal_base.specs.declared.syntax.FieldDecl.{FieldDecl}
 use Rattle.ceal_base.specs.declared.syntax.FunctionDecl.{FunctionDecl}
-use Rattle.ceal_base.specs.declared.syntax.Stmt.{Stmt, Declare, Assign, SetField, Write, Call, Return}
+use Rattle.ceal_base.specs.declared.syntax.Stmt.{Stmt, Declare, Assign, SetField, Write, Call, Return, Break, Continue}
 use Rattle.ceal_base.specs.declared.syntax.Stmt.TheViews.{If, While}
 use Rattle.ceal_base.specs.declared.syntax.Tree.{Tree}
 use Rattle.ceal_base.specs.declared.syntax.TypeForm.{TypeForm}
-use Rattle.ceal_base.specs.declared.syntax.TypeForm.TheVariants.{Int, Ptr, ModInt, ModPtr, CellInt, CellPtr}
+use Rattle.ceal_base.specs.declared.syntax.TypeForm.TheVariants.{Int, Ptr, ModInt, ModPtr, CellInt, CellPtr, CellRow, CellPtrRow}
 use Rattle.ceal_base.specs.declared.syntax.Value.{Value}
 use Rattle.ceal_base.specs.declared.syntax.Value.TheVariants.{Plain, Read, Alloc, ModrefInt, Modref}
-use Rattle.ceal_grammar.specs.Grammar.{Phrase, number, null, variable, own, parens, arrow, prefix, address, binary, Written, int, pointer, mod_int, mod_pointer, cell_int, cell_pointer, Arguments, no_arguments, arguments, Given, plainly, reading, allocation, modref_int, modref, Statement, declare, assign, set, store, call, branch, loop, exit, Branch, when, Otherwise, nothing, otherwise, chained, Block, block, Statements, ended, followed, Parameter, Parameters, no_parameters, parameters, Signature, core, init, Member, Part, structure, function, Program}
+use Rattle.ceal_grammar.specs.Grammar.{Phrase, number, null, variable, own, parens, arrow, prefix, address, element, binary, Written, int, pointer, mod_int, mod_pointer, cell_int, cell_pointer, Arguments, no_arguments, arguments, Given, plainly, reading, allocation, modref_int, modref, Statement, declare, assign, set, store, call, branch, loop, exit, break, continue, Branch, when, Otherwise, nothing, otherwise, chained, Block, block, Statements, ended, followed, Parameter, Parameters, no_parameters, parameters, Signature, core, init, Size, single, row, Member, Part, structure, function, Program}
 
 -- The span of the first token.
 unfoldable pub first : Phrase → Span
@@ -27,6 +27,7 @@ first (parens l a r) = l
 first (arrow a s x) = first a
 first (prefix op s a) = s
 first (address s a) = s
+first (element s a l b r) = s
 first (binary op a s b) = first a
 
 -- Parentheses leave nothing, and the span is that of the first token within them.
@@ -39,6 +40,7 @@ expression (parens l a r) = expression a
 expression (arrow a s x) = record { span = first a; form = Field (expression a) x }
 expression (prefix op s a) = record { span = s; form = Unary op (expression a) }
 expression (address s a) = record { span = s; form = Address (expression a) }
+expression (element s a l b r) = record { span = s; form = Pick (expression a) (expression b) }
 expression (binary op a s b) = record { span = first a; form = Binary op s (expression a) (expression b) }
 
 abbrev pub type_form : Written → TypeForm
@@ -82,6 +84,8 @@ unfoldable mutual
   statement_tree (branch b) = branch_tree b
   statement_tree (loop s l e r b) = While s (expression e) (block_trees b)
   statement_tree (exit s semi) = Return s
+  statement_tree (break s semi) = Break s
+  statement_tree (continue s semi) = Continue s
 
   pub branch_tree : Branch → Stmt
   branch_tree (when s l e r b other) = If s (expression e) (block_trees b) (otherwise_trees other)
@@ -116,9 +120,19 @@ abbrev pub function_tree : Signature → Block → FunctionDecl
 function_tree (core s x l ps r) b = record { initialiser = None; name = x; params = parameter_trees ps; body = block_trees b; close = close_of b }
 function_tree (init s x l k y t o more r) b = record { initialiser = Some y; name = x; params = other_trees more; body = block_trees b; close = close_of b }
 
+-- a row of n modifiables of this type
+abbrev pub row_form : TypeForm → ℕ → TypeForm
+row_form CellInt n = CellRow n
+row_form (CellPtr y) n = CellPtrRow y n
+row_form form n = form
+
+abbrev pub sized_form : TypeForm → Size → TypeForm
+sized_form form single = form
+sized_form form (row l n s r) = row_form form n
+
 unfoldable pub member_trees : List Member → List FieldDecl
 member_trees [] = []
-member_trees (m ∷ ms) = record { form = type_form m.type; name = m.x } ∷ member_trees ms
+member_trees (m ∷ ms) = record { form = sized_form (type_form m.type) m.size; name = m.x } ∷ member_trees ms
 
 abbrev pub part_tree : Part → Entry
 part_tree (structure s x l ms r semi) = Struct (record { name = x; fields = member_trees ms })

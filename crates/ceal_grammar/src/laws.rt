@@ -21,18 +21,23 @@ pub fn one_fault()
 
 /// A law: tokens that are those of a program within the limits have no fault.
 pub fn not_both()
-    ensures law { (ts : List Token) (tree : Tree) (f : Fault) → Accepts ts tree → IsFirstFault ts f → ⊥ }
+    ensures law { (ts : List Token) (tree : Tree) (f : Fault) → Accepts ts tree → IsFirstFault ts f
+        → ⊥ }
 {}
 
 /// A law: tokens whose last is `End` or `Cut` are those of a program within the limits, or have a first fault.
 pub fn either()
-    ensures law { (ts : List Token) → IsEnded ts → ((tree : Tree) × Accepts ts tree) ⊎ ((f : Fault) × IsFirstFault ts f) }
+    ensures law { (ts : List Token) → IsEnded ts
+        → ((tree : Tree) × Accepts ts tree) ⊎ ((f : Fault) × IsFirstFault ts f) }
 {}
 
 /// A law: the reading comes to the tree of the tokens, where they have one, and else to their first fault.
 pub fn judges()
-    ensures accepted { (ts : List Token) (tree : Tree) → judged (Top []) ts ≡ Ok tree → Accepts ts tree }
-    ensures complete { (ts : List Token) (tree : Tree) → Accepts ts tree → judged (Top []) ts ≡ Ok tree }
-    ensures faulty { (ts : List Token) (f : Fault) → IsEnded ts → judged (Top []) ts ≡ Err f → IsFirstFault ts f }
+    ensures accepted { (ts : List Token) (tree : Tree) → judged (Top []) ts ≡ Ok tree
+        → Accepts ts tree }
+    ensures complete { (ts : List Token) (tree : Tree) → Accepts ts tree
+        → judged (Top []) ts ≡ Ok tree }
+    ensures faulty { (ts : List Token) (f : Fault) → IsEnded ts → judged (Top []) ts ≡ Err f
+        → IsFirstFault ts f }
     ensures first { (ts : List Token) (f : Fault) → IsFirstFault ts f → judged (Top []) ts ≡ Err f }
 {}

@@ -45,7 +45,8 @@ impl<T> Stack<T> {
 
     #[tactic(auto, using(crate::proofs::Stacks::reverse_push))]
     pub fn pop(&mut self) -> Option<T>
-        ensures value { MatchOption result ((self.old ≡ []) × (self.new ≡ [])) (λ x. self.old ≡ x ∷ self.new) }
+        ensures value { MatchOption result ((self.old ≡ []) × (self.new ≡ []))
+            (λ x. self.old ≡ x ∷ self.new) }
     {
         self.items.pop()
     }

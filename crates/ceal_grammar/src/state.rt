@@ -23,6 +23,8 @@ pub enum Frame {
     Prefix(Unary, Span),
     /// `&`
     Address(Span),
+    /// `[` behind an operand of `&`: the span of the `&`, the operand, and the nesting outside
+    Index(Span, Expr, u32),
     /// a binary operator and its left side
     Left(Piece, Binary, Span),
 }
@@ -78,8 +80,10 @@ pub enum Place {
     Post,
     /// an operand was read
     Have(Piece),
+    /// an operand with an index was read
+    Element(Piece),
     /// the name of a field of this operand is wanted
-    Pick(Piece),
+    Access(Piece),
 }
 
 /// A place within a type, by what was read of it.
@@ -191,14 +195,26 @@ pub struct Inside {
     pub nesting: u32,
 }
 
+/// A struct that is being read, and how many fields its members are.
+#[derive(Drop)]
+pub struct Layout {
+    pub decl: StructDecl,
+    pub count: u32,
+}
+
 /// A place within a struct.
 #[derive(Drop)]
 pub enum StructPlace {
     Begun,
     Named(Ident),
-    Members(StructDecl),
-    Typing(StructDecl, TypePart),
-    Ends(StructDecl, FieldDecl),
+    Members(Layout),
+    Typing(Layout, TypePart),
+    /// behind a member, or behind a modifiable that may be a row of them
+    Ends(Layout, FieldDecl),
+    /// the length of a row is wanted
+    Length(Layout, FieldDecl),
+    /// `]` is wanted behind the length
+    Sized(Layout, FieldDecl, u64),
     Closed(StructDecl),
 }
 

@@ -67,7 +67,8 @@ impl Pieces {
         requires few { index < 255 }
         requires cells { 2 * index + 1 < cells_at self.old slot.now }
         ensures cells { cells_at self.new slot.now ≡ cells_at self.old slot.now }
-        ensures words { read_at self.new slot.now ≡ slice_set (read_at self.old slot.now) index word }
+        ensures words { read_at self.new slot.now
+            ≡ slice_set (read_at self.old slot.now) index word }
         ensures others { KeepsOthers slot.now self.old self.new }
     {
         let cells = Cells::of(word);

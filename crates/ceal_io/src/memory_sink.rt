@@ -30,7 +30,8 @@ impl MemSink {
     /// An empty sink. The writes whose numbers, from 1, are listed fail; a number past the end of `u32` counts as
     /// the last.
     pub fn new(alloc: Global, fails: Vec<u32>) -> MemSink
-        ensures { result ≡ record { bytes = []; calls = record { fails = fails.items; made = 0; faults = 0 } } }
+        ensures { result
+            ≡ record { bytes = []; calls = record { fails = fails.items; made = 0; faults = 0 } } }
     {
         MemSink {
             sink: MemSink::sound(alloc),
@@ -64,7 +65,8 @@ impl Sink for MemSink {
         ensures bound { WritesAtMost result bytes.now }
         ensures some { IfOk result (λ n. 0 < length bytes.now → 0 < n) }
         ensures bytes { WriteAppends (Some self.old.bytes) (Some self.new.bytes) result bytes.now }
-        ensures cause { IsErrOf result Stopped.Failed → Rose self.old.calls.faults self.new.calls.faults }
+        ensures cause { IsErrOf result Stopped.Failed
+            → Rose self.old.calls.faults self.new.calls.faults }
         ensures later { self.old.calls.faults ≤ self.new.calls.faults }
         ensures listed { IsErrOf result Stopped.Failed ↔ (next_fails self.old.calls ≡ true) }
         ensures counted { self.new.calls ≡ after_call self.old.calls }

@@ -29,7 +29,12 @@ impl MemSource {
     /// A source of these bytes. The reads whose numbers, from 1, are listed fail; a number past the end of `u32`
     /// counts as the last.
     pub fn new(bytes: Vec<u8>, fails: Vec<u32>) -> MemSource
-        ensures { result ≡ record { bytes = bytes.items; calls = record { fails = fails.items; made = 0; faults = 0 } } }
+        ensures { result
+            ≡ record {
+              bytes = bytes.items;
+              calls =
+                  record { fails = fails.items; made = 0; faults = 0 };
+            } }
     {
         MemSource {
             source: MemSource::sound(bytes),

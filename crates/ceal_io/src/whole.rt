@@ -42,14 +42,17 @@ pub fn read_all<S: Source>(
     limit: usize,
 ) -> Result<Vec<u8>, ReadError>
     requires { limit < 4294967295 }
-    ensures all { IfOk result (λ bytes. Consumes (S.left source.old) (S.left source.new) bytes.items) }
+    ensures all { IfOk result
+        (λ bytes. Consumes (S.left source.old) (S.left source.new) bytes.items) }
     ensures end { OnOk result (IsAtEnd (S.left source.new)) }
     ensures within { IfOk result (λ bytes. vec_len bytes ≤ limit) }
     ensures long { IfSome (S.left source.old) (λ input. limit < length input → IsErr result) }
     ensures too_long { (taken : _) → IsErrOf result (ReadError.TooLong taken)
         → (taken ≡ limit + 1) × LosesCount (S.left source.old) (S.left source.new) taken }
-    ensures fault { IsErrOf result ReadError.ReadFault → Rose (S.faults source.old) (S.faults source.new) }
-    ensures early { IsErrOf result ReadError.ReadFault → LosesAtMost (S.left source.old) (S.left source.new) limit }
+    ensures fault { IsErrOf result ReadError.ReadFault
+        → Rose (S.faults source.old) (S.faults source.new) }
+    ensures early { IsErrOf result ReadError.ReadFault
+        → LosesAtMost (S.left source.old) (S.left source.new) limit }
     ensures lost { LosesAtMost (S.left source.old) (S.left source.new) (limit + 1) }
     ensures later { S.faults source.old ≤ S.faults source.new }
 {

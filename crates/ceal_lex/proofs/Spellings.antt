@@ -92,7 +92,9 @@ sign_of text =
     else if bytes_eq text (codes "{") then signs.LeftBrace
     else if bytes_eq text (codes "}") then signs.RightBrace
     else if bytes_eq text (codes ",") then signs.Comma
-    else signs.Semicolon
+    else if bytes_eq text (codes ";") then signs.Semicolon
+    else if bytes_eq text (codes "[") then signs.LeftBracket
+    else signs.RightBracket
 
 sign_of_text : (s : Sign) → sign_of (sign_text s) ≡ s
 unfolding sign_of

@@ -52,6 +52,8 @@ sign_text signs.LeftBrace = codes "{"
 sign_text signs.RightBrace = codes "}"
 sign_text signs.Comma = codes ","
 sign_text signs.Semicolon = codes ";"
+sign_text signs.LeftBracket = codes "["
+sign_text signs.RightBracket = codes "]"
 
 -- a letter, and then letters and digits
 abbrev pub IsWord : List ℕ → Type 0

@@ -88,10 +88,14 @@ fn read_all(alloc: Global, source: &[u8], marked: bool) -> Result<Tokens, FrontE
 /// number above 9223372036854775807: its span is that of the digits.
 pub fn lex(alloc: Global, input: &[u8], part: &Split) -> Result<Tokens, FrontError>
     requires { IsSplit input.now part.now }
-    ensures found { IfOk result (λ tokens. AreTokens (source_of input.now part.now) part.now.marked tokens) }
-    ensures all { (tokens : List TokenRecord) → AreTokens (source_of input.now part.now) part.now.marked tokens → Gives result (Ok tokens) }
+    ensures found { IfOk result
+        (λ tokens. AreTokens (source_of input.now part.now) part.now.marked tokens) }
+    ensures all { (tokens : List TokenRecord)
+        → AreTokens (source_of input.now part.now) part.now.marked tokens
+        → Gives result (Ok tokens) }
     ensures fault { IfFault result (λ fault. IsFirstFault (source_of input.now part.now) fault) }
-    ensures only { (fault : FaultRecord) → IsFirstFault (source_of input.now part.now) fault → Gives result (Err fault) }
+    ensures only { (fault : FaultRecord) → IsFirstFault (source_of input.now part.now) fault
+        → Gives result (Err fault) }
     ensures ended { IfOk result (λ tokens. IsEnded tokens) }
     ensures order { IfOk result (λ tokens. InOrder 0 part.now.source.to tokens) }
 {
@@ -100,9 +104,12 @@ pub fn lex(alloc: Global, input: &[u8], part: &Split) -> Result<Tokens, FrontErr
 
 /// A source has one list of tokens at most, or one first fault, and not both.
 pub fn one_reading()
-    ensures list { (source : List ℕ) (marked : Bool) (ts us : List TokenRecord) → AreTokens source marked ts → AreTokens source marked us → ts ≡ us }
-    ensures fault { (source : List ℕ) (f g : FaultRecord) → IsFirstFault source f → IsFirstFault source g → f ≡ g }
-    ensures not_both { (source : List ℕ) (marked : Bool) (ts : List TokenRecord) (f : FaultRecord) → AreTokens source marked ts → IsFirstFault source f → ⊥ }
+    ensures list { (source : List ℕ) (marked : Bool) (ts us : List TokenRecord)
+        → AreTokens source marked ts → AreTokens source marked us → ts ≡ us }
+    ensures fault { (source : List ℕ) (f g : FaultRecord) → IsFirstFault source f
+        → IsFirstFault source g → f ≡ g }
+    ensures not_both { (source : List ℕ) (marked : Bool) (ts : List TokenRecord) (f : FaultRecord)
+        → AreTokens source marked ts → IsFirstFault source f → ⊥ }
 {}
 
 /// A source has a list of tokens, or a first fault.

@@ -8,7 +8,8 @@ const MAXIMUM: u64 = i64::MAX as u64;
 
 /// The number that decimal digits spell, unless it is too large for an `i64`.
 pub fn number(digits: &[u8]) -> Option<i64>
-    ensures { MatchOption result (LARGEST < number_of digits.now) (λ n. (n ≡ pos (number_of digits.now)) × (number_of digits.now ≤ LARGEST)) }
+    ensures { MatchOption result (LARGEST < number_of digits.now)
+        (λ n. (n ≡ pos (number_of digits.now)) × (number_of digits.now ≤ LARGEST)) }
 {
     let mut value = 0;
     for byte in digits {

@@ -46,6 +46,8 @@ fn short_sign(first: u8) -> Option<Sign>
         b'}' => Some(Sign::RightBrace),
         b',' => Some(Sign::Comma),
         b';' => Some(Sign::Semicolon),
+        b'[' => Some(Sign::LeftBracket),
+        b']' => Some(Sign::RightBracket),
         _ => None,
     }
 }

@@ -75,6 +75,10 @@ pub enum Sign {
     Comma,
     /// `;`
     Semicolon,
+    /// `[`
+    LeftBracket,
+    /// `]`
+    RightBracket,
 }
 
 /// What a token is. `End` stands at the line `%%`, and `Cut` at the end of an input that has no such line.

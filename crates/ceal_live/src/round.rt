@@ -24,6 +24,8 @@ fn assigned(s: &TypedStmt) -> Option<u32>
         TypedStmt::If(..) => None,
         TypedStmt::While(..) => None,
         TypedStmt::Return(..) => None,
+        TypedStmt::Break(..) => None,
+        TypedStmt::Continue(..) => None,
     }
 }
 
@@ -34,7 +36,10 @@ fn join_at(
     at: u32,
     except: Option<u32>,
 ) -> Result<bool, NoMemory>
-    ensures ok { OnOk result ((w : ℕ) → is_in w set.new ≡ (is_in w set.old || (is_in w (set_at sets.now at) && not (is_that except w)))) }
+    ensures ok { OnOk result
+        ((w : ℕ)
+        → is_in w set.new
+        ≡ (is_in w set.old || (is_in w (set_at sets.now at) && not (is_that except w)))) }
     ensures same { IfOk result (λ changed. changed ≡ false → set.new ≡ set.old) }
     ensures more { IfOk result (λ changed. changed ≡ true → length set.old < length set.new) }
     ensures ascending { IsAscending set.old → IsAscending set.new }
@@ -51,7 +56,8 @@ fn join_at(
 
 /// Adds what comes to a block from those to which it jumps, and says whether any was added.
 fn join_jumps(set: &mut LiveSet, sets: &[LiveSet], block: &GraphBlock) -> Result<bool, NoMemory>
-    ensures ok { OnOk result ((w : ℕ) → is_in w set.new ≡ (is_in w set.old || comes sets.now block.now w)) }
+    ensures ok { OnOk result
+        ((w : ℕ) → is_in w set.new ≡ (is_in w set.old || comes sets.now block.now w)) }
     ensures same { IfOk result (λ changed. changed ≡ false → set.new ≡ set.old) }
     ensures more { IfOk result (λ changed. changed ≡ true → length set.old < length set.new) }
     ensures ascending { IsAscending set.old → IsAscending set.new }
@@ -99,8 +105,10 @@ fn update(
     requires underway { Underway blocks.now sets.old.items }
     ensures underway { OnOk result (Underway blocks.now sets.new.items) }
     ensures same { IfOk result (λ changed. changed ≡ false → sets.new.items ≡ sets.old.items) }
-    ensures closed { IfOk result (λ changed. changed ≡ false → IsClosed blocks.now sets.new.items at) }
-    ensures more { IfOk result (λ changed. changed ≡ true → room sets.new.items < room sets.old.items) }
+    ensures closed { IfOk result
+        (λ changed. changed ≡ false → IsClosed blocks.now sets.new.items at) }
+    ensures more { IfOk result
+        (λ changed. changed ≡ true → room sets.new.items < room sets.old.items) }
 {
     let mut set = take_set(alloc, sets, at);
     let changed = join_jumps(&mut set, sets.as_slice(), &blocks[at])?;
@@ -116,8 +124,10 @@ pub fn go_round(
 ) -> Result<bool, NoMemory>
     requires underway { Underway blocks.now sets.old.items }
     ensures underway { OnOk result (Underway blocks.now sets.new.items) }
-    ensures closed { IfOk result (λ changed. changed ≡ false → (b : ℕ) → IsClosed blocks.now sets.new.items b) }
-    ensures more { IfOk result (λ changed. changed ≡ true → room sets.new.items < room sets.old.items) }
+    ensures closed { IfOk result
+        (λ changed. changed ≡ false → (b : ℕ) → IsClosed blocks.now sets.new.items b) }
+    ensures more { IfOk result
+        (λ changed. changed ≡ true → room sets.new.items < room sets.old.items) }
 {
     let mut changed = false;
     for at in (0..blocks.len()).rev() {

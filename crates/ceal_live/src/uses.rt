@@ -80,6 +80,8 @@ fn put_stmt_uses(used: &mut Vec<u32>, s: &TypedStmt) -> Result<(), NoMemory>
         TypedStmt::If(_, test, _, _) => put_mentions(used, test),
         TypedStmt::While(_, test, _) => put_mentions(used, test),
         TypedStmt::Return(_) => Ok(()),
+        TypedStmt::Break(_) => Ok(()),
+        TypedStmt::Continue(_) => Ok(()),
     }
 }
 

@@ -8,7 +8,7 @@ use Rattle.ceal_base.specs.declared.kind.Kind.{Kind}
 use Rattle.ceal_base.specs.declared.typed.TypedExpr.{TypedExpr}
 use Rattle.ceal_base.specs.declared.typed.TypedStmt.{TypedStmt}
 use Rattle.ceal_base.specs.declared.typed.TypedStmt.TheBlock.{hidden-the_row-TypedStmt-0, shape-the_row-TypedStmt-0}
-use Rattle.ceal_base.specs.declared.typed.TypedStmt.TheVariants.{Declare, Assign, SetField, Write, Call, Return}
+use Rattle.ceal_base.specs.declared.typed.TypedStmt.TheVariants.{Declare, Assign, SetField, Write, Call, Return, Break, Continue}
 use Rattle.ceal_base.specs.declared.typed.TypedStmt.TheViews.{If, While}
 use Rattle.ceal_base.specs.declared.typed.TypedValue.{TypedValue}
 use Rattle.ceal_base.specs.declared.word.Word.{Word}
@@ -69,4 +69,12 @@ module _ (env : List Word) (m : Blocks) where
   unfolding set_by
   set-return words at = refl
 
-pub ruleset init_steps = (set-if, set-field, set-none, set-push, set-declare, set-assign, set-write, set-call, set-while, set-return)
+  pub set-break : (words : List Word) (at : Span) → set_by env m words (Break at) ≡ words
+  unfolding set_by
+  set-break words at = refl
+
+  pub set-continue : (words : List Word) (at : Span) → set_by env m words (Continue at) ≡ words
+  unfolding set_by
+  set-continue words at = refl
+
+pub ruleset init_steps = (set-if, set-field, set-none, set-push, set-declare, set-assign, set-write, set-call, set-while, set-return, set-break, set-continue)

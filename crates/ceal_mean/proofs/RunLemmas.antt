@@ -2,11 +2,10 @@
 use Rattle.std.proofs.Common.{◌≡◌, ℕ, suc, ◌+◌, ◌-◌, ◌<◌, Some, None, List, [], ◌∷◌, length, refl, ap, arith}
 use Rattle.ceal_base.specs.Block.{Blocks}
 use Rattle.ceal_base.specs.declared.typed.Typed.{Typed}
-use Rattle.ceal_base.specs.declared.typed.TypedStmt.{TypedStmt}
 use Rattle.ceal_mean.specs.Exec.{settled, stepped}
 use Rattle.ceal_mean.specs.Frame.{Frame, State}
 use Rattle.ceal_mean.specs.Fresh.{run, run_settled}
-use Rattle.ceal_mean.specs.Steps.{advanced, with_first}
+use Rattle.ceal_mean.specs.Steps.{Begun, begun, advanced}
 
 module _ (p : Typed) where
   -- where a step was made
@@ -35,8 +34,7 @@ module _ (p : Typed) where
   run-empty fuel steps m (f ∷ below) h = cc
 
   -- out of fuel
-  pub run-short : (fuel steps : ℕ) (m : Blocks) (frames after : List Frame) (s : TypedStmt) → fuel ≡ 0 → 0 < length after
-      → frames ≡ with_first s after → run_settled p fuel steps m frames ≡ None
+  pub run-short : (fuel steps : ℕ) (m : Blocks) (frames : List Frame) (b : Begun) → fuel ≡ 0 → begun frames ≡ Some b → run_settled p fuel steps m frames ≡ None
   unfolding run_settled
-  run-short fuel steps m frames [] s z l h = absurd (omega arith)
-  run-short fuel steps m frames (f ∷ below) s z l h = rw (h, z)
+  run-short fuel steps m [] b z h = cc
+  run-short fuel steps m (f ∷ below) b z h = rw z refl

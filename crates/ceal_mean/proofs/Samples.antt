@@ -6,7 +6,7 @@ use Rattle.ceal_base.specs.declared.kind.FieldKind.TheVariants.{Plain as PlainFi
 use Rattle.ceal_base.specs.declared.kind.Kind.{Kind}
 use Rattle.ceal_base.specs.declared.kind.Kind.TheVariants.{Int, Ptr, ModInt, ModPtr}
 use Rattle.ceal_base.specs.declared.kind.Shape.TheVariants.{Struct, ModInt as OneInt}
-use Rattle.ceal_base.specs.declared.operators.Binary.TheVariants.{Add, Sub, Mul, Differ}
+use Rattle.ceal_base.specs.declared.operators.Binary.TheVariants.{Add, Sub, Mul, Rem, More, Same, Differ}
 use Rattle.ceal_base.specs.declared.typed.StructInfo.{StructInfo}
 use Rattle.ceal_base.specs.declared.typed.Typed.{Typed}
 use Rattle.ceal_base.specs.declared.typed.TypedExpr.{TypedExpr}
@@ -16,14 +16,15 @@ use Rattle.ceal_base.specs.declared.typed.TypedForm.TheViews.{Binary, Field}
 use Rattle.ceal_base.specs.declared.typed.TypedFunction.{TypedFunction}
 use Rattle.ceal_base.specs.declared.typed.TypedStmt.{TypedStmt, out-TypedStmt}
 use Rattle.ceal_base.specs.declared.typed.TypedStmt.TheBlock.{shown-the_row-TypedStmt-0}
-use Rattle.ceal_base.specs.declared.typed.TypedStmt.TheVariants.{Declare, Assign, SetField, Write}
-use Rattle.ceal_base.specs.declared.typed.TypedStmt.TheViews.{While}
+use Rattle.ceal_base.specs.declared.typed.TypedStmt.TheVariants.{Declare, Assign, SetField, Write, Break, Continue}
+use Rattle.ceal_base.specs.declared.typed.TypedStmt.TheViews.{If, While}
 use Rattle.ceal_base.specs.declared.typed.TypedValue.TheVariants.{Plain, Read, Alloc}
 use Rattle.ceal_base.specs.declared.word.BlockId.TheVariants.{Input, Core}
 use Rattle.ceal_base.specs.declared.word.Word.{Word}
 use Rattle.ceal_base.specs.declared.word.Word.TheVariants.{Num, Null, Block as BlockWord, At}
 use Rattle.ceal_mean.specs.Fresh.{fresh, run_settled}
 use Rattle.ceal_mean.specs.Init.{set_by, set_by_all}
+use Rattle.ceal_mean.specs.Jumps.{ready}
 use Rattle.ceal_mean.specs.Value.{form_value, values_of}
 
 abbrev at : Span
@@ -58,11 +59,11 @@ inc = program (function (ModInt ∷ ModInt ∷ Int ∷ [])
     ∷ []))
 
 inc_of_four : fresh inc 0 (place 0 ∷ place 1 ∷ []) (two 4 0).inputs 2 ≡ Some (record { memory = two 4 5; steps = 2; blocks = 0 })
-unfolding run_settled out-TypedStmt form_value hidden-the_row-TypedExpr-0 shape-the_row-TypedExpr-0 denote.Hole.Carrier.hidden denote.Hole.Carrier.out shown-the_row-TypedStmt-0 denote.Hole.Carrier.shown
+unfolding run_settled ready out-TypedStmt form_value hidden-the_row-TypedExpr-0 shape-the_row-TypedExpr-0 denote.Hole.Carrier.hidden denote.Hole.Carrier.out shown-the_row-TypedStmt-0 denote.Hole.Carrier.shown
 inc_of_four = refl
 
 inc_out_of_fuel : fresh inc 0 (place 0 ∷ place 1 ∷ []) (two 4 0).inputs 1 ≡ None
-unfolding run_settled out-TypedStmt form_value hidden-the_row-TypedExpr-0 shape-the_row-TypedExpr-0 denote.Hole.Carrier.hidden denote.Hole.Carrier.out shown-the_row-TypedStmt-0 denote.Hole.Carrier.shown
+unfolding run_settled ready out-TypedStmt form_value hidden-the_row-TypedExpr-0 shape-the_row-TypedExpr-0 denote.Hole.Carrier.hidden denote.Hole.Carrier.out shown-the_row-TypedStmt-0 denote.Hole.Carrier.shown
 inc_out_of_fuel = refl
 
 -- int n = read(a); while (n != 0) { n = n - 1; } write(b, 7);
@@ -75,11 +76,48 @@ loop = program (function (ModInt ∷ ModInt ∷ Int ∷ [])
     ∷ []))
 
 loop_of_three : fresh loop 0 (place 0 ∷ place 1 ∷ []) (two 3 0).inputs 100 ≡ Some (record { memory = two 3 7; steps = 9; blocks = 0 })
-unfolding run_settled out-TypedStmt form_value hidden-the_row-TypedExpr-0 shape-the_row-TypedExpr-0 denote.Hole.Carrier.hidden denote.Hole.Carrier.out shown-the_row-TypedStmt-0 denote.Hole.Carrier.shown
+unfolding run_settled ready out-TypedStmt form_value hidden-the_row-TypedExpr-0 shape-the_row-TypedExpr-0 denote.Hole.Carrier.hidden denote.Hole.Carrier.out shown-the_row-TypedStmt-0 denote.Hole.Carrier.shown
 loop_of_three = refl
 
+abbrev var : ℕ → TypedExpr
+var n = typed Int (Var n)
+
+-- int n = read(a); int i = 0; int s = 0;
+-- while (1) { i = i + 1; if (i > n) { break; } if (i % 2 == 0) { continue; } s = s + i; }
+-- write(b, s);
+abbrev scan : Typed
+scan = program (function (ModInt ∷ ModInt ∷ Int ∷ Int ∷ Int ∷ [])
+    (Declare at 2 Int (Read at (typed ModInt (Var 0)))
+    ∷ Declare at 3 Int (Plain (number 0))
+    ∷ Declare at 4 Int (Plain (number 0))
+    ∷ While at (number 1)
+    (Assign at 3 (Plain (typed Int (Binary Add at (var 3) (number 1))))
+    ∷ If at (typed Int (Binary More at (var 3) (var 2))) (Break at ∷ []) []
+    ∷ If at (typed Int (Binary Same at (typed Int (Binary Rem at (var 3) (number 2))) (number 0))) (Continue at ∷ []) []
+    ∷ Assign at 4 (Plain (typed Int (Binary Add at (var 4) (var 3))))
+    ∷ [])
+    ∷ Write at (typed ModInt (Var 1)) (var 4)
+    ∷ []))
+
+scan_of_two : fresh scan 0 (place 0 ∷ place 1 ∷ []) (two 2 0).inputs 16 ≡ Some (record { memory = two 2 1; steps = 16; blocks = 0 })
+unfolding run_settled ready out-TypedStmt form_value hidden-the_row-TypedExpr-0 shape-the_row-TypedExpr-0 denote.Hole.Carrier.hidden denote.Hole.Carrier.out shown-the_row-TypedStmt-0 denote.Hole.Carrier.shown
+scan_of_two = refl
+
+-- while (1) { while (1) { break; write(b, 1); } break; } write(b, 7); continue; write(b, 2);
+abbrev leave : Typed
+leave = program (function (ModInt ∷ ModInt ∷ [])
+    (While at (number 1) (While at (number 1) (Break at ∷ Write at (typed ModInt (Var 1)) (number 1) ∷ []) ∷ Break at ∷ [])
+    ∷ Write at (typed ModInt (Var 1)) (number 7)
+    ∷ Continue at
+    ∷ Write at (typed ModInt (Var 1)) (number 2)
+    ∷ []))
+
+leave_both : fresh leave 0 (place 0 ∷ place 1 ∷ []) (two 0 0).inputs 100 ≡ Some (record { memory = two 0 7; steps = 3; blocks = 0 })
+unfolding run_settled ready out-TypedStmt form_value hidden-the_row-TypedExpr-0 shape-the_row-TypedExpr-0 denote.Hole.Carrier.hidden denote.Hole.Carrier.out shown-the_row-TypedStmt-0 denote.Hole.Carrier.shown
+leave_both = refl
+
 abbrev cell : StructInfo
-cell = record { name = []; fields = record { name = []; kind = PlainField Int } ∷ record { name = []; kind = CellPtr 0 } ∷ [] }
+cell = record { name = []; fields = record { name = []; kind = PlainField Int; row = 0 } ∷ record { name = []; kind = CellPtr 0; row = 0 } ∷ [] }
 
 -- init mk(struct cell *self, struct cell *from) { self->head = from->head * 10; }
 abbrev mk : TypedFunction
@@ -114,5 +152,5 @@ copy_of_three : fresh copy 1 (BlockWord (Input 0) ∷ At (record { block = Input
       steps = 2;
       blocks = 1;
     })
-unfolding run_settled out-TypedStmt form_value hidden-the_row-TypedExpr-0 shape-the_row-TypedExpr-0 denote.Hole.Carrier.hidden denote.Hole.Carrier.out shown-the_row-TypedStmt-0 denote.Hole.Carrier.shown set_by_all set_by values_of
+unfolding run_settled ready out-TypedStmt form_value hidden-the_row-TypedExpr-0 shape-the_row-TypedExpr-0 denote.Hole.Carrier.hidden denote.Hole.Carrier.out shown-the_row-TypedStmt-0 denote.Hole.Carrier.shown set_by_all set_by values_of
 copy_of_three = refl

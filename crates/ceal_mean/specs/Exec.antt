@@ -1,5 +1,5 @@
 -- What each statement does, and the steps of a run.
-use Rattle.std.specs.Prelude.{ℕ, pos, ◌-◌, Bool, true, false, Option, Some, None, List, [], ◌∷◌, ◌++◌, length, slice_get, slice_set, replicate, if◌then◌else◌}
+use Rattle.std.specs.Prelude.{ℕ, pos, ◌-◌, Bool, true, false, Option, Some, None, List, [], ◌∷◌, ◌++◌, length, map, slice_get, slice_set, replicate, if◌then◌else◌}
 use Rattle.ceal_base.specs.Access.{content_of, written, holds}
 use Rattle.ceal_base.specs.Block.{Block, Blocks}
 use Rattle.ceal_base.specs.Finished.{with_block}
@@ -10,14 +10,15 @@ use Rattle.ceal_base.specs.declared.kind.Shape.TheVariants.{ModInt as OneInt, Mo
 use Rattle.ceal_base.specs.declared.typed.Typed.{Typed}
 use Rattle.ceal_base.specs.declared.typed.TypedFunction.{TypedFunction}
 use Rattle.ceal_base.specs.declared.typed.TypedStmt.{TypedStmt, out-TypedStmt}
-use Rattle.ceal_base.specs.declared.typed.TypedStmt.TheOpen.{TypedStmt-F, Declare, Assign, SetField, Write, Call, If, While, Return}
+use Rattle.ceal_base.specs.declared.typed.TypedStmt.TheOpen.{TypedStmt-F, Declare, Assign, Write, Call, If, While}
 use Rattle.ceal_base.specs.declared.typed.TypedValue.{TypedValue}
 use Rattle.ceal_base.specs.declared.typed.TypedValue.TheVariants.{Plain, Read, Alloc, ModrefInt, Modref}
 use Rattle.ceal_base.specs.declared.word.BlockId.TheVariants.{Core}
 use Rattle.ceal_base.specs.declared.word.Word.{Word}
 use Rattle.ceal_base.specs.declared.word.Word.TheVariants.{Num, Null, Block as BlockWord, At}
-use Rattle.ceal_mean.specs.Frame.{Frame, State}
+use Rattle.ceal_mean.specs.Frame.{Item, Do, Again, statement_of, Frame, State}
 use Rattle.ceal_mean.specs.Init.{init_block}
+use Rattle.ceal_mean.specs.Jumps.{ready}
 use Rattle.ceal_mean.specs.Value.{value_of, values_of}
 
 -- the default of what a modifiable holds, by the type of the pointer to it
@@ -53,26 +54,23 @@ first_env f args = args ++ replicate (length f.kinds - length args) Null
 -- the frame of a function that is called, none of a number without a function
 abbrev pub frame_of : Option TypedFunction → List Word → List Frame
 frame_of None args = []
-frame_of (Some f) args = record { todo = f.body; env = first_env f args } ∷ []
+frame_of (Some f) args = record { todo = map Do f.body; env = first_env f args } ∷ []
 
 abbrev pub entered : Typed → ℕ → List Word → List Frame
 entered p function args = frame_of (slice_get p.functions function) args
 
 -- the state after the variable got what was taken
-abbrev pub given : Taken → ℕ → List TypedStmt → List Word → List Frame → State
+abbrev pub given : Taken → ℕ → List Item → List Word → List Frame → State
 given t n rest env below = record {
   memory = t.memory;
   frames = record { todo = rest; env = slice_set env n t.word } ∷ below;
 }
 
--- the state after one statement, `rest` being what the frame has to do after it and `below` the frames under it
-abbrev pub effect : Typed → Blocks → List Word → List TypedStmt → List Frame → TypedStmt → TypedStmt-F TypedStmt → State
+-- the state after one statement, `rest` being what the frame has to do after it and `below` the frames under it; a
+-- field is set by initialisers alone, and a `return`, `break` or `continue` is no step
+abbrev pub effect : Typed → Blocks → List Word → List Item → List Frame → TypedStmt → TypedStmt-F TypedStmt → State
 effect p m env rest below s (Declare at n kind value) = given (taken p env m value) n rest env below
 effect p m env rest below s (Assign at n value) = given (taken p env m value) n rest env below
-effect p m env rest below s (SetField at left shape field value) = record {
-  memory = m;
-  frames = record { todo = rest; env = env } ∷ below;
-}
 effect p m env rest below s (Write at place value) = record {
   memory = written m (value_of env m place) (value_of env m value);
   frames = record { todo = rest; env = env } ∷ below;
@@ -83,29 +81,25 @@ effect p m env rest below s (Call at function args) = record {
 }
 effect p m env rest below s (If at test first second) = record {
   memory = m;
-  frames = record { todo = (if holds (value_of env m test) then first else second) ++ rest; env = env } ∷ below;
+  frames = record { todo = map Do (if holds (value_of env m test) then first else second) ++ rest; env = env } ∷ below;
 }
 effect p m env rest below s (While at test body) = record {
   memory = m;
-  frames = record { todo = (if holds (value_of env m test) then body ++ s ∷ rest else rest); env = env } ∷ below;
+  frames = record { todo = (if holds (value_of env m test) then map Do body ++ Again s ∷ rest else rest); env = env } ∷ below;
 }
-effect p m env rest below s (Return at) = record { memory = m; frames = record { todo = []; env = env } ∷ below }
+effect p m env rest below s _ = record { memory = m; frames = record { todo = rest; env = env } ∷ below }
 
-abbrev pub is_return : TypedStmt-F TypedStmt → Bool
-is_return (Return at) = true
-is_return _ = false
-
--- a frame is over where it has nothing left to do, or a `return` first
-abbrev pub is_over : List TypedStmt → Bool
+abbrev pub is_over : List Item → Bool
 is_over [] = true
-is_over (s ∷ rest) = is_return (out-TypedStmt s)
+is_over (item ∷ rest) = false
 
--- the frames without those in front that are over; this takes no step
+-- the frames of which the first has a step to do: its jumps are made, and the frames in front that have nothing left to
+-- do are taken off. This takes no step
 abbrev pub settled : List Frame → List Frame
 settled [] = []
-settled (f ∷ below) = if is_over f.todo then settled below else f ∷ below
+settled (f ∷ below) = if is_over (ready f.todo) then settled below else record f { todo = ready f.todo } ∷ below
 
--- the state after the first statement of the first frame
-abbrev pub stepped : Typed → Blocks → Frame → List TypedStmt → List Frame → State
+-- the state after the first item of the first frame: a `while` again is the same as the `while`
+abbrev pub stepped : Typed → Blocks → Frame → List Item → List Frame → State
 stepped p m f [] below = record { memory = m; frames = below }
-stepped p m f (s ∷ rest) below = effect p m f.env rest below s (out-TypedStmt s)
+stepped p m f (item ∷ rest) below = effect p m f.env rest below (statement_of item) (out-TypedStmt (statement_of item))

@@ -3,13 +3,23 @@ use Rattle.std.specs.Prelude.{Option, Some, None, List, [], ◌∷◌}
 use Rattle.ceal_base.specs.Block.{Blocks}
 use Rattle.ceal_base.specs.declared.typed.Typed.{Typed}
 use Rattle.ceal_base.specs.declared.typed.TypedStmt.{TypedStmt}
+use Rattle.ceal_base.specs.declared.word.Word.{Word}
 use Rattle.ceal_mean.specs.Exec.{stepped}
 use Rattle.ceal_mean.specs.Frame.{Frame, State}
+use Rattle.ceal_mean.specs.Todo.{Next, first_of}
 
--- the frames, where the first has this statement to do before all else
-abbrev pub with_first : TypedStmt → List Frame → List Frame
-with_first s [] = []
-with_first s (f ∷ below) = record f { todo = s ∷ f.todo } ∷ below
+-- the first statement of the first frame, and the frames without it
+pub record Begun : Type 0 where
+  pub stmt : TypedStmt
+  pub frames : List Frame
+
+abbrev pub begun_with : Option Next → List Word → List Frame → Option Begun
+begun_with None env below = None
+begun_with (Some next) env below = Some (record { stmt = next.stmt; frames = record { todo = next.rest; env = env } ∷ below })
+
+abbrev pub begun : List Frame → Option Begun
+begun [] = None
+begun (f ∷ below) = begun_with (first_of f.todo) f.env below
 
 -- the state after a step from a memory and frames of which the first is not over, where a frame is left
 abbrev pub advanced : Typed → Blocks → List Frame → Option State

@@ -1,21 +1,24 @@
 // A function that runs.
 
-ghost use Rattle.std.specs.Prelude.{◌≡◌, ◌∷◌, ◌++◌, [], ◌-◌, length, replicate, slice_set, IfOk, OnOk, MatchOption};
+ghost use Rattle.std.specs.Prelude.{◌≡◌, Some, ◌∷◌, ◌++◌, [], ◌-◌, length, map, replicate, slice_set, IfOk, OnOk, MatchOption};
 ghost use Rattle.std.specs.Option.{option_to_list};
 ghost use Rattle.ceal_base.specs.declared.word.Word.{Word};
 ghost use Rattle.ceal_mean.specs.Exec.{first_env, entered};
+ghost use Rattle.ceal_mean.specs.Frame.{Item, Do, Again};
+ghost use Rattle.ceal_mean.specs.Jumps.{ready};
+ghost use Rattle.ceal_mean.specs.Todo.{first_of};
 
-use crate::todo::{put_first, take_first};
+use crate::todo::{Part, put_first, put_turn, take_first};
 use ceal_base::no_memory::NoMemory;
 use ceal_base::typed::{Typed, TypedFunction, TypedStmt};
 use ceal_base::word::Word;
 use std::alloc::Global;
 use std::marker::Model;
 
-/// A function that runs: the statements that it has still to do, as parts of bodies, and the words of its variables.
+/// A function that runs: what it has still to do, in parts, and the words of its variables.
 #[derive(Drop)]
 pub struct Activation<'a> {
-    parts: Vec<&'a [TypedStmt]>,
+    parts: Vec<Part<'a>>,
     env: Vec<Word>,
 }
 
@@ -39,7 +42,7 @@ impl<'a> Activation<'a> {
         body: &'a [TypedStmt],
         env: Vec<Word>,
     ) -> Result<Activation<'a>, NoMemory>
-        ensures value { IfOk result (λ a. a ≡ record { todo = body.now; env = env.items }) }
+        ensures value { IfOk result (λ a. a ≡ record { todo = map Do body.now; env = env.items }) }
     {
         let mut parts = Vec::new(alloc);
         put_first(&mut parts, body)?;
@@ -60,15 +63,28 @@ impl<'a> Activation<'a> {
     }
 
     /// Puts statements before all that it has to do.
-    pub fn put_before(&mut self, part: &'a [TypedStmt]) -> Result<(), NoMemory>
-        ensures state { OnOk result (self.new ≡ record self.old { todo = part.now ++ self.old.todo }) }
+    pub fn put_before(&mut self, body: &'a [TypedStmt]) -> Result<(), NoMemory>
+        ensures state { OnOk result
+            (self.new ≡ record self.old { todo = map Do body.now ++ self.old.todo }) }
     {
-        put_first(&mut self.parts, part)
+        put_first(&mut self.parts, body)
     }
 
-    /// Takes the next statement.
+    /// Puts another turn of a `while` before all that it has to do.
+    pub fn put_again(&mut self, w: &'a TypedStmt) -> Result<(), NoMemory>
+        ensures state { OnOk result
+            (self.new ≡ record self.old { todo = Again w.now ∷ self.old.todo }) }
+    {
+        put_turn(&mut self.parts, w)
+    }
+
+    /// Takes the next statement that is a step.
     pub fn take(&mut self) -> Result<Option<&'a TypedStmt>, NoMemory>
-        ensures taken { IfOk result (λ found. MatchOption found (self.old.todo ≡ []) (λ s. self.old ≡ record self.new { todo = s.now ∷ self.new.todo })) }
+        ensures taken { IfOk result
+            (λ found. MatchOption found (ready self.old.todo ≡ [])
+            (λ s. first_of (ready self.old.todo)
+            ≡ Some (record { stmt = s.now; rest = self.new.todo }))) }
+        ensures variables { self.new.env ≡ self.old.env }
     {
         take_first(&mut self.parts)
     }
@@ -89,7 +105,8 @@ pub fn enter<'a>(
     function: u32,
     args: Vec<Word>,
 ) -> Result<Option<Activation<'a>>, NoMemory>
-    ensures value { IfOk result (λ called. entered program.now function args.items ≡ option_to_list called) }
+    ensures value { IfOk result
+        (λ called. entered program.now function args.items ≡ option_to_list called) }
 {
     match program.functions.items().get(function as usize) {
         Some(found) => {
@@ -111,7 +128,9 @@ fn first_words(function: &TypedFunction, args: Vec<Word>) -> Result<Vec<Word>, N
 
 /// Adds nulls up to this length.
 fn fill(words: &mut Vec<Word>, count: usize) -> Result<(), NoMemory>
-    ensures { OnOk result (words.new.items ≡ words.old.items ++ replicate (count - length words.old.items) Word.Null) }
+    ensures { OnOk result
+        (words.new.items ≡ words.old.items
+        ++ replicate (count - length words.old.items) Word.Null) }
 {
     if words.len() < count {
         words.resize(count, Word::Null)?;

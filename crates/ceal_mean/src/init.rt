@@ -25,7 +25,8 @@ fn default_word(kind: FieldKind) -> Word
 }
 
 fn default_words(alloc: Global, fields: &[FieldInfo]) -> Result<Vec<Word>, NoMemory>
-    ensures { IfOk result (λ words. words.items ≡ map default_of_field (map kind_of_field fields.now)) }
+    ensures { IfOk result
+        (λ words. words.items ≡ map default_of_field (map kind_of_field fields.now)) }
 {
     let mut words = Vec::new(alloc);
     for f in fields {
@@ -39,7 +40,8 @@ fn words_of_struct(
     structs: &[StructInfo],
     number: u32,
 ) -> Result<Vec<Word>, NoMemory>
-    ensures { IfOk result (λ words. words.items ≡ map default_of_field (field_kinds (slice_get structs.now number))) }
+    ensures { IfOk result
+        (λ words. words.items ≡ map default_of_field (field_kinds (slice_get structs.now number))) }
 {
     match structs.get(number as usize) {
         Some(found) => {
@@ -92,6 +94,8 @@ fn set_field(env: &[Word], memory: &Memory, words: &mut Vec<Word>, s: &TypedStmt
         TypedStmt::Call(..) => {}
         TypedStmt::While(..) => {}
         TypedStmt::Return(..) => {}
+        TypedStmt::Break(..) => {}
+        TypedStmt::Continue(..) => {}
     }
 }
 
@@ -102,7 +106,8 @@ fn made_block(
     args: &[Word],
     memory: &Memory,
 ) -> Result<BlockWords, NoMemory>
-    ensures { IfOk result (λ block. block ≡ made_by structs.now (Option.Some function.now) args.now memory.now) }
+    ensures { IfOk result
+        (λ block. block ≡ made_by structs.now (Option.Some function.now) args.now memory.now) }
 {
     let number = function.initialiser.unwrap_or(0);
     let mut words = words_of_struct(alloc, structs, number)?;
@@ -126,7 +131,8 @@ pub fn init(
     args: &[Word],
     memory: &Memory,
 ) -> Result<BlockWords, NoMemory>
-    ensures value { IfOk result (λ block. block ≡ init_block program.now function args.now memory.now) }
+    ensures value { IfOk result
+        (λ block. block ≡ init_block program.now function args.now memory.now) }
 {
     let structs = program.structs.items();
     match program.functions.items().get(function as usize) {

@@ -5,8 +5,8 @@ ghost use Rattle.std.specs.Option.{option_to_list};
 ghost use Rattle.ceal_base.specs.Access.{holds};
 ghost use Rattle.ceal_base.specs.Shapes.{default_block};
 ghost use Rattle.ceal_base.specs.declared.typed.TypedStmt.{out-TypedStmt};
-ghost use Rattle.ceal_mean.specs.Exec.{content_default, new_block, new_modifiable, taken, entered, effect, is_return};
-ghost use Rattle.ceal_mean.specs.Frame.{Frame};
+ghost use Rattle.ceal_mean.specs.Exec.{content_default, new_block, new_modifiable, taken, entered, effect};
+ghost use Rattle.ceal_mean.specs.Frame.{Item, Do, Again, Frame};
 ghost use Rattle.ceal_mean.specs.Init.{init_block};
 ghost use Rattle.ceal_mean.specs.Value.{value_of, values_of};
 
@@ -20,7 +20,6 @@ use ceal_base::no_memory::NoMemory;
 use ceal_base::typed::{Typed, TypedExpr, TypedStmt, TypedValue};
 use ceal_base::word::{BlockId, Place, Word};
 use std::alloc::Global;
-use std::slice;
 
 fn default_content(kind: Option<Kind>) -> Word
     ensures { result ≡ content_default kind }
@@ -35,8 +34,11 @@ fn default_content(kind: Option<Kind>) -> Word
 fn add_block(memory: &mut Memory, block: BlockWords) -> Result<BlockId, NoMemory>
     requires { length memory.old.made < 2 ^ 32 }
     ensures grows { length memory.new.made ≤ length memory.old.made + 1 }
-    ensures made { IfOk result (λ id. new_block memory.old block ≡ record { memory = memory.new; word = Word.Block id }) }
-    ensures place { IfOk result (λ id. new_modifiable memory.old block ≡ record { memory = memory.new; word = Word.At (record { block = id; field = 0 }) }) }
+    ensures made { IfOk result
+        (λ id. new_block memory.old block ≡ record { memory = memory.new; word = Word.Block id }) }
+    ensures place { IfOk result
+        (λ id. new_modifiable memory.old block
+        ≡ record { memory = memory.new; word = Word.At (record { block = id; field = 0 }) }) }
 {
     let at = memory.items().len() as u32;
     memory.push(block)?;
@@ -51,7 +53,9 @@ fn make_modifiable(
 ) -> Result<Word, NoMemory>
     requires { length memory.old.made < 2 ^ 32 }
     ensures grows { length memory.new.made ≤ length memory.old.made + 1 }
-    ensures made { IfOk result (λ word. new_modifiable memory.old (record { shape = shape; words = default ∷ [] }) ≡ record { memory = memory.new; word = word }) }
+    ensures made { IfOk result
+        (λ word. new_modifiable memory.old (record { shape = shape; words = default ∷ [] })
+        ≡ record { memory = memory.new; word = word }) }
 {
     let mut words = Vec::new(alloc);
     words.push(default)?;
@@ -69,7 +73,10 @@ fn allocate(
 ) -> Result<Word, NoMemory>
     requires { length memory.old.made < 2 ^ 32 }
     ensures grows { length memory.new.made ≤ length memory.old.made + 1 }
-    ensures made { IfOk result (λ word. new_block memory.old (init_block program.now function (values_of env.now memory.old args.now) memory.old) ≡ record { memory = memory.new; word = word }) }
+    ensures made { IfOk result
+        (λ word. new_block memory.old
+        (init_block program.now function (values_of env.now memory.old args.now) memory.old)
+        ≡ record { memory = memory.new; word = word }) }
 {
     let words = values(alloc, memory, env, args)?;
     let block = init(alloc, program, function, words.as_slice(), memory)?;
@@ -86,7 +93,9 @@ fn take_value(
 ) -> Result<Word, NoMemory>
     requires { length memory.old.made < 2 ^ 32 }
     ensures grows { length memory.new.made ≤ length memory.old.made + 1 }
-    ensures taken { IfOk result (λ word. taken program.now env.now memory.old value.now ≡ record { memory = memory.new; word = word }) }
+    ensures taken { IfOk result
+        (λ word. taken program.now env.now memory.old value.now
+        ≡ record { memory = memory.new; word = word }) }
 {
     match value {
         TypedValue::Plain(e) => Ok(eval(env, memory, e)),
@@ -130,8 +139,14 @@ fn give(
 ) -> Result<(), NoMemory>
     requires { length memory.old.made < 2 ^ 32 }
     ensures grows { length memory.new.made ≤ length memory.old.made + 1 }
-    ensures memory { OnOk result ((taken program.now frame.old.env memory.old value.now).memory ≡ memory.new) }
-    ensures frame { OnOk result (frame.new ≡ record frame.old { env = slice_set frame.old.env n (taken program.now frame.old.env memory.old value.now).word }) }
+    ensures memory { OnOk result
+        ((taken program.now frame.old.env memory.old value.now).memory ≡ memory.new) }
+    ensures frame { OnOk result
+        (frame.new ≡
+        record frame.old {
+          env = slice_set frame.old.env n
+              (taken program.now frame.old.env memory.old value.now).word;
+        }) }
 {
     let word = take_value(alloc, memory, program, frame.variables(), value)?;
     frame.set(n, word);
@@ -145,7 +160,13 @@ fn choose<'a>(
     first: &'a [TypedStmt],
     second: &'a [TypedStmt],
 ) -> Result<(), NoMemory>
-    ensures { OnOk result (frame.new ≡ record frame.old { todo = (if holds (value_of frame.old.env memory.now test.now) then first.now else second.now) ++ frame.old.todo }) }
+    ensures { OnOk result
+        (frame.new ≡
+        record frame.old {
+          todo = map Do
+              (if holds (value_of frame.old.env memory.now test.now) then first.now else second.now)
+              ++ frame.old.todo;
+        }) }
 {
     if is_true(eval(frame.variables(), memory, test)) {
         frame.put_before(first)
@@ -161,10 +182,16 @@ fn turn<'a>(
     body: &'a [TypedStmt],
     s: &'a TypedStmt,
 ) -> Result<(), NoMemory>
-    ensures { OnOk result (frame.new ≡ record frame.old { todo = (if holds (value_of frame.old.env memory.now test.now) then body.now ++ s.now ∷ frame.old.todo else frame.old.todo) }) }
+    ensures { OnOk result
+        (frame.new ≡
+        record frame.old {
+          todo =
+              (if holds (value_of frame.old.env memory.now test.now) then map Do body.now
+              ++ Again s.now ∷ frame.old.todo else frame.old.todo);
+        }) }
 {
     if is_true(eval(frame.variables(), memory, test)) {
-        frame.put_before(slice::from_ref(s))?;
+        frame.put_again(s)?;
         frame.put_before(body)
     } else {
         Ok(())
@@ -179,20 +206,17 @@ fn call<'a>(
     function: u32,
     args: &[TypedExpr],
 ) -> Result<Option<Activation<'a>>, NoMemory>
-    ensures { IfOk result (λ called. entered program.now function (values_of frame.now.env memory.now args.now) ≡ option_to_list called) }
+    ensures { IfOk result
+        (λ called. entered program.now function (values_of frame.now.env memory.now args.now)
+        ≡ option_to_list called) }
 {
     let words = values(alloc, memory, frame.variables(), args)?;
     let called = enter(alloc, program, function, words)?;
     Ok(called)
 }
 
-pub fn is_return_statement(s: &TypedStmt) -> bool
-    ensures value { result ≡ is_return (out-TypedStmt s.now) }
-{
-    matches!(s, TypedStmt::Return(_))
-}
-
-/// Does a statement that was taken from this activation; a call gives the activation that goes before it.
+/// Does a statement that was taken from this activation; a call gives the activation that goes before it. A `return`,
+/// `break` or `continue` is never taken.
 pub fn act<'a>(
     alloc: Global,
     memory: &mut Memory,
@@ -201,9 +225,12 @@ pub fn act<'a>(
     s: &'a TypedStmt,
 ) -> Result<Option<Activation<'a>>, NoMemory>
     requires room { length memory.old.made < 2 ^ 32 }
-    requires runs { is_return (out-TypedStmt s.now) ≡ false }
     ensures grows { length memory.new.made ≤ length memory.old.made + 1 }
-    ensures done { IfOk result (λ called. (below : List Frame) → effect program.now memory.old frame.old.env frame.old.todo below s.now (out-TypedStmt s.now) ≡ record { memory = memory.new; frames = option_to_list called ++ frame.new ∷ below }) }
+    ensures done { IfOk result
+        (λ called. (below : List Frame)
+        → effect program.now memory.old frame.old.env frame.old.todo below s.now
+        (out-TypedStmt s.now)
+        ≡ record { memory = memory.new; frames = option_to_list called ++ frame.new ∷ below }) }
 {
     match s {
         TypedStmt::Declare(_, n, _, value) => {
@@ -233,6 +260,8 @@ pub fn act<'a>(
             turn(memory, frame, test, body.items(), s)?;
             Ok(None)
         }
-        TypedStmt::Return(_) => unreachable!(),
+        TypedStmt::Return(_) => Ok(None),
+        TypedStmt::Break(_) => Ok(None),
+        TypedStmt::Continue(_) => Ok(None),
     }
 }

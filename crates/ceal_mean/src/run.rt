@@ -1,13 +1,12 @@
 // A run of a program from nothing.
 
 ghost use Rattle.std.specs.Prelude.{◌≡◌, ◌<◌, ◌≤◌, ◌+◌, ◌^◌, ⊤, Some, None, true, false, if◌then◌else◌, [], length, reverse, IfOk, OnOk, MatchOption};
-ghost use Rattle.ceal_base.specs.declared.typed.TypedStmt.{out-TypedStmt};
-ghost use Rattle.ceal_mean.specs.Exec.{settled, entered, is_return};
+ghost use Rattle.ceal_mean.specs.Exec.{settled, entered};
 ghost use Rattle.ceal_mean.specs.Fresh.{fresh, outcome_of, start};
-ghost use Rattle.ceal_mean.specs.Steps.{with_first, advanced};
+ghost use Rattle.ceal_mean.specs.Steps.{begun, advanced};
 
 use crate::activation::{Activation, enter};
-use crate::machine::{act, is_return_statement};
+use crate::machine::act;
 use ceal_base::memory::{Inputs, Memory};
 use ceal_base::no_memory::NoMemory;
 use ceal_base::typed::{Typed, TypedStmt};
@@ -27,22 +26,23 @@ pub enum Outcome {
     OutOfFuel,
 }
 
-/// Takes the next statement that is no return, after all frames are gone that are over.
+/// Takes the next statement that is a step, after all frames are gone that are over.
 #[tactic(auto, using(crate::proofs::FrameLemmas::frame_steps))]
 fn next_of<'a>(frames: &mut Vec<Activation<'a>>) -> Result<Option<&'a TypedStmt>, NoMemory>
-    ensures some { IfOk result (λ found. MatchOption found (settled (reverse frames.old.items) ≡ []) (λ s. settled (reverse frames.old.items) ≡ with_first s.now (reverse frames.new.items))) }
-    ensures runs { IfOk result (λ found. MatchOption found ⊤ (λ s. is_return (out-TypedStmt s.now) ≡ false)) }
-    ensures there { IfOk result (λ found. MatchOption found (frames.new.items ≡ []) (λ s. 0 < length frames.new.items)) }
+    ensures some { IfOk result
+        (λ found. MatchOption found (settled (reverse frames.old.items) ≡ [])
+        (λ s. begun (settled (reverse frames.old.items))
+        ≡ Some (record { stmt = s.now; frames = reverse frames.new.items }))) }
+    ensures there { IfOk result
+        (λ found. MatchOption found (frames.new.items ≡ []) (λ s. 0 < length frames.new.items)) }
 {
     while let Some(frame) = frames.pop() {
         let mut frame = frame;
         match frame.take()? {
             None => {}
             Some(s) => {
-                if !is_return_statement(s) {
-                    frames.push(frame)?;
-                    return Ok(Some(s));
-                }
+                frames.push(frame)?;
+                return Ok(Some(s));
             }
         }
     }
@@ -59,7 +59,10 @@ fn step<'a>(
 ) -> Result<bool, NoMemory>
     requires { length memory.old.made < 2 ^ 32 }
     ensures grows { length memory.new.made ≤ length memory.old.made + 1 }
-    ensures advanced { IfOk result (λ more. advanced program.now memory.old (settled (reverse frames.old.items)) ≡ (if more then Some (record { memory = memory.new; frames = reverse frames.new.items }) else None)) }
+    ensures advanced { IfOk result
+        (λ more. advanced program.now memory.old (settled (reverse frames.old.items))
+        ≡ (if more then Some
+        (record { memory = memory.new; frames = reverse frames.new.items }) else None)) }
     ensures over { IfOk result (λ more. more ≡ false → memory.new ≡ memory.old) }
 {
     let Some(s) = next_of(frames)? else {
@@ -84,7 +87,9 @@ fn step<'a>(
 
 fn done(memory: Memory, steps: u32) -> Outcome
     requires { length memory.made ≤ steps }
-    ensures { result ≡ outcome_of (Some (record { memory = memory; steps = steps; blocks = length memory.made })) }
+    ensures { result
+        ≡ outcome_of
+        (Some (record { memory = memory; steps = steps; blocks = length memory.made })) }
 {
     let blocks = memory.items().len() as u32;
     Outcome::Done {
@@ -122,7 +127,8 @@ pub fn interpret(
     inputs: &Inputs,
     fuel: u32,
 ) -> Result<Outcome, NoMemory>
-    ensures outcome { IfOk result (λ outcome. outcome ≡ outcome_of (fresh program.now function args.now inputs.now fuel)) }
+    ensures outcome { IfOk result
+        (λ outcome. outcome ≡ outcome_of (fresh program.now function args.now inputs.now fuel)) }
 {
     let mut memory = Memory::new(inputs.copy()?, Vec::new(alloc));
     let mut frames = first_frames(alloc, program, function, args)?;

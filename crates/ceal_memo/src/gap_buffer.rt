@@ -111,7 +111,8 @@ fn with_room(
     requires { gap + room ≤ length cells.old.items }
     ensures room { IfOk result (λ at. 0 < at.1) }
     ensures gap { IfOk result (λ at. at.0 + at.1 ≤ length cells.new.items) }
-    ensures same { IfOk result (λ at. around cells.new.items at.0 at.1 ≡ around cells.old.items gap room) }
+    ensures same { IfOk result
+        (λ at. around cells.new.items at.0 at.1 ≡ around cells.old.items gap room) }
     ensures err { OnErr result (cells.new.items ≡ cells.old.items) }
 {
     if room > 0 {

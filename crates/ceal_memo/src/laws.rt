@@ -17,7 +17,8 @@ pub fn follows_still()
         → ((key : ReadKey) → KeepsOrder (reads_of memo key) old new)
         → ((key : Key) → KeepsOrder (allocs_of memo key) old new)
         → Follows new memo }
-    ensures inserted { (s : ℕ) (memo : Entries) (old new : List ℕ) → Follows old memo → OneMore s old new → Follows new memo }
+    ensures inserted { (s : ℕ) (memo : Entries) (old new : List ℕ) → Follows old memo
+        → OneMore s old new → Follows new memo }
     ensures deleted { (s : ℕ) (memo : Entries) (old new : List ℕ) → Follows old memo → OneMore s new old → HasNone s memo
         → Follows new memo }
 {

@@ -44,7 +44,8 @@ pub fn put<K: Eq + Hash + Drop>(
 /// Takes a stamp out of the list of a key.
 pub fn take<K: Eq + Hash + Drop>(lists: &mut HashMap<K, GapBuffer>, key: K, stamp: Stamp)
     requires once { Distinct (stamps_at K.eq lists.old.entries key) }
-    ensures here { stamps_at K.eq lists.new.entries key ≡ without stamp.0 (stamps_at K.eq lists.old.entries key) }
+    ensures here { stamps_at K.eq lists.new.entries key
+        ≡ without stamp.0 (stamps_at K.eq lists.old.entries key) }
     ensures others { (other : K) → K.eq key other ≡ false
         → stamps_at K.eq lists.new.entries other ≡ stamps_at K.eq lists.old.entries other }
 {
@@ -68,10 +69,14 @@ pub fn first_between<K: Eq + Hash + Drop>(
     requires after { IsTrue (is_in after.0 order.now.stamps) }
     requires until { IsTrue (is_in until.0 order.now.stamps) }
     requires rising { IsRising order.now.stamps (stamps_at K.eq lists.now.entries key.now) }
-    ensures first { IfSome result (λ s. IsFirstAfter order.now.stamps (stamps_at K.eq lists.now.entries key.now) after.0 s.0) }
-    ensures before { IfSome result (λ s. place s.0 order.now.stamps < place until.0 order.now.stamps) }
+    ensures first { IfSome result
+        (λ s. IsFirstAfter order.now.stamps
+        (stamps_at K.eq lists.now.entries key.now) after.0 s.0) }
+    ensures before { IfSome result
+        (λ s. place s.0 order.now.stamps < place until.0 order.now.stamps) }
     ensures here { IfSome result (λ s. IsTrue (is_in s.0 order.now.stamps)) }
-    ensures none { IfNone result (NoneBetween order.now.stamps (stamps_at K.eq lists.now.entries key.now) after.0 until.0) }
+    ensures none { IfNone result
+        (NoneBetween order.now.stamps (stamps_at K.eq lists.now.entries key.now) after.0 until.0) }
 {
     let list = lists.get(key)?;
     let next = next_behind(order, list, after)?;

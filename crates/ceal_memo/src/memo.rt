@@ -71,7 +71,9 @@ impl Memo {
         requires here { IsTrue (is_in stamp.0 order.now.stamps) }
         requires follows { Follows order.now.stamps self.old }
         requires absent { HasNone stamp.0 self.old }
-        ensures ok { OnOk result (ReadsChange key (with_stamp order.now.stamps stamp.0 (reads_of self.old key)) self.old self.new) }
+        ensures ok { OnOk result
+            (ReadsChange key
+            (with_stamp order.now.stamps stamp.0 (reads_of self.old key)) self.old self.new) }
         ensures err { OnErr result (self.new ≡ self.old) }
         ensures others { (s : ℕ) → s ≢ stamp.0 → HasNone s self.old → HasNone s self.new }
         ensures follows { Follows order.now.stamps self.new }
@@ -88,7 +90,9 @@ impl Memo {
         requires here { IsTrue (is_in stamp.0 order.now.stamps) }
         requires follows { Follows order.now.stamps self.old }
         requires absent { HasNone stamp.0 self.old }
-        ensures ok { OnOk result (AllocsChange key (with_stamp order.now.stamps stamp.0 (allocs_of self.old key)) self.old self.new) }
+        ensures ok { OnOk result
+            (AllocsChange key
+            (with_stamp order.now.stamps stamp.0 (allocs_of self.old key)) self.old self.new) }
         ensures err { OnErr result (self.new ≡ self.old) }
         ensures others { (s : ℕ) → s ≢ stamp.0 → HasNone s self.old → HasNone s self.new }
         ensures follows { Follows order.now.stamps self.new }
@@ -102,8 +106,10 @@ impl Memo {
 
     /// Takes the entry of a stamp out. A stamp without an entry changes nothing.
     pub fn remove(&mut self, stamp: Stamp)
-        ensures reads { (key : KeyOfRead) → reads_of self.new key ≡ without stamp.0 (reads_of self.old key) }
-        ensures allocs { (key : AllocKey) → allocs_of self.new key ≡ without stamp.0 (allocs_of self.old key) }
+        ensures reads { (key : KeyOfRead)
+            → reads_of self.new key ≡ without stamp.0 (reads_of self.old key) }
+        ensures allocs { (key : AllocKey)
+            → allocs_of self.new key ≡ without stamp.0 (allocs_of self.old key) }
         ensures gone { HasNone stamp.0 self.new }
         ensures absent { HasNone stamp.0 self.old → self.new ≡ self.old }
         ensures others { (s : ℕ) → HasNone s self.old → HasNone s self.new }
@@ -125,10 +131,13 @@ impl Memo {
         requires after { IsTrue (is_in after.0 order.now.stamps) }
         requires until { IsTrue (is_in until.0 order.now.stamps) }
         requires follows { Follows order.now.stamps self.now }
-        ensures first { IfSome result (λ s. IsFirstAfter order.now.stamps (reads_of self.now key.now) after.0 s.0) }
-        ensures before { IfSome result (λ s. place s.0 order.now.stamps < place until.0 order.now.stamps) }
+        ensures first { IfSome result
+            (λ s. IsFirstAfter order.now.stamps (reads_of self.now key.now) after.0 s.0) }
+        ensures before { IfSome result
+            (λ s. place s.0 order.now.stamps < place until.0 order.now.stamps) }
         ensures here { IfSome result (λ s. IsTrue (is_in s.0 order.now.stamps)) }
-        ensures none { IfNone result (NoneBetween order.now.stamps (reads_of self.now key.now) after.0 until.0) }
+        ensures none { IfNone result
+            (NoneBetween order.now.stamps (reads_of self.now key.now) after.0 until.0) }
     {
         first_between(&self.reads, order, key, after, until)
     }
@@ -138,10 +147,13 @@ impl Memo {
         requires after { IsTrue (is_in after.0 order.now.stamps) }
         requires until { IsTrue (is_in until.0 order.now.stamps) }
         requires follows { Follows order.now.stamps self.now }
-        ensures first { IfSome result (λ s. IsFirstAfter order.now.stamps (allocs_of self.now key.now) after.0 s.0) }
-        ensures before { IfSome result (λ s. place s.0 order.now.stamps < place until.0 order.now.stamps) }
+        ensures first { IfSome result
+            (λ s. IsFirstAfter order.now.stamps (allocs_of self.now key.now) after.0 s.0) }
+        ensures before { IfSome result
+            (λ s. place s.0 order.now.stamps < place until.0 order.now.stamps) }
         ensures here { IfSome result (λ s. IsTrue (is_in s.0 order.now.stamps)) }
-        ensures none { IfNone result (NoneBetween order.now.stamps (allocs_of self.now key.now) after.0 until.0) }
+        ensures none { IfNone result
+            (NoneBetween order.now.stamps (allocs_of self.now key.now) after.0 until.0) }
     {
         first_between(&self.allocs, order, key, after, until)
     }
@@ -154,10 +166,15 @@ fn forget(
     home: Home,
     stamp: Stamp,
 )
-    requires reads { (key : KeyOfRead) → is_in stamp.0 (reads_of (entries_in reads.old allocs.old) key) ≡ true → home ≡ Read key }
-    requires allocs { (key : AllocKey) → is_in stamp.0 (allocs_of (entries_in reads.old allocs.old) key) ≡ true → home ≡ Alloc key }
-    requires reads_once { (key : KeyOfRead) → Distinct (reads_of (entries_in reads.old allocs.old) key) }
-    requires allocs_once { (key : AllocKey) → Distinct (allocs_of (entries_in reads.old allocs.old) key) }
+    requires reads { (key : KeyOfRead)
+        → is_in stamp.0 (reads_of (entries_in reads.old allocs.old) key) ≡ true → home ≡ Read key }
+    requires allocs { (key : AllocKey)
+        → is_in stamp.0 (allocs_of (entries_in reads.old allocs.old) key) ≡ true
+        → home ≡ Alloc key }
+    requires reads_once { (key : KeyOfRead)
+        → Distinct (reads_of (entries_in reads.old allocs.old) key) }
+    requires allocs_once { (key : AllocKey)
+        → Distinct (allocs_of (entries_in reads.old allocs.old) key) }
     ensures reads { (key : KeyOfRead) → reads_of (entries_in reads.new allocs.new) key
         ≡ without stamp.0 (reads_of (entries_in reads.old allocs.old) key) }
     ensures allocs { (key : AllocKey) → allocs_of (entries_in reads.new allocs.new) key

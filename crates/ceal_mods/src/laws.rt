@@ -14,8 +14,10 @@ use ceal_order::laws::{rising_members, rising_still};
 /// A law: modifiables follow each other order that has their stamps in the same order; so they do after an insertion
 /// into the order, and after a deletion from it that takes none of their stamps.
 pub fn follows_still()
-    ensures law { (mods : Contents) (old new : List ℕ) → Follows old mods → KeepsStamps mods old new → Follows new mods }
-    ensures inserted { (s : ℕ) (mods : Contents) (old new : List ℕ) → Follows old mods → OneMore s old new → Follows new mods }
+    ensures law { (mods : Contents) (old new : List ℕ) → Follows old mods → KeepsStamps mods old new
+        → Follows new mods }
+    ensures inserted { (s : ℕ) (mods : Contents) (old new : List ℕ) → Follows old mods
+        → OneMore s old new → Follows new mods }
     ensures deleted { (s : ℕ) (mods : Contents) (old new : List ℕ) → Follows old mods → OneMore s new old → IsFree s mods
         → Follows new mods }
 {
@@ -43,7 +45,8 @@ pub fn stamps_after()
 /// Laws: there is a value at each stamp of a write and at no other one, and writes whose stamps rise along one order are
 /// equal where they have the same value at each stamp.
 pub fn writes_go_by_values()
-    ensures there { (s : ℕ) (writes : List Write) → is_some (written_at s writes) ≡ is_in s (stamps_of writes) }
+    ensures there { (s : ℕ) (writes : List Write)
+        → is_some (written_at s writes) ≡ is_in s (stamps_of writes) }
     ensures same { (order : List ℕ) (xs ys : List Write) → IsRising order (stamps_of xs) → IsRising order (stamps_of ys)
         → ((s : ℕ) → written_at s xs ≡ written_at s ys) → xs ≡ ys }
 {

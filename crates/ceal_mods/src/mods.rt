@@ -50,7 +50,8 @@ impl Mods {
 
     /// Sets what a place holds before any write.
     pub fn set_base(&mut self, place: Place, value: Word) -> Result<(), NoMemory>
-        ensures ok { OnOk result (Changes self.old self.new place (with_base value (cell_of self.old place))) }
+        ensures ok { OnOk result
+            (Changes self.old self.new place (with_base value (cell_of self.old place))) }
         ensures err { OnErr result (self.new ≡ self.old) }
         ensures follows { (order : List ℕ) → Follows order self.old → Follows order self.new }
     {
@@ -73,7 +74,9 @@ impl Mods {
         requires here { IsTrue (is_in stamp.0 order.now.stamps) }
         requires follows { Follows order.now.stamps self.old }
         requires absent { is_in stamp.0 (stamps_of (cell_of self.old place).writes) ≡ false }
-        ensures ok { OnOk result (Changes self.old self.new place (with_write order.now.stamps stamp.0 value (cell_of self.old place))) }
+        ensures ok { OnOk result
+            (Changes self.old self.new place
+            (with_write order.now.stamps stamp.0 value (cell_of self.old place))) }
         ensures err { OnErr result (self.new ≡ self.old) }
         ensures follows { Follows order.now.stamps self.new }
     {
@@ -92,7 +95,8 @@ impl Mods {
         requires here { IsTrue (is_in stamp.0 order.now.stamps) }
         requires follows { Follows order.now.stamps self.old }
         requires there { IsTrue (is_in stamp.0 (stamps_of (cell_of self.old place).writes)) }
-        ensures cell { Changes self.old self.new place (without_write stamp.0 (cell_of self.old place)) }
+        ensures cell { Changes self.old self.new place
+            (without_write stamp.0 (cell_of self.old place)) }
         ensures follows { Follows order.now.stamps self.new }
     {
         if let Some(cell) = self.cells.get_mut(&place) {
@@ -105,7 +109,9 @@ impl Mods {
         requires here { IsTrue (is_in stamp.0 order.now.stamps) }
         requires follows { Follows order.now.stamps self.old }
         requires absent { is_in stamp.0 (cell_of self.old place).reads ≡ false }
-        ensures ok { OnOk result (Changes self.old self.new place (with_read order.now.stamps stamp.0 (cell_of self.old place))) }
+        ensures ok { OnOk result
+            (Changes self.old self.new place
+            (with_read order.now.stamps stamp.0 (cell_of self.old place))) }
         ensures err { OnErr result (self.new ≡ self.old) }
         ensures follows { Follows order.now.stamps self.new }
     {
@@ -124,7 +130,8 @@ impl Mods {
         requires here { IsTrue (is_in stamp.0 order.now.stamps) }
         requires follows { Follows order.now.stamps self.old }
         requires there { IsTrue (is_in stamp.0 (cell_of self.old place).reads) }
-        ensures cell { Changes self.old self.new place (without_read stamp.0 (cell_of self.old place)) }
+        ensures cell { Changes self.old self.new place
+            (without_read stamp.0 (cell_of self.old place)) }
         ensures follows { Follows order.now.stamps self.new }
     {
         if let Some(cell) = self.cells.get_mut(&place) {
@@ -169,9 +176,11 @@ impl Mods {
     pub fn affected(&self, order: &Order, place: Place, after: Stamp) -> Option<Stamp>
         requires here { IsTrue (is_in after.0 order.now.stamps) }
         requires follows { Follows order.now.stamps self.now }
-        ensures some { IfSome result (λ read. IsAffected order.now.stamps (cell_of self.now place) after.0 read.0) }
+        ensures some { IfSome result
+            (λ read. IsAffected order.now.stamps (cell_of self.now place) after.0 read.0) }
         ensures here { IfSome result (λ read. IsTrue (is_in read.0 order.now.stamps)) }
-        ensures none { IfNone result ((read : ℕ) → ¬ Sees order.now.stamps (cell_of self.now place) after.0 read) }
+        ensures none { IfNone result
+            ((read : ℕ) → ¬ Sees order.now.stamps (cell_of self.now place) after.0 read) }
     {
         match self.cells.get(&place) {
             None => None,

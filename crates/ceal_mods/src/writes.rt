@@ -72,7 +72,8 @@ impl Writes {
     pub fn first_after(&self, order: &Order, stamp: Stamp) -> Option<Stamp>
         requires here { IsTrue (is_in stamp.0 order.now.stamps) }
         requires rising { IsRising order.now.stamps (stamps_of self.now) }
-        ensures some { IfSome result (λ next. IsFirstAfter order.now.stamps (stamps_of self.now) stamp.0 next.0) }
+        ensures some { IfSome result
+            (λ next. IsFirstAfter order.now.stamps (stamps_of self.now) stamp.0 next.0) }
         ensures here { IfSome result (λ next. IsTrue (is_in next.0 order.now.stamps)) }
         ensures none { IfNone result (NoneAfter order.now.stamps (stamps_of self.now) stamp.0) }
     {

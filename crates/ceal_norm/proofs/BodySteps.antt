@@ -3,7 +3,7 @@ use Rattle.std.proofs.Common.{◌≡◌, ℕ, zero, suc, ◌+◌, ◌<◌, ◌�
 use Rattle.std.proofs.Math.Seq.{get_or-append_seam, set-append_seam}
 use Rattle.std.proofs.lemmas.List.{reverse-append, length-set}
 use Rattle.ceal_base.specs.declared.typed.TypedExpr.{TypedExpr}
-use Rattle.ceal_base.specs.declared.typed.TypedStmt.{TypedStmt, Declare, Assign, SetField, Write, Call, If', While', Return}
+use Rattle.ceal_base.specs.declared.typed.TypedStmt.{TypedStmt, Declare, Assign, SetField, Write, Call, If', While', Return, Break, Continue}
 use Rattle.ceal_base.specs.declared.typed.TypedValue.{TypedValue}
 use Rattle.ceal_base.specs.declared.typed.TypedValue.TheVariants.{Plain, Read, Alloc, ModrefInt, Modref}
 use Rattle.ceal_code.specs.declared.command.Cmd.{Cmd}
@@ -53,6 +53,8 @@ module _ (s : Source) where
   stmt-first F next i (If' at test _ first _ second) = refl
   stmt-first F next i (While' at test _ body) = refl
   stmt-first F next i (Return at) = refl
+  stmt-first F next i (Break at) = refl
+  stmt-first F next i (Continue at) = refl
 
   one-command : (body : List Cmd) (c : Cmd) (next : ℕ) (on : Bool) (ps : List Pending)
       → finished s (body ++ c ∷ []) (following on next ++ ps)

@@ -28,7 +28,7 @@ use Rattle.ceal_norm.specs.Expressions.{variable, expr_code}
 use Rattle.ceal_norm.specs.Laws.{source_of}
 use Rattle.ceal_norm.specs.Units.{Source, own_args, args_of, without, closure_args, arg_at, call_args, entry_set, owner, unit_code, function_code, kinds_code, code_of}
 use Rattle.ceal_norm.proofs.Counts.{contains-none, contains-cases}
-use Rattle.ceal_norm.proofs.ExprFacts.{Seen, Has, kind-refl, suits-fits, form-seen, form-without, form-type, args-fit, exprs-seen}
+use Rattle.ceal_norm.proofs.ExprFacts.{type_for, Seen, Has, kind-refl, suits-fits, form-seen, form-without, form-type, args-fit, exprs-seen}
 use Rattle.ceal_norm.proofs.Facts.{get-map, there, in-first, in-later, in-left, in-right, Knows}
 use Rattle.ceal_norm.proofs.Lives.{Match, stands-there, live-seen}
 use Rattle.ceal_norm.proofs.Spots.{Function, StandsIn, function-of, context, init-function}
@@ -185,9 +185,9 @@ module _ (p : Typed) (typed : WellTyped p) (kept : KeepsUsage p) (sets : List (L
         has-of v l h = let t = there fn.f.kinds v l in rw (h, t.is) refl
 
         -- the type of an expression whose variables are known
-        pub expr-is : (e : TypedExpr) → Typed_here e → ((v : ℕ) → is_in v (mentions e) ≡ true → Knows known v) → type_of p.structs (kinds_of code k) known (expr_code e) ≡ Some e.kind
+        pub expr-is : (e : TypedExpr) → Typed_here e → ((v : ℕ) → is_in v (mentions e) ≡ true → Knows known v) → type_of p.structs (kinds_of code k) known (expr_code e) ≡ Some (type_for e.kind)
         expr-is e t h =
-            subst (λ ks. type_of p.structs ks known (expr_code e) ≡ Some e.kind) (sym (kinds-are k fn))
+            subst (λ ks. type_of p.structs ks known (expr_code e) ≡ Some (type_for e.kind)) (sym (kinds-are k fn))
             (form-type (context p fn.f) seen fn.f.kinds known e.kind e.form t (form-without (context p fn.f) seen fn.none e.kind e.form t)
             (λ v i. has-of v (form-seen (context p fn.f) seen e.kind e.form t v i).1 (h v i)))
 
@@ -202,7 +202,7 @@ module _ (p : Typed) (typed : WellTyped p) (kept : KeepsUsage p) (sets : List (L
             ap (λ ks. fits_maybe (slice_get ks n) (type_of p.structs (kinds_of code k) known (expr_code e))) (kinds-are k fn)
             ∙ ap (λ o. fits_maybe o (type_of p.structs (kinds_of code k) known (expr_code e))) slot ∙ expr-fits asked e t h
 
-        held-place : (o : Option Kind) (asked : Kind) → kind_held o ≡ Some asked → place_fits (Some asked) (Some o) ≡ true
+        held-place : (o : Option Kind) (asked : Kind) → kind_held o ≡ Some asked → place_fits (Some asked) (Some (type_for o)) ≡ true
         held-place (Some ModInt) asked e = let same : Int ≡ asked = cc in rw (← same) refl
         held-place (Some (ModPtr s)) asked e = let same : Ptr s ≡ asked = cc in rw (← same) (nat-refl s)
         held-place (Some Int) asked e = cc
@@ -215,7 +215,7 @@ module _ (p : Typed) (typed : WellTyped p) (kept : KeepsUsage p) (sets : List (L
             ap (λ ks. place_fits (slice_get ks n) (type_of p.structs (kinds_of code k) known (expr_code e))) (kinds-are k fn)
             ∙ ap₂ place_fits slot (expr-is e t h) ∙ held-place e.kind asked held
 
-        held-write : (o : Option Kind) (asked : Kind) (given : Option Kind) → kind_held o ≡ Some asked → Suits asked given → write_fits (Some o) (Some given) ≡ true
+        held-write : (o : Option Kind) (asked : Kind) (given : Option Kind) → kind_held o ≡ Some asked → Suits asked given → write_fits (Some (type_for o)) (Some (type_for given)) ≡ true
         held-write (Some ModInt) asked given e t = let same : asked ≡ Int = cc in suits-fits Int given (subst (λ a. Suits a given) same t)
         held-write (Some (ModPtr s)) asked given e t = let same : asked ≡ Ptr s = cc in suits-fits (Ptr s) given (subst (λ a. Suits a given) same t)
         held-write (Some Int) asked given e t = cc

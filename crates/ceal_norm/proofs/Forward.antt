@@ -1,17 +1,18 @@
--- A jump that leads to no entry leads forwards. A jump leads backwards to the test of a `while` alone, from its body;
--- and a path leads to the test from outside of the body too.
+-- A jump that leads to no entry leads forwards. A jump leads backwards to the test of a `while` alone, from its body, by
+-- its end or a `continue`; and a path leads to the test from outside of the body too.
 use Rattle.std.proofs.Common.{◌≡◌, ◌⊎◌, inl, inr, ℕ, zero, suc, ◌+◌, ◌<◌, ◌≤◌, Bool, true, false, ◌&&◌, ◌||◌, if◌then◌else◌, Option, Some, None, List, [], ◌∷◌, ◌++◌, length, slice_get, replicate, Contains, refl, sym, subst, ◌∙◌, arith}
 use Rattle.std.proofs.lemmas.List.Elements.{Contains-push, Contains-append_left, Contains-append_right}
 use Rattle.ceal_base.specs.declared.typed.Typed.{Typed}
 use Rattle.ceal_base.specs.declared.typed.TypedExpr.{TypedExpr}
-use Rattle.ceal_base.specs.declared.typed.TypedStmt.{TypedStmt, Declare, Assign, SetField, Write, Call, If', While', Return, Row_of-TypedStmt, end_of-TypedStmt, more_of-TypedStmt}
+use Rattle.ceal_base.specs.declared.typed.TypedStmt.{TypedStmt, Declare, Assign, SetField, Write, Call, If', While', Return, Break, Continue, Row_of-TypedStmt, end_of-TypedStmt, more_of-TypedStmt}
 use Rattle.ceal_base.specs.declared.typed.TypedStmt.TheBlock.{hidden-the_row-TypedStmt-0}
-use Rattle.ceal_flow.specs.Blocks.{size, row_size, sizes, goes_on, row_goes_on, all_go_on, target, row_entry, entry, blocks_of, row_blocks, all_blocks}
+use Rattle.ceal_flow.specs.Blocks.{size, row_size, sizes, goes_on, row_goes_on, all_go_on, no_loop, in_loop, target, row_entry, entry, blocks_of, row_blocks, all_blocks}
 use Rattle.ceal_flow.specs.Laws.{firsts}
 use Rattle.ceal_flow.specs.Lowering.{end_of, first_of, core_blocks, graph_of}
 use Rattle.ceal_flow.specs.Paths.{jumps, jumps_at}
 use Rattle.ceal_flow.specs.Program.{Graph}
 use Rattle.ceal_flow.specs.declared.block.GraphBlock.{GraphBlock}
+use Rattle.ceal_flow.specs.declared.exits.Exits.{Exits}
 use Rattle.ceal_flow.specs.declared.block.GraphBlock.TheVariants.{Done, Test, Act, Unreached}
 use Rattle.ceal_flow.proofs.BlockSteps.{row-go_on, row-entry, row-blocks, row-sizes, blocks-length, row-length}
 use Rattle.ceal_flow.proofs.Placing.{Placed, placed-head, placed-left, placed-right, placed-tail}
@@ -40,6 +41,12 @@ module _ (g : Graph) where
   -- jumps from a part to what stands behind it
   abbrev After : ℕ → ℕ → ℕ → Type 0
   After from to c = (b : ℕ) → from ≤ b → b < to → Jumps b c → Good b c
+
+  -- and jumps out of it by `return`, `break` and `continue`
+  record Out (from to : ℕ) (exits : Exits) : Type 0 where
+    done : to ≤ exits.done
+    behind : After from to exits.behind
+    test : After from to exits.test
 
   -- as blocks of statements from block `n` on, `k` of them, which are entered at `start`
   record Laws (start : ℕ) (xs : List GraphBlock) (n k after : ℕ) (on : Bool) : Type 0 where
@@ -128,17 +135,20 @@ module _ (g : Graph) where
   cons-laws start mid xs ys n k m after false b long one two = last-laws start mid xs n k m after one
 
   -- a jump from before a row
-  row-good : {m : _} (r : Row_of-TypedStmt m) (n after done b : ℕ) → b < n → n ≤ done → (row_entry r n after done ≡ after → Good b after)
-      → Good b (row_entry r n after done)
-  row-good end_of-TypedStmt n after done b l h k = k refl
-  row-good (more_of-TypedStmt (Return at) rest) n after done b l h k = inl (omega (arith, l, h))
-  row-good (more_of-TypedStmt (Declare at v kind value) rest) n after done b l h k = inl l
-  row-good (more_of-TypedStmt (Assign at v value) rest) n after done b l h k = inl l
-  row-good (more_of-TypedStmt (SetField at left s field e) rest) n after done b l h k = inl l
-  row-good (more_of-TypedStmt (Write at place e) rest) n after done b l h k = inl l
-  row-good (more_of-TypedStmt (Call at f args) rest) n after done b l h k = inl l
-  row-good (more_of-TypedStmt (If' at test _ first _ second) rest) n after done b l h k = inl l
-  row-good (more_of-TypedStmt (While' at test _ body) rest) n after done b l h k = inl l
+  row-good : {m : _} (r : Row_of-TypedStmt m) (n after : ℕ) (exits : Exits) (b : ℕ) → b < n → n ≤ exits.done → (row_entry r n after exits ≡ after → Good b after)
+      → (row_entry r n after exits ≡ exits.behind → Good b exits.behind) → (row_entry r n after exits ≡ exits.test → Good b exits.test)
+      → Good b (row_entry r n after exits)
+  row-good end_of-TypedStmt n after exits b l h k out back = k refl
+  row-good (more_of-TypedStmt (Return at) rest) n after exits b l h k out back = inl (omega (arith, l, h))
+  row-good (more_of-TypedStmt (Break at) rest) n after exits b l h k out back = out refl
+  row-good (more_of-TypedStmt (Continue at) rest) n after exits b l h k out back = back refl
+  row-good (more_of-TypedStmt (Declare at v kind value) rest) n after exits b l h k out back = inl l
+  row-good (more_of-TypedStmt (Assign at v value) rest) n after exits b l h k out back = inl l
+  row-good (more_of-TypedStmt (SetField at left s field e) rest) n after exits b l h k out back = inl l
+  row-good (more_of-TypedStmt (Write at place e) rest) n after exits b l h k out back = inl l
+  row-good (more_of-TypedStmt (Call at f args) rest) n after exits b l h k out back = inl l
+  row-good (more_of-TypedStmt (If' at test _ first _ second) rest) n after exits b l h k out back = inl l
+  row-good (more_of-TypedStmt (While' at test _ body) rest) n after exits b l h k out back = inl l
 
   -- a test, and its two parts
   module _ (test : TypedExpr) (a b : ℕ) (xs ys : List GraphBlock) (n k m after : ℕ) (first_on second_on : Bool) (long : length xs ≡ k)
@@ -215,6 +225,15 @@ module _ (g : Graph) where
   after-within : (from to from' to' c : ℕ) → from ≤ from' → to' ≤ to → After from to c → After from' to' c
   after-within from to from' to' c l h k b p q j = k b (omega (arith, l, p)) (omega (arith, q, h)) j
 
+  out-within : (from to from' to' : ℕ) (exits : Exits) → from ≤ from' → to' ≤ to → Out from to exits → Out from' to' exits
+  out-within from to from' to' exits l h o =
+      let d : to ≤ exits.done = o.done in
+      record {
+        done = omega (arith, d, h);
+        behind = after-within from to from' to' exits.behind l h o.behind;
+        test = after-within from to from' to' exits.test l h o.test;
+      }
+
   behind-placed : (xs ys : List GraphBlock) (n k m : ℕ) (a : Bool) → length xs ≡ k → a ≡ true
       → Placed g.blocks n (xs ++ (if a then ys else replicate m Unreached)) → Placed g.blocks (n + k) ys
   behind-placed xs ys n k m true long e h = placed-right g.blocks n xs ys k (sym long) h
@@ -229,89 +248,111 @@ module _ (g : Graph) where
   mutual
     unfolding blocks_of size goes_on
 
-    stmt-laws : (s : TypedStmt) (n after done : ℕ) → Placed g.blocks n (blocks_of s n after done) → n + size s ≤ done
-        → After n (n + size s) after → Entered n (n + size s) (target s n done)
-        → Laws (target s n done) (blocks_of s n after done) n (size s) after (goes_on s)
-    stmt-laws (Declare at v kind value) n after done h l behind into = act-laws (Declare at v kind value) n after (placed-head g.blocks n _ [] h) behind
-    stmt-laws (Assign at v value) n after done h l behind into = act-laws (Assign at v value) n after (placed-head g.blocks n _ [] h) behind
-    stmt-laws (SetField at left k field e) n after done h l behind into = act-laws (SetField at left k field e) n after (placed-head g.blocks n _ [] h) behind
-    stmt-laws (Write at place e) n after done h l behind into = act-laws (Write at place e) n after (placed-head g.blocks n _ [] h) behind
-    stmt-laws (Call at f args) n after done h l behind into = act-laws (Call at f args) n after (placed-head g.blocks n _ [] h) behind
-    stmt-laws (If' at test _ first _ second) n after done h l behind into =
+    stmt-laws : (s : TypedStmt) (n after : ℕ) (exits : Exits) → Placed g.blocks n (blocks_of s n after exits) → Out n (n + size s) exits
+        → After n (n + size s) after → Entered n (n + size s) (target s n exits)
+        → Laws (target s n exits) (blocks_of s n after exits) n (size s) after (goes_on s)
+    stmt-laws (Declare at v kind value) n after exits h l behind into = act-laws (Declare at v kind value) n after (placed-head g.blocks n _ [] h) behind
+    stmt-laws (Assign at v value) n after exits h l behind into = act-laws (Assign at v value) n after (placed-head g.blocks n _ [] h) behind
+    stmt-laws (SetField at left k field e) n after exits h l behind into = act-laws (SetField at left k field e) n after (placed-head g.blocks n _ [] h) behind
+    stmt-laws (Write at place e) n after exits h l behind into = act-laws (Write at place e) n after (placed-head g.blocks n _ [] h) behind
+    stmt-laws (Call at f args) n after exits h l behind into = act-laws (Call at f args) n after (placed-head g.blocks n _ [] h) behind
+    stmt-laws (If' at test _ first _ second) n after exits h l behind into =
         let k = row_size first in
         let m = row_size second in
-        let a = row_entry first (n + 1) after done in
-        let b = row_entry second (n + 1 + k) after done in
-        let xs = row_blocks first (n + 1) after done in
-        let ys = row_blocks second (n + 1 + k) after done in
-        let long = row-length first (n + 1) after done in
+        let a = row_entry first (n + 1) after exits in
+        let b = row_entry second (n + 1 + k) after exits in
+        let xs = row_blocks first (n + 1) after exits in
+        let ys = row_blocks second (n + 1 + k) after exits in
+        let long = row-length first (n + 1) after exits in
         let look = placed-head g.blocks n (Test test a b) (xs ++ ys) h in
         let parts = placed-tail g.blocks n (Test test a b) (xs ++ ys) h in
         let to_a = jumps-by n a (Test test a b) look (Contains-append_left (a ∷ []) (b ∷ []) a (Contains-push [] a)) in
         let to_b = jumps-by n b (Test test a b) look (Contains-append_right (a ∷ []) (b ∷ []) b (Contains-push [] b)) in
-        let one = row-laws first (n + 1) after done (placed-left g.blocks (n + 1) xs ys parts) (omega (arith, l))
+        let d : n + (1 + k + m) ≤ exits.done = l.done in
+        let one = row-laws first (n + 1) after exits (placed-left g.blocks (n + 1) xs ys parts)
+        (out-within n (n + (1 + k + m)) (n + 1) (n + 1 + k) exits (omega arith) (omega arith) l)
         (after-within n (n + (1 + k + m)) (n + 1) (n + 1 + k) after (omega arith) (omega arith) behind)
         (inr (n, inl (omega arith), to_a)) in
-        let two = row-laws second (n + 1 + k) after done (placed-right g.blocks (n + 1) xs ys k (sym long) parts) (omega (arith, l))
+        let two = row-laws second (n + 1 + k) after exits (placed-right g.blocks (n + 1) xs ys k (sym long) parts)
+        (out-within n (n + (1 + k + m)) (n + 1 + k) (n + 1 + k + m) exits (omega arith) (omega arith) l)
         (after-within n (n + (1 + k + m)) (n + 1 + k) (n + 1 + k + m) after (omega arith) (omega arith) behind)
         (inr (n, inl (omega arith), to_b)) in
-        let good_a = row-good first (n + 1) after done n (omega arith) (omega (arith, l))
-        (λ e. behind n (omega arith) (omega arith) (subst (λ x. Jumps n x) e to_a)) in
-        let good_b = row-good second (n + 1 + k) after done n (omega arith) (omega (arith, l))
-        (λ e. behind n (omega arith) (omega arith) (subst (λ x. Jumps n x) e to_b)) in
+        let good_a = row-good first (n + 1) after exits n (omega arith) (omega (arith, d))
+        (λ e. behind n (omega arith) (omega arith) (subst (λ x. Jumps n x) e to_a))
+        (λ e. l.behind n (omega arith) (omega arith) (subst (λ x. Jumps n x) e to_a))
+        (λ e. l.test n (omega arith) (omega arith) (subst (λ x. Jumps n x) e to_a)) in
+        let good_b = row-good second (n + 1 + k) after exits n (omega arith) (omega (arith, d))
+        (λ e. behind n (omega arith) (omega arith) (subst (λ x. Jumps n x) e to_b))
+        (λ e. l.behind n (omega arith) (omega arith) (subst (λ x. Jumps n x) e to_b))
+        (λ e. l.test n (omega arith) (omega arith) (subst (λ x. Jumps n x) e to_b)) in
         if-laws test a b xs ys n k m after (row_goes_on first) (row_goes_on second) long look good_a good_b one two
-    stmt-laws (While' at test _ body) n after done h l behind into =
+    stmt-laws (While' at test _ body) n after exits h l behind into =
+        let inside : Exits = in_loop exits n after in
         let k = row_size body in
-        let a = row_entry body (n + 1) n done in
-        let xs = row_blocks body (n + 1) n done in
+        let a = row_entry body (n + 1) n inside in
+        let xs = row_blocks body (n + 1) n inside in
         let look = placed-head g.blocks n (Test test a after) xs h in
         let part = placed-tail g.blocks n (Test test a after) xs h in
         let to_a = jumps-by n a (Test test a after) look (Contains-append_left (a ∷ []) (after ∷ []) a (Contains-push [] a)) in
         let back : After n (n + (1 + k)) n = λ b p q j. back-good n (n + (1 + k)) n b p q j into in
-        let one = row-laws body (n + 1) n done part (omega (arith, l))
+        let d : n + (1 + k) ≤ exits.done = l.done in
+        let one = row-laws body (n + 1) n inside part
+        (record {
+          done = omega (arith, d);
+          behind = after-within n (n + (1 + k)) (n + 1) (n + 1 + k) after (omega arith) (omega arith) behind;
+          test = after-within n (n + (1 + k)) (n + 1) (n + 1 + k) n (omega arith) (omega arith) back;
+        })
         (after-within n (n + (1 + k)) (n + 1) (n + 1 + k) n (omega arith) (omega arith) back)
         (inr (n, inl (omega arith), to_a)) in
-        let good_a = row-good body (n + 1) n done n (omega arith) (omega (arith, l))
+        let good_a = row-good body (n + 1) n inside n (omega arith) (omega (arith, d))
+        (λ e. back n (omega arith) (omega arith) (subst (λ x. Jumps n x) e to_a))
+        (λ e. behind n (omega arith) (omega arith) (subst (λ x. Jumps n x) e to_a))
         (λ e. back n (omega arith) (omega arith) (subst (λ x. Jumps n x) e to_a)) in
         while-laws test a xs n k after (row_goes_on body) look good_a behind one
-    stmt-laws (Return at) n after done h l behind into = return-laws done n after
+    stmt-laws (Return at) n after exits h l behind into = return-laws exits.done n after
+    stmt-laws (Break at) n after exits h l behind into = return-laws exits.behind n after
+    stmt-laws (Continue at) n after exits h l behind into = return-laws exits.test n after
 
-    row-laws : {m : _} (r : Row_of-TypedStmt m) (n after done : ℕ) → Placed g.blocks n (row_blocks r n after done) → n + row_size r ≤ done
-        → After n (n + row_size r) after → Entered n (n + row_size r) (row_entry r n after done)
-        → Laws (row_entry r n after done) (row_blocks r n after done) n (row_size r) after (row_goes_on r)
-    row-laws end_of-TypedStmt n after done h l behind into = end-laws n after
-    row-laws (more_of-TypedStmt s rest) n after done h l behind into =
+    row-laws : {m : _} (r : Row_of-TypedStmt m) (n after : ℕ) (exits : Exits) → Placed g.blocks n (row_blocks r n after exits) → Out n (n + row_size r) exits
+        → After n (n + row_size r) after → Entered n (n + row_size r) (row_entry r n after exits)
+        → Laws (row_entry r n after exits) (row_blocks r n after exits) n (row_size r) after (row_goes_on r)
+    row-laws end_of-TypedStmt n after exits h l behind into = end-laws n after
+    row-laws (more_of-TypedStmt s rest) n after exits h l behind into =
         let k = size s in
         let m = row_size rest in
-        let mid = row_entry rest (n + k) after done in
-        let xs = blocks_of s n mid done in
-        let ys = row_blocks rest (n + k) after done in
-        let long = blocks-length s n mid done in
+        let mid = row_entry rest (n + k) after exits in
+        let xs = blocks_of s n mid exits in
+        let ys = row_blocks rest (n + k) after exits in
+        let long = blocks-length s n mid exits in
         let here = placed-left g.blocks n xs (if goes_on s then ys else replicate m Unreached) h in
-        let to_mid : After n (n + k) mid = λ b p q j. row-good rest (n + k) after done b q (omega (arith, l))
-        (λ e. behind b p (omega (arith, q)) (subst (λ x. Jumps b x) e j)) in
-        let one = stmt-laws s n mid done here (omega (arith, l)) to_mid
-        (entered-within n (n + (k + m)) n (n + k) (target s n done) (omega arith) (omega arith) into) in
-        cons-laws (target s n done) mid xs ys n k m after (goes_on s) (row_goes_on rest) long one
-        (λ e. row-laws rest (n + k) after done (behind-placed xs ys n k m (goes_on s) long e h) (omega (arith, l))
+        let d : n + (k + m) ≤ exits.done = l.done in
+        let to_mid : After n (n + k) mid = λ b p q j. row-good rest (n + k) after exits b q (omega (arith, d))
+        (λ e. behind b p (omega (arith, q)) (subst (λ x. Jumps b x) e j))
+        (λ e. l.behind b p (omega (arith, q)) (subst (λ x. Jumps b x) e j))
+        (λ e. l.test b p (omega (arith, q)) (subst (λ x. Jumps b x) e j)) in
+        let one = stmt-laws s n mid exits here (out-within n (n + (k + m)) n (n + k) exits (omega arith) (omega arith) l) to_mid
+        (entered-within n (n + (k + m)) n (n + k) (target s n exits) (omega arith) (omega arith) into) in
+        cons-laws (target s n exits) mid xs ys n k m after (goes_on s) (row_goes_on rest) long one
+        (λ e. row-laws rest (n + k) after exits (behind-placed xs ys n k m (goes_on s) long e h)
+        (out-within n (n + (k + m)) (n + k) (n + k + m) exits (omega arith) (omega arith) l)
         (after-within n (n + (k + m)) (n + k) (n + k + m) after (omega arith) (omega arith) behind)
-        (mid-entered (target s n done) mid n k m (one.left e) into))
+        (mid-entered (target s n exits) mid n k m (one.left e) into))
 
-  all-laws : (ss : List TypedStmt) (n after done : ℕ) → Placed g.blocks n (all_blocks ss n after done) → n + sizes ss ≤ done
-      → After n (n + sizes ss) after → Entered n (n + sizes ss) (entry ss n after done)
-      → Laws (entry ss n after done) (all_blocks ss n after done) n (sizes ss) after (all_go_on ss)
-  all-laws ss n after done h l behind into =
+  all-laws : (ss : List TypedStmt) (n after : ℕ) (exits : Exits) → Placed g.blocks n (all_blocks ss n after exits) → Out n (n + sizes ss) exits
+      → After n (n + sizes ss) after → Entered n (n + sizes ss) (entry ss n after exits)
+      → Laws (entry ss n after exits) (all_blocks ss n after exits) n (sizes ss) after (all_go_on ss)
+  all-laws ss n after exits h l behind into =
       let r = hidden-the_row-TypedStmt-0 ss in
       rw (← row-entry, ← row-blocks, ← row-go_on, ← row-sizes)
-      (row-laws r n after done (rw row-blocks h) (rw row-sizes l) (rw row-sizes behind) (rw (row-sizes, row-entry) into))
+      (row-laws r n after exits (rw row-blocks h) (rw row-sizes l) (rw row-sizes behind) (rw (row-sizes, row-entry) into))
 
   -- a core function
   module _ (body : List TypedStmt) (n : ℕ) (placed : Placed g.blocks n (core_blocks body n)) (begins : Contains (firsts g.functions) (first_of body n)) where
-    stmts-laws : Laws (first_of body n) (all_blocks body n (end_of body n) (end_of body n)) n (sizes body) (end_of body n) (all_go_on body)
+    stmts-laws : Laws (first_of body n) (all_blocks body n (end_of body n) (no_loop (end_of body n))) n (sizes body) (end_of body n) (all_go_on body)
     stmts-laws =
         let done = end_of body n in
-        let here = placed-left g.blocks n (all_blocks body n done done) (Done ∷ []) placed in
-        all-laws body n done done here (omega arith) (λ b p q j. inl q) (inl begins)
+        let here = placed-left g.blocks n (all_blocks body n done (no_loop done)) (Done ∷ []) placed in
+        all-laws body n done (no_loop done) here (record { done = omega arith; behind = λ b p q j. inl q; test = λ b p q j. inl q }) (λ b p q j. inl q) (inl begins)
 
     none-after : (j : ℕ) (block : GraphBlock) (c : ℕ) → slice_get (Done ∷ []) j ≡ Some block → Contains (jumps block) c → ⊥
     none-after zero block c e h =
@@ -319,7 +360,7 @@ module _ (g : Graph) where
     none-after (suc j) block c e h = cc
 
     core-good : (i : ℕ) (block : GraphBlock) (c : ℕ) → slice_get (core_blocks body n) i ≡ Some block → Contains (jumps block) c → Good (n + i) c
-    core-good i block c e h = elim (parted (λ o. o ≡ Some block) (all_blocks body n (end_of body n) (end_of body n)) (Done ∷ []) i e) [
+    core-good i block c e h = elim (parted (λ o. o ≡ Some block) (all_blocks body n (end_of body n) (no_loop (end_of body n))) (Done ∷ []) i e) [
       | inl l ↦ stmts-laws.good i block c l.1 h
       | inr l ↦ absurd (none-after l.0 block c l.2 h)
     ]

@@ -1,10 +1,10 @@
 -- The structs and functions of the code are right.
-use Rattle.std.proofs.Common.{◌≡◌, ℕ, zero, suc, ◌+◌, ◌<◌, ◌≤◌, true, Some, IfSome, List, [], ◌∷◌, length, map, take, replicate, slice_get, unwrap_or, All, refl, sym, ap, ◌∙◌, subst, arith}
+use Rattle.std.proofs.Common.{◌≡◌, ℕ, zero, suc, ◌+◌, ◌<◌, ◌≤◌, ◌==◌, true, Some, IfSome, List, [], ◌∷◌, length, map, take, replicate, slice_get, unwrap_or, All, refl, sym, ap, ◌∙◌, subst, arith}
 use Rattle.std.proofs.lemmas.Bool.{lt-ltb, le-leb}
 use Rattle.std.proofs.lemmas.List.{length-take-le}
 use Rattle.std.proofs.lemmas.List.Elements.{All-head, All-tail, All-take}
 use Rattle.ceal_base.specs.Usage.{FunctionUsage, KeepsUsage}
-use Rattle.ceal_base.specs.WellTyped.{KindKnown, FieldKnown, FunctionTyped, StructTyped, WellTyped, context_of, numbers_below}
+use Rattle.ceal_base.specs.WellTyped.{KindKnown, FieldKnown, IsCell, RowWhole, RowsWhole, FunctionTyped, StructTyped, WellTyped, context_of, numbers_below}
 use Rattle.ceal_base.specs.declared.kind.FieldKind.{FieldKind}
 use Rattle.ceal_base.specs.declared.kind.FieldKind.TheVariants.{Plain as PlainField, CellInt, CellPtr}
 use Rattle.ceal_base.specs.declared.kind.Kind.{Kind}
@@ -15,7 +15,8 @@ use Rattle.ceal_base.specs.declared.typed.Typed.{Typed}
 use Rattle.ceal_base.specs.declared.typed.TypedFunction.{TypedFunction}
 use Rattle.ceal_code.proofs.Same.{both-true, nat-refl}
 use Rattle.ceal_code.specs.Program.{Code}
-use Rattle.ceal_code.specs.Valid.{kind_ok, kinds_ok, field_ok, fields_ok, structs_ok, is_prefix, entry_ok, function_ok, functions_ok, units_ok, valid, stmts_ok}
+use Rattle.ceal_code.specs.Value.{is_cell}
+use Rattle.ceal_code.specs.Valid.{kind_ok, kinds_ok, field_ok, fields_ok, same_field, row_goes_on, row_whole, rows_ok, structs_ok, is_prefix, entry_ok, function_ok, functions_ok, units_ok, valid, stmts_ok}
 use Rattle.ceal_flow.specs.Live.{AreLiveSets}
 use Rattle.ceal_flow.specs.Lowering.{core_at, graph_of}
 use Rattle.ceal_flow.specs.Sets.{is_in, set_at}
@@ -33,6 +34,38 @@ use Rattle.ceal_norm.proofs.Numbers.{functions-there}
 use Rattle.ceal_norm.proofs.Spots.{Function, function-of, Sort, core, initialiser, sort-of, init-function, init-usage, entry-spot}
 use Rattle.ceal_norm.proofs.UnitFacts.{units-all}
 use Rattle.ceal_norm.proofs.UnitTrees.{unit-right}
+
+-- rows are whole
+field-same : (k : FieldKind) → same_field k k ≡ true
+field-same (PlainField kind) = kind-refl kind
+field-same CellInt = refl
+field-same (CellPtr s) = nat-refl s
+
+cell-right : (k : FieldKind) → IsCell k → is_cell (Some k) ≡ true
+cell-right (PlainField kind) h = absurd h
+cell-right CellInt h = refl
+cell-right (CellPtr s) h = refl
+
+abbrev InRow : FieldKind → FieldInfo → Type 0
+InRow kind f = (f.kind ≡ kind) × (f.row ≡ 0)
+
+row-on : (n : ℕ) (kind : FieldKind) (rest : List FieldInfo) → n ≤ length rest → All (InRow kind) (take n rest) → row_goes_on n kind rest ≡ true
+unfolding row_goes_on
+row-on zero kind rest l h = refl
+row-on (suc n) kind [] l h = absurd (omega (arith, l))
+row-on (suc n) kind (f ∷ rest) l h =
+    let here = All-head (InRow kind) f (take n rest) h in
+    both-true _ _ (both-true _ _ (ap (same_field kind) here.0 ∙ field-same kind) (ap (λ n. n == 0) here.1))
+    (row-on n kind rest (omega (arith, l)) (All-tail (InRow kind) f (take n rest) h))
+
+row-right : (n : ℕ) (kind : FieldKind) (rest : List FieldInfo) → RowWhole n kind rest → row_whole n kind rest ≡ true
+row-right zero kind rest h = refl
+row-right (suc n) kind rest h = both-true _ _ (cell-right kind h.0) (row-on n kind rest h.1 h.2)
+
+rows-right : (fs : List FieldInfo) → RowsWhole fs → rows_ok fs ≡ true
+unfolding RowsWhole rows_ok
+rows-right [] h = refl
+rows-right (f ∷ rest) h = both-true _ _ (row-right f.row f.kind rest h.0) (rows-right rest h.1)
 
 module _ (structs : List StructInfo) where
   kind-right : (k : Kind) → KindKnown structs k → kind_ok structs k ≡ true
@@ -66,7 +99,7 @@ module _ (structs : List StructInfo) where
   structs-right [] h = refl
   structs-right (s ∷ rest) h =
       let t = All-head (StructTyped structs) s rest h in
-      both-true _ _ (both-true _ _ (le-leb (length s.fields) 255 t.few) (fields-right s.fields t.fields)) (structs-right rest (All-tail (StructTyped structs) s rest h))
+      both-true _ _ (both-true _ _ (le-leb (length s.fields) 255 t.few) (both-true _ _ (fields-right s.fields t.fields) (rows-right s.fields t.rows))) (structs-right rest (All-tail (StructTyped structs) s rest h))
 
 prefix-right : (n : ℕ) (ks : List Kind) → is_prefix (take n ks) ks ≡ true
 unfolding is_prefix

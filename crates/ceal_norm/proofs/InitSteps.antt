@@ -6,7 +6,7 @@ use Rattle.ceal_base.specs.declared.kind.Kind.{Kind}
 use Rattle.ceal_base.specs.declared.typed.TypedExpr.{TypedExpr}
 use Rattle.ceal_base.specs.declared.typed.TypedStmt.{TypedStmt}
 use Rattle.ceal_base.specs.declared.typed.TypedStmt.TheBlock.{hidden-the_row-TypedStmt-0, shape-the_row-TypedStmt-0}
-use Rattle.ceal_base.specs.declared.typed.TypedStmt.TheVariants.{Declare, Assign, SetField, Write, Call, Return}
+use Rattle.ceal_base.specs.declared.typed.TypedStmt.TheVariants.{Declare, Assign, SetField, Write, Call, Return, Break, Continue}
 use Rattle.ceal_base.specs.declared.typed.TypedStmt.TheViews.{If, While}
 use Rattle.ceal_base.specs.declared.typed.TypedValue.{TypedValue}
 use Rattle.ceal_code.specs.declared.function.InitStmt.{Set}
@@ -51,6 +51,14 @@ pub init-return : (at : Span) → init_code (Return at) ≡ []
 unfolding init_code
 init-return at = refl
 
+pub init-break : (at : Span) → init_code (Break at) ≡ []
+unfolding init_code
+init-break at = refl
+
+pub init-continue : (at : Span) → init_code (Continue at) ≡ []
+unfolding init_code
+init-continue at = refl
+
 pub all-none : all_init_code [] ≡ []
 unfolding all_init_code
 all-none = refl
@@ -63,4 +71,4 @@ all-push (x ∷ xs) s = ap (λ cs. init_code x ++ cs) (all-push xs s) ∙ sym (a
 pub all-take : (xs : List TypedStmt) (i : ℕ) (s : TypedStmt) → i < length xs → all_init_code (take (i + 1) xs) ≡ all_init_code (take i xs) ++ init_code (get_or xs i s)
 all-take xs i s l = ap all_init_code (take_more xs i s l) ∙ all-push (take i xs) (get_or xs i s)
 
-pub ruleset init_steps = (init-set, init-if, init-declare, init-assign, init-write, init-call, init-while, init-return, all-none, all-push, append-nil)
+pub ruleset init_steps = (init-set, init-if, init-declare, init-assign, init-write, init-call, init-while, init-return, init-break, init-continue, all-none, all-push, append-nil)

@@ -12,7 +12,7 @@ use Rattle.ceal_base.specs.declared.kind.Kind.TheVariants.{Int, Ptr}
 use Rattle.ceal_base.specs.declared.kind.Shape.TheVariants.{Struct}
 use Rattle.ceal_base.specs.declared.typed.TypedExpr.{TypedExpr}
 use Rattle.ceal_base.specs.declared.typed.TypedForm.{TypedForm, Own}
-use Rattle.ceal_base.specs.declared.typed.TypedStmt.{TypedStmt, Declare, Assign, SetField, Write, Call, If', While', Return}
+use Rattle.ceal_base.specs.declared.typed.TypedStmt.{TypedStmt, Declare, Assign, SetField, Write, Call, If', While', Return, Break, Continue}
 use Rattle.ceal_base.specs.declared.typed.TypedStmt.{Row_of-TypedStmt, end_of-TypedStmt, more_of-TypedStmt}
 use Rattle.ceal_code.proofs.Same.{both-true}
 use Rattle.ceal_code.proofs.StmtSteps.{stmt-set, stmt-if}
@@ -20,7 +20,7 @@ use Rattle.ceal_code.specs.Valid.{Typing, type_of, fits, set_ok, stmt_ok, stmts_
 use Rattle.ceal_code.specs.Value.{field_kind}
 use Rattle.ceal_code.specs.declared.function.InitStmt.{InitStmt}
 use Rattle.ceal_norm.specs.Expressions.{expr_code, init_code, row_init_code, all_init_code}
-use Rattle.ceal_norm.proofs.ExprFacts.{Has, form-seen, form-type, suits-fits}
+use Rattle.ceal_norm.proofs.ExprFacts.{type_for, Has, form-seen, form-type, suits-fits}
 use Rattle.ceal_norm.proofs.Facts.{there, Knows}
 use Rattle.ceal_norm.proofs.Fits.{numbers-less, get-take}
 use Rattle.ceal_norm.proofs.Lives.{match}
@@ -40,6 +40,8 @@ init-seen (Call at f args) seen u = absurd u
 init-seen (If' at test _ first _ second) seen u = refl
 init-seen (While' at test _ body) seen u = absurd u
 init-seen (Return at) seen u = absurd u
+init-seen (Break at) seen u = absurd u
+init-seen (Continue at) seen u = absurd u
 
 own-kind : (c : Context) (seen : List ℕ) (kind : Option Kind) (s : ℕ) → c.own ≡ Some s → FormTyped c seen kind Own → kind ≡ Some (Ptr s)
 unfolding FormTyped
@@ -73,7 +75,7 @@ module _ (c : Context) (s params : ℕ) (own : c.own ≡ Some s) (few : params �
       let here : slice_get kinds v ≡ Some t.item = get-take params c.kinds v less ∙ t.is in
       rw (here, knows-all (length kinds) v (omega (arith, less, long)), t.is) refl
 
-  expr-is : (e : TypedExpr) → ExprTyped c seen e → WithoutOwn e.form → type_of c.structs kinds known (expr_code e) ≡ Some e.kind
+  expr-is : (e : TypedExpr) → ExprTyped c seen e → WithoutOwn e.form → type_of c.structs kinds known (expr_code e) ≡ Some (type_for e.kind)
   expr-is e t w = form-type c seen kinds known e.kind e.form t w (λ v i. has v (form-seen c seen e.kind e.form t v i).0)
 
   abbrev Right : List InitStmt → Type 0
@@ -120,9 +122,11 @@ module _ (c : Context) (s params : ℕ) (own : c.own ≡ Some s) (few : params �
     stmt-right next (Call at f args) u t = absurd u
     stmt-right next (If' at test _ first _ second) u t =
         right-cons _ (stmt-if c.structs kinds known s (expr_code test) (row_init_code first) (row_init_code second)
-        ∙ both-true _ _ (ap (fits Int) (expr-is test t.0 u.0 ∙ ap Some t.1)) (both-true _ _ (row-right next first u.1 t.2) (row-right _ second u.2 t.3)))
+        ∙ both-true _ _ (ap (fits Int) (expr-is test t.0 u.0 ∙ ap (λ k. Some (type_for k)) t.1)) (both-true _ _ (row-right next first u.1 t.2) (row-right _ second u.2 t.3)))
     stmt-right next (While' at test _ body) u t = absurd u
     stmt-right next (Return at) u t = absurd u
+    stmt-right next (Break at) u t = absurd u
+    stmt-right next (Continue at) u t = absurd u
 
     row-right : (next : ℕ) {n : _} (row : Row_of-TypedStmt n) → RowInitUsage row → RowTyped c seen next row → Right (row_init_code row)
     row-right next end_of-TypedStmt u t = none-right

@@ -4,7 +4,7 @@ use Rattle.ceal_base.specs.Usage.{CoreUsage}
 use Rattle.ceal_base.specs.WellTyped.{Context, ExprSuits, StmtTyped, ValueTyped, seen_after, kind_held}
 use Rattle.ceal_base.specs.declared.kind.Kind.{Kind}
 use Rattle.ceal_base.specs.declared.typed.TypedFunction.{TypedFunction}
-use Rattle.ceal_base.specs.declared.typed.TypedStmt.{TypedStmt, Declare, Assign, SetField, Write, Call, If', While', Return}
+use Rattle.ceal_base.specs.declared.typed.TypedStmt.{TypedStmt, Declare, Assign, SetField, Write, Call, If', While', Return, Break, Continue}
 use Rattle.ceal_base.specs.declared.typed.TypedValue.{TypedValue}
 use Rattle.ceal_base.specs.declared.typed.TypedValue.TheVariants.{Plain, Read, Alloc, ModrefInt, Modref}
 use Rattle.ceal_code.proofs.Same.{nat-refl}
@@ -52,7 +52,7 @@ module _ (c : Context) (seen : List ℕ) where
   value-seen kind (ModrefInt at) t v h = cc
   value-seen kind (Modref at s) t v h = cc
 
-  pub stmt-seen : (fs : List TypedFunction) (next : ℕ) (s : TypedStmt) → StmtTyped c seen next s → CoreUsage fs s → IsSimple s → (v : ℕ) → is_in v (stmt_uses s) ≡ true → Seen c seen v
+  pub stmt-seen : (fs : List TypedFunction) (next : ℕ) (s : TypedStmt) → StmtTyped c seen next s → CoreUsage fs true s → IsSimple s → (v : ℕ) → is_in v (stmt_uses s) ≡ true → Seen c seen v
   unfolding StmtTyped CoreUsage
   stmt-seen fs next (Declare at n kind value) t u simple v h = value-seen kind value t.2 v h
   stmt-seen fs next (Assign at n value) t u simple v h =
@@ -66,6 +66,8 @@ module _ (c : Context) (seen : List ℕ) where
   stmt-seen fs next (If' at test _ first _ second) t u simple v h = absurd simple
   stmt-seen fs next (While' at test _ body) t u simple v h = absurd simple
   stmt-seen fs next (Return at) t u simple v h = absurd simple
+  stmt-seen fs next (Break at) t u simple v h = absurd simple
+  stmt-seen fs next (Continue at) t u simple v h = absurd simple
 
   pub seen-kept : (s : TypedStmt) (v : ℕ) → Contains (seen_after seen s) v → not (is_that (stmt_assigns s) v) ≡ true → Contains seen v
   seen-kept (Declare at n kind value) v h k = elim (contains-cases n seen v h) [
@@ -81,6 +83,8 @@ module _ (c : Context) (seen : List ℕ) where
   seen-kept (If' at test _ first _ second) v h k = h
   seen-kept (While' at test _ body) v h k = h
   seen-kept (Return at) v h k = h
+  seen-kept (Break at) v h k = h
+  seen-kept (Continue at) v h k = h
 
   pub seen-within : (outer : List ℕ) (v : ℕ) → Within seen outer → Seen c seen v → Seen c outer v
   seen-within outer v w h = (w v h.0, h.1)

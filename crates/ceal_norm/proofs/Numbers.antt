@@ -2,12 +2,13 @@
 use Rattle.std.proofs.Common.{◌≡◌, inl, inr, ℕ, zero, suc, ◌+◌, ◌-◌, ◌<◌, ◌≤◌, Option, Some, None, if◌then◌else◌, true, false, Bool, List, [], ◌∷◌, ◌++◌, length, slice_get, slice_index_or, replicate, Contains, refl, ap, ◌∙◌, subst, arith, append_assoc}
 use Rattle.ceal_base.specs.declared.kind.Kind.{Kind}
 use Rattle.ceal_base.specs.declared.typed.TypedFunction.{TypedFunction}
-use Rattle.ceal_base.specs.declared.typed.TypedStmt.{TypedStmt, Declare, Assign, SetField, Write, Call, If', While', Return, Row_of-TypedStmt, end_of-TypedStmt, more_of-TypedStmt}
+use Rattle.ceal_base.specs.declared.typed.TypedStmt.{TypedStmt, Declare, Assign, SetField, Write, Call, If', While', Return, Break, Continue, Row_of-TypedStmt, end_of-TypedStmt, more_of-TypedStmt}
 use Rattle.ceal_base.specs.declared.typed.TypedStmt.TheBlock.{hidden-the_row-TypedStmt-0}
-use Rattle.ceal_flow.specs.Blocks.{size, row_size, sizes, goes_on, row_entry, blocks_of, row_blocks, all_blocks}
+use Rattle.ceal_flow.specs.Blocks.{size, row_size, sizes, goes_on, no_loop, in_loop, row_entry, blocks_of, row_blocks, all_blocks}
 use Rattle.ceal_flow.specs.Laws.{firsts}
 use Rattle.ceal_flow.specs.Lowering.{function_size, end_of, core_at, core_blocks, function_in, blocks_in, blocks_at, functions_from, blocks_from}
 use Rattle.ceal_flow.specs.declared.block.GraphBlock.{GraphBlock}
+use Rattle.ceal_flow.specs.declared.exits.Exits.{Exits}
 use Rattle.ceal_flow.specs.declared.block.GraphBlock.TheVariants.{Done, Test, Act, Unreached}
 use Rattle.ceal_flow.specs.declared.function.GraphFunction.{GraphFunction}
 use Rattle.ceal_flow.specs.declared.function.GraphFunction.TheVariants.{Core, Init}
@@ -44,26 +45,28 @@ no-end-behind false xs k h = no-end-left_out k
 mutual
   unfolding blocks_of
 
-  no-end-stmt : (s : TypedStmt) (n after done : ℕ) → NoEnd (blocks_of s n after done)
-  no-end-stmt (Declare at v kind value) n after done = tt
-  no-end-stmt (Assign at v value) n after done = tt
-  no-end-stmt (SetField at left k field e) n after done = tt
-  no-end-stmt (Write at place e) n after done = tt
-  no-end-stmt (Call at f args) n after done = tt
-  no-end-stmt (If' at test _ first _ second) n after done =
-      no-end-append (row_blocks first (n + 1) after done) (row_blocks second (n + 1 + row_size first) after done) (no-end-row first (n + 1) after done)
-      (no-end-row second (n + 1 + row_size first) after done)
-  no-end-stmt (While' at test _ body) n after done = no-end-row body (n + 1) n done
-  no-end-stmt (Return at) n after done = tt
+  no-end-stmt : (s : TypedStmt) (n after : ℕ) (exits : Exits) → NoEnd (blocks_of s n after exits)
+  no-end-stmt (Declare at v kind value) n after exits = tt
+  no-end-stmt (Assign at v value) n after exits = tt
+  no-end-stmt (SetField at left k field e) n after exits = tt
+  no-end-stmt (Write at place e) n after exits = tt
+  no-end-stmt (Call at f args) n after exits = tt
+  no-end-stmt (If' at test _ first _ second) n after exits =
+      no-end-append (row_blocks first (n + 1) after exits) (row_blocks second (n + 1 + row_size first) after exits) (no-end-row first (n + 1) after exits)
+      (no-end-row second (n + 1 + row_size first) after exits)
+  no-end-stmt (While' at test _ body) n after exits = no-end-row body (n + 1) n (in_loop exits n after)
+  no-end-stmt (Return at) n after exits = tt
+  no-end-stmt (Break at) n after exits = tt
+  no-end-stmt (Continue at) n after exits = tt
 
-  no-end-row : {m : _} (r : Row_of-TypedStmt m) (n after done : ℕ) → NoEnd (row_blocks r n after done)
-  no-end-row end_of-TypedStmt n after done = tt
-  no-end-row (more_of-TypedStmt s rest) n after done =
-      no-end-append (blocks_of s n (row_entry rest (n + size s) after done) done) _ (no-end-stmt s n (row_entry rest (n + size s) after done) done)
-      (no-end-behind (goes_on s) (row_blocks rest (n + size s) after done) (row_size rest) (no-end-row rest (n + size s) after done))
+  no-end-row : {m : _} (r : Row_of-TypedStmt m) (n after : ℕ) (exits : Exits) → NoEnd (row_blocks r n after exits)
+  no-end-row end_of-TypedStmt n after exits = tt
+  no-end-row (more_of-TypedStmt s rest) n after exits =
+      no-end-append (blocks_of s n (row_entry rest (n + size s) after exits) exits) _ (no-end-stmt s n (row_entry rest (n + size s) after exits) exits)
+      (no-end-behind (goes_on s) (row_blocks rest (n + size s) after exits) (row_size rest) (no-end-row rest (n + size s) after exits))
 
-no-end-all : (ss : List TypedStmt) (n after done : ℕ) → NoEnd (all_blocks ss n after done)
-no-end-all ss n after done = subst NoEnd (row-blocks ss n after done) (no-end-row (hidden-the_row-TypedStmt-0 ss) n after done)
+no-end-all : (ss : List TypedStmt) (n after : ℕ) (exits : Exits) → NoEnd (all_blocks ss n after exits)
+no-end-all ss n after exits = subst NoEnd (row-blocks ss n after exits) (no-end-row (hidden-the_row-TypedStmt-0 ss) n after exits)
 
 -- no function ends before them
 ends-none : (xs ys : List GraphBlock) (i : ℕ) → NoEnd xs → i ≤ length xs → ends_before (xs ++ ys) i ≡ 0
@@ -90,16 +93,16 @@ ends-one (Unreached ∷ xs) ys (suc i) j h e = ends-one xs ys i j h (omega (arit
 core-none : (body : List TypedStmt) (n : ℕ) (rest : List GraphBlock) (i : ℕ) → i ≤ sizes body → ends_before (core_blocks body n ++ rest) i ≡ 0
 core-none body n rest i l =
     let done = end_of body n in
-    let long = all-length body n done done in
-    ap (λ bs. ends_before bs i) (append_assoc (all_blocks body n done done) (Done ∷ []) rest)
-    ∙ ends-none (all_blocks body n done done) (Done ∷ rest) i (no-end-all body n done done) (omega (arith, long, l))
+    let long = all-length body n done (no_loop done) in
+    ap (λ bs. ends_before bs i) (append_assoc (all_blocks body n done (no_loop done)) (Done ∷ []) rest)
+    ∙ ends-none (all_blocks body n done (no_loop done)) (Done ∷ rest) i (no-end-all body n done (no_loop done)) (omega (arith, long, l))
 
 core-one : (body : List TypedStmt) (n : ℕ) (rest : List GraphBlock) (i j : ℕ) → i ≡ sizes body + 1 + j → ends_before (core_blocks body n ++ rest) i ≡ ends_before rest j + 1
 core-one body n rest i j e =
     let done = end_of body n in
-    let long = all-length body n done done in
-    ap (λ bs. ends_before bs i) (append_assoc (all_blocks body n done done) (Done ∷ []) rest)
-    ∙ ends-one (all_blocks body n done done) rest i j (no-end-all body n done done) (omega (arith, long, e))
+    let long = all-length body n done (no_loop done) in
+    ap (λ bs. ends_before bs i) (append_assoc (all_blocks body n done (no_loop done)) (Done ∷ []) rest)
+    ∙ ends-one (all_blocks body n done (no_loop done)) rest i j (no-end-all body n done (no_loop done)) (omega (arith, long, e))
 
 -- a core function among others, of which the first begins at block `n`: where it begins, and that its blocks are its own
 record Among (n : ℕ) (fs : List TypedFunction) (k : ℕ) (f : TypedFunction) : Type 0 where

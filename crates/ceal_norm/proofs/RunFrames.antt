@@ -3,7 +3,7 @@
 use Rattle.std.proofs.Common.{◌≡◌, ◌⊎◌, inl, inr, ℕ, ◌+◌, ◌-◌, ◌<◌, ◌≤◌, Bool, true, false, if◌then◌else◌, Option, Some, None, List, [], ◌∷◌, ◌++◌, length, map, slice_get, unwrap_or, replicate, refl, sym, ap, ◌∙◌, subst, arith, append_assoc, length-append}
 use Rattle.std.proofs.lemmas.List.{append-nil}
 use Rattle.ceal_base.specs.declared.typed.Typed.{Typed}
-use Rattle.ceal_base.specs.declared.typed.TypedStmt.{TypedStmt, Declare, Assign, SetField, Write, Call, If', While', Return}
+use Rattle.ceal_base.specs.declared.typed.TypedStmt.{TypedStmt, Declare, Assign, SetField, Write, Call, If', While', Return, Break, Continue}
 use Rattle.ceal_base.specs.declared.typed.TypedValue.{TypedValue}
 use Rattle.ceal_base.specs.declared.typed.TypedValue.TheVariants.{Plain as PlainValue, Read as ReadValue, Alloc as AllocValue, ModrefInt as ModrefIntValue, Modref as ModrefValue}
 use Rattle.ceal_base.specs.declared.word.Word.{Word}
@@ -88,6 +88,8 @@ module _ (s : Source) (onward : Placed) (i : ℕ) where
   stmt-head next (If' at test _ first _ second) = record { c = _; rest = _; is = refl; done = λ e. cc; steps = λ e. tt }
   stmt-head next (While' at test _ body) = record { c = _; rest = _; is = refl; done = λ e. cc; steps = λ e. tt }
   stmt-head next (Return at) = record { c = _; rest = _; is = refl; done = λ e. cc; steps = λ e. tt }
+  stmt-head next (Break at) = record { c = _; rest = _; is = refl; done = λ e. cc; steps = λ e. tt }
+  stmt-head next (Continue at) = record { c = _; rest = _; is = refl; done = λ e. cc; steps = λ e. tt }
 
   block-head : (o : Option GraphBlock) → Head (block_code s onward i o) (is_over o)
   block-head None = record { c = _; rest = _; is = refl; done = λ e. refl; steps = λ e. cc }

@@ -12,7 +12,7 @@ use Rattle.ceal_base.specs.declared.kind.Kind.TheVariants.{Ptr}
 use Rattle.ceal_base.specs.declared.kind.Shape.TheVariants.{Struct}
 use Rattle.ceal_base.specs.declared.typed.StructInfo.{StructInfo}
 use Rattle.ceal_base.specs.declared.typed.TypedForm.{TypedForm, Own}
-use Rattle.ceal_base.specs.declared.typed.TypedStmt.{TypedStmt, Declare, Assign, SetField, Write, Call, If', While', Return, Row_of-TypedStmt, end_of-TypedStmt, more_of-TypedStmt}
+use Rattle.ceal_base.specs.declared.typed.TypedStmt.{TypedStmt, Declare, Assign, SetField, Write, Call, If', While', Return, Break, Continue, Row_of-TypedStmt, end_of-TypedStmt, more_of-TypedStmt}
 use Rattle.ceal_base.specs.declared.word.Word.{Word}
 use Rattle.ceal_code.specs.Init.{set_plain, set_by as code_set_by, set_by_row as code_set_by_row, set_by_all as code_set_by_all}
 use Rattle.ceal_code.specs.Value.{Plain, Variables, field_kind as code_field_kind, expr_value}
@@ -99,6 +99,8 @@ module _ (c : Context) (s : ℕ) (own : c.own ≡ Some s) (m : Blocks) (envc : V
     stmt-init (Call at f args) seen next typed usage words = absurd usage
     stmt-init (While' at test _ body) seen next typed usage words = absurd usage
     stmt-init (Return at) seen next typed usage words = absurd usage
+    stmt-init (Break at) seen next typed usage words = absurd usage
+    stmt-init (Continue at) seen next typed usage words = absurd usage
 
     row-init : {n : _} (row : Row_of-TypedStmt n) (seen : List ℕ) (next : ℕ) → RowTyped c seen next row → RowInitUsage row → (words : List Word)
         → code_after words (row_init_code row) ≡ set_by_row env m words row

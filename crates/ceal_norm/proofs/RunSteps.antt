@@ -16,7 +16,7 @@ use Rattle.ceal_base.specs.declared.kind.Shape.TheVariants.{Struct, ModInt as On
 use Rattle.ceal_base.specs.declared.typed.Typed.{Typed}
 use Rattle.ceal_base.specs.declared.typed.TypedExpr.{TypedExpr}
 use Rattle.ceal_base.specs.declared.typed.TypedFunction.{TypedFunction}
-use Rattle.ceal_base.specs.declared.typed.TypedStmt.{TypedStmt, Declare, Assign, SetField, Write, Call, If', While', Return}
+use Rattle.ceal_base.specs.declared.typed.TypedStmt.{TypedStmt, Declare, Assign, SetField, Write, Call, If', While', Return, Break, Continue}
 use Rattle.ceal_base.specs.declared.typed.TypedValue.{TypedValue}
 use Rattle.ceal_base.specs.declared.typed.TypedValue.TheVariants.{Plain as PlainValue, Read as ReadValue, Alloc as AllocValue, ModrefInt as ModrefIntValue, Modref as ModrefValue}
 use Rattle.ceal_base.specs.declared.word.BlockId.TheVariants.{Core as CoreBlock}
@@ -424,7 +424,7 @@ module _ (p : Typed) (sets : List (List ℕ)) (typed : WellTyped p) (kept : Keep
           })
 
     act-step : (st : TypedStmt) (next nx : ℕ) (inner after : List ℕ) → slice_get graph.blocks q.block ≡ Some (Act st next) → StmtTyped (context p along.spot.function.f) inner nx st
-        → CoreUsage p.functions st → IsSimple st → Stand after next → Step (now (command_at the_code u i)) (acted graph m next q.env points st)
+        → CoreUsage p.functions true st → IsSimple st → Stand after next → Step (now (command_at the_code u i)) (acted graph m next q.env points st)
     unfolding StmtTyped CoreUsage
     act-step (Declare at n kind value) next nx inner after look t usage simple stands =
         value-step (Declare at n kind value) next look inner after stands n kind refl t.1 value refl refl refl t.2 usage
@@ -440,6 +440,8 @@ module _ (p : Typed) (sets : List (List ℕ)) (typed : WellTyped p) (kept : Keep
     act-step (If' at test _ first _ second) next nx inner after look t usage simple stands = absurd simple
     act-step (While' at test _ body) next nx inner after look t usage simple stands = absurd simple
     act-step (Return at) next nx inner after look t usage simple stands = absurd simple
+    act-step (Break at) next nx inner after look t usage simple stands = absurd simple
+    act-step (Continue at) next nx inner after look t usage simple stands = absurd simple
 
     step-seen : ViewIn p along.spot.k along.spot.function along.spot.seen q.block → over p sets q.block ≡ false
         → Step (now (command_at the_code u i)) (stepped graph m q.env points (slice_get graph.blocks q.block))

@@ -1,11 +1,11 @@
 -- Each entry of a program's graph is a block of a core function, at which well typed statements stand.
-use Rattle.std.proofs.Common.{◌≡◌, ℕ, ◌≤◌, true, Option, Some, None, List, [], ◌∷◌, slice_get, All, refl, sym, ap, ◌∙◌, subst, arith}
+use Rattle.std.proofs.Common.{◌≡◌, ℕ, ◌≤◌, true, false, Option, Some, None, List, [], ◌∷◌, slice_get, All, refl, sym, ap, ◌∙◌, subst, arith}
 use Rattle.ceal_base.specs.Usage.{CoreUsage, InitUsage, FunctionUsage, KeepsUsage}
 use Rattle.ceal_base.specs.WellTyped.{Context, FunctionTyped, WellTyped, context_of, numbers_below}
 use Rattle.ceal_base.specs.declared.typed.Typed.{Typed}
 use Rattle.ceal_base.specs.declared.typed.TypedFunction.{TypedFunction}
 use Rattle.ceal_base.specs.declared.typed.TypedStmt.{TypedStmt}
-use Rattle.ceal_flow.specs.Blocks.{sizes, all_blocks}
+use Rattle.ceal_flow.specs.Blocks.{sizes, no_loop, all_blocks}
 use Rattle.ceal_flow.specs.Lowering.{end_of, first_of, function_in, function_at, graph_of}
 use Rattle.ceal_flow.specs.Paths.{stays, jumps_to, Leads}
 use Rattle.ceal_flow.specs.Program.{Graph}
@@ -16,14 +16,14 @@ use Rattle.ceal_flow.proofs.Placing.{placed-head, placed-left, placed-right, mad
 use Rattle.ceal_norm.specs.Entries.{is_entry}
 use Rattle.ceal_norm.proofs.Lives.{onward}
 use Rattle.ceal_norm.proofs.Numbers.{Home, home, functions-there, begins}
-use Rattle.ceal_norm.proofs.Standing.{Stands, ends, goes, View, view}
+use Rattle.ceal_norm.proofs.Standing.{Stands, ends, goes, View, view, all-in-loop}
 use Rattle.ceal_norm.proofs.UnitFacts.{entry-reached}
 
 abbrev BodyUsage : List TypedFunction → List TypedStmt → Option ℕ → Type 0
-BodyUsage fs body None = All (CoreUsage fs) body
+BodyUsage fs body None = All (CoreUsage fs false) body
 BodyUsage fs body (Some s) = All InitUsage body
 
-usage-of : (fs : List TypedFunction) (f : TypedFunction) → f.initialiser ≡ None → FunctionUsage fs f → All (CoreUsage fs) f.body
+usage-of : (fs : List TypedFunction) (f : TypedFunction) → f.initialiser ≡ None → FunctionUsage fs f → All (CoreUsage fs false) f.body
 usage-of fs f e u = let P : Option ℕ → Type 0 = λ i. BodyUsage fs f.body i in subst P e u
 
 pub init-usage : (fs : List TypedFunction) (f : TypedFunction) (s : ℕ) → f.initialiser ≡ Some s → FunctionUsage fs f → All InitUsage f.body
@@ -93,19 +93,19 @@ module _ (p : Typed) where
     function-of k f is none =
         let h = home p.functions k f is none in
         let done = end_of f.body h.start in
-        let stmts = all_blocks f.body h.start done done in
+        let stmts = all_blocks f.body h.start done (no_loop done) in
         let t = all-at (FunctionTyped p.structs p.functions) p.functions k f typed.functions is in
-        let usage = usage-of p.functions f none (all-at (FunctionUsage p.functions) p.functions k f kept is) in
+        let usage = all-in-loop p.functions f.body (usage-of p.functions f none (all-at (FunctionUsage p.functions) p.functions k f kept is)) in
         record {
           f = f;
           is = is;
           none = none;
           typed = t;
           home = h;
-          over = placed-head g.blocks done Done [] (placed-right g.blocks h.start stmts (Done ∷ []) (sizes f.body) (sym (all-length f.body h.start done done)) h.placed);
+          over = placed-head g.blocks done Done [] (placed-right g.blocks h.start stmts (Done ∷ []) (sizes f.body) (sym (all-length f.body h.start done (no_loop done))) h.placed);
           room = omega arith;
-          first = goes f.body h.start done f.params (numbers_below f.params) refl usage t.body (placed-left g.blocks h.start stmts (Done ∷ []) h.placed)
-              (omega arith) (omega arith) (λ v i. i) (ends refl);
+          first = goes f.body h.start done f.params (no_loop done) (numbers_below f.params) (numbers_below f.params) refl usage t.body
+              (placed-left g.blocks h.start stmts (Done ∷ []) h.placed) (omega arith) (omega arith) (λ v i. i) (λ on. ends refl) refl (λ v i. i) (ends refl) (ends refl);
         }
 
     first-spot : (b : ℕ) (name : List ℕ) (params : ℕ) (kinds : _) (k : ℕ) (f : TypedFunction) → slice_get g.functions k ≡ Some (Core name b params kinds)

@@ -1,7 +1,7 @@
 -- The tree of a block unfolds: with at least as many blocks as stand from it on, its depth does not matter.
 use Rattle.std.proofs.Common.{◌≡◌, ℕ, zero, suc, ◌+◌, ◌<◌, ◌≤◌, Bool, true, false, Option, Some, None, List, [], ◌∷◌, length, slice_get, Contains, if◌then◌else◌, refl, arith}
 use Rattle.std.proofs.lemmas.List.Elements.{Contains-push, Contains-append_left, Contains-append_right}
-use Rattle.ceal_base.specs.declared.typed.TypedStmt.{TypedStmt, Declare, Assign, SetField, Write, Call, If', While', Return}
+use Rattle.ceal_base.specs.declared.typed.TypedStmt.{TypedStmt, Declare, Assign, SetField, Write, Call, If', While', Return, Break, Continue}
 use Rattle.ceal_base.specs.declared.typed.TypedValue.{TypedValue}
 use Rattle.ceal_base.specs.declared.typed.TypedValue.TheVariants.{Plain, Read, Alloc, ModrefInt, Modref}
 use Rattle.ceal_code.specs.declared.command.Cmd.{Cmd}
@@ -34,6 +34,8 @@ module _ (s : Source) where
     stmt-same next i (If' at test _ first _ second) h = rw (h (i + 1)) refl
     stmt-same next i (While' at test _ body) h = rw (h (i + 1)) refl
     stmt-same next i (Return at) h = rw (h (i + 1)) refl
+    stmt-same next i (Break at) h = rw (h (i + 1)) refl
+    stmt-same next i (Continue at) h = rw (h (i + 1)) refl
 
     test-same : (test : CodeExpr) (i : ℕ) (xs ys : List Cmd) (a b : ℕ → List Cmd) → xs ≡ ys → ((j : ℕ) → a j ≡ b j)
         → test_code test i xs a ≡ test_code test i ys b

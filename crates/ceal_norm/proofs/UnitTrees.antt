@@ -10,7 +10,7 @@ use Rattle.ceal_base.specs.declared.kind.Kind.TheVariants.{Int, ModInt, ModPtr}
 use Rattle.ceal_base.specs.declared.kind.Shape.TheVariants.{ModInt as OneInt, ModPtr as OnePtr}
 use Rattle.ceal_base.specs.declared.typed.Typed.{Typed}
 use Rattle.ceal_base.specs.declared.typed.TypedExpr.{TypedExpr}
-use Rattle.ceal_base.specs.declared.typed.TypedStmt.{TypedStmt, Declare, Assign, SetField, Write, Call, If', While', Return}
+use Rattle.ceal_base.specs.declared.typed.TypedStmt.{TypedStmt, Declare, Assign, SetField, Write, Call, If', While', Return, Break, Continue}
 use Rattle.ceal_base.specs.declared.typed.TypedValue.{TypedValue}
 use Rattle.ceal_base.specs.declared.typed.TypedValue.TheVariants.{Plain, Read, Alloc, ModrefInt, Modref}
 use Rattle.ceal_code.proofs.Same.{both-true, nat-refl}
@@ -30,6 +30,7 @@ use Rattle.ceal_norm.specs.Entries.{is_read, has_closure, is_entry}
 use Rattle.ceal_norm.specs.Expressions.{variable, expr_code}
 use Rattle.ceal_norm.specs.Laws.{IsForward, source_of}
 use Rattle.ceal_norm.specs.Units.{Source, code_of, Placed, unit_of, params_of, args_of, closure_args, jump_code, value_code, stmt_code, block_code, tree, unit_code, function_code}
+use Rattle.ceal_norm.proofs.ExprFacts.{type_for}
 use Rattle.ceal_norm.proofs.Bodies.{Good, leaf, line, fork, good-paths, good-forward, good-tree}
 use Rattle.ceal_norm.proofs.Facts.{Knows, knows-set, knows-still, some-within, in-left, in-right, get-map, params-know, params-length, all-below}
 use Rattle.ceal_norm.proofs.Fits.{Covers, kinds-are, seen-live, there-is, owner-is, unit-fits, read-fits, expr-is, slot-fits, place-fits, write-fits, alloc-fits, call-fits}
@@ -140,7 +141,7 @@ module _ (p : Typed) (typed : WellTyped p) (kept : KeepsUsage p) (sets : List (L
         only : Contains (next ∷ []) next
         only = Contains-push [] next
 
-        stmt-good : (s : TypedStmt) (inner : List ℕ) (nx : ℕ) → slice_get (graph_of p).blocks b ≡ Some (Act s next) → StmtTyped (context p fn.f) inner nx s → CoreUsage p.functions s → IsSimple s
+        stmt-good : (s : TypedStmt) (inner : List ℕ) (nx : ℕ) → slice_get (graph_of p).blocks b ≡ Some (Act s next) → StmtTyped (context p fn.f) inner nx s → CoreUsage p.functions true s → IsSimple s
             → At (seen_after inner s) next → (has_closure s ≡ true → is_entry (graph_of p) next ≡ true) → Here i known stepped (stmt_code src on next i s)
         unfolding StmtTyped CoreUsage
         stmt-good (Declare at n kind value) inner nx look t u simple st closure =
@@ -169,11 +170,13 @@ module _ (p : Typed) (typed : WellTyped p) (kept : KeepsUsage p) (sets : List (L
         stmt-good (If' at test _ first _ second) inner nx look t u simple st closure = absurd simple
         stmt-good (While' at test _ body) inner nx look t u simple st closure = absurd simple
         stmt-good (Return at) inner nx look t u simple st closure = absurd simple
+        stmt-good (Break at) inner nx look t u simple st closure = absurd simple
+        stmt-good (Continue at) inner nx look t u simple st closure = absurd simple
 
       -- a test of a number
       test-fits : (inner : List ℕ) (test : TypedExpr) → ExprTyped (context p fn.f) inner test → test.kind ≡ Some Int → ((v : ℕ) → is_in v (mentions test) ≡ true → Knows known v)
           → fits Int (type_of p.structs (kinds_of code k) known (expr_code test)) ≡ true
-      test-fits inner test t e h = ap (fits Int) (expr-is p typed kept sets live k fn known inner test t h ∙ ap Some e)
+      test-fits inner test t e h = ap (fits Int) (expr-is p typed kept sets live k fn known inner test t h ∙ ap (λ k. Some (type_for k)) e)
 
       block-good : ViewIn p k fn seen b
           → Here i known stepped (block_code src on i (slice_get (graph_of p).blocks b))

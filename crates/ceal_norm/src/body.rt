@@ -35,7 +35,10 @@ fn read_command(
     place: &TypedExpr,
 ) -> Result<Cmd, NoMemory>
     requires there { next < length plan.now.graph.blocks }
-    ensures { IfOk result (λ c. c ≡ Cmd.Read (variable n) (expr_code place.now) (unit_of plan.now next) (closure_args plan.now n next)) }
+    ensures { IfOk result
+        (λ c. c
+        ≡ Cmd.Read (variable n) (expr_code place.now) (unit_of plan.now next)
+        (closure_args plan.now n next)) }
 {
     let place = expr_of(alloc, place)?;
     let vs = plan.variables(alloc, next)?;
@@ -136,6 +139,8 @@ fn command_of(alloc: Global, plan: &Plan<'_>, next: u32, s: &TypedStmt) -> Resul
         TypedStmt::If(..) => Ok(Cmd::Tick),
         TypedStmt::While(..) => Ok(Cmd::Tick),
         TypedStmt::Return(..) => Ok(Cmd::Tick),
+        TypedStmt::Break(..) => Ok(Cmd::Tick),
+        TypedStmt::Continue(..) => Ok(Cmd::Tick),
     }
 }
 
@@ -154,7 +159,8 @@ fn tail(alloc: Global, plan: &Plan<'_>, b: u32) -> Result<Cmd, NoMemory>
 
 /// Puts the block that follows, if the path goes on.
 fn put_following(pending: &mut Vec<Pending>, on: bool, next: u32) -> Result<(), NoMemory>
-    ensures { OnOk result (reverse pending.new.items ≡ following on next ++ reverse pending.old.items) }
+    ensures { OnOk result
+        (reverse pending.new.items ≡ following on next ++ reverse pending.old.items) }
 {
     if on {
         pending.push(Pending {
@@ -179,7 +185,8 @@ fn put_act(
     requires below { AllBelow (length plan.now.graph.blocks) (reverse pending.old.items) }
     ensures same { OnOk result (finished plan.now body.new.items (reverse pending.new.items)
         ≡ finished plan.now (body.old.items ++ stmt_code plan.now (onward plan.now) next (length body.old.items) s.now) (reverse pending.old.items)) }
-    ensures below { OnOk result (AllBelow (length plan.now.graph.blocks) (reverse pending.new.items)) }
+    ensures below { OnOk result
+        (AllBelow (length plan.now.graph.blocks) (reverse pending.new.items)) }
     ensures longer { OnOk result (length body.new.items ≡ length body.old.items + 1) }
 {
     let command = command_of(alloc, plan, next, s)?;
@@ -191,7 +198,8 @@ fn put_act(
 /// Puts both parts of an `if` that stands at an index.
 #[tactic(auto, using(crate::proofs::BodySteps::push_steps))]
 fn put_parts(pending: &mut Vec<Pending>, at: u32, first: u32, second: u32) -> Result<(), NoMemory>
-    ensures { OnOk result (reverse pending.new.items ≡ parts at first second ++ reverse pending.old.items) }
+    ensures { OnOk result
+        (reverse pending.new.items ≡ parts at first second ++ reverse pending.old.items) }
 {
     pending.push(Pending {
         block: second,
@@ -215,11 +223,13 @@ fn put_test(
     first: u32,
     second: u32,
 ) -> Result<(), NoMemory>
-    requires there { (first < length plan.now.graph.blocks) × (second < length plan.now.graph.blocks) }
+    requires there { (first < length plan.now.graph.blocks)
+        × (second < length plan.now.graph.blocks) }
     requires below { AllBelow (length plan.now.graph.blocks) (reverse pending.old.items) }
     ensures same { OnOk result (finished plan.now body.new.items (reverse pending.new.items)
         ≡ finished plan.now (body.old.items ++ block_code plan.now (onward plan.now) (length body.old.items) (Some (Test test.now first second))) (reverse pending.old.items)) }
-    ensures below { OnOk result (AllBelow (length plan.now.graph.blocks) (reverse pending.new.items)) }
+    ensures below { OnOk result
+        (AllBelow (length plan.now.graph.blocks) (reverse pending.new.items)) }
     ensures longer { OnOk result (length body.new.items ≡ length body.old.items + 1) }
 {
     let test = expr_of(alloc, test)?;
@@ -242,7 +252,8 @@ fn put_block(
     requires below { AllBelow (length plan.now.graph.blocks) (reverse pending.old.items) }
     ensures same { OnOk result (finished plan.now body.new.items (reverse pending.new.items)
         ≡ finished plan.now (body.old.items ++ block_code plan.now (onward plan.now) (length body.old.items) (Some block.now)) (reverse pending.old.items)) }
-    ensures below { OnOk result (AllBelow (length plan.now.graph.blocks) (reverse pending.new.items)) }
+    ensures below { OnOk result
+        (AllBelow (length plan.now.graph.blocks) (reverse pending.new.items)) }
     ensures longer { OnOk result (length body.new.items ≡ length body.old.items + 1) }
 {
     match block {
@@ -277,7 +288,8 @@ fn put_tree(
     requires below { AllBelow (length plan.now.graph.blocks) (reverse pending.old.items) }
     ensures same { OnOk result (finished plan.now body.new.items (reverse pending.new.items)
         ≡ finished plan.now (body.old.items ++ tree plan.now (length plan.now.graph.blocks) b (length body.old.items)) (reverse pending.old.items)) }
-    ensures below { OnOk result (AllBelow (length plan.now.graph.blocks) (reverse pending.new.items)) }
+    ensures below { OnOk result
+        (AllBelow (length plan.now.graph.blocks) (reverse pending.new.items)) }
     ensures longer { OnOk result (length body.new.items ≡ length body.old.items + 1) }
 {
     put_block(alloc, plan, body, pending, plan.block(b))?;
@@ -297,7 +309,8 @@ fn put_jump(
     requires below { AllBelow (length plan.now.graph.blocks) (reverse pending.old.items) }
     ensures same { OnOk result (finished plan.now body.new.items (reverse pending.new.items)
         ≡ finished plan.now (body.old.items ++ onward plan.now b (length body.old.items)) (reverse pending.old.items)) }
-    ensures below { OnOk result (AllBelow (length plan.now.graph.blocks) (reverse pending.new.items)) }
+    ensures below { OnOk result
+        (AllBelow (length plan.now.graph.blocks) (reverse pending.new.items)) }
     ensures longer { OnOk result (length body.new.items ≡ length body.old.items + 1) }
 {
     if plan.is_entry(b) {
@@ -347,8 +360,11 @@ fn put_pending(
     next: Pending,
 ) -> Result<(), NoMemory>
     requires below { AllBelow (length plan.now.graph.blocks) (next ∷ reverse pending.old.items) }
-    ensures same { OnOk result (finished plan.now body.new.items (reverse pending.new.items) ≡ finished plan.now body.old.items (next ∷ reverse pending.old.items)) }
-    ensures below { OnOk result (AllBelow (length plan.now.graph.blocks) (reverse pending.new.items)) }
+    ensures same { OnOk result
+        (finished plan.now body.new.items (reverse pending.new.items)
+        ≡ finished plan.now body.old.items (next ∷ reverse pending.old.items)) }
+    ensures below { OnOk result
+        (AllBelow (length plan.now.graph.blocks) (reverse pending.new.items)) }
     ensures longer { OnOk result (length body.new.items ≡ length body.old.items + 1) }
 {
     begin(body, next.test)?;
@@ -359,7 +375,8 @@ fn put_pending(
 /// The body of the unit that begins at a block.
 pub fn body_of(alloc: Global, plan: &Plan<'_>, b: u32) -> Result<Vec<Cmd>, NoMemory>
     requires there { b < length plan.now.graph.blocks }
-    ensures value { IfOk result (λ body. body.items ≡ tree plan.now (length plan.now.graph.blocks) b 0) }
+    ensures value { IfOk result
+        (λ body. body.items ≡ tree plan.now (length plan.now.graph.blocks) b 0) }
 {
     let mut body = Vec::new(alloc);
     let mut pending = Vec::new(alloc);

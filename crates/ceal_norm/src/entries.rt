@@ -47,6 +47,8 @@ pub fn ends_unit(s: &TypedStmt) -> bool
         TypedStmt::If(..) => false,
         TypedStmt::While(..) => false,
         TypedStmt::Return(..) => false,
+        TypedStmt::Break(..) => false,
+        TypedStmt::Continue(..) => false,
     }
 }
 
@@ -137,7 +139,8 @@ fn has_mark(marks: &[bool], b: u32) -> bool
 
 fn mark(marks: &mut Vec<bool>, b: u32)
     ensures length { length marks.new.items ≡ length marks.old.items }
-    ensures marked { (c : ℕ) → c < length marks.old.items → is_marked marks.new.items c ≡ (b == c || is_marked marks.old.items c) }
+    ensures marked { (c : ℕ) → c < length marks.old.items
+        → is_marked marks.new.items c ≡ (b == c || is_marked marks.old.items c) }
 {
     let b = b as usize;
     if b < marks.len() {
@@ -147,7 +150,8 @@ fn mark(marks: &mut Vec<bool>, b: u32)
 
 fn mark_all(marks: &mut Vec<bool>, bs: &[u32])
     ensures length { length marks.new.items ≡ length marks.old.items }
-    ensures marked { (c : ℕ) → c < length marks.old.items → is_marked marks.new.items c ≡ (is_in c bs.now || is_marked marks.old.items c) }
+    ensures marked { (c : ℕ) → c < length marks.old.items
+        → is_marked marks.new.items c ≡ (is_in c bs.now || is_marked marks.old.items c) }
 {
     for b in bs {
         mark(marks, *b);
@@ -158,7 +162,8 @@ fn mark_all(marks: &mut Vec<bool>, bs: &[u32])
 fn mark_again(once: &mut Vec<bool>, marks: &mut Vec<bool>, b: u32)
     ensures length { length once.new.items ≡ length once.old.items }
     ensures length_two { length marks.new.items ≡ length marks.old.items }
-    ensures once { (c : ℕ) → c < length once.old.items → is_marked once.new.items c ≡ (b == c || is_marked once.old.items c) }
+    ensures once { (c : ℕ) → c < length once.old.items
+        → is_marked once.new.items c ≡ (b == c || is_marked once.old.items c) }
     ensures marks { (c : ℕ) → c < length marks.old.items
         → is_marked marks.new.items c ≡ ((b == c && is_marked once.old.items b) || is_marked marks.old.items c) }
 {
@@ -184,7 +189,9 @@ fn mark_repeated(once: &mut Vec<bool>, marks: &mut Vec<bool>, bs: &[u32])
 /// Marks the entries.
 fn marked_entries(alloc: Global, graph: &Graph) -> Result<Vec<bool>, NoMemory>
     ensures length { IfOk result (λ marks. length marks.items ≡ length graph.now.blocks) }
-    ensures marked { IfOk result (λ marks. (b : ℕ) → b < length graph.now.blocks → is_marked marks.items b ≡ is_entry graph.now b) }
+    ensures marked { IfOk result
+        (λ marks. (b : ℕ) → b < length graph.now.blocks
+        → is_marked marks.items b ≡ is_entry graph.now b) }
 {
     let blocks = graph.blocks();
     let mut once = no_marks(alloc, blocks.len())?;
@@ -201,7 +208,8 @@ fn marked_entries(alloc: Global, graph: &Graph) -> Result<Vec<bool>, NoMemory>
 /// The table of the entries of a graph.
 #[tactic(auto, using(crate::proofs::EntrySteps::table_steps))]
 pub fn entry_table(alloc: Global, graph: &Graph) -> Result<Vec<Entry>, NoMemory>
-    ensures value { IfOk result (λ entries. entries.items ≡ table graph.now (length graph.now.blocks)) }
+    ensures value { IfOk result
+        (λ entries. entries.items ≡ table graph.now (length graph.now.blocks)) }
 {
     let marks = marked_entries(alloc, graph)?;
     let mut entries = Vec::new(alloc);

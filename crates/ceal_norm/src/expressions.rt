@@ -73,7 +73,8 @@ pub fn own_args_of(alloc: Global, vs: &[u32]) -> Result<CodeExprs, NoMemory>
 }
 
 fn put_other(out: &mut Vec<CodeExpr>, but: u32, v: u32) -> Result<(), NoMemory>
-    ensures { OnOk result (out.new.items ≡ out.old.items ++ own_args (if v == but then [] else v ∷ [])) }
+    ensures { OnOk result
+        (out.new.items ≡ out.old.items ++ own_args (if v == but then [] else v ∷ [])) }
 {
     if v != but {
         out.push(CodeExpr::Var(VarId(v)))?;

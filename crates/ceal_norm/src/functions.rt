@@ -26,7 +26,10 @@ fn first_kinds(alloc: Global, kinds: &[Kind], n: u32) -> Result<Kinds, NoMemory>
 }
 
 fn init_of(alloc: Global, f: &TypedFunction) -> Result<FunctionCode, NoMemory>
-    ensures { IfOk result (λ c. c ≡ FunctionCode.Init f.now.name.text (unwrap_or f.now.initialiser 0) (take f.now.params f.now.kinds) (all_init_code f.now.body)) }
+    ensures { IfOk result
+        (λ c. c
+        ≡ FunctionCode.Init f.now.name.text (unwrap_or f.now.initialiser 0)
+        (take f.now.params f.now.kinds) (all_init_code f.now.body)) }
 {
     let name = f.name.text.copy()?;
     let params = first_kinds(alloc, f.kinds.items(), f.params)?;
@@ -67,7 +70,8 @@ fn function_of(alloc: Global, plan: &Plan<'_>, f: &GraphFunction) -> Result<Func
 
 /// All functions in their order.
 pub fn functions_of(alloc: Global, plan: &Plan<'_>) -> Result<Vec<FunctionCode>, NoMemory>
-    ensures value { IfOk result (λ fs. fs.items ≡ map (function_code plan.now) plan.now.graph.functions) }
+    ensures value { IfOk result
+        (λ fs. fs.items ≡ map (function_code plan.now) plan.now.graph.functions) }
 {
     let count = plan.functions().len();
     let mut out = Vec::new(alloc);

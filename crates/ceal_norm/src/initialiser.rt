@@ -38,6 +38,8 @@ fn put_init(alloc: Global, out: &mut Vec<InitStmt>, s: &TypedStmt) -> Result<(),
         TypedStmt::Call(..) => Ok(()),
         TypedStmt::While(..) => Ok(()),
         TypedStmt::Return(..) => Ok(()),
+        TypedStmt::Break(..) => Ok(()),
+        TypedStmt::Continue(..) => Ok(()),
     }
 }
 

@@ -26,9 +26,12 @@ use std::alloc::Global;
 pub fn normalise(alloc: Global, graph: &Graph, live: &LiveSets) -> Result<Code, NoMemory>
     requires graph { IsGraph graph.now }
     requires live { AreLiveSets graph.now.blocks live.now }
-    ensures exact { IfOk result (λ code. code ≡ code_of (record { graph = graph.now; live = live.now })) }
-    ensures valid { (p : Program) → graph.now ≡ graph_of p → WellTyped p → KeepsUsage p → IfOk result (λ code. is_valid code ≡ true) }
-    ensures same_run { (p : Program) → graph.now ≡ graph_of p → WellTyped p → KeepsUsage p → IfOk result (λ code. RunsAs code p) }
+    ensures exact { IfOk result
+        (λ code. code ≡ code_of (record { graph = graph.now; live = live.now })) }
+    ensures valid { (p : Program) → graph.now ≡ graph_of p → WellTyped p → KeepsUsage p
+        → IfOk result (λ code. is_valid code ≡ true) }
+    ensures same_run { (p : Program) → graph.now ≡ graph_of p → WellTyped p → KeepsUsage p
+        → IfOk result (λ code. RunsAs code p) }
 {
     let plan = Plan::new(alloc, graph, live)?;
     let functions = functions_of(alloc, &plan)?;

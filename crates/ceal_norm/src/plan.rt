@@ -102,7 +102,9 @@ impl<'a> Plan<'a> {
         requires there { b < length self.now.graph.blocks }
         ensures value { slice_get self.now.graph.blocks b ≡ Some result.now }
         ensures jumps { JumpsBelow (length self.now.graph.blocks) result.now }
-        ensures tree { (i : ℕ) → tree self.now (length self.now.graph.blocks) b i ≡ block_code self.now (onward self.now) i (Some result.now) }
+        ensures tree { (i : ℕ)
+            → tree self.now (length self.now.graph.blocks) b i
+            ≡ block_code self.now (onward self.now) i (Some result.now) }
     {
         block_at(self.graph.blocks(), b)
     }
@@ -141,7 +143,8 @@ impl<'a> Plan<'a> {
 
     /// The variables that are live where a call of the function begins.
     pub fn entry_variables(&self, alloc: Global, f: u32) -> Result<Vec<u32>, NoMemory>
-        ensures value { IfOk result (λ vs. vs.items ≡ entry_set self.now (slice_get self.now.graph.functions f)) }
+        ensures value { IfOk result
+            (λ vs. vs.items ≡ entry_set self.now (slice_get self.now.graph.functions f)) }
     {
         match self.graph.functions().get(f as usize) {
             Some(GraphFunction::Core { first, .. }) => self.variables(alloc, *first),

@@ -81,7 +81,10 @@ fn put_unit(
 ) -> Result<(), NoMemory>
     requires there { b < length plan.now.graph.blocks }
     requires owner { function ≡ owner plan.now.graph b }
-    ensures { OnOk result (units.new.items ≡ (if is_entry plan.now.graph b then units.old.items ++ unit_code plan.now b ∷ [] else units.old.items)) }
+    ensures { OnOk result
+        (units.new.items ≡
+        (if is_entry plan.now.graph b then units.old.items
+        ++ unit_code plan.now b ∷ [] else units.old.items)) }
 {
     if plan.is_entry(b) {
         units.push(unit_of_entry(alloc, plan, function, b)?)?;
@@ -92,7 +95,8 @@ fn put_unit(
 /// All units, by the numbers of their entries.
 #[tactic(auto, using(crate::proofs::UnitSteps::unit_steps))]
 pub fn units_of(alloc: Global, plan: &Plan<'_>) -> Result<Vec<Unit>, NoMemory>
-    ensures value { IfOk result (λ units. units.items ≡ units_before plan.now (length plan.now.graph.blocks)) }
+    ensures value { IfOk result
+        (λ units. units.items ≡ units_before plan.now (length plan.now.graph.blocks)) }
 {
     let cores = cores(alloc, plan.functions())?;
     let count = plan.blocks().len();

@@ -16,7 +16,8 @@ pub fn fresh_label(links: &mut Vec<Link>, at: u32) -> u64
     requires line { IsLine links.old.items (stamps_of links.old.items) }
     requires here { IsTrue (is_in at (stamps_of links.old.items)) }
     ensures same { SameLinks links.old.items links.new.items }
-    ensures rising { Rising (prev_of links.new.items) (label_of links.new.items) (stamps_of links.old.items) }
+    ensures rising { Rising (prev_of links.new.items) (label_of links.new.items)
+        (stamps_of links.old.items) }
     ensures between { Between links.new.items at result }
 {
     fresh_label_in(links, at)

@@ -89,7 +89,8 @@ pub fn splice(links: &mut Vec<Link>, at: u32, new: u32, label: u64)
     requires at { at < length links.old.items }
     requires new { new < length links.old.items }
     requires apart { at ≢ new }
-    requires next { next_of links.old.items at ≡ no_link ⊎ next_of links.old.items at < length links.old.items }
+    requires next { next_of links.old.items at ≡ no_link
+        ⊎ next_of links.old.items at < length links.old.items }
     requires next_apart { next_of links.old.items at ≢ new }
     ensures { Spliced links.old.items links.new.items at new label }
 {
@@ -101,7 +102,8 @@ pub fn unlink(links: &mut Vec<Link>, at: u32, free: u32)
     requires at { at < length links.old.items }
     requires prev { prev_of links.old.items at < length links.old.items }
     requires apart { prev_of links.old.items at ≢ at }
-    requires next { next_of links.old.items at ≡ no_link ⊎ next_of links.old.items at < length links.old.items }
+    requires next { next_of links.old.items at ≡ no_link
+        ⊎ next_of links.old.items at < length links.old.items }
     requires next_apart { next_of links.old.items at ≢ at }
     ensures { Unlinked links.old.items links.new.items at free }
 {

@@ -134,9 +134,11 @@ impl Order {
         ensures next_in { IfSome result (λ next. IsTrue (is_in next.0 self.now.stamps)) }
         ensures after { IfSome result (λ next.
             place next.0 self.now.stamps ≡ place stamp.0 self.now.stamps + 1) }
-        ensures inside { IfSome result (λ next. place next.0 self.now.stamps < length self.now.stamps) }
+        ensures inside { IfSome result
+            (λ next. place next.0 self.now.stamps < length self.now.stamps) }
         ensures last { IfNone result (successor stamp.0 self.now.stamps ≡ None) }
-        ensures at_end { IfNone result (place stamp.0 self.now.stamps + 1 ≡ length self.now.stamps) }
+        ensures at_end { IfNone result
+            (place stamp.0 self.now.stamps + 1 ≡ length self.now.stamps) }
     {
         let next = next_at(&self.links, stamp.0);
         if next == NO_LINK {

@@ -57,7 +57,8 @@ impl Rising {
     pub fn first_after(&self, order: &Order, stamp: Stamp) -> Option<Stamp>
         requires here { IsTrue (is_in stamp.0 order.now.stamps) }
         requires rising { IsRising order.now.stamps self.now }
-        ensures some { IfSome result (λ next. IsFirstAfter order.now.stamps self.now stamp.0 next.0) }
+        ensures some { IfSome result
+            (λ next. IsFirstAfter order.now.stamps self.now stamp.0 next.0) }
         ensures here { IfSome result (λ next. IsTrue (is_in next.0 order.now.stamps)) }
         ensures none { IfNone result (NoneAfter order.now.stamps self.now stamp.0) }
     {
@@ -71,7 +72,8 @@ impl Rising {
         requires absent { is_in stamp.0 self.old ≡ false }
         ensures at { IfOk result (λ at. at ≡ count_before order.now.stamps stamp.0 self.old) }
         ensures within { IfOk result (λ at. at ≤ length self.old) }
-        ensures ok { OnOk result (self.new ≡ insert self.old (count_before order.now.stamps stamp.0 self.old) stamp.0) }
+        ensures ok { OnOk result
+            (self.new ≡ insert self.old (count_before order.now.stamps stamp.0 self.old) stamp.0) }
         ensures err { OnErr result (self.new ≡ self.old) }
         ensures rising { IsRising order.now.stamps self.new }
     {
@@ -132,7 +134,8 @@ fn searched(order: &Order, stamps: &[Stamp], stamp: Stamp) -> usize
 fn next_of(order: &Order, stamps: &[Stamp], stamp: Stamp) -> Option<Stamp>
     requires here { IsTrue (is_in stamp.0 order.now.stamps) }
     requires rising { IsRising order.now.stamps (numbers stamps.now) }
-    ensures some { IfSome result (λ next. IsFirstAfter order.now.stamps (numbers stamps.now) stamp.0 next.0) }
+    ensures some { IfSome result
+        (λ next. IsFirstAfter order.now.stamps (numbers stamps.now) stamp.0 next.0) }
     ensures here { IfSome result (λ next. IsTrue (is_in next.0 order.now.stamps)) }
     ensures none { IfNone result (NoneAfter order.now.stamps (numbers stamps.now) stamp.0) }
 {
@@ -162,7 +165,9 @@ fn past(order: &Order, stamps: &[Stamp], stamp: Stamp) -> usize
 
 // Where a stamp first stands.
 fn index_of(stamps: &[Stamp], stamp: Stamp) -> Option<usize>
-    ensures some { IfSome result (λ at. (at < length stamps.now) × (remove (numbers stamps.now) at ≡ without stamp.0 (numbers stamps.now))) }
+    ensures some { IfSome result
+        (λ at. (at < length stamps.now)
+        × (remove (numbers stamps.now) at ≡ without stamp.0 (numbers stamps.now))) }
     ensures none { IfNone result (without stamp.0 (numbers stamps.now) ≡ numbers stamps.now) }
 {
     for (at, other) in stamps.iter().enumerate() {

@@ -16,6 +16,8 @@ use Rattle.ceal_grammar.specs.declared.state.State.TheVariants.{Top, Struct, Hea
 use Rattle.ceal_grammar.specs.Faults.{Accepts, IsFirstFault}
 use Rattle.ceal_grammar.specs.Judged.{judged, tested, advanced, finished, entries_of}
 use Rattle.ceal_grammar.specs.Machine.{step, nesting_of, item_of, operators_of}
+use Rattle.ceal_parse.specs.Reading.{Fits}
+use Rattle.ceal_parse.proofs.Fitting.{step_fits}
 
 module _ (ts : List Token) where
   pub found_from : (accepted : (tree : Tree) → judged (Top []) ts ≡ Ok tree → Accepts ts tree) (r : Result Tree FrontError)
@@ -73,29 +75,29 @@ module _ (s : State) (ts : List Token) (i : ℕ) (t : Token) (lt : i < length ts
 
 -- A state that a reading comes to keeps the limits.
 abbrev Kept : State → Type 0
-Kept s = (nesting_of s ≤ 64) × (operators_of s ≤ 255)
+Kept s = (nesting_of s ≤ 64) × (operators_of s ≤ 255) × Fits s
 
 same_ok : (a b : State) → ok a ≡ ok b → a ≡ b
 same_ok a b h = cc
 
-tested_kept : (item : ℕ) (t : Token) (s next : State) → tested item t s ≡ Ok next → Kept next
-tested_kept item t s next h = elim (leb_tells 65 (nesting_of s)) [
+tested_kept : (item : ℕ) (t : Token) (s next : State) → tested item t s ≡ Ok next → (item ≤ 255 → Fits s) → Kept next
+tested_kept item t s next h fits = elim (leb_tells 65 (nesting_of s)) [
   | inl p ↦ absurd (not_ok _ next (rw p.0 at h))
   | inr p ↦ elim (leb_tells 256 item) [
     | inl q ↦ absurd (not_ok _ next (rw (p.0, q.0) at h))
     | inr q ↦ elim (leb_tells 256 (operators_of s)) [
       | inl r ↦ absurd (not_ok _ next (rw (p.0, q.0, r.0) at h))
-      | inr r ↦ subst Kept (same_ok s next (rw (p.0, q.0, r.0) at h)) (omega (arith, p.1), omega (arith, r.1))
+      | inr r ↦ subst Kept (same_ok s next (rw (p.0, q.0, r.0) at h)) (omega (arith, p.1), omega (arith, r.1), fits (omega (arith, q.1)))
     ]
   ]
 ]
 
-pub kept : (s : State) (t : Token) (next : State) → advanced s t (step s t) ≡ Ok next → Kept next
-kept s t next h = go (step s t) h
+pub kept : (s : State) (t : Token) (next : State) → Fits s → advanced s t (step s t) ≡ Ok next → Kept next
+kept s t next fits h = go (step s t) refl h
   where
-    go : (o : Option State) → advanced s t o ≡ Ok next → Kept next
-    go None e = absurd (not_ok _ next e)
-    go (Some z) e = tested_kept (item_of s t) t z next e
+    go : (o : Option State) → step s t ≡ o → advanced s t o ≡ Ok next → Kept next
+    go None g e = absurd (not_ok _ next e)
+    go (Some z) g e = tested_kept (item_of s t) t z next e (λ i. step_fits s t z g i fits)
 
 pub at_end : (s : State) (ts : List Token) (i : ℕ) (J : Result Tree Fault) → length ts ≤ i → judged s (drop i ts) ≡ J → J ≡ finished s
 unfolding judged

@@ -1,5 +1,5 @@
 -- Where the parser's answers leave a reading.
-use Rattle.std.specs.Prelude.{Bool, true, false, Option, Some, None}
+use Rattle.std.specs.Prelude.{ℕ, suc, ◌≤◌, ◌≡◌, Bool, true, false, Option, Some, None}
 use Rattle.ceal_lex.specs.declared.token.Sign.{Sign}
 use Rattle.ceal_grammar.specs.declared.state.Inside.{Inside}
 use Rattle.ceal_grammar.specs.declared.state.Mode.{Mode}
@@ -7,9 +7,14 @@ use Rattle.ceal_grammar.specs.declared.state.Mode.TheVariants as Modes
 use Rattle.ceal_grammar.specs.declared.state.Place.{Place}
 use Rattle.ceal_grammar.specs.declared.state.Place.TheVariants.{Have}
 use Rattle.ceal_grammar.specs.declared.state.State.{State}
-use Rattle.ceal_grammar.specs.declared.state.State.TheVariants.{Top, In}
+use Rattle.ceal_grammar.specs.declared.state.State.TheVariants.{Top, Struct, In}
+use Rattle.ceal_grammar.specs.declared.state.StructPlace.{StructPlace}
+use Rattle.ceal_grammar.specs.declared.state.StructPlace.TheVariants as Structs
+use Rattle.ceal_grammar.specs.declared.state.TypePart.{TypePart}
+use Rattle.ceal_grammar.specs.declared.state.TypePart.TheVariants.{Done}
 use Rattle.ceal_grammar.specs.declared.state.Whole.{Whole}
-use Rattle.ceal_grammar.specs.Machine.{within, received}
+use Rattle.ceal_grammar.specs.Machine.{within, received, widened, is_cell}
+use Rattle.ceal_grammar.specs.Trees.{row_form}
 use Rattle.ceal_parse.specs.declared.turn.Part.{Part}
 use Rattle.ceal_parse.specs.declared.turn.Part.TheVariants as Parts
 use Rattle.ceal_parse.specs.declared.turn.Turn.{Turn}
@@ -46,3 +51,21 @@ abbrev pub turn_state : Inside → Mode → Turn → Option State
 turn_state i m Turns.Refused = None
 turn_state i m Turns.On = Some (In i m)
 turn_state i m Turns.Closed = Some (Top i.entries)
+
+-- How many fields the members of a struct are with one whose type was read so far.
+abbrev pub fields_with : ℕ → TypePart → ℕ
+fields_with c (Done form) = widened c form
+fields_with c _ = suc c
+
+-- The members of a struct are 255 fields at most, with the one at which the reading stands, and a length stands behind
+-- a modifiable. A reading within the limits comes to no other state.
+abbrev pub PlaceFits : StructPlace → Type 0
+PlaceFits (Structs.Typing l p) = fields_with l.count p ≤ 255
+PlaceFits (Structs.Ends l m) = widened l.count m.form ≤ 255
+PlaceFits (Structs.Length l m) = is_cell m.form ≡ true
+PlaceFits (Structs.Sized l m n) = (n ≤ 255) × (widened l.count (row_form m.form n) ≤ 255)
+PlaceFits _ = Unit {0}
+
+abbrev pub Fits : State → Type 0
+Fits (Struct es p) = PlaceFits p
+Fits _ = Unit {0}

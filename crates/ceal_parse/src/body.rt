@@ -67,7 +67,8 @@ fn receive_argument(
     expr: Expr,
     sign: Sign,
 ) -> Result<Option<Mode>, NoMemory>
-    ensures value { IfOk result (λ mode. mode ≡ at_argument nesting callee (arguments ++ expr ∷ []) sign) }
+    ensures value { IfOk result
+        (λ mode. mode ≡ at_argument nesting callee (arguments ++ expr ∷ []) sign) }
 {
     let mut arguments = arguments;
     match arguments.push(expr) {
@@ -88,7 +89,8 @@ fn receive(
     expr: Expr,
     sign: Sign,
 ) -> Result<Option<Mode>, NoMemory>
-    ensures value { IfOk result (λ mode. received inside.old nesting receiver expr sign ≡ placed inside.new mode) }
+    ensures value { IfOk result
+        (λ mode. received inside.old nesting receiver expr sign ≡ placed inside.new mode) }
 {
     match receiver {
         Receiver::Value(target) => {
@@ -136,7 +138,8 @@ fn take_ended(
     place: Place,
     sign: Sign,
 ) -> Result<Option<Mode>, NoMemory>
-    ensures value { IfOk result (λ mode. ended inside.old whole place sign ≡ placed inside.new mode) }
+    ensures value { IfOk result
+        (λ mode. ended inside.old whole place sign ≡ placed inside.new mode) }
 {
     match place {
         Place::Have(piece) => {
@@ -182,7 +185,9 @@ fn no_head(alloc: Global, at: Span) -> Head {
 
 /// Puts the function, whose body ends at `}`, behind the entries before it.
 fn close_function(alloc: Global, inside: &mut Inside, at: Span) -> Result<(), NoMemory>
-    ensures value { IfOk result (λ _. State.Top inside.new.entries ≡ block_closed inside.old.entries inside.old.head inside.old.done [] at) }
+    ensures value { IfOk result
+        (λ _. State.Top inside.new.entries
+        ≡ block_closed inside.old.entries inside.old.head inside.old.done [] at) }
 {
     let head = mem::replace(&mut inside.head, no_head(alloc, at));
     let body = mem::replace(&mut inside.done, Items::empty(alloc));
@@ -198,7 +203,9 @@ fn close_function(alloc: Global, inside: &mut Inside, at: Span) -> Result<(), No
 
 /// Goes back into what the block stood in, and gives the statements of the block.
 fn leave_block(inside: &mut Inside, outer: Opened) -> Mode
-    ensures value { State.In inside.new result ≡ block_closed inside.old.entries inside.old.head inside.old.done (outer ∷ inside.old.opened) (record { from = 0; to = 0 }) }
+    ensures value { State.In inside.new result
+        ≡ block_closed inside.old.entries inside.old.head inside.old.done
+        (outer ∷ inside.old.opened) (record { from = 0; to = 0 }) }
 {
     let body = mem::replace(&mut inside.done, outer.before);
     put(&mut inside.chain, outer.chain);
@@ -249,7 +256,9 @@ fn take_body(
     mode: &mut Mode,
     token: &Token,
 ) -> Result<Turn, NoMemory>
-    ensures value { IfOk result (λ turn. turn_state inside.new mode.new turn ≡ at_body inside.old token.now.span token.now.kind) }
+    ensures value { IfOk result
+        (λ turn. turn_state inside.new mode.new turn
+        ≡ at_body inside.old token.now.span token.now.kind) }
 {
     let at = token.span;
     match &token.kind {
@@ -277,7 +286,8 @@ fn take_ends(
     statement: Stmt,
     token: &Token,
 ) -> Result<Option<Mode>, NoMemory>
-    ensures value { IfOk result (λ mode. at_ends inside.old statement token.now.kind ≡ placed inside.new mode) }
+    ensures value { IfOk result
+        (λ mode. at_ends inside.old statement token.now.kind ≡ placed inside.new mode) }
 {
     if is_sign(token, Sign::Semicolon) {
         end_statement(alloc, inside, statement)?;
@@ -311,7 +321,8 @@ fn take_opens(
     token: &Token,
 ) -> Result<Option<Mode>, NoMemory>
     requires shallow { inside.old.nesting < 2 ^ 31 }
-    ensures value { IfOk result (λ mode. at_opens inside.old owner token.now.kind ≡ placed inside.new mode) }
+    ensures value { IfOk result
+        (λ mode. at_opens inside.old owner token.now.kind ≡ placed inside.new mode) }
 {
     if is_sign(token, Sign::LeftBrace) {
         open_block(alloc, inside, owner)?;
@@ -349,7 +360,9 @@ fn take_closed(
 /// The `if` waits for the one that is its else part, and which `at` begins.
 fn chain(inside: &mut Inside, branch: Chained, at: Span) -> Result<Mode, NoMemory>
     requires shallow { inside.old.nesting < 2 ^ 31 }
-    ensures value { IfOk result (λ mode. State.In inside.new mode ≡ State.In (chained_in inside.old branch) (Mode.Before (Receiver.If at))) }
+    ensures value { IfOk result
+        (λ mode. State.In inside.new mode
+        ≡ State.In (chained_in inside.old branch) (Mode.Before (Receiver.If at))) }
 {
     inside.chain.push(branch)?;
     inside.nesting += 1;
@@ -387,7 +400,9 @@ fn take_other(
     requires shallow { mode_nesting mode.old inside.old.nesting ≤ 64 }
     requires few { operators_in mode.old ≤ 255 }
     requires other { is_within mode.old ≡ false }
-    ensures value { IfOk result (λ turn. turn_state inside.new mode.new turn ≡ moved inside.old mode.old token.now.span token.now.kind) }
+    ensures value { IfOk result
+        (λ turn. turn_state inside.new mode.new turn
+        ≡ moved inside.old mode.old token.now.span token.now.kind) }
 {
     let nesting = inside.nesting;
     match mem::replace(mode, Mode::Body) {
@@ -457,7 +472,8 @@ fn end_whole(
     mode: &mut Mode,
     sign: Sign,
 ) -> Result<Turn, NoMemory>
-    ensures value { IfOk result (λ turn. turn_state inside.new mode.new turn ≡ mode_ended inside.old mode.old sign) }
+    ensures value { IfOk result
+        (λ turn. turn_state inside.new mode.new turn ≡ mode_ended inside.old mode.old sign) }
 {
     match mem::replace(mode, Mode::Body) {
         Mode::Within(whole, place) => {
@@ -480,7 +496,9 @@ pub fn take_mode(
 ) -> Result<Turn, NoMemory>
     requires shallow { mode_nesting mode.old inside.old.nesting ≤ 64 }
     requires few { operators_in mode.old ≤ 255 }
-    ensures value { IfOk result (λ turn. turn_state inside.new mode.new turn ≡ moved inside.old mode.old token.now.span token.now.kind) }
+    ensures value { IfOk result
+        (λ turn. turn_state inside.new mode.new turn
+        ≡ moved inside.old mode.old token.now.span token.now.kind) }
 {
     match mode {
         Mode::Within(whole, place) => match take_place(alloc, whole, place, token)? {

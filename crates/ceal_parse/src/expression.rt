@@ -2,7 +2,7 @@
 // goes on so.
 
 ghost use Rattle.std.specs.Prelude.{◌≡◌, ◌∷◌, ◌<◌, ◌^◌, Some, [], IfOk, if◌then◌else◌};
-ghost use Rattle.ceal_grammar.specs.Machine.{single as single_piece, prefixed, addressed, joined, picked, begun, operated, reduced, wants, operator_of, closes, at_prim, at_operand, at_pick, at_sign_after, at_after, at_place};
+ghost use Rattle.ceal_grammar.specs.Machine.{single as single_piece, prefixed, addressed, element_of, joined, accessed, begun, operated, reduced, same_sign as same_signs, wants, within, operator_of, closes, at_prim, at_operand, at_access, at_sign_after, at_index, at_after, at_element, at_place};
 ghost use Rattle.ceal_grammar.specs.declared.state.Inside.{Inside};
 ghost use Rattle.ceal_parse.specs.Reading.{part_state};
 
@@ -55,8 +55,16 @@ fn join(
     Ok(single(left.from, ExprForm::Binary(operator, at, first, second)))
 }
 
-fn pick(alloc: Global, piece: Piece, field: Ident) -> Result<Piece, NoMemory>
-    ensures value { IfOk result (λ p. p ≡ picked piece field) }
+/// The element of the row, by the index.
+fn element(alloc: Global, at: Span, row: Expr, index: Piece) -> Result<Piece, NoMemory>
+    ensures value { IfOk result (λ p. p ≡ element_of at row index) }
+{
+    let (first, second) = boxed(alloc, row, index.expr)?;
+    Ok(single(at, ExprForm::Pick(first, second)))
+}
+
+fn access(alloc: Global, piece: Piece, field: Ident) -> Result<Piece, NoMemory>
+    ensures value { IfOk result (λ p. p ≡ accessed piece field) }
 {
     let operand = Boxed::new(alloc, piece.expr)?;
     Ok(single(piece.from, ExprForm::Field(operand, field)))
@@ -83,12 +91,17 @@ fn reduce(
     piece: Piece,
     frames: &mut Stack<Frame>,
 ) -> Result<Piece, NoMemory>
-    ensures value { IfOk result (λ p. reduced lowest piece frames.old ≡ record { piece = p; frames = frames.new }) }
+    ensures value { IfOk result
+        (λ p. reduced lowest piece frames.old ≡ record { piece = p; frames = frames.new }) }
 {
     match frames.pop() {
         None => Ok(piece),
         Some(Frame::Open(at, nesting)) => {
             let piece = put_back(frames, Frame::Open(at, nesting), piece)?;
+            Ok(piece)
+        }
+        Some(Frame::Index(at, row, nesting)) => {
+            let piece = put_back(frames, Frame::Index(at, row, nesting), piece)?;
             Ok(piece)
         }
         Some(Frame::Prefix(operator, at)) => {
@@ -127,7 +140,8 @@ fn operate(whole: &mut Whole, place: &mut Place, frame: Frame, next: Place) -> R
 }
 
 fn take_prim_word(place: &mut Place, at: Span, word: Reserved) -> bool
-    ensures value { (w : Whole) → wants result (Mode.Within w place.new) ≡ at_prim w at (TokenKind.Reserved word) }
+    ensures value { (w : Whole)
+        → wants result (Mode.Within w place.new) ≡ at_prim w at (TokenKind.Reserved word) }
 {
     if same_word(word, Reserved::Own) {
         put(place, Place::Have(single(at, ExprForm::Own)));
@@ -147,7 +161,9 @@ fn take_prim_sign(
     sign: Sign,
 ) -> Result<bool, NoMemory>
     requires shallow { whole.old.nesting < 2 ^ 31 }
-    ensures value { IfOk result (λ on. wants on (Mode.Within whole.new place.new) ≡ at_prim whole.old at (TokenKind.Sign sign)) }
+    ensures value { IfOk result
+        (λ on. wants on (Mode.Within whole.new place.new)
+        ≡ at_prim whole.old at (TokenKind.Sign sign)) }
 {
     if same_sign(sign, Sign::LeftParenthesis) {
         whole.frames.push(Frame::Open(at, whole.nesting))?;
@@ -162,7 +178,9 @@ fn take_prim_sign(
 /// An operand without a sign before it.
 fn take_prim(whole: &mut Whole, place: &mut Place, token: &Token) -> Result<bool, NoMemory>
     requires shallow { whole.old.nesting < 2 ^ 31 }
-    ensures value { IfOk result (λ on. wants on (Mode.Within whole.new place.new) ≡ at_prim whole.old token.now.span token.now.kind) }
+    ensures value { IfOk result
+        (λ on. wants on (Mode.Within whole.new place.new)
+        ≡ at_prim whole.old token.now.span token.now.kind) }
 {
     let at = token.span;
     match &token.kind {
@@ -191,7 +209,9 @@ fn take_prim(whole: &mut Whole, place: &mut Place, token: &Token) -> Result<bool
 fn take_operand(whole: &mut Whole, place: &mut Place, token: &Token) -> Result<bool, NoMemory>
     requires shallow { whole.old.nesting < 2 ^ 31 }
     requires few { whole.old.operators < 2 ^ 31 }
-    ensures value { IfOk result (λ on. wants on (Mode.Within whole.new place.new) ≡ at_operand whole.old token.now.span token.now.kind) }
+    ensures value { IfOk result
+        (λ on. wants on (Mode.Within whole.new place.new)
+        ≡ at_operand whole.old token.now.span token.now.kind) }
 {
     let at = token.span;
     if is_sign(token, Sign::Minus) {
@@ -210,17 +230,19 @@ fn take_operand(whole: &mut Whole, place: &mut Place, token: &Token) -> Result<b
 }
 
 /// The name of a field of the piece.
-fn take_pick(
+fn take_access(
     alloc: Global,
     place: &mut Place,
     piece: Piece,
     token: &Token,
 ) -> Result<bool, NoMemory>
-    ensures value { IfOk result (λ on. (w : Whole) → wants on (Mode.Within w place.new) ≡ at_pick w piece token.now.span token.now.kind) }
+    ensures value { IfOk result
+        (λ on. (w : Whole)
+        → wants on (Mode.Within w place.new) ≡ at_access w piece token.now.span token.now.kind) }
 {
     match name(token) {
         Ok(Some(field)) => {
-            let piece = pick(alloc, piece, field)?;
+            let piece = access(alloc, piece, field)?;
             put(place, Place::Have(piece));
             Ok(true)
         }
@@ -235,34 +257,67 @@ fn take_pick(
     }
 }
 
-/// A sign behind the piece that no operator waits for: a `)` within the whole expression, or its end.
-fn close(whole: &mut Whole, place: &mut Place, sign: Sign, piece: Piece) -> Part
-    ensures value { (i : Inside) → part_state i whole.new place.new result ≡ closes i whole.old sign piece whole.old.frames }
+/// The sign behind an index.
+fn close_index(
+    alloc: Global,
+    place: &mut Place,
+    sign: Sign,
+    row: (Span, Expr),
+    index: Piece,
+) -> Result<Part, NoMemory>
+    ensures value { IfOk result (λ part. (i : Inside) (w : Whole) → part_state i w place.new part
+        ≡ wants (same_signs sign Sign.RightBracket) (within i w (Place.Element (element_of row.0 row.1 index)))) }
+{
+    let piece = element(alloc, row.0, row.1, index)?;
+    put(place, Place::Element(piece));
+    if same_sign(sign, Sign::RightBracket) {
+        Ok(Part::On)
+    } else {
+        Ok(Part::Refused)
+    }
+}
+
+/// A sign behind the piece that no operator waits for: a `)` or `]` within the whole expression, or its end.
+fn close(
+    alloc: Global,
+    whole: &mut Whole,
+    place: &mut Place,
+    sign: Sign,
+    piece: Piece,
+) -> Result<Part, NoMemory>
+    ensures value { IfOk result
+        (λ part. (i : Inside)
+        → part_state i whole.new place.new part ≡ closes i whole.old sign piece whole.old.frames) }
 {
     match whole.frames.pop() {
         None => {
             put(place, Place::Have(piece));
-            Part::Ended(sign)
+            Ok(Part::Ended(sign))
+        }
+        Some(Frame::Index(at, row, nesting)) => {
+            whole.nesting = nesting;
+            let part = close_index(alloc, place, sign, (at, row), piece)?;
+            Ok(part)
         }
         Some(Frame::Open(at, nesting)) => {
             let expr = piece.expr;
             put(place, Place::Have(Piece { from: at, expr }));
             whole.nesting = nesting;
             if same_sign(sign, Sign::RightParenthesis) {
-                Part::On
+                Ok(Part::On)
             } else {
-                Part::Refused
+                Ok(Part::Refused)
             }
         }
         Some(frame) => {
             drop(frame);
             drop(piece);
-            Part::Refused
+            Ok(Part::Refused)
         }
     }
 }
 
-/// A sign behind the piece, other than an arrow.
+/// A sign behind the piece, other than an arrow and the `[` of an index.
 fn take_sign(
     alloc: Global,
     whole: &mut Whole,
@@ -283,7 +338,58 @@ fn take_sign(
         }
         None => {
             let piece = reduce(alloc, 0, piece, &mut whole.frames)?;
-            Ok(close(whole, place, sign, piece))
+            let part = close(alloc, whole, place, sign, piece)?;
+            Ok(part)
+        }
+    }
+}
+
+/// The `[` of an index, which stands behind the operand of an `&` alone.
+fn take_index(whole: &mut Whole, place: &mut Place, piece: Piece) -> Result<Part, NoMemory>
+    requires shallow { whole.old.nesting < 2 ^ 31 }
+    requires few { whole.old.operators < 2 ^ 31 }
+    ensures value { IfOk result
+        (λ part. (i : Inside)
+        → part_state i whole.new place.new part ≡ at_index i whole.old piece whole.old.frames) }
+{
+    match whole.frames.pop() {
+        Some(Frame::Address(at)) => {
+            whole
+                .frames
+                .push(Frame::Index(at, piece.expr, whole.nesting))?;
+            whole.nesting += 1;
+            whole.operators += 1;
+            put(place, Place::Want);
+            Ok(Part::On)
+        }
+        other => {
+            drop(other);
+            drop(piece);
+            Ok(Part::Refused)
+        }
+    }
+}
+
+/// A token behind an operand with an index.
+fn take_element(
+    alloc: Global,
+    whole: &mut Whole,
+    place: &mut Place,
+    piece: Piece,
+    token: &Token,
+) -> Result<Part, NoMemory>
+    requires few { whole.old.operators < 2 ^ 31 }
+    ensures value { IfOk result (λ part. (i : Inside) → part_state i whole.new place.new part
+        ≡ at_element i whole.old piece token.now.span token.now.kind) }
+{
+    match token.kind {
+        TokenKind::Sign(sign) => {
+            let part = take_sign(alloc, whole, place, piece, token.span, sign)?;
+            Ok(part)
+        }
+        _ => {
+            drop(piece);
+            Ok(Part::Refused)
         }
     }
 }
@@ -295,6 +401,7 @@ fn take_after(
     piece: Piece,
     token: &Token,
 ) -> Result<Part, NoMemory>
+    requires shallow { whole.old.nesting < 2 ^ 31 }
     requires few { whole.old.operators < 2 ^ 31 }
     ensures value { IfOk result (λ part. (i : Inside) → part_state i whole.new place.new part
         ≡ at_after i whole.old piece token.now.span token.now.kind) }
@@ -303,8 +410,11 @@ fn take_after(
         TokenKind::Sign(sign) => {
             if same_sign(sign, Sign::Arrow) {
                 whole.operators += 1;
-                put(place, Place::Pick(piece));
+                put(place, Place::Access(piece));
                 Ok(Part::On)
+            } else if same_sign(sign, Sign::LeftBracket) {
+                let part = take_index(whole, place, piece)?;
+                Ok(part)
             } else {
                 let part = take_sign(alloc, whole, place, piece, token.span, sign)?;
                 Ok(part)
@@ -349,8 +459,12 @@ pub fn take_place(
             let part = take_after(alloc, whole, place, piece, token)?;
             Ok(part)
         }
-        Place::Pick(piece) => {
-            let on = take_pick(alloc, place, piece, token)?;
+        Place::Element(piece) => {
+            let part = take_element(alloc, whole, place, piece, token)?;
+            Ok(part)
+        }
+        Place::Access(piece) => {
+            let on = take_access(alloc, place, piece, token)?;
             Ok(going(on))
         }
     }
@@ -376,7 +490,8 @@ pub fn take_whole(
     token: &Token,
 ) -> Result<Option<Mode>, NoMemory>
     requires shallow { nesting < 2 ^ 31 }
-    ensures value { IfOk result (λ mode. mode ≡ at_operand (begun nesting receiver) token.now.span token.now.kind) }
+    ensures value { IfOk result
+        (λ mode. mode ≡ at_operand (begun nesting receiver) token.now.span token.now.kind) }
 {
     let mut whole = begin(alloc, nesting, receiver);
     let mut place = Place::Want;

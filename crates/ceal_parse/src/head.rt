@@ -14,7 +14,8 @@ use ceal_lex::token::{Reserved, Sign, Token};
 use std::alloc::Global;
 
 fn take_ceal(entries: Items<Entry>, token: &Token) -> Result<Option<State>, NoMemory>
-    ensures value { IfOk result (λ next. next ≡ at_head entries HeadPlace.Ceal token.now.span token.now.kind) }
+    ensures value { IfOk result
+        (λ next. next ≡ at_head entries HeadPlace.Ceal token.now.span token.now.kind) }
 {
     match name(token) {
         Ok(Some(name)) => Ok(Some(State::Head(entries, HeadPlace::CealNamed(name)))),
@@ -35,7 +36,8 @@ fn take_ceal_named(
     name: Ident,
     token: &Token,
 ) -> Option<State>
-    ensures value { result ≡ at_head entries (HeadPlace.CealNamed name) token.now.span token.now.kind }
+    ensures value { result
+        ≡ at_head entries (HeadPlace.CealNamed name) token.now.span token.now.kind }
 {
     if is_sign(token, Sign::LeftParenthesis) {
         let head = Head {
@@ -52,7 +54,8 @@ fn take_ceal_named(
 }
 
 fn take_init(entries: Items<Entry>, token: &Token) -> Result<Option<State>, NoMemory>
-    ensures value { IfOk result (λ next. next ≡ at_head entries HeadPlace.Init token.now.span token.now.kind) }
+    ensures value { IfOk result
+        (λ next. next ≡ at_head entries HeadPlace.Init token.now.span token.now.kind) }
 {
     match name(token) {
         Ok(Some(name)) => Ok(Some(State::Head(entries, HeadPlace::InitNamed(name)))),
@@ -68,7 +71,8 @@ fn take_init(entries: Items<Entry>, token: &Token) -> Result<Option<State>, NoMe
 }
 
 fn take_init_named(entries: Items<Entry>, name: Ident, token: &Token) -> Option<State>
-    ensures value { result ≡ at_head entries (HeadPlace.InitNamed name) token.now.span token.now.kind }
+    ensures value { result
+        ≡ at_head entries (HeadPlace.InitNamed name) token.now.span token.now.kind }
 {
     if is_sign(token, Sign::LeftParenthesis) {
         Some(State::Head(entries, HeadPlace::InitOpened(name)))
@@ -80,7 +84,8 @@ fn take_init_named(entries: Items<Entry>, name: Ident, token: &Token) -> Option<
 }
 
 fn take_init_opened(entries: Items<Entry>, name: Ident, token: &Token) -> Option<State>
-    ensures value { result ≡ at_head entries (HeadPlace.InitOpened name) token.now.span token.now.kind }
+    ensures value { result
+        ≡ at_head entries (HeadPlace.InitOpened name) token.now.span token.now.kind }
 {
     if is_word(token, Reserved::Struct) {
         Some(State::Head(entries, HeadPlace::InitStruct(name)))
@@ -97,7 +102,9 @@ fn take_init_struct(
     function: Ident,
     token: &Token,
 ) -> Result<Option<State>, NoMemory>
-    ensures value { IfOk result (λ next. next ≡ at_head entries (HeadPlace.InitStruct function) token.now.span token.now.kind) }
+    ensures value { IfOk result
+        (λ next. next
+        ≡ at_head entries (HeadPlace.InitStruct function) token.now.span token.now.kind) }
 {
     match name(token) {
         Ok(Some(shape)) => {
@@ -134,7 +141,8 @@ fn take_shaped(entries: Items<Entry>, head: Head, token: &Token) -> Option<State
 }
 
 fn take_starred(entries: Items<Entry>, head: Head, token: &Token) -> Option<State>
-    ensures value { result ≡ at_head entries (HeadPlace.Starred head) token.now.span token.now.kind }
+    ensures value { result
+        ≡ at_head entries (HeadPlace.Starred head) token.now.span token.now.kind }
 {
     if is_word(token, Reserved::Own) {
         Some(State::Head(entries, HeadPlace::Named(head)))
@@ -184,7 +192,9 @@ fn take_typing(
     part: TypePart,
     token: &Token,
 ) -> Result<Option<State>, NoMemory>
-    ensures value { IfOk result (λ next. next ≡ at_head entries (HeadPlace.Typing head part) token.now.span token.now.kind) }
+    ensures value { IfOk result
+        (λ next. next
+        ≡ at_head entries (HeadPlace.Typing head part) token.now.span token.now.kind) }
 {
     match take_type(false, part, token) {
         Ok(Some(Typing::More(part))) => Ok(Some(State::Head(
@@ -257,7 +267,8 @@ pub fn take_head(
     place: HeadPlace,
     token: &Token,
 ) -> Result<Option<State>, NoMemory>
-    ensures value { IfOk result (λ next. next ≡ at_head entries place token.now.span token.now.kind) }
+    ensures value { IfOk result
+        (λ next. next ≡ at_head entries place token.now.span token.now.kind) }
 {
     match place {
         HeadPlace::Ceal => take_ceal(entries, token),

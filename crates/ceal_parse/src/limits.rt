@@ -1,10 +1,12 @@
 // What the limits count, at a state.
 
 ghost use Rattle.std.specs.Prelude.{◌≡◌, ◌<◌, ◌^◌, if◌then◌else◌};
-ghost use Rattle.ceal_grammar.specs.Machine.{is_sign as is_sign_kind, making_nesting, mode_nesting, struct_nesting, head_nesting, nesting_of, operators_in, operators_of, argument_number, argument_begun, place_item, mode_item, struct_item, head_item, item_of};
+ghost use Rattle.ceal_grammar.specs.Machine.{is_sign as is_sign_kind, making_nesting, mode_nesting, struct_nesting, head_nesting, nesting_of, operators_in, operators_of, argument_number, argument_begun, place_item, mode_item, length_of, length_item, struct_item, head_item, item_of};
 
-use crate::marks::is_sign;
-use ceal_grammar::state::{HeadPlace, Making, Mode, Place, Receiver, State, StructPlace, Whole};
+use crate::marks::{is_sign, length};
+use ceal_grammar::state::{
+    HeadPlace, Layout, Making, Mode, Place, Receiver, State, StructPlace, Whole,
+};
 use ceal_lex::token::{Sign, Token};
 
 fn making(making: &Making, nesting: u64) -> u64
@@ -36,6 +38,8 @@ fn within_struct(place: &StructPlace) -> u64
         StructPlace::Members(_) => 1,
         StructPlace::Typing(_, _) => 1,
         StructPlace::Ends(_, _) => 1,
+        StructPlace::Length(_, _) => 2,
+        StructPlace::Sized(_, _, _) => 2,
         _ => 0,
     }
 }
@@ -135,17 +139,27 @@ fn body_item(mode: &Mode, token: &Token) -> usize
     }
 }
 
+fn row_item(layout: &Layout, token: &Token) -> usize
+    ensures value { result ≡ length_item layout.now.count (length_of token.now.kind) }
+{
+    match length(token) {
+        Some(length) => layout.count as usize + length as usize,
+        None => 0,
+    }
+}
+
 fn member_item(place: &StructPlace, token: &Token) -> usize
     ensures value { result ≡ struct_item place.now token.now.kind }
 {
     match place {
-        StructPlace::Members(shape) => {
+        StructPlace::Members(layout) => {
             if is_sign(token, Sign::RightBrace) {
                 0
             } else {
-                shape.fields.items().len() + 1
+                layout.count as usize + 1
             }
         }
+        StructPlace::Length(layout, _) => row_item(layout, token),
         _ => 0,
     }
 }
@@ -160,7 +174,8 @@ fn parameter_item(place: &HeadPlace, token: &Token) -> usize
     }
 }
 
-/// The number of the item of a list that begins with the token, 0 where none begins.
+/// The number of the item of a list that begins with the token, 0 where none begins; at the length of a row the number
+/// of its last field.
 pub fn item(state: &State, token: &Token) -> usize
     ensures value { result ≡ item_of state.now token.now }
 {

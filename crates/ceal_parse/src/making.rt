@@ -36,7 +36,8 @@ pub fn call(callee: Callee, arguments: Exprs) -> Stmt
 }
 
 fn take_shape(target: Target, at: Span, token: &Token) -> Result<Option<Mode>, NoMemory>
-    ensures value { IfOk result (λ mode. mode ≡ at_making (Making.Alloc target at) token.now.span token.now.kind) }
+    ensures value { IfOk result
+        (λ mode. mode ≡ at_making (Making.Alloc target at) token.now.span token.now.kind) }
 {
     match name(token) {
         Ok(Some(shape)) => Ok(Some(Mode::Making(Making::Shape(target, at, shape)))),
@@ -57,7 +58,8 @@ fn take_initialiser(
     shape: Ident,
     token: &Token,
 ) -> Result<Option<Mode>, NoMemory>
-    ensures value { IfOk result (λ mode. mode ≡ at_making (Making.Shape target at shape) token.now.span token.now.kind) }
+    ensures value { IfOk result
+        (λ mode. mode ≡ at_making (Making.Shape target at shape) token.now.span token.now.kind) }
 {
     match name(token) {
         Ok(Some(name)) => Ok(Some(Mode::Calls(Callee::Alloc(target, at, shape, name)))),
@@ -87,7 +89,8 @@ fn modref_int(target: Target, at: Span, word: Reserved) -> Option<Mode>
 }
 
 fn modref_shape(target: Target, at: Span, text: &Text, span: Span) -> Result<Option<Mode>, NoMemory>
-    ensures value { IfOk result (λ mode. mode ≡ at_modref target at span (TokenKind.Name text.now)) }
+    ensures value { IfOk result
+        (λ mode. mode ≡ at_modref target at span (TokenKind.Name text.now)) }
 {
     match text.copy() {
         Ok(text) => {
@@ -157,7 +160,8 @@ pub fn take_value(
     token: &Token,
 ) -> Result<Option<Mode>, NoMemory>
     requires shallow { nesting < 2 ^ 31 }
-    ensures value { IfOk result (λ mode. mode ≡ at_value nesting target token.now.span token.now.kind) }
+    ensures value { IfOk result
+        (λ mode. mode ≡ at_value nesting target token.now.span token.now.kind) }
 {
     let at = token.span;
     if is_word(token, Reserved::Read) {

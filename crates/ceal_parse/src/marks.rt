@@ -1,8 +1,8 @@
 // What a token is, and which operator a sign is.
 
-ghost use Rattle.std.specs.Prelude.{◌≡◌, IfOk};
+ghost use Rattle.std.specs.Prelude.{◌≡◌, ◌<◌, ◌^◌, IfOk, IfSome};
 ghost use Rattle.ceal_grammar.specs.Grammar.{level as level_of_operator};
-ghost use Rattle.ceal_grammar.specs.Machine.{same_sign as same_signs, same_word as same_words, is_sign as is_sign_kind, is_word as is_word_kind, operator_of, ident_of};
+ghost use Rattle.ceal_grammar.specs.Machine.{same_sign as same_signs, same_word as same_words, is_sign as is_sign_kind, is_word as is_word_kind, operator_of, length_of, ident_of};
 
 use ceal_base::no_memory::NoMemory;
 use ceal_base::operators::Binary;
@@ -57,6 +57,7 @@ pub fn level(operator: Binary) -> u8
         Binary::Mul => 6,
         Binary::Div => 6,
         Binary::Rem => 6,
+        Binary::Pick(_) => 0,
     }
 }
 
@@ -78,6 +79,17 @@ pub fn operator(sign: Sign) -> Option<Binary>
         Sign::BangEquals => Some(Binary::Differ),
         Sign::AndAnd => Some(Binary::And),
         Sign::BarBar => Some(Binary::Or),
+        _ => None,
+    }
+}
+
+/// The length of a row that the token is: a number above 0.
+pub fn length(token: &Token) -> Option<u64>
+    ensures value { result ≡ length_of token.now.kind }
+    ensures small { IfSome result (λ n. n < 2 ^ 63) }
+{
+    match token.kind {
+        TokenKind::Number(value) if value > 0 => Some(value as u64),
         _ => None,
     }
 }

@@ -4,7 +4,7 @@ ghost use Rattle.std.specs.Prelude.{◌≡◌, ◌≤◌, [], true, false, IfOk,
 ghost use Rattle.ceal_base.specs.Answers.{Fails};
 ghost use Rattle.ceal_grammar.specs.Judged.{advanced, tested, entries_of, code_at, fault_at};
 ghost use Rattle.ceal_grammar.specs.Machine.{at_part, at_top, nesting_of, operators_of, step, wants};
-ghost use Rattle.ceal_parse.specs.Reading.{is_inside};
+ghost use Rattle.ceal_parse.specs.Reading.{is_inside, Fits};
 
 use crate::body::take_mode;
 use crate::head::take_head;
@@ -53,6 +53,7 @@ fn take_top(entries: Items<Entry>, token: &Token) -> Option<State>
 /// A token within no body.
 fn take_outside(alloc: Global, state: State, token: &Token) -> Result<Option<State>, NoMemory>
     requires outside { is_inside state ≡ false }
+    requires room { Fits state }
     ensures value { IfOk result (λ next. next ≡ step state token.now) }
 {
     match state {
@@ -114,7 +115,9 @@ impl Parser {
     /// A token within no body: whether a program goes on so.
     fn step_outside(&mut self, token: &Token) -> Result<bool, NoMemory>
         requires outside { is_inside self.old.state ≡ false }
-        ensures value { IfOk result (λ on. wants on self.new.state ≡ step self.old.state token.now) }
+        requires room { Fits self.old.state }
+        ensures value { IfOk result
+            (λ on. wants on self.new.state ≡ step self.old.state token.now) }
     {
         let state = mem::replace(&mut self.state, State::Top(Items::empty(self.alloc)));
         match take_outside(self.alloc, state, token)? {
@@ -130,7 +133,9 @@ impl Parser {
     fn step(&mut self, token: &Token) -> Result<bool, NoMemory>
         requires shallow { nesting_of self.old.state ≤ 64 }
         requires few { operators_of self.old.state ≤ 255 }
-        ensures value { IfOk result (λ on. wants on self.new.state ≡ step self.old.state token.now) }
+        requires room { Fits self.old.state }
+        ensures value { IfOk result
+            (λ on. wants on self.new.state ≡ step self.old.state token.now) }
     {
         let alloc = self.alloc;
         match &mut self.state {
@@ -170,6 +175,7 @@ impl Parser {
     pub fn advance(&mut self, token: &Token) -> Result<(), FrontError>
         requires shallow { nesting_of self.old.state ≤ 64 }
         requires few { operators_of self.old.state ≤ 255 }
+        requires room { Fits self.old.state }
         ensures value { MatchResult result (λ _. advanced self.old.state token.now (step self.old.state token.now) ≡ Ok self.new.state)
             (λ error. Fails error (advanced self.old.state token.now (step self.old.state token.now))) }
     {

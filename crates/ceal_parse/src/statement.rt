@@ -68,7 +68,8 @@ pub fn take_end(
     statement: Stmt,
     sign: Sign,
 ) -> Result<Option<Mode>, NoMemory>
-    ensures value { IfOk result (λ mode. ends_at inside.old statement sign ≡ placed inside.new mode) }
+    ensures value { IfOk result
+        (λ mode. ends_at inside.old statement sign ≡ placed inside.new mode) }
 {
     if same_sign(sign, Sign::Semicolon) {
         end_statement(alloc, inside, statement)?;
@@ -107,6 +108,10 @@ fn take_statement(at: Span, word: Reserved) -> Option<Mode>
         Some(Mode::Before(Receiver::While(at)))
     } else if same_word(word, Reserved::Return) {
         Some(Mode::Ends(Stmt::Return(at)))
+    } else if same_word(word, Reserved::Break) {
+        Some(Mode::Ends(Stmt::Break(at)))
+    } else if same_word(word, Reserved::Continue) {
+        Some(Mode::Ends(Stmt::Continue(at)))
     } else if same_word(word, Reserved::Write) {
         Some(Mode::Before(Receiver::Write(at)))
     } else if same_word(word, Reserved::Own) {
@@ -226,7 +231,8 @@ pub fn take_reached(
     token: &Token,
 ) -> Result<Option<Mode>, NoMemory>
     requires few { arrows < 2 ^ 31 }
-    ensures value { IfOk result (λ mode. mode ≡ at_reached nesting path name arrows token.now.kind) }
+    ensures value { IfOk result
+        (λ mode. mode ≡ at_reached nesting path name arrows token.now.kind) }
 {
     if is_sign(token, Sign::Arrow) {
         let path = field(alloc, path, name)?;
@@ -260,7 +266,9 @@ fn first_argument(
     token: &Token,
 ) -> Result<Option<Mode>, NoMemory>
     requires shallow { nesting < 2 ^ 31 }
-    ensures value { IfOk result (λ mode. mode ≡ at_operand (begun nesting (Receiver.Argument callee [])) token.now.span token.now.kind) }
+    ensures value { IfOk result
+        (λ mode. mode
+        ≡ at_operand (begun nesting (Receiver.Argument callee [])) token.now.span token.now.kind) }
 {
     let receiver = Receiver::Argument(callee, Items::empty(alloc));
     take_whole(alloc, nesting, receiver, token)
@@ -274,7 +282,8 @@ pub fn take_first(
     token: &Token,
 ) -> Result<Option<Mode>, NoMemory>
     requires shallow { nesting < 2 ^ 30 }
-    ensures value { IfOk result (λ mode. mode ≡ at_first nesting callee token.now.span token.now.kind) }
+    ensures value { IfOk result
+        (λ mode. mode ≡ at_first nesting callee token.now.span token.now.kind) }
 {
     if is_sign(token, Sign::RightParenthesis) {
         Ok(Some(Mode::Ends(call(callee, Items::empty(alloc)))))

@@ -35,7 +35,8 @@ pub fn start_type(token: &Token) -> Option<TypePart>
 
 /// A type that has ended, and the name behind it.
 fn named(form: TypeForm, token: &Token) -> Result<Option<Typing>, NoMemory>
-    ensures value { IfOk result (λ next. next ≡ at_type false (TypePart.Done form) token.now.span token.now.kind) }
+    ensures value { IfOk result
+        (λ next. next ≡ at_type false (TypePart.Done form) token.now.span token.now.kind) }
 {
     match name(token) {
         Ok(Some(name)) => Ok(Some(Typing::Named(form, name))),
@@ -63,7 +64,9 @@ fn take_mod(token: &Token) -> Option<Typing>
 }
 
 fn take_mod_int(cells: bool, token: &Token) -> Result<Option<Typing>, NoMemory>
-    ensures value { IfOk result (λ next. next ≡ star_or cells TypeForm.ModInt TypeForm.CellInt token.now.span token.now.kind) }
+    ensures value { IfOk result
+        (λ next. next
+        ≡ star_or cells TypeForm.ModInt TypeForm.CellInt token.now.span token.now.kind) }
 {
     if is_sign(token, Sign::Star) {
         Ok(Some(Typing::More(TypePart::Done(TypeForm::ModInt))))
@@ -75,7 +78,10 @@ fn take_mod_int(cells: bool, token: &Token) -> Result<Option<Typing>, NoMemory>
 }
 
 fn take_mod_named(cells: bool, shape: Ident, token: &Token) -> Result<Option<Typing>, NoMemory>
-    ensures value { IfOk result (λ next. next ≡ star_or cells (TypeForm.ModPtr shape) (TypeForm.CellPtr shape) token.now.span token.now.kind) }
+    ensures value { IfOk result
+        (λ next. next
+        ≡ star_or cells (TypeForm.ModPtr shape)
+        (TypeForm.CellPtr shape) token.now.span token.now.kind) }
 {
     if is_sign(token, Sign::Star) {
         Ok(Some(Typing::More(TypePart::Done(TypeForm::ModPtr(shape)))))
@@ -88,7 +94,8 @@ fn take_mod_named(cells: bool, shape: Ident, token: &Token) -> Result<Option<Typ
 }
 
 fn take_struct(token: &Token) -> Result<Option<Typing>, NoMemory>
-    ensures value { IfOk result (λ next. next ≡ at_type false TypePart.Struct token.now.span token.now.kind) }
+    ensures value { IfOk result
+        (λ next. next ≡ at_type false TypePart.Struct token.now.span token.now.kind) }
 {
     match name(token)? {
         Some(name) => Ok(Some(Typing::More(TypePart::StructNamed(name)))),
@@ -97,7 +104,8 @@ fn take_struct(token: &Token) -> Result<Option<Typing>, NoMemory>
 }
 
 fn take_struct_star(shape: Ident, token: &Token) -> Option<Typing>
-    ensures value { result ≡ at_type false (TypePart.StructNamed shape) token.now.span token.now.kind }
+    ensures value { result
+        ≡ at_type false (TypePart.StructNamed shape) token.now.span token.now.kind }
 {
     if is_sign(token, Sign::Star) {
         Some(Typing::More(TypePart::Done(TypeForm::Ptr(shape))))
@@ -108,7 +116,8 @@ fn take_struct_star(shape: Ident, token: &Token) -> Option<Typing>
 }
 
 fn take_mod_struct(token: &Token) -> Result<Option<Typing>, NoMemory>
-    ensures value { IfOk result (λ next. next ≡ at_type false TypePart.ModStruct token.now.span token.now.kind) }
+    ensures value { IfOk result
+        (λ next. next ≡ at_type false TypePart.ModStruct token.now.span token.now.kind) }
 {
     match name(token)? {
         Some(name) => Ok(Some(Typing::More(TypePart::ModNamed(name)))),

@@ -4,14 +4,14 @@ use Rattle.std.proofs.lemmas.Bool.Decides.{leb_tells}
 use Rattle.ceal_base.specs.declared.fault.Span.{Span}
 use Rattle.ceal_base.specs.declared.syntax.Expr.{Expr}
 use Rattle.ceal_base.specs.declared.syntax.ExprForm.TheBlock.{hidden-the_row-Expr-0, shape-the_row-Expr-0}
-use Rattle.ceal_base.specs.declared.syntax.ExprForm.TheViews.{Unary, Binary, Field, Address}
+use Rattle.ceal_base.specs.declared.syntax.ExprForm.TheViews.{Unary, Binary, Field, Address, Pick}
 use Rattle.ceal_base.specs.declared.syntax.Ident.{Ident}
 use Rattle.ceal_lex.specs.declared.token.Reserved.TheVariants as Words
 use Rattle.ceal_lex.specs.declared.token.Sign.TheVariants as Signs
 use Rattle.ceal_lex.specs.declared.token.Token.{Token}
 use Rattle.ceal_lex.specs.declared.token.TokenKind.{TokenKind}
 use Rattle.ceal_lex.specs.declared.token.TokenKind.TheVariants.{Name, Number, Reserved, Sign}
-use Rattle.ceal_grammar.specs.Grammar.{Phrase, number, null, variable, own, parens, arrow, prefix, address, binary, level, level_of, Grouped, IsPath}
+use Rattle.ceal_grammar.specs.Grammar.{Phrase, number, null, variable, own, parens, arrow, prefix, address, element, binary, level, level_of, Grouped, IsPath}
 use Rattle.ceal_print.specs.Print.{nowhere, bare_name, bare_form, bare_expr}
 use Rattle.ceal_print.specs.PrintWords.{form_level, raised, form_kinds, expr_kinds}
 use Rattle.ceal_grammar.specs.Spelled.{Mark, sign_of, prefix_sign, after, spelled}
@@ -202,6 +202,30 @@ module _ (σ : List TokenKind → Span) where
             kept refl de ij (omega (arith, nm)) (A.lighter 0 d e 0 0 (suc n) (suc m) _ _ de (omega arith) (omega (arith, nm)) th);
         enclosed = λ less. absurd (omega (arith, less));
       }
+  printed (element s a l b r) g ks =
+      let R : List TokenKind = Sign Signs.RightBracket ∷ ks in
+      let B = printed b g.2 R in
+      let L : List TokenKind = Sign Signs.LeftBracket ∷ expr_kinds (expression b) ++ R in
+      let A = operand 8 a g.0 (omega arith) (printed a g.1) L in
+      let whole : List TokenKind = Sign Signs.Ampersand ∷ raised 8 (tree_level a) (expr_kinds (expression a)) ++ L in
+      let flat : expr_kinds (expression (element s a l b r)) ++ ks ≡ whole = simp append_assoc refl in record {
+        made = element (σ whole) A.made (σ L) B.made (σ R);
+        words = ap (λ u. word (Sign Signs.Ampersand) (σ whole) ∷ phrase A.made (word (Sign Signs.LeftBracket) (σ L) ∷ u)) B.words
+            ∙ ap (λ u. word (Sign Signs.Ampersand) (σ whole) ∷ u) A.words
+            ∙ sym (ap (spanned σ) flat);
+        grouped = (A.level, A.grouped, B.grouped);
+        level = refl;
+        bare = ap₂ (λ (x y : Expr). record { span = nowhere; form = Pick x y }) A.bare B.bare;
+        path = λ p. absurd p;
+        counted = λ n m h. let k = A.counted (suc n) (suc m) (omega (arith, h)) in B.counted (suc (after A.made (suc n))) (suc (after a (suc m))) (omega (arith, k));
+        lighter = λ c d e i j n m ms ns de ij nm th.
+            let k = A.counted (suc n) (suc m) (omega (arith, nm)) in
+            kept refl de ij (omega (arith, nm)) (A.lighter 0 d e 0 0 (suc n) (suc m) _ _ de (omega arith) (omega (arith, nm))
+            (kept refl (omega (arith, de)) (omega arith) (omega (arith, k))
+            (B.lighter 0 (suc d) (suc e) 0 0 (suc (after A.made (suc n))) (suc (after a (suc m))) _ _ (omega (arith, de)) (omega arith) (omega (arith, k))
+            (kept refl de (omega arith) (B.counted (suc (after A.made (suc n))) (suc (after a (suc m))) (omega (arith, k))) th))));
+        enclosed = λ less. absurd (omega (arith, less));
+      }
   printed (binary op a s b) g ks =
       let low = level_low op in
       let B = operand (level op + 1) b (let h = g.1 in omega (arith, h)) (omega (arith, low)) (printed b g.3) ks in
@@ -211,7 +235,7 @@ module _ (σ : List TokenKind → Span) where
         words = ap (λ u. phrase A.made (word (Sign (sign_of op)) (σ (right ++ ks)) ∷ u)) B.words
             ∙ A.words
             ∙ ap (spanned σ) (sym (append_assoc (raised (level op) (tree_level a) (expr_kinds (expression a))) right ks));
-        grouped = (A.level, let h = B.level in omega (arith, h), A.grouped, B.grouped);
+        grouped = (A.level, let h = B.level in omega (arith, h), A.grouped, B.grouped, g.4);
         level = refl;
         bare = ap₂ (λ (x y : Expr). record { span = nowhere; form = Binary op nowhere x y }) A.bare B.bare;
         path = λ p. absurd p;

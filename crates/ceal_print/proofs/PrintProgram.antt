@@ -1,20 +1,22 @@
 -- Each program is printed as a derivation of its own, with the same tree apart from spans.
-use Rattle.std.proofs.Common.{◌≡◌, ℕ, suc, false, Some, None, List, [], ◌∷◌, ◌++◌, refl, ap, sym, ◌∙◌, append_assoc}
+use Rattle.std.proofs.Common.{◌≡◌, ℕ, suc, ◌+◌, pos, false, Some, None, List, [], ◌∷◌, ◌++◌, refl, ap, sym, ◌∙◌, append_assoc}
 use Rattle.ceal_base.specs.declared.fault.Span.{Span}
 use Rattle.ceal_base.specs.declared.syntax.Entry.TheVariants.{Struct, Function}
+use Rattle.ceal_base.specs.declared.syntax.TypeForm.{TypeForm}
+use Rattle.ceal_base.specs.declared.syntax.TypeForm.TheVariants as Forms
 use Rattle.ceal_lex.specs.declared.token.Reserved.TheVariants as Words
 use Rattle.ceal_lex.specs.declared.token.Sign.TheVariants as Signs
 use Rattle.ceal_lex.specs.declared.token.TokenKind.{TokenKind}
-use Rattle.ceal_lex.specs.declared.token.TokenKind.TheVariants.{Name, Reserved, Sign, End}
-use Rattle.ceal_grammar.specs.Grammar.{Allowed, Parameter, Parameters, no_parameters, parameters, core, init, Member, Part, structure, function, Program, MoreProper, ParametersProper, PartProper, PartsProper}
-use Rattle.ceal_print.specs.Print.{nowhere, bare_name, bare_field, bare_fields, bare_entry, bare_entries, bare_tree}
-use Rattle.ceal_print.specs.PrintWords.{type_kinds, braced, stmts_kinds, field_kinds, other_kinds, parameter_kinds, member_kinds, entry_kinds, entries_kinds, tree_kinds}
-use Rattle.ceal_grammar.specs.Spelled.{Mark, spelled_parameter, spelled_others, spelled_parameters, spelled_members, spelled_part, spelled_parts, spelled_program, tokens_of}
-use Rattle.ceal_grammar.specs.Trees.{type_form, parameter_tree, other_trees, parameter_trees, member_trees, block_trees, part_tree, part_trees, program_tree}
+use Rattle.ceal_lex.specs.declared.token.TokenKind.TheVariants.{Name, Number, Reserved, Sign, End}
+use Rattle.ceal_grammar.specs.Grammar.{Written, int, pointer, mod_int, mod_pointer, cell_int, cell_pointer, Allowed, Parameter, Parameters, no_parameters, parameters, core, init, Size, single, row, Member, Part, structure, function, Program, MoreProper, ParametersProper, IsCell, SizeProper, MembersProper, PartProper, PartsProper}
+use Rattle.ceal_print.specs.Print.{nowhere, bare_name, bare_type, bare_field, bare_fields, bare_entry, bare_entries, bare_tree}
+use Rattle.ceal_print.specs.PrintWords.{type_kinds, row_length_kinds, size_kinds, braced, stmts_kinds, field_kinds, other_kinds, parameter_kinds, member_kinds, entry_kinds, entries_kinds, tree_kinds}
+use Rattle.ceal_grammar.specs.Spelled.{Mark, spelled_parameter, spelled_others, spelled_parameters, counted, spelled_size, spelled_members, spelled_part, spelled_parts, spelled_program, tokens_of}
+use Rattle.ceal_grammar.specs.Trees.{type_form, sized_form, parameter_tree, other_trees, parameter_trees, member_trees, block_trees, part_tree, part_trees, program_tree}
 use Rattle.ceal_print.proofs.PrintMarks.{Thinner, same, the_end}
 use Rattle.ceal_print.proofs.PrintPhrase.{spanned, placed}
 use Rattle.ceal_print.proofs.PrintStatement.{next, printed_type, printed_block}
-use Rattle.ceal_grammar.proofs.Words.{type_words, parameter_words, others, parameters_words, member_words, part_words, parts_words, bare_program}
+use Rattle.ceal_grammar.proofs.Words.{type_words, parameter_words, others, parameters_words, size_words, member_words, part_words, parts_words, bare_program}
 
 pub record PrintedParameter (σ : List TokenKind → Span) (old : Parameter) (ks : List TokenKind) : Type 0 where
   pub made : Parameter
@@ -37,9 +39,23 @@ pub record PrintedParameters (σ : List TokenKind → Span) (old : Parameters) (
   pub bare : bare_fields (parameter_trees made) ≡ bare_fields (parameter_trees old)
   pub thinner : (ms ns : List Mark) → Thinner 0 ms ns → Thinner 0 (spelled_parameters made ms) (spelled_parameters old ns)
 
+-- what stands behind the name of a member
+abbrev pub size_tokens : Size → List TokenKind
+size_tokens single = []
+size_tokens (row l n s r) = row_length_kinds n
+
+pub record PrintedSize (σ : List TokenKind → Span) (old : Size) (ks : List TokenKind) : Type 0 where
+  pub made : Size
+  pub words : size_words made (spanned σ ks) ≡ spanned σ (size_tokens old ++ ks)
+  pub proper : (w : Written) → SizeProper w old → SizeProper w made
+  pub form : (f : TypeForm) → sized_form f made ≡ sized_form f old
+  pub count : (c : ℕ) → counted c made ≡ counted c old
+  pub thinner : (c : ℕ) (ms ns : List Mark) → Thinner 0 ms ns → Thinner 0 (spelled_size c made ms) (spelled_size c old ns)
+
 pub record PrintedMembers (σ : List TokenKind → Span) (old : List Member) (ks : List TokenKind) : Type 0 where
   pub made : List Member
   pub words : member_words made (spanned σ ks) ≡ spanned σ (member_kinds (member_trees old) ++ ks)
+  pub proper : MembersProper made
   pub bare : bare_fields (member_trees made) ≡ bare_fields (member_trees old)
   pub thinner : (i : ℕ) (ms ns : List Mark) → Thinner 0 ms ns → Thinner 0 (spelled_members i made ms) (spelled_members i old ns)
 
@@ -64,6 +80,45 @@ pub record PrintedProgram (σ : List TokenKind → Span) (old : Program) : Type 
   pub proper : PartsProper made.parts
   pub bare : bare_tree (program_tree made) ≡ bare_tree (program_tree old)
   pub thinner : Thinner 0 (spelled_program made) (spelled_program old)
+
+-- Rows of modifiables: their types, and their lengths.
+row_type_kinds : (w : Written) (z : Size) → type_kinds (sized_form (type_form w) z) ≡ type_kinds (type_form w)
+row_type_kinds w single = refl
+row_type_kinds (int s) (row l n at r) = refl
+row_type_kinds (pointer s x t) (row l n at r) = refl
+row_type_kinds (mod_int s k t) (row l n at r) = refl
+row_type_kinds (mod_pointer s k x t) (row l n at r) = refl
+row_type_kinds (cell_int s k) (row l n at r) = refl
+row_type_kinds (cell_pointer s k x) (row l n at r) = refl
+
+row_size_kinds : (w : Written) (z : Size) → SizeProper w z → size_kinds (sized_form (type_form w) z) ≡ size_tokens z
+row_size_kinds (int s) single h = refl
+row_size_kinds (pointer s x t) single h = refl
+row_size_kinds (mod_int s k t) single h = refl
+row_size_kinds (mod_pointer s k x t) single h = refl
+row_size_kinds (cell_int s k) single h = refl
+row_size_kinds (cell_pointer s k x) single h = refl
+row_size_kinds (cell_int s k) (row l n at r) h = refl
+row_size_kinds (cell_pointer s k x) (row l n at r) h = refl
+row_size_kinds (int s) (row l n at r) h = absurd h.0
+row_size_kinds (pointer s x t) (row l n at r) h = absurd h.0
+row_size_kinds (mod_int s k t) (row l n at r) h = absurd h.0
+row_size_kinds (mod_pointer s k x t) (row l n at r) h = absurd h.0
+
+bare_sized : (f : TypeForm) (z : Size) → bare_type (sized_form f z) ≡ sized_form (bare_type f) z
+bare_sized f single = refl
+bare_sized Forms.Int (row l n at r) = refl
+bare_sized (Forms.Ptr y) (row l n at r) = refl
+bare_sized Forms.ModInt (row l n at r) = refl
+bare_sized (Forms.ModPtr y) (row l n at r) = refl
+bare_sized Forms.CellInt (row l n at r) = refl
+bare_sized (Forms.CellPtr y) (row l n at r) = refl
+bare_sized (Forms.CellRow m) (row l n at r) = refl
+bare_sized (Forms.CellPtrRow y m) (row l n at r) = refl
+
+size_proper : (v w : Written) (z : Size) → (IsCell v → IsCell w) → SizeProper v z → SizeProper w z
+size_proper v w single f h = tt
+size_proper v w (row l n at r) f h = (f h.0, h.1)
 
 module _ (σ : List TokenKind → Span) where
   printed_parameter : (old : Parameter) (ks : List TokenKind) → PrintedParameter σ old ks
@@ -118,23 +173,53 @@ module _ (σ : List TokenKind → Span) where
         thinner = λ ms ns th. P.thinner 1 _ _ (O.thinner 2 ms ns th);
       }
 
-  printed_members : (old : List Member) (ks : List TokenKind) → PrintedMembers σ old ks
-  unfolding spanned member_words member_trees member_kinds field_kinds spelled_members bare_fields
-  printed_members [] ks = record {
+  printed_size : (old : Size) (ks : List TokenKind) → PrintedSize σ old ks
+  unfolding spanned
+  printed_size single ks = record {
+    made = single;
+    words = refl;
+    proper = λ w h. tt;
+    form = λ f. refl;
+    count = λ c. refl;
+    thinner = λ c ms ns th. th;
+  }
+  printed_size (row l n s r) ks =
+      let R : List TokenKind = Sign Signs.RightBracket ∷ ks in
+      let N : List TokenKind = Number (pos n) ∷ R in record {
+        made = row (σ (Sign Signs.LeftBracket ∷ N)) n (σ N) (σ R);
+        words = refl;
+        proper = λ w h. h;
+        form = λ f. refl;
+        count = λ c. refl;
+        thinner = λ c ms ns th. same refl (same refl (same refl th));
+      }
+
+  printed_members : (old : List Member) → MembersProper old → (ks : List TokenKind) → PrintedMembers σ old ks
+  unfolding spanned member_words member_trees member_kinds field_kinds spelled_members bare_fields MembersProper
+  printed_members [] h ks = record {
     made = [];
     words = refl;
+    proper = tt;
     bare = refl;
     thinner = λ i ms ns th. th;
   }
-  printed_members (m ∷ old) ks =
-      let M = printed_members old ks in
+  printed_members (m ∷ old) h ks =
+      let M = printed_members old h.1 ks in
       let S : List TokenKind = Sign Signs.Semicolon ∷ member_kinds (member_trees old) ++ ks in
-      let W = printed_type σ m.type (Name m.x.text ∷ S) in
-      let flat : member_kinds (member_trees (m ∷ old)) ++ ks ≡ type_kinds (type_form m.type) ++ Name m.x.text ∷ S = simp append_assoc refl in record {
-        made = record { type = W.made; x = placed σ m.x S; semi = σ S } ∷ M.made;
-        words = ap (type_words W.made) (next σ (Name m.x.text) (next σ (Sign Signs.Semicolon) M.words)) ∙ W.words ∙ sym (ap (spanned σ) flat);
-        bare = λ i. record { form = W.bare i; name = bare_name m.x } ∷ M.bare i;
-        thinner = λ i ms ns th. W.thinner 1 i _ _ (same refl (same refl (M.thinner (suc i) ms ns th)));
+      let Z = printed_size m.size S in
+      let T : List TokenKind = size_tokens m.size ++ S in
+      let W = printed_type σ m.type (Name m.x.text ∷ T) in
+      let flat : member_kinds (member_trees (m ∷ old)) ++ ks ≡ type_kinds (type_form m.type) ++ Name m.x.text ∷ T =
+      rw (row_type_kinds m.type m.size, row_size_kinds m.type m.size h.0) (simp append_assoc refl) in record {
+        made = record { type = W.made; x = placed σ m.x T; size = Z.made; semi = σ S } ∷ M.made;
+        words = ap (type_words W.made) (next σ (Name m.x.text) (ap (size_words Z.made) (next σ (Sign Signs.Semicolon) M.words) ∙ Z.words)) ∙ W.words ∙ sym (ap (spanned σ) flat);
+        proper = (size_proper m.type W.made Z.made W.cell (Z.proper m.type h.0), M.proper);
+        bare = λ i. record {
+          form = (bare_sized (type_form W.made) Z.made ∙ ap (λ f. sized_form f Z.made) W.bare ∙ Z.form (bare_type (type_form m.type))
+              ∙ sym (bare_sized (type_form m.type) m.size)) i;
+          name = bare_name m.x;
+        } ∷ M.bare i;
+        thinner = λ i ms ns th. W.thinner 1 (suc i) _ _ (same refl (Z.thinner i _ _ (same refl (rw (Z.count i) (M.thinner (counted i m.size) ms ns th)))));
       }
 
   printed_part : (old : Part) → PartProper old → (ks : List TokenKind) → PrintedPart σ old ks
@@ -142,14 +227,14 @@ module _ (σ : List TokenKind → Span) where
   printed_part (structure s x l members r semi) h ks =
       let S : List TokenKind = Sign Signs.Semicolon ∷ ks in
       let R : List TokenKind = Sign Signs.RightBrace ∷ S in
-      let M = printed_members members R in
+      let M = printed_members members h R in
       let L : List TokenKind = Sign Signs.LeftBrace ∷ member_kinds (member_trees members) ++ R in
       let flat : entry_kinds (part_tree (structure s x l members r semi)) ++ ks ≡ Reserved Words.Struct ∷ Name x.text ∷ L = simp append_assoc refl in record {
         made = structure (σ (Reserved Words.Struct ∷ Name x.text ∷ L)) (placed σ x L) (σ L) M.made (σ R) (σ S);
         words = next σ (Reserved Words.Struct) (next σ (Name x.text) (next σ (Sign Signs.LeftBrace) M.words)) ∙ sym (ap (spanned σ) flat);
-        proper = tt;
+        proper = M.proper;
         bare = λ i. Struct (record { name = bare_name x; fields = M.bare i });
-        thinner = λ ms ns th. same refl (same refl (same refl (M.thinner 1 _ _ (same refl (same refl th)))));
+        thinner = λ ms ns th. same refl (same refl (same refl (M.thinner 0 _ _ (same refl (same refl th)))));
       }
   printed_part (function (core s x l params r) b) h ks =
       let B = printed_block σ b h.1 ks in

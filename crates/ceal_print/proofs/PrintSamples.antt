@@ -1,16 +1,19 @@
 -- Samples: the text of an expression and of an `if`, and a tree without its spans.
-use Rattle.std.proofs.Common.{◌≡◌, [], ◌∷◌, refl, codes}
+use Rattle.std.proofs.Common.{◌≡◌, pos, List, [], ◌∷◌, ◌++◌, refl, codes}
+use Rattle.std.specs.Fmt.{signed_decimal}
 use Rattle.ceal_base.specs.declared.fault.Span.{Span}
 use Rattle.ceal_base.specs.declared.operators.Binary.TheVariants.{Sub}
 use Rattle.ceal_base.specs.declared.syntax.Expr.{Expr}
 use Rattle.ceal_base.specs.declared.syntax.ExprForm.{Var}
 use Rattle.ceal_base.specs.declared.syntax.ExprForm.TheBlock.{hidden-the_row-Expr-0, shape-the_row-Expr-0}
-use Rattle.ceal_base.specs.declared.syntax.ExprForm.TheViews.{Binary}
+use Rattle.ceal_base.specs.declared.syntax.ExprForm.TheViews.{Binary, Pick}
+use Rattle.ceal_base.specs.declared.syntax.FieldDecl.{FieldDecl}
 use Rattle.ceal_base.specs.declared.syntax.Stmt.{Stmt, Return}
 use Rattle.ceal_base.specs.declared.syntax.Stmt.TheBlock.{hidden-the_row-Stmt-0, shape-the_row-Stmt-0}
 use Rattle.ceal_base.specs.declared.syntax.Stmt.TheViews.{If}
+use Rattle.ceal_base.specs.declared.syntax.TypeForm.TheVariants.{CellInt, CellRow}
 use Rattle.ceal_print.specs.Print.{nowhere, bare_form, bare_expr}
-use Rattle.ceal_print.specs.PrintWords.{texts, form_kinds, expr_kinds, stmt_kinds}
+use Rattle.ceal_print.specs.PrintWords.{texts, form_kinds, expr_kinds, stmt_kinds, field_kinds, member_kinds}
 
 abbrev s : Span
 s = record { from = 0; to = 1 }
@@ -36,6 +39,22 @@ right_operand = refl
 left_operand : texts (expr_kinds difference_of_left) ≡ codes "x - x - x "
 unfolding texts form_kinds hidden-the_row-Expr-0 shape-the_row-Expr-0 denote.Hole.Carrier.hidden
 left_operand = refl
+
+-- &x[x - x]
+abbrev element : Expr
+element = record { span = s; form = Pick (x s) (record { span = t; form = Binary Sub t (x s) (x s) }) }
+
+index : texts (expr_kinds element) ≡ codes "& x [ x - x ] "
+unfolding texts form_kinds hidden-the_row-Expr-0 shape-the_row-Expr-0 denote.Hole.Carrier.hidden
+index = refl
+
+-- mod int x[4]; and mod int x;
+abbrev members : List FieldDecl
+members = record { form = CellRow 4; name = record { text = codes "x"; span = s } } ∷ record { form = CellInt; name = record { text = codes "x"; span = s } } ∷ []
+
+lengths : texts (member_kinds members) ≡ codes "mod int x [ " ++ (signed_decimal (pos 4) ++ codes " ] ;\nmod int x ;\n")
+unfolding texts member_kinds field_kinds
+lengths = refl
 
 -- an else part of one `if` alone, and one that is empty
 abbrev inner : Stmt

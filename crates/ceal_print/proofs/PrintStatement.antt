@@ -3,7 +3,7 @@ use Rattle.std.proofs.Common.{◌≡◌, ℕ, suc, ◌≤◌, Bool, true, false,
 use Rattle.std.proofs.lemmas.Bool.{cases_Bool, false≢true}
 use Rattle.ceal_base.specs.declared.fault.Span.{Span}
 use Rattle.ceal_base.specs.declared.syntax.Expr.{Expr}
-use Rattle.ceal_base.specs.declared.syntax.Stmt.{Stmt, Declare, Assign, SetField, Write, Call, If', While', Return}
+use Rattle.ceal_base.specs.declared.syntax.Stmt.{Stmt, Declare, Assign, SetField, Write, Call, If', While', Return, Break, Continue}
 use Rattle.ceal_base.specs.declared.syntax.Stmt.TheBlock.{hidden-the_row-Stmt-0, shape-the_row-Stmt-0}
 use Rattle.ceal_base.specs.declared.syntax.Stmt.TheViews.{If, While}
 use Rattle.ceal_base.specs.declared.syntax.Value.TheVariants.{Plain, Read, Alloc}
@@ -12,7 +12,7 @@ use Rattle.ceal_lex.specs.declared.token.Sign.TheVariants as Signs
 use Rattle.ceal_lex.specs.declared.token.Token.{Token}
 use Rattle.ceal_lex.specs.declared.token.TokenKind.{TokenKind}
 use Rattle.ceal_lex.specs.declared.token.TokenKind.TheVariants.{Name, Reserved, Sign}
-use Rattle.ceal_grammar.specs.Grammar.{Phrase, variable, own, arrow, level_of, Grouped, IsPath, Written, int, pointer, mod_int, mod_pointer, cell_int, cell_pointer, Allowed, Arguments, no_arguments, arguments, AllGrouped, ArgumentsGrouped, Given, plainly, reading, allocation, modref_int, modref, GivenGrouped, Statement, declare, assign, set, store, call, branch, loop, exit, Branch, when, Otherwise, nothing, otherwise, chained, Block, block, Statements, ended, followed, StatementProper, BranchProper, OtherwiseProper, BlockProper, StatementsProper}
+use Rattle.ceal_grammar.specs.Grammar.{Phrase, variable, own, arrow, level_of, Grouped, IsPath, Written, int, pointer, mod_int, mod_pointer, cell_int, cell_pointer, Allowed, IsCell, Arguments, no_arguments, arguments, AllGrouped, ArgumentsGrouped, Given, plainly, reading, allocation, modref_int, modref, GivenGrouped, Statement, declare, assign, set, store, call, branch, loop, exit, break, continue, Branch, when, Otherwise, nothing, otherwise, chained, Block, block, Statements, ended, followed, StatementProper, BranchProper, OtherwiseProper, BlockProper, StatementsProper}
 use Rattle.ceal_print.specs.Print.{nowhere, bare_name, bare_expr, bare_exprs, bare_type, bare_value, bare_stmt, bare_stmt_row, bare_stmts}
 use Rattle.ceal_print.specs.PrintWords.{expr_kinds, more_kinds, argument_kinds, type_kinds, value_kinds, is_branch, is_chain, braced, after_else, stmt_kinds, stmts_kinds, second_kinds}
 use Rattle.ceal_grammar.specs.Spelled.{Mark, plain, spelled, spelled_type, spelled_more, spelled_arguments, spelled_given, spelled_statement, spelled_branch, spelled_otherwise, spelled_block, spelled_statements}
@@ -54,6 +54,7 @@ pub record PrintedType (σ : List TokenKind → Span) (old : Written) (ks : List
   pub made : Written
   pub words : type_words made (spanned σ ks) ≡ spanned σ (type_kinds (type_form old) ++ ks)
   pub allowed : (cells : Bool) → Allowed cells old → Allowed cells made
+  pub cell : IsCell old → IsCell made
   pub bare : bare_type (type_form made) ≡ bare_type (type_form old)
   pub thinner : (d i : ℕ) (ms ns : List Mark) → Thinner 0 ms ns → Thinner 0 (spelled_type d i made ms) (spelled_type d i old ns)
 
@@ -125,6 +126,8 @@ chain_bare (Call x args ∷ []) = refl
 chain_bare (If' s e p first q second ∷ []) = refl
 chain_bare (While' s e p body ∷ []) = refl
 chain_bare (Return s ∷ []) = refl
+chain_bare (Break s ∷ []) = refl
+chain_bare (Continue s ∷ []) = refl
 chain_bare (s ∷ t ∷ ss) = refl
 
 alone : (ss : Statements) → is_chain (statement_trees ss) ≡ true → (b : Branch) × (ss ≡ followed (branch b) ended)
@@ -138,6 +141,8 @@ alone (followed (store s l a c e r semi) ended) h = absurd (false≢true h)
 alone (followed (call x l args r semi) ended) h = absurd (false≢true h)
 alone (followed (loop s l e r b) ended) h = absurd (false≢true h)
 alone (followed (exit s semi) ended) h = absurd (false≢true h)
+alone (followed (break s semi) ended) h = absurd (false≢true h)
+alone (followed (continue s semi) ended) h = absurd (false≢true h)
 alone (followed a (followed b ss)) h = absurd (false≢true h)
 
 is_if : (b : Branch) → is_branch (branch_tree b) ≡ true
@@ -151,6 +156,7 @@ module _ (σ : List TokenKind → Span) where
     made = int (σ (Reserved Words.Int ∷ ks));
     words = refl;
     allowed = λ cells h. h;
+    cell = λ h. h;
     bare = refl;
     thinner = λ d i ms ns th. same refl th;
   }
@@ -158,6 +164,7 @@ module _ (σ : List TokenKind → Span) where
     made = pointer (σ (Reserved Words.Struct ∷ Name x.text ∷ Sign Signs.Star ∷ ks)) (placed σ x (Sign Signs.Star ∷ ks)) (σ (Sign Signs.Star ∷ ks));
     words = refl;
     allowed = λ cells h. h;
+    cell = λ h. h;
     bare = refl;
     thinner = λ d i ms ns th. same refl (same refl (same refl th));
   }
@@ -165,6 +172,7 @@ module _ (σ : List TokenKind → Span) where
     made = mod_int (σ (Reserved Words.Mod ∷ Reserved Words.Int ∷ Sign Signs.Star ∷ ks)) (σ (Reserved Words.Int ∷ Sign Signs.Star ∷ ks)) (σ (Sign Signs.Star ∷ ks));
     words = refl;
     allowed = λ cells h. h;
+    cell = λ h. h;
     bare = refl;
     thinner = λ d i ms ns th. same refl (same refl (same refl th));
   }
@@ -173,6 +181,7 @@ module _ (σ : List TokenKind → Span) where
         (σ (Reserved Words.Struct ∷ Name x.text ∷ Sign Signs.Star ∷ ks)) (placed σ x (Sign Signs.Star ∷ ks)) (σ (Sign Signs.Star ∷ ks));
     words = refl;
     allowed = λ cells h. h;
+    cell = λ h. h;
     bare = refl;
     thinner = λ d i ms ns th. same refl (same refl (same refl (same refl th)));
   }
@@ -180,6 +189,7 @@ module _ (σ : List TokenKind → Span) where
     made = cell_int (σ (Reserved Words.Mod ∷ Reserved Words.Int ∷ ks)) (σ (Reserved Words.Int ∷ ks));
     words = refl;
     allowed = λ cells h. h;
+    cell = λ h. h;
     bare = refl;
     thinner = λ d i ms ns th. same refl (same refl th);
   }
@@ -187,6 +197,7 @@ module _ (σ : List TokenKind → Span) where
     made = cell_pointer (σ (Reserved Words.Mod ∷ Reserved Words.Struct ∷ Name x.text ∷ ks)) (σ (Reserved Words.Struct ∷ Name x.text ∷ ks)) (placed σ x ks);
     words = refl;
     allowed = λ cells h. h;
+    cell = λ h. h;
     bare = refl;
     thinner = λ d i ms ns th. same refl (same refl (same refl th));
   }
@@ -438,6 +449,20 @@ module _ (σ : List TokenKind → Span) where
         }
     printed_statement (exit s semi) h ks = record {
       made = exit (σ (Reserved Words.Return ∷ Sign Signs.Semicolon ∷ ks)) (σ (Sign Signs.Semicolon ∷ ks));
+      words = refl;
+      proper = tt;
+      bare = refl;
+      thinner = λ d ms ns th. same refl (same refl th);
+    }
+    printed_statement (break s semi) h ks = record {
+      made = break (σ (Reserved Words.Break ∷ Sign Signs.Semicolon ∷ ks)) (σ (Sign Signs.Semicolon ∷ ks));
+      words = refl;
+      proper = tt;
+      bare = refl;
+      thinner = λ d ms ns th. same refl (same refl th);
+    }
+    printed_statement (continue s semi) h ks = record {
+      made = continue (σ (Reserved Words.Continue ∷ Sign Signs.Semicolon ∷ ks)) (σ (Sign Signs.Semicolon ∷ ks));
       words = refl;
       proper = tt;
       bare = refl;

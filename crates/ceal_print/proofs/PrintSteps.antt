@@ -1,5 +1,5 @@
 -- The tokens of a tree and their text, piece by piece.
-use Rattle.std.proofs.Common.{◌≡◌, ℕ, zero, suc, ℤ, ◌+◌, ◌<◌, Bool, true, false, Option, Some, None, List, [], ◌∷◌, ◌++◌, refl, length, arith, codes, ap, ap₂, append_assoc, append-nil, ◌∙◌, sym, take, get_or}
+use Rattle.std.proofs.Common.{◌≡◌, ℕ, zero, suc, ℤ, pos, ◌+◌, ◌<◌, Bool, true, false, Option, Some, None, List, [], ◌∷◌, ◌++◌, refl, length, arith, codes, ap, ap₂, append_assoc, append-nil, ◌∙◌, sym, take, get_or}
 use Rattle.std.specs.Fmt.{signed_decimal}
 use Rattle.std.proofs.lemmas.List.{take_more}
 use Rattle.ceal_base.specs.declared.fault.Span.{Span}
@@ -9,10 +9,10 @@ use Rattle.ceal_base.specs.declared.syntax.Entry.{Entry}
 use Rattle.ceal_base.specs.declared.syntax.Expr.{Expr}
 use Rattle.ceal_base.specs.declared.syntax.ExprForm.{Num, Null, Var, Own}
 use Rattle.ceal_base.specs.declared.syntax.ExprForm.TheBlock.{hidden-the_row-Expr-0, shape-the_row-Expr-0}
-use Rattle.ceal_base.specs.declared.syntax.ExprForm.TheViews.{Unary, Binary, Field, Address}
+use Rattle.ceal_base.specs.declared.syntax.ExprForm.TheViews.{Unary, Binary, Field, Address, Pick}
 use Rattle.ceal_base.specs.declared.syntax.FieldDecl.{FieldDecl}
 use Rattle.ceal_base.specs.declared.syntax.Ident.{Ident}
-use Rattle.ceal_base.specs.declared.syntax.Stmt.{Stmt, Declare, Assign, SetField, Write, Call, Return}
+use Rattle.ceal_base.specs.declared.syntax.Stmt.{Stmt, Declare, Assign, SetField, Write, Call, Return, Break, Continue}
 use Rattle.ceal_base.specs.declared.syntax.Stmt.TheBlock.{hidden-the_row-Stmt-0, shape-the_row-Stmt-0}
 use Rattle.ceal_base.specs.declared.syntax.Stmt.TheViews.{If, While}
 use Rattle.ceal_base.specs.declared.syntax.TypeForm.{TypeForm}
@@ -25,7 +25,7 @@ use Rattle.ceal_lex.specs.declared.token.TokenKind.TheVariants.{Name, Number, Re
 use Rattle.ceal_lex.specs.Spelling.{sign_text}
 use Rattle.ceal_grammar.specs.Grammar.{level}
 use Rattle.ceal_grammar.specs.Spelled.{sign_of, prefix_sign}
-use Rattle.ceal_print.specs.PrintWords.{kind_text, gap, sign_gap, texts, form_level, raised, form_kinds, expr_kinds, more_kinds, argument_kinds, type_kinds, value_kinds, braced, after_else, stmt_kinds, row_kinds, else_kinds, stmts_kinds, second_kinds, field_kinds, other_kinds, parameter_kinds, member_kinds, entry_kinds, entries_kinds}
+use Rattle.ceal_print.specs.PrintWords.{kind_text, gap, sign_gap, texts, form_level, raised, form_kinds, expr_kinds, more_kinds, argument_kinds, type_kinds, row_length_kinds, size_kinds, value_kinds, braced, after_else, stmt_kinds, row_kinds, else_kinds, stmts_kinds, second_kinds, field_kinds, other_kinds, parameter_kinds, member_kinds, entry_kinds, entries_kinds}
 
 -- one list of tokens behind another
 pub texts-nil : texts [] ≡ []
@@ -71,6 +71,12 @@ pub kinds-address : (a : Expr) → form_kinds (Address a) ≡ Sign Signs.Ampersa
 unfolding form_kinds hidden-the_row-Expr-0 shape-the_row-Expr-0 denote.Hole.Carrier.hidden
 kinds-address a = refl
 
+pub kinds-element : (a b : Expr)
+    → form_kinds (Pick a b)
+    ≡ Sign Signs.Ampersand ∷ raised 8 (form_level a.form) (expr_kinds a) ++ Sign Signs.LeftBracket ∷ expr_kinds b ++ Sign Signs.RightBracket ∷ []
+unfolding form_kinds hidden-the_row-Expr-0 shape-the_row-Expr-0 denote.Hole.Carrier.hidden
+kinds-element a b = refl
+
 pub text-num : (n : ℤ) → texts (form_kinds (Num n)) ≡ texts (Number n ∷ [])
 unfolding form_kinds
 text-num n = refl
@@ -106,6 +112,16 @@ text-field a x = rw kinds-field (simp (texts-append, append_assoc) refl)
 pub text-address : (a : Expr) → texts (form_kinds (Address a)) ≡ codes "& " ++ texts (raised 8 (form_level a.form) (expr_kinds a))
 unfolding texts
 text-address a = rw kinds-address refl
+
+pub text-element : (a b : Expr)
+    → texts (form_kinds (Pick a b)) ≡ codes "& " ++ texts (raised 8 (form_level a.form) (expr_kinds a)) ++ codes "[ " ++ texts (expr_kinds b) ++ codes "] "
+unfolding texts
+text-element a b =
+    let row : List TokenKind = Sign Signs.Ampersand ∷ raised 8 (form_level a.form) (expr_kinds a) in
+    let index : List TokenKind = Sign Signs.LeftBracket ∷ expr_kinds b in
+    ap texts (kinds-element a b)
+    ∙ (texts-append (row ++ index) (Sign Signs.RightBracket ∷ [])
+    ∙ ap (λ t. t ++ codes "] ") (texts-append row index ∙ sym (append_assoc (texts row) (codes "[ ") (texts (expr_kinds b)))))
 
 pub text-parens : (ks : List TokenKind) → texts (Sign Signs.LeftParenthesis ∷ ks ++ Sign Signs.RightParenthesis ∷ []) ≡ codes "( " ++ texts ks ++ codes ") "
 unfolding texts
@@ -155,6 +171,10 @@ text-cell_int = refl
 pub text-cell_pointer : (text : List ℕ) → texts (Reserved Words.Mod ∷ Reserved Words.Struct ∷ Name text ∷ []) ≡ codes "mod struct " ++ texts (Name text ∷ [])
 unfolding texts
 text-cell_pointer text = refl
+
+pub text-row_length : (n : ℕ) → texts (row_length_kinds n) ≡ codes "[ " ++ texts (Number (pos n) ∷ []) ++ codes "] "
+unfolding texts
+text-row_length n = simp (texts-append, append_assoc) refl
 
 pub text-reading : (ks : List TokenKind)
     → texts (Reserved Words.Read ∷ Sign Signs.LeftParenthesis ∷ ks ++ Sign Signs.RightParenthesis ∷ []) ≡ codes "read ( " ++ texts ks ++ codes ") "
@@ -257,6 +277,14 @@ pub text-return : (at : Span) → texts (stmt_kinds (Return at)) ≡ codes "retu
 unfolding texts stmt_kinds
 text-return at = refl
 
+pub text-break : (at : Span) → texts (stmt_kinds (Break at)) ≡ codes "break ;\n"
+unfolding texts stmt_kinds
+text-break at = refl
+
+pub text-continue : (at : Span) → texts (stmt_kinds (Continue at)) ≡ codes "continue ;\n"
+unfolding texts stmt_kinds
+text-continue at = refl
+
 pub text-block : (ks : List TokenKind) → texts (Sign Signs.LeftBrace ∷ ks ++ Sign Signs.RightBrace ∷ []) ≡ codes "{\n" ++ texts ks ++ codes "}\n"
 unfolding texts
 text-block ks = simp (texts-append, append_assoc) refl
@@ -305,9 +333,14 @@ unfolding texts other_kinds
 other-end [] h = refl
 other-end (f ∷ fs) h = absurd (omega (arith, h))
 
-pub text-member : (f : FieldDecl) (fs : List FieldDecl) → texts (member_kinds (f ∷ fs)) ≡ texts (field_kinds f) ++ codes ";\n" ++ texts (member_kinds fs)
+pub text-member : (f : FieldDecl) (fs : List FieldDecl)
+    → texts (member_kinds (f ∷ fs)) ≡ texts (field_kinds f) ++ texts (size_kinds f.form) ++ codes ";\n" ++ texts (member_kinds fs)
 unfolding texts member_kinds
-text-member f fs = simp (texts-append, append_assoc) refl
+text-member f fs =
+    let front : List TokenKind = field_kinds f ++ size_kinds f.form in
+    texts-append front (Sign Signs.Semicolon ∷ member_kinds fs)
+    ∙ (ap (λ t. t ++ (codes ";\n" ++ texts (member_kinds fs))) (texts-append (field_kinds f) (size_kinds f.form))
+    ∙ sym (append_assoc (texts (field_kinds f) ++ texts (size_kinds f.form)) (codes ";\n") (texts (member_kinds fs))))
 
 pub member-end : (fs : List FieldDecl) → length fs ≡ 0 → texts (member_kinds fs) ≡ []
 unfolding texts member_kinds
@@ -344,19 +377,21 @@ unfolding texts entries_kinds
 entry-end [] h = refl
 entry-end (e ∷ es) h = absurd (omega (arith, h))
 
-pub ruleset kind_steps = (text-name, text-number, append_assoc)
+pub ruleset kind_steps = (text-name, text-number, text-row_length, append_assoc)
 
 pub ruleset sign_steps = (text-sign, append_assoc)
 
-pub ruleset expr_steps = (text-num, text-null, text-var, text-own, text-unary, text-binary, text-field, text-address, text-parens, append_assoc)
+pub ruleset expr_steps = (text-num, text-null, text-var, text-own, text-unary, text-binary, text-field, text-address, text-element, text-parens, append_assoc)
 
 pub ruleset list_steps = (text-more, more-end, text-arguments, arguments-end, append_assoc, append-nil)
 
 pub ruleset type_steps = (text-int, text-pointer, text-mod_int, text-mod_pointer, text-cell_int, text-cell_pointer, append_assoc)
 
+pub ruleset size_steps = (texts-nil, append_assoc, append-nil)
+
 pub ruleset value_steps = (text-reading, text-allocation, text-modref_int, text-modref, append_assoc)
 
-pub ruleset stmt_steps = (text-declare, text-assign, text-set, text-write, text-call, text-if, text-while, text-return, append_assoc)
+pub ruleset stmt_steps = (text-declare, text-assign, text-set, text-write, text-call, text-if, text-while, text-return, text-break, text-continue, append_assoc)
 
 pub ruleset stmts_steps = (text-none, text-take, append_assoc, append-nil)
 

@@ -4,17 +4,17 @@ use Rattle.ceal_base.specs.declared.fault.Span.{Span}
 use Rattle.ceal_base.specs.declared.syntax.Entry.{Entry}
 use Rattle.ceal_base.specs.declared.syntax.Entry.TheVariants.{Struct, Function}
 use Rattle.ceal_base.specs.declared.syntax.Expr.{Expr}
-use Rattle.ceal_base.specs.declared.syntax.ExprForm.{ExprForm, Num, Null, Var, Own, Unary', Binary', Field', Address'}
+use Rattle.ceal_base.specs.declared.syntax.ExprForm.{ExprForm, Num, Null, Var, Own, Unary', Binary', Field', Address', Pick'}
 use Rattle.ceal_base.specs.declared.syntax.ExprForm.TheBlock.{Row_of-Expr, end_of-Expr, more_of-Expr}
-use Rattle.ceal_base.specs.declared.syntax.ExprForm.TheViews.{Unary, Binary, Field, Address}
+use Rattle.ceal_base.specs.declared.syntax.ExprForm.TheViews.{Unary, Binary, Field, Address, Pick}
 use Rattle.ceal_base.specs.declared.syntax.FieldDecl.{FieldDecl}
 use Rattle.ceal_base.specs.declared.syntax.FunctionDecl.{FunctionDecl}
 use Rattle.ceal_base.specs.declared.syntax.Ident.{Ident}
-use Rattle.ceal_base.specs.declared.syntax.Stmt.{Stmt, Declare, Assign, SetField, Write, Call, If', While', Return, Row_of-Stmt, end_of-Stmt, more_of-Stmt}
+use Rattle.ceal_base.specs.declared.syntax.Stmt.{Stmt, Declare, Assign, SetField, Write, Call, If', While', Return, Break, Continue, Row_of-Stmt, end_of-Stmt, more_of-Stmt}
 use Rattle.ceal_base.specs.declared.syntax.Stmt.TheViews.{If, While}
 use Rattle.ceal_base.specs.declared.syntax.Tree.{Tree}
 use Rattle.ceal_base.specs.declared.syntax.TypeForm.{TypeForm}
-use Rattle.ceal_base.specs.declared.syntax.TypeForm.TheVariants.{Int, Ptr, ModInt, ModPtr, CellInt, CellPtr}
+use Rattle.ceal_base.specs.declared.syntax.TypeForm.TheVariants.{Int, Ptr, ModInt, ModPtr, CellInt, CellPtr, CellRow, CellPtrRow}
 use Rattle.ceal_base.specs.declared.syntax.Value.{Value}
 use Rattle.ceal_base.specs.declared.syntax.Value.TheVariants.{Plain, Read, Alloc, ModrefInt, Modref}
 use Rattle.ceal_lex.specs.declared.parts.Split.{Split}
@@ -40,6 +40,7 @@ unfoldable mutual
   bare_form (Binary' op s _ a _ b) = Binary op nowhere (bare_row a) (bare_row b)
   bare_form (Field' _ a x) = Field (bare_row a) (bare_name x)
   bare_form (Address' _ a) = Address (bare_row a)
+  bare_form (Pick' _ a _ b) = Pick (bare_row a) (bare_row b)
 
   pub bare_row : {n : _} → Row_of-Expr n → Expr
   bare_row end_of-Expr = record { span = nowhere; form = Null }
@@ -59,6 +60,8 @@ bare_type ModInt = ModInt
 bare_type (ModPtr x) = ModPtr (bare_name x)
 bare_type CellInt = CellInt
 bare_type (CellPtr x) = CellPtr (bare_name x)
+bare_type (CellRow n) = CellRow n
+bare_type (CellPtrRow x n) = CellPtrRow (bare_name x) n
 
 abbrev pub bare_value : Value → Value
 bare_value (Plain e) = Plain (bare_expr e)
@@ -77,6 +80,8 @@ unfoldable mutual
   bare_stmt (If' s e _ first _ second) = If nowhere (bare_expr e) (bare_stmt_row first) (bare_stmt_row second)
   bare_stmt (While' s e _ body) = While nowhere (bare_expr e) (bare_stmt_row body)
   bare_stmt (Return s) = Return nowhere
+  bare_stmt (Break s) = Break nowhere
+  bare_stmt (Continue s) = Continue nowhere
 
   pub bare_stmt_row : {n : _} → Row_of-Stmt n → List Stmt
   bare_stmt_row end_of-Stmt = []

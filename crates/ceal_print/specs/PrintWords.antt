@@ -1,17 +1,17 @@
 -- The tokens that a tree is printed as, and their text.
-use Rattle.std.specs.Prelude.{ℕ, ◌+◌, Bool, true, false, nat_le, if◌then◌else◌, Option, Some, None, List, [], ◌∷◌, ◌++◌}
+use Rattle.std.specs.Prelude.{ℕ, ◌+◌, pos, Bool, true, false, nat_le, if◌then◌else◌, Option, Some, None, List, [], ◌∷◌, ◌++◌}
 use Rattle.std.specs.Fmt.{signed_decimal}
 use Rattle.ceal_base.specs.declared.syntax.Entry.{Entry}
 use Rattle.ceal_base.specs.declared.syntax.Entry.TheVariants.{Struct, Function}
 use Rattle.ceal_base.specs.declared.syntax.Expr.{Expr}
-use Rattle.ceal_base.specs.declared.syntax.ExprForm.{ExprForm, Num, Null, Var, Own, Unary', Binary', Field', Address'}
+use Rattle.ceal_base.specs.declared.syntax.ExprForm.{ExprForm, Num, Null, Var, Own, Unary', Binary', Field', Address', Pick'}
 use Rattle.ceal_base.specs.declared.syntax.ExprForm.TheBlock.{Row_of-Expr, end_of-Expr, more_of-Expr}
 use Rattle.ceal_base.specs.declared.syntax.FieldDecl.{FieldDecl}
 use Rattle.ceal_base.specs.declared.syntax.Ident.{Ident}
-use Rattle.ceal_base.specs.declared.syntax.Stmt.{Stmt, Declare, Assign, SetField, Write, Call, If', While', Return, Row_of-Stmt, end_of-Stmt, more_of-Stmt}
+use Rattle.ceal_base.specs.declared.syntax.Stmt.{Stmt, Declare, Assign, SetField, Write, Call, If', While', Return, Break, Continue, Row_of-Stmt, end_of-Stmt, more_of-Stmt}
 use Rattle.ceal_base.specs.declared.syntax.Tree.{Tree}
 use Rattle.ceal_base.specs.declared.syntax.TypeForm.{TypeForm}
-use Rattle.ceal_base.specs.declared.syntax.TypeForm.TheVariants.{Int, Ptr, ModInt, ModPtr, CellInt, CellPtr}
+use Rattle.ceal_base.specs.declared.syntax.TypeForm.TheVariants.{Int, Ptr, ModInt, ModPtr, CellInt, CellPtr, CellRow, CellPtrRow}
 use Rattle.ceal_base.specs.declared.syntax.Value.{Value}
 use Rattle.ceal_base.specs.declared.syntax.Value.TheVariants.{Plain, Read, Alloc, ModrefInt, Modref}
 use Rattle.ceal_lex.specs.Characters.{LINE_FEED}
@@ -66,6 +66,7 @@ form_level (Unary' op _ a) = 7
 form_level (Binary' op s _ a _ b) = level op
 form_level (Field' _ a x) = 8
 form_level (Address' _ a) = 7
+form_level (Pick' _ a _ b) = 7
 
 -- An operand of level m stands in parentheses where level l at least is asked.
 abbrev pub raised : ℕ → ℕ → List TokenKind → List TokenKind
@@ -81,10 +82,16 @@ unfoldable mutual
   form_kinds (Binary' op s _ a _ b) = operand_kinds (level op) a ++ Sign (sign_of op) ∷ operand_kinds (level op + 1) b
   form_kinds (Field' _ a x) = operand_kinds 8 a ++ Sign Signs.Arrow ∷ Name x.text ∷ []
   form_kinds (Address' _ a) = Sign Signs.Ampersand ∷ operand_kinds 8 a
+  form_kinds (Pick' _ a _ b) =
+      Sign Signs.Ampersand ∷ operand_kinds 8 a ++ Sign Signs.LeftBracket ∷ index_kinds b ++ Sign Signs.RightBracket ∷ []
 
   pub operand_kinds : ℕ → {n : _} → Row_of-Expr n → List TokenKind
   operand_kinds l end_of-Expr = []
   operand_kinds l (more_of-Expr span form rest) = raised l (form_level form) (form_kinds form)
+
+  pub index_kinds : {n : _} → Row_of-Expr n → List TokenKind
+  index_kinds end_of-Expr = []
+  index_kinds (more_of-Expr span form rest) = form_kinds form
 
 abbrev pub expr_kinds : Expr → List TokenKind
 expr_kinds e = form_kinds e.form
@@ -104,6 +111,17 @@ type_kinds ModInt = Reserved Words.Mod ∷ Reserved Words.Int ∷ Sign Signs.Sta
 type_kinds (ModPtr x) = Reserved Words.Mod ∷ Reserved Words.Struct ∷ Name x.text ∷ Sign Signs.Star ∷ []
 type_kinds CellInt = Reserved Words.Mod ∷ Reserved Words.Int ∷ []
 type_kinds (CellPtr x) = Reserved Words.Mod ∷ Reserved Words.Struct ∷ Name x.text ∷ []
+type_kinds (CellRow n) = Reserved Words.Mod ∷ Reserved Words.Int ∷ []
+type_kinds (CellPtrRow x n) = Reserved Words.Mod ∷ Reserved Words.Struct ∷ Name x.text ∷ []
+
+-- what stands behind the name of a row
+abbrev pub row_length_kinds : ℕ → List TokenKind
+row_length_kinds n = Sign Signs.LeftBracket ∷ Number (pos n) ∷ Sign Signs.RightBracket ∷ []
+
+abbrev pub size_kinds : TypeForm → List TokenKind
+size_kinds (CellRow n) = row_length_kinds n
+size_kinds (CellPtrRow x n) = row_length_kinds n
+size_kinds form = []
 
 abbrev pub value_kinds : Value → List TokenKind
 value_kinds (Plain e) = expr_kinds e
@@ -122,6 +140,8 @@ is_branch (Call x args) = false
 is_branch (If' s e _ first _ second) = true
 is_branch (While' s e _ body) = false
 is_branch (Return s) = false
+is_branch (Break s) = false
+is_branch (Continue s) = false
 
 abbrev pub is_alone : {n : _} → Stmt → Row_of-Stmt n → Bool
 is_alone s end_of-Stmt = is_branch s
@@ -149,6 +169,8 @@ unfoldable mutual
   stmt_kinds (While' s e _ body) =
       Reserved Words.While ∷ Sign Signs.LeftParenthesis ∷ expr_kinds e ++ Sign Signs.RightParenthesis ∷ braced (row_kinds body)
   stmt_kinds (Return s) = Reserved Words.Return ∷ Sign Signs.Semicolon ∷ []
+  stmt_kinds (Break s) = Reserved Words.Break ∷ Sign Signs.Semicolon ∷ []
+  stmt_kinds (Continue s) = Reserved Words.Continue ∷ Sign Signs.Semicolon ∷ []
 
   pub row_kinds : {n : _} → Row_of-Stmt n → List TokenKind
   row_kinds end_of-Stmt = []
@@ -184,7 +206,7 @@ parameter_kinds (f ∷ fs) = field_kinds f ++ other_kinds fs
 
 unfoldable pub member_kinds : List FieldDecl → List TokenKind
 member_kinds [] = []
-member_kinds (f ∷ fs) = field_kinds f ++ Sign Signs.Semicolon ∷ member_kinds fs
+member_kinds (f ∷ fs) = field_kinds f ++ size_kinds f.form ++ Sign Signs.Semicolon ∷ member_kinds fs
 
 -- the word before the name of a function, and what stands between its parentheses
 abbrev pub head_kinds : Option Ident → Ident → List FieldDecl → List TokenKind

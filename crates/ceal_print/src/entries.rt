@@ -3,7 +3,7 @@
 ghost use Rattle.std.specs.Prelude.{◌≡◌, ◌++◌, ◌∷◌, [], codes, IfOk};
 ghost use Rattle.ceal_print.specs.PrintWords.{texts, field_kinds, other_kinds, parameter_kinds, member_kinds, head_kinds, entry_kinds, entries_kinds};
 
-use crate::expressions::put_type;
+use crate::expressions::{put_size, put_type};
 use crate::statements::put_block;
 use crate::text::{put_name, put_str};
 use ceal_base::no_memory::NoMemory;
@@ -35,7 +35,8 @@ fn put_others(out: &mut Vec<u8>, fields: &[FieldDecl]) -> Result<(), NoMemory>
 
 #[tactic(auto, using(crate::proofs::PrintSteps::other_steps))]
 fn put_parameters(out: &mut Vec<u8>, fields: &[FieldDecl]) -> Result<(), NoMemory>
-    ensures { IfOk result (λ _. out.new.items ≡ out.old.items ++ texts (parameter_kinds fields.now)) }
+    ensures { IfOk result
+        (λ _. out.new.items ≡ out.old.items ++ texts (parameter_kinds fields.now)) }
 {
     match fields.split_first() {
         None => Ok(()),
@@ -48,12 +49,13 @@ fn put_parameters(out: &mut Vec<u8>, fields: &[FieldDecl]) -> Result<(), NoMemor
 }
 
 #[tactic(auto, using(crate::proofs::PrintSteps::member_steps))]
-fn put_members(out: &mut Vec<u8>, fields: &[FieldDecl]) -> Result<(), NoMemory>
+fn put_members(alloc: Global, out: &mut Vec<u8>, fields: &[FieldDecl]) -> Result<(), NoMemory>
     ensures { IfOk result (λ _. out.new.items ≡ out.old.items ++ texts (member_kinds fields.now)) }
 {
     let mut fields = fields;
     while let Some((field, more)) = fields.split_first() {
         put_field(out, field)?;
+        put_size(alloc, out, &field.form)?;
         put_str(out, ";\n")?;
         fields = more;
     }
@@ -68,7 +70,9 @@ fn put_head(
     name: &Ident,
     params: &[FieldDecl],
 ) -> Result<(), NoMemory>
-    ensures { IfOk result (λ _. out.new.items ≡ out.old.items ++ texts (head_kinds initialiser.now name.now params.now)) }
+    ensures { IfOk result
+        (λ _. out.new.items
+        ≡ out.old.items ++ texts (head_kinds initialiser.now name.now params.now)) }
 {
     match initialiser {
         None => {
@@ -100,7 +104,7 @@ fn put_entry(alloc: Global, out: &mut Vec<u8>, entry: &Entry) -> Result<(), NoMe
             put_str(out, "struct ")?;
             put_name(out, &shape.name)?;
             put_str(out, "{\n")?;
-            put_members(out, shape.fields.items())?;
+            put_members(alloc, out, shape.fields.items())?;
             put_str(out, "}\n;\n")?;
             Ok(())
         }
@@ -121,7 +125,8 @@ fn put_entry(alloc: Global, out: &mut Vec<u8>, entry: &Entry) -> Result<(), NoMe
 /// Adds entries.
 #[tactic(auto, using(crate::proofs::PrintSteps::entry_steps))]
 pub fn put_entries(alloc: Global, out: &mut Vec<u8>, entries: &[Entry]) -> Result<(), NoMemory>
-    ensures { IfOk result (λ _. out.new.items ≡ out.old.items ++ texts (entries_kinds entries.now)) }
+    ensures { IfOk result
+        (λ _. out.new.items ≡ out.old.items ++ texts (entries_kinds entries.now)) }
 {
     let mut entries = entries;
     while let Some((entry, more)) = entries.split_first() {

@@ -1,9 +1,9 @@
 // Expressions, types and values of a text.
 
 ghost use Rattle.std.specs.Prelude.{◌≡◌, ◌++◌, ◌∷◌, [], codes, IfOk};
-ghost use Rattle.ceal_print.specs.PrintWords.{texts, expr_kinds, form_level, raised, more_kinds, argument_kinds, type_kinds, value_kinds};
+ghost use Rattle.ceal_print.specs.PrintWords.{texts, expr_kinds, form_level, raised, more_kinds, argument_kinds, type_kinds, size_kinds, value_kinds};
 
-use crate::text::{binary_level, put_binary, put_name, put_number, put_str, put_unary};
+use crate::text::{binary_level, put_binary, put_length, put_name, put_number, put_str, put_unary};
 use ceal_base::no_memory::NoMemory;
 use ceal_base::syntax::{Expr, ExprForm, TypeForm, Value};
 use std::alloc::Global;
@@ -21,6 +21,7 @@ fn level(e: &Expr) -> u8
         ExprForm::Binary(op, _, _, _) => binary_level(*op),
         ExprForm::Field(_, _) => 8,
         ExprForm::Address(_) => 7,
+        ExprForm::Pick(_, _) => 7,
     }
 }
 
@@ -58,6 +59,14 @@ pub fn put_expr(alloc: Global, out: &mut Vec<u8>, e: &Expr) -> Result<(), NoMemo
             put_operand(alloc, out, 8, a.get())?;
             Ok(())
         }
+        ExprForm::Pick(row, index) => {
+            put_str(out, "& ")?;
+            put_operand(alloc, out, 8, row.get())?;
+            put_str(out, "[ ")?;
+            put_expr(alloc, out, index.get())?;
+            put_str(out, "] ")?;
+            Ok(())
+        }
     }
 }
 
@@ -65,7 +74,9 @@ pub fn put_expr(alloc: Global, out: &mut Vec<u8>, e: &Expr) -> Result<(), NoMemo
 #[cycle(expr)]
 #[tactic(auto, using(crate::proofs::PrintSteps::expr_steps))]
 fn put_operand(alloc: Global, out: &mut Vec<u8>, asked: u8, e: &Expr) -> Result<(), NoMemory>
-    ensures { IfOk result (λ _. out.new.items ≡ out.old.items ++ texts (raised asked (form_level e.now.form) (expr_kinds e.now))) }
+    ensures { IfOk result
+        (λ _. out.new.items
+        ≡ out.old.items ++ texts (raised asked (form_level e.now.form) (expr_kinds e.now))) }
 {
     if asked <= level(e) {
         put_expr(alloc, out, e)
@@ -105,7 +116,7 @@ pub fn put_arguments(alloc: Global, out: &mut Vec<u8>, es: &[Expr]) -> Result<()
     }
 }
 
-/// Adds a type.
+/// Adds a type, without the length of a row.
 #[tactic(auto, using(crate::proofs::PrintSteps::type_steps))]
 pub fn put_type(out: &mut Vec<u8>, form: &TypeForm) -> Result<(), NoMemory>
     ensures { IfOk result (λ _. out.new.items ≡ out.old.items ++ texts (type_kinds form.now)) }
@@ -131,6 +142,24 @@ pub fn put_type(out: &mut Vec<u8>, form: &TypeForm) -> Result<(), NoMemory>
             put_name(out, x)?;
             Ok(())
         }
+        TypeForm::CellRow(_) => put_str(out, "mod int "),
+        TypeForm::CellPtrRow(x, _) => {
+            put_str(out, "mod struct ")?;
+            put_name(out, x)?;
+            Ok(())
+        }
+    }
+}
+
+/// Adds the length of a row, where the type is that of one.
+#[tactic(auto, using(crate::proofs::PrintSteps::size_steps))]
+pub fn put_size(alloc: Global, out: &mut Vec<u8>, form: &TypeForm) -> Result<(), NoMemory>
+    ensures { IfOk result (λ _. out.new.items ≡ out.old.items ++ texts (size_kinds form.now)) }
+{
+    match form {
+        TypeForm::CellRow(length) => put_length(alloc, out, *length),
+        TypeForm::CellPtrRow(_, length) => put_length(alloc, out, *length),
+        _ => Ok(()),
     }
 }
 

@@ -71,6 +71,8 @@ fn put_stmt(alloc: Global, out: &mut Vec<u8>, s: &Stmt) -> Result<(), NoMemory>
             Ok(())
         }
         Stmt::Return(_) => put_str(out, "return ;\n"),
+        Stmt::Break(_) => put_str(out, "break ;\n"),
+        Stmt::Continue(_) => put_str(out, "continue ;\n"),
     }
 }
 
@@ -89,7 +91,8 @@ fn put_stmts(alloc: Global, out: &mut Vec<u8>, stmts: &[Stmt]) -> Result<(), NoM
 #[cycle(lines)]
 #[tactic(auto, using(crate::proofs::PrintSteps::block_steps))]
 pub fn put_block(alloc: Global, out: &mut Vec<u8>, stmts: &[Stmt]) -> Result<(), NoMemory>
-    ensures { IfOk result (λ _. out.new.items ≡ out.old.items ++ texts (braced (stmts_kinds stmts.now))) }
+    ensures { IfOk result
+        (λ _. out.new.items ≡ out.old.items ++ texts (braced (stmts_kinds stmts.now))) }
 {
     put_str(out, "{\n")?;
     put_stmts(alloc, out, stmts)?;
@@ -116,7 +119,11 @@ fn put_second(alloc: Global, out: &mut Vec<u8>, stmts: &[Stmt]) -> Result<(), No
 #[cycle(lines)]
 #[tactic(auto, using(crate::proofs::PrintSteps::block_steps))]
 fn put_chained(alloc: Global, out: &mut Vec<u8>, stmts: &[Stmt]) -> Result<(), NoMemory>
-    ensures { IfOk result (λ _. out.new.items ≡ out.old.items ++ texts (if is_chain stmts.now then stmts_kinds stmts.now else braced (stmts_kinds stmts.now))) }
+    ensures { IfOk result
+        (λ _. out.new.items
+        ≡ out.old.items
+        ++ texts
+        (if is_chain stmts.now then stmts_kinds stmts.now else braced (stmts_kinds stmts.now))) }
 {
     if is_one_branch(stmts) {
         put_stmts(alloc, out, stmts)

@@ -5,7 +5,7 @@ ghost use Rattle.std.specs.Fmt.{signed_decimal};
 ghost use Rattle.ceal_base.specs.declared.operators.Binary.{Binary as BinaryOp};
 ghost use Rattle.ceal_lex.specs.declared.token.TokenKind.TheVariants.{Name, Number, Sign};
 ghost use Rattle.ceal_grammar.specs.Grammar.{level as level_of_operator};
-ghost use Rattle.ceal_print.specs.PrintWords.{texts};
+ghost use Rattle.ceal_print.specs.PrintWords.{texts, row_length_kinds};
 ghost use Rattle.ceal_grammar.specs.Spelled.{sign_of, prefix_sign};
 
 use ceal_base::no_memory::NoMemory;
@@ -54,10 +54,22 @@ pub fn put_number(alloc: Global, out: &mut Vec<u8>, n: i64) -> Result<(), NoMemo
     Ok(())
 }
 
+/// Adds the length of a row.
+#[tactic(auto, using(crate::proofs::PrintSteps::kind_steps))]
+pub fn put_length(alloc: Global, out: &mut Vec<u8>, length: u32) -> Result<(), NoMemory>
+    ensures { IfOk result (λ _. out.new.items ≡ out.old.items ++ texts (row_length_kinds length)) }
+{
+    put_str(out, "[ ")?;
+    put_number(alloc, out, i64::from(length))?;
+    put_str(out, "] ")?;
+    Ok(())
+}
+
 /// Adds the sign of an operator with one operand.
 #[tactic(auto, using(crate::proofs::PrintSteps::sign_steps))]
 pub fn put_unary(out: &mut Vec<u8>, op: Unary) -> Result<(), NoMemory>
-    ensures { IfOk result (λ _. out.new.items ≡ out.old.items ++ texts (Sign (prefix_sign op) ∷ [])) }
+    ensures { IfOk result
+        (λ _. out.new.items ≡ out.old.items ++ texts (Sign (prefix_sign op) ∷ [])) }
 {
     match op {
         Unary::Neg => put_str(out, "- "),
@@ -84,6 +96,7 @@ pub fn put_binary(out: &mut Vec<u8>, op: Binary) -> Result<(), NoMemory>
         Binary::Differ => put_str(out, "!= "),
         Binary::And => put_str(out, "&& "),
         Binary::Or => put_str(out, "|| "),
+        Binary::Pick(_) => put_str(out, "[ "),
     }
 }
 
@@ -106,5 +119,6 @@ pub fn binary_level(op: Binary) -> u8
         Binary::Mul => 6,
         Binary::Div => 6,
         Binary::Rem => 6,
+        Binary::Pick(_) => 0,
     }
 }

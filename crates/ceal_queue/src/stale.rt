@@ -74,7 +74,8 @@ impl Stale {
         requires room { is_in stamp.0 self.old.stamps ≡ false → 0 < self.old.spare }
         ensures with { IsWith stamp.0 self.old.stamps self.new.stamps }
         ensures known { is_in stamp.0 self.old.stamps ≡ true → self.new ≡ self.old }
-        ensures spare { is_in stamp.0 self.old.stamps ≡ false → self.new.spare + 1 ≡ self.old.spare }
+        ensures spare { is_in stamp.0 self.old.stamps ≡ false
+            → self.new.spare + 1 ≡ self.old.spare }
         ensures follows { Follows order.now.stamps self.new }
     {
         if has(order, &self.tree, stamp) {
@@ -98,7 +99,8 @@ impl Stale {
         ensures here { IfSome result (λ s. IsTrue (is_in s.0 order.now.stamps)) }
         ensures without { IfSome result (λ s. IsWithout s.0 self.old.stamps self.new.stamps) }
         ensures spare { IfSome result (λ s. self.new.spare ≡ self.old.spare + 1) }
-        ensures none { IfNone result ((s : ℕ) → is_in s self.old.stamps ≡ true → ¬ IsBefore order.now.stamps limit s) }
+        ensures none { IfNone result
+            ((s : ℕ) → is_in s self.old.stamps ≡ true → ¬ IsBefore order.now.stamps limit s) }
         ensures unchanged { IfNone result (self.new ≡ self.old) }
         ensures follows { Follows order.now.stamps self.new }
     {

@@ -16,7 +16,7 @@ const NODE: Shape = Shape::Struct(1);
 
 #[test]
 fn a_block_is_read(rt: HostRuntime) -> Result<(), Fail> {
-    let mut heap = Heap::new(rt.alloc())?;
+    let mut heap = Heap::new(rt.alloc()).expect(&rt, "memory");
     let place = Place {
         block: BlockId::Core(4_294_967_295),
         field: 4_294_967_295,
@@ -28,7 +28,7 @@ fn a_block_is_read(rt: HostRuntime) -> Result<(), Fail> {
         Word::Block(BlockId::Core(4)),
         Word::At(place),
     ];
-    let block = heap.make(CELL, Key::ModInt, &words)?;
+    let block = heap.make(CELL, Key::ModInt, &words).expect(&rt, "memory");
     assert_eq!(rt; block, BlockId::Core(0));
     assert_eq!(rt; heap.field(block, 0), Word::Num(-7));
     assert_eq!(rt; heap.field(block, 1), Word::Null);
@@ -43,18 +43,24 @@ fn a_block_is_read(rt: HostRuntime) -> Result<(), Fail> {
 
 #[test]
 fn a_number_waits_for_its_shape(rt: HostRuntime) -> Result<(), Fail> {
-    let mut heap = Heap::new(rt.alloc())?;
-    let first = heap.make(CELL, Key::ModInt, &[Word::Num(1)])?;
+    let mut heap = Heap::new(rt.alloc()).expect(&rt, "memory");
+    let first = heap
+        .make(CELL, Key::ModInt, &[Word::Num(1)])
+        .expect(&rt, "memory");
     heap.revoke(first);
     assert_eq!(rt; heap.live_count(), 0);
-    let second = heap.make(CELL, Key::ModInt, &[Word::Num(2)])?;
+    let second = heap
+        .make(CELL, Key::ModInt, &[Word::Num(2)])
+        .expect(&rt, "memory");
     assert_eq!(rt; second, BlockId::Core(1));
     assert_eq!(rt; heap.field(first, 0), Word::Num(1));
     heap.release_revoked();
     assert_eq!(rt; heap.live_count(), 1);
-    let third = heap.make(NODE, Key::ModInt, &[])?;
+    let third = heap.make(NODE, Key::ModInt, &[]).expect(&rt, "memory");
     assert_eq!(rt; third, BlockId::Core(2));
-    let fourth = heap.make(CELL, Key::ModInt, &[Word::Num(4)])?;
+    let fourth = heap
+        .make(CELL, Key::ModInt, &[Word::Num(4)])
+        .expect(&rt, "memory");
     assert_eq!(rt; fourth, BlockId::Core(0));
     assert_eq!(rt; heap.field(fourth, 0), Word::Num(4));
     assert_eq!(rt; heap.live_count(), 3);
@@ -79,17 +85,21 @@ fn is_below(block: BlockId, limit: u32) -> bool {
 
 #[test]
 fn a_hundred_thousand_blocks(rt: HostRuntime) -> Result<(), Fail> {
-    let mut heap = Heap::new(rt.alloc())?;
+    let mut heap = Heap::new(rt.alloc()).expect(&rt, "memory");
     for number in 0..50_000 {
         make_two(&mut heap, number)?;
     }
     heap.release_revoked();
     assert_eq!(rt; heap.live_count(), 50_000);
     for _ in 0..50_000 {
-        let block = heap.make(CELL, Key::ModInt, &[Word::Null, Word::Null])?;
+        let block = heap
+            .make(CELL, Key::ModInt, &[Word::Null, Word::Null])
+            .expect(&rt, "memory");
         assert!(rt; is_below(block, 100_000));
     }
-    let block = heap.make(CELL, Key::ModInt, &[Word::Null, Word::Null])?;
+    let block = heap
+        .make(CELL, Key::ModInt, &[Word::Null, Word::Null])
+        .expect(&rt, "memory");
     assert_eq!(rt; block, BlockId::Core(100_000));
     assert_eq!(rt; heap.live_count(), 100_001);
     Ok(())
@@ -104,14 +114,18 @@ fn make_second<R: Abort>(rt: &R, heap: &mut Heap, first: BlockId) -> Result<Bloc
     }
     assert_eq!(rt; heap.live_count(), 1);
     assert_eq!(rt; heap.field(first, 0), Word::Num(1));
-    let second = heap.make(NODE, Key::ModPtr(0), &[Word::Num(2)])?;
+    let second = heap
+        .make(NODE, Key::ModPtr(0), &[Word::Num(2)])
+        .expect(rt, "memory");
     Ok(second)
 }
 
 #[test]
 fn a_refused_block_changes_nothing(rt: HostRuntime) -> Result<(), Fail> {
-    let mut heap = Heap::new(rt.alloc())?;
-    let first = heap.make(CELL, Key::ModInt, &[Word::Num(1)])?;
+    let mut heap = Heap::new(rt.alloc()).expect(&rt, "memory");
+    let first = heap
+        .make(CELL, Key::ModInt, &[Word::Num(1)])
+        .expect(&rt, "memory");
     let second = make_second(&rt, &mut heap, first)?;
     assert_eq!(rt; second, BlockId::Core(1));
     assert_eq!(rt; heap.live_count(), 2);

@@ -27,18 +27,18 @@ fn read_key(alloc: Global, var: u32, argument: i64) -> Result<ReadKey, NoMemory>
 #[test]
 fn the_earliest_read_between(rt: HostRuntime) -> Result<(), Fail> {
     let alloc = rt.alloc();
-    let mut order = Order::new(alloc)?;
-    order.reserve(2)?;
+    let mut order = Order::new(alloc).expect(&rt, "memory");
+    order.reserve(2).expect(&rt, "memory");
     let first = order.first();
     let third = order.insert_after(first);
     let second = order.insert_after(first);
-    let mut memo = Memo::new(alloc)?;
+    let mut memo = Memo::new(alloc).expect(&rt, "memory");
     assert!(rt; memo.add_read(&order, read_key(alloc, 3, 4)?, third).is_ok());
     assert!(rt;
         memo.add_read(&order, read_key(alloc, 3, 4)?, second)
             .is_ok()
     );
-    let key = read_key(alloc, 3, 4)?;
+    let key = read_key(alloc, 3, 4).expect(&rt, "memory");
     assert_eq!(rt; memo.first_read(&order, &key, first, third), Some(second));
     assert_eq!(rt; memo.first_read(&order, &key, second, third), None);
     assert_eq!(rt;
@@ -55,15 +55,16 @@ fn the_earliest_read_between(rt: HostRuntime) -> Result<(), Fail> {
 #[test]
 fn a_removed_read_is_not_found(rt: HostRuntime) -> Result<(), Fail> {
     let alloc = rt.alloc();
-    let mut order = Order::new(alloc)?;
-    order.reserve(2)?;
+    let mut order = Order::new(alloc).expect(&rt, "memory");
+    order.reserve(2).expect(&rt, "memory");
     let first = order.first();
     let third = order.insert_after(first);
     let second = order.insert_after(first);
-    let mut memo = Memo::new(alloc)?;
-    memo.add_read(&order, read_key(alloc, 3, 4)?, second)?;
+    let mut memo = Memo::new(alloc).expect(&rt, "memory");
+    memo.add_read(&order, read_key(alloc, 3, 4)?, second)
+        .expect(&rt, "memory");
     memo.remove(second);
-    let key = read_key(alloc, 3, 4)?;
+    let key = read_key(alloc, 3, 4).expect(&rt, "memory");
     assert_eq!(rt; memo.first_read(&order, &key, first, third), None);
     Ok(())
 }
@@ -71,12 +72,12 @@ fn a_removed_read_is_not_found(rt: HostRuntime) -> Result<(), Fail> {
 #[test]
 fn the_earliest_allocation_between(rt: HostRuntime) -> Result<(), Fail> {
     let alloc = rt.alloc();
-    let mut order = Order::new(alloc)?;
-    order.reserve(2)?;
+    let mut order = Order::new(alloc).expect(&rt, "memory");
+    order.reserve(2).expect(&rt, "memory");
     let first = order.first();
     let third = order.insert_after(first);
     let second = order.insert_after(first);
-    let mut memo = Memo::new(alloc)?;
+    let mut memo = Memo::new(alloc).expect(&rt, "memory");
     assert!(rt; memo.add_alloc(&order, Key::ModPtr(1), second).is_ok());
     assert_eq!(rt;
         memo.first_alloc(&order, &Key::ModPtr(1), first, third),

@@ -12,7 +12,7 @@ const COUNTER: Place = Place {
 
 #[test]
 fn a_base_holds_from_the_start(rt: HostRuntime) -> Result<(), Fail> {
-    let mut mods = Mods::new(rt.alloc())?;
+    let mut mods = Mods::new(rt.alloc()).expect(&rt, "memory");
     assert!(rt; mods.set_base(COUNTER, Word::Num(1)).is_ok());
     assert_eq!(rt; mods.last_value(COUNTER), Word::Num(1));
     assert_eq!(rt; mods.looked(), 0);
@@ -22,12 +22,13 @@ fn a_base_holds_from_the_start(rt: HostRuntime) -> Result<(), Fail> {
 #[test]
 fn a_write_holds_behind_its_stamp(rt: HostRuntime) -> Result<(), Fail> {
     let alloc = rt.alloc();
-    let mut order = Order::new(alloc)?;
-    order.reserve(1)?;
+    let mut order = Order::new(alloc).expect(&rt, "memory");
+    order.reserve(1).expect(&rt, "memory");
     let first = order.first();
     let second = order.insert_after(first);
-    let mut mods = Mods::new(alloc)?;
-    mods.add_write(&order, COUNTER, first, Word::Num(2))?;
+    let mut mods = Mods::new(alloc).expect(&rt, "memory");
+    mods.add_write(&order, COUNTER, first, Word::Num(2))
+        .expect(&rt, "memory");
     assert_eq!(rt; mods.value_at(&order, COUNTER, first), Word::Num(0));
     assert_eq!(rt; mods.value_at(&order, COUNTER, second), Word::Num(2));
     assert_eq!(rt; mods.looked(), 2);
@@ -37,13 +38,14 @@ fn a_write_holds_behind_its_stamp(rt: HostRuntime) -> Result<(), Fail> {
 #[test]
 fn a_removed_write_uncovers_the_base(rt: HostRuntime) -> Result<(), Fail> {
     let alloc = rt.alloc();
-    let mut order = Order::new(alloc)?;
-    order.reserve(1)?;
+    let mut order = Order::new(alloc).expect(&rt, "memory");
+    order.reserve(1).expect(&rt, "memory");
     let first = order.first();
     let second = order.insert_after(first);
-    let mut mods = Mods::new(alloc)?;
-    mods.set_base(COUNTER, Word::Num(1))?;
-    mods.add_write(&order, COUNTER, first, Word::Num(2))?;
+    let mut mods = Mods::new(alloc).expect(&rt, "memory");
+    mods.set_base(COUNTER, Word::Num(1)).expect(&rt, "memory");
+    mods.add_write(&order, COUNTER, first, Word::Num(2))
+        .expect(&rt, "memory");
     mods.remove_write(&order, COUNTER, first);
     assert_eq!(rt; mods.value_at(&order, COUNTER, second), Word::Num(1));
     Ok(())
@@ -52,15 +54,16 @@ fn a_removed_write_uncovers_the_base(rt: HostRuntime) -> Result<(), Fail> {
 #[test]
 fn a_write_parts_a_read_from_what_stands_before(rt: HostRuntime) -> Result<(), Fail> {
     let alloc = rt.alloc();
-    let mut order = Order::new(alloc)?;
-    order.reserve(2)?;
+    let mut order = Order::new(alloc).expect(&rt, "memory");
+    order.reserve(2).expect(&rt, "memory");
     let first = order.first();
     let third = order.insert_after(first);
     let second = order.insert_after(first);
-    let mut mods = Mods::new(alloc)?;
-    mods.add_read(&order, COUNTER, third)?;
+    let mut mods = Mods::new(alloc).expect(&rt, "memory");
+    mods.add_read(&order, COUNTER, third).expect(&rt, "memory");
     assert_eq!(rt; mods.affected(&order, COUNTER, first), Some(third));
-    mods.add_write(&order, COUNTER, second, Word::Num(2))?;
+    mods.add_write(&order, COUNTER, second, Word::Num(2))
+        .expect(&rt, "memory");
     assert_eq!(rt; mods.affected(&order, COUNTER, first), None);
     assert_eq!(rt; mods.affected(&order, COUNTER, second), Some(third));
     mods.remove_read(&order, COUNTER, third);

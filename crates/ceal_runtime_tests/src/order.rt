@@ -53,19 +53,19 @@ fn stamp_at(order: &Order, places: u64) -> Stamp
 #[test]
 fn each_after_the_first_comes_second(rt: HostRuntime) -> Result<(), Fail> {
     let alloc = rt.alloc();
-    let mut order = Order::new(alloc)?;
+    let mut order = Order::new(alloc).expect(&rt, "memory");
     let mut made = Vec::new(alloc);
     for count in 0..MANY {
-        order.reserve(1)?;
+        order.reserve(1).expect(&rt, "memory");
         let first = order.first();
         let new = order.insert_after(first);
         let first = order.first();
         assert_eq!(rt; order.next(first), Some(new));
-        made.push(new)?;
+        made.push(new).expect(&rt, "memory");
     }
-    made.push(order.first())?;
+    made.push(order.first()).expect(&rt, "memory");
     made.reverse();
-    let stamps = walked(alloc, &order)?;
+    let stamps = walked(alloc, &order).expect(&rt, "memory");
     assert!(rt; stamps == made);
     assert!(rt; is_rising(&order));
     Ok(())
@@ -74,17 +74,17 @@ fn each_after_the_first_comes_second(rt: HostRuntime) -> Result<(), Fail> {
 #[test]
 fn each_after_the_last_comes_last(rt: HostRuntime) -> Result<(), Fail> {
     let alloc = rt.alloc();
-    let mut order = Order::new(alloc)?;
+    let mut order = Order::new(alloc).expect(&rt, "memory");
     let mut made = Vec::new(alloc);
     let mut last = order.first();
-    made.push(last)?;
+    made.push(last).expect(&rt, "memory");
     for count in 0..MANY {
-        order.reserve(1)?;
+        order.reserve(1).expect(&rt, "memory");
         last = order.insert_after(last);
         assert_eq!(rt; order.next(last), None);
-        made.push(last)?;
+        made.push(last).expect(&rt, "memory");
     }
-    let stamps = walked(alloc, &order)?;
+    let stamps = walked(alloc, &order).expect(&rt, "memory");
     assert!(rt; stamps == made);
     assert!(rt; is_rising(&order));
     Ok(())
@@ -95,15 +95,15 @@ fn each_after_the_last_comes_last(rt: HostRuntime) -> Result<(), Fail> {
 fn at_random_as_a_list(rt: HostRuntime) -> Result<(), Fail> {
     let alloc = rt.alloc();
     for places in [5, 10_000] {
-        let mut order = Order::new(alloc)?;
+        let mut order = Order::new(alloc).expect(&rt, "memory");
         let mut list = Vec::new(alloc);
-        list.push(order.first())?;
+        list.push(order.first()).expect(&rt, "memory");
         let mut random = 88_172_645_463_325_252u64;
         for turn in 0..3000u64 {
             random ^= random.wrapping_shl(13);
             random ^= random >> 7;
             random ^= random.wrapping_shl(17);
-            order.reserve(1)?;
+            order.reserve(1).expect(&rt, "memory");
             let stamp = stamp_at(&order, random % places);
             let place = list
                 .iter()
@@ -111,13 +111,13 @@ fn at_random_as_a_list(rt: HostRuntime) -> Result<(), Fail> {
                 .expect(&rt, "a stamp of the list");
             if turn % 3 < 2 {
                 let new = order.insert_after(stamp);
-                list.insert(place + 1, new)?;
+                list.insert(place + 1, new).expect(&rt, "memory");
             } else if stamp != order.first() {
                 order.delete(stamp);
                 list.remove(place);
             }
         }
-        let stamps = walked(alloc, &order)?;
+        let stamps = walked(alloc, &order).expect(&rt, "memory");
         assert!(rt; stamps == list, "among {places}");
         assert!(rt; is_rising(&order), "among {places}");
     }
@@ -127,8 +127,8 @@ fn at_random_as_a_list(rt: HostRuntime) -> Result<(), Fail> {
 #[test]
 fn in_and_out_by_time(rt: HostRuntime) -> Result<(), Fail> {
     let alloc = rt.alloc();
-    let mut order = Order::new(alloc)?;
-    order.reserve(2)?;
+    let mut order = Order::new(alloc).expect(&rt, "memory");
+    order.reserve(2).expect(&rt, "memory");
     let first = order.first();
     let third = order.insert_after(first);
     let second = order.insert_after(first);

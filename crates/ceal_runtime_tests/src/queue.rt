@@ -8,14 +8,14 @@ use std::test::Fail;
 #[test]
 fn the_earliest_before_a_limit(rt: HostRuntime) -> Result<(), Fail> {
     let alloc = rt.alloc();
-    let mut order = Order::new(alloc)?;
-    order.reserve(4)?;
+    let mut order = Order::new(alloc).expect(&rt, "memory");
+    order.reserve(4).expect(&rt, "memory");
     let first = order.first();
     let fourth = order.insert_after(first);
     let third = order.insert_after(first);
     let second = order.insert_after(first);
-    let mut queue = Stale::new(alloc)?;
-    queue.reserve(3)?;
+    let mut queue = Stale::new(alloc).expect(&rt, "memory");
+    queue.reserve(3).expect(&rt, "memory");
     queue.push(&order, fourth);
     queue.push(&order, second);
     queue.push(&order, second);

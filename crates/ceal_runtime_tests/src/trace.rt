@@ -89,11 +89,11 @@ fn words(alloc: Global, word: Word) -> Result<Words, NoMemory> {
 fn increment(rt: HostRuntime) -> Result<(), Fail> {
     let alloc = rt.alloc();
     let to = Word::At(input(1, 0));
-    let mut trace = Trace::new(alloc)?;
-    trace.reserve(3)?;
+    let mut trace = Trace::new(alloc).expect(&rt, "memory");
+    trace.reserve(3).expect(&rt, "memory");
     let root = trace.root();
     trace.set_steps(root, 1);
-    let args = words(alloc, to)?;
+    let args = words(alloc, to).expect(&rt, "memory");
     let read = trace.begin_read(root, input(0, 0), Word::Num(4), UnitId(1), 2, args);
     trace.set_steps(read, 1);
     let write = trace.insert_write(read, input(1, 0), Word::Num(5));
@@ -101,7 +101,7 @@ fn increment(rt: HostRuntime) -> Result<(), Fail> {
     let end = trace.finish_read(read, write);
     assert!(rt; trace.end_of(read) == Some(end));
     assert!(rt; trace.steps() == 2);
-    let lines = forest(alloc, &trace)?;
+    let lines = forest(alloc, &trace).expect(&rt, "memory");
     let wanted = [
         Line::Step,
         Line::Read(input(0, 0), Word::Num(4), to),
@@ -117,10 +117,10 @@ fn increment(rt: HostRuntime) -> Result<(), Fail> {
 fn a_read_and_its_end_removed(rt: HostRuntime) -> Result<(), Fail> {
     let alloc = rt.alloc();
     let to = Word::At(input(1, 0));
-    let mut trace = Trace::new(alloc)?;
-    trace.reserve(2)?;
+    let mut trace = Trace::new(alloc).expect(&rt, "memory");
+    trace.reserve(2).expect(&rt, "memory");
     let root = trace.root();
-    let args = words(alloc, to)?;
+    let args = words(alloc, to).expect(&rt, "memory");
     let read = trace.begin_read(root, input(0, 0), Word::Num(4), UnitId(1), 2, args);
     trace.set_steps(read, 7);
     let end = trace.finish_read(read, read);
@@ -136,7 +136,7 @@ fn a_read_and_its_end_removed(rt: HostRuntime) -> Result<(), Fail> {
     assert!(rt; line_of(&gone.node) == Some(Line::End));
     assert!(rt; trace.steps() == 0);
     trace.insert_write(root, input(1, 0), Word::Null);
-    let lines = forest(alloc, &trace)?;
+    let lines = forest(alloc, &trace).expect(&rt, "memory");
     let wanted = [Line::Write(input(1, 0), Word::Null)];
     assert!(rt; lines.as_slice() == wanted.as_slice());
     Ok(())
@@ -200,16 +200,18 @@ fn map_of_three_cells(rt: HostRuntime) -> Result<(), Fail> {
     let alloc = rt.alloc();
     let (c1, c2, c3) = (BlockId::Input(2), BlockId::Input(1), BlockId::Input(0));
     let (d1, d2, d3) = (BlockId::Core(0), BlockId::Core(1), BlockId::Core(2));
-    let mut trace = Trace::new(alloc)?;
-    trace.reserve(15)?;
+    let mut trace = Trace::new(alloc).expect(&rt, "memory");
+    trace.reserve(15).expect(&rt, "memory");
     let root = trace.root();
     trace.set_steps(root, 1);
-    let at = add_cell(alloc, &mut trace, root, input(3, 0), c1, d1, input(4, 0))?;
-    let at = add_cell(alloc, &mut trace, at, input(2, 1), c2, d2, core(0, 1))?;
-    let at = add_cell(alloc, &mut trace, at, input(1, 1), c3, d3, core(1, 1))?;
-    add_last(alloc, &mut trace, at, input(0, 1), core(2, 1))?;
+    let at = add_cell(alloc, &mut trace, root, input(3, 0), c1, d1, input(4, 0)).expect(
+        &rt, "memory",
+    );
+    let at = add_cell(alloc, &mut trace, at, input(2, 1), c2, d2, core(0, 1)).expect(&rt, "memory");
+    let at = add_cell(alloc, &mut trace, at, input(1, 1), c3, d3, core(1, 1)).expect(&rt, "memory");
+    add_last(alloc, &mut trace, at, input(0, 1), core(2, 1)).expect(&rt, "memory");
     assert!(rt; trace.steps() == 18);
-    let lines = forest(alloc, &trace)?;
+    let lines = forest(alloc, &trace).expect(&rt, "memory");
     let wanted = [
         Line::Step,
         Line::Read(input(3, 0), Word::Block(c1), Word::At(input(4, 0))),

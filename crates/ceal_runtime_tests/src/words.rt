@@ -9,15 +9,15 @@ use std::process::Abort;
 
 #[test]
 fn writes_and_gives_back(rt: HostRuntime) -> Result<(), NoMemory> {
-    let mut region = Region::new(rt.alloc())?;
-    region.reserve(3, 2)?;
+    let mut region = Region::new(rt.alloc()).expect(&rt, "memory");
+    region.reserve(3, 2).expect(&rt, "memory");
     let a = region.take(3);
     let b = region.take(3);
     region.set(&a, 1, 7);
     region.set(&b, 1, 9);
     assert_eq!(rt; region.get(&a, 1), 7);
     region.give(a);
-    region.reserve(3, 1)?;
+    region.reserve(3, 1).expect(&rt, "memory");
     let c = region.take(3);
     assert_eq!(rt; region.get(&c, 0), 0);
     assert_eq!(rt; region.get(&c, 1), 0);
@@ -46,7 +46,7 @@ fn nested<R: Abort>(rt: &R, region: &mut Region, len: u32, count: u32)
 fn twice<R: Abort>(rt: &R, region: &mut Region, len: u32) -> Result<(), NoMemory>
     requires { (1 ≤ len) × (len ≤ 65536) }
 {
-    region.reserve(len, 200)?;
+    region.reserve(len, 200).expect(rt, "memory");
     nested(rt, region, len, 200);
     nested(rt, region, len, 200);
     Ok(())
@@ -54,11 +54,11 @@ fn twice<R: Abort>(rt: &R, region: &mut Region, len: u32) -> Result<(), NoMemory
 
 #[test]
 fn a_thousand_slots(rt: HostRuntime) -> Result<(), NoMemory> {
-    let mut region = Region::new(rt.alloc())?;
-    twice(&rt, &mut region, 1)?;
-    twice(&rt, &mut region, 3)?;
-    twice(&rt, &mut region, 8)?;
-    twice(&rt, &mut region, 17)?;
-    twice(&rt, &mut region, 100)?;
+    let mut region = Region::new(rt.alloc()).expect(&rt, "memory");
+    twice(&rt, &mut region, 1).expect(&rt, "memory");
+    twice(&rt, &mut region, 3).expect(&rt, "memory");
+    twice(&rt, &mut region, 8).expect(&rt, "memory");
+    twice(&rt, &mut region, 17).expect(&rt, "memory");
+    twice(&rt, &mut region, 100).expect(&rt, "memory");
     Ok(())
 }

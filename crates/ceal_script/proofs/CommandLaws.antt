@@ -32,7 +32,7 @@ no_keyword word rest comment none (Get place) h = none keywords.Get (first_word 
 no_keyword word rest comment none (Show name) h = none keywords.Show (first_word _ _ _ _ h.0)
 no_keyword word rest comment none Blocks e = none keywords.Blocks (first_word _ _ _ _ e)
 no_keyword word rest comment none Steps e = none keywords.Steps (first_word _ _ _ _ e)
-no_keyword word rest comment none Work h = h
+no_keyword word rest comment none Work e = none keywords.Work (first_word _ _ _ _ e)
 
 -- what the words of each command are the words of
 blank_only : (words : List (List ℕ)) (c : Command) → IsBlank words → Says words c → c ≡ Blank
@@ -46,7 +46,7 @@ blank_only words (Get place) b h = absurd (false≢true (subst IsBlank h.1 b))
 blank_only words (Show name) b h = absurd (false≢true (subst IsBlank h.0 b))
 blank_only words Blocks b e = absurd (false≢true (subst IsBlank e b))
 blank_only words Steps b e = absurd (false≢true (subst IsBlank e b))
-blank_only words Work b h = absurd h
+blank_only words Work b e = absurd (false≢true (subst IsBlank e b))
 
 -- which form the words have, by the first one
 unfoldable pub form_of_words : List (List ℕ) → ℕ
@@ -61,7 +61,8 @@ form_of_words (w ∷ ws) =
     else if bytes_eq w (codes "get") then 6
     else if bytes_eq w (codes "show") then 7
     else if bytes_eq w (codes "blocks") then 8
-    else 9
+    else if bytes_eq w (codes "steps") then 9
+    else 10
 
 abbrev pub form : Command → ℕ
 form Blank = 0
@@ -89,7 +90,7 @@ form_said words (Get place) h = ap form_of_words h.1
 form_said words (Show name) h = ap form_of_words h.0
 form_said words Blocks h = ap form_of_words h
 form_said words Steps h = ap form_of_words h
-form_said words Work h = absurd h
+form_said words Work h = ap form_of_words h
 
 one_saying : (words : List (List ℕ)) (c d : Command) → Says words c → Says words d → c ≡ d
 one_saying words Blank d h k = sym (blank_only words d h k)
@@ -127,8 +128,7 @@ one_saying words (Show n) (Show m) h k =
     ap Show e
 one_saying words Blocks Blocks h k = refl
 one_saying words Steps Steps h k = refl
-one_saying words Work d h k = absurd h
-one_saying words c Work h k = absurd k
+one_saying words Work Work h k = refl
 one_saying words c d h k = let e : form c ≡ form d = sym (form_said words c h) ∙ form_said words d k in absurd (omega (arith, e))
 
 module _ (line : List ℕ) (words : List (List ℕ)) (has : HasWords line words) where

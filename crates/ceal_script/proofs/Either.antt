@@ -1,14 +1,14 @@
 -- A line is a command's, or no command's.
-use Rattle.std.proofs.Common.{◌≡◌, ◌≢◌, ◌⊎◌, inl, inr, ℕ, zero, suc, ◌+◌, ◌<◌, ◌≤◌, ◌^◌, Bool, true, false, Option, Some, None, List, [], ◌∷◌, ◌++◌, length, take, drop, ℤ, pos, neg_ℤ, refl, sym, ap, ◌∙◌, subst, arith}
+use Rattle.std.proofs.Common.{◌≡◌, ◌≢◌, ◌⊎◌, inl, inr, ℕ, zero, suc, ◌+◌, ◌≤◌, ◌^◌, Option, Some, None, List, [], ◌∷◌, ◌++◌, length, take, drop, ℤ, pos, neg_ℤ, refl, sym, ap, ◌∙◌, subst, arith}
 use Rattle.std.specs.Prelude.{◌==◌, codes, bytes_eq, position, if◌then◌else◌}
 use Rattle.std.specs.List.{AllZip, prefix_len, position_or_len}
 use Rattle.std.proofs.lemmas.Bool.{cases_Bool, cases_eq, cases_lt, false≢true}
-use Rattle.std.proofs.lemmas.List.{length-append, length-drop}
+use Rattle.std.proofs.lemmas.List.{length-append}
 use Rattle.std.proofs.lemmas.Slice.Eq.{bytes_eq-Decides}
 use Rattle.ceal_script.specs.Characters.{is_gap}
 use Rattle.ceal_script.specs.Keywords.{keyword_text}
 use Rattle.ceal_script.specs.Lines.{is_comment, Says, IsLineOf}
-use Rattle.ceal_script.specs.Spelling.{DOT, MINUS, AreDigits, are_digits, number_of, is_identifier, IsIdentifier, is_name, IsName, IsTextOf, SpellsKind, SpellsPositive, SpellsNegative, SpellsNumber, SpellsPlace, SpellsValue}
+use Rattle.ceal_script.specs.Spelling.{DOT, MINUS, are_digits, number_of, is_identifier, IsIdentifier, is_name, IsName, IsTextOf, IsField, SpellsKind, SpellsPositive, SpellsNegative, SpellsNumber, SpellsPlace, SpellsValue}
 use Rattle.ceal_script.specs.Words.{IsWord, HasWord, HasWords}
 use Rattle.ceal_script.specs.declared.command.Command.{Command}
 use Rattle.ceal_script.specs.declared.command.Command.TheVariants.{Blank, Mod, New, Set, Run, Propagate, Get, Show, Blocks, Steps, Work}
@@ -20,6 +20,7 @@ use Rattle.ceal_script.specs.declared.command.ValueWord.TheVariants.{Num, Null, 
 use Rattle.ceal_script.specs.declared.keyword.Keyword.{Keyword}
 use Rattle.ceal_script.specs.declared.keyword.Keyword.TheVariants as keywords
 use Rattle.ceal_script.proofs.CommandLaws.{form, form_of_words, form_said, no_keyword, said}
+use Rattle.ceal_script.proofs.FieldLaws.{field_or_none}
 use Rattle.ceal_script.proofs.PlaceLaws.{no_place, no_place_field, no_place_name, not_value, place_around}
 use Rattle.ceal_script.proofs.WordLaws.{first_found, no_word}
 
@@ -39,6 +40,12 @@ name_or_none word = elim (cases_Bool (is_name word)) [
   | inr e ↦ inr (λ t h. false≢true (sym e ∙ h.1))
 ]
 
+name_of_field_or_none : (word : List ℕ) → Given {A = List ℕ} (IsTextOf IsField word)
+name_of_field_or_none word = elim (field_or_none word) [
+  | inl field ↦ inl (word, (refl, field))
+  | inr none ↦ inr (λ t h. none h.1)
+]
+
 place_or_none : (word : List ℕ) → Given {A = PlaceWord} (SpellsPlace word)
 place_or_none word = by_dot (position (λ b. b == DOT) word) refl
   where
@@ -49,7 +56,7 @@ place_or_none word = by_dot (position (λ b. b == DOT) word) refl
     ]
     by_dot (Some at) e = elim (name_or_none (take at word)) [
       | inr none ↦ inr (no_place_name word at (drop (at + 1) word) refl e none)
-      | inl name ↦ elim (identifier_or_none (drop (at + 1) word)) [
+      | inl name ↦ elim (name_of_field_or_none (drop (at + 1) word)) [
         | inr none ↦ inr (no_place_field word at (drop (at + 1) word) refl e none)
         | inl field ↦ inl (record { name = name.0; field = Some field.0 }, place_around word at (drop (at + 1) word) refl e name.0 field.0 name.1 field.1)
       ]
@@ -189,6 +196,11 @@ module _ (rest : List (List ℕ)) where
   not_steps none Steps h = none h
   not_steps none c h = let e : 9 ≡ form c = form_said (codes "steps" ∷ rest) c h in absurd (omega (arith, e))
 
+  not_work : (Says (codes "work" ∷ rest) Work → ⊥) → (c : Command) → Says (codes "work" ∷ rest) c → ⊥
+  unfolding form_of_words
+  not_work none Work h = none h
+  not_work none c h = let e : 10 ≡ form c = form_said (codes "work" ∷ rest) c h in absurd (omega (arith, e))
+
 abbrev Saying : List (List ℕ) → Type 0
 Saying words = Given {A = Command} (Says words)
 
@@ -279,6 +291,8 @@ behind_keyword keywords.Blocks [] = inl (Blocks, refl)
 behind_keyword keywords.Blocks (a ∷ more) = inr (not_blocks (a ∷ more) (λ h. absurd (cc h)))
 behind_keyword keywords.Steps [] = inl (Steps, refl)
 behind_keyword keywords.Steps (a ∷ more) = inr (not_steps (a ∷ more) (λ h. absurd (cc h)))
+behind_keyword keywords.Work [] = inl (Work, refl)
+behind_keyword keywords.Work (a ∷ more) = inr (not_work (a ∷ more) (λ h. absurd (cc h)))
 
 -- the keyword that a word is, where it is one
 keyword_of : List ℕ → Keyword
@@ -291,7 +305,8 @@ keyword_of word =
     else if bytes_eq word (codes "get") then keywords.Get
     else if bytes_eq word (codes "show") then keywords.Show
     else if bytes_eq word (codes "blocks") then keywords.Blocks
-    else keywords.Steps
+    else if bytes_eq word (codes "steps") then keywords.Steps
+    else keywords.Work
 
 keyword_of_text : (k : Keyword) → keyword_of (keyword_text k) ≡ k
 unfolding keyword_of

@@ -1,7 +1,10 @@
 mod Values
 mod Runs
 mod WordLaws
+mod Marks
 mod PlaceLaws
+mod IndexLaws
+mod FieldLaws
 mod ValuesLaws
 mod FormLaws
 mod SpellingLaws

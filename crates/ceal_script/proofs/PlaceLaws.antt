@@ -1,21 +1,19 @@
 -- A place's name ends at the first dot.
-use Rattle.std.proofs.Common.{◌≡◌, ℕ, ◌+◌, ◌<◌, true, false, not, List, [], ◌∷◌, ◌++◌, length, take, drop, get_or, add-one, drop-cons, Option, Some, None, Err, suc, refl, sym, ap, ◌∙◌, subst, arith, length-append}
-use Rattle.std.specs.Prelude.{◌==◌, nat_lt, position, codes, bytes_eq, ℤ}
-use Rattle.std.specs.List.{list_all, position_or_len}
+use Rattle.std.proofs.Common.{◌≡◌, ℕ, ◌+◌, true, false, not, List, [], ◌∷◌, ◌++◌, length, take, drop, Option, Some, None, Err, sym, ap, ◌∙◌, refl, subst, arith}
+use Rattle.std.specs.Prelude.{◌==◌, position, codes, bytes_eq, ℤ}
+use Rattle.std.specs.List.{list_all}
 use Rattle.std.proofs.lemmas.Bool.{false≢true, and_parts}
 use Rattle.std.proofs.lemmas.Bool.Decides.{nat_tests}
-use Rattle.std.proofs.lemmas.List.{take-append-drop}
 use Rattle.std.proofs.lemmas.Slice.Eq.{bytes_eq-Decides}
-use Rattle.std.proofs.Math.Seq.{take-append_seam}
-use Rattle.std.proofs.lemmas.List.Quantifiers.{position-Some}
 use Rattle.ceal_script.specs.Answers.{Reads}
 use Rattle.ceal_script.specs.Characters.{is_letter, is_name_byte}
-use Rattle.ceal_script.specs.Spelling.{DOT, is_identifier, IsIdentifier, IsName, IsTextOf, place_text, IsField, SpellsNumber, SpellsPlace, SpellsValue}
+use Rattle.ceal_script.specs.Spelling.{DOT, is_identifier, IsIdentifier, IsName, IsTextOf, place_text, IsField, HasField, SpellsNumber, SpellsPlace, SpellsValue}
 use Rattle.ceal_script.specs.declared.command.PlaceWord.{PlaceWord}
 use Rattle.ceal_script.specs.declared.command.ValueWord.{ValueWord}
 use Rattle.ceal_script.specs.declared.command.ValueWord.TheVariants.{Num, Null, At}
 use Rattle.ceal_script.specs.declared.line_error.LineError.{LineError}
 use Rattle.ceal_script.specs.declared.line_error.LineError.TheVariants.{Memory, Unreadable}
+use Rattle.ceal_script.proofs.Marks.{around_mark, before_mark, behind_mark, mark_behind, no_mark}
 
 -- nothing is read of a text where nothing is read of a part of it
 pub passed_on : {A B : Type 0} (P : A → Type 0) (Q : B → Type 0) (e : LineError) → (((x : A) → P x → ⊥) → (y : B) → Q y → ⊥)
@@ -25,14 +23,6 @@ passed_on P Q Unreadable f h = f h
 
 no_dot : (b : ℕ) → is_name_byte b ≡ true → not (b == DOT) ≡ true
 no_dot b h = grind (arith, nat_tests)
-
--- a name has no dot
-name_run : (name rest : List ℕ) → list_all is_name_byte name ≡ true → position_or_len (λ b. b == DOT) (name ++ DOT ∷ rest) ≡ length name
-name_run [] rest h = refl
-name_run (b ∷ name) rest h =
-    let p = and_parts (is_name_byte b) (list_all is_name_byte name) h in
-    let q = name_run name rest p.1 in
-    rw (no_dot b p.0) (omega (arith, q))
 
 pub identifier_bytes : (name : List ℕ) → IsIdentifier name → list_all is_name_byte name ≡ true
 identifier_bytes [] h = absurd (false≢true h)
@@ -44,45 +34,20 @@ name_bytes : (name : List ℕ) → IsName name → list_all is_name_byte name �
 name_bytes name h = identifier_bytes name (and_parts (is_identifier name) (not (bytes_eq name (codes "null"))) h).0
 
 pub dot_behind : (name rest : List ℕ) → IsName name → position (λ b. b == DOT) (name ++ DOT ∷ rest) ≡ Some (length name)
-dot_behind name rest h =
-    let e = name_run name rest (name_bytes name h) in
-    let l = length-append name (DOT ∷ rest) in
-    rw e (rw (within (length name) (length (name ++ DOT ∷ rest)) (omega (arith, l))) refl)
-  where
-    within : (m n : ℕ) → m < n → nat_lt m n ≡ true
-    within m n h = grind (arith, nat_tests)
+dot_behind name rest h = mark_behind DOT no_dot name rest (name_bytes name h)
 
 pub dot_in : (name : List ℕ) → IsName name → position (λ b. b == DOT) name ≡ None
-dot_in name h =
-    let e = none_run name (name_bytes name h) in
-    rw e (rw (not_within (length name)) refl)
-  where
-    none_run : (name : List ℕ) → list_all is_name_byte name ≡ true → position_or_len (λ b. b == DOT) name ≡ length name
-    none_run [] h = refl
-    none_run (b ∷ name) h =
-        let p = and_parts (is_name_byte b) (list_all is_name_byte name) h in
-        let q = none_run name p.1 in
-        rw (no_dot b p.0) (omega (arith, q))
-
-    not_within : (n : ℕ) → nat_lt n n ≡ false
-    not_within n = grind (arith, nat_tests)
+dot_in name h = no_mark DOT no_dot name (name_bytes name h)
 
 pub field_behind : (name rest : List ℕ) → (take (length name) (name ++ DOT ∷ rest) ≡ name) × (drop (length name + 1) (name ++ DOT ∷ rest) ≡ rest)
-field_behind name rest = (take-append_seam name (DOT ∷ rest), rw add-one (drop_one name rest))
-  where
-    drop_one : (name rest : List ℕ) → drop (suc (length name)) (name ++ DOT ∷ rest) ≡ rest
-    drop_one [] rest = refl
-    drop_one (b ∷ name) rest = drop_one name rest
-
-dot_is : (b : ℕ) → (b == DOT) ≡ true → b ≡ DOT
-dot_is b h = grind (arith, nat_tests)
+field_behind name rest = (before_mark DOT name rest, behind_mark DOT name rest)
 
 module _ (word : List ℕ) where
   -- a word without a dot is a place where it is a name
   pub no_place : None ≡ position (λ b. b == DOT) word → ((t : List ℕ) → IsTextOf IsName word t → ⊥) → (p : PlaceWord) → SpellsPlace word p → ⊥
   no_place e f p h = by_field p.field h.0 h.2
     where
-      by_field : (field : Option (List ℕ)) → word ≡ place_text p.name field → IsField field → ⊥
+      by_field : (field : Option (List ℕ)) → word ≡ place_text p.name field → HasField field → ⊥
       by_field None w i = f word (refl, subst IsName (sym w) h.1)
       by_field (Some rest) w i =
           let q : None ≡ Some (length p.name) = e ∙ ap (position (λ b. b == DOT)) w ∙ dot_behind p.name rest h.1 in
@@ -90,10 +55,10 @@ module _ (word : List ℕ) where
 
   module _ (at : ℕ) (text : List ℕ) (behind : text ≡ drop (at + 1) word) (e : Some at ≡ position (λ b. b == DOT) word) where
     -- what stands before and behind the first dot of a place
-    parts : (p : PlaceWord) → SpellsPlace word p → IsName (take at word) × IsIdentifier (drop (at + 1) word)
+    parts : (p : PlaceWord) → SpellsPlace word p → IsName (take at word) × IsField (drop (at + 1) word)
     parts p h = by_field p.field h.0 h.2
       where
-        by_field : (field : Option (List ℕ)) → word ≡ place_text p.name field → IsField field → IsName (take at word) × IsIdentifier (drop (at + 1) word)
+        by_field : (field : Option (List ℕ)) → word ≡ place_text p.name field → HasField field → IsName (take at word) × IsField (drop (at + 1) word)
         by_field None w i =
             let q : Some at ≡ None = e ∙ ap (position (λ b. b == DOT)) w ∙ dot_in p.name h.1 in
             cc
@@ -105,17 +70,11 @@ module _ (word : List ℕ) where
     pub no_place_name : ((t : List ℕ) → IsTextOf IsName (take at word) t → ⊥) → (p : PlaceWord) → SpellsPlace word p → ⊥
     no_place_name f p h = f (take at word) (refl, (parts p h).0)
 
-    pub no_place_field : ((t : List ℕ) → IsTextOf IsIdentifier text t → ⊥) → (p : PlaceWord) → SpellsPlace word p → ⊥
+    pub no_place_field : ((t : List ℕ) → IsTextOf IsField text t → ⊥) → (p : PlaceWord) → SpellsPlace word p → ⊥
     no_place_field f p h = f text (refl, rw behind (parts p h).1)
 
-    around_dot : word ≡ take at word ++ DOT ∷ drop (at + 1) word
-    around_dot =
-        let p = position-Some (λ b. b == DOT) word at 0 (sym e) in
-        let d : get_or word at 0 ≡ DOT = dot_is (get_or word at 0) p.1 in
-        sym (take-append-drop at word) ∙ ap (λ (l : List ℕ). take at word ++ l) (drop-cons word at 0 p.0 ∙ rw (d, add-one) refl)
-
-    pub place_around : (name field : List ℕ) → IsTextOf IsName (take at word) name → IsTextOf IsIdentifier text field → SpellsPlace word (record { name = name; field = Some field })
-    place_around name field n f = (around_dot ∙ rw (n.0, f.0, behind) refl, rw n.0 n.1, rw f.0 f.1)
+    pub place_around : (name field : List ℕ) → IsTextOf IsName (take at word) name → IsTextOf IsField text field → SpellsPlace word (record { name = name; field = Some field })
+    place_around name field n f = (around_mark DOT word at e ∙ rw (n.0, f.0, behind) refl, rw n.0 n.1, rw f.0 f.1)
 
 pub not_value : (word : List ℕ) → bytes_eq word (codes "null") ≡ false → ((n : ℤ) → SpellsNumber word n → ⊥) → ((p : PlaceWord) → SpellsPlace word p → ⊥)
     → (v : ValueWord) → SpellsValue word v → ⊥

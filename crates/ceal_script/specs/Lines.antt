@@ -37,8 +37,7 @@ Says words (Get place) = (p : List ℕ) × (words ≡ codes "get" ∷ p ∷ []) 
 Says words (Show name) = (words ≡ codes "show" ∷ name ∷ []) × IsName name
 Says words Blocks = words ≡ codes "blocks" ∷ []
 Says words Steps = words ≡ codes "steps" ∷ []
--- not a line yet
-Says words Work = ⊥
+Says words Work = words ≡ codes "work" ∷ []
 
 -- The line is one of the command.
 pub record IsLineOf (command : Command) (line : List ℕ) : Type 0 where

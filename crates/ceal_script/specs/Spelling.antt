@@ -1,5 +1,6 @@
 -- What a word of a line spells.
 use Rattle.std.specs.Prelude.{◌≡◌, ◌≢◌, ℕ, Bool, false, not, ◌&&◌, bytes_eq, ◌+◌, ◌-◌, ◌*◌, ◌^◌, ◌<◌, ◌≤◌, ℤ, pos, neg_ℤ, ◌⊎◌, Option, Some, None, List, [], ◌∷◌, ◌++◌, IsTrue, codes}
+use Rattle.std.specs.Fmt.{decimal}
 use Rattle.std.specs.List.{list_all}
 use Rattle.ceal_script.specs.Characters.{is_letter, is_digit, is_name_byte}
 use Rattle.ceal_script.specs.declared.command.KindWord.{KindWord}
@@ -13,6 +14,12 @@ DOT = 46
 
 abbrev pub MINUS : ℕ
 MINUS = 45
+
+abbrev pub OPENING_BRACKET : ℕ
+OPENING_BRACKET = 91
+
+abbrev pub CLOSING_BRACKET : ℕ
+CLOSING_BRACKET = 93
 
 -- a letter or `_`, and then letters, digits and `_`
 abbrev pub is_identifier : List ℕ → Bool
@@ -60,17 +67,29 @@ SpellsNegative digits n = AreDigits digits × (number_of digits ≤ 2 ^ 63) × (
 abbrev pub SpellsNumber : List ℕ → ℤ → Type 0
 SpellsNumber word n = SpellsPositive word n ⊎ (digits : List ℕ) × (word ≡ MINUS ∷ digits) × SpellsNegative digits n
 
+-- the number of an element of a row, in decimal; a row has 255 elements at most
+abbrev pub IsIndex : List ℕ → Type 0
+IsIndex digits = (i : ℕ) × (i < 255) × (digits ≡ decimal i)
+
+-- an element of a row: the row's name, and the number in brackets
+abbrev pub IsElement : List ℕ → Type 0
+IsElement word = (row index : List ℕ) × (word ≡ row ++ OPENING_BRACKET ∷ (index ++ CLOSING_BRACKET ∷ [])) × IsIdentifier row × IsIndex index
+
+-- the name of a field, or an element of a row
+abbrev pub IsField : List ℕ → Type 0
+IsField word = IsIdentifier word ⊎ IsElement word
+
 -- NAME, or NAME.FIELD
 abbrev pub place_text : List ℕ → Option (List ℕ) → List ℕ
 place_text name None = name
 place_text name (Some field) = name ++ DOT ∷ field
 
-abbrev pub IsField : Option (List ℕ) → Type 0
-IsField None = Unit {0}
-IsField (Some field) = IsIdentifier field
+abbrev pub HasField : Option (List ℕ) → Type 0
+HasField None = Unit {0}
+HasField (Some field) = IsField field
 
 abbrev pub SpellsPlace : List ℕ → PlaceWord → Type 0
-SpellsPlace word place = (word ≡ place_text place.name place.field) × IsName place.name × IsField place.field
+SpellsPlace word place = (word ≡ place_text place.name place.field) × IsName place.name × HasField place.field
 
 -- a number, `null`, or a place
 abbrev pub SpellsValue : List ℕ → ValueWord → Type 0

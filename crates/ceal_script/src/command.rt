@@ -3,7 +3,8 @@
 use ceal_base::items::Items;
 use ceal_base::text::Text;
 
-/// A modifiable: that of a block made by `mod`, or a field of a struct's block.
+/// A modifiable: that of a block made by `mod`, or a field of a struct's block. An element of a row is a field too, with
+/// its number in brackets, as `s[2]`.
 #[derive(PartialEq, Eq, Debug, Drop)]
 pub struct PlaceWord {
     pub name: Text,
@@ -69,6 +70,6 @@ pub enum Command {
     Blocks,
     /// `steps`
     Steps,
-    /// no line is this command yet
+    /// `work`
     Work,
 }

@@ -119,6 +119,16 @@ fn read_steps(rest: &[&[u8]]) -> Result<Command, LineError>
     }
 }
 
+/// Nothing stands behind `work`.
+fn read_work(rest: &[&[u8]]) -> Result<Command, LineError>
+    ensures { Reads result (Says (codes "work" ∷ texts rest.now)) }
+{
+    match rest {
+        [] => Ok(Command::Work),
+        _ => Err(LineError::Unreadable),
+    }
+}
+
 /// What stands behind a keyword.
 fn behind(alloc: Global, word: Keyword, rest: &[&[u8]]) -> Result<Command, LineError>
     ensures { Reads result (Says (keyword_text word ∷ texts rest.now)) }
@@ -133,6 +143,7 @@ fn behind(alloc: Global, word: Keyword, rest: &[&[u8]]) -> Result<Command, LineE
         Keyword::Show => read_show(alloc, rest),
         Keyword::Blocks => read_blocks(rest),
         Keyword::Steps => read_steps(rest),
+        Keyword::Work => read_work(rest),
     }
 }
 
@@ -147,7 +158,8 @@ fn named(alloc: Global, first: &[u8], rest: &[&[u8]]) -> Result<Command, LineErr
     }
 }
 
-fn is_comment(word: &[u8]) -> bool
+/// Whether a word begins with `//`.
+pub fn is_comment(word: &[u8]) -> bool
     ensures { result ≡ lines.is_comment word.now }
 {
     match word {

@@ -16,6 +16,7 @@ pub enum Keyword {
     Show,
     Blocks,
     Steps,
+    Work,
 }
 
 /// The keyword that a word is, if it is one.
@@ -33,6 +34,7 @@ pub fn read_keyword(word: &[u8]) -> Option<Keyword>
         b"show" => Some(Keyword::Show),
         b"blocks" => Some(Keyword::Blocks),
         b"steps" => Some(Keyword::Steps),
+        b"work" => Some(Keyword::Work),
         _ => None,
     }
 }

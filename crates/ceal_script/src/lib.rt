@@ -14,3 +14,7 @@ pub mod line_error;
 mod number;
 mod spelling;
 mod words;
+
+pub use forms::is_comment;
+pub use spelling::is_name;
+pub use words::{gap_length, word_length};

@@ -13,8 +13,10 @@ use std::alloc::Global;
 /// The command that a line is. The line has no line end, and a CR at its end is a byte like any other.
 pub fn read_line(alloc: Global, line: &[u8]) -> Result<Command, LineError>
     ensures found { IfOk result (λ command. IsLineOf command line.now) }
-    ensures all { (command : CommandOf) → IsLineOf command line.now → (result ≡ Ok command) ⊎ IsErrOf result LineError.Memory }
-    ensures unreadable { IsErrOf result LineError.Unreadable → (command : CommandOf) → IsLineOf command line.now → ⊥ }
+    ensures all { (command : CommandOf) → IsLineOf command line.now
+        → (result ≡ Ok command) ⊎ IsErrOf result LineError.Memory }
+    ensures unreadable { IsErrOf result LineError.Unreadable → (command : CommandOf)
+        → IsLineOf command line.now → ⊥ }
 {
     let words = split_words(alloc, line)?;
     command(alloc, words.as_slice())
@@ -27,5 +29,6 @@ pub fn one_command()
 
 /// A line is a command's, or no command's.
 pub fn command_or_none()
-    ensures { (line : List ℕ) → ((c : CommandOf) × IsLineOf c line) ⊎ ((c : CommandOf) → IsLineOf c line → ⊥) }
+    ensures { (line : List ℕ)
+        → ((c : CommandOf) × IsLineOf c line) ⊎ ((c : CommandOf) → IsLineOf c line → ⊥) }
 {}

@@ -1,16 +1,19 @@
 // Numbers of the range of an `int`.
 
-ghost use Rattle.std.specs.Prelude.{◌≡◌, ◌<◌, ◌≤◌, ◌^◌, pos, neg_ℤ, MatchOption};
+ghost use Rattle.std.specs.Prelude.{◌≡◌, ◌<◌, ◌≤◌, ◌^◌, pos, neg_ℤ, Decides, MatchOption};
 ghost use Rattle.std.specs.List.{list_all};
 ghost use Rattle.ceal_script.specs.Answers.{Finds};
 ghost use Rattle.ceal_script.specs.Characters as characters;
 ghost use Rattle.ceal_script.specs.Spelling as spelling;
-ghost use Rattle.ceal_script.specs.Spelling.{number_of, SpellsPositive, SpellsNegative, SpellsNumber};
+ghost use Rattle.ceal_script.specs.Spelling.{IsIndex, number_of, SpellsPositive, SpellsNegative, SpellsNumber};
 
 use crate::bytes::is_digit;
 
 /// The largest distance of a number from 0.
 const LARGEST: u64 = 1 << 63;
+
+/// How many elements a row has at most.
+const LONGEST_ROW: u64 = 255;
 
 fn all_digits(bytes: &[u8]) -> bool
     ensures { result ≡ list_all characters.is_digit bytes.now }
@@ -30,7 +33,8 @@ fn are_digits(bytes: &[u8]) -> bool
 
 /// The number that decimal digits spell, unless it is too large.
 fn magnitude(digits: &[u8]) -> Option<u64>
-    ensures { MatchOption result (2 ^ 63 < number_of digits.now) (λ n. (n ≡ number_of digits.now) × (n ≤ 2 ^ 63)) }
+    ensures { MatchOption result (2 ^ 63 < number_of digits.now)
+        (λ n. (n ≡ number_of digits.now) × (n ≤ 2 ^ 63)) }
 {
     let mut value = 0;
     for byte in digits {
@@ -41,6 +45,26 @@ fn magnitude(digits: &[u8]) -> Option<u64>
         value = value * 10 + digit;
     }
     Some(value)
+}
+
+/// Whether a row may have an element of the number that digits spell.
+fn fits_row(digits: &[u8]) -> bool
+    ensures { Decides result (number_of digits.now < 255) }
+{
+    match magnitude(digits) {
+        Some(number) => number < LONGEST_ROW,
+        None => false,
+    }
+}
+
+/// Whether a word is the number of an element of a row, without a zero in front.
+pub fn is_index(word: &[u8]) -> bool
+    ensures { Decides result (IsIndex word.now) }
+{
+    match word {
+        [b'0', _, ..] => false,
+        _ => are_digits(word) && fits_row(word),
+    }
 }
 
 /// The number of digits.

@@ -1,17 +1,17 @@
 // Names, places, values and types, each of which is one word.
 
-ghost use Rattle.std.specs.Prelude.{◌≡◌, ◌==◌, bytes_eq, position};
+ghost use Rattle.std.specs.Prelude.{◌≡◌, ◌==◌, Decides, bytes_eq, position};
 ghost use Rattle.std.specs.List.{list_all, AllZip};
 ghost use Rattle.ceal_script.specs.Answers.{Reads};
 ghost use Rattle.ceal_script.specs.Characters as characters;
 ghost use Rattle.ceal_script.specs.Spelling as spelling;
-ghost use Rattle.ceal_script.specs.Spelling.{DOT, IsIdentifier, IsName, SpellsKind, SpellsPlace, SpellsValue, IsTextOf};
+ghost use Rattle.ceal_script.specs.Spelling.{DOT, OPENING_BRACKET, IsElement, IsField, IsIdentifier, IsName, SpellsKind, SpellsPlace, SpellsValue, IsTextOf};
 ghost use Rattle.ceal_script.specs.Words.{texts};
 
 use crate::bytes::{is_letter, is_name_byte};
 use crate::command::{KindWord, PlaceWord, ValueWord, ValueWords};
 use crate::line_error::LineError;
-use crate::number::number;
+use crate::number::{is_index, number};
 use ceal_base::items::Items;
 use ceal_base::text::Text;
 use std::alloc::Global;
@@ -38,13 +38,14 @@ fn is_identifier(word: &[u8]) -> bool
     }
 }
 
-fn is_name(word: &[u8]) -> bool
+/// Whether a word is a name of an input: an identifier that is not `null`.
+pub fn is_name(word: &[u8]) -> bool
     ensures { result ≡ spelling.is_name word.now }
 {
     is_identifier(word) && !is(word, "null")
 }
 
-/// The name of a struct, a function or a field.
+/// The name of a struct or a function.
 pub fn identifier(alloc: Global, word: &[u8]) -> Result<Text, LineError>
     ensures { Reads result (IsTextOf IsIdentifier word.now) }
 {
@@ -60,6 +61,43 @@ pub fn name(alloc: Global, word: &[u8]) -> Result<Text, LineError>
     ensures { Reads result (IsTextOf IsName word.now) }
 {
     if !is_name(word) {
+        return Err(LineError::Unreadable);
+    }
+    let text = Text::from_slice(alloc, word)?;
+    Ok(text)
+}
+
+/// Where the first `[` stands.
+fn opening_bracket(word: &[u8]) -> Option<usize>
+    ensures { result ≡ position (λ b. b == OPENING_BRACKET) word.now }
+{
+    word.iter().position(|byte| *byte == b'[')
+}
+
+/// Whether a word is a row's name with the number of an element in brackets.
+fn is_element(word: &[u8]) -> bool
+    ensures { Decides result (IsElement word.now) }
+{
+    let Some(at) = opening_bracket(word) else {
+        return false;
+    };
+    match word[at + 1..].strip_suffix(b"]") {
+        Some(index) => is_identifier(&word[..at]) && is_index(index),
+        None => false,
+    }
+}
+
+fn is_field(word: &[u8]) -> bool
+    ensures { Decides result (IsField word.now) }
+{
+    is_identifier(word) || is_element(word)
+}
+
+/// The name of a field, or that of an element of a row.
+fn field(alloc: Global, word: &[u8]) -> Result<Text, LineError>
+    ensures { Reads result (IsTextOf IsField word.now) }
+{
+    if !is_field(word) {
         return Err(LineError::Unreadable);
     }
     let text = Text::from_slice(alloc, word)?;
@@ -95,7 +133,7 @@ pub fn place(alloc: Global, word: &[u8]) -> Result<PlaceWord, LineError>
         }
         Some(at) => {
             let name = name(alloc, &word[..at])?;
-            let field = identifier(alloc, &word[at + 1..])?;
+            let field = field(alloc, &word[at + 1..])?;
             Ok(PlaceWord {
                 name,
                 field: Some(field),

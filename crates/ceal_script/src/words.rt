@@ -24,7 +24,7 @@ fn word_end(bytes: &[u8]) -> Option<usize>
 }
 
 /// How many gaps stand at the front.
-fn gap_length(bytes: &[u8]) -> usize
+pub fn gap_length(bytes: &[u8]) -> usize
     ensures within { result ≤ length bytes.now }
     ensures run { result ≡ prefix_len characters.is_gap bytes.now }
 {
@@ -32,7 +32,7 @@ fn gap_length(bytes: &[u8]) -> usize
 }
 
 /// How many bytes stand before the first gap.
-fn word_length(bytes: &[u8]) -> usize
+pub fn word_length(bytes: &[u8]) -> usize
     ensures within { result ≤ length bytes.now }
     ensures run { result ≡ position_or_len characters.is_gap bytes.now }
 {
@@ -41,7 +41,8 @@ fn word_length(bytes: &[u8]) -> usize
 
 /// The first word and what stands behind it, if there is a word.
 fn first_word(line: &[u8]) -> Option<(&[u8], &[u8])>
-    ensures { MatchOption result (AreGaps line.now) (λ found. HasWord line.now found.0.now found.1.now) }
+    ensures { MatchOption result (AreGaps line.now)
+        (λ found. HasWord line.now found.0.now found.1.now) }
 {
     let text = &line[gap_length(line)..];
     if text.is_empty() {

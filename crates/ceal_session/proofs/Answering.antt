@@ -27,11 +27,11 @@ use Rattle.ceal_session.specs.Asking.{IsReady, IsCellOf, IsCellSense, IsFor, Can
 use Rattle.ceal_session.specs.Runs.{memory_of, run_of, with_run}
 use Rattle.ceal_session.specs.Senses.{fields_of, fields_numbered, field_named, input_named, block_sense, kind_sense, field_sense, member_sense, part_sense, shape_in, shape_at, input_sense, found_sense, place_sense, value_sense, is_unknown, words_of, mod_shape, struct_shape, struct_named, function_named}
 use Rattle.ceal_session.specs.State.{State}
-use Rattle.ceal_session.specs.Steps.{Step, stays, refuses, made_if, made_with, made, made_of, fits_cell, set_base, set_word, set, fits_function, IsCall, IsFirst, called_with, called_function, called, called_again, run_reply, runs, has_no_run, asked, got, shown, answered, block_of}
+use Rattle.ceal_session.specs.Steps.{Step, stays, refuses, made_if, made_with, made, made_of, fits_cell, set_base, set_word, set, fits_function, IsCall, IsFirst, called_with, called_function, called, called_again, run_reply, runs, has_no_run, asked, got, shown, answered, answered_line, block_of}
 use Rattle.ceal_session.specs.declared.refusal.Refusal.{Refusal}
 use Rattle.ceal_session.specs.declared.refusal.Refusal.TheVariants.{C2, C3, C4, C5, C6, C7, C8}
 use Rattle.ceal_session.specs.declared.reply.Query.{Query}
-use Rattle.ceal_session.specs.declared.reply.Query.TheVariants.{Get as GetOf, Show as ShowOf, Blocks as BlocksOf, Steps as StepsOf}
+use Rattle.ceal_session.specs.declared.reply.Query.TheVariants.{Get as GetOf, Show as ShowOf, Blocks as BlocksOf, Steps as StepsOf, Work as WorkOf}
 use Rattle.ceal_session.specs.declared.reply.Reply.{Reply}
 use Rattle.ceal_session.specs.declared.reply.Reply.TheVariants.{Refused, Told}
 use Rattle.ceal_session.specs.declared.sense.Sense.{Sense}
@@ -91,25 +91,25 @@ module _ (s : State) where
   cell-sense place = found-cell (input_named s place.name) place.field
 
 -- the reply can be told from the state
-abbrev Tells : Step → Type 0
-Tells step = CanTell step.state step.reply
+abbrev Tells : State → Step → Type 0
+Tells s step = CanTell s step.reply
 
-either : (b : Bool) (x y : Step) → Tells x → Tells y → Tells (if b then x else y)
-either true x y h k = h
-either false x y h k = k
+either : (s : State) (b : Bool) (x y : Step) → Tells s x → Tells s y → Tells s (if b then x else y)
+either s true x y h k = h
+either s false x y h k = k
 
 module _ (s : State) where
-  made-with-tells : (name : List ℕ) (shape : Shape) (o : Option (List Word)) → Tells (made_with s name shape o)
+  made-with-tells : (name : List ℕ) (shape : Shape) (o : Option (List Word)) → Tells s (made_with s name shape o)
   made-with-tells name shape None = tt
-  made-with-tells name shape (Some words) = either (block_fits s.program.structs (memory_of s) (block_of shape words)) _ (refuses s C4) tt tt
+  made-with-tells name shape (Some words) = either s (block_fits s.program.structs (memory_of s) (block_of shape words)) _ (refuses s C4) tt tt
 
-  made-tells : (name : List ℕ) (o : Option Shape) (senses : List Sense) → Tells (made_of s name o senses)
+  made-tells : (name : List ℕ) (o : Option Shape) (senses : List Sense) → Tells s (made_of s name o senses)
   made-tells name None senses = tt
   made-tells name (Some shape) senses =
-      either (list_any is_unknown senses) (refuses s C2) _ tt (either (list_any (bytes_eq name) s.names) (refuses s C3) _ tt (made-with-tells name shape (words_of senses)))
+      either s (list_any is_unknown senses) (refuses s C2) _ tt (either s (list_any (bytes_eq name) s.names) (refuses s C3) _ tt (made-with-tells name shape (words_of senses)))
 
-  set-word-tells : (place value : Sense) → Tells (set_word s place value)
-  set-word-tells (IsWord (At p)) (IsWord word) = either (fits_cell s (kind_at s.program.structs (memory_of s) p) word) _ (refuses s C4) tt tt
+  set-word-tells : (place value : Sense) → Tells s (set_word s place value)
+  set-word-tells (IsWord (At p)) (IsWord word) = either s (fits_cell s (kind_at s.program.structs (memory_of s) p) word) _ (refuses s C4) tt tt
   set-word-tells (IsWord (At p)) Unknown = tt
   set-word-tells (IsWord (At p)) Plain = tt
   set-word-tells (IsWord (Num n)) value = tt
@@ -118,14 +118,14 @@ module _ (s : State) where
   set-word-tells Unknown value = tt
   set-word-tells Plain value = tt
 
-  set-tells : (place value : Sense) → Tells (set s place value)
-  set-tells place value = either (is_unknown place || is_unknown value) (refuses s C2) _ tt (set-word-tells place value)
+  set-tells : (place value : Sense) → Tells s (set s place value)
+  set-tells place value = either s (is_unknown place || is_unknown value) (refuses s C2) _ tt (set-word-tells place value)
 
-  runs-tells : (r : Result Call Refusal) → Tells (runs s r)
+  runs-tells : (r : Result Call Refusal) → Tells s (runs s r)
   runs-tells (Err r) = tt
   runs-tells (Ok call) = go (run_of s call)
     where
-      go : (o : Option Finished) → CanTell (with_run s call (is_none (run_of s call))) (run_reply o)
+      go : (o : Option Finished) → CanTell s (run_reply o)
       go None = tt
       go (Some f) = tt
 
@@ -149,7 +149,7 @@ module _ (s : State) where
   shown-tells c name None e = tt
   shown-tells c name (Some n) e = asked-tells (ShowOf n) (subst (λ k. n < k) c (position-within (bytes_eq name) s.names n e))
 
-  pub can-tell : length s.names ≡ length s.inputs → (command : Command) → CanTell (answered s command).state (answered s command).reply
+  pub can-tell : length s.names ≡ length s.inputs → (command : Command) → CanTell s (answered s command).reply
   can-tell c Blank = tt
   can-tell c (Mod name kind value) = made-tells name (mod_shape s kind) (value_sense s value ∷ [])
   can-tell c (New name shape values) = made-tells name (struct_shape (struct_named s shape)) (map (value_sense s) values)
@@ -160,7 +160,11 @@ module _ (s : State) where
   can-tell c (Show name) = shown-tells c name (input_named s name) refl
   can-tell c Blocks = asked-tells BlocksOf tt
   can-tell c Steps = asked-tells StepsOf tt
-  can-tell c Work = tt
+  can-tell c Work = asked-tells WorkOf tt
+
+  pub can-tell-line : length s.names ≡ length s.inputs → (command : Option Command) → CanTell s (answered_line s command).reply
+  can-tell-line c None = tt
+  can-tell-line c (Some command) = can-tell c command
 
   -- a call that is accepted is a first one
   with-first : (n : ℕ) (f : TypedFunction) (o : Option (List Word)) (call : Call) → slice_get s.program.functions n ≡ Some f → called_with s n f o ≡ Ok call → IsFirst s call

@@ -10,6 +10,7 @@ use Rattle.ceal_base.specs.declared.word.Word.{Word}
 use Rattle.ceal_code.proofs.Same.{both}
 use Rattle.ceal_code.specs.Fitting.{args_fit, Fits}
 use Rattle.ceal_code.specs.Program.{Code}
+use Rattle.ceal_code.specs.Valid.{valid}
 use Rattle.ceal_compile.proofs.Coded.{same_calls, same_structs}
 use Rattle.ceal_compile.specs.Compiled.{IsCodeOf}
 use Rattle.ceal_compile.specs.Laws.{call_fits}
@@ -35,9 +36,10 @@ module _ (p : Typed) (code : Code) (c : IsCodeOf p code) where
     core-of f h = fits-core (slice_get p.functions f) (sym (same_calls p code c structs x f args) ∙ h)
 
   -- the arguments of a call that is accepted fit the code's function, which is a core function
-  pub call-fits : (s : State) (f : ℕ) (args : List Word) → s.program ≡ p → inputs_fit code.structs s.inputs ≡ true
+  pub call-fits : valid code ≡ true → (s : State) (f : ℕ) (args : List Word) → s.program ≡ p → inputs_fit code.structs s.inputs ≡ true
       → is_call_of s (slice_get p.functions f) args ≡ true → Fits code s.inputs f args
-  call-fits s f args same fit h = record {
+  call-fits ok s f args same fit h = record {
+    is_valid = ok;
     blocks = fit;
     words =
         same_calls p code c code.structs (inputs_alone s.inputs) f args

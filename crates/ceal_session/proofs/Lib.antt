@@ -9,4 +9,8 @@ pub mod Seen
 pub mod Answering
 pub mod Telling
 pub mod OneReply
+pub mod Composed
+pub mod Extending
+pub mod Tracing
 pub mod SomeReply
+pub mod KeptLine

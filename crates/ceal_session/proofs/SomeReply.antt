@@ -22,30 +22,38 @@ use Rattle.ceal_code.proofs.Ends.{fresh-ends, fresh-count}
 use Rattle.ceal_code.proofs.InputFits.{edit-fits, fits_in, kept-longer, longer-fits}
 use Rattle.ceal_code.proofs.Kept.{Shapes_kept, words-kept}
 use Rattle.ceal_code.proofs.Memory.{got}
-use Rattle.ceal_code.proofs.Same.{both, both-true}
+use Rattle.ceal_code.proofs.Same.{both, both-true, none-some}
 use Rattle.ceal_code.specs.Fitting.{Fits}
 use Rattle.ceal_code.specs.Fresh.{fresh as code_fresh}
 use Rattle.ceal_code.specs.Laws.{Progress_law}
 use Rattle.ceal_code.specs.Program.{Code}
+use Rattle.ceal_code.specs.Value.{is_cell}
 use Rattle.ceal_script.specs.Lines.{IsLineOf}
 use Rattle.ceal_script.specs.declared.command.Command.{Command}
-use Rattle.ceal_script.specs.declared.command.Command.TheVariants.{Blank, Mod, New, Set, Run, Propagate, Get, Show, Blocks as BlocksCommand, Steps as StepsCommand, Work}
-use Rattle.ceal_session.proofs.Answering.{called-first, can-tell}
+use Rattle.ceal_script.specs.declared.command.Command.TheVariants.{Blank, Mod, New, Set, Run, Propagate, Get, Show, Blocks as BlocksCommand, Steps as StepsCommand, Work as WorkCommand}
+use Rattle.ceal_session.proofs.Answering.{called-first, can-tell, cell-sense}
 use Rattle.ceal_session.proofs.Compiled.{call-fits, same-structs}
-use Rattle.ceal_session.specs.Asking.{CanTell}
-use Rattle.ceal_session.specs.Laws.{Answered, Begun_law, Some_reply_law, Some_script_law}
+use Rattle.ceal_session.proofs.Extending.{extended-longer, extended-edited}
+use Rattle.ceal_session.proofs.Tracing.{Found, first-found, repair-found}
+use Rattle.ceal_session.specs.Asking.{CanTell, IsCellOf, IsCellSense}
+use Rattle.ceal_session.specs.Laws.{Behind, Answered, Begun_law, Some_reply_law, Some_script_law}
 use Rattle.ceal_session.specs.Refusals.{refusal_text}
-use Rattle.ceal_session.specs.Replies.{AreReplies}
+use Rattle.ceal_session.specs.Replies.{Works, taken, AreReplies, AreWorks}
 use Rattle.ceal_session.specs.Runs.{memory_of, present_run, run_of, with_run}
 use Rattle.ceal_session.specs.Senses.{is_unknown, words_of, mod_shape, struct_shape, struct_named, function_named, place_sense, value_sense}
-use Rattle.ceal_session.specs.Standing.{Stands}
+use Rattle.ceal_session.specs.Standing.{IsTraceOf, IsWorkOf, Stands}
 use Rattle.ceal_session.specs.State.{State}
-use Rattle.ceal_session.specs.Steps.{Step, stays, refuses, with_input, block_of, made_with, made_of, with_base, fits_cell, set_word, set, fits_function, is_call_of, IsCall, called, called_again, run_reply, runs, answered}
+use Rattle.ceal_session.specs.Steps.{Step, stays, refuses, with_input, block_of, made_with, made_of, with_base, fits_cell, set_word, set, fits_function, is_call_of, IsCall, called, called_again, run_reply, runs, call_of, answered, answered_line}
 use Rattle.ceal_session.specs.Texts.{input_name, value_text, TellsOf, IsText}
+use Rattle.ceal_session.specs.Works.{call_in, ends, completes, traced, trace_behind, number_of}
+use Rattle.ceal_theory.specs.Adjust.{Extended}
+use Rattle.ceal_theory.specs.Computed.{Repaired}
+use Rattle.ceal_theory.specs.Laws.{First_law, End_law, Function_law, Repair_law}
+use Rattle.ceal_theory.specs.MoreInputs.{More_inputs_law}
 use Rattle.ceal_session.specs.declared.refusal.Refusal.{Refusal}
 use Rattle.ceal_session.specs.declared.refusal.Refusal.TheVariants.{C1, C2, C3, C4}
 use Rattle.ceal_session.specs.declared.reply.Query.{Query}
-use Rattle.ceal_session.specs.declared.reply.Query.TheVariants.{Get as GetOf, Show as ShowOf, Blocks as BlocksOf, Steps as StepsOf}
+use Rattle.ceal_session.specs.declared.reply.Query.TheVariants.{Get as GetOf, Show as ShowOf, Blocks as BlocksOf, Steps as StepsOf, Work as WorkOf}
 use Rattle.ceal_session.specs.declared.reply.Reply.{Reply}
 use Rattle.ceal_session.specs.declared.reply.Reply.TheVariants.{Nothing, Ok as Done, OutOfFuel, Refused, Told}
 use Rattle.ceal_session.specs.declared.sense.Sense.{Sense}
@@ -66,7 +74,7 @@ Text_law = (structs : List StructInfo) (m : Blocks) (name : ℕ → List ℕ) (r
     → (text : List ℕ) × IsGraphText structs (block_at m) name root text
 
 pub begun-stands : Begun_law
-begun-stands p fuel compiled = record { compiled = compiled; named = refl; fits = refl; called = tt }
+begun-stands p fuel compiled = record { compiled = compiled; named = refl; fits = refl; called = tt; traced = refl }
 
 -- a call that fits still fits where the inputs keep their shapes
 call-kept : (s : State) (inputs : List Block) → Shapes_kept (memory_of s) (record { inputs = inputs; made = [] }) → (o : Option TypedFunction) (args : List Word)
@@ -91,110 +99,176 @@ core-call s (Some f) args h = by_initialiser f.initialiser refl (both (is_none f
     by_initialiser None e k = rw e refl
     by_initialiser (Some s) e k = absurd (grind (arith, k))
 
--- there is a text of the step's reply, and the state behind it stands
-pub record Good (code : Code) (s : State) (step : Step) : Type 0 where
-  pub text : List ℕ
-  pub is : IsText s step.reply text
-  pub stands : Stands code step.state
+-- what is known of repairs
+pub record Repair_laws : Type 0 where
+  pub first : First_law
+  pub ends : End_law
+  pub functions : Function_law
+  pub repairs : Repair_law
+  pub more : More_inputs_law
 
-module _ (progress : Progress_law) (line_law : Line_law) (whole_law : Whole_law) (text_law : Text_law) (code : Code) where
-  module _ (s : State) (st : Stands code s) where
-    refused : (r : Refusal) → Good code s (refuses s r)
+-- there is a text of the step's reply, and the state and the trace behind it stand
+pub record Good (code : Code) (s : State) (work : ℕ) (step : Step) (after : Option Repaired) : Type 0 where
+  pub text : List ℕ
+  pub is : IsText s work step.reply text
+  pub stands : Stands code step.state after
+
+-- the call is one that fits, and no other was accepted before
+pub record Accepted (s : State) (call : Call) : Type 0 where
+  pub is : IsCall s call
+  pub only : (s.call ≡ None) ⊎ (s.call ≡ Some call)
+
+module _ (progress : Progress_law) (line_law : Line_law) (whole_law : Whole_law) (text_law : Text_law) (laws : Repair_laws) (code : Code) where
+  module _ (s : State) (last : Option Repaired) (work : ℕ) (st : Stands code s last) where
+    refused : (r : Refusal) → Good code s work (refuses s r) last
     refused r = record { text = refusal_text r; is = refl; stands = st }
 
-    -- one input more
-    with-input : (name : List ℕ) (block : Block) → block_fits s.program.structs (memory_of s) block ≡ true → Stands code (with_input s name block)
-    with-input name block h = record {
-      compiled = st.compiled;
-      named =
-          let a = length-append s.names (name ∷ []) in
-          let b = length-append s.inputs (block ∷ []) in
-          let n = st.named in
-          omega (arith, a, b, n);
-      fits = longer-fits s.program.structs s.inputs block st.fits h;
-      called = all-called s (s.inputs ++ block ∷ []) (kept-longer s.program.structs s.inputs block) s.call st.called;
-    }
+    structs : code.structs ≡ s.program.structs
+    structs = same-structs s.program code st.compiled.code
 
-    made-with : (name : List ℕ) (shape : Shape) (o : Option (List Word)) → Good code s (made_with s name shape o)
+    pub fits-call : (call : Call) → IsCall s call → Fits code s.inputs call.function call.args
+    fits-call call h = call-fits s.program code st.compiled.code st.compiled.valid s call.function call.args refl (subst (λ k. inputs_fit k s.inputs ≡ true) (sym structs) st.fits) h
+
+    -- the trace is one on other inputs that extend these
+    on-others : (t : State) → t.out_of_fuel ≡ s.out_of_fuel → inputs_fit s.program.structs t.inputs ≡ true → Extended code s.inputs t.inputs
+        → (o : Option Call) → IfSome o (IsCall s) → (l : Option Repaired) → IsTraceOf code s o l → IsTraceOf code t o l
+    on-others t out fit extended None c l h = h
+    on-others t out fit extended (Some call) c None h = out ∙ h
+    on-others t out fit extended (Some call) c (Some l) h =
+        (out ∙ h.0, (laws.more code s.inputs t.inputs call.function call.args (fits-call call c) (subst (λ k. inputs_fit k t.inputs ≡ true) (sym structs) fit) extended l.items h.1).replays)
+
+    -- one input more
+    with-input : (name : List ℕ) (block : Block) → block_fits s.program.structs (memory_of s) block ≡ true → Stands code (with_input s name block) last
+    with-input name block h =
+        let fit : inputs_fit s.program.structs (s.inputs ++ block ∷ []) ≡ true = longer-fits s.program.structs s.inputs block st.fits h in
+        record {
+          compiled = st.compiled;
+          named =
+              let a = length-append s.names (name ∷ []) in
+              let b = length-append s.inputs (block ∷ []) in
+              let n = st.named in
+              omega (arith, a, b, n);
+          fits = fit;
+          called = all-called s (s.inputs ++ block ∷ []) (kept-longer s.program.structs s.inputs block) s.call st.called;
+          traced = on-others (with_input s name block) refl fit (extended-longer code s.inputs block) s.call st.called last st.traced;
+        }
+
+    made-with : (name : List ℕ) (shape : Shape) (o : Option (List Word)) → Good code s work (made_with s name shape o) last
     made-with name shape None = refused C4
     made-with name shape (Some words) = go (block_fits s.program.structs (memory_of s) (block_of shape words)) refl
       where
         go : (b : Bool) → block_fits s.program.structs (memory_of s) (block_of shape words) ≡ b
-            → Good code s (if b then stays (with_input s name (block_of shape words)) Done else refuses s C4)
+            → Good code s work (if b then stays (with_input s name (block_of shape words)) Done else refuses s C4) last
         go true e = record { text = codes "ok\n"; is = refl; stands = with-input name (block_of shape words) e }
         go false e = refused C4
 
-    made-good : (name : List ℕ) (o : Option Shape) (senses : List Sense) → Good code s (made_of s name o senses)
+    made-good : (name : List ℕ) (o : Option Shape) (senses : List Sense) → Good code s work (made_of s name o senses) last
     made-good name None senses = refused C2
     made-good name (Some shape) senses = go (list_any is_unknown senses) (list_any (bytes_eq name) s.names)
       where
-        go : (a b : Bool) → Good code s (if a then refuses s C2 else if b then refuses s C3 else made_with s name shape (words_of senses))
+        go : (a b : Bool) → Good code s work (if a then refuses s C2 else if b then refuses s C3 else made_with s name shape (words_of senses)) last
         go true b = refused C2
         go false true = refused C3
         go false false = made-with name shape (words_of senses)
 
     -- another base
-    fits-base : (p : Place) (word : Word) → fits_cell s (kind_at s.program.structs (memory_of s) p) word ≡ true → Stands code (with_base s p word)
-    fits-base p word h =
+    fits-base : (p : Place) (word : Word) → IsCellOf s p → fits_cell s (kind_at s.program.structs (memory_of s) p) word ≡ true → Stands code (with_base s p word) last
+    fits-base p word cell h =
         let e = edit-fits s.program.structs s.inputs p word st.fits (same-cell (kind_at s.program.structs (memory_of s) p) h) in
         record {
           compiled = st.compiled;
           named = st.named ∙ sym e.count;
           fits = e.fits;
           called = all-called s (with_base s p word).inputs e.kept s.call st.called;
+          traced = on-others (with_base s p word) refl e.fits
+              (extended-edited code s.inputs p word (subst (λ k. is_cell (kind_at k (memory_of s) p) ≡ true) (sym structs) cell)) s.call st.called last st.traced;
         }
       where
         same-cell : (o : Option FieldKind) → fits_cell s o word ≡ true → fits_in s.program.structs s.inputs o word ≡ true
         same-cell None k = k
         same-cell (Some kind) k = k
 
-    base-good : (p : Place) (word : Word) (b : Bool) → fits_cell s (kind_at s.program.structs (memory_of s) p) word ≡ b
-        → Good code s (if b then stays (with_base s p word) Done else refuses s C4)
-    base-good p word true e = record { text = codes "ok\n"; is = refl; stands = fits-base p word e }
-    base-good p word false e = refused C4
+    base-good : (p : Place) (word : Word) → IsCellOf s p → (b : Bool) → fits_cell s (kind_at s.program.structs (memory_of s) p) word ≡ b
+        → Good code s work (if b then stays (with_base s p word) Done else refuses s C4) last
+    base-good p word cell true e = record { text = codes "ok\n"; is = refl; stands = fits-base p word cell e }
+    base-good p word cell false e = refused C4
 
-    word-good : (place value : Sense) → Good code s (set_word s place value)
-    word-good (IsWord (At p)) (IsWord word) = base-good p word (fits_cell s (kind_at s.program.structs (memory_of s) p) word) refl
-    word-good (IsWord (At p)) Unknown = refused C4
-    word-good (IsWord (At p)) Plain = refused C4
-    word-good (IsWord (Num n)) value = refused C4
-    word-good (IsWord Null) value = refused C4
-    word-good (IsWord (BlockWord b)) value = refused C4
-    word-good Unknown value = refused C4
-    word-good Plain value = refused C4
+    word-good : (place value : Sense) → IsCellSense s place → Good code s work (set_word s place value) last
+    word-good (IsWord (At p)) (IsWord word) cell = base-good p word cell (fits_cell s (kind_at s.program.structs (memory_of s) p) word) refl
+    word-good (IsWord (At p)) Unknown cell = refused C4
+    word-good (IsWord (At p)) Plain cell = refused C4
+    word-good (IsWord (Num n)) value cell = refused C4
+    word-good (IsWord Null) value cell = refused C4
+    word-good (IsWord (BlockWord b)) value cell = refused C4
+    word-good Unknown value cell = refused C4
+    word-good Plain value cell = refused C4
 
-    set-good : (place value : Sense) → Good code s (set s place value)
-    set-good place value = go (is_unknown place || is_unknown value)
+    set-good : (place value : Sense) → IsCellSense s place → Good code s work (set s place value) last
+    set-good place value cell = go (is_unknown place || is_unknown value)
       where
-        go : (a : Bool) → Good code s (if a then refuses s C2 else set_word s place value)
+        go : (a : Bool) → Good code s work (if a then refuses s C2 else set_word s place value) last
         go true = refused C2
-        go false = word-good place value
+        go false = word-good place value cell
+
+    -- the source's run is the code's
+    code-run : (call : Call) → IsCall s call → (o : Option Finished) → run_of s call ≡ o → code_fresh code call.function call.args s.inputs s.fuel ≡ o
+    code-run call h o e = st.compiled.means call.function call.args s.inputs s.fuel (core-call s (slice_get s.program.functions call.function) call.args h) ∙ e
+
+    -- a run that ends has a trace
+    trace-of : (call : Call) → (h : IsCall s call) → (o : Option Call) → ((o ≡ None) ⊎ (o ≡ Some call)) → (f : Finished) → run_of s call ≡ Some f
+        → (l : Option Repaired) → IsTraceOf code s o l → Found code s.inputs call.function call.args (fits-call call h) (traced code s call l)
+    trace-of call h o only f e None t = first-found code s.inputs call.function call.args (fits-call call h) laws.first s.fuel f (code-run call h (Some f) e)
+    trace-of call h o (inl none) f e (Some l) t = none-some l (sym (subst (λ o. IsTraceOf code s o (Some l)) none t))
+    trace-of call h o (inr same) f e (Some l) t =
+        repair-found code s.inputs call.function call.args (fits-call call h) laws.ends laws.functions laws.repairs s.fuel f (code-run call h (Some f) e) l.items
+        (subst (λ o. IsTraceOf code s o (Some l)) same t).1
 
     -- a run
-    with-call : (call : Call) (out : Bool) → IsCall s call → Stands code (with_run s call out)
-    with-call call out h = record { compiled = st.compiled; named = st.named; fits = st.fits; called = h }
+    with-call : (call : Call) (out : Bool) (after : Option Repaired) → IsCall s call → IsTraceOf code (with_run s call out) (Some call) after → Stands code (with_run s call out) after
+    with-call call out after h t = record { compiled = st.compiled; named = st.named; fits = st.fits; called = h; traced = t }
 
-    run-good : (r : Result Call Refusal) → ((call : Call) → r ≡ Ok call → IsCall s call) → Good code s (runs s r)
+    run-good : (r : Result Call Refusal) → ((call : Call) → r ≡ Ok call → Accepted s call) → Good code s work (runs s r) (trace_behind code s r last)
     run-good (Err r) h = refused r
-    run-good (Ok call) h = go (run_of s call)
+    run-good (Ok call) h = go (run_of s call) refl
       where
-        go : (o : Option Finished) → Good code s (record { reply = run_reply o; state = with_run s call (is_none (run_of s call)) })
-        go None = record { text = codes "out of fuel\n"; is = refl; stands = with-call call (is_none (run_of s call)) (h call refl) }
-        go (Some f) = record { text = codes "ok\n"; is = refl; stands = with-call call (is_none (run_of s call)) (h call refl) }
+        go : (o : Option Finished) → run_of s call ≡ o → Good code s work (record { reply = run_reply o; state = with_run s call (is_none o) }) (if is_some o then traced code s call last else None)
+        go None e = record { text = codes "out of fuel\n"; is = refl; stands = with-call call true None (h call refl).is refl }
+        go (Some f) e =
+            let g = trace-of call (h call refl).is s.call (h call refl).only f e last st.traced in
+            record {
+              text = codes "ok\n";
+              is = refl;
+              stands = with-call call false (traced code s call last) (h call refl).is (subst (IsTraceOf code (with_run s call false) (Some call)) (sym g.is) (refl, g.replays));
+            }
 
-    again-call : (o : Option Call) → IfSome o (IsCall s) → (call : Call) → called_again o ≡ Ok call → IsCall s call
-    again-call None h call e = absurd (grind (arith, e))
-    again-call (Some c) h call e = let same : c ≡ call = grind (arith, e) in subst (IsCall s) same h
+    again-call : (o : Option Call) → s.call ≡ o → IfSome o (IsCall s) → (call : Call) → called_again o ≡ Ok call → Accepted s call
+    again-call None i h call e = absurd (grind (arith, e))
+    again-call (Some c) i h call e = let same : c ≡ call = grind (arith, e) in record { is = subst (IsCall s) same h; only = inr (i ∙ ap Some same) }
+
+    -- the call of a line is accepted
+    pub accepted : (command : Command) (call : Call) → call_of s command ≡ Ok call → Accepted s call
+    accepted (Run function args) call e = let f = called-first s (function_named s function) (map (value_sense s) args) call e in record { is = f.fits; only = inl f.none }
+    accepted Propagate call e = again-call s.call refl st.called call e
+    accepted Blank call e = absurd (grind (arith, e))
+    accepted (Mod name kind value) call e = absurd (grind (arith, e))
+    accepted (New name shape values) call e = absurd (grind (arith, e))
+    accepted (Set place value) call e = absurd (grind (arith, e))
+    accepted (Get place) call e = absurd (grind (arith, e))
+    accepted (Show name) call e = absurd (grind (arith, e))
+    accepted BlocksCommand call e = absurd (grind (arith, e))
+    accepted StepsCommand call e = absurd (grind (arith, e))
+    accepted WorkCommand call e = absurd (grind (arith, e))
+
+    pub accepted-in : (command : Option Command) (call : Call) → call_in s command ≡ Ok call → Accepted s call
+    accepted-in None call e = absurd (grind (arith, e))
+    accepted-in (Some command) call e = accepted command call e
 
     -- a question
     graph : (n : ℕ) → n < length s.inputs → (call : Call) → IsCall s call → (f : Finished) → run_of s call ≡ Some f
         → (text : List ℕ) × IsGraphText s.program.structs (block_at f.memory) (input_name s) (Input n) text
     graph n l call h f e =
-        let structs : code.structs ≡ s.program.structs = same-structs s.program code st.compiled.code in
-        let fits : Fits code s.inputs call.function call.args =
-        call-fits s.program code st.compiled.code s call.function call.args refl (subst (λ k. inputs_fit k s.inputs ≡ true) (sym structs) st.fits) h in
-        let core : IsCore (slice_get s.program.functions call.function) = core-call s (slice_get s.program.functions call.function) call.args h in
-        let is : code_fresh code call.function call.args s.inputs s.fuel ≡ Some f = st.compiled.means call.function call.args s.inputs s.fuel core ∙ e in
+        let fits = fits-call call h in
+        let is = code-run call h (Some f) e in
         let end = fresh-ends code s.inputs call.function call.args s.fuel f is in
         let count = fresh-count code s.inputs call.function call.args s.fuel f is in
         let good = (progress code st.compiled.valid s.inputs call.function call.args fits f.memory end.stack end.reaches).memory in
@@ -202,58 +276,111 @@ module _ (progress : Progress_law) (line_law : Line_law) (whole_law : Whole_law)
         let t = text_law code.structs f.memory (input_name s) (Input n) (whole_law code.structs f.memory good) (ap is_some there.1) in
         (t.0, subst (λ k. IsGraphText k (block_at f.memory) (input_name s) (Input n) t.0) structs t.1)
 
-    graph-of : (n : ℕ) → n < length s.inputs → (o : Option Call) → s.call ≡ o → (r : Option Finished) → present_run s ≡ r → (text : List ℕ) × TellsOf s (ShowOf n) r text
+    graph-of : (n : ℕ) → n < length s.inputs → (o : Option Call) → s.call ≡ o → (r : Option Finished) → present_run s ≡ r → (text : List ℕ) × TellsOf s work (ShowOf n) r text
     graph-of n l o i None e = (_, refl)
     graph-of n l None i (Some f) e = absurd (let k = rw i at e in grind (arith, k))
     graph-of n l (Some call) i (Some f) e = graph n l call (subst (λ o. IfSome o (IsCall s)) i st.called) f (rw i at e)
 
-    told : (q : Query) → CanTell s (Told q) → (r : Option Finished) → present_run s ≡ r → (text : List ℕ) × TellsOf s q r text
+    told : (q : Query) → CanTell s (Told q) → (r : Option Finished) → present_run s ≡ r → (text : List ℕ) × TellsOf s work q r text
     told (ShowOf n) h r e = graph-of n h.1 s.call refl r e
     told q h None e = (_, refl)
     told (GetOf p) h (Some f) e = (_, refl)
     told BlocksOf h (Some f) e = (_, refl)
     told StepsOf h (Some f) e = (_, refl)
+    told WorkOf h (Some f) e = (_, refl)
 
-    text-of : (r : Reply) → CanTell s r → (text : List ℕ) × IsText s r text
+    text-of : (r : Reply) → CanTell s r → (text : List ℕ) × IsText s work r text
     text-of Nothing h = (_, refl)
     text-of Done h = (_, refl)
     text-of OutOfFuel h = (_, refl)
     text-of (Refused r) h = (_, refl)
     text-of (Told q) h = told q h (present_run s) refl
 
-    asked-good : (reply : Reply) → CanTell s reply → Good code s (stays s reply)
+    asked-good : (reply : Reply) → CanTell s reply → Good code s work (stays s reply) last
     asked-good reply h = let t = text-of reply h in record { text = t.0; is = t.1; stands = st }
 
-    command-good : (command : Command) → Good code s (answered s command)
+    command-good : (command : Command) → Good code s work (answered s command) (trace_behind code s (call_of s command) last)
     command-good Blank = record { text = []; is = refl; stands = st }
     command-good (Mod name kind value) = made-good name (mod_shape s kind) (value_sense s value ∷ [])
     command-good (New name shape values) = made-good name (struct_shape (struct_named s shape)) (map (value_sense s) values)
-    command-good (Set place value) = set-good (place_sense s place) (value_sense s value)
-    command-good (Run function args) =
-        run-good (called s (function_named s function) (map (value_sense s) args))
-        (λ call e. (called-first s (function_named s function) (map (value_sense s) args) call e).fits)
-    command-good Propagate = run-good (called_again s.call) (again-call s.call st.called)
+    command-good (Set place value) = set-good (place_sense s place) (value_sense s value) (cell-sense s place)
+    command-good (Run function args) = run-good (called s (function_named s function) (map (value_sense s) args)) (accepted (Run function args))
+    command-good Propagate = run-good (called_again s.call) (accepted Propagate)
     command-good (Get place) = asked-good _ (can-tell s st.named (Get place))
     command-good (Show name) = asked-good _ (can-tell s st.named (Show name))
     command-good BlocksCommand = asked-good _ (can-tell s st.named BlocksCommand)
     command-good StepsCommand = asked-good _ (can-tell s st.named StepsCommand)
-    command-good Work = refused C1
+    command-good WorkCommand = asked-good _ (can-tell s st.named WorkCommand)
 
-  reply_to : (s : State) (line : List ℕ) → Stands code s → Answered code s line
-  reply_to s line st = elim (line_law line) [
+    line-good : (command : Option Command) → Good code s work (answered_line s command) (trace_behind code s (call_in s command) last)
+    line-good None = refused C1
+    line-good (Some command) = command-good command
+
+    -- the number that a line takes
+    pub record Taking (called : Result Call Refusal) : Type 0 where
+      pub latest : ℕ
+      pub is : IsWorkOf (trace_behind code s called last) latest
+      pub takes : (works : List ℕ) → taken (ends s called) work (number_of (ends s called) (trace_behind code s called last) ++ works) ≡ record { latest = latest; coming = works }
+
+    taking : IsWorkOf last work → (called : Result Call Refusal) → ((call : Call) → called ≡ Ok call → Accepted s call) → Taking called
+    taking i (Err r) h = record { latest = work; is = i; takes = λ works. refl }
+    taking i (Ok call) h = go (run_of s call) refl
+      where
+        ended : (o : Option Repaired) → (l : Repaired) → o ≡ Some l
+            → (n : ℕ) × IsWorkOf o n × ((works : List ℕ) → taken true work (number_of true o ++ works) ≡ record { latest = n; coming = works })
+        ended None l e = none-some l e
+        ended (Some a) l e = (a.work, refl, λ works. refl)
+
+        find : (o : Option Finished) → run_of s call ≡ o
+            → (n : ℕ) × IsWorkOf (if is_some o then traced code s call last else None) n × ((works : List ℕ) → taken (is_some o) work (number_of (is_some o) (if is_some o then traced code s call last else None) ++ works) ≡ record { latest = n; coming = works })
+        find None e = (work, tt, λ works. refl)
+        find (Some f) e = let g = trace-of call (h call refl).is s.call (h call refl).only f e last st.traced in ended (traced code s call last) g.repaired g.is
+
+        go : (o : Option Finished) → run_of s call ≡ o → Taking (Ok call)
+        go o e = let g = find (run_of s call) refl in record { latest = g.0; is = g.1; takes = g.2 }
+
+    pub behind : IsWorkOf last work → (command : Option Command) (next : State) → next ≡ (answered_line s command).state → Behind code s last work command next
+    behind i command next e =
+        let t = taking i (call_in s command) (accepted-in command) in
+        record {
+          stands = subst (λ n. Stands code n (trace_behind code s (call_in s command) last)) (sym e) (line-good command).stands;
+          latest = t.latest;
+          is = t.is;
+          takes = t.takes;
+        }
+
+  reply_to : (s : State) (last : Option Repaired) (work : ℕ) (line : List ℕ) → Stands code s last → IsWorkOf last work → Answered code s last work line
+  reply_to s last work line st i = elim (line_law line) [
     | inl c ↦
-        let g = command-good s st c.0 in
-        record { text = g.text; next = (answered s c.0).state; answers = record { command = Some c.0; reads = c.1; reply = g.is; state = refl }; stands = g.stands }
-    | inr none ↦ record { text = refusal_text C1; next = s; answers = record { command = None; reads = none; reply = refl; state = refl }; stands = st }
+        let g = command-good s last work st c.0 in
+        record {
+          text = g.text;
+          next = (answered s c.0).state;
+          answers = record { command = Some c.0; reads = c.1; reply = g.is; state = refl };
+          behind = behind s last work st i (Some c.0) (answered s c.0).state refl;
+        }
+    | inr none ↦ record {
+      text = refusal_text C1;
+      next = s;
+      answers = record { command = None; reads = none; reply = refl; state = refl };
+      behind = behind s last work st i None s refl;
+    }
   ]
 
-pub some-reply : Progress_law → Line_law → Whole_law → Text_law → Some_reply_law
-some-reply progress line_law whole_law text_law code s line st = reply_to progress line_law whole_law text_law code s line st
+pub some-reply : Progress_law → Line_law → Whole_law → Text_law → Repair_laws → Some_reply_law
+some-reply progress line_law whole_law text_law laws code s last work line st i = reply_to progress line_law whole_law text_law laws code s last work line st i
 
 pub some-script : Some_reply_law → Some_script_law
-unfolding AreReplies
-some-script reply code s [] st = ([], refl)
-some-script reply code s (line ∷ lines) st =
-    let a = reply code s line st in
-    let rest = some-script reply code a.next lines a.stands in
-    (a.text ++ rest.0, (a.text, a.next, rest.0, a.answers, rest.1, refl))
+unfolding AreReplies AreWorks
+some-script reply code s last work [] st i = record { works = []; repair = refl; text = []; replies = refl }
+some-script reply code s last work (line ∷ lines) st i =
+    let a = reply code s last work line st i in
+    let command = a.answers.command in
+    let after = trace_behind code s (call_in s command) last in
+    let rest = some-script reply code a.next after a.behind.latest lines a.behind.stands a.behind.is in
+    record {
+      works = number_of (completes s command) after ++ rest.works;
+      repair = (command, rest.works, a.answers.reads, subst (λ t. AreWorks code t after lines rest.works) a.answers.state rest.repair, refl);
+      text = a.text ++ rest.text;
+      replies = (a.text, a.next, rest.text, a.answers, subst (λ w. AreReplies a.next w lines rest.text) (sym (a.behind.takes rest.works)) rest.replies, refl);
+    }

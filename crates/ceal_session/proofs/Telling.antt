@@ -6,6 +6,7 @@ use Rattle.ceal_base.specs.Block.{Block, Blocks, block_at}
 use Rattle.ceal_base.specs.Finished.{Finished}
 use Rattle.ceal_base.specs.Fitting.{kind_at, memory_fits}
 use Rattle.ceal_base.specs.Same.{renamed_id, renamed_word}
+use Rattle.ceal_base.specs.Trace.{Trace}
 use Rattle.ceal_base.specs.declared.typed.StructInfo.{StructInfo}
 use Rattle.ceal_base.specs.declared.typed.Typed.{Typed}
 use Rattle.ceal_base.specs.declared.word.BlockId.{BlockId}
@@ -16,19 +17,22 @@ use Rattle.ceal_base.specs.declared.word.Word.TheVariants.{Num, Null, Block as B
 use Rattle.ceal_code.proofs.Memory.{got}
 use Rattle.ceal_code.specs.Laws.{Progress_law}
 use Rattle.ceal_code.specs.Value.{is_cell}
-use Rattle.ceal_engine.specs.Engine.{EngineState, IsRun, IsEngine, stored_at}
+use Rattle.ceal_engine.specs.Engine.{EngineState, IsRun, IsEngine, has_run, stored_at, trace}
 use Rattle.ceal_engine.specs.declared.phase.Phase.TheVariants.{Finished as IsFinished}
 use Rattle.ceal_session.proofs.Compiled.{same-structs}
 use Rattle.ceal_session.proofs.Seen.{seen-is, seen-same, input-count}
-use Rattle.ceal_session.proofs.SourceRun.{Has_run, has-run, ready-finished, source-fresh}
+use Rattle.ceal_session.proofs.SourceRun.{Has_run, has-run, last-is, ready-finished, source-fresh, worked}
 use Rattle.ceal_session.proofs.Store.{content-renamed, renaming, there-back, whole-store}
 use Rattle.ceal_session.specs.Asking.{IsReady, IsCellOf, steps_in, blocks_in, content_text}
-use Rattle.ceal_session.specs.Keeping.{state_of, Holds}
+use Rattle.ceal_session.specs.Keeping.{state_of, situation_of, Holds}
+use Rattle.ceal_session.specs.Works.{latest_work}
 use Rattle.ceal_session.specs.Runs.{present_run, memory_of}
 use Rattle.ceal_session.specs.Shown.{seen, label}
-use Rattle.ceal_session.specs.State.{State}
+use Rattle.ceal_session.specs.State.{State, last}
 use Rattle.ceal_session.specs.Texts.{block_text, value_text, TellsOf}
-use Rattle.ceal_session.specs.declared.reply.Query.TheVariants.{Show}
+use Rattle.ceal_session.specs.declared.reply.Query.TheVariants.{Show, Work}
+use Rattle.std.specs.Fmt.{decimal}
+use Rattle.std.specs.Prelude.{◌++◌, codes}
 use Rattle.ceal_show.specs.Graph.{IsGraphText}
 use Rattle.ceal_show.specs.Renaming.{IsRenaming}
 use Rattle.ceal_show.specs.Shown.{Shown, IsWhole}
@@ -42,6 +46,11 @@ abbrev pub Text_law : Type 0
 Text_law = (structs : List StructInfo) (name : ℕ → List ℕ) (rename : BlockId → BlockId) (from to : Shown) (root : BlockId) (text : List ℕ)
     → IsRenaming rename from to → IsWhole structs from → IsSome (from root)
     → IsGraphText structs from name root text → IsGraphText structs to name (rename root) text
+
+-- the answer about the work of a run that is there
+pub told-number : (s : State) (work : ℕ) (o : Option Finished) → is_some o ≡ true → (text : List ℕ) → text ≡ decimal work ++ codes "\n" → TellsOf s work Work o text
+told-number s work None i text e = absurd (grind (arith, i))
+told-number s work (Some f) i text e = e
 
 same-name : (s : State) (bs : List ℕ) (b : BlockId) → block_text s (renamed_id bs b) ≡ block_text s b
 same-name s bs (Input n) = refl
@@ -69,6 +78,20 @@ module _ (p : Typed) (names : List (List ℕ)) (e : EngineState) (pending : Bool
   pub told-steps : (n : ℕ) → n ≡ e.steps → steps_in (present_run state) ≡ Some n
   told-steps n i = ap steps_in has.fresh ∙ ap Some (sym has.is.steps ∙ sym i)
 
+  pub told-run : is_some (present_run state) ≡ true
+  told-run = ap is_some has.fresh
+
+  -- the work is that of the trace
+  pub told-work : (n : ℕ) → n ≡ e.work → n ≡ latest_work (last (situation_of p names e pending))
+  told-work n i = rw (last-is e) (go (trace e) k.kept)
+    where
+      fin : e.phase ≡ IsFinished
+      fin = ready-finished p names e pending h k ready
+
+      go : (o : Option Trace) → is_some o ≡ has_run e.phase → n ≡ latest_work (worked e o)
+      go None j = absurd (grind (arith, j, fin))
+      go (Some l) j = i
+
   content-at : (b : BlockId) (field : ℕ) → IsCellOf state (record { block = b; field = field })
       → value_text state (content_of has.run.memory (At (record { block = b; field = field })) Null) ≡ value_text state (word_in (stored_at e.memory b) field Null)
   content-at (Input n) field cell =
@@ -92,9 +115,9 @@ module _ (p : Typed) (names : List (List ℕ)) (e : EngineState) (pending : Bool
       let b = got g.run.memory.inputs n (subst (λ k. n < k) (sym c) l) in
       subst IsSome (sym (seen-is e (Input n) finished)) (there-back e g.run g.is (Input n) (ap is_some b.1))
 
-  pub told-graph : Progress_law → Fitting_law → Text_law → (n : ℕ) → n < length e.inputs → (text : List ℕ)
-      → IsGraphText e.code.structs (seen e) (label names) (Input n) text → TellsOf state (Show n) (present_run state) text
-  told-graph law fitting same n l text t =
+  pub told-graph : Progress_law → Fitting_law → Text_law → (n : ℕ) → n < length e.inputs → (work : ℕ) (text : List ℕ)
+      → IsGraphText e.code.structs (seen e) (label names) (Input n) text → TellsOf state work (Show n) (present_run state) text
+  told-graph law fitting same n l work text t =
       let g = has in
       let there : IsSome (stored_at e.memory (Input n)) = subst IsSome (seen-is e (Input n) finished) (root-seen law n l) in
       let t' : IsGraphText e.code.structs (stored_at e.memory) (label names) (Input n) text = subst (λ m. IsGraphText e.code.structs m (label names) (Input n) text) (seen-same e finished) t in

@@ -11,7 +11,7 @@ use Rattle.ceal_session.specs.State.{State}
 use Rattle.ceal_session.specs.Steps.{has_no_run}
 use Rattle.ceal_session.specs.Texts.{value_text}
 use Rattle.ceal_session.specs.declared.reply.Query.{Query}
-use Rattle.ceal_session.specs.declared.reply.Query.TheVariants.{Get, Show, Blocks, Steps}
+use Rattle.ceal_session.specs.declared.reply.Query.TheVariants.{Get, Show, Blocks, Steps, Work}
 use Rattle.ceal_session.specs.declared.reply.Reply.{Reply}
 use Rattle.ceal_session.specs.declared.reply.Reply.TheVariants.{Nothing, Ok, OutOfFuel, Refused, Told}
 use Rattle.ceal_session.specs.declared.sense.Sense.{Sense}
@@ -36,6 +36,7 @@ IsFor s (Get p) = IsCellOf s p
 IsFor s (Show n) = n < length s.inputs
 IsFor s Blocks = Unit {0}
 IsFor s Steps = Unit {0}
+IsFor s Work = Unit {0}
 
 abbrev pub CanTell : State → Reply → Type 0
 CanTell s Nothing = Unit {0}

@@ -4,7 +4,9 @@ pub mod Runs
 pub mod Senses
 pub mod Steps
 pub mod Texts
+pub mod Works
 pub mod Replies
+pub mod Following
 pub mod Keeping
 pub mod Asking
 pub mod Shown

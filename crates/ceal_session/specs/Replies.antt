@@ -1,44 +1,54 @@
--- The replies to the lines of a script.
-use Rattle.std.specs.Prelude.{◌≡◌, ◌⊎◌, ℕ, true, Option, Some, None, Result, Ok, Err, List, [], ◌∷◌, ◌++◌}
+-- The replies to the lines of a script. Every line but `work` is answered by the plain meaning of the source, run anew
+-- from the edited inputs, and a line `work` by a number of a list (`AreReplies`); these numbers are the work of trace
+-- repair (`AreWorks`).
+use Rattle.std.specs.Prelude.{◌≡◌, ℕ, Bool, true, false, Option, Some, None, List, [], ◌∷◌, ◌++◌}
+use Rattle.ceal_code.specs.Program.{Code}
 use Rattle.ceal_script.specs.Lines.{IsLineOf}
 use Rattle.ceal_script.specs.declared.command.Command.{Command}
-use Rattle.ceal_session.specs.Runs.{with_run}
-use Rattle.ceal_session.specs.Steps.{answered_line, call_of}
-use Rattle.ceal_session.specs.Texts.{IsText}
-use Rattle.ceal_base.specs.declared.call.Call.{Call}
+use Rattle.ceal_theory.specs.Computed.{Repaired}
 use Rattle.ceal_session.specs.State.{State}
-use Rattle.ceal_session.specs.declared.refusal.Refusal.{Refusal}
+use Rattle.ceal_session.specs.Steps.{answered_line}
+use Rattle.ceal_session.specs.Texts.{IsText}
+use Rattle.ceal_session.specs.Works.{call_in, completes, number_of, trace_behind}
 
 -- The line is this command's, or no command's.
 abbrev pub Reads : List ℕ → Option Command → Type 0
 Reads line (Some command) = IsLineOf command line
 Reads line None = (command : Command) → IsLineOf command line → ⊥
 
--- The line is answered by the text, and the state after it is `next`.
-pub record Answers (s : State) (line text : List ℕ) (next : State) : Type 0 where
+-- The line is answered by the text, where `work` is the latest work number, and the state after it is `next`.
+pub record Answers (s : State) (work : ℕ) (line text : List ℕ) (next : State) : Type 0 where
   pub command : Option Command
   pub reads : Reads line command
-  pub reply : IsText s (answered_line s command).reply text
+  pub reply : IsText s work (answered_line s command).reply text
   pub state : next ≡ (answered_line s command).state
 
--- The line is an accepted `run` or `propagate`, and the state is that after out of fuel.
-pub record Drops (s : State) (line : List ℕ) (next : State) : Type 0 where
-  pub command : Command
-  pub reads : IsLineOf command line
-  pub call : Call
-  pub runs : call_of s command ≡ Ok call
-  pub state : next ≡ with_run s call true
+-- the latest work number and those to come, of which each run or propagate that is answered `ok` takes the next
+pub record Works : Type 0 where
+  pub latest : ℕ
+  pub coming : List ℕ
 
--- what is left of the state where there was no memory for the answer
-abbrev pub IsLeft : State → List ℕ → State → Type 0
-IsLeft s line next = (next ≡ s) ⊎ Drops s line next
-
--- The same, where `call` is the call of the line, if it is one that runs.
-abbrev pub IsLeftBy : State → Result Call Refusal → State → Type 0
-IsLeftBy s called next = (next ≡ s) ⊎ ((call : Call) × (called ≡ Ok call) × (next ≡ with_run s call true))
+abbrev pub taken : Bool → ℕ → List ℕ → Works
+taken true work (next ∷ later) = record { latest = next; coming = later }
+taken _ work coming = record { latest = work; coming = coming }
 
 -- The replies to the lines, one after another, are these bytes.
-unfoldable pub AreReplies : State → List (List ℕ) → List ℕ → Type 0
-AreReplies s [] out = out ≡ []
-AreReplies s (line ∷ lines) out =
-    (text : List ℕ) × (next : State) × (rest : List ℕ) × Answers s line text next × AreReplies next lines rest × (out ≡ text ++ rest)
+unfoldable pub AreReplies : State → Works → List (List ℕ) → List ℕ → Type 0
+AreReplies s works [] out = out ≡ []
+AreReplies s works (line ∷ lines) out =
+    (text : List ℕ) × (next : State) × (rest : List ℕ) × (a : Answers s works.latest line text next)
+    × AreReplies next (taken (completes s a.command) works.latest works.coming) lines rest × (out ≡ text ++ rest)
+
+-- The work numbers of the lines, in order, are these, where `last` is the trace before them.
+unfoldable pub AreWorks : Code → State → Option Repaired → List (List ℕ) → List ℕ → Type 0
+AreWorks code s last [] works = works ≡ []
+AreWorks code s last (line ∷ lines) works =
+    (command : Option Command) × (later : List ℕ) × Reads line command
+    × AreWorks code (answered_line s command).state (trace_behind code s (call_in s command) last) lines later
+    × (works ≡ number_of (completes s command) (trace_behind code s (call_in s command) last) ++ later)
+
+-- The replies to a script, from a state where nothing was run, are these bytes.
+pub record IsReplied (code : Code) (s : State) (lines : List (List ℕ)) (out : List ℕ) : Type 0 where
+  pub works : List ℕ
+  pub repair : AreWorks code s None lines works
+  pub replies : AreReplies s (record { latest = 0; coming = works }) lines out

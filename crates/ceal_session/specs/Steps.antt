@@ -18,7 +18,7 @@ use Rattle.ceal_session.specs.Senses.{place_sense, value_sense, is_unknown, word
 use Rattle.ceal_session.specs.declared.refusal.Refusal.{Refusal}
 use Rattle.ceal_session.specs.declared.refusal.Refusal.TheVariants.{C1, C2, C3, C4, C5, C6, C7, C8}
 use Rattle.ceal_session.specs.declared.reply.Query.{Query}
-use Rattle.ceal_session.specs.declared.reply.Query.TheVariants.{Get as GetOf, Show as ShowOf, Blocks as BlocksOf, Steps as StepsOf}
+use Rattle.ceal_session.specs.declared.reply.Query.TheVariants.{Get as GetOf, Show as ShowOf, Blocks as BlocksOf, Steps as StepsOf, Work as WorkOf}
 use Rattle.ceal_session.specs.declared.reply.Reply.{Reply}
 use Rattle.ceal_session.specs.declared.reply.Reply.TheVariants.{Nothing, Ok as Done, OutOfFuel, Refused, Told}
 use Rattle.ceal_session.specs.declared.sense.Sense.{Sense}
@@ -166,7 +166,7 @@ answered s (Get place) = stays s (got s (place_sense s place))
 answered s (Show name) = stays s (shown s (input_named s name))
 answered s Blocks = stays s (asked s BlocksOf)
 answered s Steps = stays s (asked s StepsOf)
-answered s Work = refuses s C1
+answered s Work = stays s (asked s WorkOf)
 
 -- what a line is answered that is this command's, or none's
 abbrev pub answered_line : State → Option Command → Step

@@ -1,7 +1,7 @@
 // What a command is answered, and the state after it.
 
-ghost use Rattle.std.specs.Prelude.{◌≡◌, [], ◌∷◌, IfOk, OnErr, map};
-ghost use Rattle.ceal_session.specs.Replies.{IsLeftBy};
+ghost use Rattle.std.specs.Prelude.{◌≡◌, [], ◌∷◌, IfOk, OnOk, OnErr, map};
+ghost use Rattle.ceal_session.specs.Following.{Keeps, Goes, IsLeftBy};
 ghost use Rattle.ceal_session.specs.Senses.{mod_shape as shape_of_mod, struct_shape as shape_of_struct, struct_named, function_named, value_sense as sense_of_value, place_sense as sense_of_place};
 ghost use Rattle.ceal_session.specs.Steps.{IsQuiet, IsFirst, runs, called, called_again, call_of, made_of, set as set_of, answered};
 
@@ -25,8 +25,12 @@ fn make_modifiable(
     kind: &KindWord,
     value: &ValueWord,
 ) -> Result<Reply, NoMemory>
-    ensures ok { IfOk result (λ reply. record { reply = reply; state = state.new } ≡ made_of state.old name.now (shape_of_mod state.old kind.now) (sense_of_value state.old value.now ∷ [])) }
+    ensures ok { IfOk result
+        (λ reply. record { reply = reply; state = state.new.state }
+        ≡ made_of state.old.state name.now (shape_of_mod state.old.state kind.now)
+        (sense_of_value state.old.state value.now ∷ [])) }
     ensures quiet { IfOk result (λ reply. IsQuiet reply → state.new ≡ state.old) }
+    ensures trace { OnOk result (Keeps state.old state.new) }
     ensures err { OnErr result (state.new ≡ state.old) }
 {
     let shape = mod_shape(state, kind)?;
@@ -42,8 +46,13 @@ fn make_block(
     shape: &Text,
     values: &[ValueWord],
 ) -> Result<Reply, NoMemory>
-    ensures ok { IfOk result (λ reply. record { reply = reply; state = state.new } ≡ made_of state.old name.now (shape_of_struct (struct_named state.old shape.now)) (map (sense_of_value state.old) values.now)) }
+    ensures ok { IfOk result
+        (λ reply. record { reply = reply; state = state.new.state }
+        ≡ made_of state.old.state name.now
+        (shape_of_struct (struct_named state.old.state shape.now))
+        (map (sense_of_value state.old.state) values.now)) }
     ensures quiet { IfOk result (λ reply. IsQuiet reply → state.new ≡ state.old) }
+    ensures trace { OnOk result (Keeps state.old state.new) }
     ensures err { OnErr result (state.new ≡ state.old) }
 {
     let shape = struct_shape(state, shape)?;
@@ -53,8 +62,12 @@ fn make_block(
 
 /// `set`
 fn edit(state: &mut State, place: &PlaceWord, value: &ValueWord) -> Result<Reply, NoMemory>
-    ensures ok { IfOk result (λ reply. record { reply = reply; state = state.new } ≡ set_of state.old (sense_of_place state.old place.now) (sense_of_value state.old value.now)) }
+    ensures ok { IfOk result
+        (λ reply. record { reply = reply; state = state.new.state }
+        ≡ set_of state.old.state (sense_of_place state.old.state place.now)
+        (sense_of_value state.old.state value.now)) }
     ensures quiet { IfOk result (λ reply. IsQuiet reply → state.new ≡ state.old) }
+    ensures trace { OnOk result (Keeps state.old state.new) }
     ensures err { OnErr result (state.new ≡ state.old) }
 {
     let place = place_sense(state, place)?;
@@ -64,9 +77,11 @@ fn edit(state: &mut State, place: &PlaceWord, value: &ValueWord) -> Result<Reply
 
 /// The run of a call that no run came before, unless it is refused.
 fn start(state: &mut State, call: Result<Call, Refusal>) -> Result<Reply, NoMemory>
-    requires { IfOk call (λ call. IsFirst state.old call) }
-    ensures ok { IfOk result (λ reply. record { reply = reply; state = state.new } ≡ runs state.old call) }
+    requires { IfOk call (λ call. IsFirst state.old.state call) }
+    ensures ok { IfOk result
+        (λ reply. record { reply = reply; state = state.new.state } ≡ runs state.old.state call) }
     ensures quiet { IfOk result (λ reply. IsQuiet reply → state.new ≡ state.old) }
+    ensures trace { OnOk result (Goes state.old call state.new) }
     ensures err { OnErr result (IsLeftBy state.old call state.new) }
 {
     match call {
@@ -82,9 +97,20 @@ fn start_first(
     function: &Text,
     args: &[ValueWord],
 ) -> Result<Reply, NoMemory>
-    ensures ok { IfOk result (λ reply. record { reply = reply; state = state.new } ≡ runs state.old (called state.old (function_named state.old function.now) (map (sense_of_value state.old) args.now))) }
+    ensures ok { IfOk result
+        (λ reply. record { reply = reply; state = state.new.state }
+        ≡ runs state.old.state
+        (called state.old.state (function_named state.old.state function.now)
+        (map (sense_of_value state.old.state) args.now))) }
     ensures quiet { IfOk result (λ reply. IsQuiet reply → state.new ≡ state.old) }
-    ensures err { OnErr result (IsLeftBy state.old (called state.old (function_named state.old function.now) (map (sense_of_value state.old) args.now)) state.new) }
+    ensures trace { OnOk result
+        (Goes state.old
+        (called state.old.state (function_named state.old.state function.now)
+        (map (sense_of_value state.old.state) args.now)) state.new) }
+    ensures err { OnErr result
+        (IsLeftBy state.old
+        (called state.old.state (function_named state.old.state function.now)
+        (map (sense_of_value state.old.state) args.now)) state.new) }
 {
     let senses = value_senses(alloc, state, args)?;
     let call = call(alloc, state, function, senses.as_slice())?;
@@ -93,9 +119,12 @@ fn start_first(
 
 /// `propagate`
 fn start_again(state: &mut State) -> Result<Reply, NoMemory>
-    ensures ok { IfOk result (λ reply. record { reply = reply; state = state.new } ≡ runs state.old (called_again state.old.call)) }
+    ensures ok { IfOk result
+        (λ reply. record { reply = reply; state = state.new.state }
+        ≡ runs state.old.state (called_again state.old.state.call)) }
     ensures quiet { IfOk result (λ reply. IsQuiet reply → state.new ≡ state.old) }
-    ensures err { OnErr result (IsLeftBy state.old (called_again state.old.call) state.new) }
+    ensures trace { OnOk result (Goes state.old (called_again state.old.state.call) state.new) }
+    ensures err { OnErr result (IsLeftBy state.old (called_again state.old.state.call) state.new) }
 {
     if !state.has_call() {
         return Ok(Reply::Refused(Refusal::C7));
@@ -105,9 +134,13 @@ fn start_again(state: &mut State) -> Result<Reply, NoMemory>
 
 /// The reply to a command. Where there is no memory, the state is as before, or as after a run that was out of fuel.
 pub fn reply_to(alloc: Global, state: &mut State, command: &Command) -> Result<Reply, NoMemory>
-    ensures ok { IfOk result (λ reply. record { reply = reply; state = state.new } ≡ answered state.old command.now) }
+    ensures ok { IfOk result
+        (λ reply. record { reply = reply; state = state.new.state }
+        ≡ answered state.old.state command.now) }
     ensures quiet { IfOk result (λ reply. IsQuiet reply → state.new ≡ state.old) }
-    ensures err { OnErr result (IsLeftBy state.old (call_of state.old command.now) state.new) }
+    ensures trace { OnOk result (Goes state.old (call_of state.old.state command.now) state.new) }
+    ensures err { OnErr result
+        (IsLeftBy state.old (call_of state.old.state command.now) state.new) }
 {
     match command {
         Command::Blank => Ok(Reply::Nothing),
@@ -124,6 +157,6 @@ pub fn reply_to(alloc: Global, state: &mut State, command: &Command) -> Result<R
         Command::Show { name } => Ok(show(state, state.input(name))),
         Command::Blocks => Ok(ask(state, Query::Blocks)),
         Command::Steps => Ok(ask(state, Query::Steps)),
-        Command::Work => Ok(Reply::Refused(Refusal::C1)),
+        Command::Work => Ok(ask(state, Query::Work)),
     }
 }

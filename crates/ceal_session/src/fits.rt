@@ -137,7 +137,9 @@ pub fn words_fit(structs: &[StructInfo], inputs: &Inputs, kinds: &[Kind], words:
 
 /// Whether there is one word for each field, which fits it.
 fn fields_fit(structs: &[StructInfo], inputs: &Inputs, fields: &[FieldInfo], words: &[Word]) -> bool
-    ensures { result ≡ words_fit_fields structs.now (inputs_alone inputs.now) (map kind_of_field fields.now) words.now }
+    ensures { result
+        ≡ words_fit_fields structs.now (inputs_alone inputs.now)
+        (map kind_of_field fields.now) words.now }
 {
     if fields.len() != words.len() {
         return false;
@@ -152,7 +154,8 @@ fn fields_fit(structs: &[StructInfo], inputs: &Inputs, fields: &[FieldInfo], wor
 
 /// Whether the words are one that fits the modifiable.
 fn cell_fits(structs: &[StructInfo], inputs: &Inputs, kind: FieldKind, words: &[Word]) -> bool
-    ensures { result ≡ words_fit_fields structs.now (inputs_alone inputs.now) (kind ∷ []) words.now }
+    ensures { result
+        ≡ words_fit_fields structs.now (inputs_alone inputs.now) (kind ∷ []) words.now }
 {
     match words {
         [word] => field_fits(structs, inputs, kind, *word),
@@ -162,7 +165,9 @@ fn cell_fits(structs: &[StructInfo], inputs: &Inputs, kind: FieldKind, words: &[
 
 /// Whether a new block of this shape may have these words.
 pub fn new_block_fits(structs: &[StructInfo], inputs: &Inputs, shape: Shape, words: &[Word]) -> bool
-    ensures { result ≡ block_fits structs.now (inputs_alone inputs.now) (record { shape = shape; words = words.now }) }
+    ensures { result
+        ≡ block_fits structs.now (inputs_alone inputs.now)
+        (record { shape = shape; words = words.now }) }
 {
     match shape {
         Shape::Struct(number) => match structs.get(number as usize) {

@@ -1,9 +1,10 @@
 // The laws of replies, each the contract of a function that does nothing.
 
-ghost use Rattle.ceal_session.specs.Laws.{One_reply_law, One_state_law, One_script_law, Begun_law, Some_reply_law, Some_script_law};
+ghost use Rattle.ceal_session.specs.Laws.{One_command_law, One_reply_law, One_state_law, One_script_law, One_works_law, Begun_law, Some_reply_law, Some_script_law, Kept_law};
 
-/// A law: a state and a line have one reply at most, and one state after it.
+/// A law: a state and a line have one reply at most, and one state after it, which says nothing of the work number.
 pub fn one_reply()
+    ensures command { One_command_law }
     ensures reply { One_reply_law }
     ensures state { One_state_law }
 {
@@ -11,14 +12,15 @@ pub fn one_reply()
     ceal_show::laws::one_text();
 }
 
-/// A law: a state and lines have one text of replies at most.
+/// A law: a state and lines have one text of replies at most, and one list of work numbers.
 pub fn one_script()
     ensures law { One_script_law }
+    ensures works { One_works_law }
 {
     one_reply();
 }
 
-/// A law: in a session each line has a reply, and so do lines one after another.
+/// A law: in a session each line has a reply, and so do lines one after another, with their work numbers.
 pub fn some_reply()
     ensures begun { Begun_law }
     ensures reply { Some_reply_law }
@@ -28,4 +30,27 @@ pub fn some_reply()
     ceal_script::line::command_or_none();
     ceal_show::laws::fitting_is_whole();
     ceal_show::laws::some_text();
+    ceal_theory::laws::first_law();
+    ceal_theory::laws::end_law();
+    ceal_theory::laws::function_law();
+    ceal_theory::laws::repair_law();
+    ceal_theory::walks::more_inputs_law();
+}
+
+/// A law: a session whose trace is that of the definition up to the numbers of core blocks is so behind each line, and
+/// answers the line as the definition says.
+pub fn kept_line()
+    ensures law { Kept_law }
+{
+    ceal_code::laws::progress_law();
+    ceal_script::line::command_or_none();
+    ceal_show::laws::fitting_is_whole();
+    ceal_show::laws::some_text();
+    ceal_theory::laws::first_law();
+    ceal_theory::laws::end_law();
+    ceal_theory::laws::function_law();
+    ceal_theory::laws::repair_law();
+    ceal_theory::laws::renamed_repair_law();
+    ceal_theory::walks::more_inputs_law();
+    one_reply();
 }

@@ -44,14 +44,16 @@ fn field_place(fields: &[FieldInfo], name: &Text) -> Option<usize>
 
 /// The number of a struct.
 pub fn struct_number(structs: &[StructInfo], name: &Text) -> Result<Option<u32>, NoMemory>
-    ensures { IfOk result (λ number. number ≡ position (λ s. bytes_eq s.name name.now) structs.now) }
+    ensures { IfOk result
+        (λ number. number ≡ position (λ s. bytes_eq s.name name.now) structs.now) }
 {
     number(struct_place(structs, name))
 }
 
 /// The number of a function.
 pub fn function_number(functions: &[TypedFunction], name: &Text) -> Result<Option<u32>, NoMemory>
-    ensures { IfOk result (λ number. number ≡ position (λ f. bytes_eq f.name.text name.now) functions.now) }
+    ensures { IfOk result
+        (λ number. number ≡ position (λ f. bytes_eq f.name.text name.now) functions.now) }
 {
     number(function_place(functions, name))
 }

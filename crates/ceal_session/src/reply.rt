@@ -14,6 +14,8 @@ pub enum Query {
     Blocks,
     /// the number of steps
     Steps,
+    /// the work of the last run or propagate
+    Work,
 }
 
 /// What a line is answered.

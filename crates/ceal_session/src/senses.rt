@@ -50,7 +50,8 @@ fn cell_sense(input: u32, field: u32, kind: FieldKind) -> Sense
 
 /// A field of an input, by its name among the fields.
 fn named_sense(input: u32, fields: &[FieldInfo], name: &Text) -> Result<Sense, NoMemory>
-    ensures { IfOk result (λ sense. sense ≡ member_sense input fields.now (field_named fields.now name.now)) }
+    ensures { IfOk result
+        (λ sense. sense ≡ member_sense input fields.now (field_named fields.now name.now)) }
 {
     match field_number(fields, name)? {
         None => Ok(Sense::Unknown),
@@ -63,7 +64,7 @@ fn named_sense(input: u32, fields: &[FieldInfo], name: &Text) -> Result<Sense, N
 
 /// The fields of a struct.
 fn fields(state: &State, number: u32) -> &[FieldInfo]
-    ensures { result.now ≡ fields_of (slice_get state.now.program.structs number) }
+    ensures { result.now ≡ fields_of (slice_get state.now.state.program.structs number) }
 {
     match state.structs().get(number as usize) {
         None => &[],
@@ -73,7 +74,7 @@ fn fields(state: &State, number: u32) -> &[FieldInfo]
 
 /// A name and a field.
 fn part(state: &State, input: u32, name: &Text, shape: Option<Shape>) -> Result<Sense, NoMemory>
-    ensures { IfOk result (λ sense. sense ≡ part_sense state.now input name.now shape) }
+    ensures { IfOk result (λ sense. sense ≡ part_sense state.now.state input name.now shape) }
 {
     match shape {
         None => Ok(Sense::Unknown),
@@ -84,7 +85,7 @@ fn part(state: &State, input: u32, name: &Text, shape: Option<Shape>) -> Result<
 }
 
 fn shape_of(state: &State, input: u32) -> Option<Shape>
-    ensures { result ≡ shape_at state.now input }
+    ensures { result ≡ shape_at state.now.state input }
 {
     match state.inputs().items().get(input as usize) {
         None => None,
@@ -93,7 +94,7 @@ fn shape_of(state: &State, input: u32) -> Option<Shape>
 }
 
 fn sense_in(state: &State, input: u32, field: &Option<Text>) -> Result<Sense, NoMemory>
-    ensures { IfOk result (λ sense. sense ≡ input_sense state.now input field.now) }
+    ensures { IfOk result (λ sense. sense ≡ input_sense state.now.state input field.now) }
 {
     let shape = shape_of(state, input);
     match field {
@@ -104,7 +105,7 @@ fn sense_in(state: &State, input: u32, field: &Option<Text>) -> Result<Sense, No
 
 /// What a place stands for.
 pub fn place_sense(state: &State, place: &PlaceWord) -> Result<Sense, NoMemory>
-    ensures { IfOk result (λ sense. sense ≡ sense_of_place state.now place.now) }
+    ensures { IfOk result (λ sense. sense ≡ sense_of_place state.now.state place.now) }
 {
     match state.input(&place.name) {
         None => Ok(Sense::Unknown),
@@ -114,7 +115,7 @@ pub fn place_sense(state: &State, place: &PlaceWord) -> Result<Sense, NoMemory>
 
 /// What a value stands for.
 pub fn value_sense(state: &State, value: &ValueWord) -> Result<Sense, NoMemory>
-    ensures { IfOk result (λ sense. sense ≡ sense_of_value state.now value.now) }
+    ensures { IfOk result (λ sense. sense ≡ sense_of_value state.now.state value.now) }
 {
     match value {
         ValueWord::Num(n) => Ok(Sense::Word(Word::Num(*n))),
@@ -129,7 +130,8 @@ pub fn value_senses(
     state: &State,
     values: &[ValueWord],
 ) -> Result<Vec<Sense>, NoMemory>
-    ensures { IfOk result (λ senses. senses.items ≡ map (sense_of_value state.now) values.now) }
+    ensures { IfOk result
+        (λ senses. senses.items ≡ map (sense_of_value state.now.state) values.now) }
 {
     let mut senses = Vec::new(alloc);
     for value in values {
@@ -183,7 +185,8 @@ fn pointer_shape(number: Option<u32>) -> Option<Shape>
 }
 
 fn named_shape(state: &State, name: &Text) -> Result<Option<Shape>, NoMemory>
-    ensures { IfOk result (λ shape. shape ≡ shape_of_pointer (struct_named state.now name.now)) }
+    ensures { IfOk result
+        (λ shape. shape ≡ shape_of_pointer (struct_named state.now.state name.now)) }
 {
     let number = struct_number(state.structs(), name)?;
     Ok(pointer_shape(number))
@@ -191,7 +194,7 @@ fn named_shape(state: &State, name: &Text) -> Result<Option<Shape>, NoMemory>
 
 /// The shape of a block made by `mod`.
 pub fn mod_shape(state: &State, kind: &KindWord) -> Result<Option<Shape>, NoMemory>
-    ensures { IfOk result (λ shape. shape ≡ shape_of_mod state.now kind.now) }
+    ensures { IfOk result (λ shape. shape ≡ shape_of_mod state.now.state kind.now) }
 {
     match kind {
         KindWord::Int => Ok(Some(Shape::ModInt)),
@@ -201,7 +204,8 @@ pub fn mod_shape(state: &State, kind: &KindWord) -> Result<Option<Shape>, NoMemo
 
 /// The shape of a block made by `new`.
 pub fn struct_shape(state: &State, name: &Text) -> Result<Option<Shape>, NoMemory>
-    ensures { IfOk result (λ shape. shape ≡ shape_of_struct (struct_named state.now name.now)) }
+    ensures { IfOk result
+        (λ shape. shape ≡ shape_of_struct (struct_named state.now.state name.now)) }
 {
     match struct_number(state.structs(), name)? {
         None => Ok(None),

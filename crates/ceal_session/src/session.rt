@@ -3,10 +3,12 @@
 ghost use Rattle.std.specs.Prelude.{◌≡◌, codes, IfOk, OnOk, OnErr};
 ghost use Rattle.ceal_compile.specs.Compiled.{IsCompiled};
 ghost use Rattle.ceal_session.specs.Asking.{CanTell};
-ghost use Rattle.ceal_session.specs.Replies.{Answers, IsLeft, IsLeftBy};
-ghost use Rattle.ceal_session.specs.Runs.{begun};
+ghost use Rattle.ceal_session.specs.Following.{IsAllowed, opened, Goes, Repairs, IsLeft, IsLeftBy};
+ghost use Rattle.ceal_session.specs.Replies.{Answers};
 ghost use Rattle.ceal_session.specs.Steps.{IsQuiet, answered, call_of};
 ghost use Rattle.ceal_session.specs.Texts.{IsText};
+ghost use Rattle.ceal_session.specs.State.{last};
+ghost use Rattle.ceal_session.specs.Works.{latest_work};
 
 use crate::commands::reply_to;
 use crate::refusal::{Refusal, text as refusal_line};
@@ -30,13 +32,15 @@ pub struct Session {
 }
 
 impl Model for Session {
-    ghost use Rattle.ceal_session.specs.State.{State};
+    ghost use Rattle.ceal_session.specs.State.{Situation};
     ghost use Rattle.ceal_base.specs.contracts.typed.TypedStmt as statement;
+    ghost use Rattle.ceal_code.specs.contracts.expr.CodeExpr as expr;
+    ghost use Rattle.ceal_code.specs.contracts.function.InitStmt as initialising;
     ghost use Rattle.std.specs.Coded.{codes};
 
-    ghost Value = { State };
+    ghost Value = { Situation };
 
-    ghost coded = { Prim.hlevel (codes, statement.the_row.coded) };
+    ghost coded = { Prim.hlevel (codes, statement.the_row.coded, expr.the_row.coded, initialising.the_row.coded) };
 
     ghost view = { λ s. s.state };
 }
@@ -59,10 +63,11 @@ fn prepare(alloc: Global) -> Result<Ready, NoMemory>
 
 /// The text of a reply.
 fn text(alloc: Global, state: &State, reply: Reply, ready: Ready) -> Result<Text, NoMemory>
-    requires asked { CanTell state.now reply }
+    requires asked { CanTell state.now.state reply }
     requires done { ready.done ≡ codes "ok\n" }
     requires out_of_fuel { ready.out_of_fuel ≡ codes "out of fuel\n" }
-    ensures ok { IfOk result (λ text. IsText state.now reply text) }
+    ensures ok { IfOk result
+        (λ text. IsText state.now.state (latest_work (last state.now)) reply text) }
     ensures err { OnErr result (IsQuiet reply) }
 {
     match reply {
@@ -76,9 +81,13 @@ fn text(alloc: Global, state: &State, reply: Reply, ready: Ready) -> Result<Text
 
 /// The answer to a command.
 fn answer_command(alloc: Global, state: &mut State, command: &Command) -> Result<Text, NoMemory>
-    ensures reply { IfOk result (λ text. IsText state.old (answered state.old command.now).reply text) }
-    ensures state { OnOk result (state.new ≡ (answered state.old command.now).state) }
-    ensures err { OnErr result (IsLeftBy state.old (call_of state.old command.now) state.new) }
+    ensures reply { IfOk result
+        (λ text. IsText state.old.state (latest_work (last state.old))
+        (answered state.old.state command.now).reply text) }
+    ensures state { OnOk result (state.new.state ≡ (answered state.old.state command.now).state) }
+    ensures trace { OnOk result (Goes state.old (call_of state.old.state command.now) state.new) }
+    ensures err { OnErr result
+        (IsLeftBy state.old (call_of state.old.state command.now) state.new) }
 {
     // for the proof: each input has a name, by the clause `counted`
     let _names = state.names();
@@ -89,7 +98,10 @@ fn answer_command(alloc: Global, state: &mut State, command: &Command) -> Result
 
 /// The answer to a line.
 fn answer_line(alloc: Global, state: &mut State, line: &[u8]) -> Result<Text, NoMemory>
-    ensures reply { IfOk result (λ text. Answers state.old line.now text state.new) }
+    ensures reply { IfOk result
+        (λ text. Answers state.old.state
+        (latest_work (last state.old)) line.now text state.new.state) }
+    ensures trace { OnOk result (Repairs state.old line.now state.new) }
     ensures left { OnErr result (IsLeft state.old line.now state.new) }
 {
     match read_line(alloc, line) {
@@ -104,8 +116,9 @@ fn answer_line(alloc: Global, state: &mut State, line: &[u8]) -> Result<Text, No
 impl Session {
     /// A session without inputs and without a run. A run may take `fuel` steps.
     pub fn new(alloc: Global, program: Program, fuel: u32) -> Result<Session, NoMemory>
-        requires { IsCompiled program }
-        ensures state { IfOk result (λ session. session ≡ begun program.typed fuel) }
+        requires compiled { IsCompiled program }
+        requires fuel { IsAllowed fuel }
+        ensures state { IfOk result (λ session. session ≡ opened program fuel) }
     {
         let state = State::new(alloc, program, fuel)?;
         Ok(Session { state, alloc })
@@ -115,7 +128,10 @@ impl Session {
     /// want of memory the session is as before, or, where the line was an accepted `run` or `propagate`, as after out
     /// of fuel.
     pub fn command(&mut self, line: &[u8]) -> Result<Text, NoMemory>
-        ensures reply { IfOk result (λ text. Answers self.old line.now text self.new) }
+        ensures reply { IfOk result
+            (λ text. Answers self.old.state
+            (latest_work (last self.old)) line.now text self.new.state) }
+        ensures trace { OnOk result (Repairs self.old line.now self.new) }
         ensures left { OnErr result (IsLeft self.old line.now self.new) }
     {
         answer_line(self.alloc, &mut self.state, line)

@@ -5,12 +5,13 @@ ghost use Rattle.std.specs.List.{list_any};
 ghost use Rattle.ceal_base.specs.Fitting.{block_fits, kind_at};
 ghost use Rattle.ceal_compile.specs.Compiled.{IsCompiled};
 ghost use Rattle.ceal_session.specs.Asking.{IsReady, IsCellOf, steps_in, blocks_in, content_text};
-ghost use Rattle.ceal_session.specs.Keeping.{left_pending};
-ghost use Rattle.ceal_session.specs.Replies.{IsLeftBy};
-ghost use Rattle.ceal_session.specs.Runs.{begun, memory_of, present_run};
+ghost use Rattle.ceal_session.specs.Following.{IsAllowed, opened, Keeps, Goes, IsLeftBy};
+ghost use Rattle.ceal_session.specs.Runs.{memory_of, present_run};
 ghost use Rattle.ceal_session.specs.Senses.{input_named};
 ghost use Rattle.ceal_session.specs.Steps.{IsFirst, with_input, with_base, block_of, fits_cell, has_no_run, runs, called_again};
 ghost use Rattle.ceal_session.specs.Texts.{value_text, TellsOf};
+ghost use Rattle.ceal_session.specs.State.{last};
+ghost use Rattle.ceal_session.specs.Works.{latest_work};
 ghost use Rattle.ceal_engine.specs.Engine.{IfOutOfFuel, IfNoMemory};
 ghost use Rattle.ceal_session.specs.declared.reply.Query.TheVariants.{Show};
 ghost use Rattle.ceal_session.specs.declared.reply.Reply.TheVariants.{Ok as Done, OutOfFuel};
@@ -30,6 +31,7 @@ use ceal_engine::engine::Engine;
 use ceal_engine::phase::Phase;
 use ceal_engine::run_error::RunError;
 use ceal_show::laws::{fitting_is_whole, same_text};
+use ceal_theory::laws::first_law;
 use ceal_types::names::Names;
 use std::alloc::Global;
 use std::marker::Model;
@@ -46,29 +48,19 @@ pub struct State {
 
 impl Model for State {
     ghost use Rattle.ceal_base.specs.contracts.typed.TypedStmt as statement;
-    ghost use Rattle.ceal_session.specs.Keeping.{state_of, Holds};
-    ghost use Rattle.ceal_session.specs.State.{State};
+    ghost use Rattle.ceal_code.specs.contracts.expr.CodeExpr as expr;
+    ghost use Rattle.ceal_code.specs.contracts.function.InitStmt as initialising;
+    ghost use Rattle.ceal_session.specs.Keeping.{situation_of, Holds};
+    ghost use Rattle.ceal_session.specs.State.{Situation};
     ghost use Rattle.std.specs.Coded.{codes};
 
-    ghost Value = { State };
+    ghost Value = { Situation };
 
-    ghost coded = { Prim.hlevel (codes, statement.the_row.coded) };
+    ghost coded = { Prim.hlevel (codes, statement.the_row.coded, expr.the_row.coded, initialising.the_row.coded) };
 
-    ghost view = { λ s. state_of s.program s.names s.engine s.pending };
+    ghost view = { λ s. situation_of s.program s.names s.engine s.pending };
 
     ghost invariant = { λ s. Holds s.program s.names s.engine s.pending };
-}
-
-/// Whether an edit is pending after a first run: where there was no memory to begin it, it still is.
-fn still_pending(pending: bool, phase: Phase) -> bool
-    ensures { result ≡ left_pending pending phase }
-{
-    match phase {
-        Phase::New => pending,
-        Phase::Finished => false,
-        Phase::Pending => false,
-        Phase::Dropped => false,
-    }
 }
 
 /// The reply to a run that came out so.
@@ -87,8 +79,9 @@ fn reply_of(outcome: Result<(), RunError>) -> Result<Reply, NoMemory>
 impl State {
     /// A state without inputs and without a run.
     pub fn new(alloc: Global, program: Program, fuel: u32) -> Result<State, NoMemory>
-        requires { IsCompiled program }
-        ensures { IfOk result (λ state. state ≡ begun program.typed fuel) }
+        requires compiled { IsCompiled program }
+        requires fuel { IsAllowed fuel }
+        ensures { IfOk result (λ state. state ≡ opened program fuel) }
     {
         let Program { typed, code } = program;
         let engine = Engine::new(alloc, code, fuel)?;
@@ -101,42 +94,42 @@ impl State {
     }
 
     pub fn structs(&self) -> &[StructInfo]
-        ensures { result.now ≡ self.now.program.structs }
+        ensures { result.now ≡ self.now.state.program.structs }
     {
         self.program.structs.items()
     }
 
     pub fn functions(&self) -> &[TypedFunction]
-        ensures { result.now ≡ self.now.program.functions }
+        ensures { result.now ≡ self.now.state.program.functions }
     {
         self.program.functions.items()
     }
 
     pub fn inputs(&self) -> &Inputs
-        ensures { result.now ≡ self.now.inputs }
+        ensures { result.now ≡ self.now.state.inputs }
     {
-        self.engine.inputs()
+        self.engine.input_blocks()
     }
 
     /// There is one for each input.
     pub fn names(&self) -> &Names
-        ensures names { result.now ≡ self.now.names }
-        ensures counted { length self.now.names ≡ length self.now.inputs }
+        ensures names { result.now ≡ self.now.state.names }
+        ensures counted { length self.now.state.names ≡ length self.now.state.inputs }
     {
         &self.names
     }
 
     /// The number of the input of a name.
     pub fn input(&self, name: &Text) -> Option<u32>
-        ensures number { result ≡ input_named self.now name.now }
-        ensures there { IfSome result (λ n. n < length self.now.inputs) }
+        ensures number { result ≡ input_named self.now.state name.now }
+        ensures there { IfSome result (λ n. n < length self.now.state.inputs) }
     {
         self.names.number(name)
     }
 
     /// Whether a `run` was accepted.
     pub fn has_call(&self) -> bool
-        ensures { result ≡ is_some self.now.call }
+        ensures { result ≡ is_some self.now.state.call }
     {
         match self.engine.phase() {
             Phase::New => false,
@@ -148,7 +141,7 @@ impl State {
 
     /// Whether there is no run, or the last one was out of fuel.
     pub fn has_no_run(&self) -> bool
-        ensures { result ≡ has_no_run self.now }
+        ensures { result ≡ has_no_run self.now.state }
     {
         match self.engine.phase() {
             Phase::New => true,
@@ -159,16 +152,19 @@ impl State {
     }
 
     pub fn is_pending(&self) -> bool
-        ensures { result ≡ self.now.pending }
+        ensures { result ≡ self.now.state.pending }
     {
         self.pending
     }
 
     /// One more input, of a new name, and of words that fit.
     pub fn add_input(&mut self, name: &Text, shape: Shape, words: &[Word]) -> Result<(), NoMemory>
-        requires new { list_any (bytes_eq name.now) self.old.names ≡ false }
-        requires fits { block_fits self.old.program.structs (memory_of self.old) (block_of shape words.now) ≡ true }
-        ensures ok { OnOk result (self.new ≡ with_input self.old name.now (block_of shape words.now)) }
+        requires new { list_any (bytes_eq name.now) self.old.state.names ≡ false }
+        requires fits { block_fits self.old.state.program.structs (memory_of self.old.state)
+            (block_of shape words.now) ≡ true }
+        ensures ok { OnOk result
+            (self.new.state ≡ with_input self.old.state name.now (block_of shape words.now)) }
+        ensures trace { OnOk result (Keeps self.old self.new) }
         ensures err { OnErr result (self.new ≡ self.old) }
     {
         let count = self.names.len();
@@ -187,9 +183,11 @@ impl State {
 
     /// Another base for a modifiable of an input, which fits it.
     pub fn edit(&mut self, place: Place, word: Word) -> Result<(), NoMemory>
-        requires cell { IsCellOf self.old place }
-        requires fits { fits_cell self.old (kind_at self.old.program.structs (memory_of self.old) place) word ≡ true }
-        ensures ok { OnOk result (self.new ≡ with_base self.old place word) }
+        requires cell { IsCellOf self.old.state place }
+        requires fits { fits_cell self.old.state
+            (kind_at self.old.state.program.structs (memory_of self.old.state) place) word ≡ true }
+        ensures ok { OnOk result (self.new.state ≡ with_base self.old.state place word) }
+        ensures trace { OnOk result (Keeps self.old self.new) }
         ensures err { OnErr result (self.new ≡ self.old) }
     {
         self.engine.edit(place, word)?;
@@ -199,35 +197,46 @@ impl State {
 
     /// The first run.
     pub fn run(&mut self, call: &Call) -> Result<Reply, NoMemory>
-        requires { IsFirst self.old call.now }
-        ensures ok { IfOk result (λ reply. record { reply = reply; state = self.new } ≡ runs self.old (OkOf call.now)) }
+        requires { IsFirst self.old.state call.now }
+        ensures ok { IfOk result
+            (λ reply. record { reply = reply; state = self.new.state }
+            ≡ runs self.old.state (OkOf call.now)) }
+        ensures trace { OnOk result (Goes self.old (OkOf call.now) self.new) }
         ensures err { OnErr result (IsLeftBy self.old (OkOf call.now) self.new) }
     {
-        // for the proof: it is an engine, by the clause `whole`
+        first_law();
+        // for the proof: it is an engine before and after, by the clause `whole`
         let _before = self.engine.phase();
         let outcome = self.engine.run(call.function, call.args.items());
-        self.pending = still_pending(self.pending, self.engine.phase());
+        let _after = self.engine.phase();
+        self.pending = false;
         reply_of(outcome)
     }
 
     /// The run of the accepted call on the present inputs.
     pub fn propagate(&mut self) -> Result<Reply, NoMemory>
-        requires { is_some self.old.call ≡ true }
-        ensures ok { IfOk result (λ reply. record { reply = reply; state = self.new } ≡ runs self.old (called_again self.old.call)) }
-        ensures err { OnErr result (IsLeftBy self.old (called_again self.old.call) self.new) }
+        requires { is_some self.old.state.call ≡ true }
+        ensures ok { IfOk result
+            (λ reply. record { reply = reply; state = self.new.state }
+            ≡ runs self.old.state (called_again self.old.state.call)) }
+        ensures trace { OnOk result (Goes self.old (called_again self.old.state.call) self.new) }
+        ensures err { OnErr result (IsLeftBy self.old (called_again self.old.state.call) self.new) }
     {
-        // for the proof: it is an engine, by the clause `whole`
+        first_law();
+        // for the proof: it is an engine before and after, by the clause `whole`
         let _before = self.engine.phase();
         let outcome = self.engine.propagate();
+        let _after = self.engine.phase();
         self.pending = false;
         reply_of(outcome)
     }
 
     /// What a modifiable of an input has at the end of the run.
     pub fn content(&self, place: Place) -> Word
-        requires ready { IsReady self.now }
-        requires cell { IsCellOf self.now place }
-        ensures { content_text self.now place (present_run self.now) ≡ Some (value_text self.now result) }
+        requires ready { IsReady self.now.state }
+        requires cell { IsCellOf self.now.state place }
+        ensures { content_text self.now.state place (present_run self.now.state)
+            ≡ Some (value_text self.now.state result) }
     {
         // for the proof: it is an engine, by the clause `whole`
         let _phase = self.engine.phase();
@@ -236,8 +245,8 @@ impl State {
 
     /// How many core blocks the run made.
     pub fn blocks(&self) -> u32
-        requires { IsReady self.now }
-        ensures { blocks_in (present_run self.now) ≡ Some result }
+        requires { IsReady self.now.state }
+        ensures { blocks_in (present_run self.now.state) ≡ Some result }
     {
         // for the proof: it is an engine, by the clause `whole`
         let _phase = self.engine.phase();
@@ -246,19 +255,32 @@ impl State {
 
     /// How many steps the run took.
     pub fn steps(&self) -> u32
-        requires { IsReady self.now }
-        ensures { steps_in (present_run self.now) ≡ Some result }
+        requires { IsReady self.now.state }
+        ensures { steps_in (present_run self.now.state) ≡ Some result }
     {
         // for the proof: it is an engine, by the clause `whole`
         let _phase = self.engine.phase();
         self.engine.steps()
     }
 
+    /// The work of the run.
+    pub fn work(&self) -> u32
+        requires { IsReady self.now.state }
+        ensures work { result ≡ latest_work (last self.now) }
+        ensures run { is_some (present_run self.now.state) ≡ true }
+    {
+        // for the proof: it is an engine, by the clause `whole`
+        let _phase = self.engine.phase();
+        self.engine.work()
+    }
+
     /// The graph from an input at the end of the run.
     pub fn graph(&self, alloc: Global, input: u32) -> Result<Text, NoMemory>
-        requires ready { IsReady self.now }
-        requires there { input < length self.now.inputs }
-        ensures { IfOk result (λ text. TellsOf self.now (Show input) (present_run self.now) text) }
+        requires ready { IsReady self.now.state }
+        requires there { input < length self.now.state.inputs }
+        ensures { IfOk result
+            (λ text. TellsOf self.now.state (latest_work (last self.now)) (Show input)
+            (present_run self.now.state) text) }
     {
         progress_law();
         fitting_is_whole();

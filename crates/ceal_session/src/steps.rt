@@ -1,8 +1,9 @@
 // What a command that asks for no run is answered, and the state after it.
 
-ghost use Rattle.std.specs.Prelude.{◌≡◌, Some, false, slice_get, IfOk, OnErr, bytes_eq};
+ghost use Rattle.std.specs.Prelude.{◌≡◌, Some, false, slice_get, IfOk, OnOk, OnErr, bytes_eq};
 ghost use Rattle.std.specs.List.{list_any};
 ghost use Rattle.ceal_session.specs.Asking.{IsCellOf, IsCellSense};
+ghost use Rattle.ceal_session.specs.Following.{Keeps};
 ghost use Rattle.ceal_session.specs.Senses.{function_named};
 ghost use Rattle.ceal_session.specs.Steps.{IsQuiet, made, made_of, made_with, set as set_of, set_word as set_sense, set_base as based, fits_function, called_with, called_function, called as called_of, asked, has_no_run, got, shown as shown_of, fits_cell};
 
@@ -24,9 +25,12 @@ use std::alloc::Global;
 
 /// An input of these words, where they fit.
 fn make_if(state: &mut State, name: &Text, shape: Shape, words: &[Word]) -> Result<Reply, NoMemory>
-    requires { list_any (bytes_eq name.now) state.old.names ≡ false }
-    ensures ok { IfOk result (λ reply. record { reply = reply; state = state.new } ≡ made_with state.old name.now shape (Some words.now)) }
+    requires { list_any (bytes_eq name.now) state.old.state.names ≡ false }
+    ensures ok { IfOk result
+        (λ reply. record { reply = reply; state = state.new.state }
+        ≡ made_with state.old.state name.now shape (Some words.now)) }
     ensures quiet { IfOk result (λ reply. IsQuiet reply → state.new ≡ state.old) }
+    ensures trace { OnOk result (Keeps state.old state.new) }
     ensures err { OnErr result (state.new ≡ state.old) }
 {
     if !new_block_fits(state.structs(), state.inputs(), shape, words) {
@@ -43,8 +47,11 @@ fn make_with(
     shape: Shape,
     senses: &[Sense],
 ) -> Result<Reply, NoMemory>
-    ensures ok { IfOk result (λ reply. record { reply = reply; state = state.new } ≡ made state.old name.now shape senses.now) }
+    ensures ok { IfOk result
+        (λ reply. record { reply = reply; state = state.new.state }
+        ≡ made state.old.state name.now shape senses.now) }
     ensures quiet { IfOk result (λ reply. IsQuiet reply → state.new ≡ state.old) }
+    ensures trace { OnOk result (Keeps state.old state.new) }
     ensures err { OnErr result (state.new ≡ state.old) }
 {
     let unknown = has_unknown(senses);
@@ -68,8 +75,11 @@ pub fn make(
     shape: Option<Shape>,
     senses: &[Sense],
 ) -> Result<Reply, NoMemory>
-    ensures ok { IfOk result (λ reply. record { reply = reply; state = state.new } ≡ made_of state.old name.now shape senses.now) }
+    ensures ok { IfOk result
+        (λ reply. record { reply = reply; state = state.new.state }
+        ≡ made_of state.old.state name.now shape senses.now) }
     ensures quiet { IfOk result (λ reply. IsQuiet reply → state.new ≡ state.old) }
+    ensures trace { OnOk result (Keeps state.old state.new) }
     ensures err { OnErr result (state.new ≡ state.old) }
 {
     match shape {
@@ -80,7 +90,7 @@ pub fn make(
 
 /// Whether a word fits the modifiable of this type.
 fn fits(state: &State, kind: Option<FieldKind>, word: Word) -> bool
-    ensures { result ≡ fits_cell state.now kind word }
+    ensures { result ≡ fits_cell state.now.state kind word }
 {
     match kind {
         None => false,
@@ -89,9 +99,12 @@ fn fits(state: &State, kind: Option<FieldKind>, word: Word) -> bool
 }
 
 fn set_base(state: &mut State, place: Place, word: Word) -> Result<Reply, NoMemory>
-    requires { IsCellOf state.old place }
-    ensures step { IfOk result (λ reply. record { reply = reply; state = state.new } ≡ based state.old place word) }
+    requires { IsCellOf state.old.state place }
+    ensures step { IfOk result
+        (λ reply. record { reply = reply; state = state.new.state }
+        ≡ based state.old.state place word) }
     ensures quiet { IfOk result (λ reply. IsQuiet reply → state.new ≡ state.old) }
+    ensures trace { OnOk result (Keeps state.old state.new) }
     ensures err { OnErr result (state.new ≡ state.old) }
 {
     let kind = place_kind(state.structs(), state.inputs(), place);
@@ -103,9 +116,12 @@ fn set_base(state: &mut State, place: Place, word: Word) -> Result<Reply, NoMemo
 }
 
 fn set_word(state: &mut State, place: Sense, value: Sense) -> Result<Reply, NoMemory>
-    requires { IsCellSense state.old place }
-    ensures step { IfOk result (λ reply. record { reply = reply; state = state.new } ≡ set_sense state.old place value) }
+    requires { IsCellSense state.old.state place }
+    ensures step { IfOk result
+        (λ reply. record { reply = reply; state = state.new.state }
+        ≡ set_sense state.old.state place value) }
     ensures quiet { IfOk result (λ reply. IsQuiet reply → state.new ≡ state.old) }
+    ensures trace { OnOk result (Keeps state.old state.new) }
     ensures err { OnErr result (state.new ≡ state.old) }
 {
     match (place, value) {
@@ -116,9 +132,12 @@ fn set_word(state: &mut State, place: Sense, value: Sense) -> Result<Reply, NoMe
 
 /// `set`: another base, unless it is refused.
 pub fn set(state: &mut State, place: Sense, value: Sense) -> Result<Reply, NoMemory>
-    requires { IsCellSense state.old place }
-    ensures step { IfOk result (λ reply. record { reply = reply; state = state.new } ≡ set_of state.old place value) }
+    requires { IsCellSense state.old.state place }
+    ensures step { IfOk result
+        (λ reply. record { reply = reply; state = state.new.state }
+        ≡ set_of state.old.state place value) }
     ensures quiet { IfOk result (λ reply. IsQuiet reply → state.new ≡ state.old) }
+    ensures trace { OnOk result (Keeps state.old state.new) }
     ensures err { OnErr result (state.new ≡ state.old) }
 {
     if is_unknown(place) || is_unknown(value) {
@@ -129,7 +148,7 @@ pub fn set(state: &mut State, place: Sense, value: Sense) -> Result<Reply, NoMem
 
 /// Whether this is a core function, and the words fit its parameters.
 fn fits_call(state: &State, function: &TypedFunction, words: &[Word]) -> bool
-    ensures { result ≡ fits_function state.now function.now words.now }
+    ensures { result ≡ fits_function state.now.state function.now words.now }
 {
     if function.initialiser.is_some() {
         return false;
@@ -145,7 +164,7 @@ fn call_with(
     function: &TypedFunction,
     words: Option<Words>,
 ) -> Result<Call, Refusal>
-    ensures { result ≡ called_with state.now number function.now words }
+    ensures { result ≡ called_with state.now.state number function.now words }
 {
     let Some(args) = words else {
         return Err(Refusal::C5);
@@ -168,7 +187,10 @@ fn call_function(
     number: u32,
     senses: &[Sense],
 ) -> Result<Result<Call, Refusal>, NoMemory>
-    ensures { IfOk result (λ call. call ≡ called_function state.now number (slice_get state.now.program.functions number) senses.now) }
+    ensures { IfOk result
+        (λ call. call
+        ≡ called_function state.now.state number
+        (slice_get state.now.state.program.functions number) senses.now) }
 {
     let Some(function) = state.functions().get(number as usize) else {
         return Ok(Err(Refusal::C2));
@@ -187,7 +209,9 @@ pub fn call(
     function: &Text,
     senses: &[Sense],
 ) -> Result<Result<Call, Refusal>, NoMemory>
-    ensures { IfOk result (λ call. call ≡ called_of state.now (function_named state.now function.now) senses.now) }
+    ensures { IfOk result
+        (λ call. call
+        ≡ called_of state.now.state (function_named state.now.state function.now) senses.now) }
 {
     match function_number(state.functions(), function)? {
         None => Ok(Err(Refusal::C2)),
@@ -197,7 +221,7 @@ pub fn call(
 
 /// A question, where there is a run that was not out of fuel and no edit came after it.
 pub fn ask(state: &State, query: Query) -> Reply
-    ensures { result ≡ asked state.now query }
+    ensures { result ≡ asked state.now.state query }
 {
     if state.has_no_run() {
         return Reply::Refused(Refusal::C7);
@@ -210,7 +234,7 @@ pub fn ask(state: &State, query: Query) -> Reply
 
 /// `get`
 pub fn get(state: &State, place: Sense) -> Reply
-    ensures { result ≡ got state.now place }
+    ensures { result ≡ got state.now.state place }
 {
     match place {
         Sense::Word(Word::At(place)) => ask(state, Query::Get(place)),
@@ -221,7 +245,7 @@ pub fn get(state: &State, place: Sense) -> Reply
 
 /// `show`
 pub fn show(state: &State, input: Option<u32>) -> Reply
-    ensures { result ≡ shown_of state.now input }
+    ensures { result ≡ shown_of state.now.state input }
 {
     match input {
         None => Reply::Refused(Refusal::C2),

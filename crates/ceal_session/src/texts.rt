@@ -5,6 +5,8 @@ ghost use Rattle.std.specs.Fmt.{decimal};
 ghost use Rattle.ceal_session.specs.Asking.{IsReady, IsFor};
 ghost use Rattle.ceal_session.specs.Runs.{present_run};
 ghost use Rattle.ceal_session.specs.Texts.{block_text, value_text, TellsOf};
+ghost use Rattle.ceal_session.specs.State.{last};
+ghost use Rattle.ceal_session.specs.Works.{latest_work};
 
 use crate::reply::Query;
 use crate::state::State;
@@ -15,7 +17,7 @@ use std::alloc::Global;
 
 /// The name of a block, in the text of a value.
 fn block_name(alloc: Global, state: &State, block: BlockId) -> Result<Text, NoMemory>
-    ensures { IfOk result (λ text. text ≡ block_text state.now block) }
+    ensures { IfOk result (λ text. text ≡ block_text state.now.state block) }
 {
     match block {
         BlockId::Core(_) => Text::from_slice(alloc, b"#1"),
@@ -35,7 +37,7 @@ fn number_text(alloc: Global, number: u32) -> Result<Text, NoMemory>
 
 /// The text of a value.
 fn word_text(alloc: Global, state: &State, word: Word) -> Result<Text, NoMemory>
-    ensures { IfOk result (λ text. text ≡ value_text state.now word) }
+    ensures { IfOk result (λ text. text ≡ value_text state.now.state word) }
 {
     match word {
         Word::Num(n) => {
@@ -59,14 +61,17 @@ fn line(text: Text) -> Result<Text, NoMemory>
 
 /// The answer to a question.
 pub fn answer(alloc: Global, state: &State, query: Query) -> Result<Text, NoMemory>
-    requires ready { IsReady state.now }
-    requires there { IsFor state.now query }
-    ensures { IfOk result (λ text. TellsOf state.now query (present_run state.now) text) }
+    requires ready { IsReady state.now.state }
+    requires there { IsFor state.now.state query }
+    ensures { IfOk result
+        (λ text. TellsOf state.now.state (latest_work (last state.now)) query
+        (present_run state.now.state) text) }
 {
     match query {
         Query::Get(place) => line(word_text(alloc, state, state.content(place))?),
         Query::Show(input) => state.graph(alloc, input),
         Query::Blocks => line(number_text(alloc, state.blocks())?),
         Query::Steps => line(number_text(alloc, state.steps())?),
+        Query::Work => line(number_text(alloc, state.work())?),
     }
 }

@@ -109,7 +109,9 @@ impl<'a> View for Scene<'a> {
 pub fn graph(alloc: Global, engine: &Engine, names: &Names, input: u32) -> Result<Text, NoMemory>
     requires whole { IsWhole engine.now.code.structs (seen engine.now) }
     requires there { IsSome (seen engine.now (Input input)) }
-    ensures { IfOk result (λ text. IsGraphText engine.now.code.structs (seen engine.now) (label names.now) (Input input) text) }
+    ensures { IfOk result
+        (λ text. IsGraphText engine.now.code.structs (seen engine.now) (label names.now)
+        (Input input) text) }
 {
     let scene = Scene {
         engine,

@@ -18,7 +18,9 @@ use std::alloc::Global;
 pub fn graph_text<V: View>(alloc: Global, view: &V, root: BlockId) -> Result<Text, NoMemory>
     requires whole { IsWhole (V.declared view.now) (V.memory view.now) }
     requires there { IsSome (V.memory view.now root) }
-    ensures { IfOk result (λ text. IsGraphText (V.declared view.now) (V.memory view.now) (V.name view.now) root text) }
+    ensures { IfOk result
+        (λ text. IsGraphText (V.declared view.now) (V.memory view.now)
+        (V.name view.now) root text) }
 {
     let met = reach(alloc, view, root)?;
     let mut out = Vec::new(alloc);

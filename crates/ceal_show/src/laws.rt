@@ -17,7 +17,8 @@ pub fn one_text()
 
 /// A law: a memory whose words fit is whole.
 pub fn fitting_is_whole()
-    ensures law { (structs : List StructInfo) (m : Blocks) → IsTrue (memory_fits structs m) → IsWhole structs (block_at m) }
+    ensures law { (structs : List StructInfo) (m : Blocks) → IsTrue (memory_fits structs m)
+        → IsWhole structs (block_at m) }
 {}
 
 /// A law: the text says nothing of the numbers that core blocks have inside.

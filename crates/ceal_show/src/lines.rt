@@ -47,7 +47,8 @@ fn put_struct_field(
     s: u32,
     field: u32,
 ) -> Result<(), NoMemory>
-    ensures { IfOk result (λ _. out.new.items ≡ out.old.items ++ field_in (slice_get structs.now s) field) }
+    ensures { IfOk result
+        (λ _. out.new.items ≡ out.old.items ++ field_in (slice_get structs.now s) field) }
 {
     match structs.get(s as usize) {
         None => Ok(()),
@@ -65,7 +66,8 @@ fn put_field(
     shape: Shape,
     field: u32,
 ) -> Result<(), NoMemory>
-    ensures { IfOk result (λ _. out.new.items ≡ out.old.items ++ field_name structs.now shape field) }
+    ensures { IfOk result
+        (λ _. out.new.items ≡ out.old.items ++ field_name structs.now shape field) }
 {
     match shape {
         Shape::Struct(s) => put_struct_field(out, structs, s, field),
@@ -81,7 +83,8 @@ fn put_suffix(
     shape: Shape,
     field: u32,
 ) -> Result<(), NoMemory>
-    ensures { IfOk result (λ _. out.new.items ≡ out.old.items ++ suffix_text structs.now (Some shape) field) }
+    ensures { IfOk result
+        (λ _. out.new.items ≡ out.old.items ++ suffix_text structs.now (Some shape) field) }
 {
     match shape {
         Shape::Struct(s) => {
@@ -103,7 +106,8 @@ fn put_label<V: View>(
 ) -> Result<(), NoMemory>
     requires there { IsSome (V.memory view.now block) }
     requires met { IsTrue (is_in block met.now) }
-    ensures { IfOk result (λ _. out.new.items ≡ out.old.items ++ label_text (V.name view.now) met.now block) }
+    ensures { IfOk result
+        (λ _. out.new.items ≡ out.old.items ++ label_text (V.name view.now) met.now block) }
 {
     match block {
         BlockId::Input(input) => put(out, view.label(input).items()),

@@ -7,6 +7,7 @@ ghost use Rattle.ceal_base.specs.Fitting.{block_fits, inputs_fit};
 ghost use Rattle.ceal_base.specs.Shapes.{kinds_of_shape, kind_of_field};
 ghost use Rattle.ceal_code.specs.Fitting.{Fits, args_fit};
 ghost use Rattle.ceal_code.specs.Replay.{plain_words, plain_block};
+ghost use Rattle.ceal_code.specs.Valid.{valid};
 ghost use Rattle.ceal_theory.specs.Adjust.{Extended};
 
 use ceal_adjust::adjust::{Adjusted, adjust, first_forest};
@@ -23,7 +24,8 @@ use ceal_theory::laws::first_law;
 use std::alloc::Global;
 
 fn do_blocks_fit(structs: &[StructInfo], inputs: &Inputs, blocks: &[BlockWords]) -> bool
-    ensures { IsTrue result → list_all (block_fits structs.now (alone inputs.now)) blocks.now ≡ true }
+    ensures { IsTrue result
+        → list_all (block_fits structs.now (alone inputs.now)) blocks.now ≡ true }
 {
     match blocks.split_first() {
         None => true,
@@ -42,7 +44,9 @@ fn do_inputs_fit(code: &Code, inputs: &Inputs) -> bool
 }
 
 fn do_args_fit(code: &Code, function: u32, args: &[Word], inputs: &Inputs) -> bool
-    ensures { IsTrue result → args_fit code.now.structs (alone inputs.now) (slice_get code.now.functions function) args.now ≡ true }
+    ensures { IsTrue result
+        → args_fit code.now.structs (alone inputs.now)
+        (slice_get code.now.functions function) args.now ≡ true }
 {
     match code.functions().get(function as usize) {
         None => false,
@@ -56,7 +60,8 @@ fn do_args_fit(code: &Code, function: u32, args: &[Word], inputs: &Inputs) -> bo
 }
 
 /// Whether the call may be run.
-fn fits(code: &Code, function: u32, args: &[Word], inputs: &Inputs) -> bool
+pub(crate) fn fits(code: &Code, function: u32, args: &[Word], inputs: &Inputs) -> bool
+    requires { valid code.now ≡ true }
     ensures { IsTrue result → Fits code.now inputs.now function args.now }
 {
     do_inputs_fit(code, inputs) && do_args_fit(code, function, args, inputs)
@@ -64,7 +69,9 @@ fn fits(code: &Code, function: u32, args: &[Word], inputs: &Inputs) -> bool
 
 /// Whether the words of plain fields are the same, and there are as many words.
 fn are_plain_same(fields: &[FieldInfo], old: &[Word], new: &[Word]) -> bool
-    ensures { IsTrue result → plain_words (map kind_of_field fields.now) new.now ≡ plain_words (map kind_of_field fields.now) old.now }
+    ensures { IsTrue result
+        → plain_words (map kind_of_field fields.now) new.now
+        ≡ plain_words (map kind_of_field fields.now) old.now }
 {
     let Some((field, fields)) = fields.split_first() else {
         return old.is_empty() && new.is_empty();
@@ -79,7 +86,8 @@ fn are_plain_same(fields: &[FieldInfo], old: &[Word], new: &[Word]) -> bool
 }
 
 fn is_plain_same(kind: FieldKind, old: Word, new: Word) -> bool
-    ensures { IsTrue result → plain_words (kind ∷ []) (new ∷ []) ≡ plain_words (kind ∷ []) (old ∷ []) }
+    ensures { IsTrue result
+        → plain_words (kind ∷ []) (new ∷ []) ≡ plain_words (kind ∷ []) (old ∷ []) }
 {
     match kind {
         FieldKind::Plain(_) => old == new,
@@ -98,7 +106,9 @@ fn is_cell_same(kind: FieldKind, old: &[Word], new: &[Word]) -> bool
 }
 
 fn are_words_edited(structs: &[StructInfo], shape: Shape, old: &[Word], new: &[Word]) -> bool
-    ensures { IsTrue result → plain_words (kinds_of_shape structs.now shape) new.now ≡ plain_words (kinds_of_shape structs.now shape) old.now }
+    ensures { IsTrue result
+        → plain_words (kinds_of_shape structs.now shape) new.now
+        ≡ plain_words (kinds_of_shape structs.now shape) old.now }
 {
     match shape {
         Shape::Struct(number) => match structs.get(number as usize) {

@@ -11,7 +11,11 @@ mod base;
 #[cfg(test)]
 mod code;
 #[cfg(test)]
+mod dumps;
+#[cfg(test)]
 mod edits;
+#[cfg(test)]
+mod engine;
 #[cfg(test)]
 mod flow;
 #[cfg(test)]
@@ -22,6 +26,8 @@ mod io;
 mod lex;
 #[cfg(test)]
 mod live;
+#[cfg(test)]
+mod many;
 #[cfg(test)]
 mod mean;
 #[cfg(test)]

@@ -1,5 +1,8 @@
 // The programs of the tests, and what the compiler makes of them.
 
+ghost use Rattle.std.specs.Prelude.{◌≡◌, true, IfOk};
+ghost use Rattle.ceal_code.specs.Valid.{valid};
+
 use ceal_compile::compile::compile;
 use ceal_compile::program::Program;
 use std::alloc::Global;
@@ -131,7 +134,9 @@ ceal eval(mod struct node *root, mod int *res) {
 ";
 
 /// The program of a source that is not longer than an input may be, and that has no fault.
-pub(crate) fn compiled(alloc: Global, source: &[u8]) -> Result<Program, Fail> {
+pub(crate) fn compiled(alloc: Global, source: &[u8]) -> Result<Program, Fail>
+    ensures valid { IfOk result (λ program. valid program.code ≡ true) }
+{
     if source.len() > 4_194_304 {
         return Err(Fail::from("too long a source"));
     }

@@ -19,3 +19,19 @@ fn reads_values(rt: HostRuntime) -> Result<(), Fail> {
     }
     Ok(())
 }
+
+#[test]
+fn reads_element(rt: HostRuntime) -> Result<(), Fail> {
+    match read_line(rt.alloc(), b"set r.s[2] 5")? {
+        Command::Set { place, value } => {
+            assert!(rt; place.name.items() == b"r".as_slice());
+            match &place.field {
+                Some(field) => assert!(rt; field.items() == b"s[2]".as_slice()),
+                None => panic!(rt; "no field"),
+            }
+            assert!(rt; value == ValueWord::Num(5));
+        }
+        _ => panic!(rt; "no set"),
+    }
+    Ok(())
+}

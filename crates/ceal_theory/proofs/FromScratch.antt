@@ -24,6 +24,9 @@ use Rattle.ceal_code.proofs.ClosedInit.{made-equal}
 use Rattle.ceal_code.proofs.Determined.{over-on, one-step, no-step}
 use Rattle.ceal_code.proofs.FittingLemmas.{begun-placed, input-full, args-placed}
 use Rattle.ceal_code.proofs.Memory.{contents, Cell_there, content-read, altered, got, get-set_other, get-push_other, length-set, written-here, written-other, written-count, written-contents, grown-here, grown-count, grown-contents, made-full}
+use Rattle.ceal_code.proofs.PicksValid.{Starts, picks-valid}
+use Rattle.ceal_code.proofs.TypedInit.{rows-valid}
+use Rattle.ceal_code.specs.Valid.{valid}
 use Rattle.ceal_code.proofs.Placed.{Placed, Well_placed, Keeps, placed-keeps, stack-keeps, placed-closed, content-placed, written-keeps, written-well, grown-keeps, grown-well, pointer-placed}
 use Rattle.ceal_code.proofs.Replayed.{empty-run}
 use Rattle.ceal_code.proofs.Same.{block-same, some-same, none-some, struct-shape}
@@ -83,7 +86,7 @@ plain-other kinds ws n f w c = go (slice_get kinds f) refl
         apart true t = let i : n ≡ f = grind (arith, t) in let d : is_cell (Some (PlainField kind)) ≡ true = rw (i, e) at c in absurd (grind (arith, d))
         apart false t = rw (get-set_other ws n f w t)
 
-module _ (code : Code) where
+module _ (code : Code) (ok : valid code ≡ true) where
   -- the state of a first trace stands for the memory of the run
   record Matches (s : State) (m : Blocks) : Type 0 where
     pub plain : Equal code.structs (block_at m) s.plain (Placed code.structs m)
@@ -96,13 +99,13 @@ module _ (code : Code) where
   matches-works s m h = record { plain = h.plain; store = h.store; number = h.number; well = h.well; full = h.full }
 
   same-step : (s : State) (m : Blocks) → Matches s m → (st : Stack) → Of_stack (Placed code.structs m) st → next code s.plain st ≡ next code (block_at m) st
-  same-step s m h st k = sym (next-equal (Placed code.structs m) code (block_at m) (placed-closed code.structs m h.well) s.plain h.plain st k)
+  same-step s m h st k = sym (next-equal (Starts code.structs) (Placed code.structs m) code (block_at m) (placed-closed code.structs m h.well (rows-valid code ok)) (picks-valid code ok) s.plain h.plain st k)
 
   same-made : (s : State) (m : Blocks) → Matches s m → (key : Key) → Of_key (Placed code.structs m) key → made code s.plain key ≡ made code (block_at m) key
-  same-made s m h key k = sym (made-equal (Placed code.structs m) code (block_at m) (placed-closed code.structs m h.well) s.plain h.plain key k)
+  same-made s m h key k = sym (made-equal (Starts code.structs) (Placed code.structs m) code (block_at m) (placed-closed code.structs m h.well (rows-valid code ok)) (picks-valid code ok) s.plain h.plain key k)
 
   places : (s : State) (m : Blocks) → Matches s m → (st : Stack) → Of_stack (Placed code.structs m) st → (a : Act) → next code (block_at m) st ≡ a → Of_act (Placed code.structs m) a
-  places s m h st k a e = subst (Of_act (Placed code.structs m)) e (next-of (Placed code.structs m) code (block_at m) (placed-closed code.structs m h.well) st k)
+  places s m h st k a e = subst (Of_act (Placed code.structs m)) e (next-of (Starts code.structs) (Placed code.structs m) code (block_at m) (placed-closed code.structs m h.well (rows-valid code ok)) (picks-valid code ok) st k)
 
   -- after a write
   module _ (s : State) (m : Blocks) (h : Matches s m) (p : Place) (cell : Cell_there code.structs m p) (w : Word) where
@@ -187,7 +190,7 @@ module _ (code : Code) where
       };
       store = λ q. rw h.number (cleared-equal code s.store (contents code m) (Core (length m.made)) key q (h.store q) ∙ sym (grown-contents code (block_at m) m key q));
       number = ap (λ n. n + 1) h.number ∙ sym (grown-count m (made code (block_at m) key));
-      well = grown-well code m h.well key placed;
+      well = grown-well code m h.well key ok placed;
       full = λ b block g. new-full (same_block b (Core (length m.made))) b refl block g;
     }
 
@@ -376,7 +379,7 @@ module _ (code : Code) (inputs : List Block) (f : ℕ) (args : List Word) (fits 
       go (Input i) = refl
       go (Core c) = refl
 
-  begun : Matches code (begins code inputs (input_plain code inputs) 0) (record { inputs = inputs; made = [] })
+  begun : Matches code fits.is_valid (begins code inputs (input_plain code inputs) 0) (record { inputs = inputs; made = [] })
   begun = record {
     plain = record { field = λ b z g i. begun-plain-field b z g; address = λ b z g i. begun-plain-address b z g };
     store = begun-store;
@@ -394,7 +397,7 @@ module _ (code : Code) (inputs : List Block) (f : ℕ) (args : List Word) (fits 
   unfolding fresh
   scratch-first fuel r g =
       let m : Blocks = record { inputs = inputs; made = [] } in
-      let q = runs-anew code (suc fuel) fuel (omega arith) 0 (begins code inputs (input_plain code inputs) 0) m begun (started code f args) Empty
+      let q = runs-anew code fits.is_valid (suc fuel) fuel (omega arith) 0 (begins code inputs (input_plain code inputs) 0) m begun (started code f args) Empty
       (entered-of (Placed code.structs m) (λ n. tt) tt code (entry_of code f) (chosen (unit_at code (entry_of code f)).params args) Empty
       (chosen-of (Placed code.structs m) (λ n. tt) tt (unit_at code (entry_of code f)).params args (args-placed code inputs f args fits)) tt) r g in
       let is = some-same (record { memory = q.memory; steps = q.taken; blocks = length q.memory.made }) r (sym (empty-run code q.fuel q.taken q.memory) ∙ q.later) in

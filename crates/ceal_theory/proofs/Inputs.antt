@@ -122,4 +122,4 @@ module _ (code : Code) (old new : List Block) (more : Extended code old new) whe
 
   -- arguments that fit the old inputs fit the new ones
   pub fits-more : (f : ℕ) (args : List Word) → Fits code old f args → inputs_fit code.structs new ≡ true → Fits code new f args
-  fits-more f args h fit = record { blocks = fit; words = args-more (slice_get code.functions f) args h.words }
+  fits-more f args h fit = record { is_valid = h.is_valid; blocks = fit; words = args-more (slice_get code.functions f) args h.words }

@@ -90,7 +90,7 @@ inc-same_value = refl
 -- numbers.
 abbrev mapping : Code
 mapping = record {
-  structs = record { name = []; fields = record { name = []; kind = PlainField Int } ∷ record { name = []; kind = CellPtr 0 } ∷ [] } ∷ [];
+  structs = record { name = []; fields = record { name = []; kind = PlainField Int; row = 0 } ∷ record { name = []; kind = CellPtr 0; row = 0 } ∷ [] } ∷ [];
   functions =
       InitFunction [] 0 (Ptr 0 ∷ []) (Set 0 (Binary Mul (Field (v 0) 0 0) (NumExpr (pos 10))) ∷ [])
       ∷ CoreFunction [] (u 0) (ModPtrKind 0 ∷ ModPtrKind 0 ∷ [])
@@ -146,7 +146,7 @@ mapped_again = refl
 -- and for 2 and then looks.
 abbrev box : Code
 box = record {
-  structs = record { name = []; fields = record { name = []; kind = PlainField Int } ∷ [] } ∷ [];
+  structs = record { name = []; fields = record { name = []; kind = PlainField Int; row = 0 } ∷ [] } ∷ [];
   functions =
       InitFunction [] 0 (Int ∷ []) (Set 0 (v 0) ∷ [])
       ∷ CoreFunction [] (u 0) (ModIntKind ∷ Int ∷ ModPtrKind 0 ∷ [])

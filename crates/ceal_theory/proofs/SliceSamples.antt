@@ -71,7 +71,7 @@ slice_one code inputs n (Some r) = sliced code own inputs (Some 1) n r
 -- and for 2 and then looks.
 abbrev box : Code
 box = record {
-  structs = record { name = []; fields = record { name = []; kind = PlainField Int } ∷ [] } ∷ [];
+  structs = record { name = []; fields = record { name = []; kind = PlainField Int; row = 0 } ∷ [] } ∷ [];
   functions =
       InitFunction [] 0 (Int ∷ []) (Set 0 (v 0) ∷ [])
       ∷ CoreFunction [] (u 0) (ModIntKind ∷ Int ∷ ModPtrKind 0 ∷ [])

@@ -8,16 +8,21 @@ ghost use Rattle.ceal_trace.specs.Items.{forest_of, unclosed, Nests, Parted};
 
 /// A law: nodes that nest are the flat form of a forest, whose steps are theirs.
 pub fn nodes_are_a_forest()
-    ensures law { (nodes : List Entry) → Nests nodes → (t : Trace) × (flat t ≡ forest_of nodes) × (steps_of t ≡ steps_sum nodes) }
+    ensures law { (nodes : List Entry) → Nests nodes
+        → (t : Trace) × (flat t ≡ forest_of nodes) × (steps_of t ≡ steps_sum nodes) }
 {}
 
 /// Laws: the stamps, the items and the steps of nodes are those of their parts, and the reads that are not closed after
 /// some nodes are those that the later part leaves of the earlier part's.
 pub fn parts_follow()
-    ensures stamps { (front back : List Entry) → stamps_in (front ++ back) ≡ stamps_in front ++ stamps_in back }
-    ensures items { (front back : List Entry) → forest_of (front ++ back) ≡ forest_of front ++ forest_of back }
-    ensures steps { (front back : List Entry) → steps_sum (front ++ back) ≡ steps_sum front + steps_sum back }
-    ensures unclosed { (front back : List Entry) (reads : Option (List ℕ)) → unclosed reads (front ++ back) ≡ unclosed (unclosed reads front) back }
+    ensures stamps { (front back : List Entry)
+        → stamps_in (front ++ back) ≡ stamps_in front ++ stamps_in back }
+    ensures items { (front back : List Entry)
+        → forest_of (front ++ back) ≡ forest_of front ++ forest_of back }
+    ensures steps { (front back : List Entry)
+        → steps_sum (front ++ back) ≡ steps_sum front + steps_sum back }
+    ensures unclosed { (front back : List Entry) (reads : Option (List ℕ))
+        → unclosed reads (front ++ back) ≡ unclosed (unclosed reads front) back }
 {}
 
 /// Laws of nodes that nest. A read of a trace that nests has an end, and parts the nodes into those before it, those
@@ -28,7 +33,8 @@ pub fn nodes_nest()
         → (p : Parted read t.nodes) × (end_in read t.nodes ≡ Some p.ends'.stamp) }
     ensures put { (before inside behind : List Entry) → Nests inside
         → Nests (before ++ (inside ++ behind)) ↔ Nests (before ++ behind) }
-    ensures plain { (e : Entry) → is_plain e.node ≡ true → is_read (Some e.node) ≡ false → Nests (e ∷ []) }
+    ensures plain { (e : Entry) → is_plain e.node ≡ true → is_read (Some e.node) ≡ false
+        → Nests (e ∷ []) }
     ensures read { (begin end : Entry) (inside : List Entry) → is_read (Some begin.node) ≡ true → ends begin.stamp end.node ≡ true
         → Nests inside → Nests (begin ∷ (inside ++ end ∷ [])) }
 {}

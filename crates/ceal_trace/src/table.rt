@@ -64,7 +64,8 @@ impl Table {
     pub fn take(&mut self, at: Stamp) -> Gone
         requires row { at.0 < length self.old.rows.items }
         requires there { IsSome (kept self.old at.0) }
-        requires read { (read : ℕ) (node : Node) → kept self.old at.0 ≡ Some node → ends read node ≡ true → read < length self.old.rows.items }
+        requires read { (read : ℕ) (node : Node) → kept self.old at.0 ≡ Some node
+            → ends read node ≡ true → read < length self.old.rows.items }
         ensures node { TakenFrom at.0 result.node self.old self.new }
         ensures steps { result.steps ≡ steps_of self.old at.0 }
     {

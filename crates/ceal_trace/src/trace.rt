@@ -103,8 +103,10 @@ impl Trace {
         requires here { IsTrue (has_node after.0 self.old.nodes) }
         requires room { 0 < self.old.spare }
         requires closed { NoLooseEnd self.old.nodes }
-        ensures nodes { self.new.nodes ≡ with_entry_after after.0 (new_entry result.0 (Alloc block key)) self.old.nodes }
-        ensures inserted { Inserted after.0 result.0 (Alloc block key) self.old.nodes self.new.nodes }
+        ensures nodes { self.new.nodes
+            ≡ with_entry_after after.0 (new_entry result.0 (Alloc block key)) self.old.nodes }
+        ensures inserted { Inserted after.0 result.0
+            (Alloc block key) self.old.nodes self.new.nodes }
         ensures spare { self.new.spare + 1 ≡ self.old.spare }
         ensures ends { (read : ℕ) → end_in read self.new.nodes ≡ end_in read self.old.nodes }
         ensures closed { NoLooseEnd self.new.nodes }
@@ -118,8 +120,10 @@ impl Trace {
         requires here { IsTrue (has_node after.0 self.old.nodes) }
         requires room { 0 < self.old.spare }
         requires closed { NoLooseEnd self.old.nodes }
-        ensures nodes { self.new.nodes ≡ with_entry_after after.0 (new_entry result.0 (Write place value)) self.old.nodes }
-        ensures inserted { Inserted after.0 result.0 (Write place value) self.old.nodes self.new.nodes }
+        ensures nodes { self.new.nodes
+            ≡ with_entry_after after.0 (new_entry result.0 (Write place value)) self.old.nodes }
+        ensures inserted { Inserted after.0 result.0
+            (Write place value) self.old.nodes self.new.nodes }
         ensures spare { self.new.spare + 1 ≡ self.old.spare }
         ensures ends { (read : ℕ) → end_in read self.new.nodes ≡ end_in read self.old.nodes }
         ensures closed { NoLooseEnd self.new.nodes }
@@ -141,8 +145,11 @@ impl Trace {
         requires here { IsTrue (has_node after.0 self.old.nodes) }
         requires room { 0 < self.old.spare }
         requires closed { NoLooseEnd self.old.nodes }
-        ensures nodes { self.new.nodes ≡ with_entry_after after.0 (new_entry result.0 (Read place value unit var args)) self.old.nodes }
-        ensures inserted { Inserted after.0 result.0 (Read place value unit var args) self.old.nodes self.new.nodes }
+        ensures nodes { self.new.nodes
+            ≡ with_entry_after after.0
+            (new_entry result.0 (Read place value unit var args)) self.old.nodes }
+        ensures inserted { Inserted after.0 result.0
+            (Read place value unit var args) self.old.nodes self.new.nodes }
         ensures spare { self.new.spare + 1 ≡ self.old.spare }
         ensures open { end_in result.0 self.new.nodes ≡ None }
         ensures ends { (read : ℕ) → end_in read self.new.nodes ≡ end_in read self.old.nodes }
@@ -165,7 +172,8 @@ impl Trace {
         requires room { 0 < self.old.spare }
         requires closed { NoLooseEnd self.old.nodes }
         requires plain { IsTrue (is_plain node) }
-        ensures nodes { self.new.nodes ≡ with_entry_after after.0 (new_entry result.0 node) self.old.nodes }
+        ensures nodes { self.new.nodes
+            ≡ with_entry_after after.0 (new_entry result.0 node) self.old.nodes }
         ensures inserted { Inserted after.0 result.0 node self.old.nodes self.new.nodes }
         ensures spare { self.new.spare + 1 ≡ self.old.spare }
         ensures open { end_in result.0 self.new.nodes ≡ None }
@@ -186,11 +194,13 @@ impl Trace {
         requires behind { position read.0 self.old.nodes ≤ position after.0 self.old.nodes }
         requires room { 0 < self.old.spare }
         requires closed { NoLooseEnd self.old.nodes }
-        ensures nodes { self.new.nodes ≡ with_entry_after after.0 (new_entry result.0 (End read)) self.old.nodes }
+        ensures nodes { self.new.nodes
+            ≡ with_entry_after after.0 (new_entry result.0 (End read)) self.old.nodes }
         ensures inserted { Inserted after.0 result.0 (End read) self.old.nodes self.new.nodes }
         ensures spare { self.new.spare + 1 ≡ self.old.spare }
         ensures finished { end_in read.0 self.new.nodes ≡ Some result.0 }
-        ensures ends { (other : ℕ) → other ≢ read.0 → end_in other self.new.nodes ≡ end_in other self.old.nodes }
+        ensures ends { (other : ℕ) → other ≢ read.0
+            → end_in other self.new.nodes ≡ end_in other self.old.nodes }
         ensures closed { NoLooseEnd self.new.nodes }
         ensures whole { IsTrace self.new }
     {
@@ -204,7 +214,8 @@ impl Trace {
     pub fn set_value(&mut self, read: Stamp, value: Word)
         requires read { IsTrue (is_read (node_at read.0 self.old.nodes)) }
         ensures nodes { self.new.nodes ≡ with_value read.0 value self.old.nodes }
-        ensures changed { node_at read.0 self.new.nodes ≡ option_map (valued value) (node_at read.0 self.old.nodes) }
+        ensures changed { node_at read.0 self.new.nodes
+            ≡ option_map (valued value) (node_at read.0 self.old.nodes) }
         ensures steps { steps_at read.0 self.new.nodes ≡ steps_at read.0 self.old.nodes }
         ensures others { SameBut read.0 self.old.nodes self.new.nodes }
         ensures sum { steps_sum self.new.nodes ≡ steps_sum self.old.nodes }
@@ -222,7 +233,8 @@ impl Trace {
         ensures changed { steps_at node.0 self.new.nodes ≡ steps }
         ensures node { node_at node.0 self.new.nodes ≡ node_at node.0 self.old.nodes }
         ensures others { SameBut node.0 self.old.nodes self.new.nodes }
-        ensures sum { steps_sum self.new.nodes + steps_at node.0 self.old.nodes ≡ steps_sum self.old.nodes + steps }
+        ensures sum { steps_sum self.new.nodes + steps_at node.0 self.old.nodes
+            ≡ steps_sum self.old.nodes + steps }
         ensures spare { self.new.spare ≡ self.old.spare }
         ensures closed { NoLooseEnd self.old.nodes → NoLooseEnd self.new.nodes }
         ensures whole { IsTrace self.new }
@@ -244,7 +256,8 @@ impl Trace {
         requires read { IsTrue (is_read (node_at read.0 self.now.nodes)) }
         ensures finished { IfSome result (λ end. end_in read.0 self.now.nodes ≡ Some end.0) }
         ensures there { IfSome result (λ end. IsTrue (has_node end.0 self.now.nodes)) }
-        ensures behind { IfSome result (λ end. position read.0 self.now.nodes < position end.0 self.now.nodes) }
+        ensures behind { IfSome result
+            (λ end. position read.0 self.now.nodes < position end.0 self.now.nodes) }
         ensures open { IfNone result (end_in read.0 self.now.nodes ≡ None) }
     {
         self.table.end(read)
@@ -259,13 +272,17 @@ impl Trace {
         ensures steps { result.steps ≡ steps_at stamp.0 self.old.nodes }
         ensures others { OneMoreNode stamp.0 self.new.nodes self.old.nodes }
         ensures spare { self.new.spare ≡ self.old.spare + 1 }
-        ensures opened { (read : ℕ) → IsTrue (ends read result.node) → end_in read self.new.nodes ≡ None }
-        ensures ends { (read : ℕ) → ends read result.node ≡ false → end_in read self.new.nodes ≡ end_in read self.old.nodes }
+        ensures opened { (read : ℕ) → IsTrue (ends read result.node)
+            → end_in read self.new.nodes ≡ None }
+        ensures ends { (read : ℕ) → ends read result.node ≡ false
+            → end_in read self.new.nodes ≡ end_in read self.old.nodes }
         ensures loose { NoLooseEnd self.old.nodes → LooseEndOf stamp.0 self.new.nodes }
-        ensures closed { NoLooseEnd self.old.nodes → end_in stamp.0 self.old.nodes ≡ None → NoLooseEnd self.new.nodes }
+        ensures closed { NoLooseEnd self.old.nodes → end_in stamp.0 self.old.nodes ≡ None
+            → NoLooseEnd self.new.nodes }
         ensures still { (read : ℕ) → LooseEndOf read self.old.nodes → ends read result.node ≡ false → end_in stamp.0 self.old.nodes ≡ None
             → LooseEndOf read self.new.nodes }
-        ensures mended { (read : ℕ) → LooseEndOf read self.old.nodes → IsTrue (ends read result.node) → NoLooseEnd self.new.nodes }
+        ensures mended { (read : ℕ) → LooseEndOf read self.old.nodes
+            → IsTrue (ends read result.node) → NoLooseEnd self.new.nodes }
         ensures whole { IsTrace self.new }
     {
         let gone = self.table.take(stamp);

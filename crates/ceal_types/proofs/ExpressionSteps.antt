@@ -8,14 +8,14 @@ use Rattle.ceal_base.specs.declared.kind.Kind.TheVariants.{Int}
 use Rattle.ceal_base.specs.declared.operators.Binary.{Binary as BinaryOp}
 use Rattle.ceal_base.specs.declared.operators.Unary.{Unary as UnaryOp}
 use Rattle.ceal_base.specs.declared.syntax.Expr.{Expr}
-use Rattle.ceal_base.specs.declared.syntax.ExprForm.{ExprForm, Num, Null, Var, Own, Unary', Binary', Field', Address', out-ExprForm}
+use Rattle.ceal_base.specs.declared.syntax.ExprForm.{ExprForm, Num, Null, Var, Own, Unary', Binary', Field', Address', Pick', out-ExprForm}
 use Rattle.ceal_base.specs.declared.syntax.ExprForm.TheBlock.{hidden-the_row-Expr-0, shape-the_row-Expr-0, shown-the_row-Expr-0, more_of-Expr}
 use Rattle.ceal_base.specs.declared.syntax.ExprForm.TheOpen.{ExprForm-F, Field as FieldOpen}
-use Rattle.ceal_base.specs.declared.syntax.ExprForm.TheViews.{Unary, Binary, Field, Address}
+use Rattle.ceal_base.specs.declared.syntax.ExprForm.TheViews.{Unary, Binary, Field, Address, Pick}
 use Rattle.ceal_base.specs.declared.syntax.Ident.{Ident}
 use Rattle.ceal_base.specs.declared.typed.TypedExpr.{TypedExpr}
 use Rattle.ceal_base.specs.declared.typed.TypedForm.{Num as NumForm, Null as NullForm}
-use Rattle.ceal_types.specs.Expressions.{Scope, typed_form, typed_expr, expression, variable_at, own_at, unary_at, binary_at, field_at, address_at, no_address}
+use Rattle.ceal_types.specs.Expressions.{Scope, typed_form, typed_expr, expression, variable_at, own_at, unary_at, binary_at, field_at, address_at, no_address, pick_at, no_pick}
 use Rattle.ceal_types.specs.Walk.{after, both}
 use Rattle.ceal_types.specs.declared.program.Program.{Program}
 
@@ -28,6 +28,11 @@ access_of _ = None
 abbrev addressed : Program → Option ℕ → Scope → Span → Expr → Option (Expr × Ident) → Result TypedExpr Fault
 addressed p own scope at e (Some f) = after (address_at p.structs at f.1) (typed_expr p own scope f.0)
 addressed p own scope at e None = after no_address (typed_expr p own scope e)
+
+-- `&` of an index behind a field access, or behind what is none
+abbrev indexed : Program → Option ℕ → Scope → Span → Expr → Expr → Option (Expr × Ident) → Result TypedExpr Fault
+indexed p own scope at e i (Some f) = both (pick_at p.structs at f.1) (typed_expr p own scope f.0) (typed_expr p own scope i)
+indexed p own scope at e i None = both no_pick (typed_expr p own scope e) (typed_expr p own scope i)
 
 module _ (p : Program) (own : Option ℕ) (scope : Scope) (at : Span) where
   pub type-num : (n : ℤ) → typed_form p own scope at (Num n) ≡ Ok (expression at (Some Int) (NumForm n))
@@ -70,6 +75,7 @@ module _ (p : Program) (own : Option ℕ) (scope : Scope) (at : Span) where
   type-address-form span (Binary' op sign _ a _ b) = refl
   type-address-form span (Field' _ (more_of-Expr s form rest) name) = refl
   type-address-form span (Address' _ a) = refl
+  type-address-form span (Pick' _ a _ i) = refl
 
   pub type-address : (a : Expr) → typed_form p own scope at (Address a) ≡ addressed p own scope at a (access_of (out-ExprForm a.form))
   unfolding typed_form hidden-the_row-Expr-0 shape-the_row-Expr-0 denote.Hole.Carrier.hidden
@@ -80,4 +86,26 @@ module _ (p : Program) (own : Option ℕ) (scope : Scope) (at : Span) where
   unfolding typed_form hidden-the_row-Expr-0 shape-the_row-Expr-0 denote.Hole.Carrier.hidden denote.Hole.Carrier.out out-ExprForm
   type-place e a name is = rw is refl
 
-pub ruleset expression_steps = (type-num, type-null, type-var, type-own, type-unary, type-binary, type-field, type-address)
+  type-pick-form : (span : Span) (form : ExprForm) (i : Expr) → typed_form p own scope at (Pick (record { span = span; form = form }) i)
+      ≡ indexed p own scope at (record { span = span; form = form }) i (access_of (out-ExprForm form))
+  unfolding typed_form hidden-the_row-Expr-0 shape-the_row-Expr-0 denote.Hole.Carrier.hidden denote.Hole.Carrier.out out-ExprForm shown-the_row-Expr-0 denote.Hole.Carrier.shown
+  type-pick-form span (Num n) i = refl
+  type-pick-form span Null i = refl
+  type-pick-form span (Var name) i = refl
+  type-pick-form span Own i = refl
+  type-pick-form span (Unary' op _ a) i = refl
+  type-pick-form span (Binary' op sign _ a _ b) i = refl
+  type-pick-form span (Field' _ (more_of-Expr s form rest) name) i = refl
+  type-pick-form span (Address' _ a) i = refl
+  type-pick-form span (Pick' _ a _ b) i = refl
+
+  pub type-pick : (a i : Expr) → typed_form p own scope at (Pick a i) ≡ indexed p own scope at a i (access_of (out-ExprForm a.form))
+  unfolding typed_form hidden-the_row-Expr-0 shape-the_row-Expr-0 denote.Hole.Carrier.hidden
+  type-pick a i = type-pick-form a.span a.form i
+
+  pub type-element : (e i a : Expr) (name : Ident) → e.form ≡ Field a name
+      → typed_form p own scope at (Pick e i) ≡ both (pick_at p.structs at name) (typed_expr p own scope a) (typed_expr p own scope i)
+  unfolding typed_form hidden-the_row-Expr-0 shape-the_row-Expr-0 denote.Hole.Carrier.hidden denote.Hole.Carrier.out out-ExprForm
+  type-element e i a name is = rw is refl
+
+pub ruleset expression_steps = (type-num, type-null, type-var, type-own, type-unary, type-binary, type-field, type-address, type-pick)

@@ -1,9 +1,10 @@
 -- An expression that the walk gives is well typed.
-use Rattle.std.proofs.Common.{◌≡◌, ℕ, arith, true, Option, Some, None, Result, Ok, List, [], All, Contains, map, slice_get, refl, if◌then◌else◌}
+use Rattle.std.proofs.Common.{◌≡◌, ℕ, ◌<◌, ◌==◌, arith, true, false, Option, Some, None, Result, Ok, List, [], All, Contains, map, slice_get, refl, if◌then◌else◌}
 use Rattle.std.specs.Prelude.{IfOk, IfSome}
 use Rattle.std.specs.Map.{lookup}
 use Rattle.std.specs.Str.{bytes_eq}
 use Rattle.std.proofs.lemmas.Map.Entries.{All-lookup}
+use Rattle.ceal_base.specs.Shapes.{row_at}
 use Rattle.ceal_base.specs.WellTyped.{Context, FormTyped, ExprTyped, field_kind}
 use Rattle.ceal_base.specs.declared.fault.Fault.{Fault}
 use Rattle.ceal_base.specs.declared.fault.FaultCode.TheVariants.{T1}
@@ -13,26 +14,28 @@ use Rattle.ceal_base.specs.declared.kind.FieldKind.TheVariants.{Plain, CellInt, 
 use Rattle.ceal_base.specs.declared.kind.Kind.{Kind}
 use Rattle.ceal_base.specs.declared.kind.Kind.TheVariants.{Int, Ptr, ModInt, ModPtr}
 use Rattle.ceal_base.specs.declared.operators.Binary.{Binary as BinaryOp}
-use Rattle.ceal_base.specs.declared.operators.Binary.TheVariants.{Add, Sub, Mul, Div, Rem, Less, LessEq, More, MoreEq, Same, Differ, And, Or}
+use Rattle.ceal_base.specs.declared.operators.Binary.TheVariants.{Add, Sub, Mul, Div, Rem, Less, LessEq, More, MoreEq, Same, Differ, And, Or, Pick}
 use Rattle.ceal_base.specs.declared.operators.Unary.{Unary as UnaryOp}
 use Rattle.ceal_base.specs.declared.syntax.Expr.{Expr}
-use Rattle.ceal_base.specs.declared.syntax.ExprForm.{ExprForm, Num, Null, Var, Own, Unary', Binary', Field', Address'}
+use Rattle.ceal_base.specs.declared.syntax.ExprForm.{ExprForm, Num, Null, Var, Own, Unary', Binary', Field', Address', Pick'}
 use Rattle.ceal_base.specs.declared.syntax.ExprForm.TheBlock.{Row_of-Expr, end_of-Expr, more_of-Expr}
 use Rattle.ceal_base.specs.declared.syntax.Ident.{Ident}
 use Rattle.ceal_base.specs.declared.typed.TypedExpr.{TypedExpr}
+use Rattle.ceal_base.specs.declared.typed.TypedForm.TheViews as typed
 use Rattle.ceal_base.specs.declared.typed.TypedForm.TheBlock.{hidden-the_row-TypedExpr-0, shape-the_row-TypedExpr-0}
 use Rattle.ceal_base.specs.declared.typed.TypedFunction.{TypedFunction}
 use Rattle.ceal_types.specs.Checked.{struct_info}
-use Rattle.ceal_types.specs.Expressions.{Scope, Fields, typed_form, typed_operand, typed_expr, typed_exprs, with_expr, condition, variable_at, own_at, int_asked, unary_at, unary_of, binary_at, binary_of, compared, computed, field_named, field_of_struct, member_of, member, value_of_field, field_of, field_at, place_of_field, address_of, address_at, no_address}
+use Rattle.ceal_types.specs.Expressions.{Scope, Fields, typed_form, typed_operand, typed_expr, typed_exprs, with_expr, condition, variable_at, own_at, int_asked, unary_at, unary_of, binary_at, binary_of, compared, computed, expression, found_or, field_or_row, no_pick, element_of, element_of_row, pick_of_kind, pick_of, pick_at, field_named, field_of_struct, member_of, member, value_of_field, field_of, field_at, place_of_field, address_of, address_at, no_address}
 use Rattle.ceal_types.specs.Kinds.{suits, comparable}
-use Rattle.ceal_types.specs.Tables.{Name, find, value_at}
-use Rattle.ceal_types.specs.Walk.{fault, after, at_end}
+use Rattle.ceal_types.specs.Tables.{Name, find, value_at, element_name}
+use Rattle.ceal_types.specs.Walk.{fault, after, both, at_end}
+use Rattle.ceal_types.specs.declared.program.Field.{Field}
 use Rattle.ceal_types.specs.declared.program.Member.{Member}
 use Rattle.ceal_types.specs.declared.program.Program.{Program}
 use Rattle.ceal_types.specs.declared.program.Variable.{Variable}
 use Rattle.ceal_types.proofs.KeepLemmas.{after-keeps, mapped-keeps, both-keeps, if-keeps, turn-keeps}
 use Rattle.ceal_types.proofs.KindLemmas.{int-suited, compared-kinds}
-use Rattle.ceal_types.proofs.PlaceLemmas.{find-place, field-place}
+use Rattle.ceal_types.proofs.PlaceLemmas.{find-place, field-place, row-place}
 use Rattle.std.proofs.lemmas.List.Elements.{All-push}
 
 abbrev pub VariableGood : List ℕ → List Kind → Variable → Type 0
@@ -49,16 +52,25 @@ around p fs own kinds = record { structs = map struct_info p.structs; functions 
 pub record MemberGood (structs : List (Name × Fields)) (kind : Option Kind) (m : Member) : Type 0 where
   pub left : kind ≡ Some (Ptr m.shape)
   pub there : field_kind (map struct_info structs) m.shape m.field ≡ Some m.kind
+  pub row : row_at (map struct_info structs) m.shape m.field ≡ Some m.row
 
 module _ (structs : List (Name × Fields)) (name : Ident) where
-  named-good : (s : ℕ) (fields : Fields) → value_at structs s ≡ Some fields → (f : Option (ℕ × FieldKind))
+  named-good : (s : ℕ) (fields : Fields) → value_at structs s ≡ Some fields → (f : Option (ℕ × Field))
       → IfSome f (λ g. value_at fields g.0 ≡ Some g.1) → IfOk (field_named name s f) (MemberGood structs (Some (Ptr s)))
   named-good s fields there None h = tt
-  named-good s fields there (Some g) h = record { left = refl; there = field-place structs s fields g.0 g.1 there h }
+  named-good s fields there (Some g) h =
+      record { left = refl; there = field-place structs s fields g.0 g.1 there h; row = row-place structs s fields g.0 g.1 there h }
+
+  either-place : (fields : Fields) (f g : Option (ℕ × Field)) → IfSome f (λ h. value_at fields h.0 ≡ Some h.1) → IfSome g (λ h. value_at fields h.0 ≡ Some h.1)
+      → IfSome (found_or f g) (λ h. value_at fields h.0 ≡ Some h.1)
+  either-place fields None g h k = k
+  either-place fields (Some f) g h k = h
 
   struct-good : (s : ℕ) (o : Option Fields) → value_at structs s ≡ o → IfOk (field_of_struct name s o) (MemberGood structs (Some (Ptr s)))
   struct-good s None there = tt
-  struct-good s (Some fields) there = named-good s fields there (find fields name.text) (find-place fields name.text)
+  struct-good s (Some fields) there =
+      named-good s fields there (field_or_row fields name.text)
+      (either-place fields (find fields name.text) (find fields (element_name name.text 0)) (find-place fields name.text) (find-place fields (element_name name.text 0)))
 
   kind-good : (at : Span) (kind : Option Kind) → IfOk (member_of structs at name kind) (MemberGood structs kind)
   kind-good at None = tt
@@ -104,19 +116,20 @@ module _ (p : Program) (fs : List TypedFunction) (own : Option ℕ) (kinds : Lis
 
   binary-typed : (at : Span) (op : BinaryOp) (sign : Span) (a b : TypedExpr) → Good a → Good b → IfOk (binary_at at op sign a b) Good
   unfolding FormTyped hidden-the_row-TypedExpr-0 shape-the_row-TypedExpr-0 denote.Hole.Carrier.hidden
-  binary-typed at Same sign a b h k = compared-typed at Same sign a b h k (λ c. (h, k, compared-kinds a.kind b.kind c, refl))
-  binary-typed at Differ sign a b h k = compared-typed at Differ sign a b h k (λ c. (h, k, compared-kinds a.kind b.kind c, refl))
-  binary-typed at Add sign a b h k = computed-typed at Add sign a b (λ x y. (h, k, (x, y), refl))
-  binary-typed at Sub sign a b h k = computed-typed at Sub sign a b (λ x y. (h, k, (x, y), refl))
-  binary-typed at Mul sign a b h k = computed-typed at Mul sign a b (λ x y. (h, k, (x, y), refl))
-  binary-typed at Div sign a b h k = computed-typed at Div sign a b (λ x y. (h, k, (x, y), refl))
-  binary-typed at Rem sign a b h k = computed-typed at Rem sign a b (λ x y. (h, k, (x, y), refl))
-  binary-typed at Less sign a b h k = computed-typed at Less sign a b (λ x y. (h, k, (x, y), refl))
-  binary-typed at LessEq sign a b h k = computed-typed at LessEq sign a b (λ x y. (h, k, (x, y), refl))
-  binary-typed at More sign a b h k = computed-typed at More sign a b (λ x y. (h, k, (x, y), refl))
-  binary-typed at MoreEq sign a b h k = computed-typed at MoreEq sign a b (λ x y. (h, k, (x, y), refl))
-  binary-typed at And sign a b h k = computed-typed at And sign a b (λ x y. (h, k, (x, y), refl))
-  binary-typed at Or sign a b h k = computed-typed at Or sign a b (λ x y. (h, k, (x, y), refl))
+  binary-typed at Same sign a b h k = compared-typed at Same sign a b h k (λ c. (h, k, compared-kinds a.kind b.kind c, tt, refl))
+  binary-typed at Differ sign a b h k = compared-typed at Differ sign a b h k (λ c. (h, k, compared-kinds a.kind b.kind c, tt, refl))
+  binary-typed at Add sign a b h k = computed-typed at Add sign a b (λ x y. (h, k, (x, y), tt, refl))
+  binary-typed at Sub sign a b h k = computed-typed at Sub sign a b (λ x y. (h, k, (x, y), tt, refl))
+  binary-typed at Mul sign a b h k = computed-typed at Mul sign a b (λ x y. (h, k, (x, y), tt, refl))
+  binary-typed at Div sign a b h k = computed-typed at Div sign a b (λ x y. (h, k, (x, y), tt, refl))
+  binary-typed at Rem sign a b h k = computed-typed at Rem sign a b (λ x y. (h, k, (x, y), tt, refl))
+  binary-typed at Less sign a b h k = computed-typed at Less sign a b (λ x y. (h, k, (x, y), tt, refl))
+  binary-typed at LessEq sign a b h k = computed-typed at LessEq sign a b (λ x y. (h, k, (x, y), tt, refl))
+  binary-typed at More sign a b h k = computed-typed at More sign a b (λ x y. (h, k, (x, y), tt, refl))
+  binary-typed at MoreEq sign a b h k = computed-typed at MoreEq sign a b (λ x y. (h, k, (x, y), tt, refl))
+  binary-typed at And sign a b h k = computed-typed at And sign a b (λ x y. (h, k, (x, y), tt, refl))
+  binary-typed at Or sign a b h k = computed-typed at Or sign a b (λ x y. (h, k, (x, y), tt, refl))
+  binary-typed at (Pick row) sign a b h k = tt
 
   value-typed : (at : Span) (name : Ident) (e : TypedExpr) (s field : ℕ) (kind : FieldKind) → Good e → e.kind ≡ Some (Ptr s)
       → field_kind (map struct_info p.structs) s field ≡ Some kind → IfOk (value_of_field at name e s field kind) Good
@@ -142,7 +155,35 @@ module _ (p : Program) (fs : List TypedFunction) (own : Option ℕ) (kinds : Lis
   unfolding address_at
   address-typed at name e h =
       after-keeps (MemberGood p.structs e.kind) Good (address_of at name e) (member p.structs name e) (member-good p.structs name e)
-      (λ m k. place-typed at name e m.shape m.field m.kind h k.left k.there)
+      (λ m k. if-keeps Good (m.row == 0) (place_of_field at name e m.shape m.field m.kind) (fault T1 name.span)
+      (λ b. place-typed at name e m.shape m.field m.kind h k.left k.there) (λ b. tt))
+
+  element-typed : (at : Span) (name : Ident) (kind : Kind) (e i : TypedExpr) (m : Member) → Good (expression at (Some kind) (typed.Address e m.shape m.field)) → Good i
+      → row_at (map struct_info p.structs) m.shape m.field ≡ Some m.row → IfOk (element_of_row at name kind e i m) Good
+  unfolding FormTyped hidden-the_row-TypedExpr-0 shape-the_row-TypedExpr-0 denote.Hole.Carrier.hidden
+  element-typed at name kind e i m h k row =
+      if-keeps Good (m.row == 0) (fault T1 name.span) (element_of at name kind (expression at (Some kind) (typed.Address e m.shape m.field)) i m.row) (λ b. tt)
+      (λ some. if-keeps Good (suits Int i.kind) (Ok (expression at (Some kind) (typed.Binary (Pick m.row) name.span (expression at (Some kind) (typed.Address e m.shape m.field)) i))) (fault T1 i.span)
+      (λ b. (h, k, (refl, int-suited i.kind b), (positive m.row some, row), refl)) (λ n. tt))
+    where
+      positive : (n : ℕ) → (n == 0) ≡ false → 0 < n
+      positive n q = grind (arith, q)
+
+  pick-kind-typed : (at : Span) (name : Ident) (e i : TypedExpr) (m : Member) (kind : FieldKind) → Good e → Good i → MemberGood p.structs e.kind m → m.kind ≡ kind
+      → IfOk (pick_of_kind at name e i m kind) Good
+  unfolding FormTyped hidden-the_row-TypedExpr-0 shape-the_row-TypedExpr-0 denote.Hole.Carrier.hidden
+  pick-kind-typed at name e i m (Plain kind) h k g is = tt
+  pick-kind-typed at name e i m CellInt h k g is = element-typed at name ModInt e i m (h, g.left, refl, rw (g.there, is) refl) k g.row
+  pick-kind-typed at name e i m (CellPtr t) h k g is = element-typed at name (ModPtr t) e i m (h, g.left, refl, rw (g.there, is) refl) k g.row
+
+  pick-typed : (at : Span) (name : Ident) (e i : TypedExpr) → Good e → Good i → IfOk (pick_at p.structs at name e i) Good
+  unfolding pick_at
+  pick-typed at name e i h k =
+      after-keeps (MemberGood p.structs e.kind) Good (pick_of at name e i) (member p.structs name e) (member-good p.structs name e)
+      (λ m g. pick-kind-typed at name e i m m.kind h k g refl)
+
+  none-picked : (r q : Result TypedExpr Fault) → IfOk r Good → IfOk q Good → IfOk (both no_pick r q) Good
+  none-picked r q h k = both-keeps Good Good Good no_pick r q h k (λ e i g l. tt)
 
   none-typed : (r : Result TypedExpr Fault) → IfOk r Good → IfOk (after no_address r) Good
   none-typed r h = after-keeps Good Good no_address r h (λ e k. tt)
@@ -163,6 +204,9 @@ module _ (p : Program) (fs : List TypedFunction) (own : Option ℕ) (kinds : Lis
       form-typed at (Address' _ (more_of-Expr span (Field' _ a name) rest)) =
           after-keeps Good Good (address_at p.structs at name) (typed_operand p own scope a) (operand-typed a) (address-typed at name)
       form-typed at (Address' _ a) = none-typed (typed_operand p own scope a) (operand-typed a)
+      form-typed at (Pick' _ (more_of-Expr span (Field' _ a name) rest) _ i) =
+          both-keeps Good Good Good (pick_at p.structs at name) (typed_operand p own scope a) (typed_operand p own scope i) (operand-typed a) (operand-typed i) (pick-typed at name)
+      form-typed at (Pick' _ a _ i) = none-picked (typed_operand p own scope a) (typed_operand p own scope i) (operand-typed a) (operand-typed i)
 
       operand-typed : {n : _} → (a : Row_of-Expr n) → IfOk (typed_operand p own scope a) Good
       operand-typed end_of-Expr = refl

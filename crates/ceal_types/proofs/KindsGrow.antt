@@ -3,7 +3,7 @@ use Rattle.std.proofs.Common.{ℕ, Option, Result, List, length}
 use Rattle.std.specs.Prelude.{IfOk}
 use Rattle.ceal_base.specs.declared.fault.Fault.{Fault}
 use Rattle.ceal_base.specs.declared.fault.FaultCode.TheVariants.{N2}
-use Rattle.ceal_base.specs.declared.syntax.Stmt.{Stmt, Declare, Assign, SetField, Write, Call, If', While', Return}
+use Rattle.ceal_base.specs.declared.syntax.Stmt.{Stmt, Declare, Assign, SetField, Write, Call, If', While', Return, Break, Continue}
 use Rattle.ceal_base.specs.declared.syntax.Stmt.{Row_of-Stmt, end_of-Stmt, more_of-Stmt}
 use Rattle.ceal_base.specs.declared.typed.TypedStmt.{TypedStmt}
 use Rattle.ceal_types.specs.Expressions.{condition}
@@ -59,6 +59,8 @@ module _ (p : Program) (own : Option ℕ) where
         (λ t u. mapped-keeps (BlockGrows v) (StepGrows v) (looped at t) (nested (typed_row p own body) v)
         (nested-grows v (typed_row p own body) (row-grows body v)) (λ b h. h))
     stmt-grows (Return at) v = grows-same v.kinds
+    stmt-grows (Break at) v = grows-same v.kinds
+    stmt-grows (Continue at) v = grows-same v.kinds
 
     row-grows : {n : _} → (row : Row_of-Stmt n) (v : Variables) (b : Block) → BlockGrows v b → IfOk (typed_row p own row b) (BlockGrows v)
     row-grows end_of-Stmt v b h = h

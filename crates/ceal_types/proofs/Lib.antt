@@ -16,3 +16,5 @@ pub mod StatementSteps
 pub mod ArgumentLemmas
 pub mod NameLemmas
 pub mod Samples
+pub mod RowLemmas
+pub mod ElementLemmas

@@ -5,11 +5,11 @@ use Rattle.ceal_base.specs.declared.syntax.Expr.{Expr}
 use Rattle.ceal_base.specs.declared.syntax.Ident.{Ident}
 use Rattle.ceal_base.specs.declared.syntax.Stmt.{Stmt}
 use Rattle.ceal_base.specs.declared.syntax.Stmt.TheBlock.{hidden-the_row-Stmt-0, shape-the_row-Stmt-0}
-use Rattle.ceal_base.specs.declared.syntax.Stmt.TheVariants.{Declare, Assign, SetField, Write, Call, Return}
+use Rattle.ceal_base.specs.declared.syntax.Stmt.TheVariants.{Declare, Assign, SetField, Write, Call, Return, Break, Continue}
 use Rattle.ceal_base.specs.declared.syntax.Stmt.TheViews.{If, While}
 use Rattle.ceal_base.specs.declared.syntax.TypeForm.{TypeForm}
 use Rattle.ceal_base.specs.declared.syntax.Value.{Value}
-use Rattle.ceal_base.specs.declared.typed.TypedStmt.{Return as ReturnTyped}
+use Rattle.ceal_base.specs.declared.typed.TypedStmt.{Return as ReturnTyped, Break as BreakTyped, Continue as ContinueTyped}
 use Rattle.ceal_types.specs.Expressions.{condition}
 use Rattle.ceal_types.specs.Heads.{kind_of}
 use Rattle.ceal_types.specs.Statements.{Block, step, still, nested, declare, assign, set_field, write, call, branch, loop, typed_stmt, typed_row, typed_stmts, with_step}
@@ -63,4 +63,13 @@ module _ (p : Program) (own : Option ℕ) (v : Variables) where
   unfolding typed_stmt
   stmt-return at = refl
 
-pub ruleset statement_steps = (stmt-declare, stmt-assign, stmt-set, stmt-write, stmt-call, stmt-if, stmt-while, stmt-return)
+  pub stmt-break : (at : Span) → typed_stmt p own (Break at) v ≡ Ok (step (BreakTyped at) v)
+  unfolding typed_stmt
+  stmt-break at = refl
+
+  pub stmt-continue : (at : Span) → typed_stmt p own (Continue at) v ≡ Ok (step (ContinueTyped at) v)
+  unfolding typed_stmt
+  stmt-continue at = refl
+
+pub ruleset statement_steps =
+    (stmt-declare, stmt-assign, stmt-set, stmt-write, stmt-call, stmt-if, stmt-while, stmt-return, stmt-break, stmt-continue)

@@ -16,14 +16,14 @@ use Rattle.ceal_base.specs.declared.kind.Kind.{Kind}
 use Rattle.ceal_base.specs.declared.kind.Kind.TheVariants.{Int}
 use Rattle.ceal_base.specs.declared.syntax.Expr.{Expr}
 use Rattle.ceal_base.specs.declared.syntax.Ident.{Ident}
-use Rattle.ceal_base.specs.declared.syntax.Stmt.{Stmt, Declare, Assign, SetField, Write, Call, If', While', Return}
+use Rattle.ceal_base.specs.declared.syntax.Stmt.{Stmt, Declare, Assign, SetField, Write, Call, If', While', Return, Break, Continue}
 use Rattle.ceal_base.specs.declared.syntax.Stmt.{Row_of-Stmt, end_of-Stmt, more_of-Stmt}
 use Rattle.ceal_base.specs.declared.syntax.Value.{Value}
 use Rattle.ceal_base.specs.declared.typed.StructInfo.{StructInfo}
 use Rattle.ceal_base.specs.declared.typed.TypedExpr.{TypedExpr}
 use Rattle.ceal_base.specs.declared.typed.TypedFunction.{TypedFunction}
 use Rattle.ceal_base.specs.declared.typed.TypedStmt.{TypedStmt}
-use Rattle.ceal_base.specs.declared.typed.TypedStmt.{SetField as SetTyped, Write as WriteTyped, Return as ReturnTyped}
+use Rattle.ceal_base.specs.declared.typed.TypedStmt.{SetField as SetTyped, Write as WriteTyped, Return as ReturnTyped, Break as BreakTyped, Continue as ContinueTyped}
 use Rattle.ceal_base.specs.declared.typed.TypedStmt.TheBlock.{hidden-the_row-TypedStmt-0, shape-the_row-TypedStmt-0}
 use Rattle.ceal_base.specs.declared.typed.TypedValue.{TypedValue}
 use Rattle.ceal_types.specs.Checked.{struct_info}
@@ -342,6 +342,30 @@ module _ (p : Program) (fs : List TypedFunction) (own : Option ℕ) (heads : Hea
     typed = λ more g. tt;
   }
 
+  break-good : (v : Variables) (seen : List ℕ) (at : Span) → All (KindKnown structs) v.kinds → ScopeGood v.scope seen v.kinds
+      → StepGood v seen (step (BreakTyped at) v)
+  unfolding StmtTyped declarations
+  break-good v seen at known good = record {
+    kinds = grows-same v.kinds;
+    count = omega arith;
+    known = known;
+    scope = grows-same v.scope;
+    good = good;
+    typed = λ more g. tt;
+  }
+
+  continue-good : (v : Variables) (seen : List ℕ) (at : Span) → All (KindKnown structs) v.kinds → ScopeGood v.scope seen v.kinds
+      → StepGood v seen (step (ContinueTyped at) v)
+  unfolding StmtTyped declarations
+  continue-good v seen at known good = record {
+    kinds = grows-same v.kinds;
+    count = omega arith;
+    known = known;
+    scope = grows-same v.scope;
+    good = good;
+    typed = λ more g. tt;
+  }
+
   mutual
     unfolding typed_stmt
 
@@ -376,6 +400,8 @@ module _ (p : Program) (fs : List TypedFunction) (own : Option ℕ) (heads : Hea
         (nested-good v seen (typed_row p own body) known good (row-good body v seen))
         (λ b k. while-good v seen at t b good h k))
     stmt-good (Return at) v seen known good = return-good v seen at known good
+    stmt-good (Break at) v seen known good = break-good v seen at known good
+    stmt-good (Continue at) v seen known good = continue-good v seen at known good
 
     row-good : {n : _} → (row : Row_of-Stmt n) (v : Variables) (seen : List ℕ) (b : Block) → BlockGood v seen b → IfOk (typed_row p own row b) (BlockGood v seen)
     row-good end_of-Stmt v seen b h = h

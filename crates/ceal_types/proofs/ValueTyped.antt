@@ -61,6 +61,8 @@ module _ (names : List Name) (structs : List StructInfo) (all : length names ≤
   kind-known (forms.ModPtr name) = mapped-keeps (λ n. n < length structs) (KindKnown structs) ModPtr (struct_number names name) (struct-known name) (λ n h. h)
   kind-known forms.CellInt = tt
   kind-known (forms.CellPtr name) = mapped-keeps (λ n. n < length structs) (KindKnown structs) ModPtr (struct_number names name) (struct-known name) (λ n h. h)
+  kind-known (forms.CellRow row) = tt
+  kind-known (forms.CellPtrRow name row) = mapped-keeps (λ n. n < length structs) (KindKnown structs) ModPtr (struct_number names name) (struct-known name) (λ n h. h)
 
 -- as many arguments as parameters, of their types
 args-suit : (kinds : List Kind) (es : List TypedExpr) → length es ≡ length kinds → IfOk (arguments_suit kinds es) (λ u. ArgsSuit kinds es)

@@ -3,7 +3,6 @@
 -- modifiables (Hammer, Acar and Chen, PLDI 2009); the faults and the order of the walk are this project's own.
 use Rattle.std.specs.Prelude.{Result, Ok, List, [], length, map}
 use Rattle.ceal_base.specs.declared.fault.Fault.{Fault}
-use Rattle.ceal_base.specs.declared.kind.FieldKind.{FieldKind}
 use Rattle.ceal_base.specs.declared.syntax.Entry.{Entry}
 use Rattle.ceal_base.specs.declared.syntax.Entry.TheVariants.{Struct, Function}
 use Rattle.ceal_base.specs.declared.syntax.FunctionDecl.{FunctionDecl}
@@ -17,6 +16,7 @@ use Rattle.ceal_types.specs.Heads.{head_of, heads}
 use Rattle.ceal_types.specs.Statements.{Block, nested, typed_stmts}
 use Rattle.ceal_types.specs.Tables.{Name}
 use Rattle.ceal_types.specs.Walk.{after, mapped, in_turn, at_end}
+use Rattle.ceal_types.specs.declared.program.Field.{Field}
 use Rattle.ceal_types.specs.declared.program.Head.{Head}
 use Rattle.ceal_types.specs.declared.program.Program.{Program}
 
@@ -41,8 +41,8 @@ unfoldable pub with_body : Program → Entry → List TypedFunction → Result (
 with_body p (Struct s) fs = Ok fs
 with_body p (Function f) fs = mapped (at_end fs) (typed_function p f)
 
-abbrev pub field_info : Name × FieldKind → FieldInfo
-field_info f = record { name = f.0; kind = f.1 }
+abbrev pub field_info : Name × Field → FieldInfo
+field_info f = record { name = f.0; kind = f.1.kind; row = f.1.row }
 
 abbrev pub struct_info : Name × Fields → StructInfo
 struct_info s = record { name = s.0; fields = map field_info s.1 }

@@ -1,5 +1,5 @@
 -- The types of expressions. Each rule has the fault that comes where it does not hold.
-use Rattle.std.specs.Prelude.{ℕ, Option, Some, None, Result, Ok, List, [], if◌then◌else◌}
+use Rattle.std.specs.Prelude.{ℕ, ◌==◌, Option, Some, None, Result, Ok, List, [], if◌then◌else◌}
 use Rattle.std.specs.Map.{lookup}
 use Rattle.std.specs.Str.{bytes_eq}
 use Rattle.ceal_base.specs.declared.fault.Fault.{Fault}
@@ -10,25 +10,26 @@ use Rattle.ceal_base.specs.declared.kind.FieldKind.TheVariants.{Plain, CellInt, 
 use Rattle.ceal_base.specs.declared.kind.Kind.{Kind}
 use Rattle.ceal_base.specs.declared.kind.Kind.TheVariants.{Int, Ptr, ModInt, ModPtr}
 use Rattle.ceal_base.specs.declared.operators.Binary.{Binary as BinaryOp}
-use Rattle.ceal_base.specs.declared.operators.Binary.TheVariants.{Same, Differ}
+use Rattle.ceal_base.specs.declared.operators.Binary.TheVariants.{Same, Differ, Pick}
 use Rattle.ceal_base.specs.declared.operators.Unary.{Unary as UnaryOp}
 use Rattle.ceal_base.specs.declared.syntax.Expr.{Expr}
 use Rattle.ceal_base.specs.declared.syntax.ExprForm.TheBlock.{Row_of-Expr, end_of-Expr, more_of-Expr}
-use Rattle.ceal_base.specs.declared.syntax.ExprForm.{ExprForm, Num, Null, Var, Own, Unary', Binary', Field', Address'}
+use Rattle.ceal_base.specs.declared.syntax.ExprForm.{ExprForm, Num, Null, Var, Own, Unary', Binary', Field', Address', Pick'}
 use Rattle.ceal_base.specs.declared.syntax.Ident.{Ident}
 use Rattle.ceal_base.specs.declared.typed.TypedExpr.{TypedExpr}
 use Rattle.ceal_base.specs.declared.typed.TypedForm.{TypedForm}
 use Rattle.ceal_base.specs.declared.typed.TypedForm.{Num as NumForm, Null as NullForm, Var as VarForm, Own as OwnForm}
 use Rattle.ceal_base.specs.declared.typed.TypedForm.TheViews as typed
 use Rattle.ceal_types.specs.Kinds.{suits, comparable}
-use Rattle.ceal_types.specs.Tables.{Name, find, value_at}
+use Rattle.ceal_types.specs.Tables.{Name, find, value_at, element_name}
 use Rattle.ceal_types.specs.Walk.{fault, after, mapped, both, in_turn, at_end}
+use Rattle.ceal_types.specs.declared.program.Field.{Field}
 use Rattle.ceal_types.specs.declared.program.Program.{Program}
 use Rattle.ceal_types.specs.declared.program.Variable.{Variable}
 use Rattle.ceal_types.specs.declared.program.Member.{Member}
 
 abbrev pub Fields : Type 0
-Fields = List (Name × FieldKind)
+Fields = List (Name × Field)
 
 abbrev pub Scope : Type 0
 Scope = List (Name × Variable)
@@ -66,22 +67,38 @@ computed at op sign a b =
     if suits Int a.kind then (if suits Int b.kind then Ok (binary_of at op sign a b) else fault T1 b.span)
     else fault T1 a.span
 
+-- an index behind what is no field access; no source text has it as an operator
+abbrev pub no_pick : TypedExpr → TypedExpr → Result TypedExpr Fault
+no_pick e i = fault T3 e.span
+
 abbrev pub binary_at : Span → BinaryOp → Span → TypedExpr → TypedExpr → Result TypedExpr Fault
 binary_at at Same sign a b = compared at Same sign a b
 binary_at at Differ sign a b = compared at Differ sign a b
+binary_at at (Pick row) sign a b = no_pick a b
 binary_at at op sign a b = computed at op sign a b
 
 abbrev pub unary_at : Span → UnaryOp → TypedExpr → Result TypedExpr Fault
 unary_at at op a = if suits Int a.kind then Ok (unary_of at op a) else fault T1 a.span
 
 -- a field of the struct to which a value of this type points
-abbrev pub field_named : Ident → ℕ → Option (ℕ × FieldKind) → Result Member Fault
+abbrev pub member_with : ℕ → ℕ → Field → Member
+member_with s n f = record { shape = s; field = n; kind = f.kind; row = f.row }
+
+abbrev pub field_named : Ident → ℕ → Option (ℕ × Field) → Result Member Fault
 field_named name s None = fault T5 name.span
-field_named name s (Some f) = Ok (record { shape = s; field = f.0; kind = f.1 })
+field_named name s (Some f) = Ok (member_with s f.0 f.1)
+
+abbrev pub found_or : {A : Type 0} → Option A → Option A → Option A
+found_or None other = other
+found_or (Some x) other = Some x
+
+-- the field of this name, or the first one of the row of this name
+abbrev pub field_or_row : Fields → Name → Option (ℕ × Field)
+field_or_row fields name = found_or (find fields name) (find fields (element_name name 0))
 
 abbrev pub field_of_struct : Ident → ℕ → Option Fields → Result Member Fault
 field_of_struct name s None = fault T5 name.span
-field_of_struct name s (Some fields) = field_named name s (find fields name.text)
+field_of_struct name s (Some fields) = field_named name s (field_or_row fields name.text)
 
 abbrev pub member_of : List (Name × Fields) → Span → Ident → Option Kind → Result Member Fault
 member_of structs at name (Some (Ptr s)) = field_of_struct name s (value_at structs s)
@@ -103,14 +120,14 @@ field_of at name e m = value_of_field at name e m.shape m.field m.kind
 unfoldable pub field_at : List (Name × Fields) → Span → Ident → TypedExpr → Result TypedExpr Fault
 field_at structs at name e = after (field_of at name e) (member structs name e)
 
--- the place of an embedded modifiable
+-- the place of an embedded modifiable that is no row
 abbrev pub place_of_field : Span → Ident → TypedExpr → ℕ → ℕ → FieldKind → Result TypedExpr Fault
 place_of_field at name e s field (Plain kind) = fault T3 name.span
 place_of_field at name e s field CellInt = Ok (expression at (Some ModInt) (typed.Address e s field))
 place_of_field at name e s field (CellPtr t) = Ok (expression at (Some (ModPtr t)) (typed.Address e s field))
 
 abbrev pub address_of : Span → Ident → TypedExpr → Member → Result TypedExpr Fault
-address_of at name e m = place_of_field at name e m.shape m.field m.kind
+address_of at name e m = if m.row == 0 then place_of_field at name e m.shape m.field m.kind else fault T1 name.span
 
 unfoldable pub address_at : List (Name × Fields) → Span → Ident → TypedExpr → Result TypedExpr Fault
 address_at structs at name e = after (address_of at name e) (member structs name e)
@@ -118,6 +135,27 @@ address_at structs at name e = after (address_of at name e) (member structs name
 -- `&` of what is no field access
 abbrev pub no_address : TypedExpr → Result TypedExpr Fault
 no_address e = fault T3 e.span
+
+-- the place of an element of a row: the row's address, and an index, which is an `int`
+abbrev pub element_of : Span → Ident → Kind → TypedExpr → TypedExpr → ℕ → Result TypedExpr Fault
+element_of at name kind place i row =
+    if suits Int i.kind then Ok (expression at (Some kind) (typed.Binary (Pick row) name.span place i)) else fault T1 i.span
+
+abbrev pub element_of_row : Span → Ident → Kind → TypedExpr → TypedExpr → Member → Result TypedExpr Fault
+element_of_row at name kind e i m =
+    if m.row == 0 then fault T1 name.span
+    else element_of at name kind (expression at (Some kind) (typed.Address e m.shape m.field)) i m.row
+
+abbrev pub pick_of_kind : Span → Ident → TypedExpr → TypedExpr → Member → FieldKind → Result TypedExpr Fault
+pick_of_kind at name e i m (Plain kind) = fault T3 name.span
+pick_of_kind at name e i m CellInt = element_of_row at name ModInt e i m
+pick_of_kind at name e i m (CellPtr t) = element_of_row at name (ModPtr t) e i m
+
+abbrev pub pick_of : Span → Ident → TypedExpr → TypedExpr → Member → Result TypedExpr Fault
+pick_of at name e i m = pick_of_kind at name e i m m.kind
+
+unfoldable pub pick_at : List (Name × Fields) → Span → Ident → TypedExpr → TypedExpr → Result TypedExpr Fault
+pick_at structs at name e i = after (pick_of at name e i) (member structs name e)
 
 -- an expression of this form, which begins at this token
 unfoldable mutual
@@ -133,6 +171,9 @@ unfoldable mutual
   typed_form p own scope at (Address' _ (more_of-Expr span (Field' _ a name) rest)) =
       after (address_at p.structs at name) (typed_operand p own scope a)
   typed_form p own scope at (Address' _ a) = after no_address (typed_operand p own scope a)
+  typed_form p own scope at (Pick' _ (more_of-Expr span (Field' _ a name) rest) _ i) =
+      both (pick_at p.structs at name) (typed_operand p own scope a) (typed_operand p own scope i)
+  typed_form p own scope at (Pick' _ a _ i) = both no_pick (typed_operand p own scope a) (typed_operand p own scope i)
 
   pub typed_operand : Program → Option ℕ → Scope → {n : _} → Row_of-Expr n → Result TypedExpr Fault
   typed_operand p own scope end_of-Expr = Ok (expression (record { from = 0; to = 0 }) None NullForm)

@@ -1,5 +1,5 @@
 -- The heads of a program's entries: the names of its structs and functions, their fields and their parameters.
-use Rattle.std.specs.Prelude.{ℕ, Option, Some, None, Result, Ok, List, [], ◌∷◌, ◌++◌, length, position, if◌then◌else◌}
+use Rattle.std.specs.Prelude.{ℕ, zero, suc, ◌==◌, ◌||◌, Bool, Option, Some, None, Result, Ok, List, [], ◌∷◌, ◌++◌, length, position, if◌then◌else◌}
 use Rattle.std.specs.Str.{bytes_eq}
 use Rattle.ceal_base.specs.declared.fault.Fault.{Fault}
 use Rattle.ceal_base.specs.declared.fault.FaultCode.TheVariants.{N1, N2}
@@ -14,8 +14,9 @@ use Rattle.ceal_base.specs.declared.syntax.FunctionDecl.{FunctionDecl}
 use Rattle.ceal_base.specs.declared.syntax.Ident.{Ident}
 use Rattle.ceal_base.specs.declared.syntax.TypeForm.{TypeForm}
 use Rattle.ceal_base.specs.declared.syntax.TypeForm.TheVariants as forms
-use Rattle.ceal_types.specs.Tables.{Name, has, with_name}
+use Rattle.ceal_types.specs.Tables.{Name, has, with_name, element_name}
 use Rattle.ceal_types.specs.Walk.{fault, after, mapped, in_turn}
+use Rattle.ceal_types.specs.declared.program.Field.{Field}
 use Rattle.ceal_types.specs.declared.program.Head.{Head}
 use Rattle.ceal_types.specs.declared.program.Program.{Program}
 use Rattle.ceal_types.specs.declared.program.Variables.{Variables}
@@ -37,6 +38,8 @@ kind_of names forms.ModInt = Ok kinds.ModInt
 kind_of names (forms.ModPtr name) = mapped kinds.ModPtr (struct_number names name)
 kind_of names forms.CellInt = Ok kinds.ModInt
 kind_of names (forms.CellPtr name) = mapped kinds.ModPtr (struct_number names name)
+kind_of names (forms.CellRow row) = Ok kinds.ModInt
+kind_of names (forms.CellPtrRow name row) = mapped kinds.ModPtr (struct_number names name)
 
 abbrev pub plain_pointer : ℕ → FieldKind
 plain_pointer s = Plain (kinds.Ptr s)
@@ -51,13 +54,45 @@ field_kind_of names forms.ModInt = Ok (Plain kinds.ModInt)
 field_kind_of names (forms.ModPtr name) = mapped plain_place (struct_number names name)
 field_kind_of names forms.CellInt = Ok CellInt
 field_kind_of names (forms.CellPtr name) = mapped CellPtr (struct_number names name)
+field_kind_of names (forms.CellRow row) = Ok CellInt
+field_kind_of names (forms.CellPtrRow name row) = mapped CellPtr (struct_number names name)
+
+-- the length of the row that a field of this type is
+abbrev pub row_of : TypeForm → Option ℕ
+row_of (forms.CellRow row) = Some row
+row_of (forms.CellPtrRow name row) = Some row
+row_of form = None
+
+-- a field or a row has the name
+abbrev pub taken : List (Name × Field) → Name → Bool
+taken fields name = has fields name || has fields (element_name name 0)
+
+-- the length of the row that begins at its element of this number
+abbrev pub row_at : ℕ → ℕ → ℕ
+row_at row i = if i == 0 then row else 0
+
+-- one more element of a row
+abbrev pub with_element : Ident → FieldKind → ℕ → ℕ → List (Name × Field) → Result (List (Name × Field)) Fault
+with_element name kind row i fields =
+    if has fields (element_name name.text i) then fault N2 name.span
+    else Ok (fields ++ (element_name name.text i, record { kind = kind; row = row_at row i }) ∷ [])
+
+-- the first so many elements of a row
+unfoldable pub with_elements : Ident → FieldKind → ℕ → ℕ → List (Name × Field) → Result (List (Name × Field)) Fault
+with_elements name kind row zero fields = Ok fields
+with_elements name kind row (suc i) fields = after (with_element name kind row i) (with_elements name kind row i fields)
+
+-- a new field, or the elements of a new row
+abbrev pub added_field : Ident → Option ℕ → List (Name × Field) → FieldKind → Result (List (Name × Field)) Fault
+added_field name None fields kind = Ok (fields ++ (name.text, record { kind = kind; row = 0 }) ∷ [])
+added_field name (Some row) fields kind = with_elements name kind row row fields
 
 -- one more field: the struct's name in its type, and then its own name
-abbrev pub new_field : Ident → List (Name × FieldKind) → FieldKind → Result (List (Name × FieldKind)) Fault
-new_field name fields kind = if has fields name.text then fault N2 name.span else Ok (fields ++ (name.text, kind) ∷ [])
+abbrev pub new_field : Ident → Option ℕ → List (Name × Field) → FieldKind → Result (List (Name × Field)) Fault
+new_field name row fields kind = if taken fields name.text then fault N2 name.span else added_field name row fields kind
 
-unfoldable pub with_field : List Name → FieldDecl → List (Name × FieldKind) → Result (List (Name × FieldKind)) Fault
-with_field names d fields = after (new_field d.name fields) (field_kind_of names d.form)
+unfoldable pub with_field : List Name → FieldDecl → List (Name × Field) → Result (List (Name × Field)) Fault
+with_field names d fields = after (new_field d.name (row_of d.form) fields) (field_kind_of names d.form)
 
 -- the variables with one more, which is in scope and has the next number
 abbrev pub with_variable : Variables → Name → Kind → Variables
@@ -91,7 +126,7 @@ with_parameters names params own = mapped (head own) (in_turn (with_parameter na
 unfoldable pub head_of : List Name → FunctionDecl → Result Head Fault
 head_of names f = after (with_parameters names f.params) (own_of names f.initialiser)
 
-abbrev pub with_struct : Program → Name → List (Name × FieldKind) → Program
+abbrev pub with_struct : Program → Name → List (Name × Field) → Program
 with_struct p name fields = record p { structs = p.structs ++ (name, fields) ∷ [] }
 
 abbrev pub with_function : Program → Name → Head → Program

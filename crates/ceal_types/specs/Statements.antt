@@ -12,13 +12,13 @@ use Rattle.ceal_base.specs.declared.kind.Kind.{Kind}
 use Rattle.ceal_base.specs.declared.kind.Kind.TheVariants.{Ptr, ModInt, ModPtr}
 use Rattle.ceal_base.specs.declared.syntax.Expr.{Expr}
 use Rattle.ceal_base.specs.declared.syntax.Ident.{Ident}
-use Rattle.ceal_base.specs.declared.syntax.Stmt.{Stmt, Declare, Assign, SetField, Write, Call, If', While', Return}
+use Rattle.ceal_base.specs.declared.syntax.Stmt.{Stmt, Declare, Assign, SetField, Write, Call, If', While', Return, Break, Continue}
 use Rattle.ceal_base.specs.declared.syntax.Stmt.{Row_of-Stmt, end_of-Stmt, more_of-Stmt}
 use Rattle.ceal_base.specs.declared.syntax.Value.{Value}
 use Rattle.ceal_base.specs.declared.syntax.Value.TheVariants.{Plain, Read, Alloc, ModrefInt, Modref}
 use Rattle.ceal_base.specs.declared.typed.TypedExpr.{TypedExpr}
 use Rattle.ceal_base.specs.declared.typed.TypedStmt.{TypedStmt}
-use Rattle.ceal_base.specs.declared.typed.TypedStmt.{Declare as DeclareTyped, Assign as AssignTyped, SetField as SetTyped, Write as WriteTyped, Call as CallTyped, Return as ReturnTyped}
+use Rattle.ceal_base.specs.declared.typed.TypedStmt.{Declare as DeclareTyped, Assign as AssignTyped, SetField as SetTyped, Write as WriteTyped, Call as CallTyped, Return as ReturnTyped, Break as BreakTyped, Continue as ContinueTyped}
 use Rattle.ceal_base.specs.declared.typed.TypedStmt.TheViews as typed
 use Rattle.ceal_base.specs.declared.typed.TypedValue.{TypedValue}
 use Rattle.ceal_base.specs.declared.typed.TypedValue.TheVariants.{Plain as PlainTyped, Read as ReadTyped, Alloc as AllocTyped, ModrefInt as ModrefIntTyped, Modref as ModrefTyped}
@@ -229,6 +229,8 @@ unfoldable mutual
       after (branch at (nested (typed_row p own first)) (nested (typed_row p own second)) v) (condition p own v.scope test)
   typed_stmt p own (While' at test _ body) v = after (loop at (nested (typed_row p own body)) v) (condition p own v.scope test)
   typed_stmt p own (Return at) v = Ok (step (ReturnTyped at) v)
+  typed_stmt p own (Break at) v = Ok (step (BreakTyped at) v)
+  typed_stmt p own (Continue at) v = Ok (step (ContinueTyped at) v)
 
   pub typed_row : Program → Option ℕ → {n : _} → Row_of-Stmt n → Block → Result Block Fault
   typed_row p own end_of-Stmt b = Ok b

@@ -1,5 +1,6 @@
 -- Names, and what stands under a name.
-use Rattle.std.specs.Prelude.{ℕ, Bool, Option, Some, None, List, ◌∷◌, [], ◌++◌, is_some, position, slice_get, if◌then◌else◌}
+use Rattle.std.specs.Prelude.{ℕ, Bool, Option, Some, None, List, ◌∷◌, [], ◌++◌, is_some, position, slice_get, codes, if◌then◌else◌}
+use Rattle.std.specs.Fmt.{decimal}
 use Rattle.std.specs.List.{list_any}
 use Rattle.std.specs.Map.{keys_of, lookup}
 use Rattle.std.specs.Option.{option_map}
@@ -31,3 +32,7 @@ value_at table n = option_map second (slice_get table n)
 -- the names with this one, each of them once
 abbrev pub with_name : List Name → Name → List Name
 with_name names name = if list_any (bytes_eq name) names then names else names ++ name ∷ []
+
+-- the name of an element of a row
+abbrev pub element_name : Name → ℕ → Name
+element_name name i = name ++ codes "[" ++ decimal i ++ codes "]"

@@ -9,12 +9,11 @@ ghost use Rattle.ceal_types.specs.States.{Leads};
 ghost use Rattle.ceal_types.specs.Walk.{in_turn};
 
 use crate::heads::{head_of, heads};
-use crate::program::Program;
+use crate::program::{Field, Program};
 use crate::statements::type_block;
 use crate::table::Table;
 use ceal_base::fault::FrontError;
 use ceal_base::items::Items;
-use ceal_base::kind::FieldKind;
 use ceal_base::no_memory::NoMemory;
 use ceal_base::syntax::{Entry, FunctionDecl, Ident, Tree};
 use ceal_base::typed::{FieldInfo, StructInfo, Typed, TypedFunction};
@@ -97,22 +96,23 @@ fn type_bodies(
     Ok(functions)
 }
 
-fn field_infos(alloc: Global, fields: &Table<FieldKind>) -> Result<Items<FieldInfo>, NoMemory>
+fn field_infos(alloc: Global, fields: &Table<Field>) -> Result<Items<FieldInfo>, NoMemory>
     ensures { IfOk result (λ infos. infos ≡ map field_info fields.now) }
 {
     let mut infos = Items::empty(alloc);
     for i in 0..fields.len() {
-        let (name, kind) = fields.entry(i);
+        let (name, field) = fields.entry(i);
         let name = name.copy()?;
-        infos.push(FieldInfo { name, kind: *kind })?;
+        infos.push(FieldInfo {
+            name,
+            kind: field.kind,
+            row: field.row,
+        })?;
     }
     Ok(infos)
 }
 
-fn struct_infos(
-    alloc: Global,
-    structs: &Table<Table<FieldKind>>,
-) -> Result<Items<StructInfo>, NoMemory>
+fn struct_infos(alloc: Global, structs: &Table<Table<Field>>) -> Result<Items<StructInfo>, NoMemory>
     ensures { IfOk result (λ infos. infos ≡ map struct_info structs.now) }
 {
     let mut infos = Items::empty(alloc);

@@ -4,10 +4,10 @@ ghost use Rattle.std.specs.Prelude.{◌≡◌, Option, IfOk};
 ghost use Rattle.std.specs.Map.{lookup};
 ghost use Rattle.std.specs.Str.{bytes_eq};
 ghost use Rattle.ceal_base.specs.Answers.{Gives};
-ghost use Rattle.ceal_types.specs.Expressions.{expression, variable_at, own_at, unary_at, unary_of, binary_at, binary_of, compared, computed, typed_expr, typed_exprs, condition};
+ghost use Rattle.ceal_types.specs.Expressions.{expression, variable_at, own_at, unary_at, unary_of, binary_at, binary_of, compared, computed, no_pick, typed_expr, typed_exprs, condition};
 
 use crate::kinds::{comparable, suits};
-use crate::members::{fault, type_address, type_field};
+use crate::members::{fault, type_address, type_field, type_pick};
 use crate::program::{Program, Variable};
 use crate::table::Table;
 use ceal_base::boxed::Boxed;
@@ -139,7 +139,15 @@ fn type_binary(
         Binary::MoreEq => type_computed(alloc, at, op, sign, a, b),
         Binary::And => type_computed(alloc, at, op, sign, a, b),
         Binary::Or => type_computed(alloc, at, op, sign, a, b),
+        Binary::Pick(_) => Err(fault(FaultCode::T3, a.span)),
     }
+}
+
+/// An index behind what is no field access.
+fn no_row(a: TypedExpr, index: TypedExpr) -> Result<TypedExpr, FrontError>
+    ensures { Gives result (no_pick a index) }
+{
+    Err(fault(FaultCode::T3, a.span))
 }
 
 /// The type of an expression, where these variables are in scope. It recurses as deep as the expression.
@@ -179,6 +187,18 @@ pub fn type_expr(
             _ => {
                 let a = type_expr(alloc, program, own, scope, operand.get())?;
                 Err(fault(FaultCode::T3, a.span))
+            }
+        },
+        ExprForm::Pick(operand, index) => match &operand.get().form {
+            ExprForm::Field(a, name) => {
+                let a = type_expr(alloc, program, own, scope, a.get())?;
+                let index = type_expr(alloc, program, own, scope, index.get())?;
+                type_pick(alloc, &program.structs, e.span, name, a, index)
+            }
+            _ => {
+                let a = type_expr(alloc, program, own, scope, operand.get())?;
+                let index = type_expr(alloc, program, own, scope, index.get())?;
+                no_row(a, index)
             }
         },
     }

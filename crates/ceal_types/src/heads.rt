@@ -7,9 +7,9 @@ ghost use Rattle.ceal_types.specs.Tables.{has};
 ghost use Rattle.ceal_types.specs.Walk.{in_turn};
 ghost use Rattle.ceal_types.specs.Heads as spec;
 
-use crate::members::fault;
+use crate::members::{element_name, fault};
 use crate::names::Names;
-use crate::program::{Head, Program, Variable, Variables};
+use crate::program::{Field, Head, Program, Variable, Variables};
 use crate::table::Table;
 use ceal_base::fault::{FaultCode, FrontError};
 use ceal_base::kind::{FieldKind, Kind, Kinds};
@@ -39,6 +39,8 @@ pub fn kind_of(names: &Names, form: &TypeForm) -> Result<Kind, FrontError>
         TypeForm::ModPtr(name) => Ok(Kind::ModPtr(struct_number(names, name)?)),
         TypeForm::CellInt => Ok(Kind::ModInt),
         TypeForm::CellPtr(name) => Ok(Kind::ModPtr(struct_number(names, name)?)),
+        TypeForm::CellRow(_) => Ok(Kind::ModInt),
+        TypeForm::CellPtrRow(name, _) => Ok(Kind::ModPtr(struct_number(names, name)?)),
     }
 }
 
@@ -52,36 +54,106 @@ fn field_kind_of(names: &Names, form: &TypeForm) -> Result<FieldKind, FrontError
         TypeForm::ModPtr(name) => Ok(FieldKind::Plain(Kind::ModPtr(struct_number(names, name)?))),
         TypeForm::CellInt => Ok(FieldKind::CellInt),
         TypeForm::CellPtr(name) => Ok(FieldKind::CellPtr(struct_number(names, name)?)),
+        TypeForm::CellRow(_) => Ok(FieldKind::CellInt),
+        TypeForm::CellPtrRow(name, _) => Ok(FieldKind::CellPtr(struct_number(names, name)?)),
     }
 }
 
-fn new_field(fields: &mut Table<FieldKind>, name: &Ident, kind: FieldKind) -> Result<(), FrontError>
-    ensures { Leads result fields.new (spec.new_field name.now fields.old kind) }
+/// The length of the row that a field of this type is.
+fn row_of(form: &TypeForm) -> Option<u32>
+    ensures { result ≡ spec.row_of form.now }
 {
-    if fields.has(&name.text) {
+    match form {
+        TypeForm::Int => None,
+        TypeForm::Ptr(_) => None,
+        TypeForm::ModInt => None,
+        TypeForm::ModPtr(_) => None,
+        TypeForm::CellInt => None,
+        TypeForm::CellPtr(_) => None,
+        TypeForm::CellRow(row) => Some(*row),
+        TypeForm::CellPtrRow(_, row) => Some(*row),
+    }
+}
+
+/// Whether a field or a row has this name.
+fn is_taken(fields: &Table<Field>, name: &Text) -> Result<bool, NoMemory>
+    ensures { IfOk result (λ taken. taken ≡ spec.taken fields.now name.now) }
+{
+    if fields.has(name) {
+        return Ok(true);
+    }
+    let first = element_name(name, 0)?;
+    Ok(fields.has(&first))
+}
+
+fn row_at(row: u32, index: u32) -> u32
+    ensures { result ≡ spec.row_at row index }
+{
+    if index == 0 { row } else { 0 }
+}
+
+/// Adds an element of a row.
+fn add_element(
+    fields: &mut Table<Field>,
+    name: &Ident,
+    kind: FieldKind,
+    row: u32,
+    index: u32,
+) -> Result<(), FrontError>
+    ensures { Leads result fields.new (spec.with_element name.now kind row index fields.old) }
+{
+    let element = element_name(&name.text, index as usize)?;
+    if fields.has(&element) {
         return Err(fault(FaultCode::N2, name.span));
     }
-    fields.add(&name.text, kind)?;
+    let row = row_at(row, index);
+    fields.add(&element, Field { kind, row })?;
     Ok(())
 }
 
-#[tactic(auto, unfolding(crate::specs::Heads::with_field))]
-fn add_field(
-    names: &Names,
-    fields: &mut Table<FieldKind>,
-    field: &FieldDecl,
+fn add_row(
+    fields: &mut Table<Field>,
+    name: &Ident,
+    kind: FieldKind,
+    row: u32,
 ) -> Result<(), FrontError>
+    ensures { Leads result fields.new (spec.with_elements name.now kind row row fields.old) }
+{
+    for index in 0..row {
+        add_element(fields, name, kind, row, index)?;
+    }
+    Ok(())
+}
+
+fn new_field(
+    fields: &mut Table<Field>,
+    name: &Ident,
+    row: Option<u32>,
+    kind: FieldKind,
+) -> Result<(), FrontError>
+    ensures { Leads result fields.new (spec.new_field name.now row fields.old kind) }
+{
+    if is_taken(fields, &name.text)? {
+        return Err(fault(FaultCode::N2, name.span));
+    }
+    match row {
+        None => {
+            fields.add(&name.text, Field { kind, row: 0 })?;
+            Ok(())
+        }
+        Some(row) => add_row(fields, name, kind, row),
+    }
+}
+
+#[tactic(auto, unfolding(crate::specs::Heads::with_field))]
+fn add_field(names: &Names, fields: &mut Table<Field>, field: &FieldDecl) -> Result<(), FrontError>
     ensures { Leads result fields.new (spec.with_field names.now field.now fields.old) }
 {
     let kind = field_kind_of(names, &field.form)?;
-    new_field(fields, &field.name, kind)
+    new_field(fields, &field.name, row_of(&field.form), kind)
 }
 
-fn fields_of(
-    alloc: Global,
-    names: &Names,
-    fields: &[FieldDecl],
-) -> Result<Table<FieldKind>, FrontError>
+fn fields_of(alloc: Global, names: &Names, fields: &[FieldDecl]) -> Result<Table<Field>, FrontError>
     ensures { Gives result (in_turn (spec.with_field names.now) fields.now []) }
 {
     let mut table = Table::new(alloc);
@@ -123,7 +195,8 @@ fn add_parameter(
     variables: &mut Variables,
     parameter: &FieldDecl,
 ) -> Result<(), FrontError>
-    ensures { Leads result variables.new (spec.with_parameter names.now parameter.now variables.old) }
+    ensures { Leads result variables.new
+        (spec.with_parameter names.now parameter.now variables.old) }
 {
     let kind = kind_of(names, &parameter.form)?;
     new_parameter(variables, &parameter.name, kind)
@@ -134,7 +207,8 @@ fn parameters_of(
     names: &Names,
     parameters: &[FieldDecl],
 ) -> Result<Variables, FrontError>
-    ensures { Gives result (in_turn (spec.with_parameter names.now) parameters.now spec.no_variables) }
+    ensures { Gives result
+        (in_turn (spec.with_parameter names.now) parameters.now spec.no_variables) }
 {
     let mut variables = Variables {
         scope: Table::new(alloc),

@@ -3,15 +3,19 @@
 ghost use Rattle.std.specs.Prelude.{◌≡◌, IfOk};
 ghost use Rattle.ceal_base.specs.Answers.{Gives};
 ghost use Rattle.ceal_types.specs.Tables.{find, value_at};
-ghost use Rattle.ceal_types.specs.Expressions.{expression, member, field_named, field_of_struct, field_of, field_at, address_of, address_at};
+ghost use Rattle.ceal_types.specs.Tables.{element_name as element_name_of};
+ghost use Rattle.ceal_types.specs.Expressions.{expression, member, member_with, field_or_row, field_named, field_of_struct, field_of, field_at, address_of, address_at, element_of, element_of_row, pick_of, pick_at};
 
-use crate::program::Member;
+use crate::kinds::suits;
+use crate::program::{Field, Member};
 use crate::table::Table;
 use ceal_base::boxed::Boxed;
 use ceal_base::fault::{Fault, FaultCode, FrontError, Span};
 use ceal_base::kind::{FieldKind, Kind};
 use ceal_base::no_memory::NoMemory;
+use ceal_base::operators::Binary;
 use ceal_base::syntax::Ident;
+use ceal_base::text::Text;
 use ceal_base::typed::{TypedExpr, TypedForm};
 use std::alloc::Global;
 
@@ -22,21 +26,51 @@ pub fn fault(code: FaultCode, span: Span) -> FrontError
     FrontError::Fault(Fault { code, span })
 }
 
-fn find_field(fields: &Table<FieldKind>, shape: u32, name: &Ident) -> Result<Member, FrontError>
-    ensures { Gives result (field_named name.now shape (find fields.now name.now.text)) }
+/// The name of an element of a row.
+pub fn element_name(row: &Text, index: usize) -> Result<Text, NoMemory>
+    ensures value { IfOk result (λ name. name ≡ element_name_of row.now index) }
 {
-    match fields.find(&name.text) {
-        Some((field, kind)) => Ok(Member {
-            shape,
-            field,
-            kind: *kind,
-        }),
+    let mut name = row.copy()?;
+    name.append(b"[")?;
+    name.append_number(index)?;
+    name.append(b"]")?;
+    Ok(name)
+}
+
+fn member_at(shape: u32, field: u32, found: &Field) -> Member
+    ensures { result ≡ member_with shape field found.now }
+{
+    Member {
+        shape,
+        field,
+        kind: found.kind,
+        row: found.row,
+    }
+}
+
+/// The first field of the row of this name.
+fn find_row(fields: &Table<Field>, shape: u32, name: &Ident) -> Result<Member, FrontError>
+    ensures { Gives result
+        (field_named name.now shape (find fields.now (element_name_of name.now.text 0))) }
+{
+    let first = element_name(&name.text, 0)?;
+    match fields.find(&first) {
+        Some((field, found)) => Ok(member_at(shape, field, found)),
         None => Err(fault(FaultCode::T5, name.span)),
     }
 }
 
+fn find_field(fields: &Table<Field>, shape: u32, name: &Ident) -> Result<Member, FrontError>
+    ensures { Gives result (field_named name.now shape (field_or_row fields.now name.now.text)) }
+{
+    match fields.find(&name.text) {
+        Some((field, found)) => Ok(member_at(shape, field, found)),
+        None => find_row(fields, shape, name),
+    }
+}
+
 fn find_in_struct(
-    structs: &Table<Table<FieldKind>>,
+    structs: &Table<Table<Field>>,
     shape: u32,
     name: &Ident,
 ) -> Result<Member, FrontError>
@@ -51,7 +85,7 @@ fn find_in_struct(
 /// What `e->name` is.
 #[tactic(auto, unfolding(crate::specs::Expressions::member))]
 pub fn find_member(
-    structs: &Table<Table<FieldKind>>,
+    structs: &Table<Table<Field>>,
     name: &Ident,
     e: &TypedExpr,
 ) -> Result<Member, FrontError>
@@ -93,7 +127,7 @@ fn plain_field(
 #[tactic(auto, unfolding(crate::specs::Expressions::field_at))]
 pub fn type_field(
     alloc: Global,
-    structs: &Table<Table<FieldKind>>,
+    structs: &Table<Table<Field>>,
     at: Span,
     name: &Ident,
     e: TypedExpr,
@@ -111,7 +145,8 @@ fn place(
     e: TypedExpr,
     member: Member,
 ) -> Result<TypedExpr, NoMemory>
-    ensures { IfOk result (λ p. p ≡ expression at (Some kind) (TypedForm.Address e member.shape member.field)) }
+    ensures { IfOk result
+        (λ p. p ≡ expression at (Some kind) (TypedForm.Address e member.shape member.field)) }
 {
     let e = Boxed::new(alloc, e)?;
     Ok(TypedExpr {
@@ -130,6 +165,9 @@ fn cell(
 ) -> Result<TypedExpr, FrontError>
     ensures { Gives result (address_of at name.now e member) }
 {
+    if member.row != 0 {
+        return Err(fault(FaultCode::T1, name.span));
+    }
     match member.kind {
         FieldKind::Plain(_) => Err(fault(FaultCode::T3, name.span)),
         FieldKind::CellInt => {
@@ -147,7 +185,7 @@ fn cell(
 #[tactic(auto, unfolding(crate::specs::Expressions::address_at))]
 pub fn type_address(
     alloc: Global,
-    structs: &Table<Table<FieldKind>>,
+    structs: &Table<Table<Field>>,
     at: Span,
     name: &Ident,
     e: TypedExpr,
@@ -156,4 +194,81 @@ pub fn type_address(
 {
     let member = find_member(structs, name, &e)?;
     cell(alloc, at, name, e, member)
+}
+
+/// The index behind a row's address, and what they make.
+fn element(
+    alloc: Global,
+    at: Span,
+    name: &Ident,
+    kind: Kind,
+    place: TypedExpr,
+    index: TypedExpr,
+    row: u32,
+) -> Result<TypedExpr, FrontError>
+    ensures { Gives result (element_of at name.now kind place index row) }
+{
+    if !suits(Kind::Int, index.kind) {
+        return Err(fault(FaultCode::T1, index.span));
+    }
+    let place = Boxed::new(alloc, place)?;
+    let index = Boxed::new(alloc, index)?;
+    Ok(TypedExpr {
+        span: at,
+        kind: Some(kind),
+        form: TypedForm::Binary(Binary::Pick(row), name.span, place, index),
+    })
+}
+
+fn element_of_row(
+    alloc: Global,
+    at: Span,
+    name: &Ident,
+    kind: Kind,
+    e: TypedExpr,
+    index: TypedExpr,
+    member: Member,
+) -> Result<TypedExpr, FrontError>
+    ensures { Gives result (element_of_row at name.now kind e index member) }
+{
+    if member.row == 0 {
+        return Err(fault(FaultCode::T1, name.span));
+    }
+    let place = place(alloc, at, kind, e, member)?;
+    element(alloc, at, name, kind, place, index, member.row)
+}
+
+fn element_of_member(
+    alloc: Global,
+    at: Span,
+    name: &Ident,
+    e: TypedExpr,
+    index: TypedExpr,
+    member: Member,
+) -> Result<TypedExpr, FrontError>
+    ensures { Gives result (pick_of at name.now e index member) }
+{
+    match member.kind {
+        FieldKind::Plain(_) => Err(fault(FaultCode::T3, name.span)),
+        FieldKind::CellInt => element_of_row(alloc, at, name, Kind::ModInt, e, index, member),
+        FieldKind::CellPtr(s) => {
+            element_of_row(alloc, at, name, Kind::ModPtr(s), e, index, member)
+        }
+    }
+}
+
+/// `&e->name[index]`, of a row of modifiables.
+#[tactic(auto, unfolding(crate::specs::Expressions::pick_at))]
+pub fn type_pick(
+    alloc: Global,
+    structs: &Table<Table<Field>>,
+    at: Span,
+    name: &Ident,
+    e: TypedExpr,
+    index: TypedExpr,
+) -> Result<TypedExpr, FrontError>
+    ensures value { Gives result (pick_at structs.now at name.now e index) }
+{
+    let member = find_member(structs, name, &e)?;
+    element_of_member(alloc, at, name, e, index, member)
 }

@@ -25,18 +25,27 @@ pub struct Head {
     pub parameters: Variables,
 }
 
+/// A field of a struct: its type, and the length of the row that begins at it, 0 where none does.
+#[derive(Clone, Copy)]
+pub struct Field {
+    pub kind: FieldKind,
+    pub row: u32,
+}
+
 /// The heads of a program's entries: the names of all structs, and the structs and functions so far.
 #[derive(Drop)]
 pub struct Program {
     pub names: Names,
-    pub structs: Table<Table<FieldKind>>,
+    pub structs: Table<Table<Field>>,
     pub functions: Table<Head>,
 }
 
-/// A field: the numbers of its struct and of itself in that struct, and its type.
+/// A field: the numbers of its struct and of itself in that struct, its type, and the length of the row that begins at
+/// it, 0 where none does.
 #[derive(Clone, Copy)]
 pub struct Member {
     pub shape: u32,
     pub field: u32,
     pub kind: FieldKind,
+    pub row: u32,
 }

@@ -35,7 +35,8 @@ fn type_declared(
     value: &Value,
     kind: Kind,
 ) -> Result<TypedStmt, FrontError>
-    ensures { Makes step_of result variables.new (spec.declare program.now own at name.now value.now variables.old kind) }
+    ensures { Makes step_of result variables.new
+        (spec.declare program.now own at name.now value.now variables.old kind) }
 {
     if variables.scope.has(&name.text) {
         return Err(fault(FaultCode::N2, name.span));
@@ -53,7 +54,9 @@ fn type_assigned(
     name: &Ident,
     value: &Value,
 ) -> Result<TypedStmt, FrontError>
-    ensures { Gives result (spec.assigned program.now own name.now value.now scope.now (lookup (bytes_eq name.now.text) scope.now)) }
+    ensures { Gives result
+        (spec.assigned program.now own name.now value.now scope.now
+        (lookup (bytes_eq name.now.text) scope.now)) }
 {
     match scope.get(&name.text) {
         Some(variable) => {
@@ -137,7 +140,9 @@ fn type_called(
     name: &Ident,
     args: &[Expr],
 ) -> Result<TypedStmt, FrontError>
-    ensures { Gives result (spec.called program.now own scope.now name.now args.now (find program.now.functions name.now.text)) }
+    ensures { Gives result
+        (spec.called program.now own scope.now name.now args.now
+        (find program.now.functions name.now.text)) }
 {
     match program.functions.find(&name.text) {
         Some((function, head)) => {
@@ -159,7 +164,8 @@ pub fn type_block(
     variables: &mut Variables,
     stmts: &[Stmt],
 ) -> Result<TypedStmts, FrontError>
-    ensures value { Makes block result variables.new (nested (typed_stmts program.now own stmts.now) variables.old) }
+    ensures value { Makes block result variables.new
+        (nested (typed_stmts program.now own stmts.now) variables.old) }
 {
     let outer = variables.scope.len();
     let mut typed = Items::empty(alloc);
@@ -180,7 +186,8 @@ fn type_stmt(
     variables: &mut Variables,
     s: &Stmt,
 ) -> Result<TypedStmt, FrontError>
-    ensures value { Makes step_of result variables.new (typed_stmt program.now own s.now variables.old) }
+    ensures value { Makes step_of result variables.new
+        (typed_stmt program.now own s.now variables.old) }
 {
     match s {
         Stmt::Declare(at, form, name, value) => {
@@ -211,5 +218,7 @@ fn type_stmt(
             Ok(TypedStmt::While(*at, test, body))
         }
         Stmt::Return(at) => Ok(TypedStmt::Return(*at)),
+        Stmt::Break(at) => Ok(TypedStmt::Break(*at)),
+        Stmt::Continue(at) => Ok(TypedStmt::Continue(*at)),
     }
 }

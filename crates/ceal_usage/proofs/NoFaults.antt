@@ -9,7 +9,7 @@ use Rattle.ceal_base.specs.declared.typed.Typed.{Typed}
 use Rattle.ceal_base.specs.declared.typed.TypedForm.TheBlock.{Row_of-TypedExpr, end_of-TypedExpr, more_of-TypedExpr}
 use Rattle.ceal_base.specs.declared.typed.TypedForm.{TypedForm, Num, Null, Var, Own, Unary', Binary', Field', Address'}
 use Rattle.ceal_base.specs.declared.typed.TypedFunction.{TypedFunction}
-use Rattle.ceal_base.specs.declared.typed.TypedStmt.{TypedStmt, Declare, Assign, SetField, Write, Call, If', While', Return}
+use Rattle.ceal_base.specs.declared.typed.TypedStmt.{TypedStmt, Declare, Assign, SetField, Write, Call, If', While', Return, Break, Continue}
 use Rattle.ceal_base.specs.declared.typed.TypedStmt.{Row_of-TypedStmt, end_of-TypedStmt, more_of-TypedStmt}
 use Rattle.ceal_base.specs.declared.typed.TypedValue.{TypedValue}
 use Rattle.ceal_base.specs.declared.typed.TypedValue.TheVariants.{Plain, Read, Alloc, ModrefInt, Modref}
@@ -91,19 +91,21 @@ module _ (fs : List TypedFunction) where
   mutual
     unfolding core_faults CoreUsage
 
-    core-iff : (s : TypedStmt) → (core_faults fs s ≡ []) ↔ CoreUsage fs s
-    core-iff (Declare at n kind value) = value-iff value
-    core-iff (Assign at n value) = value-iff value
-    core-iff (SetField at left s field e) = some _ _
-    core-iff (Write at place e) = none
-    core-iff (Call at f args) = core-name (slice_get fs f) at
-    core-iff (If' at test _ first _ second) = append-iff _ _ (core-row-iff first) (core-row-iff second)
-    core-iff (While' at test _ body) = core-row-iff body
-    core-iff (Return at) = none
+    core-iff : (looped : Bool) (s : TypedStmt) → (core_faults fs looped s ≡ []) ↔ CoreUsage fs looped s
+    core-iff looped (Declare at n kind value) = value-iff value
+    core-iff looped (Assign at n value) = value-iff value
+    core-iff looped (SetField at left s field e) = some _ _
+    core-iff looped (Write at place e) = none
+    core-iff looped (Call at f args) = core-name (slice_get fs f) at
+    core-iff looped (If' at test _ first _ second) = append-iff _ _ (core-row-iff looped first) (core-row-iff looped second)
+    core-iff looped (While' at test _ body) = core-row-iff true body
+    core-iff looped (Return at) = none
+    core-iff looped (Break at) = test-iff looped _
+    core-iff looped (Continue at) = test-iff looped _
 
-    core-row-iff : {n : _} (r : Row_of-TypedStmt n) → (row_core_faults fs r ≡ []) ↔ RowCoreUsage fs r
-    core-row-iff end_of-TypedStmt = none
-    core-row-iff (more_of-TypedStmt s rest) = append-iff _ _ (core-iff s) (core-row-iff rest)
+    core-row-iff : (looped : Bool) {n : _} (r : Row_of-TypedStmt n) → (row_core_faults fs looped r ≡ []) ↔ RowCoreUsage fs looped r
+    core-row-iff looped end_of-TypedStmt = none
+    core-row-iff looped (more_of-TypedStmt s rest) = append-iff _ _ (core-iff looped s) (core-row-iff looped rest)
 
 own-iff : (f : Fault) (fs : List Fault) (form : TypedForm) → (faults_unless_own (f ∷ fs) form ≡ []) ↔ (form ≡ Own)
 own-iff f fs (Num n) = (λ e. cc, λ e. cc)
@@ -127,21 +129,23 @@ mutual
   init-iff (If' at test _ first _ second) = append-three _ _ _ (form-iff test.span test.form) (init-row-iff first) (init-row-iff second)
   init-iff (While' at test _ body) = some _ _
   init-iff (Return at) = some _ _
+  init-iff (Break at) = some _ _
+  init-iff (Continue at) = some _ _
 
   init-row-iff : {n : _} (r : Row_of-TypedStmt n) → (row_init_faults r ≡ []) ↔ RowInitUsage r
   init-row-iff end_of-TypedStmt = none
   init-row-iff (more_of-TypedStmt s rest) = append-iff _ _ (init-iff s) (init-row-iff rest)
 
 abbrev BodyUsage : List TypedFunction → List TypedStmt → Option ℕ → Type 0
-BodyUsage fs body None = All (CoreUsage fs) body
+BodyUsage fs body None = All (CoreUsage fs false) body
 BodyUsage fs body (Some s) = All InitUsage body
 
 abbrev body_faults : List TypedFunction → List TypedStmt → Option ℕ → List Fault
-body_faults fs body None = faults_of_each (core_faults fs) body
+body_faults fs body None = faults_of_each (core_faults fs false) body
 body_faults fs body (Some s) = faults_of_each init_faults body
 
 body-iff : (fs : List TypedFunction) (body : List TypedStmt) (i : Option ℕ) → (body_faults fs body i ≡ []) ↔ BodyUsage fs body i
-body-iff fs body None = each-iff (core_faults fs) (CoreUsage fs) (core-iff fs) body
+body-iff fs body None = each-iff (core_faults fs false) (CoreUsage fs false) (core-iff fs false) body
 body-iff fs body (Some s) = each-iff init_faults InitUsage init-iff body
 
 function-iff : (fs : List TypedFunction) (f : TypedFunction) → (function_faults fs f ≡ []) ↔ FunctionUsage fs f

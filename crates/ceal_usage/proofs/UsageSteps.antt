@@ -1,5 +1,5 @@
 -- The first fault of each form of expression and statement.
-use Rattle.std.proofs.Common.{◌≡◌, ℕ, ℤ, Ok, Err, List, [], ◌∷◌, ◌++◌, slice_get, if◌then◌else◌, refl, ◌∙◌, ap}
+use Rattle.std.proofs.Common.{◌≡◌, ℕ, ℤ, Bool, true, Ok, Err, List, [], ◌∷◌, ◌++◌, slice_get, if◌then◌else◌, refl, ◌∙◌, ap}
 use Rattle.ceal_base.specs.declared.fault.FaultCode.TheVariants.{U1, U2, U3, U4}
 use Rattle.ceal_base.specs.declared.fault.Span.{Span}
 use Rattle.ceal_base.specs.declared.kind.Kind.{Kind}
@@ -12,10 +12,10 @@ use Rattle.ceal_base.specs.declared.typed.TypedForm.TheViews.{Unary, Binary, Fie
 use Rattle.ceal_base.specs.declared.typed.TypedFunction.{TypedFunction}
 use Rattle.ceal_base.specs.declared.typed.TypedStmt.{TypedStmt}
 use Rattle.ceal_base.specs.declared.typed.TypedStmt.TheBlock.{hidden-the_row-TypedStmt-0, shape-the_row-TypedStmt-0}
-use Rattle.ceal_base.specs.declared.typed.TypedStmt.TheVariants.{Declare, Assign, SetField, Write, Call, Return}
+use Rattle.ceal_base.specs.declared.typed.TypedStmt.TheVariants.{Declare, Assign, SetField, Write, Call, Return, Break, Continue}
 use Rattle.ceal_base.specs.declared.typed.TypedStmt.TheViews.{If, While}
 use Rattle.ceal_base.specs.declared.typed.TypedValue.{TypedValue}
-use Rattle.ceal_usage.specs.Faults.{one, form_mentions, mentions, is_core, value_faults, core_faults, row_core_faults, target_faults, init_faults, row_init_faults}
+use Rattle.ceal_usage.specs.Faults.{one, form_mentions, mentions, is_core, value_faults, loop_faults, core_faults, row_core_faults, target_faults, init_faults, row_init_faults}
 use Rattle.ceal_usage.specs.Verdict.{verdict, faults_of_each}
 use Rattle.ceal_usage.proofs.VerdictSteps.{before, verdict-append, each-none, each-drop}
 
@@ -55,47 +55,56 @@ module _ (at : Span) where
 
 pub ruleset mention_steps = (mention-num, mention-null, mention-var, mention-own, mention-unary, mention-binary, mention-field, mention-address)
 
-module _ (fs : List TypedFunction) where
+module _ (fs : List TypedFunction) (looped : Bool) where
   -- a row has the faults of its list
-  pub core-row : (xs : List TypedStmt) → row_core_faults fs (hidden-the_row-TypedStmt-0 xs) ≡ faults_of_each (core_faults fs) xs
+  pub core-row : (xs : List TypedStmt) → row_core_faults fs looped (hidden-the_row-TypedStmt-0 xs) ≡ faults_of_each (core_faults fs looped) xs
   unfolding core_faults faults_of_each hidden-the_row-TypedStmt-0 shape-the_row-TypedStmt-0 denote.Hole.Carrier.hidden
   core-row [] = refl
-  core-row (s ∷ xs) = ap (λ fs-rest. core_faults fs s ++ fs-rest) (core-row xs)
+  core-row (s ∷ xs) = ap (λ fs-rest. core_faults fs looped s ++ fs-rest) (core-row xs)
 
-  pub core-declare : (at : Span) (n : ℕ) (kind : Kind) (v : TypedValue) → core_faults fs (Declare at n kind v) ≡ value_faults fs v
+  pub core-declare : (at : Span) (n : ℕ) (kind : Kind) (v : TypedValue) → core_faults fs looped (Declare at n kind v) ≡ value_faults fs v
   unfolding core_faults
   core-declare at n kind v = refl
 
-  pub core-assign : (at : Span) (n : ℕ) (v : TypedValue) → core_faults fs (Assign at n v) ≡ value_faults fs v
+  pub core-assign : (at : Span) (n : ℕ) (v : TypedValue) → core_faults fs looped (Assign at n v) ≡ value_faults fs v
   unfolding core_faults
   core-assign at n v = refl
 
-  pub core-set : (at : Span) (left : TypedExpr) (s field : ℕ) (e : TypedExpr) → core_faults fs (SetField at left s field e) ≡ one U1 at
+  pub core-set : (at : Span) (left : TypedExpr) (s field : ℕ) (e : TypedExpr) → core_faults fs looped (SetField at left s field e) ≡ one U1 at
   unfolding core_faults
   core-set at left s field e = refl
 
-  pub core-write : (at : Span) (p e : TypedExpr) → core_faults fs (Write at p e) ≡ []
+  pub core-write : (at : Span) (p e : TypedExpr) → core_faults fs looped (Write at p e) ≡ []
   unfolding core_faults
   core-write at p e = refl
 
-  pub core-call : (at : Span) (f : ℕ) (args : List TypedExpr) → core_faults fs (Call at f args) ≡ (if is_core (slice_get fs f) then [] else one U4 at)
+  pub core-call : (at : Span) (f : ℕ) (args : List TypedExpr) → core_faults fs looped (Call at f args) ≡ (if is_core (slice_get fs f) then [] else one U4 at)
   unfolding core_faults
   core-call at f args = refl
 
   pub core-if : (at : Span) (test : TypedExpr) (first second : List TypedStmt)
-      → verdict (core_faults fs (If at test first second)) ≡ before (verdict (faults_of_each (core_faults fs) first)) (verdict (faults_of_each (core_faults fs) second))
+      → verdict (core_faults fs looped (If at test first second)) ≡ before (verdict (faults_of_each (core_faults fs looped) first)) (verdict (faults_of_each (core_faults fs looped) second))
   unfolding core_faults
   core-if at test first second = rw (← core-row first, ← core-row second) (verdict-append _ _)
 
-  pub core-while : (at : Span) (test : TypedExpr) (body : List TypedStmt) → core_faults fs (While at test body) ≡ faults_of_each (core_faults fs) body
+  pub core-break : (at : Span) → core_faults fs looped (Break at) ≡ loop_faults looped at
   unfolding core_faults
-  core-while at test body = core-row body
+  core-break at = refl
 
-  pub core-return : (at : Span) → core_faults fs (Return at) ≡ []
+  pub core-continue : (at : Span) → core_faults fs looped (Continue at) ≡ loop_faults looped at
+  unfolding core_faults
+  core-continue at = refl
+
+  pub core-return : (at : Span) → core_faults fs looped (Return at) ≡ []
   unfolding core_faults
   core-return at = refl
 
-pub ruleset core_steps = (core-declare, core-assign, core-set, core-write, core-call, core-if, core-while, core-return, each-none)
+pub core-while : (fs : List TypedFunction) (looped : Bool) (at : Span) (test : TypedExpr) (body : List TypedStmt)
+    → core_faults fs looped (While at test body) ≡ faults_of_each (core_faults fs true) body
+unfolding core_faults
+core-while fs looped at test body = core-row fs true body
+
+pub ruleset core_steps = (core-declare, core-assign, core-set, core-write, core-call, core-if, core-while, core-return, core-break, core-continue, each-none)
 
 pub init-row : (xs : List TypedStmt) → row_init_faults (hidden-the_row-TypedStmt-0 xs) ≡ faults_of_each init_faults xs
 unfolding init_faults faults_of_each hidden-the_row-TypedStmt-0 shape-the_row-TypedStmt-0 denote.Hole.Carrier.hidden
@@ -141,4 +150,12 @@ module _ (at : Span) where
   unfolding init_faults
   init-return = refl
 
-pub ruleset init_steps = (init-set, init-if, init-declare, init-assign, init-write, init-call, init-while, init-return, each-none)
+  pub init-break : verdict (init_faults (Break at)) ≡ Err (record { code = U2; span = at })
+  unfolding init_faults
+  init-break = refl
+
+  pub init-continue : verdict (init_faults (Continue at)) ≡ Err (record { code = U2; span = at })
+  unfolding init_faults
+  init-continue = refl
+
+pub ruleset init_steps = (init-set, init-if, init-declare, init-assign, init-write, init-call, init-while, init-return, init-break, init-continue, each-none)

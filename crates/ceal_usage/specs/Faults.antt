@@ -1,16 +1,16 @@
 -- The faults of usage of a program, in the order of the walk of its bodies: a statement's own fault first, then those
 -- of its expressions, then those of the statements in it.
-use Rattle.std.specs.Prelude.{Bool, false, Option, Some, None, is_some, is_none, List, [], ◌∷◌, ◌++◌, slice_get, if◌then◌else◌}
+use Rattle.std.specs.Prelude.{Bool, true, false, Option, Some, None, is_some, is_none, List, [], ◌∷◌, ◌++◌, slice_get, if◌then◌else◌}
 use Rattle.ceal_base.specs.declared.fault.Fault.{Fault}
 use Rattle.ceal_base.specs.declared.fault.FaultCode.{FaultCode}
-use Rattle.ceal_base.specs.declared.fault.FaultCode.TheVariants.{U1, U2, U3, U4, U5}
+use Rattle.ceal_base.specs.declared.fault.FaultCode.TheVariants.{U1, U2, U3, U4, U5, U6}
 use Rattle.ceal_base.specs.declared.fault.Span.{Span}
 use Rattle.ceal_base.specs.declared.typed.Typed.{Typed}
 use Rattle.ceal_base.specs.declared.typed.TypedExpr.{TypedExpr}
 use Rattle.ceal_base.specs.declared.typed.TypedForm.TheBlock.{Row_of-TypedExpr, end_of-TypedExpr, more_of-TypedExpr}
 use Rattle.ceal_base.specs.declared.typed.TypedForm.{TypedForm, Num, Null, Var, Own, Unary', Binary', Field', Address'}
 use Rattle.ceal_base.specs.declared.typed.TypedFunction.{TypedFunction}
-use Rattle.ceal_base.specs.declared.typed.TypedStmt.{TypedStmt, Declare, Assign, SetField, Write, Call, If', While', Return}
+use Rattle.ceal_base.specs.declared.typed.TypedStmt.{TypedStmt, Declare, Assign, SetField, Write, Call, If', While', Return, Break, Continue}
 use Rattle.ceal_base.specs.declared.typed.TypedStmt.{Row_of-TypedStmt, end_of-TypedStmt, more_of-TypedStmt}
 use Rattle.ceal_base.specs.declared.typed.TypedValue.{TypedValue}
 use Rattle.ceal_base.specs.declared.typed.TypedValue.TheVariants.{Plain, Read, Alloc, ModrefInt, Modref}
@@ -63,21 +63,28 @@ value_faults fs (Alloc at shape f name args) = if is_initialiser (slice_get fs f
 value_faults fs (ModrefInt at) = []
 value_faults fs (Modref at s) = []
 
--- a statement of a core function: it writes no field, and calls core functions alone
-unfoldable mutual
-  pub core_faults : List TypedFunction → TypedStmt → List Fault
-  core_faults fs (Declare at n kind value) = value_faults fs value
-  core_faults fs (Assign at n value) = value_faults fs value
-  core_faults fs (SetField at left s field e) = one U1 at
-  core_faults fs (Write at place e) = []
-  core_faults fs (Call at f args) = if is_core (slice_get fs f) then [] else one U4 at
-  core_faults fs (If' at test _ first _ second) = row_core_faults fs first ++ row_core_faults fs second
-  core_faults fs (While' at test _ body) = row_core_faults fs body
-  core_faults fs (Return at) = []
+-- U6 at a `break` or `continue` that stands in no loop
+abbrev pub loop_faults : Bool → Span → List Fault
+loop_faults looped at = if looped then [] else one U6 at
 
-  pub row_core_faults : List TypedFunction → {n : _} → Row_of-TypedStmt n → List Fault
-  row_core_faults fs end_of-TypedStmt = []
-  row_core_faults fs (more_of-TypedStmt s rest) = core_faults fs s ++ row_core_faults fs rest
+-- a statement of a core function: it writes no field, calls core functions alone, and is a `break` or `continue` in a
+-- loop alone; the truth value says whether the statement stands in one
+unfoldable mutual
+  pub core_faults : List TypedFunction → Bool → TypedStmt → List Fault
+  core_faults fs looped (Declare at n kind value) = value_faults fs value
+  core_faults fs looped (Assign at n value) = value_faults fs value
+  core_faults fs looped (SetField at left s field e) = one U1 at
+  core_faults fs looped (Write at place e) = []
+  core_faults fs looped (Call at f args) = if is_core (slice_get fs f) then [] else one U4 at
+  core_faults fs looped (If' at test _ first _ second) = row_core_faults fs looped first ++ row_core_faults fs looped second
+  core_faults fs looped (While' at test _ body) = row_core_faults fs true body
+  core_faults fs looped (Return at) = []
+  core_faults fs looped (Break at) = loop_faults looped at
+  core_faults fs looped (Continue at) = loop_faults looped at
+
+  pub row_core_faults : List TypedFunction → Bool → {n : _} → Row_of-TypedStmt n → List Fault
+  row_core_faults fs looped end_of-TypedStmt = []
+  row_core_faults fs looped (more_of-TypedStmt s rest) = core_faults fs looped s ++ row_core_faults fs looped rest
 
 -- none where the expression is `self`
 abbrev pub faults_unless_own : List Fault → TypedForm → List Fault
@@ -99,13 +106,15 @@ unfoldable mutual
   init_faults (If' at test _ first _ second) = mentions test ++ row_init_faults first ++ row_init_faults second
   init_faults (While' at test _ body) = one U2 at ++ mentions test ++ row_init_faults body
   init_faults (Return at) = one U2 at
+  init_faults (Break at) = one U2 at
+  init_faults (Continue at) = one U2 at
 
   pub row_init_faults : {n : _} → Row_of-TypedStmt n → List Fault
   row_init_faults end_of-TypedStmt = []
   row_init_faults (more_of-TypedStmt s rest) = init_faults s ++ row_init_faults rest
 
 abbrev pub function_faults : List TypedFunction → TypedFunction → List Fault
-function_faults fs f = elim f.initialiser [ None ↦ faults_of_each (core_faults fs) f.body | Some s ↦ faults_of_each init_faults f.body ]
+function_faults fs f = elim f.initialiser [ None ↦ faults_of_each (core_faults fs false) f.body | Some s ↦ faults_of_each init_faults f.body ]
 
 abbrev pub usage_faults : Typed → List Fault
 usage_faults program = faults_of_each (function_faults program.functions) program.functions

@@ -2,9 +2,9 @@
 
 ghost use Rattle.std.specs.Prelude.{◌≡◌, slice_get};
 ghost use Rattle.ceal_usage.specs.Verdict.{verdict, faults_of_each};
-ghost use Rattle.std.specs.Prelude.{[], if◌then◌else◌};
+ghost use Rattle.std.specs.Prelude.{[], if◌then◌else◌, true};
 ghost use Rattle.ceal_base.specs.declared.fault.FaultCode.TheVariants.{U4, U5};
-ghost use Rattle.ceal_usage.specs.Faults.{one, is_core, is_initialiser, value_faults, core_faults, target_faults, init_faults};
+ghost use Rattle.ceal_usage.specs.Faults.{one, is_core, is_initialiser, value_faults, loop_faults, core_faults, target_faults, init_faults};
 
 use crate::mention::{check_mentions, fault};
 use ceal_base::fault::{Fault, FaultCode, Span};
@@ -29,7 +29,8 @@ fn names_initialiser(functions: &[TypedFunction], number: u32) -> bool
 }
 
 fn check_alloc(functions: &[TypedFunction], number: u32, name: Span) -> Result<(), Fault>
-    ensures { result ≡ verdict (if is_initialiser (slice_get functions.now number) then [] else one U5 name) }
+    ensures { result
+        ≡ verdict (if is_initialiser (slice_get functions.now number) then [] else one U5 name) }
 {
     if names_initialiser(functions, number) {
         Ok(())
@@ -39,7 +40,8 @@ fn check_alloc(functions: &[TypedFunction], number: u32, name: Span) -> Result<(
 }
 
 fn check_call(functions: &[TypedFunction], number: u32, name: Span) -> Result<(), Fault>
-    ensures { result ≡ verdict (if is_core (slice_get functions.now number) then [] else one U4 name) }
+    ensures { result
+        ≡ verdict (if is_core (slice_get functions.now number) then [] else one U4 name) }
 {
     if names_core(functions, number) {
         Ok(())
@@ -60,22 +62,37 @@ fn check_value(functions: &[TypedFunction], value: &TypedValue) -> Result<(), Fa
     }
 }
 
-/// U1, U4 or U5 at the first statement of a core function that breaks a rule.
+fn check_loop(looped: bool, at: Span) -> Result<(), Fault>
+    ensures { result ≡ verdict (loop_faults looped at) }
+{
+    if looped {
+        Ok(())
+    } else {
+        fault(FaultCode::U6, at)
+    }
+}
+
+/// U1, U4, U5 or U6 at the first statement of a core function that breaks a rule, `looped` saying whether the
+/// statements stand in a loop.
 #[cycle(core)]
 #[tactic(auto, using(crate::proofs::UsageSteps::core_steps))]
-pub fn check_core_body(functions: &[TypedFunction], stmts: &[TypedStmt]) -> Result<(), Fault>
-    ensures first { result ≡ verdict (faults_of_each (core_faults functions.now) stmts.now) }
+pub fn check_core_body(
+    functions: &[TypedFunction],
+    looped: bool,
+    stmts: &[TypedStmt],
+) -> Result<(), Fault>
+    ensures first { result ≡ verdict (faults_of_each (core_faults functions.now looped) stmts.now) }
 {
     for s in stmts {
-        check_core_stmt(functions, s)?;
+        check_core_stmt(functions, looped, s)?;
     }
     Ok(())
 }
 
 #[cycle(core)]
 #[tactic(auto, using(crate::proofs::UsageSteps::core_steps))]
-fn check_core_stmt(functions: &[TypedFunction], s: &TypedStmt) -> Result<(), Fault>
-    ensures first { result ≡ verdict (core_faults functions.now s.now) }
+fn check_core_stmt(functions: &[TypedFunction], looped: bool, s: &TypedStmt) -> Result<(), Fault>
+    ensures first { result ≡ verdict (core_faults functions.now looped s.now) }
 {
     match s {
         TypedStmt::Declare(_, _, _, value) => check_value(functions, value),
@@ -84,11 +101,13 @@ fn check_core_stmt(functions: &[TypedFunction], s: &TypedStmt) -> Result<(), Fau
         TypedStmt::Write(..) => Ok(()),
         TypedStmt::Call(at, number, _) => check_call(functions, *number, *at),
         TypedStmt::If(_, _, first, second) => {
-            check_core_body(functions, first.items())?;
-            check_core_body(functions, second.items())
+            check_core_body(functions, looped, first.items())?;
+            check_core_body(functions, looped, second.items())
         }
-        TypedStmt::While(_, _, body) => check_core_body(functions, body.items()),
+        TypedStmt::While(_, _, body) => check_core_body(functions, true, body.items()),
         TypedStmt::Return(_) => Ok(()),
+        TypedStmt::Break(at) => check_loop(looped, *at),
+        TypedStmt::Continue(at) => check_loop(looped, *at),
     }
 }
 
@@ -134,5 +153,7 @@ fn check_init_stmt(s: &TypedStmt) -> Result<(), Fault>
         TypedStmt::Call(at, ..) => fault(FaultCode::U2, *at),
         TypedStmt::While(at, ..) => fault(FaultCode::U2, *at),
         TypedStmt::Return(at) => fault(FaultCode::U2, *at),
+        TypedStmt::Break(at) => fault(FaultCode::U2, *at),
+        TypedStmt::Continue(at) => fault(FaultCode::U2, *at),
     }
 }

@@ -13,7 +13,7 @@ fn check_function(functions: &[TypedFunction], function: &TypedFunction) -> Resu
     ensures { result ≡ verdict (function_faults functions.now function.now) }
 {
     match function.initialiser {
-        None => check_core_body(functions, function.body.items()),
+        None => check_core_body(functions, false, function.body.items()),
         Some(_) => check_init_body(function.body.items()),
     }
 }
@@ -27,7 +27,7 @@ fn check_functions(functions: &[TypedFunction]) -> Result<(), Fault>
     Ok(())
 }
 
-/// Whether the program keeps the rules of usage, or the first place where it breaks one: U1 to U5.
+/// Whether the program keeps the rules of usage, or the first place where it breaks one: U1 to U6.
 pub fn check_usage(program: &Typed) -> Result<(), Fault>
     ensures kept { IsOk result ↔ KeepsUsage program.now }
     ensures first { result ≡ verdict (usage_faults program.now) }

@@ -34,7 +34,9 @@ impl<A: Allocator> Model for Deed<A> {
 impl Block {
     pub(crate) fn new<A: Allocator>(alloc: &A, count: usize) -> Option<(Block, Deed<A>)>
         requires { count * 8 < 2 ^ 63 }
-        ensures { IfSome result (λ r. (r.0.words ≡ replicate count None) × (r.1.at ≡ r.0.at) × (r.1.count ≡ count) × (r.1.heap ≡ alloc.now)) }
+        ensures { IfSome result
+            (λ r. (r.0.words ≡ replicate count None) × (r.1.at ≡ r.0.at) × (r.1.count ≡ count)
+            × (r.1.heap ≡ alloc.now)) }
     {
         match alloc.allocate(count * 8, 8) {
             Ok(block) => {
@@ -47,7 +49,8 @@ impl Block {
     }
 
     pub(crate) fn free<A: Allocator>(self, deed: Deed<A>, alloc: &A, count: usize)
-        requires { (length self.words ≡ count) × (deed.at ≡ self.at) × (deed.count ≡ count) × (deed.heap ≡ alloc.now) }
+        requires { (length self.words ≡ count) × (deed.at ≡ self.at) × (deed.count ≡ count)
+            × (deed.heap ≡ alloc.now) }
     {
         let Block { at } = self;
         let Deed { marker: _ } = deed;
@@ -56,7 +59,8 @@ impl Block {
 
     pub(crate) fn write(&mut self, index: usize, word: u64)
         requires { index < length self.old.words }
-        ensures { (self.new.words ≡ slice_set self.old.words index (Some word)) × (self.new.at ≡ self.old.at) }
+        ensures { (self.new.words ≡ slice_set self.old.words index (Some word))
+            × (self.new.at ≡ self.old.at) }
     {
         unsafe { self.at.add(index).write(word) }
     }

@@ -108,7 +108,8 @@ impl Pool {
         requires some { 0 < self.old.spare }
         requires length { RoundsTo len self.old.size }
         ensures was_free { slice_get self.old.pieces result ≡ Some None }
-        ensures taken { (words : List ℕ) × (length words ≡ len) × (self.new ≡ taken result words self.old) }
+        ensures taken { (words : List ℕ) × (length words ≡ len)
+            × (self.new ≡ taken result words self.old) }
     {
         let at = self.head as u32;
         let next = self.chunk.get(at as usize * self.size as usize);
@@ -133,7 +134,8 @@ impl Pool {
 
     pub(crate) fn give(&mut self, at: u32)
         requires { IsSome (words_at self.old.pieces at) }
-        ensures length { IfSome (words_at self.old.pieces at) (λ words. RoundsTo (length words) self.old.size) }
+        ensures length { IfSome (words_at self.old.pieces at)
+            (λ words. RoundsTo (length words) self.old.size) }
         ensures given { self.new ≡ given at self.old }
     {
         self.chunk.set(at as usize * self.size as usize, self.head);

@@ -98,7 +98,8 @@ impl Region {
     /// Sets a word of a slot.
     pub fn set(&mut self, slot: &Slot, index: u32, value: u64)
         requires { IsSome (word_of self.old slot.now index) }
-        ensures word { words_of self.new slot.now ≡ changed (words_of self.old slot.now) index value }
+        ensures word { words_of self.new slot.now
+            ≡ changed (words_of self.old slot.now) index value }
         ensures words { KeepsOthers slot.now self.old self.new }
         ensures spare { KeepsSpares self.old self.new }
     {

@@ -23,7 +23,8 @@ abbrev pub all_signs : List Sign
 all_signs =
     signs.Arrow ∷ signs.AndAnd ∷ signs.BarBar ∷ signs.EqualsEquals ∷ signs.BangEquals ∷ signs.LessEquals ∷ signs.GreaterEquals
     ∷ signs.Less ∷ signs.Greater ∷ signs.Plus ∷ signs.Minus ∷ signs.Star ∷ signs.Slash ∷ signs.Percent ∷ signs.Bang ∷ signs.Ampersand ∷ signs.Equals
-    ∷ signs.LeftParenthesis ∷ signs.RightParenthesis ∷ signs.LeftBrace ∷ signs.RightBrace ∷ signs.Comma ∷ signs.Semicolon ∷ []
+    ∷ signs.LeftParenthesis ∷ signs.RightParenthesis ∷ signs.LeftBrace ∷ signs.RightBrace ∷ signs.Comma ∷ signs.Semicolon ∷ signs.LeftBracket ∷ signs.RightBracket
+    ∷ []
 
 -- the first of them that has these bytes for its text
 unfoldable pub found : {A : Type 0} → (A → List ℕ) → List A → List ℕ → Option A

@@ -61,7 +61,7 @@ returns-in-Ok-true-clause-answered g c =
 
 pub returns-in-Ok-false-clause-told : goal.returns-in-Ok-false-clause-told
 returns-in-Ok-false-clause-told g c =
-    λ _. refusal_for _ _ _ _ c.in-Ok.ensures.all c.in-Ok.ensures.end c.deref.ensures.value _ _ _ c.requires
+    λ _. refusal_for _ _ _ _ c.in-Ok.ensures.all c.in-Ok.ensures.end c.deref.ensures.value _ _ _ c.requires.reads
     (λ h. let t = c.in-Ok-false.ensures.accepted.1 h in let f = c.in-Ok-false.field-0-test in absurd (cc (t, f))) c.in-Ok-false.ensures.all
 
 pub returns-in-Ok-false-clause-within : goal.returns-in-Ok-false-clause-within

@@ -2,7 +2,7 @@ use Rattle.std.proofs.Common.{sym, subst}
 use Rattle.ceal_cli.specs.Answers.{IsWhole}
 use Rattle.ceal_cli.specs.Growth.{WritesGenerated, WritesGeneratedPrefix}
 use Rattle.ceal_cli.specs.declared.words.Mode.TheVariants.{Gen}
-use Rattle.ceal_cli.proofs.ModeLaws.{one_mode, one_workload, not_both, small_size}
+use Rattle.ceal_cli.proofs.ModeLaws.{one_mode, one_workload, not_both, keeps_limits, small_size}
 use Rattle.ceal_cli.proofs.TopLaws.{any_answer, any_output, any_prefix, loses_none, no_refusal}
 use Rattle.ceal_cli.proofs.top.ceal_main.Goals as goal
 
@@ -111,3 +111,6 @@ pub answer_workload-requires : goal.answer_workload-requires
 answer_workload-requires g c =
     let asked = rw (c.in-Ok-Some-Gen.field-0-is, c.in-Ok-Some-Gen.field-0-0-is) at c.in-Ok-Some-Gen.ensures in
     small_size _ _ _ _ asked
+
+pub answer_input-requires-clause-limits : goal.answer_input-requires-clause-limits
+answer_input-requires-clause-limits g c = keeps_limits _ c.in-Ok-Some.mode (rw c.in-Ok-Some.field-0-is at c.in-Ok-Some.ensures)

@@ -2,7 +2,7 @@ use Rattle.std.proofs.Common.{◌≡◌, ◌+◌, ◌<◌, false, true, length, 
 use Rattle.std.proofs.lemmas.List.{take_rest, append-nil}
 use Rattle.ceal_base.specs.declared.typed.TypedStmt.{the_lemmas}
 use Rattle.ceal_flow.specs.Blocks.{size, sizes, goes_on}
-use Rattle.ceal_flow.proofs.BlockSteps.{size-if, size-while, sizes-drop, blocks-return, on-nil, all-nil}
+use Rattle.ceal_flow.proofs.BlockSteps.{size-if, size-while, sizes-drop, blocks-return, blocks-break, blocks-continue, on-nil, all-nil}
 use Rattle.ceal_flow.proofs.PutSteps.{put-if, put-while, put-next, put-last, all_go_on-drop, length-push, length-more, length-one}
 use Rattle.ceal_flow.proofs.statements.+put.Goals as goal
 
@@ -39,13 +39,19 @@ put_stmt-returns-in_ok-second_on-in-If-clause-blocks t c =
 
 pub put_stmt-returns-in_ok-put_stmts-in-While-clause-blocks : goal.put_stmt-returns-in_ok-put_stmts-in-While-clause-blocks
 put_stmt-returns-in_ok-put_stmts-in-While-clause-blocks t c =
-    let yes_is = rw c.items-in-While.ensures.value at c.entry_of-yes-in-While.ensures.value in
-    let body_is = rw c.items-in-While-2.ensures.value at c.in_ok-put_stmts-in-While.ensures.blocks in
+    let yes_is = rw (c.items-in-While.ensures.value, c.in_loop-inside.ensures.value) at c.entry_of-yes-in-While.ensures.value in
+    let body_is = rw (c.items-in-While-2.ensures.value, c.in_loop-inside.ensures.value) at c.in_ok-put_stmts-in-While.ensures.blocks in
     rw c.in-While.is
     (put-while _ _ _ c.in-While.field-0 c.in-While.test c.in-While.body c.next_number-at.result _ _ _ c.next_number-at.ensures.value yes_is c.in_ok-put_test-in-While.ensures body_is)
 
 pub put_stmt-returns-in-Return-clause-blocks : goal.put_stmt-returns-in-Return-clause-blocks
 put_stmt-returns-in-Return-clause-blocks t c = rw (c.in-Return.is, blocks-return, append-nil) refl
+
+pub put_stmt-returns-in-Break-clause-blocks : goal.put_stmt-returns-in-Break-clause-blocks
+put_stmt-returns-in-Break-clause-blocks t c = rw (c.in-Break.is, blocks-break, append-nil) refl
+
+pub put_stmt-returns-in-Continue-clause-blocks : goal.put_stmt-returns-in-Continue-clause-blocks
+put_stmt-returns-in-Continue-clause-blocks t c = rw (c.in-Continue.is, blocks-continue, append-nil) refl
 
 pub put_stmts-size_of-requires : goal.put_stmts-size_of-requires
 put_stmts-size_of-requires t c =

@@ -6,7 +6,7 @@ use Rattle.ceal_flow.proofs.statements.+put.Given as goal
 abbrev pub invariant-put_stmts-loop-i : goal.invariant-put_stmts-loop-i
 invariant-put_stmts-loop-i l = record {
   room : length l.blocks.items + sizes (drop l.i l.stmts) ≤ BLOCK_LIMIT;
-  blocks : l.blocks.items ++ all_blocks (drop l.i l.stmts) (length l.blocks.items) l.after l.done
-      ≡ l.initial.blocks.items ++ all_blocks l.stmts (length l.initial.blocks.items) l.after l.done;
+  blocks : l.blocks.items ++ all_blocks (drop l.i l.stmts) (length l.blocks.items) l.after l.exits
+      ≡ l.initial.blocks.items ++ all_blocks l.stmts (length l.initial.blocks.items) l.after l.exits;
   on : all_go_on (drop l.i l.stmts) ≡ all_go_on l.stmts;
 }

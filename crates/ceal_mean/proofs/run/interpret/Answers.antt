@@ -1,5 +1,4 @@
 use Rattle.std.proofs.Common.{◌≡◌, ◌<◌, ◌-◌, ◌∙◌, sym, ap, arith, length, reverse, Some}
-use Rattle.std.proofs.lemmas.List.{length-reverse}
 use Rattle.ceal_mean.specs.Exec.{settled}
 use Rattle.ceal_mean.specs.Fresh.{fresh, outcome_of}
 use Rattle.ceal_mean.proofs.RunLemmas.{run-more, run-over, run-empty, run-short}
@@ -36,8 +35,7 @@ returns-in-None c =
 pub returns-in-Some : goal.returns-in-Some
 returns-in-Some c =
     let none : c.args.fuel - c.loop-steps.steps ≡ 0 = omega arith in
-    let there : 0 < length (reverse c.next_of.new.frames.items) = rw length-reverse (rw c.in-Some.is at c.in_ok-next_of.ensures.there) in
     record {
-      outcome = ap outcome_of (sym (run-short c.args.program.now _ c.loop-steps.steps c.loop-steps.memory _ _ _ none there (rw c.in-Some.is at c.in_ok-next_of.ensures.some))
+      outcome = ap outcome_of (sym (run-short c.args.program.now _ c.loop-steps.steps c.loop-steps.memory _ _ none (rw c.in-Some.is at c.in_ok-next_of.ensures.some))
           ∙ c.loop-steps.invariant.same);
     }

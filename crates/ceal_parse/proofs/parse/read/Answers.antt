@@ -11,12 +11,13 @@ returns-in-Err c = record {
 pub loop-token-preserved : goal.loop-token-preserved
 loop-token-preserved c =
     let next = c.advance.new.self.state in
-    let keeps = kept c.loop-token.parser.state c.token-item.result next c.in-Ok.ensures.value in
+    let keeps = kept c.loop-token.parser.state c.token-item.result next c.loop-token.invariant.room c.in-Ok.ensures.value in
     record {
       same = loop_on c.loop-token.parser.state c.args.tokens.now c.loop-token.token-index c.token-item.result (omega arith) _ c.loop-token.invariant.same next
           (rw (← c.token-item.is) c.in-Ok.ensures.value);
       shallow = keeps.0;
       few = keeps.1;
+      room = keeps.2;
     }
 
 pub returns-in-Some : goal.returns-in-Some

@@ -5,4 +5,4 @@ use Rattle.ceal_usage.proofs.bodies.+core.Given as goal
 
 abbrev pub invariant-check_core_body-loop-s : goal.invariant-check_core_body-loop-s
 invariant-check_core_body-loop-s l =
-    verdict (faults_of_each (core_faults l.functions) (drop l.s-index l.stmts)) ≡ verdict (faults_of_each (core_faults l.functions) l.stmts)
+    verdict (faults_of_each (core_faults l.functions l.looped) (drop l.s-index l.stmts)) ≡ verdict (faults_of_each (core_faults l.functions l.looped) l.stmts)

@@ -1,9 +1,8 @@
 use Rattle.std.proofs.Common.{subst}
-use Rattle.ceal_engine.proofs.Present.{kept-engine}
+use Rattle.ceal_engine.proofs.Present.{sound-engine}
 use Rattle.ceal_engine.specs.Engine.{IsEngine}
 use Rattle.ceal_engine.proofs.engine.Engine.phase.Goals as goal
 
 pub returns-clause-whole : goal.returns-clause-whole
 returns-clause-whole c =
-    subst IsEngine c.self.view_is
-    (kept-engine c.progress_law.ensures.law c.self.inside.code c.self.inside.fuel c.self.inside.inputs c.self.inside.call c.self.inside.phase c.self.inside.memory c.self.inside.steps c.self.invariant)
+    subst IsEngine c.self.view_is (sound-engine c.self.inside.code c.self.inside.fuel c.self.inside.inputs c.self.inside.call c.self.inside.phase c.self.inside.run c.self.inside.work c.self.invariant)

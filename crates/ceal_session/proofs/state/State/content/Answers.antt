@@ -7,6 +7,6 @@ use Rattle.ceal_session.proofs.state.State.content.Goals as goal
 
 pub returns : goal.returns
 returns c =
-    subst (λ s. content_text s c.args.place (present_run s) ≡ Some (value_text s c.value.result)) c.self.view_is
-    (told-content c.self.inside.program c.self.inside.names c.self.inside.engine c.self.inside.pending c.self.invariant c.phase-phase.ensures.whole (subst IsReady (sym c.self.view_is) c.requires.ready)
-    c.args.place c.value.result (subst (λ s. IsCellOf s c.args.place) (sym c.self.view_is) c.requires.cell) c.value.ensures.value)
+    subst (λ m. content_text m.state c.args.place (present_run m.state) ≡ Some (value_text m.state c.value.result)) c.self.view_is
+    (told-content c.self.inside.program c.self.inside.names c.self.inside.engine c.self.inside.pending c.self.invariant c.phase-phase.ensures.whole (subst (λ m. IsReady m.state) (sym c.self.view_is) c.requires.ready)
+    c.args.place c.value.result (subst (λ m. IsCellOf m.state c.args.place) (sym c.self.view_is) c.requires.cell) c.value.ensures.value)

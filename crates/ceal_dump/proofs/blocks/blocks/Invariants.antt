@@ -1,0 +1,13 @@
+use Rattle.std.proofs.Common.{◌≡◌, ◌++◌}
+use Rattle.ceal_dump.specs.Reading.{blocks_from}
+use Rattle.ceal_dump.proofs.blocks.blocks.Given as goal
+
+-- what is read from here on belongs behind what was read so far
+abbrev pub invariant-loop-left : goal.invariant-loop-left
+invariant-loop-left l = record {
+  same : l.blocks.items ++ (blocks_from l.left l.reader).0 ≡ (blocks_from l.count l.fn.reader).0;
+  rest : (blocks_from l.left l.reader).1 ≡ (blocks_from l.count l.fn.reader).1;
+}
+
+abbrev pub decreases-loop-left : goal.decreases-loop-left
+decreases-loop-left l = l.left

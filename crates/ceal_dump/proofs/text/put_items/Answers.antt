@@ -1,0 +1,12 @@
+use Rattle.std.proofs.Common.{◌++◌}
+use Rattle.ceal_dump.proofs.Steps.{items-more, items-end}
+use Rattle.ceal_dump.specs.DumpText.{item_lines}
+use Rattle.ceal_dump.proofs.text.put_items.Goals as goal
+
+pub loop-item-preserved : goal.loop-item-preserved
+loop-item-preserved c =
+    items-more c.loop-item.out c.put_item.new.out (c.args.out.now ++ item_lines c.args.items.now) c.loop-item.items.now c.in-Some.more.now c.in-Some.item.now
+    c.in_ok-put_item.ensures c.in-Some.ensures.cases.0 c.loop-item.invariant
+
+pub returns : goal.returns
+returns c = items-end c.loop-item.out (c.args.out.now ++ item_lines c.args.items.now) c.loop-item.items.now c.in_default.ensures.cases c.loop-item.invariant

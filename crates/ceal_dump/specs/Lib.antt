@@ -1,0 +1,3 @@
+pub mod DumpText
+pub mod Reading
+pub mod Answers

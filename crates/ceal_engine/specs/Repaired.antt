@@ -1,0 +1,56 @@
+-- What a run and a propagation make of the trace.
+use Rattle.std.specs.Prelude.{◌≡◌, ℕ, Option, Some, None, List}
+use Rattle.ceal_base.specs.Block.{Block}
+use Rattle.ceal_base.specs.Trace.{Trace, steps_of}
+use Rattle.ceal_base.specs.declared.call.Call.{Call}
+use Rattle.ceal_code.specs.Alike.{Pairs, One_to_one, Trace_alike}
+use Rattle.ceal_code.specs.Program.{Code}
+use Rattle.ceal_engine.specs.Engine.{EngineState, trace}
+use Rattle.ceal_theory.specs.Adjust.{Above}
+use Rattle.ceal_theory.specs.Computed.{Repaired, adjusted, first_of}
+use Rattle.ceal_theory.specs.Named.{Apart, naming, trace_by}
+use Rattle.ceal_theory.specs.Repair.{Single}
+
+-- the second trace is the first one with its core blocks renamed one to one
+pub record IsRenamed (l m : Trace) : Type 0 where
+  pub pairs : Pairs
+  pub one : One_to_one pairs
+  pub alike : Trace_alike pairs l m
+
+-- the first trace of the call on the present inputs
+abbrev pub first_call : Code → List Block → ℕ → Option Call → Option Repaired
+first_call code inputs fuel None = None
+first_call code inputs fuel (Some call) = first_of code inputs fuel call.function call.args
+
+abbrev pub first_trace : EngineState → Option Repaired
+first_trace e = first_call e.code e.inputs e.fuel e.call
+
+-- The trace is the first trace of the call on the present inputs, its core blocks renamed one to one; all its steps are
+-- work.
+pub record IsFirst (e : EngineState) (l : Trace) : Type 0 where
+  pub first : Repaired
+  pub is : first_trace e ≡ Some first
+  pub renamed : IsRenamed first.items l
+  pub work : e.work ≡ steps_of first.items
+
+-- The new trace is the repair of the old one on the present inputs with new blocks from `next` on, which have these names
+-- in place of their numbers; blocks of the old trace keep theirs. The work is the repair's.
+pub record IsRepairFrom (e : EngineState) (names : ℕ → ℕ) (old new : Trace) (next : ℕ) : Type 0 where
+  pub repair : Repaired
+  pub is : adjusted e.code e.inputs next e.fuel old ≡ Some repair
+  pub named : new ≡ trace_by (naming next names) repair.items
+  pub renamed : IsRenamed repair.items new
+  pub work : e.work ≡ repair.work
+
+-- The new trace is the repair of the old one on the present inputs, from any number above the old blocks; the new blocks
+-- have other names, one to one, and none is that of an old block.
+pub record IsRepaired (e : EngineState) (old new : Trace) : Type 0 where
+  pub names : ℕ → ℕ
+  pub single : Single names
+  pub apart : Apart names old
+  pub from : (next : ℕ) → Above next old → IsRepairFrom e names old new next
+
+-- nothing of the trace has changed, and no step was run anew
+pub record IsUnchanged (e : EngineState) (old : Trace) : Type 0 where
+  pub same : trace e ≡ Some old
+  pub work : e.work ≡ 0

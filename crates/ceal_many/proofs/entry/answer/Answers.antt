@@ -1,0 +1,13 @@
+use Rattle.ceal_many.proofs.Answering.{wrote, lost}
+use Rattle.ceal_many.proofs.entry.answer.Goals as goal
+
+pub returns-clause-reply : goal.returns-clause-reply
+returns-clause-reply g c =
+    wrote g.A.Answerer.stands g.A.Answerer.answers g.A.Answerer.leaves c.args.entry.now.name c.args.line.now c.in_ok-reply.reply c.items-2.result.now
+    c.args.entry.now.answerer c.command.new.self c.items-2.ensures.value c.in_ok-reply.ensures.reply c.prefixed.result
+    (rw (← c.items.ensures.value) c.prefixed.ensures)
+
+pub returns-clause-left : goal.returns-clause-left
+returns-clause-left g c =
+    lost g.A.Answerer.stands g.A.Answerer.answers g.A.Answerer.leaves c.args.entry.now.name c.args.line.now c.in_ok-reply.reply c.items-2.result.now
+    c.args.entry.now.answerer c.command.new.self c.items-2.ensures.value c.in_ok-reply.ensures.reply c.prefixed.result

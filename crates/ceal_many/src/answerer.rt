@@ -1,0 +1,45 @@
+// What answers the lines of one session, and what makes one.
+
+ghost use Rattle.std.specs.Prelude.{IfOk, OnErr};
+ghost use Rattle.ceal_many.specs.Standing.{Answering, Leaving, IsReady, IsAnswered, IsLeft};
+
+use ceal_base::no_memory::NoMemory;
+use ceal_base::text::Text;
+
+/// What answers the lines of one session.
+pub trait Answerer: Drop {
+    /// The plain type of states. It is for contracts alone: nothing makes a value of it.
+    type State;
+
+    /// It stands for this state.
+    ghost stands: { Self → Self.State → Type 0 };
+
+    /// What `command` asks of the state.
+    ghost needs: { Self.State → Type 0 };
+
+    /// The state answers this line by this text, and goes on to this state.
+    ghost answers: { Answering Self.State };
+
+    /// What may be left of the state where there was no memory to answer this line.
+    ghost leaves: { Leaving Self.State };
+
+    /// The reply to a line, which has no line end. Each line of the reply ends with a line feed.
+    fn command(&mut self, line: &[u8]) -> Result<Text, NoMemory>
+        requires ready { IsReady stands needs self.old }
+        ensures reply { IfOk result
+            (λ text. IsAnswered stands answers self.old line.now text self.new) }
+        ensures left { OnErr result (IsLeft stands leaves self.old line.now self.new) };
+}
+
+/// What makes sessions, all in one opening state.
+pub trait Maker: Drop {
+    /// A session.
+    type Made: Answerer;
+
+    /// The state in which each session begins.
+    ghost opening: { Self → Self.Made.State };
+
+    /// A session that has answered no line.
+    fn make(&self) -> Result<Self::Made, NoMemory>
+        ensures opens { IfOk result (λ made. Self.Made.stands made (opening self.now)) };
+}

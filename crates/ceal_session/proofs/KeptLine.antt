@@ -1,0 +1,105 @@
+-- A line of a session whose trace is the definition's up to the numbers of core blocks is answered as the definition says.
+use Rattle.std.proofs.Common.{◌≡◌, ◌⊎◌, inl, inr, ℕ, Bool, true, false, ◌||◌, if◌then◌else◌, Option, Some, None, Result, Ok, Err, List, is_some, is_none, refl, sym, ap, ◌∙◌, subst, arith}
+use Rattle.ceal_base.specs.Finished.{Finished}
+use Rattle.ceal_base.specs.declared.call.Call.{Call}
+use Rattle.ceal_code.proofs.Same.{none-some}
+use Rattle.ceal_code.specs.Fitting.{Fits}
+use Rattle.ceal_code.specs.Laws.{Progress_law}
+use Rattle.ceal_code.specs.Program.{Code}
+use Rattle.ceal_code.specs.Replay.{Replays}
+use Rattle.ceal_script.specs.declared.command.Command.{Command}
+use Rattle.ceal_session.proofs.Answering.{can-tell-line}
+use Rattle.ceal_session.proofs.Composed.{renamed-composed}
+use Rattle.ceal_session.proofs.SomeReply.{Accepted, Repair_laws, Line_law, Whole_law, Text_law, accepted-in, behind, fits-call}
+use Rattle.ceal_session.proofs.Tracing.{is-above, on-itself, above}
+use Rattle.ceal_session.specs.Asking.{CanTell, IsReady}
+use Rattle.ceal_session.specs.Following.{Goes, Repairs}
+use Rattle.ceal_session.specs.Laws.{Kept, Kept_law, One_command_law}
+use Rattle.ceal_session.specs.Runs.{present_run, run_of}
+use Rattle.ceal_session.specs.Standing.{IsTraceOf, IsWorkOf, Stands}
+use Rattle.ceal_session.specs.State.{State, Situation, last}
+use Rattle.ceal_session.specs.Steps.{IsCall, answered_line, has_no_run}
+use Rattle.ceal_session.specs.Texts.{TellsOf, IsText}
+use Rattle.ceal_session.specs.Works.{call_in, latest_work, traced, trace_behind}
+use Rattle.ceal_session.specs.declared.refusal.Refusal.{Refusal}
+use Rattle.ceal_session.specs.declared.reply.Query.{Query}
+use Rattle.ceal_session.specs.declared.reply.Query.TheVariants.{Get, Show, Blocks, Steps, Work}
+use Rattle.ceal_session.specs.declared.reply.Reply.{Reply}
+use Rattle.ceal_session.specs.declared.reply.Reply.TheVariants.{Nothing, Ok as Done, OutOfFuel, Refused, Told}
+use Rattle.ceal_theory.specs.Computed.{Repaired}
+use Rattle.ceal_theory.specs.Laws.{Renamed_repair, Renamed_repair_law}
+
+-- the number is looked into by the question for it alone
+told-other : (s : State) (v w : ℕ) → v ≡ w → (q : Query) (o : Option Finished) (text : List ℕ) → TellsOf s v q o text → TellsOf s w q o text
+told-other s v w e q o text h = subst (λ n. TellsOf s n q o text) e h
+
+text-other : (s : State) (v w : ℕ) (reply : Reply) (text : List ℕ) → CanTell s reply → (IsReady s → v ≡ w) → IsText s v reply text → IsText s w reply text
+text-other s v w Nothing text c same h = h
+text-other s v w Done text c same h = h
+text-other s v w OutOfFuel text c same h = h
+text-other s v w (Refused r) text c same h = h
+text-other s v w (Told q) text c same h = told-other s v w (same c.0) q (present_run s) text h
+
+-- where a question can be answered there is a trace
+ready-trace : (code : Code) (s : State) (o : Option Call) (last : Option Repaired) → s.call ≡ o → IsTraceOf code s o last → IsReady s → (l : Repaired) × (last ≡ Some l)
+ready-trace code s None last i t r = absurd (let k = r.run in grind (arith, i, k))
+ready-trace code s (Some call) None i t r = absurd (let k = r.run in grind (arith, t, k))
+ready-trace code s (Some call) (Some l) i t r = (l, refl)
+
+-- both traces have one work number
+same-work : {a b : Option Repaired} → Renamed_repair a b → (work : ℕ) → IsWorkOf a work → (l : Repaired) → a ≡ Some l → latest_work b ≡ work
+same-work Renamed_repair.none work i l e = none-some l e
+same-work (Renamed_repair.some ps one alike w) work i l e = sym (i ∙ w)
+
+module _ (renamed : Renamed_repair_law) (code : Code) (s : State) where
+  -- the repairs of alike traces are alike
+  alike-behind : (call : Call) → Fits code s.inputs call.function call.args → {a b : Option Repaired} → Renamed_repair a b
+      → ((l : Repaired) → a ≡ Some l → Replays code s.inputs call.function call.args l.items) → (c : Option Repaired)
+      → Renamed_repair (trace_behind code s (Ok call) b) c → Renamed_repair (trace_behind code s (Ok call) a) c
+  alike-behind call fits Renamed_repair.none h c k = k
+  alike-behind call fits (Renamed_repair.some {a = a} {b = b} ps one alike work) h c k = go (is_some (run_of s call)) k
+    where
+      go : (e : Bool) → Renamed_repair (if e then traced code s call (Some b) else None) c → Renamed_repair (if e then traced code s call (Some a) else None) c
+      go false j = j
+      go true j =
+          renamed-composed
+          (renamed code s.inputs s.inputs call.function call.args a.items (above a.items) (on-itself code s.inputs call.function call.args fits a.items (h a refl)) ps one b.items alike
+          (above b.items) (is-above b.items) s.fuel)
+          j
+
+  -- the trace before a call is one of that call
+  replays-call : (call : Call) (o : Option Call) (last : Option Repaired) → ((o ≡ None) ⊎ (o ≡ Some call)) → IsTraceOf code s o last → (l : Repaired) → last ≡ Some l
+      → Replays code s.inputs call.function call.args l.items
+  replays-call call o last (inl none) t l e = none-some l (sym (subst (λ o. IsTraceOf code s o last) none t) ∙ e)
+  replays-call call o last (inr same) t l e = (subst (λ l. IsTraceOf code s (Some call) l) e (subst (λ o. IsTraceOf code s o last) same t)).1
+
+module _ (progress : Progress_law) (line_law : Line_law) (whole_law : Whole_law) (text_law : Text_law) (laws : Repair_laws) (renamed : Renamed_repair_law) (command_law : One_command_law) where
+  module _ (m n : Situation) (before : Option Repaired) (work : ℕ) (st : Stands m.code m.state before) (alike : Renamed_repair before (last m)) where
+    goes-alike : (called : Result Call Refusal) → ((call : Call) → called ≡ Ok call → Accepted m.state call) → Goes m called n
+        → (n.code ≡ m.code) × Renamed_repair (trace_behind m.code m.state called before) (last n)
+    goes-alike (Err r) h g = (g.code, subst (Renamed_repair before) (sym g.trace) alike)
+    goes-alike (Ok call) h g =
+        let a = h call refl in (
+          g.code,
+          alike-behind renamed m.code m.state call (fits-call progress line_law whole_law text_law laws m.code m.state before work st call a.is) alike
+              (replays-call renamed m.code m.state call m.state.call before a.only st.traced) (last n) g.trace,
+        )
+
+pub kept-law : Progress_law → Line_law → Whole_law → Text_law → Repair_laws → Renamed_repair_law → One_command_law → Kept_law
+kept-law progress line_law whole_law text_law laws renamed command_law m n before work line text st i alike answers repairs =
+    let same = command_law line repairs.command answers.command repairs.reads answers.reads in
+    let goes = subst (λ c. Goes m (call_in m.state c) n) same repairs.goes in
+    let g = goes-alike progress line_law whole_law text_law laws renamed command_law m n before work st alike (call_in m.state answers.command)
+    (accepted-in progress line_law whole_law text_law laws m.code m.state before work st answers.command) goes in
+    record {
+      answers = record {
+        command = answers.command;
+        reads = answers.reads;
+        reply = text-other m.state (latest_work (last m)) work (answered_line m.state answers.command).reply text (can-tell-line m.state st.named answers.command)
+            (λ r. let t = ready-trace m.code m.state m.state.call before refl st.traced r in same-work alike work i t.0 t.1) answers.reply;
+        state = answers.state;
+      };
+      behind = behind progress line_law whole_law text_law laws m.code m.state before work st i answers.command n.state answers.state;
+      code = g.0;
+      alike = g.1;
+    }

@@ -1,0 +1,14 @@
+pub mod Covering
+pub mod Queueing
+pub mod Parting
+pub mod Putting
+pub mod Waking
+pub mod Tabling
+pub mod Changing
+pub mod Steps
+pub mod Finding
+pub mod Keeping
+pub mod Cutting
+pub mod Editing
+pub mod Looking
+pub mod Bridging

@@ -1,0 +1,9 @@
+pub mod ItemSteps
+pub mod WalkSteps
+pub mod MemorySteps
+pub mod Accepted
+pub mod Known
+pub mod HonestItems
+pub mod Remembering
+pub mod Checked
+pub mod Sound

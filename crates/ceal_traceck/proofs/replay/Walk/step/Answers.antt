@@ -1,0 +1,9 @@
+use Rattle.ceal_code.specs.Stacks.{stack_in}
+use Rattle.ceal_traceck.proofs.WalkSteps.{quiet-more}
+use Rattle.ceal_traceck.specs.Walk.{code_of, plain_of, waiting}
+use Rattle.ceal_traceck.proofs.replay.Walk.step.Goals as goal
+
+pub returns-clause-turn : goal.returns-clause-turn
+returns-clause-turn c =
+    let w = c.args.self.now in
+    quiet-more (code_of w) (plain_of w) (stack_in w.stack) (waiting w.below.items) w.items.now c.in-Some.more.now c.in-Some.ensures.some

@@ -1,0 +1,4 @@
+pub mod Verdicts
+pub mod Laws
+pub mod Items
+pub mod Walk
