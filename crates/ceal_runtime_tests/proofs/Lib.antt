@@ -1,1 +1,2 @@
+mod NewStamps
 mod SlotFacts

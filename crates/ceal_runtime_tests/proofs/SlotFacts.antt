@@ -1,5 +1,5 @@
 -- What a test of a region knows of its slots.
-use Rattle.std.proofs.Common.{◌≡◌, ◌≢◌, ℕ, List, Option, Some, None, sym, ap, ◌∙◌, inl, inr, ◌⊎◌, ⊎_elim, is_some}
+use Rattle.std.proofs.Common.{◌≡◌, ◌≢◌, ℕ, List, Some, None, sym, ap, ◌∙◌, inl, inr, ◌⊎◌, ⊎_elim, is_some}
 use Rattle.std.proofs.lemmas.Bool.{cases_eq, false≢true}
 use Rattle.ceal_words.specs.Region.{words_of, KeepsOthers, KeepsAll}
 use Rattle.ceal_words.specs.SizeClass.{SizeClass}

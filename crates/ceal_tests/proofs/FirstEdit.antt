@@ -1,5 +1,5 @@
 -- A first trace is one that may be edited.
-use Rattle.std.proofs.Common.{◌≡◌, ℕ, zero, suc, ◌+◌, ◌≤◌, ◌==◌, Bool, true, false, if◌then◌else◌, Option, Some, None, List, [], ◌∷◌, ◌++◌, length, refl, ap, ◌∙◌, subst, arith}
+use Rattle.std.proofs.Common.{◌≡◌, ℕ, zero, suc, ◌+◌, ◌≤◌, ◌==◌, Bool, true, false, if◌then◌else◌, Option, Some, List, [], ◌∷◌, ◌++◌, length, refl, ap, ◌∙◌, subst, arith}
 use Rattle.ceal_base.specs.Block.{Block}
 use Rattle.ceal_base.specs.Finished.{Finished}
 use Rattle.ceal_base.specs.Fitting.{inputs_fit}
@@ -11,13 +11,13 @@ use Rattle.ceal_code.proofs.Same.{some-same, none-some}
 use Rattle.ceal_code.specs.Fitting.{Fits}
 use Rattle.ceal_code.specs.Fresh.{fresh}
 use Rattle.ceal_code.specs.Program.{Code}
-use Rattle.ceal_code.specs.Replay.{Yields, count, core_numbers}
+use Rattle.ceal_code.specs.Replay.{Yields, count}
 use Rattle.ceal_code.specs.Step.{Stack}
 use Rattle.ceal_code.specs.Value.{Plain}
 use Rattle.ceal_theory.specs.Adjust.{Extended}
 use Rattle.ceal_adjust.specs.Answers.{IsRepair}
 use Rattle.ceal_theory.specs.Computed.{Repaired, first_of}
-use Rattle.ceal_theory.specs.Laws.{Edited, First_law, First_trace, First_outcome, numbers}
+use Rattle.ceal_theory.specs.Laws.{Edited, FirstLaw, FirstTrace, FirstOutcome, numbers}
 
 -- each block has a step of its own
 blocks-steps : {code : Code} {x : Plain} {st : Stack} {l : Trace} → Yields code x st l → length (blocks_of l) ≤ steps_of l
@@ -45,14 +45,14 @@ numbers-below b from (suc n) k =
     at-if b from (count b (numbers (from + 1) n)) (from == b) refl (numbers-below b (from + 1) n (omega (arith, k))) (omega (arith, k))
 
 module _ (code : Code) (inputs : List Block) (f : ℕ) (args : List Word) where
-  first-told : {o : Option Repaired} {q : Option Finished} (a : Repaired) (r : Finished) → First_outcome code inputs f args o q → o ≡ Some a → q ≡ Some r
-      → First_trace code inputs f args a r
-  first-told a r First_outcome.none e g = none-some a e
-  first-told a r (First_outcome.some {a = b} {r = s} t) e g =
-      subst (λ a. First_trace code inputs f args a r) (some-same b a e) (subst (λ r. First_trace code inputs f args b r) (some-same s r g) t)
+  first-told : {o : Option Repaired} {q : Option Finished} (a : Repaired) (r : Finished) → FirstOutcome code inputs f args o q → o ≡ Some a → q ≡ Some r
+      → FirstTrace code inputs f args a r
+  first-told a r FirstOutcome.none e g = none-some a e
+  first-told a r (FirstOutcome.some {a = b} {r = s} t) e g =
+      subst (λ a. FirstTrace code inputs f args a r) (some-same b a e) (subst (λ r. FirstTrace code inputs f args b r) (some-same s r g) t)
 
   -- a first trace is one that may be edited, and no block has a number from its work on
-  pub first-edited : First_law → (new : List Block) (n : ℕ) (forest : List Item) (work : ℕ) → Fits code inputs f args → inputs_fit code.structs new ≡ true → Extended code inputs new
+  pub first-edited : FirstLaw → (new : List Block) (n : ℕ) (forest : List Item) (work : ℕ) → Fits code inputs f args → inputs_fit code.structs new ≡ true → Extended code inputs new
       → IsRepair forest work (first_of code inputs n f args) (fresh code f args inputs n) → (l : Trace) × (forest ≡ flat l) × Edited code inputs new f args l work
   first-edited law new n forest work fits fit more h =
       let t = first-told (record { items = h.items; work = work }) h.finished (law code inputs f args fits n) h.same h.ends in

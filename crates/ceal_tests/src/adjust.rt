@@ -12,7 +12,15 @@ use ceal_base::no_memory::NoMemory;
 use ceal_base::word::Word;
 use std::alloc::{AllocError, Global};
 use std::fmt::Write;
+use std::process::Abort;
 use std::test::Fail;
+
+/// What is told of a first trace, and of its repair after an edit.
+#[derive(Drop)]
+struct Texts {
+    first: String,
+    second: String,
+}
 
 /// The items and the work, or that it is out of fuel.
 fn answer(alloc: Global, answer: &Adjusted) -> Result<String, AllocError> {
@@ -26,6 +34,13 @@ fn answer(alloc: Global, answer: &Adjusted) -> Result<String, AllocError> {
     }
 }
 
+/// What is told of a first trace, and of its repair.
+fn answers(alloc: Global, first: &Adjusted, second: &Adjusted) -> Result<Texts, AllocError> {
+    let first = answer(alloc, first)?;
+    let second = answer(alloc, second)?;
+    Ok(Texts { first, second })
+}
+
 /// What is told of the first trace of a call, and of its repair after an edit; None where the call may not be run, or
 /// the edit is none.
 fn story(
@@ -36,19 +51,35 @@ fn story(
     before: &Inputs,
     after: &Inputs,
     fuel: u32,
-) -> Result<Option<(String, String)>, Fail> {
+) -> Result<Option<Texts>, Fail> {
     let program = compiled(alloc, source)?;
-    let Some((first, second)) = repaired(alloc, &program.code, function, args, before, after, fuel)?
-    else {
-        return Ok(None);
-    };
-    let first = answer(alloc, &first)?;
-    let second = answer(alloc, &second)?;
-    Ok(Some((first, second)))
+    let repaired = repaired(alloc, &program.code, function, args, before, after, fuel);
+    drop(program);
+    match repaired? {
+        None => Ok(None),
+        Some((first, second)) => {
+            let story = answers(alloc, &first, &second);
+            drop(first);
+            drop(second);
+            Ok(Some(story?))
+        }
+    }
+}
+
+/// The story has these texts.
+fn tells<R: Abort>(rt: &R, story: Option<Texts>, first: &str, second: &str) {
+    match &story {
+        Some(story) => {
+            assert_eq!(rt; story.first.as_str(), first);
+            assert_eq!(rt; story.second.as_str(), second);
+        }
+        None => panic!(rt; "it may not be run"),
+    }
+    drop(story);
 }
 
 /// The story of INC on 4 and 0, where the first number is edited.
-fn of_increment(alloc: Global, edited: i64) -> Result<Option<(String, String)>, Fail> {
+fn of_increment(alloc: Global, edited: i64) -> Result<Option<Texts>, Fail> {
     let before = numbers(alloc, &[4, 0])?;
     let after = numbers(alloc, &[edited, 0])?;
     story(alloc, INC, 0, &[at(0), at(1)], &before, &after, 2)
@@ -57,6 +88,13 @@ fn of_increment(alloc: Global, edited: i64) -> Result<Option<(String, String)>, 
 const INCREMENT: &str = ".v2 = read(in0.0) u1(&in1.0): 4
 .in1.0 := 5
 end
+work 2
+";
+
+const SAME_INCREMENT: &str = ".v2 = read(in0.0) u1(&in1.0): 4
+.in1.0 := 5
+end
+work 0
 ";
 
 const EDITED_INCREMENT: &str = ".v2 = read(in0.0) u1(&in1.0): 9
@@ -67,20 +105,15 @@ work 1
 
 #[test]
 fn an_edit_costs_the_steps_after_the_read(rt: HostRuntime) -> Result<(), Fail> {
-    let alloc = rt.alloc();
-    let told = of_increment(alloc, 9)?;
-    let (first, second) = told.ok_or("it may not be run")?;
-    assert_eq!(rt; first, format!(in alloc; "{INCREMENT}work 2\n")?);
-    assert_eq!(rt; second.as_str(), EDITED_INCREMENT);
+    let story = of_increment(rt.alloc(), 9)?;
+    tells(&rt, story, INCREMENT, EDITED_INCREMENT);
     Ok(())
 }
 
 #[test]
 fn an_equal_value_costs_nothing(rt: HostRuntime) -> Result<(), Fail> {
-    let alloc = rt.alloc();
-    let told = of_increment(alloc, 4)?;
-    let (_, second) = told.ok_or("it may not be run")?;
-    assert_eq!(rt; second, format!(in alloc; "{INCREMENT}work 0\n")?);
+    let story = of_increment(rt.alloc(), 4)?;
+    tells(&rt, story, INCREMENT, SAME_INCREMENT);
     Ok(())
 }
 
@@ -138,22 +171,27 @@ fn with_a_first_cell(alloc: Global) -> Result<Inputs, NoMemory> {
 }
 
 /// The story of MAP on the list 1, 2, 3.
-fn of_map(alloc: Global, after: &Inputs, fuel: u32) -> Result<Option<(String, String)>, Fail> {
+fn of_map(alloc: Global, after: &Inputs, fuel: u32) -> Result<Option<Texts>, Fail> {
     let before = list(alloc, &[1, 2, 3])?;
-    story(alloc, MAP, 1, &[at(0), at(1)], &before, after, fuel)
+    let story = story(alloc, MAP, 1, &[at(0), at(1)], &before, after, fuel);
+    drop(before);
+    story
+}
+
+/// The story of MAP where the inputs get another cell before the list.
+fn of_first_cell(alloc: Global, fuel: u32) -> Result<Option<Texts>, Fail> {
+    let after = with_a_first_cell(alloc)?;
+    let story = of_map(alloc, &after, fuel);
+    drop(after);
+    story
 }
 
 #[test]
 fn a_cell_before_the_others(rt: HostRuntime) -> Result<(), Fail> {
-    let alloc = rt.alloc();
-    let after = with_a_first_cell(alloc)?;
-    let told = of_map(alloc, &after, 23)?;
-    let (first, second) = told.ok_or("it may not be run")?;
-    assert_eq!(rt; first.as_str(), MAPPED);
-    assert_eq!(rt; second.as_str(), INSERTED);
-    let told = of_map(alloc, &after, 22)?;
-    let (_, short) = told.ok_or("it may not be run")?;
-    assert_eq!(rt; short.as_str(), "out of fuel\n");
+    let story = of_first_cell(rt.alloc(), 23)?;
+    tells(&rt, story, MAPPED, INSERTED);
+    let story = of_first_cell(rt.alloc(), 22)?;
+    tells(&rt, story, MAPPED, "out of fuel\n");
     Ok(())
 }
 
@@ -171,14 +209,19 @@ end
 work 5
 ";
 
-#[test]
-fn a_cell_in_the_middle_is_left_out(rt: HostRuntime) -> Result<(), Fail> {
-    let alloc = rt.alloc();
+/// The list without its second cell.
+fn without_a_cell(alloc: Global) -> Result<Inputs, NoMemory> {
     let mut after = list(alloc, &[1, 2, 3])?;
     after.set(2, 1, input(4));
-    let told = of_map(alloc, &after, 100)?;
-    let (_, second) = told.ok_or("it may not be run")?;
-    assert_eq!(rt; second.as_str(), DELETED);
+    Ok(after)
+}
+
+#[test]
+fn a_cell_in_the_middle_is_left_out(rt: HostRuntime) -> Result<(), Fail> {
+    let after = without_a_cell(rt.alloc()).expect(&rt, "memory");
+    let story = of_map(rt.alloc(), &after, 100);
+    drop(after);
+    tells(&rt, story?, MAPPED, DELETED);
     Ok(())
 }
 
@@ -208,22 +251,41 @@ end
 work 17
 ";
 
+/// The list with another cell before it, and one behind it.
+fn with_a_last_cell(alloc: Global) -> Result<Inputs, NoMemory> {
+    let mut after = with_a_first_cell(alloc)?;
+    let words = [Word::Num(4), Word::Null];
+    add(alloc, &mut after, Shape::Struct(0), &words)?;
+    after.set(4, 1, input(6));
+    Ok(after)
+}
+
 #[test]
 fn a_stale_read_inside_a_taken_one(rt: HostRuntime) -> Result<(), Fail> {
-    let alloc = rt.alloc();
-    let mut after = with_a_first_cell(alloc)?;
-    add(
-        alloc,
-        &mut after,
-        Shape::Struct(0),
-        &[Word::Num(4), Word::Null],
-    )?;
-    after.set(4, 1, input(6));
-    let told = of_map(alloc, &after, 100)?;
-    let (_, second) = told.ok_or("it may not be run")?;
-    assert_eq!(rt; second.as_str(), EDITED_INSIDE);
+    let after = with_a_last_cell(rt.alloc()).expect(&rt, "memory");
+    let story = of_map(rt.alloc(), &after, 100);
+    drop(after);
+    tells(&rt, story?, MAPPED, EDITED_INSIDE);
     Ok(())
 }
+
+const HEADS: &str = ".v2 = read(in0.0) u1(&in1.0): in2
+..#0 = init 0(7)
+.in1.0 := #0
+..v2 = read(in2.1) u1(&#0.1): in3
+..#1 = init 0(7)
+.#0.1 := #1
+..v2 = read(in3.1) u1(&#1.1): in4
+..#2 = init 0(8)
+.#1.1 := #2
+..v2 = read(in4.1) u1(&#2.1): null
+..#2.1 := null
+end
+end
+end
+end
+work 18
+";
 
 const EQUAL_HEADS: &str = ".v2 = read(in0.0) u1(&in1.0): in3
 ..#0 = init 0(7)
@@ -239,16 +301,22 @@ end
 work 10
 ";
 
-// The first block with the number is taken, so the second cell's tail is read anew, with another argument.
-#[test]
-fn the_first_of_two_equal_keys_is_taken(rt: HostRuntime) -> Result<(), Fail> {
-    let alloc = rt.alloc();
+/// The story of MAP_NUMBERS on the list 7, 7, 8, which loses its first cell.
+fn of_numbers(alloc: Global) -> Result<Option<Texts>, Fail> {
     let before = list(alloc, &[7, 7, 8])?;
     let mut after = before.copy()?;
     after.set(0, 0, input(3));
-    let told = story(alloc, MAP_NUMBERS, 1, &[at(0), at(1)], &before, &after, 100)?;
-    let (_, second) = told.ok_or("it may not be run")?;
-    assert_eq!(rt; second.as_str(), EQUAL_HEADS);
+    let story = story(alloc, MAP_NUMBERS, 1, &[at(0), at(1)], &before, &after, 100);
+    drop(before);
+    drop(after);
+    story
+}
+
+// The first block with the number is taken, so the second cell's tail is read anew, with another argument.
+#[test]
+fn the_first_of_two_equal_keys_is_taken(rt: HostRuntime) -> Result<(), Fail> {
+    let story = of_numbers(rt.alloc())?;
+    tells(&rt, story, HEADS, EQUAL_HEADS);
     Ok(())
 }
 
@@ -271,16 +339,21 @@ end
 work 2
 ";
 
-#[test]
-fn a_write_that_is_gone_uncovers_an_older_one(rt: HostRuntime) -> Result<(), Fail> {
-    let alloc = rt.alloc();
+/// The story of CONDITIONAL where the number loses its truth.
+fn of_conditional(alloc: Global) -> Result<Option<Texts>, Fail> {
     let before = numbers(alloc, &[1, 0, 0])?;
     let after = numbers(alloc, &[0, 0, 0])?;
     let args = [at(0), at(1), at(2)];
-    let told = story(alloc, CONDITIONAL, 1, &args, &before, &after, 100)?;
-    let (first, second) = told.ok_or("it may not be run")?;
-    assert_eq!(rt; first.as_str(), BOTH_WRITES);
-    assert_eq!(rt; second.as_str(), FIRST_WRITE);
+    let story = story(alloc, CONDITIONAL, 1, &args, &before, &after, 100);
+    drop(before);
+    drop(after);
+    story
+}
+
+#[test]
+fn a_write_that_is_gone_uncovers_an_older_one(rt: HostRuntime) -> Result<(), Fail> {
+    let story = of_conditional(rt.alloc())?;
+    tells(&rt, story, BOTH_WRITES, FIRST_WRITE);
     Ok(())
 }
 
@@ -316,30 +389,54 @@ fn box_inputs(alloc: Global, n: i64) -> Result<Inputs, NoMemory> {
     Ok(inputs)
 }
 
-#[test]
-fn a_revoked_number_is_not_given_out_again(rt: HostRuntime) -> Result<(), Fail> {
-    let alloc = rt.alloc();
+/// The story of BOX where the number is 1 and then 2.
+fn of_box(alloc: Global) -> Result<Option<Texts>, Fail> {
     let before = box_inputs(alloc, 1)?;
     let after = box_inputs(alloc, 2)?;
     let args = [at(0), at(1), at(2)];
-    let told = story(alloc, BOX, 3, &args, &before, &after, 100)?;
-    let (first, second) = told.ok_or("it may not be run")?;
-    assert_eq!(rt; first.as_str(), FIRST_BOX);
-    assert_eq!(rt; second.as_str(), SECOND_BOX);
+    let story = story(alloc, BOX, 3, &args, &before, &after, 100);
+    drop(before);
+    drop(after);
+    story
+}
+
+#[test]
+fn a_revoked_number_is_not_given_out_again(rt: HostRuntime) -> Result<(), Fail> {
+    let story = of_box(rt.alloc())?;
+    tells(&rt, story, FIRST_BOX, SECOND_BOX);
     Ok(())
+}
+
+/// Whether MAP has a story on the list 1, 2, 3 where these are the inputs after it.
+fn is_told(alloc: Global, after: &Inputs, args: &[Word]) -> Result<bool, Fail> {
+    let before = list(alloc, &[1, 2, 3])?;
+    let story = story(alloc, MAP, 1, args, &before, after, 100);
+    drop(before);
+    let story = story?;
+    let is_some = story.is_some();
+    drop(story);
+    Ok(is_some)
+}
+
+/// The list with a number in place of the pointer to it.
+fn without_a_pointer(alloc: Global) -> Result<Inputs, NoMemory> {
+    let mut after = list(alloc, &[1, 2, 3])?;
+    after.set(0, 0, Word::Num(0));
+    Ok(after)
 }
 
 // A plain field is edited, a word is of another type, or an argument is missing.
 #[test]
 fn calls_that_do_not_fit_are_told(rt: HostRuntime) -> Result<(), Fail> {
     let alloc = rt.alloc();
-    let plain = list(alloc, &[1, 2, 4])?;
-    assert!(rt; of_map(alloc, &plain, 100)?.is_none());
-    let mut after = list(alloc, &[1, 2, 3])?;
-    after.set(0, 0, Word::Num(0));
-    assert!(rt; of_map(alloc, &after, 100)?.is_none());
-    let before = list(alloc, &[1, 2, 3])?;
-    let told = story(alloc, MAP, 1, &[at(0)], &before, &before, 100)?;
-    assert!(rt; told.is_none());
+    let plain = list(alloc, &[1, 2, 4]).expect(&rt, "memory");
+    assert!(rt; !is_told(alloc, &plain, &[at(0), at(1)])?);
+    drop(plain);
+    let wrong = without_a_pointer(alloc).expect(&rt, "memory");
+    assert!(rt; !is_told(alloc, &wrong, &[at(0), at(1)])?);
+    drop(wrong);
+    let same = list(alloc, &[1, 2, 3]).expect(&rt, "memory");
+    assert!(rt; !is_told(alloc, &same, &[at(0)])?);
+    drop(same);
     Ok(())
 }

@@ -20,45 +20,25 @@ use std::test::Fail;
 
 #[test]
 fn operators_at_their_edges(rt: HostRuntime) {
-    let least = Word::Num(i64::MIN);
-    let minus_one = Word::Num(-1);
-    assert_eq!(rt; apply_binary(Binary::Div, least, minus_one), least);
-    assert_eq!(rt; apply_binary(Binary::Rem, least, minus_one), Word::Num(0));
-    assert_eq!(rt;
-        apply_binary(Binary::Div, Word::Num(7), Word::Num(0)),
-        Word::Num(0)
-    );
-    assert_eq!(rt;
-        apply_binary(Binary::Rem, Word::Num(7), Word::Num(0)),
-        Word::Num(7)
-    );
-    assert_eq!(rt;
-        apply_binary(Binary::Div, Word::Num(-7), Word::Num(4)),
-        minus_one
-    );
-    assert_eq!(rt;
-        apply_binary(Binary::Rem, Word::Num(-7), Word::Num(4)),
-        Word::Num(-3)
-    );
-    assert_eq!(rt;
-        apply_binary(Binary::Add, Word::Num(i64::MAX), Word::Num(1)),
-        least
-    );
+    let (least, most) = (Word::Num(i64::MIN), Word::Num(i64::MAX));
+    let block = BlockId::Core(1);
+    let cell = Word::At(Place { block, field: 0 });
+    for (op, a, b, value) in [
+        (Binary::Div, least, Word::Num(-1), least),
+        (Binary::Rem, least, Word::Num(-1), Word::Num(0)),
+        (Binary::Div, Word::Num(7), Word::Num(0), Word::Num(0)),
+        (Binary::Rem, Word::Num(7), Word::Num(0), Word::Num(7)),
+        (Binary::Div, Word::Num(-7), Word::Num(4), Word::Num(-1)),
+        (Binary::Rem, Word::Num(-7), Word::Num(4), Word::Num(-3)),
+        (Binary::Add, most, Word::Num(1), least),
+        (Binary::Same, cell, cell, Word::Num(1)),
+        (Binary::Same, cell, Word::Block(block), Word::Num(0)),
+        (Binary::Less, cell, Word::Num(1), Word::Num(1)),
+    ] {
+        assert_eq!(rt; apply_binary(op, a, b), value);
+    }
     assert_eq!(rt; apply_unary(Unary::Neg, least), least);
     assert_eq!(rt; apply_unary(Unary::Not, Word::Null), Word::Num(1));
-    let cell = Word::At(Place {
-        block: BlockId::Core(1),
-        field: 0,
-    });
-    assert_eq!(rt; apply_binary(Binary::Same, cell, cell), Word::Num(1));
-    assert_eq!(rt;
-        apply_binary(Binary::Same, cell, Word::Block(BlockId::Core(1))),
-        Word::Num(0)
-    );
-    assert_eq!(rt;
-        apply_binary(Binary::Less, cell, Word::Num(1)),
-        Word::Num(1)
-    );
 }
 
 /// The digits of 101, put together in several ways.
@@ -76,37 +56,56 @@ fn a_text_is_copied(rt: HostRuntime) -> Result<(), Fail> {
     Ok(())
 }
 
-// a read of the first variable at the first argument, twice
-fn forest(alloc: Global) -> Result<Forest, NoMemory> {
+/// A key with the argument 1, copied.
+fn key(alloc: Global) -> Result<Key, NoMemory> {
     let mut args = Words::empty(alloc);
     args.push(Word::Num(1))?;
-    let key = Key::Init {
-        function: 2,
-        args: args.copy()?,
-    };
-    let mut forest = Forest::new(Vec::new(alloc));
-    forest.push(Item::Alloc {
+    let key = Key::Init { function: 2, args };
+    let copy = key.copy();
+    drop(key);
+    copy
+}
+
+/// An allocation, copied.
+fn allocation(alloc: Global) -> Result<Item, NoMemory> {
+    let item = Item::Alloc {
         block: BlockId::Core(0),
-        key: key.copy()?,
-    })?;
-    let read = Item::Read {
-        place: Place {
-            block: BlockId::Input(0),
-            field: 0,
-        },
+        key: key(alloc)?,
+    };
+    let copy = item.copy();
+    drop(item);
+    copy
+}
+
+/// A read, with its arguments copied.
+fn read(alloc: Global) -> Result<Item, NoMemory> {
+    let args = Words::from_slice(alloc, &[Word::Num(1)])?;
+    let copy = args.copy();
+    drop(args);
+    let block = BlockId::Input(0);
+    Ok(Item::Read {
+        place: Place { block, field: 0 },
         value: Word::Num(4),
         unit: UnitId(1),
         var: 2,
-        args,
-    };
-    forest.push(read.copy()?)?;
-    forest.push(Item::End)?;
-    forest.copy()
+        args: copy?,
+    })
+}
+
+/// Puts in an allocation, and a read with its end.
+fn fill(alloc: Global, forest: &mut Forest) -> Result<(), NoMemory> {
+    forest.push(allocation(alloc)?)?;
+    forest.push(read(alloc)?)?;
+    forest.push(Item::End)
 }
 
 #[test]
 fn a_forest_is_copied(rt: HostRuntime) {
-    let copy = forest(rt.alloc()).expect(&rt, "memory");
+    let alloc = rt.alloc();
+    let mut forest = Forest::new(Vec::new(alloc));
+    fill(alloc, &mut forest).expect(&rt, "memory");
+    let copy = forest.copy().expect(&rt, "memory");
+    drop(forest);
     assert_eq!(rt; copy.items().len(), 3);
     match copy.items() {
         [Item::Alloc { block, .. }, Item::Read { var, .. }, Item::End] => {
@@ -115,6 +114,7 @@ fn a_forest_is_copied(rt: HostRuntime) {
         }
         _ => panic!(rt; "another forest"),
     }
+    drop(copy);
 }
 
 fn memory(alloc: Global) -> Result<Memory, NoMemory> {
@@ -159,22 +159,39 @@ fn copied(alloc: Global, program: &Typed) -> Result<Typed, NoMemory> {
     })
 }
 
+/// A copy of the program of a source.
+fn copy_of(alloc: Global, source: &[u8]) -> Result<Typed, Fail> {
+    let program = compiled(alloc, source)?;
+    let copy = copied(alloc, &program.typed);
+    drop(program);
+    Ok(copy?)
+}
+
+/// The run of EVAL on its worked inputs.
+fn evaluated(alloc: Global, program: &Typed) -> Result<Outcome, NoMemory> {
+    let inputs = operators(alloc)?;
+    let outcome = interpret(alloc, program, 0, &[at(10), at(11)], &inputs, 102);
+    drop(inputs);
+    outcome
+}
+
 #[test]
 fn a_program_is_copied(rt: HostRuntime) -> Result<(), Fail> {
     let alloc = rt.alloc();
-    let program = compiled(alloc, EVAL)?;
-    let copy = copied(alloc, &program.typed)?;
-    let args = [at(10), at(11)];
-    match interpret(alloc, &copy, 0, &args, &operators(alloc)?, 102)? {
+    let program = copy_of(alloc, EVAL)?;
+    let outcome = evaluated(alloc, &program).expect(&rt, "memory");
+    drop(program);
+    match &outcome {
         Outcome::Done {
             memory,
             steps,
             blocks,
         } => {
-            assert_eq!(rt; content(&memory, at(11), Word::Null), Word::Num(-12));
-            assert_eq!(rt; (steps, blocks), (102, 10));
+            assert_eq!(rt; content(memory, at(11), Word::Null), Word::Num(-12));
+            assert_eq!(rt; (*steps, *blocks), (102, 10));
         }
         Outcome::OutOfFuel => panic!(rt; "out of fuel"),
     }
+    drop(outcome);
     Ok(())
 }

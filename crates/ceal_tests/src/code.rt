@@ -96,31 +96,43 @@ fn unit(alloc: Global, body: Vec<Cmd>) -> Result<Unit, NoMemory> {
     Ok(Unit::new(0, params, body))
 }
 
-/// `f(mod int *v0, struct cell *v1)` with variables v2 of type `int` and v3 of type `struct cell *`, without units.
-fn function(alloc: Global) -> Result<Code, Fail> {
+/// Code with the structs of MAP, and nothing else.
+fn without_functions(alloc: Global) -> Result<Code, Fail> {
     let program = compiled(alloc, MAP)?;
-    let structs = copied_structs(alloc, program.typed.structs.items())?;
+    let structs = copied_structs(alloc, program.typed.structs.items());
+    drop(program);
     let none = Vec::new(alloc);
-    let mut code = Code::new(structs, Vec::new(alloc), none, Vec::new(alloc));
+    Ok(Code::new(structs?, Vec::new(alloc), none, Vec::new(alloc)))
+}
+
+/// Adds `f(mod int *v0, struct cell *v1)` with variables v2 of type `int` and v3 of type `struct cell *`.
+fn push_function(alloc: Global, code: &mut Code) -> Result<(), NoMemory> {
     code.push_functions(FunctionCode::Core {
         name: Text::from_slice(alloc, b"f")?,
         entry: UnitId(0),
         params: kinds(alloc, &[Kind::ModInt, Kind::Ptr(0)])?,
     })?;
     let all = [Kind::ModInt, Kind::Ptr(0), Kind::Int, Kind::Ptr(0)];
-    code.push_kinds(kinds(alloc, &all)?)?;
-    Ok(code)
+    code.push_kinds(kinds(alloc, &all)?)
 }
 
-/// Whether the function is valid with this body in unit 0, where unit 1 is done.
+/// Adds the function with this body in unit 0, where unit 1 is done.
+fn push_units(alloc: Global, code: &mut Code, body: Vec<Cmd>) -> Result<(), NoMemory> {
+    code.push_units(unit(alloc, body)?)?;
+    push_function(alloc, code)?;
+    let done = commands(alloc, [Cmd::Done])?;
+    code.push_units(unit(alloc, done)?)
+}
+
+/// Whether the function is valid with this body.
 fn is_valid(alloc: Global, body: Vec<Cmd>) -> Result<bool, Fail> {
-    let first = unit(alloc, body)?;
-    let second = unit(alloc, commands(alloc, [Cmd::Done])?)?;
-    let mut code = function(alloc)?;
-    code.push_units(first)?;
-    code.push_units(second)?;
-    let ok = validate(alloc, &code)?;
-    Ok(ok)
+    let mut code = without_functions(alloc)?;
+    let ok = match push_units(alloc, &mut code, body) {
+        Ok(()) => validate(alloc, &code),
+        Err(error) => Err(error),
+    };
+    drop(code);
+    Ok(ok?)
 }
 
 /// Whether it is valid with these commands.

@@ -1,6 +1,9 @@
 // Recorded traces, their texts and their verdicts. The dumps were worked out by hand from the rules of the language and of
 // the text.
 
+ghost use Rattle.std.specs.Prelude.{◌≡◌, true};
+ghost use Rattle.ceal_code.specs.Valid.{valid};
+
 use crate::inputs::at;
 use crate::samples::{INC, compiled};
 use crate::told::told;
@@ -10,6 +13,7 @@ use ceal_base::no_memory::NoMemory;
 use ceal_base::recorded::Record;
 use ceal_base::text::Text;
 use ceal_base::word::Word;
+use ceal_code::code::Code;
 use ceal_dump::read::{DumpError, read_dump};
 use ceal_dump::write::dump_text;
 use ceal_traceck::check::check_trace;
@@ -71,45 +75,82 @@ fn are_numbers(blocks: &[BlockWords], numbers: &[i64]) -> bool {
 }
 
 /// The verdict on a dump; None where it is the dump of no record.
-fn judged(alloc: Global, source: &[u8], dump: &str) -> Result<Option<Verdict>, Fail> {
-    let program = compiled(alloc, source)?;
+fn verdict(alloc: Global, code: &Code, dump: &str) -> Result<Option<Verdict>, NoMemory>
+    requires { valid code.now ≡ true }
+{
     match read(alloc, dump.as_bytes())? {
         None => Ok(None),
         Some(kept) => {
-            let verdict = check_trace(alloc, &program.code, &kept)?;
-            Ok(Some(verdict))
+            let verdict = check_trace(alloc, code, &kept);
+            drop(kept);
+            Ok(Some(verdict?))
+        }
+    }
+}
+
+/// The verdict on a dump for a source.
+fn judged(alloc: Global, source: &[u8], dump: &str) -> Result<Option<Verdict>, Fail> {
+    let program = compiled(alloc, source)?;
+    let verdict = verdict(alloc, &program.code, dump);
+    drop(program);
+    Ok(verdict?)
+}
+
+/// Whether the record is that of the increment of 4.
+fn is_increment(kept: &Record) -> bool {
+    kept.function == 0
+        && kept.args.items() == [at(0), at(1)].as_slice()
+        && are_numbers(kept.inputs.items(), &[4, 0])
+        && are_numbers(kept.memory.inputs.items(), &[4, 5])
+        && kept.memory.items().is_empty()
+}
+
+/// The items of the record whose dump this is, as text.
+fn told_items(alloc: Global, dump: &[u8]) -> Result<Option<String>, NoMemory> {
+    match read(alloc, dump)? {
+        None => Ok(None),
+        Some(kept) => {
+            let text = told(alloc, kept.forest.items());
+            drop(kept);
+            Ok(Some(text?))
         }
     }
 }
 
 #[test]
-fn a_dump_is_read_and_written(rt: HostRuntime) -> Result<(), Fail> {
+fn a_dump_is_read(rt: HostRuntime) -> Result<(), Fail> {
     let alloc = rt.alloc();
-    let kept = read(alloc, INCREMENT.as_bytes())?.ok_or("it is unreadable")?;
-    assert_eq!(rt; kept.function, 0);
-    assert!(rt; kept.args.items() == [at(0), at(1)].as_slice());
-    assert!(rt; are_numbers(kept.inputs.items(), &[4, 0]));
-    let items = told(alloc, kept.forest.items())?;
+    let kept = read(alloc, INCREMENT.as_bytes()).expect(&rt, "memory");
+    assert!(rt; kept.as_ref().is_some_and(is_increment));
+    drop(kept);
+    let items = told_items(alloc, INCREMENT.as_bytes()).expect(&rt, "memory");
     assert_eq!(rt;
-        items.as_str(),
-        ".v2 = read(in0.0) u1(&in1.0): 4\n.in1.0 := 5\nend\n"
+        items.as_deref(),
+        Some(".v2 = read(in0.0) u1(&in1.0): 4\n.in1.0 := 5\nend\n")
     );
-    assert!(rt; are_numbers(kept.memory.inputs.items(), &[4, 5]));
-    assert_eq!(rt; kept.memory.items().len(), 0);
-    let text = written(alloc, INCREMENT.as_bytes())?.ok_or("it is unreadable")?;
-    assert!(rt; text.items() == INCREMENT.as_bytes());
     Ok(())
 }
 
-/// A record of the increment: with another function, another content that is read, another one that is written, and another
-/// one that the memory has.
+#[test]
+fn a_dump_is_written(rt: HostRuntime) -> Result<(), Fail> {
+    let text = written(rt.alloc(), INCREMENT.as_bytes()).expect(&rt, "memory");
+    match &text {
+        Some(text) => assert!(rt; text.items() == INCREMENT.as_bytes()),
+        None => panic!(rt; "it is unreadable"),
+    }
+    drop(text);
+    Ok(())
+}
+
+/// The verdict on a record of the increment: with this function, this content that is read, this one that is written, and
+/// this one that the memory has.
 fn increment(
     alloc: Global,
     function: &str,
     read: &str,
     write: &str,
     after: &str,
-) -> Result<String, Fail> {
+) -> Result<Option<Verdict>, Fail> {
     let text = format!(in alloc;
         "ceal-trace 1
 inputs 2
@@ -128,44 +169,49 @@ i {after}
 end
 "
     )?;
-    Ok(text)
+    judged(alloc, INC, &text)
 }
 
 #[test]
 fn each_verdict_comes_once(rt: HostRuntime) -> Result<(), Fail> {
     let alloc = rt.alloc();
-    let right = increment(alloc, "0", "4", "5", "5")?;
-    assert_eq!(rt; judged(alloc, INC, &right)?, Some(Verdict::Yes));
-    let other_function = increment(alloc, "7", "4", "5", "5")?;
-    assert_eq!(rt; judged(alloc, INC, &other_function)?, Some(Verdict::NoFit));
-    let other_write = increment(alloc, "0", "4", "6", "6")?;
-    assert_eq!(rt; judged(alloc, INC, &other_write)?, Some(Verdict::NotReplay));
-    let other_read = increment(alloc, "0", "3", "4", "4")?;
-    assert_eq!(rt; judged(alloc, INC, &other_read)?, Some(Verdict::NotHonest));
-    let other_memory = increment(alloc, "0", "4", "5", "6")?;
-    assert_eq!(rt;
-        judged(alloc, INC, &other_memory)?,
-        Some(Verdict::MemoryDiffers)
-    );
+    for (function, read, write, after, verdict) in [
+        ("0", "4", "5", "5", Verdict::Yes),
+        ("7", "4", "5", "5", Verdict::NoFit),
+        ("0", "4", "6", "6", Verdict::NotReplay),
+        ("0", "3", "4", "4", Verdict::NotHonest),
+        ("0", "4", "5", "6", Verdict::MemoryDiffers),
+    ] {
+        let found = increment(alloc, function, read, write, after)?;
+        assert_eq!(rt; found, Some(verdict));
+    }
     Ok(())
 }
 
 #[test]
 fn other_numerals_are_no_dump(rt: HostRuntime) -> Result<(), Fail> {
     let alloc = rt.alloc();
-    let leading_zero = increment(alloc, "0", "04", "5", "5")?;
-    assert_eq!(rt; judged(alloc, INC, &leading_zero)?, None);
-    let minus_zero = increment(alloc, "0", "-0", "1", "1")?;
-    assert_eq!(rt; judged(alloc, INC, &minus_zero)?, None);
-    let too_large = increment(alloc, "0", "9223372036854775808", "5", "5")?;
-    assert_eq!(rt; judged(alloc, INC, &too_large)?, None);
-    let no_number = increment(alloc, "0", "", "5", "5")?;
-    assert_eq!(rt; judged(alloc, INC, &no_number)?, None);
-    let two_spaces = increment(alloc, "0", " 4", "5", "5")?;
-    assert_eq!(rt; judged(alloc, INC, &two_spaces)?, None);
-    let carriage_return = increment(alloc, "0", "4", "5\r", "5")?;
-    assert_eq!(rt; judged(alloc, INC, &carriage_return)?, None);
+    // a leading zero, minus zero, a number that is too large, none, two spaces, and a carriage return
+    for (read, write, after) in [
+        ("04", "5", "5"),
+        ("-0", "1", "1"),
+        ("9223372036854775808", "5", "5"),
+        ("", "5", "5"),
+        (" 4", "5", "5"),
+        ("4", "5\r", "5"),
+    ] {
+        let found = increment(alloc, "0", read, write, after)?;
+        assert_eq!(rt; found, None, "at {read}");
+    }
     Ok(())
+}
+
+/// Whether this is the dump of a record.
+fn is_dump(alloc: Global, bytes: &[u8]) -> Result<bool, NoMemory> {
+    let kept = read(alloc, bytes)?;
+    let is_some = kept.is_some();
+    drop(kept);
+    Ok(is_some)
 }
 
 #[test]
@@ -173,10 +219,10 @@ fn a_cut_dump_is_none(rt: HostRuntime) -> Result<(), Fail> {
     let alloc = rt.alloc();
     let bytes = INCREMENT.as_bytes();
     for length in 0..bytes.len() {
-        assert!(rt; read(alloc, &bytes[..length])?.is_none());
+        assert!(rt; !is_dump(alloc, &bytes[..length])?);
     }
-    let longer = format!(in alloc; "{INCREMENT}\n")?;
-    assert!(rt; read(alloc, longer.as_bytes())?.is_none());
+    let longer = format!(in alloc; "{INCREMENT}\n").expect(&rt, "memory");
+    assert!(rt; !is_dump(alloc, longer.as_bytes()).expect(&rt, "memory"));
     Ok(())
 }
 
@@ -193,8 +239,8 @@ ceal two(mod int *o) {
 %%
 ";
 
-/// Its record, where the blocks have the numbers 7 and 2, with these contents of theirs.
-fn two(alloc: Global, first: &str, second: &str) -> Result<String, Fail> {
+/// The verdict on its record, where the blocks have the numbers 7 and 2, with these contents of theirs.
+fn two(alloc: Global, first: &str, second: &str) -> Result<Option<Verdict>, Fail> {
     let text = format!(in alloc;
         "ceal-trace 1
 inputs 1
@@ -221,18 +267,15 @@ i {second}
 end
 "
     )?;
-    Ok(text)
+    judged(alloc, TWO, &text)
 }
 
 #[test]
 fn core_blocks_stand_in_the_order_of_their_allocations(rt: HostRuntime) -> Result<(), Fail> {
     let alloc = rt.alloc();
     let in_order = two(alloc, "-3", "4")?;
-    assert_eq!(rt; judged(alloc, TWO, &in_order)?, Some(Verdict::Yes));
+    assert_eq!(rt; in_order, Some(Verdict::Yes));
     let by_number = two(alloc, "4", "-3")?;
-    assert_eq!(rt;
-        judged(alloc, TWO, &by_number)?,
-        Some(Verdict::MemoryDiffers)
-    );
+    assert_eq!(rt; by_number, Some(Verdict::MemoryDiffers));
     Ok(())
 }

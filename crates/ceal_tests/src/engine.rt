@@ -1,6 +1,13 @@
 // An engine runs MAP, a cell is put before the list, and the run is brought up to date. The answers were worked out by
 // hand from the rules of the language.
 
+ghost use Rattle.std.specs.Prelude.{◌≡◌, ◌<◌, ◌+◌, ◌^◌, true, length, IsTrue};
+ghost use Rattle.ceal_base.specs.Fitting.{block_fits};
+ghost use Rattle.ceal_code.specs.Fitting.{Fits};
+ghost use Rattle.ceal_engine.specs.Engine as state;
+ghost use Rattle.ceal_engine.specs.Engine.{alone};
+ghost use Rattle.ceal_engine.specs.declared.phase.Phase.TheVariants.{New};
+
 use crate::edits::fits;
 use crate::inputs::{at, input};
 use crate::samples::{MAP, compiled};
@@ -11,79 +18,92 @@ use ceal_base::word::{BlockId, Place, Word};
 use ceal_engine::engine::Engine;
 use ceal_engine::phase::Phase;
 use std::alloc::Global;
+use std::process::Abort;
 use std::test::Fail;
 
-fn add(engine: &mut Engine, shape: Shape, words: &[Word]) -> Result<(), Fail> {
+/// Whether an input with these words may be added.
+fn takes_input(engine: &Engine, shape: Shape, words: &[Word]) -> bool
+    ensures fits { IsTrue result
+        → block_fits engine.now.code.structs (alone engine.now.inputs)
+        (record { shape = shape; words = words.now }) ≡ true }
+    ensures room { IsTrue result → length engine.now.inputs + 1 < 2 ^ 32 }
+{
     let inputs = engine.input_blocks();
-    if inputs.items().len() > 100 {
-        return Err(Fail::from("too many inputs"));
-    }
-    if !new_block_fits(engine.code().structs.items(), inputs, shape, words) {
-        return Err(Fail::from("the words do not fit"));
-    }
-    engine.add_input(shape, words)?;
-    Ok(())
+    inputs.items().len() < 100
+        && new_block_fits(engine.code().structs.items(), inputs, shape, words)
 }
 
-/// Gives a modifiable that holds a pointer another base.
-fn edit(engine: &mut Engine, place: Place, word: Word) -> Result<(), Fail> {
+/// Whether the place is a modifiable that holds a pointer, and the word fits it.
+fn takes(engine: &Engine, place: Place, word: Word) -> bool
+    ensures { IsTrue result → state.takes engine.now place word ≡ true }
+{
     let inputs = engine.input_blocks();
     let structs = engine.code().structs.items();
     match place_kind(structs, inputs, place) {
         Some(FieldKind::CellPtr(number)) => {
-            if !field_fits(structs, inputs, FieldKind::CellPtr(number), word) {
-                return Err(Fail::from("the word does not fit"));
-            }
-            engine.edit(place, word)?;
-            Ok(())
+            field_fits(structs, inputs, FieldKind::CellPtr(number), word)
         }
-        _ => Err(Fail::from("no modifiable of an input")),
+        _ => false,
     }
 }
 
-fn run(engine: &mut Engine, function: u32, args: &[Word]) -> Result<(), Fail> {
-    if engine.phase() != Phase::New {
-        return Err(Fail::from("there is a run"));
-    }
-    if !fits(engine.code(), function, args, engine.input_blocks()) {
-        return Err(Fail::from("the call does not fit"));
-    }
-    engine
-        .run(function, args)
-        .map_err(|_| Fail::from("no run"))?;
-    Ok(())
+/// Whether nothing was called, and the call may be run.
+fn takes_call(engine: &Engine, function: u32, args: &[Word]) -> bool
+    ensures new { IsTrue result → engine.now.phase ≡ New }
+    ensures fits { IsTrue result → Fits engine.now.code engine.now.inputs function args.now }
+{
+    engine.phase() == Phase::New && fits(engine.code(), function, args, engine.input_blocks())
 }
 
-fn propagate(engine: &mut Engine) -> Result<(), Fail> {
-    if engine.phase() == Phase::New {
-        return Err(Fail::from("there is no run"));
-    }
-    engine
-        .propagate()
-        .map_err(|_| Fail::from("no propagation"))?;
-    Ok(())
+fn add<R: Abort>(rt: &R, engine: &mut Engine, shape: Shape, words: &[Word]) {
+    assert!(rt; takes_input(engine, shape, words));
+    assert!(rt; engine.add_input(shape, words).is_ok());
 }
 
-/// The work, the steps, the number of core blocks, and the trace.
-fn state(alloc: Global, engine: &Engine) -> Result<(u32, u32, u32, String), Fail> {
-    if engine.phase() != Phase::Finished {
-        return Err(Fail::from("it is not finished"));
-    }
-    let forest = engine.forest()?;
-    let text = told(alloc, forest.items())?;
-    Ok((engine.work(), engine.steps(), engine.live_blocks(), text))
+fn edit<R: Abort>(rt: &R, engine: &mut Engine, place: Place, word: Word) {
+    assert!(rt; takes(engine, place, word));
+    assert!(rt; engine.edit(place, word).is_ok());
+}
+
+fn run<R: Abort>(rt: &R, engine: &mut Engine, function: u32, args: &[Word]) {
+    assert!(rt; takes_call(engine, function, args));
+    assert!(rt; engine.run(function, args).is_ok());
+}
+
+fn propagate<R: Abort>(rt: &R, engine: &mut Engine) {
+    assert!(rt; engine.phase() != Phase::New);
+    assert!(rt; engine.propagate().is_ok());
+}
+
+/// The work, the steps, the number of core blocks, and the trace are these.
+fn is_at<R: Abort>(rt: &R, alloc: Global, engine: &Engine, counts: (u32, u32, u32), trace: &str) {
+    assert!(rt; engine.phase() == Phase::Finished);
+    assert_eq!(rt;
+        (engine.work(), engine.steps(), engine.live_blocks()),
+        counts
+    );
+    let forest = engine.forest().expect(rt, "memory");
+    let text = told(alloc, forest.items()).expect(rt, "memory");
+    assert_eq!(rt; text.as_str(), trace);
 }
 
 /// The list 1, 2, 3 by its cells from the last one on, a modifiable that points to it, and one for its image.
-fn mapping(alloc: Global) -> Result<Engine, Fail> {
-    let program = compiled(alloc, MAP)?;
-    let mut engine = Engine::new(alloc, program.code, 100)?;
-    add(&mut engine, Shape::Struct(0), &[Word::Num(3), Word::Null])?;
-    add(&mut engine, Shape::Struct(0), &[Word::Num(2), input(0)])?;
-    add(&mut engine, Shape::Struct(0), &[Word::Num(1), input(1)])?;
-    add(&mut engine, Shape::ModPtr(0), &[input(2)])?;
-    add(&mut engine, Shape::ModPtr(0), &[Word::Null])?;
-    Ok(engine)
+fn fill<R: Abort>(rt: &R, engine: &mut Engine) {
+    add(rt, engine, Shape::Struct(0), &[Word::Num(3), Word::Null]);
+    add(rt, engine, Shape::Struct(0), &[Word::Num(2), input(0)]);
+    add(rt, engine, Shape::Struct(0), &[Word::Num(1), input(1)]);
+    add(rt, engine, Shape::ModPtr(0), &[input(2)]);
+    add(rt, engine, Shape::ModPtr(0), &[Word::Null]);
+}
+
+/// Puts a cell before the list.
+fn put_before<R: Abort>(rt: &R, engine: &mut Engine) {
+    add(rt, engine, Shape::Struct(0), &[Word::Num(5), input(2)]);
+    let place = Place {
+        block: BlockId::Input(3),
+        field: 0,
+    };
+    edit(rt, engine, place, input(5));
 }
 
 const MAPPED: &str = ".v2 = read(in3.0) u1(&in4.0): in2
@@ -124,29 +144,24 @@ end
 end
 ";
 
+/// An engine for MAP, with no inputs.
+fn engine(alloc: Global) -> Result<Engine, Fail> {
+    let program = compiled(alloc, MAP)?;
+    let engine = Engine::new(alloc, program.code, 100)?;
+    Ok(engine)
+}
+
 #[test]
 fn a_new_block_has_the_least_free_number(rt: HostRuntime) -> Result<(), Fail> {
     let alloc = rt.alloc();
-    let mut engine = mapping(alloc)?;
-    run(&mut engine, 1, &[at(3), at(4)])?;
-    let first = state(alloc, &engine)?;
-    assert_eq!(rt; (first.0, first.1, first.2), (18, 18, 3));
-    assert_eq!(rt; first.3.as_str(), MAPPED);
-    add(&mut engine, Shape::Struct(0), &[Word::Num(5), input(2)])?;
-    edit(
-        &mut engine,
-        Place {
-            block: BlockId::Input(3),
-            field: 0,
-        },
-        input(5),
-    )?;
-    propagate(&mut engine)?;
-    let second = state(alloc, &engine)?;
-    assert_eq!(rt; (second.0, second.1, second.2), (10, 23, 4));
-    assert_eq!(rt; second.3.as_str(), INSERTED);
-    propagate(&mut engine)?;
-    let third = state(alloc, &engine)?;
-    assert_eq!(rt; (third.0, third.1, third.2), (0, 23, 4));
+    let mut engine = engine(alloc)?;
+    fill(&rt, &mut engine);
+    run(&rt, &mut engine, 1, &[at(3), at(4)]);
+    is_at(&rt, alloc, &engine, (18, 18, 3), MAPPED);
+    put_before(&rt, &mut engine);
+    propagate(&rt, &mut engine);
+    is_at(&rt, alloc, &engine, (10, 23, 4), INSERTED);
+    propagate(&rt, &mut engine);
+    is_at(&rt, alloc, &engine, (0, 23, 4), INSERTED);
     Ok(())
 }

@@ -1,6 +1,7 @@
 // Small programs, with the blocks that the language's description gives for them.
 
 use crate::samples::compiled;
+use ceal_base::no_memory::NoMemory;
 use ceal_flow::block::GraphBlock;
 use ceal_flow::live_set::LiveSet;
 use ceal_flow::live_sets::LiveSets;
@@ -26,15 +27,23 @@ fn jumps_of(block: &GraphBlock) -> Jumps {
     }
 }
 
-/// The jumps of the blocks of a program.
-fn lowered_jumps(alloc: Global, source: &[u8]) -> Result<Vec<Jumps>, Fail> {
-    let program = compiled(alloc, source)?;
-    let graph = lower(alloc, &program.typed)?;
+fn all_jumps(alloc: Global, blocks: &[GraphBlock]) -> Result<Vec<Jumps>, NoMemory> {
     let mut found = Vec::new(alloc);
-    for block in graph.blocks() {
+    for block in blocks {
         found.push(jumps_of(block))?;
     }
     Ok(found)
+}
+
+/// The jumps of the blocks of a program.
+fn lowered_jumps(alloc: Global, source: &[u8]) -> Result<Vec<Jumps>, Fail> {
+    let program = compiled(alloc, source)?;
+    let graph = lower(alloc, &program.typed);
+    drop(program);
+    let graph = graph?;
+    let jumps = all_jumps(alloc, graph.blocks());
+    drop(graph);
+    Ok(jumps?)
 }
 
 const LOOP: &[u8] = b"
@@ -82,22 +91,30 @@ fn what_no_path_leads_to_is_left_out(rt: HostRuntime) -> Result<(), Fail> {
     Ok(())
 }
 
+/// The set of these variables.
+fn set_of(alloc: Global, variables: &[u32]) -> Result<LiveSet, NoMemory> {
+    let mut set = LiveSet::empty(alloc);
+    for v in variables {
+        set.insert(*v)?;
+    }
+    Ok(set)
+}
+
 #[test]
 fn sets_grow(rt: HostRuntime) -> Result<(), Fail> {
     let alloc = rt.alloc();
-    let mut first = LiveSet::empty(alloc);
-    first.insert(70)?;
-    first.insert(3)?;
-    let mut second = LiveSet::empty(alloc);
-    second.insert(64)?;
-    assert_eq!(rt; second.join(&first, Some(3))?, true);
-    assert_eq!(rt; second.join(&first, Some(3))?, false);
-    assert_eq!(rt; second.variables(alloc)?.as_slice(), [64, 70].as_slice());
-    assert_eq!(rt; first.contains(3), true);
+    let first = set_of(alloc, &[70, 3]).expect(&rt, "memory");
+    assert!(rt; first.contains(3));
+    let mut second = set_of(alloc, &[64]).expect(&rt, "memory");
+    assert!(rt; second.join(&first, Some(3)) == Ok(true));
+    assert!(rt; second.join(&first, Some(3)) == Ok(false));
+    drop(first);
+    let variables = second.variables(alloc).expect(&rt, "memory");
+    assert!(rt; variables.as_slice() == [64, 70].as_slice());
     let mut sets = LiveSets::new(Vec::new(alloc));
-    sets.push(second)?;
-    assert_eq!(rt; sets.is_live(0, 70), true);
-    assert_eq!(rt; sets.is_live(0, 3), false);
-    assert_eq!(rt; sets.is_live(1, 70), false);
+    sets.push(second).expect(&rt, "memory");
+    assert!(rt; sets.is_live(0, 70));
+    assert!(rt; !sets.is_live(0, 3));
+    assert!(rt; !sets.is_live(1, 70));
     Ok(())
 }

@@ -4,22 +4,35 @@ use ceal_io::{
     DripSink, DripSource, Failed, MemSink, MemSource, ReadError, Sink, Source, StdSink, StdSource,
     Stopped, read_all, write_all,
 };
+use std::alloc::{AllocError, Global};
 use std::io;
 use std::io::{ErrorKind, Read, Write};
 use std::test::Fail;
 
+/// The bytes `abcde`, of which the second read fails.
+fn fails_second(alloc: Global) -> Result<MemSource, AllocError> {
+    let bytes = b"abcde".to_vec(alloc)?;
+    let fails = vec![in alloc; 2]?;
+    Ok(MemSource::new(bytes, fails))
+}
+
 #[test]
 fn a_listed_read_fails_and_loses_nothing(rt: HostRuntime) -> Result<(), Fail> {
-    let alloc = rt.alloc();
-    let mut source = MemSource::new(b"abcde".to_vec(alloc)?, vec![in alloc; 2]?);
+    let mut source = fails_second(rt.alloc()).expect(&rt, "memory");
     let mut piece = [0u8; 2];
     assert_eq!(rt; source.read(&mut piece), Ok(2));
     assert_eq!(rt; piece, *b"ab");
     assert_eq!(rt; source.read(&mut piece), Err(Failed));
     assert_eq!(rt; source.read(&mut piece), Ok(2));
     assert_eq!(rt; piece, *b"cd");
-    let mut source = MemSource::new(b"abcde".to_vec(alloc)?, vec![in alloc; 2]?);
-    let answer = read_all(alloc, &mut source, 9);
+    Ok(())
+}
+
+#[test]
+fn a_read_that_fails_ends_all_reading(rt: HostRuntime) -> Result<(), Fail> {
+    let mut source = fails_second(rt.alloc()).expect(&rt, "memory");
+    let answer = read_all(rt.alloc(), &mut source, 9);
+    drop(source);
     assert_eq!(rt; answer.err(), Some(ReadError::ReadFault));
     Ok(())
 }

@@ -4,7 +4,7 @@ use ceal_base::fault::Span;
 use ceal_base::text::Text;
 use ceal_lex::lex::lex;
 use ceal_lex::split::split;
-use ceal_lex::token::{Reserved, Sign, Token, TokenKind};
+use ceal_lex::token::{Reserved, Sign, TokenKind};
 use std::test::Fail;
 
 #[test]
@@ -116,25 +116,24 @@ fn reads_each_sign_and_word(rt: HostRuntime) -> Result<(), Fail> {
 fn reads_names_numbers_and_comments(rt: HostRuntime) -> Result<(), Fail> {
     let alloc = rt.alloc();
     let input = b"//\r\nif_1/**/9223372036854775807/***/007a\t/*/*/>==//x\n%%";
+    let tokens = lex(alloc, input, &split(input))?;
+    let first = Text::from_slice(alloc, b"if_1").expect(&rt, "memory");
+    let second = Text::from_slice(alloc, b"a").expect(&rt, "memory");
     let wanted = [
-        (TokenKind::Name(Text::from_slice(alloc, b"if_1")?), 4, 8),
+        (TokenKind::Name(first), 4, 8),
         (TokenKind::Number(9223372036854775807), 12, 31),
         (TokenKind::Number(7), 36, 39),
-        (TokenKind::Name(Text::from_slice(alloc, b"a")?), 39, 40),
+        (TokenKind::Name(second), 39, 40),
         (TokenKind::Sign(Sign::GreaterEquals), 46, 48),
         (TokenKind::Sign(Sign::Equals), 48, 49),
         (TokenKind::End, 53, 53),
     ];
-    let tokens = lex(alloc, input, &split(input))?;
     assert_eq!(rt; tokens.items().len(), wanted.len());
-    for (token, (kind, from, to)) in tokens.items().iter().zip(wanted) {
-        assert_eq!(rt;
-            *token,
-            Token {
-                kind,
-                span: Span { from, to }
-            }
-        );
+    for (token, (kind, from, to)) in tokens.items().iter().zip(&wanted) {
+        assert!(rt; token.kind == *kind, "at {from}");
+        assert_eq!(rt; (token.span.from, token.span.to), (*from, *to));
     }
+    drop(tokens);
+    drop(wanted);
     Ok(())
 }

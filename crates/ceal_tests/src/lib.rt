@@ -31,6 +31,8 @@ mod many;
 #[cfg(test)]
 mod mean;
 #[cfg(test)]
+mod nodes;
+#[cfg(test)]
 mod parse;
 #[cfg(test)]
 mod samples;

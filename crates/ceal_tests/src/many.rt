@@ -6,6 +6,7 @@ use ceal_base::no_memory::NoMemory;
 use ceal_base::text::Text;
 use ceal_many::{Answerer, Maker, Many};
 use std::alloc::Global;
+use std::process::Abort;
 use std::test::Fail;
 
 // Says all lines that it has heard, each with a line feed behind it.
@@ -53,53 +54,58 @@ fn reply(many: &mut Many<Echoes>, line: &[u8]) -> Result<Text, NoMemory> {
     many.command(line)
 }
 
+/// A line is answered by this.
+fn says<R: Abort>(rt: &R, many: &mut Many<Echoes>, line: &[u8], wanted: &[u8]) {
+    let text = reply(many, line).expect(rt, "memory");
+    assert_eq!(rt; text.items(), wanted);
+}
+
+const UNREADABLE: &[u8] = b"refused C1: unreadable line\n";
+
+const FULL: &[u8] = b"refused C9: too many sessions\n";
+
 #[test]
 fn each_name_has_its_session(rt: HostRuntime) -> Result<(), Fail> {
     let alloc = rt.alloc();
-    let mut many = Many::new(alloc, Echoes { alloc })?;
-    assert_eq!(rt; reply(&mut many, b"@x a")?.items(), b"x: a\n".as_slice());
-    assert_eq!(rt; reply(&mut many, b"@yy\tb")?.items(), b"yy: b\n".as_slice());
-    assert_eq!(rt; reply(&mut many, b"@x")?.items(), b"x: a\nx: \n".as_slice());
-    assert_eq!(rt;
-        reply(&mut many, b"@x  c")?.items(),
-        b"x: a\nx: \nx:  c\n".as_slice()
-    );
-    assert_eq!(rt;
-        reply(&mut many, b"@yy ")?.items(),
-        b"yy: b\nyy: \n".as_slice()
-    );
+    let mut many = Many::new(alloc, Echoes { alloc }).expect(&rt, "memory");
+    says(&rt, &mut many, b"@x a", b"x: a\n");
+    says(&rt, &mut many, b"@yy\tb", b"yy: b\n");
+    says(&rt, &mut many, b"@x", b"x: a\nx: \n");
+    says(&rt, &mut many, b"@x  c", b"x: a\nx: \nx:  c\n");
+    says(&rt, &mut many, b"@yy ", b"yy: b\nyy: \n");
     Ok(())
 }
 
 #[test]
 fn lines_without_a_name(rt: HostRuntime) -> Result<(), Fail> {
     let alloc = rt.alloc();
-    let mut many = Many::new(alloc, Echoes { alloc })?;
-    let unreadable = b"refused C1: unreadable line\n".as_slice();
-    assert_eq!(rt; reply(&mut many, b" \t")?.items(), b"".as_slice());
-    assert_eq!(rt; reply(&mut many, b"  // @x a")?.items(), b"".as_slice());
-    assert_eq!(rt; reply(&mut many, b"steps")?.items(), unreadable);
-    assert_eq!(rt; reply(&mut many, b" @x a")?.items(), unreadable);
-    assert_eq!(rt; reply(&mut many, b"@ x a")?.items(), unreadable);
-    assert_eq!(rt; reply(&mut many, b"@null a")?.items(), unreadable);
+    let mut many = Many::new(alloc, Echoes { alloc }).expect(&rt, "memory");
+    says(&rt, &mut many, b" \t", b"");
+    says(&rt, &mut many, b"  // @x a", b"");
+    says(&rt, &mut many, b"steps", UNREADABLE);
+    says(&rt, &mut many, b" @x a", UNREADABLE);
+    says(&rt, &mut many, b"@ x a", UNREADABLE);
+    says(&rt, &mut many, b"@null a", UNREADABLE);
+    Ok(())
+}
+
+/// Opens the session of the name `n` with a number.
+fn open(alloc: Global, many: &mut Many<Echoes>, number: usize) -> Result<(), NoMemory> {
+    let mut line = Text::from_slice(alloc, b"@n")?;
+    line.append_number(number)?;
+    reply(many, line.items())?;
     Ok(())
 }
 
 #[test]
 fn sixty_four_names(rt: HostRuntime) -> Result<(), Fail> {
     let alloc = rt.alloc();
-    let mut many = Many::new(alloc, Echoes { alloc })?;
-    for n in 0..64 {
-        let mut line = Text::from_slice(alloc, b"@n")?;
-        line.append_number(n)?;
-        reply(&mut many, line.items())?;
+    let mut many = Many::new(alloc, Echoes { alloc }).expect(&rt, "memory");
+    for number in 0..64 {
+        open(alloc, &mut many, number).expect(&rt, "memory");
     }
-    let full = b"refused C9: too many sessions\n".as_slice();
-    assert_eq!(rt; reply(&mut many, b"@n64 a")?.items(), full);
-    assert_eq!(rt; reply(&mut many, b"@n64")?.items(), full);
-    assert_eq!(rt;
-        reply(&mut many, b"@n63 a")?.items(),
-        b"n63: \nn63: a\n".as_slice()
-    );
+    says(&rt, &mut many, b"@n64 a", FULL);
+    says(&rt, &mut many, b"@n64", FULL);
+    says(&rt, &mut many, b"@n63 a", b"n63: \nn63: a\n");
     Ok(())
 }

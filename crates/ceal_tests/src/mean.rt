@@ -7,6 +7,7 @@ use ceal_base::memory::Inputs;
 use ceal_base::word::{BlockId, Word};
 use ceal_mean::run::{Outcome, interpret};
 use std::alloc::Global;
+use std::process::Abort;
 use std::test::Fail;
 
 /// The steps and the core blocks of a finished run.
@@ -35,59 +36,73 @@ fn run(
     fuel: u32,
 ) -> Result<Outcome, Fail> {
     let program = compiled(alloc, source)?;
-    let outcome = interpret(alloc, &program.typed, function, args, inputs, fuel)?;
-    Ok(outcome)
+    let outcome = interpret(alloc, &program.typed, function, args, inputs, fuel);
+    drop(program);
+    Ok(outcome?)
+}
+
+/// A finished run has these steps and core blocks, and leaves this content at a place.
+fn ends<R: Abort>(rt: &R, outcome: &Outcome, taken: (u32, u32), at: Word, value: Word) {
+    assert_eq!(rt; counts(outcome), Some(taken));
+    assert_eq!(rt; content_after(outcome, at), Some(value));
+}
+
+/// Runs the first function on two modifiables with these numbers.
+fn of_numbers(alloc: Global, source: &[u8], list: &[i64], fuel: u32) -> Result<Outcome, Fail> {
+    let inputs = numbers(alloc, list)?;
+    let outcome = run(alloc, source, 0, &[at(0), at(1)], &inputs, fuel);
+    drop(inputs);
+    outcome
 }
 
 #[test]
 fn reads_and_loops_take_their_steps(rt: HostRuntime) -> Result<(), Fail> {
-    let alloc = rt.alloc();
-    let args = [at(0), at(1)];
-    let inputs = numbers(alloc, &[4, 0])?;
-    let done = run(alloc, INC, 0, &args, &inputs, 2)?;
-    assert_eq!(rt; counts(&done), Some((2, 0)));
-    assert_eq!(rt; content_after(&done, at(1)), Some(Word::Num(5)));
-    let short = run(alloc, INC, 0, &args, &inputs, 1)?;
+    let done = of_numbers(rt.alloc(), INC, &[4, 0], 2)?;
+    ends(&rt, &done, (2, 0), at(1), Word::Num(5));
+    drop(done);
+    let short = of_numbers(rt.alloc(), INC, &[4, 0], 1)?;
     assert_eq!(rt; counts(&short), None);
-    let inputs = numbers(alloc, &[3, 0])?;
-    let done = run(alloc, LOOP, 0, &args, &inputs, 1000)?;
-    assert_eq!(rt; counts(&done), Some((9, 0)));
-    assert_eq!(rt; content_after(&done, at(1)), Some(Word::Num(7)));
+    drop(short);
+    let done = of_numbers(rt.alloc(), LOOP, &[3, 0], 1000)?;
+    ends(&rt, &done, (9, 0), at(1), Word::Num(7));
+    drop(done);
     Ok(())
 }
 
 #[test]
 fn a_list_of_three_cells_is_mapped(rt: HostRuntime) -> Result<(), Fail> {
-    let alloc = rt.alloc();
-    let inputs = list(alloc, &[1, 2, 3])?;
-    let done = run(alloc, MAP, 1, &[at(0), at(1)], &inputs, 18)?;
-    assert_eq!(rt; counts(&done), Some((18, 3)));
-    let first = Word::Block(BlockId::Core(0));
-    assert_eq!(rt; content_after(&done, at(1)), Some(first));
+    let inputs = list(rt.alloc(), &[1, 2, 3]).expect(&rt, "memory");
+    let done = run(rt.alloc(), MAP, 1, &[at(0), at(1)], &inputs, 18);
+    drop(inputs);
+    let done = done?;
+    ends(&rt, &done, (18, 3), at(1), Word::Block(BlockId::Core(0)));
     for n in 0..3 {
         let head = content_after(&done, place(BlockId::Core(n), 0));
         assert_eq!(rt; head, Some(Word::Num(10 * (i64::from(n) + 1))));
     }
+    drop(done);
     Ok(())
 }
 
 #[test]
 fn a_tree_of_operators_is_evaluated(rt: HostRuntime) -> Result<(), Fail> {
-    let alloc = rt.alloc();
-    let inputs = operators(alloc)?;
-    let done = run(alloc, EVAL, 0, &[at(10), at(11)], &inputs, 102)?;
-    assert_eq!(rt; counts(&done), Some((102, 10)));
-    assert_eq!(rt; content_after(&done, at(11)), Some(Word::Num(-12)));
+    let inputs = operators(rt.alloc()).expect(&rt, "memory");
+    let done = run(rt.alloc(), EVAL, 0, &[at(10), at(11)], &inputs, 102);
+    drop(inputs);
+    let done = done?;
+    ends(&rt, &done, (102, 10), at(11), Word::Num(-12));
+    drop(done);
     Ok(())
 }
 
 #[test]
 fn calls_nest_without_the_host_stack(rt: HostRuntime) -> Result<(), Fail> {
-    let alloc = rt.alloc();
-    let inputs = numbers(alloc, &[0])?;
+    let inputs = numbers(rt.alloc(), &[0]).expect(&rt, "memory");
     let args = [Word::Num(333332), at(0)];
-    let done = run(alloc, DEEP, 0, &args, &inputs, 1000000)?;
-    assert_eq!(rt; counts(&done), Some((999998, 0)));
-    assert_eq!(rt; content_after(&done, at(0)), Some(Word::Num(333332)));
+    let done = run(rt.alloc(), DEEP, 0, &args, &inputs, 1000000);
+    drop(inputs);
+    let done = done?;
+    ends(&rt, &done, (999998, 0), at(0), Word::Num(333332));
+    drop(done);
     Ok(())
 }

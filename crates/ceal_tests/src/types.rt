@@ -12,8 +12,9 @@ ceal f(mod int *a) { if (null == null) { int x = read(a); } int x = read(a); ret
 
 #[test]
 fn a_program_with_its_names_resolved(rt: HostRuntime) -> Result<(), Fail> {
-    let program = compiled(rt.alloc(), SCOPES)?.typed;
-    match (program.structs.items(), program.functions.items()) {
+    let program = compiled(rt.alloc(), SCOPES)?;
+    let typed = &program.typed;
+    match (typed.structs.items(), typed.functions.items()) {
         ([cell], [f]) => {
             assert_eq!(rt; cell.fields.items().len(), 1);
             let kind = cell.fields.items().first().map(|field| field.kind);
@@ -24,5 +25,6 @@ fn a_program_with_its_names_resolved(rt: HostRuntime) -> Result<(), Fail> {
         }
         _ => panic!(rt; "other structs or functions"),
     }
+    drop(program);
     Ok(())
 }

@@ -1,0 +1,122 @@
+// A call is run over nodes, from nothing. The answers were worked out by hand from the rules of the language.
+
+use crate::edits::fits;
+use crate::inputs::{at, list};
+use crate::samples::{MAP, compiled};
+use crate::told::told;
+use ceal_base::forest::Item;
+use ceal_base::no_memory::NoMemory;
+use ceal_repair::first::first;
+use ceal_repair::running::Outcome;
+use ceal_trace::node::Node;
+use ceal_trace::trace::Trace;
+use std::alloc::Global;
+use std::test::Fail;
+
+/// A node as an item; the root is none.
+fn item_of(node: &Node) -> Result<Option<Item>, NoMemory> {
+    match node {
+        Node::Root => Ok(None),
+        Node::Alloc { block, key } => {
+            let key = key.copy()?;
+            Ok(Some(Item::Alloc { block: *block, key }))
+        }
+        Node::Write { place, value } => Ok(Some(Item::Write {
+            place: *place,
+            value: *value,
+        })),
+        Node::Read {
+            place,
+            value,
+            unit,
+            var,
+            args,
+        } => {
+            let args = args.copy()?;
+            Ok(Some(Item::Read {
+                place: *place,
+                value: *value,
+                unit: *unit,
+                var: *var,
+                args,
+            }))
+        }
+        Node::End { .. } => Ok(Some(Item::End)),
+    }
+}
+
+fn add_node(items: &mut Vec<Item>, node: &Node, steps: u32) -> Result<(), NoMemory> {
+    if let Some(item) = item_of(node)? {
+        items.push(item)?;
+    }
+    for _step in 0..steps {
+        items.push(Item::Step)?;
+    }
+    Ok(())
+}
+
+/// The items of the nodes of a trace.
+fn items_of(alloc: Global, trace: &Trace) -> Result<Vec<Item>, NoMemory> {
+    let mut items = Vec::new(alloc);
+    let mut at = trace.root();
+    add_node(&mut items, trace.node(at), trace.steps_at(at))?;
+    while let Some(next) = trace.order().next(at) {
+        add_node(&mut items, trace.node(next), trace.steps_at(next))?;
+        at = next;
+    }
+    Ok(items)
+}
+
+/// MAP over the list 1, 2, 3.
+fn mapped(alloc: Global, fuel: u32) -> Result<Outcome, Fail> {
+    let program = compiled(alloc, MAP)?;
+    let inputs = list(alloc, &[1, 2, 3])?;
+    let args = [at(0), at(1)];
+    if inputs.items().len() > 100 {
+        return Err(Fail::from("too many inputs"));
+    }
+    if !fits(&program.code, 1, &args, &inputs) {
+        return Err(Fail::from("the call does not fit"));
+    }
+    let outcome = first(alloc, &program.code, 1, &args, &inputs, fuel)?;
+    Ok(outcome)
+}
+
+const MAPPED: &str = ".v2 = read(in0.0) u1(&in1.0): in2
+..#0 = init 0(in2)
+.in1.0 := #0
+..v2 = read(in2.1) u1(&#0.1): in3
+..#1 = init 0(in3)
+.#0.1 := #1
+..v2 = read(in3.1) u1(&#1.1): in4
+..#2 = init 0(in4)
+.#1.1 := #2
+..v2 = read(in4.1) u1(&#2.1): null
+..#2.1 := null
+end
+end
+end
+end
+";
+
+#[test]
+fn a_run_from_nothing_leaves_its_nodes(rt: HostRuntime) -> Result<(), Fail> {
+    let alloc = rt.alloc();
+    let Outcome::Done(run) = mapped(alloc, 18)? else {
+        return Err(Fail::from("it is out of fuel"));
+    };
+    let items = items_of(alloc, &run.tables.trace)?;
+    let text = told(alloc, items.as_slice())?;
+    assert_eq!(rt; (run.spent, run.heap.live_count()), (18, 3));
+    assert_eq!(rt; text.as_str(), MAPPED);
+    Ok(())
+}
+
+#[test]
+fn a_run_from_nothing_is_out_of_fuel(rt: HostRuntime) -> Result<(), Fail> {
+    let alloc = rt.alloc();
+    match mapped(alloc, 17)? {
+        Outcome::OutOfFuel => Ok(()),
+        Outcome::Done(_run) => Err(Fail::from("it is not out of fuel")),
+    }
+}
