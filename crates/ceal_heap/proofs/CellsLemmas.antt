@@ -60,7 +60,7 @@ read o i a b first second =
     let next : 2 * i + 1 ≡ suc (twice i) = omega (arith, at) in
     get_both o i a b (subst (λ (n : ℕ). cell_at o n ≡ Some a) at first) (subst (λ (n : ℕ). cell_at o n ≡ Some b) next second)
 
--- so many words have so many cells
+-- the number of cells that words have
 pub count_some : (n : ℕ) → 0 < n → cell_count n ≡ 2 * n
 count_some n some = ap (λ (b : Bool). cond b 1 (2 * n)) (ne_eqb n 0 (omega (arith, some)))
 

@@ -15,8 +15,8 @@ use Rattle.ceal_words.specs.Region.{words_of, KeepsAll, KeepsOthers}
 use Rattle.ceal_words.specs.SizeClass.{SizeClass}
 use Rattle.ceal_words.specs.declared.slot.Slot.{Slot}
 use Rattle.ceal_heap.specs.Cells.{words_read, cells_held, cell_count}
-use Rattle.ceal_heap.specs.Table.{held_in, held_of, held_at, is_live, is_revoked, tally, IsLiveAt, NoneFree, NoneRevoked, Reuses, Adds, GivesOut, Revokes, Releases}
-use Rattle.ceal_heap.specs.Heap.{Contents, Known, Live, Revoked, Released, known_in, state_standing, number_standing, standing, known, block_of, plain_block, plain_of, word_at, revoked, released, IsLive, IsMade, IsFreeFor, KeepsBlocks, IsUnchanged, HasSlots, number_of, IsKept}
+use Rattle.ceal_heap.specs.Table.{held_in, held_of, held_at, is_live, is_revoked, tally, IsLiveAt, NoneRevoked, Reuses, Adds, GivesOut, Revokes, Releases}
+use Rattle.ceal_heap.specs.Heap.{Contents, Known, Live, Revoked, known_in, state_standing, number_standing, standing, known, block_of, plain_block, plain_of, word_at, revoked, released, IsLive, IsMade, KeepsBlocks, HasSlots, number_of, IsKept}
 use Rattle.ceal_heap.specs.declared.number.Held.{Held}
 use Rattle.ceal_heap.specs.declared.number.Number.{Number}
 use Rattle.ceal_heap.specs.declared.number.State.{State}
@@ -185,19 +185,6 @@ number_same : (region region' : List SizeClass) (o : Option Number) → ((x : He
 number_same region region' None same = refl
 number_same region region' (Some x) same = state_same region region' x.shape x.state same
 
-all_same : (numbers : List Number) (region region' : List SizeClass) → KeepsAll region region' → (b : BlockId)
-    → standing (record { numbers = numbers; region = region' }) b ≡ standing (record { numbers = numbers; region = region }) b
-all_same numbers region region' all (Input n) = refl
-all_same numbers region region' all (Core n) = number_same region region' (slice_get numbers n) (λ x some. all x.slot)
-
-pub unchanged : (numbers : List Number) (region region' : List SizeClass) → KeepsAll region region'
-    → IsUnchanged (record { numbers = numbers; region = region }) (record { numbers = numbers; region = region' })
-unchanged numbers region region' all = record {
-  numbers = refl;
-  blocks = all_same numbers region region' all;
-  slots = all;
-}
-
 -- the number of a block that is no other's
 other_number : (n m : ℕ) → Core m ≢ Core n → m ≢ n
 other_number n m other e = other (ap Core e)
@@ -239,23 +226,6 @@ added_given before after shape h n is =
 pub given : (before after : List Number) (shape : Shape) (h : Held) (n : ℕ) → GivesOut before after shape h n → Given before after shape h n
 given before after shape h n (inl is) = reused_given before after shape h n is
 given before after shape h n (inr is) = added_given before after shape h n is
-
-state_free : (region : List SizeClass) (x : Number) (s : State) (shape : Shape) → state_standing region x.shape s ≡ Released shape → (x.shape ≡ shape) × (s ≡ ReleasedState)
-state_free region x (LiveState h) shape e = absurd (search rules)
-state_free region x (RevokedState h) shape e = absurd (search rules)
-state_free region x ReleasedState shape e = (search rules, refl)
-
-number_free : (region : List SizeClass) (o : Option Number) (shape : Shape) → number_standing region o ≡ Released shape → o ≡ Some (record { shape = shape; state = ReleasedState })
-number_free region None shape e = absurd (search rules)
-number_free region (Some x) shape e = let free = state_free region x x.state shape e in ap Some (λ i. record { shape = free.0 i; state = free.1 i })
-
-none_standing : (c : Contents) (shape : Shape) → NoneFree c.numbers shape → (b : BlockId) → standing c b ≢ Released shape
-none_standing c shape none (Input n) e = absurd (search rules)
-none_standing c shape none (Core n) e = none n (number_free c.region (slice_get c.numbers n) shape e)
-
-pub free_for : (c : Contents) (after : List Number) (shape : Shape) (h : Held) (n : ℕ) → GivesOut c.numbers after shape h n → IsFreeFor shape c (Core n)
-free_for c after shape h n (inl is) = inl (ap (number_standing c.region) is.was)
-free_for c after shape h n (inr is) = inr (ap Core is.next, none_standing c shape is.none_free)
 
 -- a number was given out to a block whose words were written
 module _ (before after : List Number) (region region' : List SizeClass) (shape : Shape) (h : Held) (n : ℕ) (kept : IsKept (held_at before) region)

@@ -7,7 +7,7 @@ use Rattle.std.proofs.lemmas.Bool.{cases_eq, cases_lt, eq-eqb, ne_eqb, eqb-true,
 use Rattle.ceal_base.specs.declared.kind.Shape.{Shape}
 use Rattle.ceal_base.specs.declared.kind.Shape.TheVariants.{Struct, ModInt, ModPtr}
 use Rattle.ceal_heap.specs.Stack.{Pile}
-use Rattle.ceal_heap.specs.Table.{Ledger, shelf_of, state_is_live, state_is_revoked, state_is_released, is_live, is_revoked, is_shaped, is_released, one_if, tally, Tracks, bare, shelf_at, IsSound, HasRoom, SameShelves, NoneFree, NoneRevoked}
+use Rattle.ceal_heap.specs.Table.{Ledger, shelf_of, state_is_live, state_is_revoked, state_is_released, is_live, is_revoked, is_shaped, is_released, one_if, tally, Tracks, bare, shelf_at, IsSound, HasRoom, SameShelves, NoneFree}
 use Rattle.ceal_heap.specs.declared.number.Held.{Held}
 use Rattle.ceal_heap.specs.declared.number.Number.{Number}
 use Rattle.ceal_heap.specs.declared.number.State.{State}
@@ -78,7 +78,7 @@ at_shelf P shelves k s inside here others j = ⊎_elim
     (λ other. subst (P j) (sym (get_or-set_other shelves k j s bare other)) (others j other))
     (cases_eq j k)
 
--- what holds of each shelf, after a bare one was put behind them
+-- what holds of each shelf, after a bare one was put after them
 pub more_shelves : (P : ℕ → Shelf → Type 0) (shelves : List Shelf) (s : Shelf) → P (length shelves) s → ((j : ℕ) → P j (shelf_at shelves j))
     → (j : ℕ) → P j (shelf_at (shelves ++ s ∷ []) j)
 more_shelves P shelves s here others j = ⊎_elim
@@ -263,10 +263,6 @@ module _ (t : Ledger) (sound : IsSound t) where
       let k = shelf_of shape in let free : Number = record { shape = shape; state = Released } in
       let fails = tracks_none (is_released k) t.numbers n free (subst (λ (ns : List ℕ). Tracks (is_released k) ns t.numbers) none (sound.free k)) some in
       false≢true (sym fails ∙ ap (λ (b : Bool). b && true) (shaped k free refl))
-
-  pub none_revoked : t.limbo.items ≡ [] → NoneRevoked t.numbers
-  none_revoked none n shape held some =
-      false≢true (sym (tracks_none is_revoked t.numbers n (record { shape = shape; state = Revoked held }) (subst (λ (ns : List ℕ). Tracks is_revoked ns t.numbers) none sound.limbo) some))
 
   -- the number on top of a shelf is free and of its shape
   pub top_free : (shape : Shape) (k n : ℕ) (rest : List ℕ) (shelf : Shelf) → k ≡ shelf_of shape → shelf ≡ shelf_at t.shelves k → shelf.free.items ≡ rest ++ n ∷ []

@@ -12,6 +12,7 @@ use Rattle.ceal_words.specs.declared.slot.Slot.{Slot}
 abbrev pub low : ℕ → ℕ
 low cell = cell % 2 ^ 32
 
+-- the upper half of a cell
 abbrev pub high : ℕ → ℕ
 high cell = cell / 2 ^ 32
 
@@ -36,7 +37,7 @@ abbrev pub words_read : Option (List ℕ) → List Word
 words_read None = []
 words_read (Some cells) = words_in cells
 
--- how many cells a block of so many words has; one without words has one
+-- how many cells a block of n words has; a block without words has one
 abbrev pub cell_count : ℕ → ℕ
 cell_count words = if words == 0 then 1 else 2 * words
 
@@ -49,5 +50,6 @@ cells_held (Some cells) = length cells
 abbrev pub read_at : List SizeClass → Slot → List Word
 read_at region slot = words_read (words_of region slot)
 
+-- the cells of a slot
 abbrev pub cells_at : List SizeClass → Slot → ℕ
 cells_at region slot = cells_held (words_of region slot)

@@ -37,14 +37,17 @@ pub data Standing : Type 0 where
   Revoked : (block : Known) → Standing
   Released : (shape : Shape) → Standing
 
+-- what is known of a block, by what holds it
 abbrev pub known_in : List SizeClass → Shape → Held → Known
 known_in region shape held = record { shape = shape; key = held.key; words = read_at region held.slot; slot = held.slot }
 
+-- how a number stands, by its state
 abbrev pub state_standing : List SizeClass → Shape → State → Standing
 state_standing region shape (LiveState held) = Live (known_in region shape held)
 state_standing region shape (RevokedState held) = Revoked (known_in region shape held)
 state_standing region shape ReleasedState = Released shape
 
+-- how a number stands, and that it is unused where it is not there
 abbrev pub number_standing : List SizeClass → Option Number → Standing
 number_standing region None = Unused
 number_standing region (Some number) = state_standing region number.shape number.state
@@ -65,6 +68,7 @@ known (Released shape) = None
 abbrev pub block_of : Contents → BlockId → Option Known
 block_of heap b = known (standing heap b)
 
+-- the block without its key and its slot
 abbrev pub plain_block : Known → Block
 plain_block block = record { shape = block.shape; words = block.words }
 

@@ -1,4 +1,6 @@
+-- what the crate promises
 pub mod Cells
-pub mod Stack
 pub mod Table
 pub mod Heap
+-- what its own functions say of each other
+pub mod Stack

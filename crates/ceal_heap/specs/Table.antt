@@ -35,10 +35,12 @@ revoked_state (Live held) = Revoked held
 revoked_state (Revoked held) = Revoked held
 revoked_state Released = Released
 
+-- what a number holds, if it is there and live or revoked
 abbrev pub held_of : Option Number → Option Held
 held_of None = None
 held_of (Some number) = held_in number.state
 
+-- what the n-th number holds
 abbrev pub held_at : List Number → ℕ → Option Held
 held_at numbers n = held_of (slice_get numbers n)
 
@@ -48,19 +50,23 @@ state_is_live (Live held) = true
 state_is_live (Revoked held) = false
 state_is_live Released = false
 
+-- whether the state is that of a revoked block
 abbrev pub state_is_revoked : State → Bool
 state_is_revoked (Live held) = false
 state_is_revoked (Revoked held) = true
 state_is_revoked Released = false
 
+-- whether the state is that of a number that is free again
 abbrev pub state_is_released : State → Bool
 state_is_released (Live held) = false
 state_is_released (Revoked held) = false
 state_is_released Released = true
 
+-- whether the number's block is live
 abbrev pub is_live : Number → Bool
 is_live number = state_is_live number.state
 
+-- whether the number's block is revoked
 abbrev pub is_revoked : Number → Bool
 is_revoked number = state_is_revoked number.state
 
@@ -68,6 +74,7 @@ is_revoked number = state_is_revoked number.state
 abbrev pub is_shaped : ℕ → Number → Bool
 is_shaped k number = shelf_of number.shape == k
 
+-- whether the number is free again for blocks of shape k
 abbrev pub is_released : ℕ → Number → Bool
 is_released k number = is_shaped k number && state_is_released number.state
 
@@ -76,6 +83,7 @@ abbrev pub one_if : Bool → ℕ
 one_if true = 1
 one_if false = 0
 
+-- 1 for a number that passes the test, and 0 for any other
 abbrev pub mark : (Number → Bool) → Option Number → ℕ
 mark test None = 0
 mark test (Some number) = one_if (test number)
@@ -99,6 +107,7 @@ pub record Tracks (test : Number → Bool) (ns : List ℕ) (numbers : List Numbe
 abbrev pub bare : Shelf
 bare = record { free = record { items = []; room = 0 }; made = 0 }
 
+-- the shelf of shape k; a bare one, where it is not there
 abbrev pub shelf_at : List Shelf → ℕ → Shelf
 shelf_at shelves k = slice_index_or shelves k bare
 
@@ -144,6 +153,7 @@ pub record Adds (before after : List Number) (shape : Shape) (held : Held) (n : 
   pub none_free : NoneFree before shape
   pub now : after ≡ before ++ record { shape = shape; state = Live held } ∷ []
 
+-- A number is given out: a free one again, or a new one.
 abbrev pub GivesOut : List Number → List Number → Shape → Held → ℕ → Type 0
 GivesOut before after shape held n = Reuses before after shape held n ⊎ Adds before after shape held n
 
@@ -157,6 +167,7 @@ abbrev pub Releases : List Number → List Number → Held → Type 0
 Releases before after held = (n : ℕ) × (shape : Shape) × (slice_get before n ≡ Some (record { shape = shape; state = Revoked held }))
     × (after ≡ slice_set before n (record { shape = shape; state = Released }))
 
+-- No number's block is revoked.
 abbrev pub NoneRevoked : List Number → Type 0
 NoneRevoked numbers = (n : ℕ) (shape : Shape) (held : Held) → slice_get numbers n ≢ Some (record { shape = shape; state = Revoked held })
 

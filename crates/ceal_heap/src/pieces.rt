@@ -97,7 +97,7 @@ impl Pieces {
     }
 }
 
-// How many cells so many words take.
+// How many cells the words take.
 fn cell_count(words: u32) -> u32
     requires { words ≤ 255 }
     ensures value { result ≡ cell_count words }

@@ -31,7 +31,7 @@ impl Stack {
         }
     }
 
-    /// Makes room for so many numbers in all.
+    /// Makes room for `count` numbers in all.
     pub fn reserve(&mut self, count: usize) -> Result<(), NoMemory>
         ensures items { self.new.items ≡ self.old.items }
         ensures raises { self.old.room ≤ self.new.room }

@@ -18,7 +18,7 @@ use Rattle.ceal_memo.specs.Lists.{stamps_at, with_stamp}
 use Rattle.ceal_memo.specs.Memo.{Entries, reads_of, allocs_of, Follows, HasNone, ReadsChange, AllocsChange}
 use Rattle.ceal_memo.proofs.Keys.{tells, either, read-Decides, alloc-Decides}
 use Rattle.ceal_memo.proofs.Keeping.{matches_more, matches_apart}
-use Rattle.ceal_memo.proofs.StampLists.{in_besides, rising_once}
+use Rattle.ceal_order.proofs.StampLists.{in_besides, rising_once}
 
 -- ---- the lists of a table in which one key was given another list
 

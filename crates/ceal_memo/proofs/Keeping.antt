@@ -10,7 +10,7 @@ use Rattle.ceal_memo.specs.declared.home.Home.{Home}
 use Rattle.ceal_memo.specs.declared.home.Home.TheVariants.{Read, Alloc}
 use Rattle.ceal_memo.specs.Homes.{Table, home_of, HomeChange, Matches, IsKept}
 use Rattle.ceal_memo.specs.Memo.{Entries, reads_of, allocs_of}
-use Rattle.ceal_memo.proofs.StampLists.{in_inserted, in_besides}
+use Rattle.ceal_order.proofs.StampLists.{in_inserted, in_besides}
 
 module _ (s : Stamp) (home : Option Home) (old new : Table Stamp Home) (change : HomeChange s home old new) where
   pub home_here : (t : Stamp) → s.0 ≡ t.0 → home_of new t ≡ home

@@ -1,5 +1,3 @@
-pub mod Gaps
-pub mod StampLists
 pub mod Keys
 pub mod Keeping
 pub mod Adding

@@ -17,7 +17,7 @@ use Rattle.ceal_memo.specs.Lists.{stamps_at}
 use Rattle.ceal_memo.specs.Memo.{Entries, reads_of, allocs_of, Follows, HasNone, OneEntry}
 use Rattle.ceal_memo.proofs.Keys.{tells, either, read-Decides, alloc-Decides}
 use Rattle.ceal_memo.proofs.Keeping.{matches_less}
-use Rattle.ceal_memo.proofs.StampLists.{without_none, absent_without, Distinct-without}
+use Rattle.ceal_order.proofs.StampLists.{without_none, absent_without, Distinct-without}
 
 -- what cannot be true is false
 out : (b : Bool) → (b ≡ true → ⊥) → b ≡ false

@@ -1,4 +1,5 @@
-pub mod GapBuffer
+-- what the crate promises
 pub mod Lists
 pub mod Memo
+-- what its own functions say of each other
 pub mod Homes

@@ -19,7 +19,8 @@ pub fn follows_still()
         → Follows new memo }
     ensures inserted { (s : ℕ) (memo : Entries) (old new : List ℕ) → Follows old memo
         → OneMore s old new → Follows new memo }
-    ensures deleted { (s : ℕ) (memo : Entries) (old new : List ℕ) → Follows old memo → OneMore s new old → HasNone s memo
+    ensures deleted { (s : ℕ) (memo : Entries) (old new : List ℕ) → Follows old memo
+        → OneMore s new old → HasNone s memo
         → Follows new memo }
 {
     rising_still();

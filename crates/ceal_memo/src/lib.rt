@@ -5,14 +5,12 @@
 //! each call that compares stamps is handed it, and what is kept follows it.
 //!
 //! `key` is what a read is found again by, `memo` the tables with their calls; `laws` says along which orders a memo
-//! still follows. Inside, `lists` has the stamps of each key, which stand in a `gap_buffer` where `search` finds them,
-//! and `home` the key of each stamp, by which an entry is taken out without an order.
+//! still follows. Inside, `lists` has the stamps of each key, and `home` the key of each stamp, by which an entry is
+//! taken out without an order.
 #![tactic(auto)]
 
-mod gap_buffer;
 mod home;
 pub mod key;
 pub mod laws;
 mod lists;
 pub mod memo;
-mod search;

@@ -6,10 +6,9 @@ ghost use Rattle.ceal_order.specs.Stamps.{is_in, Distinct, place, without};
 ghost use Rattle.ceal_order.specs.Rising.{IsRising, IsFirstAfter};
 ghost use Rattle.ceal_memo.specs.Lists.{stamps_at, with_stamp, NoneBetween};
 
-use crate::gap_buffer::GapBuffer;
-use crate::search::{index_of, next_behind, rank};
 use ceal_base::no_memory::NoMemory;
 use ceal_order::order::Order;
+use ceal_order::rising::Rising;
 use ceal_order::stamp::Stamp;
 use std::alloc::Global;
 use std::collections::HashMap;
@@ -18,7 +17,7 @@ use std::hash::Hash;
 /// Puts a stamp into the list of a key.
 pub fn put<K: Eq + Hash + Drop>(
     alloc: Global,
-    lists: &mut HashMap<K, GapBuffer>,
+    lists: &mut HashMap<K, Rising>,
     order: &Order,
     key: K,
     stamp: Stamp,
@@ -31,18 +30,17 @@ pub fn put<K: Eq + Hash + Drop>(
     ensures err { OnErr result (IsUnchanged lists.old lists.new) }
 {
     if let Some(list) = lists.get_mut(&key) {
-        let at = rank(order, list, stamp);
-        list.insert(at, stamp)?;
+        list.insert(order, stamp)?;
         return Ok(());
     }
-    let mut list = GapBuffer::new(alloc);
-    list.insert(0, stamp)?;
+    let mut list = Rising::new(alloc);
+    list.insert(order, stamp)?;
     lists.insert(key, list)?;
     Ok(())
 }
 
 /// Takes a stamp out of the list of a key.
-pub fn take<K: Eq + Hash + Drop>(lists: &mut HashMap<K, GapBuffer>, key: K, stamp: Stamp)
+pub fn take<K: Eq + Hash + Drop>(lists: &mut HashMap<K, Rising>, key: K, stamp: Stamp)
     requires once { Distinct (stamps_at K.eq lists.old.entries key) }
     ensures here { stamps_at K.eq lists.new.entries key
         ≡ without stamp.0 (stamps_at K.eq lists.old.entries key) }
@@ -52,15 +50,15 @@ pub fn take<K: Eq + Hash + Drop>(lists: &mut HashMap<K, GapBuffer>, key: K, stam
     let Some(list) = lists.get_mut(&key) else {
         return;
     };
-    take_out(list, stamp);
-    if list.len() == 0 {
+    list.take_out_near(stamp);
+    if list.is_empty() {
         lists.remove(&key);
     }
 }
 
 /// The earliest stamp of a key after one and before another.
 pub fn first_between<K: Eq + Hash + Drop>(
-    lists: &HashMap<K, GapBuffer>,
+    lists: &HashMap<K, Rising>,
     order: &Order,
     key: &K,
     after: Stamp,
@@ -79,20 +77,10 @@ pub fn first_between<K: Eq + Hash + Drop>(
         (NoneBetween order.now.stamps (stamps_at K.eq lists.now.entries key.now) after.0 until.0) }
 {
     let list = lists.get(key)?;
-    let next = next_behind(order, list, after)?;
+    let next = list.first_after(order, after)?;
     if order.before(next, until) {
         Some(next)
     } else {
         None
-    }
-}
-
-// Takes a stamp out of a list, where it is there.
-fn take_out(list: &mut GapBuffer, stamp: Stamp)
-    requires { Distinct list.old }
-    ensures { list.new ≡ without stamp.0 list.old }
-{
-    if let Some(at) = index_of(list, stamp) {
-        list.remove(at);
     }
 }

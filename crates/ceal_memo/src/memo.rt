@@ -10,13 +10,13 @@ ghost use Rattle.ceal_memo.specs.Homes.{entries_in};
 ghost use Rattle.ceal_memo.specs.Lists.{with_stamp, NoneBetween};
 ghost use Rattle.ceal_memo.specs.Memo.{reads_of, allocs_of, Follows, HasNone, OneEntry, ReadsChange, AllocsChange};
 
-use crate::gap_buffer::GapBuffer;
 use crate::home::{Home, settle};
 use crate::key::ReadKey;
 use crate::lists::{first_between, put, take};
 use ceal_base::forest::Key;
 use ceal_base::no_memory::NoMemory;
 use ceal_order::order::Order;
+use ceal_order::rising::Rising;
 use ceal_order::stamp::Stamp;
 use std::alloc::Global;
 use std::collections::HashMap;
@@ -26,8 +26,8 @@ use std::marker::Model;
 /// Each call that is handed an order needs that the memo follows it, and leaves it so.
 #[derive(Drop)]
 pub struct Memo {
-    reads: HashMap<ReadKey, GapBuffer>,
-    allocs: HashMap<Key, GapBuffer>,
+    reads: HashMap<ReadKey, Rising>,
+    allocs: HashMap<Key, Rising>,
     homes: HashMap<Stamp, Home>,
     alloc: Global,
 }
@@ -161,8 +161,8 @@ impl Memo {
 
 // Takes a stamp out of the list of the key that is its home.
 fn forget(
-    reads: &mut HashMap<ReadKey, GapBuffer>,
-    allocs: &mut HashMap<Key, GapBuffer>,
+    reads: &mut HashMap<ReadKey, Rising>,
+    allocs: &mut HashMap<Key, Rising>,
     home: Home,
     stamp: Stamp,
 )

@@ -1,3 +1,6 @@
-pub mod ModsLemmas
+-- what crates above cite
 pub mod StampLemmas
+-- the rest
+pub mod ModsLemmas
 pub mod WritesLemmas
+pub mod IndexLemmas

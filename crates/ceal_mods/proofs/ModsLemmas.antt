@@ -1,28 +1,17 @@
 -- The cells of places.
-use Rattle.std.proofs.Common.{◌≡◌, ℕ, cond, inl, inr, List, Some, refl, sym, ◌∙◌, rules}
-use Rattle.std.specs.Prelude.{unwrap_or, OnErr}
-use Rattle.std.specs.declared.result.Result.{Result}
-use Rattle.std.specs.declared.result.Result.TheVariants.{Ok, Err}
-use Rattle.std.specs.Bool.{Decides}
-use Rattle.std.specs.Map.{lookup, set_value}
+use Rattle.std.proofs.Common.{◌≡◌, ◌≢◌, ℕ, cond, inl, inr, List, [], ◌∷◌, ◌++◌, Option, Some, refl, sym, ap, ◌∙◌}
+use Rattle.std.specs.Prelude.{unwrap_or}
+use Rattle.std.specs.Map.{lookup}
 use Rattle.std.proofs.lemmas.Bool.{cases_Bool}
-use Rattle.std.proofs.lemmas.Map.Steps.{set_value_same}
 use Rattle.ceal_base.specs.contracts.word.PlacePartialEq.TheImpl.{ghosts}
 use Rattle.ceal_base.specs.declared.word.Place.{Place}
 use Rattle.ceal_mods.specs.Cell.{untouched, Rises}
 use Rattle.ceal_mods.specs.declared.cell.Cell.{Cell}
-
-pub on_err : {T E P : Type 0} (r : Result T E) → P → OnErr r P
-on_err (Ok x) p = tt
-on_err (Err e) p = p
-
-place-Decides : (p q : Place) → Decides (ghosts.eq p q) (p ≡ q)
-place-Decides p q = search rules
-
--- the cell that was found, put back
-pub put_back : (p : Place) (cells after : List (Place × Cell)) (cell next : Cell) → Some cell ≡ lookup (ghosts.eq p) cells
-    → after ≡ set_value (ghosts.eq p) cells next → next ≡ cell → after ≡ cells
-put_back p cells after cell next found written same = written ∙ rw same (set_value_same (ghosts.eq p) cells cell (sym found))
+use Rattle.ceal_mods.specs.declared.index.Index.{Index}
+use Rattle.ceal_mods.specs.Index.{cell_in, with_cell, slot_of, where_from, Indexes}
+use Rattle.ceal_mods.specs.Mods.{Changes}
+use Rattle.ceal_mods.specs.Slots.{no_slot}
+use Rattle.ceal_mods.proofs.IndexLemmas.{same_place, Held, held, none_held, not_found, lookup_stands, lookup_with, lookup_pushed, still_indexes}
 
 -- the cells of each place rise along an order
 abbrev pub AllRise : List ℕ → List (Place × Cell) → Type 0
@@ -38,3 +27,58 @@ rise_changed order cells after p cell rise updates rises q = elim (cases_Bool (g
   | inl e ↦ (let here : lookup (ghosts.eq q) after ≡ Some cell = updates q ∙ rw e refl in rw here rises)
   | inr e ↦ (let same : lookup (ghosts.eq q) after ≡ lookup (ghosts.eq q) cells = updates q ∙ rw e refl in rw same (rise q))
 ]
+
+-- one place has another cell, and the others have theirs
+pub changes_as : (cells after : List (Place × Cell)) (looked : ℕ) (p : Place) (cell : Cell)
+    → ((q : Place) → lookup (ghosts.eq q) after ≡ cond (ghosts.eq p q) (Some cell) (lookup (ghosts.eq q) cells))
+    → Changes (record { cells = cells; looked = looked }) (record { cells = after; looked = looked }) p cell
+changes_as cells after looked p cell updates = record {
+  here = elim (same_place p p) [
+    | inl same ↦ (let here : lookup (ghosts.eq p) after ≡ Some cell = updates p ∙ rw same.0 refl in ap (λ (o : Option Cell). unwrap_or o untouched) here)
+    | inr differ ↦ absurd (differ.1 refl)
+  ];
+  others = λ q other. elim (same_place p q) [
+    | inl same ↦ absurd (other (sym same.1))
+    | inr differ ↦ (let there : lookup (ghosts.eq q) after ≡ lookup (ghosts.eq q) cells = updates q ∙ rw differ.0 refl in ap (λ (o : Option Cell). unwrap_or o untouched) there)
+  ];
+  looked = refl;
+}
+
+-- ---- what was found of a place
+
+module _ (index : Index) (cells : List (Place × Cell)) (p : Place) (slot : ℕ) (indexes : Indexes index cells) (is : slot ≡ slot_of index p) where
+  module _ (some : slot ≢ no_slot) where
+    pub at : Held cells p slot
+    at = held index cells p slot indexes is some
+
+    pub cell_here : unwrap_or (lookup (ghosts.eq p) cells) untouched ≡ cell_in cells slot
+    cell_here = ap (λ (o : Option Cell). unwrap_or o untouched) (lookup_stands p cells slot at.stands)
+
+    pub rises_here : (order : List ℕ) → AllRise order cells → Rises order (cell_in cells slot)
+    rises_here order rise = rw cell_here at (rise p)
+
+    pub changed : (looked : ℕ) (cell : Cell) (after : List (Place × Cell)) → after ≡ with_cell slot cell cells
+        → Changes (record { cells = cells; looked = looked }) (record { cells = after; looked = looked }) p cell
+    changed looked cell after now = rw now (changes_as cells (with_cell slot cell cells) looked p cell (λ q. lookup_with p q cells slot cell at.stands))
+
+    pub follow : (order : List ℕ) (cell : Cell) (after : List (Place × Cell)) → AllRise order cells → after ≡ with_cell slot cell cells → Rises order cell → AllRise order after
+    follow order cell after rise now rises = rw now (rise_changed order cells (with_cell slot cell cells) p cell rise (λ q. lookup_with p q cells slot cell at.stands) rises)
+
+    pub indexed : (cell : Cell) (after : List (Place × Cell)) → after ≡ with_cell slot cell cells → Indexes index after
+    indexed cell after now = rw now (still_indexes index cells slot cell indexes)
+
+  module _ (none : slot ≡ no_slot) where
+    pub nowhere : where_from 0 p cells ≡ no_slot
+    nowhere = none_held index cells p slot indexes is none
+
+    pub cell_none : unwrap_or (lookup (ghosts.eq p) cells) untouched ≡ untouched
+    cell_none = ap (λ (o : Option Cell). unwrap_or o untouched) (not_found index cells p indexes nowhere)
+
+    pub added : (looked : ℕ) (cell : Cell) (after : List (Place × Cell)) → after ≡ cells ++ (p, cell) ∷ []
+        → Changes (record { cells = cells; looked = looked }) (record { cells = after; looked = looked }) p cell
+    added looked cell after now =
+        rw now (changes_as cells (cells ++ (p, cell) ∷ []) looked p cell (λ q. lookup_pushed p q cell cells (not_found index cells p indexes nowhere)))
+
+    pub follow_added : (order : List ℕ) (cell : Cell) (after : List (Place × Cell)) → AllRise order cells → after ≡ cells ++ (p, cell) ∷ [] → Rises order cell → AllRise order after
+    follow_added order cell after rise now rises =
+        rw now (rise_changed order cells (cells ++ (p, cell) ∷ []) p cell rise (λ q. lookup_pushed p q cell cells (not_found index cells p indexes nowhere)) rises)

@@ -1,7 +1,7 @@
 -- Stamps with their values.
-use Rattle.std.proofs.Common.{◌≡◌, ◌<◌, ◌≤◌, ◌+◌, ◌-◌, ℕ, suc, zero, inl, inr, true, List, [], ◌∷◌, length, get_or, refl, ap, arith}
+use Rattle.std.proofs.Common.{◌≡◌, ◌<◌, ◌≤◌, ◌+◌, ◌-◌, ℕ, suc, zero, inl, inr, true, false, List, [], ◌∷◌, length, get_or, refl, ap, arith}
 use Rattle.std.proofs.lemmas.Bool.Decides.{eqb_tells}
-use Rattle.std.proofs.lemmas.Bool.{cases_lt, lt-ltb, le-ltb}
+use Rattle.std.proofs.lemmas.Bool.{cases_lt, lt-ltb, le-ltb, eq-eqb}
 use Rattle.std.specs.List.{insert, remove}
 use Rattle.ceal_base.specs.declared.word.Word.{Word}
 use Rattle.ceal_order.specs.Stamps.{is_in, place, without}
@@ -98,3 +98,18 @@ as_many-without s (x ∷ xs) (v ∷ vs) same found = elim (eqb_tells x s) [
       let next : 1 + place s xs ≡ suc (place s xs) = omega arith in
       rw (p.0, next) (ap suc (as_many-without s xs vs (omega arith) (rw p.0 at found)))
 ]
+
+-- ---- one more, and out again
+
+pub insert-without : (s i : ℕ) (ss : List ℕ) → is_in s ss ≡ false → without s (insert ss i s) ≡ ss
+insert-without s zero ss none = rw (eq-eqb s s refl) refl
+insert-without s (suc i) [] none = rw (eq-eqb s s refl) refl
+insert-without s (suc i) (x ∷ xs) none = elim (eqb_tells x s) [
+  | inl p ↦ absurd (let no : true ≡ false = rw p.0 at none in cc)
+  | inr p ↦ rw p.0 (ap (λ (l : List ℕ). x ∷ l) (insert-without s i xs (rw p.0 at none)))
+]
+
+pub in-inserted : (s i : ℕ) (ss : List ℕ) → is_in s (insert ss i s) ≡ true
+in-inserted s zero ss = rw (eq-eqb s s refl) refl
+in-inserted s (suc i) [] = rw (eq-eqb s s refl) refl
+in-inserted s (suc i) (x ∷ xs) = elim (eqb_tells x s) [ inl p ↦ rw p.0 refl | inr p ↦ rw p.0 (in-inserted s i xs) ]

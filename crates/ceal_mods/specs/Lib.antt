@@ -1,3 +1,6 @@
+-- what the crate promises
 pub mod Cell
 pub mod Mods
 pub mod Writes
+pub mod Index
+pub mod Slots

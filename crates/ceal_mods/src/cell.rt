@@ -1,10 +1,11 @@
 // The lists of one place.
 
-ghost use Rattle.std.specs.Prelude.{◌≡◌, ℕ, [], IsTrue, IfSome, IfNone};
+ghost use Rattle.std.specs.Prelude.{◌≡◌, ℕ, [], IsTrue, IfSome, IfNone, IfOk};
 ghost use Rattle.ceal_order.specs.Stamps.{is_in};
-ghost use Rattle.ceal_mods.specs.Cell.{Rises, Sees, IsAffected};
+ghost use Rattle.ceal_mods.specs.Cell.{untouched, with_write, with_read, Rises, Sees, IsAffected};
 
 use crate::writes::Writes;
+use ceal_base::no_memory::NoMemory;
 use ceal_base::word::Word;
 use ceal_order::order::Order;
 use ceal_order::rising::Rising;
@@ -29,6 +30,41 @@ impl Cell {
             writes: Writes::new(alloc),
             reads: Rising::new(alloc),
         }
+    }
+
+    /// A modifiable that is written once.
+    pub fn written(
+        alloc: Global,
+        order: &Order,
+        stamp: Stamp,
+        value: Word,
+    ) -> Result<Cell, NoMemory>
+        requires here { IsTrue (is_in stamp.0 order.now.stamps) }
+        ensures cell { IfOk result (λ c. c ≡ with_write order.now.stamps stamp.0 value untouched) }
+        ensures rises { IfOk result (Rises order.now.stamps) }
+    {
+        let mut writes = Writes::new(alloc);
+        writes.add(order, stamp, value)?;
+        Ok(Cell {
+            base: Word::Num(0),
+            writes,
+            reads: Rising::new(alloc),
+        })
+    }
+
+    /// A modifiable that is read once.
+    pub fn read(alloc: Global, order: &Order, stamp: Stamp) -> Result<Cell, NoMemory>
+        requires here { IsTrue (is_in stamp.0 order.now.stamps) }
+        ensures cell { IfOk result (λ c. c ≡ with_read order.now.stamps stamp.0 untouched) }
+        ensures rises { IfOk result (Rises order.now.stamps) }
+    {
+        let mut reads = Rising::new(alloc);
+        reads.insert(order, stamp)?;
+        Ok(Cell {
+            base: Word::Num(0),
+            writes: Writes::new(alloc),
+            reads,
+        })
     }
 
     /// The earliest read behind a stamp that no write parts from it.

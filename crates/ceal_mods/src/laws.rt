@@ -18,7 +18,8 @@ pub fn follows_still()
         → Follows new mods }
     ensures inserted { (s : ℕ) (mods : Contents) (old new : List ℕ) → Follows old mods
         → OneMore s old new → Follows new mods }
-    ensures deleted { (s : ℕ) (mods : Contents) (old new : List ℕ) → Follows old mods → OneMore s new old → IsFree s mods
+    ensures deleted { (s : ℕ) (mods : Contents) (old new : List ℕ) → Follows old mods
+        → OneMore s new old → IsFree s mods
         → Follows new mods }
 {
     rising_still();
@@ -27,13 +28,18 @@ pub fn follows_still()
 /// Laws: at which stamps a place has writes and reads, and which values the writes have, after one is put in or taken out.
 pub fn stamps_after()
     ensures write_in { (order : List ℕ) (s t : ℕ) (value : Word) (cell : Cell)
-        → is_in t (stamps_of (with_write order s value cell).writes) ≡ is_in t (s ∷ stamps_of cell.writes) }
+        → is_in t (stamps_of (with_write order s value cell).writes)
+        ≡ is_in t (s ∷ stamps_of cell.writes) }
     ensures write_out { (order : List ℕ) (s t : ℕ) (cell : Cell) → Rises order cell
-        → is_in t (stamps_of (without_write s cell).writes) ≡ (if s == t then false else is_in t (stamps_of cell.writes)) }
-    ensures value_in { (order : List ℕ) (s t : ℕ) (value : Word) (cell : Cell) → is_in s (stamps_of cell.writes) ≡ false
-        → written_at t (with_write order s value cell).writes ≡ (if s == t then Some value else written_at t cell.writes) }
+        → is_in t (stamps_of (without_write s cell).writes)
+        ≡ (if s == t then false else is_in t (stamps_of cell.writes)) }
+    ensures value_in { (order : List ℕ) (s t : ℕ) (value : Word) (cell : Cell)
+        → is_in s (stamps_of cell.writes) ≡ false
+        → written_at t (with_write order s value cell).writes
+        ≡ (if s == t then Some value else written_at t cell.writes) }
     ensures value_out { (order : List ℕ) (s t : ℕ) (cell : Cell) → Rises order cell
-        → written_at t (without_write s cell).writes ≡ (if s == t then None else written_at t cell.writes) }
+        → written_at t (without_write s cell).writes
+        ≡ (if s == t then None else written_at t cell.writes) }
     ensures read_in { (order : List ℕ) (s t : ℕ) (cell : Cell)
         → is_in t (with_read order s cell).reads ≡ is_in t (s ∷ cell.reads) }
     ensures read_out { (order : List ℕ) (s t : ℕ) (cell : Cell) → Rises order cell
@@ -47,7 +53,8 @@ pub fn stamps_after()
 pub fn writes_go_by_values()
     ensures there { (s : ℕ) (writes : List Write)
         → is_some (written_at s writes) ≡ is_in s (stamps_of writes) }
-    ensures same { (order : List ℕ) (xs ys : List Write) → IsRising order (stamps_of xs) → IsRising order (stamps_of ys)
+    ensures same { (order : List ℕ) (xs ys : List Write) → IsRising order (stamps_of xs)
+        → IsRising order (stamps_of ys)
         → ((s : ℕ) → written_at s xs ≡ written_at s ys) → xs ≡ ys }
 {
     rising_members();

@@ -4,11 +4,15 @@
 //! the places that were touched, and how often a value was looked up. The order belongs to the caller: each call that
 //! speaks of time is handed it, and what is kept follows it.
 //!
-//! `mods` has the cells of all places with their calls, `cell` the lists of one place, and `writes` stamps with values;
-//! `laws` says along which orders they still follow, and which stamps there are after a change.
+//! `mods` has the calls over the cells of all places, `cell` the lists of one place, and `writes` stamps with values;
+//! `laws` says along which orders they still follow, and which stamps there are after a change. Inside, the cells stand in
+//! one vector, which `entries` changes, and an `index` leads from a place to its cell, by rows of `slots`.
 #![tactic(auto)]
 
 mod cell;
+mod entries;
+mod index;
 pub mod laws;
 pub mod mods;
+mod slots;
 mod writes;

@@ -1,27 +1,36 @@
 // The modifiables of all places.
 
-ghost use Rattle.std.specs.Prelude.{◌≡◌, ℕ, ◌+◌, ◌-◌, ◌^◌, List, false, min, IsTrue, IfSome, IfNone, IfOk, OnOk, OnErr};
+ghost use Rattle.std.specs.Prelude.{◌≡◌, ℕ, ◌+◌, ◌-◌, ◌^◌, ◌++◌, ◌∷◌, [], List, None, Some, false, min, IsTrue, IfSome, IfNone, IfOk, OnOk, OnErr};
+ghost use Rattle.std.specs.Map.{lookup};
+ghost use Rattle.ceal_base.specs.contracts.word.PlacePartialEq.TheImpl.{ghosts};
 ghost use Rattle.ceal_order.specs.Stamps.{is_in};
 ghost use Rattle.ceal_mods.specs.Writes.{stamps_of};
 ghost use Rattle.ceal_mods.specs.Cell.{value_before, latest_value, with_base, with_write, without_write, with_read, without_read, Sees, IsAffected};
+ghost use Rattle.ceal_mods.specs.Index.{where_from, Indexes};
 ghost use Rattle.ceal_mods.specs.Mods.{cell_of, IsUntouched, Changes, Follows};
+ghost use Rattle.ceal_mods.specs.Slots.{no_slot};
 
 use crate::cell::Cell;
+use crate::entries::{
+    add_read_at, add_write_at, cell_at, remove_read_at, remove_write_at, set_base_at,
+};
+use crate::index::Index;
+use crate::slots::NO_SLOT;
 use ceal_base::no_memory::NoMemory;
 use ceal_base::word::{Place, Word};
 use ceal_order::order::Order;
 use ceal_order::stamp::Stamp;
 use std::alloc::Global;
-use std::collections::HashMap;
 use std::marker::Model;
 
 /// The modifiables, each with its base, its writes and its reads; a place that was never touched has the base 0. Each
-/// call that is handed an order needs that they follow it, and leaves them so. A place is found by hashing and a stamp
+/// call that is handed an order needs that they follow it, and leaves them so. A place is found by its numbers and a stamp
 /// by halves; a write or a read behind all others of its place goes in without a search. Removals and look-ups take no
 /// memory.
 #[derive(Drop)]
 pub struct Mods {
-    cells: HashMap<Place, Cell>,
+    cells: Vec<(Place, Cell)>,
+    index: Index,
     looked: u64,
     alloc: Global,
 }
@@ -31,7 +40,11 @@ impl Model for Mods {
 
     ghost Value = { Contents };
 
-    ghost view = { λ m. record { cells = m.cells.entries; looked = m.looked } };
+    ghost use Rattle.ceal_mods.specs.Index.{Indexes};
+
+    ghost view = { λ m. record { cells = m.cells.items; looked = m.looked } };
+
+    ghost invariant = { λ m. Indexes m.index m.cells.items };
 }
 
 impl Mods {
@@ -42,7 +55,8 @@ impl Mods {
         ensures follows { IfOk result (λ mods. (order : List ℕ) → Follows order mods) }
     {
         Ok(Mods {
-            cells: HashMap::new(alloc),
+            cells: Vec::new(alloc),
+            index: Index::new(alloc),
             looked: 0,
             alloc,
         })
@@ -55,11 +69,13 @@ impl Mods {
         ensures err { OnErr result (self.new ≡ self.old) }
         ensures follows { (order : List ℕ) → Follows order self.old → Follows order self.new }
     {
-        if let Some(cell) = self.cells.get_mut(&place) {
-            cell.base = value;
+        let slot = self.index.find(place);
+        if slot != NO_SLOT {
+            set_base_at(&mut self.cells, slot, value);
             return Ok(());
         }
-        self.cells.insert(place, Cell::new(self.alloc, value))?;
+        let cell = Cell::new(self.alloc, value);
+        enter(&mut self.cells, &mut self.index, place, cell)?;
         Ok(())
     }
 
@@ -80,13 +96,13 @@ impl Mods {
         ensures err { OnErr result (self.new ≡ self.old) }
         ensures follows { Follows order.now.stamps self.new }
     {
-        if let Some(cell) = self.cells.get_mut(&place) {
-            cell.writes.add(order, stamp, value)?;
+        let slot = self.index.find(place);
+        if slot != NO_SLOT {
+            add_write_at(&mut self.cells, slot, order, stamp, value)?;
             return Ok(());
         }
-        let mut cell = Cell::new(self.alloc, Word::Num(0));
-        cell.writes.add(order, stamp, value)?;
-        self.cells.insert(place, cell)?;
+        let cell = Cell::written(self.alloc, order, stamp, value)?;
+        enter(&mut self.cells, &mut self.index, place, cell)?;
         Ok(())
     }
 
@@ -99,8 +115,9 @@ impl Mods {
             (without_write stamp.0 (cell_of self.old place)) }
         ensures follows { Follows order.now.stamps self.new }
     {
-        if let Some(cell) = self.cells.get_mut(&place) {
-            cell.writes.remove(order, stamp);
+        let slot = self.index.find(place);
+        if slot != NO_SLOT {
+            remove_write_at(&mut self.cells, slot, order, stamp);
         }
     }
 
@@ -115,13 +132,13 @@ impl Mods {
         ensures err { OnErr result (self.new ≡ self.old) }
         ensures follows { Follows order.now.stamps self.new }
     {
-        if let Some(cell) = self.cells.get_mut(&place) {
-            cell.reads.insert(order, stamp)?;
+        let slot = self.index.find(place);
+        if slot != NO_SLOT {
+            add_read_at(&mut self.cells, slot, order, stamp)?;
             return Ok(());
         }
-        let mut cell = Cell::new(self.alloc, Word::Num(0));
-        cell.reads.insert(order, stamp)?;
-        self.cells.insert(place, cell)?;
+        let cell = Cell::read(self.alloc, order, stamp)?;
+        enter(&mut self.cells, &mut self.index, place, cell)?;
         Ok(())
     }
 
@@ -134,8 +151,9 @@ impl Mods {
             (without_read stamp.0 (cell_of self.old place)) }
         ensures follows { Follows order.now.stamps self.new }
     {
-        if let Some(cell) = self.cells.get_mut(&place) {
-            cell.reads.remove(order, stamp);
+        let slot = self.index.find(place);
+        if slot != NO_SLOT {
+            remove_read_at(&mut self.cells, slot, order, stamp);
         }
     }
 
@@ -149,7 +167,7 @@ impl Mods {
         ensures follows { Follows order.now.stamps self.new }
     {
         self.looked = self.looked.saturating_add(1);
-        match self.cells.get(&place) {
+        match found(&self.cells, &self.index, place) {
             None => Word::Num(0),
             Some(cell) => cell.writes.before(order, stamp, cell.base),
         }
@@ -166,7 +184,7 @@ impl Mods {
     pub fn last_value(&self, place: Place) -> Word
         ensures { result ≡ latest_value (cell_of self.now place) }
     {
-        match self.cells.get(&place) {
+        match found(&self.cells, &self.index, place) {
             None => Word::Num(0),
             Some(cell) => cell.writes.last(cell.base),
         }
@@ -182,9 +200,50 @@ impl Mods {
         ensures none { IfNone result
             ((read : ℕ) → ¬ Sees order.now.stamps (cell_of self.now place) after.0 read) }
     {
-        match self.cells.get(&place) {
+        match found(&self.cells, &self.index, place) {
             None => None,
             Some(cell) => cell.affected(order, after),
+        }
+    }
+}
+
+// The cell of a place.
+fn found<'a>(cells: &'a [(Place, Cell)], index: &Index, place: Place) -> Option<&'a Cell>
+    requires { Indexes index.now cells.now }
+    ensures some { IfSome result (λ c. lookup (ghosts.eq place) cells.now ≡ Some c.now) }
+    ensures none { IfNone result (lookup (ghosts.eq place) cells.now ≡ None) }
+{
+    let slot = index.find(place);
+    if slot == NO_SLOT {
+        return None;
+    }
+    Some(cell_at(cells, slot))
+}
+
+// Gives a place that has no cell this one.
+fn enter(
+    cells: &mut Vec<(Place, Cell)>,
+    index: &mut Index,
+    place: Place,
+    cell: Cell,
+) -> Result<(), NoMemory>
+    requires indexed { Indexes index.old cells.old.items }
+    requires absent { where_from 0 place cells.old.items ≡ no_slot }
+    ensures ok { OnOk result (cells.new.items ≡ cells.old.items ++ (place, cell) ∷ []) }
+    ensures err { OnErr result (cells.new.items ≡ cells.old.items) }
+    ensures indexed { Indexes index.new cells.new.items }
+{
+    let slot = cells.len();
+    if slot >= NO_SLOT as usize {
+        drop(cell);
+        return Err(NoMemory);
+    }
+    cells.push((place, cell))?;
+    match index.put(place, slot as u32) {
+        Ok(()) => Ok(()),
+        Err(error) => {
+            drop(cells.pop());
+            Err(error)
         }
     }
 }

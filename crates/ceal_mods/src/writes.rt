@@ -7,6 +7,7 @@ ghost use Rattle.ceal_mods.specs.Writes.{stamps_of, last_of, those_before, with_
 
 use ceal_base::no_memory::NoMemory;
 use ceal_base::word::Word;
+use ceal_order::gap_buffer::GapBuffer;
 use ceal_order::order::Order;
 use ceal_order::rising::Rising;
 use ceal_order::stamp::Stamp;
@@ -17,7 +18,7 @@ use std::marker::Model;
 #[derive(Drop)]
 pub struct Writes {
     stamps: Rising,
-    values: Vec<Word>,
+    values: GapBuffer<Word>,
 }
 
 impl Model for Writes {
@@ -26,9 +27,9 @@ impl Model for Writes {
 
     ghost Value = { List Write };
 
-    ghost view = { λ w. written w.stamps w.values.items };
+    ghost view = { λ w. written w.stamps w.values };
 
-    ghost invariant = { λ w. length w.stamps ≡ length w.values.items };
+    ghost invariant = { λ w. length w.stamps ≡ length w.values };
 }
 
 impl Writes {
@@ -38,7 +39,7 @@ impl Writes {
     {
         Writes {
             stamps: Rising::new(alloc),
-            values: Vec::new(alloc),
+            values: GapBuffer::new(alloc),
         }
     }
 
@@ -52,7 +53,7 @@ impl Writes {
         if count == 0 {
             base
         } else {
-            self.values[count - 1]
+            self.values.get(count - 1)
         }
     }
 
@@ -64,7 +65,7 @@ impl Writes {
         if count == 0 {
             base
         } else {
-            self.values[count - 1]
+            self.values.get(count - 1)
         }
     }
 
@@ -89,10 +90,14 @@ impl Writes {
         ensures err { OnErr result (self.new ≡ self.old) }
         ensures rising { IsRising order.now.stamps (stamps_of self.new) }
     {
-        self.values.reserve(1)?;
         let at = self.stamps.insert(order, stamp)?;
-        let _ = self.values.insert(at, value);
-        Ok(())
+        match self.values.insert(at, value) {
+            Ok(()) => Ok(()),
+            Err(error) => {
+                self.stamps.remove(order, stamp);
+                Err(error)
+            }
+        }
     }
 
     /// Takes out the write at a stamp that has one.

@@ -1,5 +1,11 @@
-pub mod Samples
+-- what crates above cite
 pub mod Places
+pub mod RisingLemmas
+pub mod Editing
+pub mod StampLists
+pub mod Members
+-- the rest
+pub mod Samples
 pub mod Chains
 pub mod Inserting
 pub mod Removing
@@ -7,7 +13,5 @@ pub mod Growing
 pub mod Powers
 pub mod Neighbours
 pub mod Spreading
-pub mod RisingLemmas
 pub mod Searching
-pub mod Editing
-pub mod Members
+pub mod Gaps

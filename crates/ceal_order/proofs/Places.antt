@@ -247,10 +247,6 @@ module _ (s : ℕ) where
     | inr q ↦ elim (eqb_tells x s) [ inl p ↦ rw p.0 (rw q.0 at found) | inr p ↦ rw (p.0, q.0) (other_left a xs (rw q.0 at found) other) ]
   ]
 
-  NotIn-left : (a : ℕ) (xs : List ℕ) → NotIn a xs → NotIn a (without s xs)
-  NotIn-left a [] none = tt
-  NotIn-left a (x ∷ xs) none = elim (eqb_tells x s) [ inl p ↦ rw p.0 none.1 | inr p ↦ rw p.0 (none.0, NotIn-left a xs none.1) ]
-
   pub gone : (xs : List ℕ) → Distinct xs → NotIn s (without s xs)
   gone [] distinct = tt
   gone (x ∷ xs) distinct = elim (eqb_tells x s) [

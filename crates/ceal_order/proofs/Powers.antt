@@ -14,10 +14,6 @@ twice (suc j) =
     let before : 2 * 3 ^ (3 + j) ≤ 2 ^ (3 + j) * 2 ^ (3 + j) = twice j in
     rw (add-suc, pow-suc 3 (3 + j), pow-suc 2 (3 + j)) (step (3 ^ (3 + j)) (2 ^ (3 + j)) before)
 
--- the whole range of labels is sparse
-pub whole_sparse : (m : ℕ) → m < 2 ^ 32 → m * 2 ^ 62 ≤ 3 ^ 62
-whole_sparse m few = omega arith
-
 -- in a sparse range there is room for twice as many
 pub room : (m a b : ℕ) → 0 < a → m * a ≤ b → 2 * b ≤ a * a → 2 * m ≤ a
 room m a b some sparse wide = let all : 2 * m * a ≤ a * a = omega arith in le_of_mul-le-mul_right {m = 2 * m} {n = a} {k = a} all some

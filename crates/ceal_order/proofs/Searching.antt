@@ -22,6 +22,10 @@ numbers-at [] i d within = absurd (omega arith)
 numbers-at (s ∷ ss) zero d within = refl
 numbers-at (s ∷ ss) (suc i) d within = numbers-at ss i d (omega arith)
 
+-- a stamp that stands at no index in question
+pub blank : Stamp
+blank = record { 0 = 0 }
+
 -- ---- indices
 
 pub in_at : (xs : List ℕ) (i : ℕ) → i < length xs → is_in (get_or xs i 0) xs ≡ true
@@ -147,18 +151,21 @@ module _ (order : List ℕ) where
     | inr le ↦ le
   ]
 
-  -- ---- the same of stamps
+  -- ---- the same of stamps, each of which was got from an index
 
-  pub order_of : (ss : List Stamp) (i : ℕ) (d : Stamp) → IsRising order (numbers ss) → i < length ss → is_in (get_or ss i d).0 order ≡ true
-  order_of ss i d rising within = rw (← numbers-at ss i d within) (order_at (numbers ss) i rising (omega (arith, length-numbers ss)))
+  pub order_of : (ss : List Stamp) (i : ℕ) (t : Stamp) → IsRising order (numbers ss) → i < length ss → ((d : Stamp) → get_or ss i d ≡ t) → is_in t.0 order ≡ true
+  order_of ss i t rising within got =
+      rw (← got blank, ← numbers-at ss i blank within) (order_at (numbers ss) i rising (omega (arith, length-numbers ss)))
 
-  pub front_of : (s : ℕ) (ss : List Stamp) (i : ℕ) (d : Stamp) → IsRising order (numbers ss) → i < length ss → place (get_or ss i d).0 order < place s order
-      → suc i ≤ count_before order s (numbers ss)
-  front_of s ss i d rising within less = count_front s (numbers ss) i rising (omega (arith, length-numbers ss)) (rw (numbers-at ss i d within) less)
+  pub front_of : (s : ℕ) (ss : List Stamp) (i : ℕ) (t : Stamp) → IsRising order (numbers ss) → i < length ss → ((d : Stamp) → get_or ss i d ≡ t)
+      → place t.0 order < place s order → suc i ≤ count_before order s (numbers ss)
+  front_of s ss i t rising within got less =
+      count_front s (numbers ss) i rising (omega (arith, length-numbers ss)) (rw (numbers-at ss i blank within, got blank) less)
 
-  pub back_of : (s : ℕ) (ss : List Stamp) (i : ℕ) (d : Stamp) → IsRising order (numbers ss) → i < length ss → place s order ≤ place (get_or ss i d).0 order
-      → count_before order s (numbers ss) ≤ i
-  back_of s ss i d rising within le = count_back s (numbers ss) i rising (omega (arith, length-numbers ss)) (rw (numbers-at ss i d within) le)
+  pub back_of : (s : ℕ) (ss : List Stamp) (i : ℕ) (t : Stamp) → IsRising order (numbers ss) → i < length ss → ((d : Stamp) → get_or ss i d ≡ t)
+      → place s order ≤ place t.0 order → count_before order s (numbers ss) ≤ i
+  back_of s ss i t rising within got le =
+      count_back s (numbers ss) i rising (omega (arith, length-numbers ss)) (rw (numbers-at ss i blank within, got blank) le)
 
   pub count_within : (s : ℕ) (ss : List Stamp) → count_before order s (numbers ss) ≤ length ss
   count_within s ss = omega (arith, count_le s (numbers ss), length-numbers ss)
@@ -185,23 +192,27 @@ module _ (order : List ℕ) where
         behind = λ more. let up = rising_at xs n (n + 1) rising (omega arith) more in omega (arith, up, back);
       }
 
-  pub parted_here : (s : ℕ) (ss : List Stamp) (n : ℕ) (d : Stamp) → IsRising order (numbers ss) → n ≡ count_before order s (numbers ss) → n ≤ length ss
-      → (n < length ss → place s order < place (get_or ss n d).0 order) → IsParted order (numbers ss) s n
-  parted_here s ss n d rising is le behind =
+  pub parted_end : (s : ℕ) (ss : List Stamp) (n : ℕ) → IsRising order (numbers ss) → n ≡ count_before order s (numbers ss) → length ss ≤ n → IsParted order (numbers ss) s n
+  parted_end s ss n rising is le =
+      rw is (parted_at_count s (numbers ss) rising (λ less. absurd (omega (arith, less, le, is, length-numbers ss))))
+
+  pub parted_here : (s : ℕ) (ss : List Stamp) (n : ℕ) (t : Stamp) → IsRising order (numbers ss) → n ≡ count_before order s (numbers ss) → n < length ss
+      → ((d : Stamp) → get_or ss n d ≡ t) → place s order < place t.0 order → IsParted order (numbers ss) s n
+  parted_here s ss n t rising is within got behind =
       let behind' : n < length (numbers ss) → place s order < place (get_or (numbers ss) n 0) order
-      = λ within. let less : n < length ss = omega (arith, length-numbers ss) in rw (numbers-at ss n d less) (behind less) in
+      = λ less. rw (numbers-at ss n blank within, got blank) behind in
       rw is (parted_at_count s (numbers ss) rising (rw is at behind'))
 
-  pub parted_past : (s : ℕ) (ss : List Stamp) (n : ℕ) (d : Stamp) → IsRising order (numbers ss) → n ≡ count_before order s (numbers ss) → n < length ss
-      → place (get_or ss n d).0 order ≤ place s order → IsParted order (numbers ss) s (n + 1)
-  parted_past s ss n d rising is within le =
-      parted_past_count s (numbers ss) n rising is (omega (arith, length-numbers ss)) (rw (numbers-at ss n d within) le)
+  pub parted_past : (s : ℕ) (ss : List Stamp) (n : ℕ) (t : Stamp) → IsRising order (numbers ss) → n ≡ count_before order s (numbers ss) → n < length ss
+      → ((d : Stamp) → get_or ss n d ≡ t) → place t.0 order ≤ place s order → IsParted order (numbers ss) s (n + 1)
+  parted_past s ss n t rising is within got le =
+      parted_past_count s (numbers ss) n rising is (omega (arith, length-numbers ss)) (rw (numbers-at ss n blank within, got blank) le)
 
-  pub next_of_parted : (s : ℕ) (ss : List Stamp) (n : ℕ) (d : Stamp) → IsRising order (numbers ss) → n < length ss → IsParted order (numbers ss) s n
-      → IsFirstAfter order (numbers ss) s (get_or ss n d).0
-  next_of_parted s ss n d rising within parted =
+  pub next_of_parted : (s : ℕ) (ss : List Stamp) (n : ℕ) (t : Stamp) → IsRising order (numbers ss) → n < length ss → ((d : Stamp) → get_or ss n d ≡ t)
+      → IsParted order (numbers ss) s n → IsFirstAfter order (numbers ss) s t.0
+  next_of_parted s ss n t rising within got parted =
       let less : n < length (numbers ss) = omega (arith, length-numbers ss) in
-      rw (← numbers-at ss n d within) (next_at s (numbers ss) n rising less (parted.behind less) parted.front)
+      rw (← got blank, ← numbers-at ss n blank within) (next_at s (numbers ss) n rising less (parted.behind less) parted.front)
 
   pub none_of_parted : (s : ℕ) (ss : List Stamp) (n : ℕ) → length ss ≤ n → IsParted order (numbers ss) s n → NoneAfter order (numbers ss) s
   none_of_parted s ss n le parted = none_at s (numbers ss) (λ i less. parted.front i (omega (arith, length-numbers ss)))

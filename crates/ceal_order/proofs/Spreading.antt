@@ -1,5 +1,5 @@
 -- Labels given anew to links one after another.
-use Rattle.std.proofs.Common.{◌≡◌, ◌≢◌, ℕ, suc, inl, inr, ◌+◌, ◌-◌, ◌*◌, ◌<◌, ◌≤◌, ◌^◌, true, List, [], ◌∷◌, refl, ap, ◌∙◌, arith}
+use Rattle.std.proofs.Common.{◌≡◌, ◌≢◌, ℕ, suc, inl, inr, ◌+◌, ◌-◌, ◌*◌, ◌<◌, ◌≤◌, ◌^◌, true, List, [], ◌∷◌, ap, ◌∙◌, arith}
 use Rattle.std.proofs.Math.Nat.{mul-le-mul_right}
 use Rattle.std.proofs.lemmas.Bool.{cases_lt}
 use Rattle.std.proofs.lemmas.Bool.Decides.{eqb_tells}
@@ -73,14 +73,6 @@ module _ (old now new : List Link) (first k low gap at : ℕ) where
             let beyond : place first S + k ≤ place s S = omega (arith, higher) in
             one.others s other ∙ done.after s s_in beyond;
       }
-
-  pub spread_none : Spread old old first 0 low gap
-  spread_none = record {
-    same = record { long = refl; next = λ q. refl; prev = λ q. refl };
-    inside = λ s j s_in s_place less. absurd (omega (arith, less));
-    before = λ s s_in lower. refl;
-    after = λ s s_in higher. refl;
-  }
 
 -- all of a run
 module _ (old new : List Link) (first count low gap size at last : ℕ) (line : IsLine old (stamps_of old)) (spread : Spread old new first count low gap)

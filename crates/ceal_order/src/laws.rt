@@ -11,7 +11,8 @@ pub fn rising_still()
         → IsRising new stamps }
     ensures inserted { (s : ℕ) (stamps old new : List ℕ) → IsRising old stamps → OneMore s old new
         → IsRising new stamps }
-    ensures deleted { (s : ℕ) (stamps old new : List ℕ) → IsRising old stamps → OneMore s new old → is_in s stamps ≡ false
+    ensures deleted { (s : ℕ) (stamps old new : List ℕ) → IsRising old stamps → OneMore s new old
+        → is_in s stamps ≡ false
         → IsRising new stamps }
 {}
 

@@ -1,9 +1,10 @@
-// Rising stamps in a vector.
+// Rising stamps in a gap buffer.
 
-ghost use Rattle.std.specs.Prelude.{◌≡◌, ◌↔◌, ◌<◌, ◌≤◌, [], false, length, insert, remove, IfOk, IfSome, IfNone, OnOk, OnErr, IsTrue};
-ghost use Rattle.ceal_order.specs.Stamps.{is_in, place, without};
+ghost use Rattle.std.specs.Prelude.{◌≡◌, ◌↔◌, ◌<◌, ◌≤◌, [], false, length, insert, remove, slice_index, IfOk, IfSome, IfNone, OnOk, OnErr, IsTrue};
+ghost use Rattle.ceal_order.specs.Stamps.{is_in, Distinct, place, without};
 ghost use Rattle.ceal_order.specs.Rising.{numbers, count_before, IsRising, IsFirstAfter, NoneAfter, IsParted};
 
+use crate::gap_buffer::GapBuffer;
 use crate::order::Order;
 use crate::stamp::Stamp;
 use ceal_base::no_memory::NoMemory;
@@ -14,7 +15,7 @@ use std::marker::Model;
 /// along it, and leaves them so.
 #[derive(Drop)]
 pub struct Rising {
-    stamps: Vec<Stamp>,
+    stamps: GapBuffer<Stamp>,
 }
 
 impl Model for Rising {
@@ -23,7 +24,7 @@ impl Model for Rising {
 
     ghost Value = { List ℕ };
 
-    ghost view = { λ r. numbers r.stamps.items };
+    ghost view = { λ r. numbers r.stamps };
 }
 
 impl Rising {
@@ -32,7 +33,7 @@ impl Rising {
         ensures { result ≡ [] }
     {
         Rising {
-            stamps: Vec::new(alloc),
+            stamps: GapBuffer::new(alloc),
         }
     }
 
@@ -40,7 +41,7 @@ impl Rising {
     pub fn is_empty(&self) -> bool
         ensures { IsTrue result ↔ (self.now ≡ []) }
     {
-        self.stamps.as_slice().is_empty()
+        self.stamps.len() == 0
     }
 
     /// How many stand before a stamp.
@@ -105,10 +106,21 @@ impl Rising {
             self.stamps.remove(at);
         }
     }
+
+    /// The same of stamps none of which stands twice, looked at from the last change outwards, so that neighbours are
+    /// taken out one after another at little cost.
+    pub fn take_out_near(&mut self, stamp: Stamp)
+        requires once { Distinct self.old }
+        ensures { self.new ≡ without stamp.0 self.old }
+    {
+        if let Some(at) = nearest_index(&self.stamps, stamp) {
+            self.stamps.remove(at);
+        }
+    }
 }
 
 // How many stand before a stamp, found by halves; at once where all do.
-fn searched(order: &Order, stamps: &[Stamp], stamp: Stamp) -> usize
+fn searched(order: &Order, stamps: &GapBuffer<Stamp>, stamp: Stamp) -> usize
     requires here { IsTrue (is_in stamp.0 order.now.stamps) }
     requires rising { IsRising order.now.stamps (numbers stamps.now) }
     ensures count { result ≡ count_before order.now.stamps stamp.0 (numbers stamps.now) }
@@ -116,12 +128,12 @@ fn searched(order: &Order, stamps: &[Stamp], stamp: Stamp) -> usize
 {
     let mut low = 0;
     let mut high = stamps.len();
-    if high > 0 && order.before(stamps[high - 1], stamp) {
+    if high > 0 && order.before(stamps.get(high - 1), stamp) {
         return high;
     }
     while low < high {
         let middle = low + (high - low) / 2;
-        if order.before(stamps[middle], stamp) {
+        if order.before(stamps.get(middle), stamp) {
             low = middle + 1;
         } else {
             high = middle;
@@ -131,7 +143,7 @@ fn searched(order: &Order, stamps: &[Stamp], stamp: Stamp) -> usize
 }
 
 // The nearest one behind a stamp.
-fn next_of(order: &Order, stamps: &[Stamp], stamp: Stamp) -> Option<Stamp>
+fn next_of(order: &Order, stamps: &GapBuffer<Stamp>, stamp: Stamp) -> Option<Stamp>
     requires here { IsTrue (is_in stamp.0 order.now.stamps) }
     requires rising { IsRising order.now.stamps (numbers stamps.now) }
     ensures some { IfSome result
@@ -141,14 +153,14 @@ fn next_of(order: &Order, stamps: &[Stamp], stamp: Stamp) -> Option<Stamp>
 {
     let at = past(order, stamps, stamp);
     if at < stamps.len() {
-        Some(stamps[at])
+        Some(stamps.get(at))
     } else {
         None
     }
 }
 
 // How many do not stand behind a stamp.
-fn past(order: &Order, stamps: &[Stamp], stamp: Stamp) -> usize
+fn past(order: &Order, stamps: &GapBuffer<Stamp>, stamp: Stamp) -> usize
     requires here { IsTrue (is_in stamp.0 order.now.stamps) }
     requires rising { IsRising order.now.stamps (numbers stamps.now) }
     ensures { IsParted order.now.stamps (numbers stamps.now) stamp.0 result }
@@ -157,23 +169,51 @@ fn past(order: &Order, stamps: &[Stamp], stamp: Stamp) -> usize
     if at == stamps.len() {
         return at;
     }
-    if order.before(stamp, stamps[at]) {
+    if order.before(stamp, stamps.get(at)) {
         return at;
     }
     at + 1
 }
 
 // Where a stamp first stands.
-fn index_of(stamps: &[Stamp], stamp: Stamp) -> Option<usize>
+fn index_of(stamps: &GapBuffer<Stamp>, stamp: Stamp) -> Option<usize>
     ensures some { IfSome result
         (λ at. (at < length stamps.now)
         × (remove (numbers stamps.now) at ≡ without stamp.0 (numbers stamps.now))) }
     ensures none { IfNone result (without stamp.0 (numbers stamps.now) ≡ numbers stamps.now) }
 {
-    for (at, other) in stamps.iter().enumerate() {
-        if *other == stamp {
+    for at in 0..stamps.len() {
+        if stamps.get(at) == stamp {
             return Some(at);
         }
     }
     None
+}
+
+// Where a stamp stands that stands once at most, looked for from the last change outwards.
+fn nearest_index(stamps: &GapBuffer<Stamp>, stamp: Stamp) -> Option<usize>
+    requires once { Distinct (numbers stamps.now) }
+    ensures within { IfSome result (λ at. at < length stamps.now) }
+    ensures some { IfSome result
+        (λ at. remove (numbers stamps.now) at ≡ without stamp.0 (numbers stamps.now)) }
+    ensures none { IfNone result (without stamp.0 (numbers stamps.now) ≡ numbers stamps.now) }
+{
+    let gap = stamps.gap();
+    for distance in 0..stamps.len() {
+        if distance < stamps.len() - gap && is_at(stamps, gap + distance, stamp) {
+            return Some(gap + distance);
+        }
+        if distance < gap && is_at(stamps, gap - 1 - distance, stamp) {
+            return Some(gap - 1 - distance);
+        }
+    }
+    None
+}
+
+// Whether this stamp stands at an index.
+fn is_at(stamps: &GapBuffer<Stamp>, at: usize, stamp: Stamp) -> bool
+    requires { at < length stamps.now }
+    ensures { IsTrue result ↔ (slice_index (numbers stamps.now) at ≡ stamp.0) }
+{
+    stamps.get(at) == stamp
 }

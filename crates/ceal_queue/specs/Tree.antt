@@ -8,7 +8,7 @@ use Rattle.ceal_queue.specs.declared.tree.Tree.{Tree, Empty, Fork'}
 -- the stamps of a tree, from left to right
 abbrev pub stamps_of : Tree → List ℕ
 stamps_of Empty = []
-stamps_of (Fork' p stamp earlier later) = stamps_of earlier ++ stamp.0 ∷ stamps_of later
+stamps_of (Fork' p stamp height earlier later) = stamps_of earlier ++ stamp.0 ∷ stamps_of later
 
 -- each of these stands before a stamp
 abbrev pub AllBefore : List ℕ → ℕ → List ℕ → Type 0

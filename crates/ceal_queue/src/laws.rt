@@ -14,7 +14,8 @@ pub fn follows_still()
         → KeepsOrder queue.stamps old new → Follows new queue }
     ensures inserted { (s : ℕ) (queue : Waiting) (old new : List ℕ) → Follows old queue
         → OneMore s old new → Follows new queue }
-    ensures deleted { (s : ℕ) (queue : Waiting) (old new : List ℕ) → Follows old queue → OneMore s new old
+    ensures deleted { (s : ℕ) (queue : Waiting) (old new : List ℕ) → Follows old queue
+        → OneMore s new old
         → is_in s queue.stamps ≡ false → Follows new queue }
 {
     rising_still();

@@ -1,6 +1,7 @@
-// Stamps in a search tree: from left to right they rise along the order. The rank of a fork is not below those of the
-// forks under it, so that the tree is about as deep as the logarithm of their number (Seidel and Aragon, *Randomized
-// search trees*, 1996; they call it a treap).
+// Stamps in a search tree: from left to right they rise along the order. The two trees under a fork differ by one in
+// height at most, so that the tree is about as deep as the logarithm of their number, whatever the order in which they
+// came (Adelson-Velsky and Landis, 1962). Trees are joined round a fork (Blelloch, Ferizovic and Sun, *Just join for
+// parallel ordered sets*, 2016). No contract speaks of heights.
 
 ghost use Rattle.std.specs.Prelude.{◌≡◌, ◌+◌, ◌≤◌, ◌∷◌, ◌++◌, true, false, option_map, vec_len, vec_capacity, OnOk, OnErr, IsTrue};
 ghost use Rattle.ceal_order.specs.Stamps.{is_in, head_of, without};
@@ -23,15 +24,17 @@ pub enum Tree {
 #[derive(Drop)]
 pub struct Fork {
     pub stamp: Stamp,
+    pub height: u8,
     pub earlier: Tree,
     pub later: Tree,
 }
 
-// A number that looks as if it were drawn at random, and is the same for a stamp each time.
-fn rank(stamp: Stamp) -> u32 {
-    let mixed = (stamp.0 ^ (stamp.0 >> 16)).wrapping_mul(0x85eb_ca6b);
-    let mixed = (mixed ^ (mixed >> 13)).wrapping_mul(0xc2b2_ae35);
-    mixed ^ (mixed >> 16)
+// How many forks stand one under another, at most.
+fn height(tree: &Tree) -> u8 {
+    match tree {
+        Tree::Empty => 0,
+        Tree::Fork(fork) => fork.height,
+    }
 }
 
 /// The earliest stamp.
@@ -67,26 +70,153 @@ pub fn has(order: &Order, tree: &Tree, stamp: Stamp) -> bool
     }
 }
 
+// A fork whose height is that of its trees and one more.
+fn measured(mut fork: Box<Fork>) -> Box<Fork>
+    ensures { stamps_of result.value.earlier ++ result.value.stamp.0 ∷ stamps_of result.value.later
+        ≡ stamps_of fork.value.earlier ++ fork.value.stamp.0 ∷ stamps_of fork.value.later }
+{
+    let under = height(&fork.earlier).max(height(&fork.later));
+    fork.height = under.saturating_add(1);
+    fork
+}
+
+// A fork over these two trees, in place of its own.
+fn forked(earlier: Tree, mut fork: Box<Fork>, later: Tree) -> Box<Fork>
+    ensures { stamps_of result.value.earlier ++ result.value.stamp.0 ∷ stamps_of result.value.later
+        ≡ stamps_of earlier ++ fork.value.stamp.0 ∷ stamps_of later }
+{
+    fork.earlier = earlier;
+    fork.later = later;
+    measured(fork)
+}
+
+// Two forks, the second of which was the earlier tree of the first: it comes to stand over the first.
+fn earlier_on_top(mut fork: Box<Fork>, mut top: Box<Fork>) -> Box<Fork>
+    ensures { stamps_of result.value.earlier ++ result.value.stamp.0 ∷ stamps_of result.value.later
+        ≡ (stamps_of top.value.earlier ++ top.value.stamp.0 ∷ stamps_of top.value.later)
+        ++ fork.value.stamp.0 ∷ stamps_of fork.value.later }
+{
+    let first = mem::replace(&mut top.earlier, Tree::Empty);
+    let between = mem::replace(&mut top.later, Tree::Empty);
+    let last = mem::replace(&mut fork.later, Tree::Empty);
+    forked(first, top, Tree::Fork(forked(between, fork, last)))
+}
+
+// Two forks, the second of which was the later tree of the first: it comes to stand over the first.
+fn later_on_top(mut fork: Box<Fork>, mut top: Box<Fork>) -> Box<Fork>
+    ensures { stamps_of result.value.earlier ++ result.value.stamp.0 ∷ stamps_of result.value.later
+        ≡ stamps_of fork.value.earlier ++ fork.value.stamp.0
+        ∷ (stamps_of top.value.earlier ++ top.value.stamp.0 ∷ stamps_of top.value.later) }
+{
+    let first = mem::replace(&mut fork.earlier, Tree::Empty);
+    let between = mem::replace(&mut top.earlier, Tree::Empty);
+    let last = mem::replace(&mut top.later, Tree::Empty);
+    forked(Tree::Fork(forked(first, fork, between)), top, last)
+}
+
+// A fork whose earlier tree is not the higher one.
+fn leaning_later(mut fork: Box<Fork>) -> Box<Fork>
+    ensures { stamps_of result.value.earlier ++ result.value.stamp.0 ∷ stamps_of result.value.later
+        ≡ stamps_of fork.value.earlier ++ fork.value.stamp.0 ∷ stamps_of fork.value.later }
+{
+    if height(&fork.earlier) <= height(&fork.later) {
+        return fork;
+    }
+    match mem::replace(&mut fork.earlier, Tree::Empty) {
+        Tree::Empty => fork,
+        Tree::Fork(top) => earlier_on_top(fork, top),
+    }
+}
+
+// A fork whose later tree is not the higher one.
+fn leaning_earlier(mut fork: Box<Fork>) -> Box<Fork>
+    ensures { stamps_of result.value.earlier ++ result.value.stamp.0 ∷ stamps_of result.value.later
+        ≡ stamps_of fork.value.earlier ++ fork.value.stamp.0 ∷ stamps_of fork.value.later }
+{
+    if height(&fork.later) <= height(&fork.earlier) {
+        return fork;
+    }
+    match mem::replace(&mut fork.later, Tree::Empty) {
+        Tree::Empty => fork,
+        Tree::Fork(top) => later_on_top(fork, top),
+    }
+}
+
+// A fork with a later tree that may be higher by two than the earlier one: they are brought to differ by one at most.
+fn with_later(mut fork: Box<Fork>, later: Tree) -> Box<Fork>
+    ensures { stamps_of result.value.earlier ++ result.value.stamp.0 ∷ stamps_of result.value.later
+        ≡ stamps_of fork.value.earlier ++ fork.value.stamp.0 ∷ stamps_of later }
+{
+    let earlier = mem::replace(&mut fork.earlier, Tree::Empty);
+    if height(&later) <= height(&earlier).saturating_add(1) {
+        return forked(earlier, fork, later);
+    }
+    match later {
+        Tree::Empty => forked(earlier, fork, Tree::Empty),
+        Tree::Fork(top) => {
+            fork.earlier = earlier;
+            later_on_top(fork, leaning_later(top))
+        }
+    }
+}
+
+// The same with an earlier tree that may be higher by two than the later one.
+fn with_earlier(mut fork: Box<Fork>, earlier: Tree) -> Box<Fork>
+    ensures { stamps_of result.value.earlier ++ result.value.stamp.0 ∷ stamps_of result.value.later
+        ≡ stamps_of earlier ++ fork.value.stamp.0 ∷ stamps_of fork.value.later }
+{
+    let later = mem::replace(&mut fork.later, Tree::Empty);
+    if height(&earlier) <= height(&later).saturating_add(1) {
+        return forked(earlier, fork, later);
+    }
+    match earlier {
+        Tree::Empty => forked(Tree::Empty, fork, later),
+        Tree::Fork(top) => {
+            fork.later = later;
+            earlier_on_top(fork, leaning_earlier(top))
+        }
+    }
+}
+
+/// One tree of two and a fork between them.
+pub fn joined(earlier: Tree, fork: Box<Fork>, later: Tree) -> Tree
+    ensures { stamps_of result ≡ stamps_of earlier ++ fork.value.stamp.0 ∷ stamps_of later }
+{
+    let before = height(&earlier);
+    let behind = height(&later);
+    if before > behind.saturating_add(1) {
+        match earlier {
+            Tree::Empty => Tree::Fork(forked(Tree::Empty, fork, later)),
+            Tree::Fork(mut top) => {
+                let between = mem::replace(&mut top.later, Tree::Empty);
+                let last = joined(between, fork, later);
+                Tree::Fork(with_later(top, last))
+            }
+        }
+    } else if behind > before.saturating_add(1) {
+        match later {
+            Tree::Empty => Tree::Fork(forked(earlier, fork, Tree::Empty)),
+            Tree::Fork(mut top) => {
+                let between = mem::replace(&mut top.earlier, Tree::Empty);
+                let first = joined(earlier, fork, between);
+                Tree::Fork(with_earlier(top, first))
+            }
+        }
+    } else {
+        Tree::Fork(forked(earlier, fork, later))
+    }
+}
+
 /// One tree of the stamps of both.
 pub fn merged(earlier: Tree, later: Tree) -> Tree
     ensures { stamps_of result ≡ stamps_of earlier ++ stamps_of later }
 {
-    match earlier {
-        Tree::Empty => later,
-        Tree::Fork(mut first) => match later {
-            Tree::Empty => Tree::Fork(first),
-            Tree::Fork(mut last) => {
-                if rank(first.stamp) < rank(last.stamp) {
-                    let between = mem::replace(&mut last.earlier, Tree::Empty);
-                    last.earlier = merged(Tree::Fork(first), between);
-                    Tree::Fork(last)
-                } else {
-                    let between = mem::replace(&mut first.later, Tree::Empty);
-                    first.later = merged(between, Tree::Fork(last));
-                    Tree::Fork(first)
-                }
-            }
-        },
+    match later {
+        Tree::Empty => earlier,
+        Tree::Fork(fork) => {
+            let (first, rest) = taken_first(fork);
+            joined(earlier, first, rest)
+        }
     }
 }
 
@@ -101,16 +231,14 @@ pub fn parted(order: &Order, tree: Tree, stamp: Stamp) -> (Tree, Tree)
     match tree {
         Tree::Empty => (Tree::Empty, Tree::Empty),
         Tree::Fork(mut fork) => {
+            let earlier = mem::replace(&mut fork.earlier, Tree::Empty);
+            let later = mem::replace(&mut fork.later, Tree::Empty);
             if order.before(fork.stamp, stamp) {
-                let later = mem::replace(&mut fork.later, Tree::Empty);
                 let (before, others) = parted(order, later, stamp);
-                fork.later = before;
-                (Tree::Fork(fork), others)
+                (joined(earlier, fork, before), others)
             } else {
-                let earlier = mem::replace(&mut fork.earlier, Tree::Empty);
                 let (before, others) = parted(order, earlier, stamp);
-                fork.earlier = others;
-                (before, Tree::Fork(fork))
+                (before, joined(others, fork, later))
             }
         }
     }
@@ -127,9 +255,9 @@ pub fn taken_first(mut fork: Box<Fork>) -> (Box<Fork>, Tree)
             (fork, later)
         }
         Tree::Fork(earlier) => {
+            let later = mem::replace(&mut fork.later, Tree::Empty);
             let (first, rest) = taken_first(earlier);
-            fork.earlier = rest;
-            (first, Tree::Fork(fork))
+            (first, joined(rest, fork, later))
         }
     }
 }
@@ -142,12 +270,8 @@ pub fn with_stamp(order: &Order, tree: Tree, mut fork: Box<Fork>, stamp: Stamp) 
     ensures { Gains order.now.stamps stamp.0 (stamps_of tree) (stamps_of result) }
 {
     let (before, others) = parted(order, tree, stamp);
-    *fork = Fork {
-        stamp,
-        earlier: Tree::Empty,
-        later: Tree::Empty,
-    };
-    merged(merged(before, Tree::Fork(fork)), others)
+    fork.stamp = stamp;
+    joined(before, fork, others)
 }
 
 /// The fork of a stamp, and a tree of the others.
@@ -194,6 +318,7 @@ fn add_fork(spares: &mut Vec<Box<Fork>>) -> Result<(), NoMemory>
         alloc,
         Fork {
             stamp: Stamp(0),
+            height: 0,
             earlier: Tree::Empty,
             later: Tree::Empty,
         },

@@ -8,7 +8,7 @@ use Rattle.ceal_base.specs.declared.word.Word.{Word}
 use Rattle.ceal_code.specs.Program.{Code}
 use Rattle.ceal_code.specs.Replay.{Store, cleared, stored}
 use Rattle.ceal_tables.proofs.Covering.{stored-same}
-use Rattle.ceal_tables.specs.AsItems.{nodes_of, Starts_at, Starts_all}
+use Rattle.ceal_tables.specs.AsItems.{nodes_of, StartsAt, StartsAll}
 use Rattle.ceal_tables.specs.Covered.{Queue, Seen, content_after, with_seen, seen_after, Covers}
 use Rattle.ceal_theory.specs.Cover.{Covered, Waiting, none_waits, closed, opened}
 use Rattle.ceal_trace.specs.Nodes.{Entry}
@@ -47,16 +47,16 @@ opened-more g w p false k x e = go (same_place x p) (w x) (k x e)
     go t false h = absurd (let no : false ≡ true = h in cc)
 
 abbrev Too : Code → Queue → List Entry → Type 0
-Too code q es = (s s' : Store) (g : Seen) (w : Waiting) → ((p : Place) → s p ≡ s' p) → ((p : Place) → g p ≡ true → w p ≡ true) → Starts_all code s es → Covers q s g es → Covered code q s' w (nodes_of es)
+Too code q es = (s s' : Store) (g : Seen) (w : Waiting) → ((p : Place) → s p ≡ s' p) → ((p : Place) → g p ≡ true → w p ≡ true) → StartsAll code s es → Covers q s g es → Covered code q s' w (nodes_of es)
 
 node-too : (code : Code) (q : Queue) (e : Entry) (es : List Entry) → Too code q es → Too code q (e ∷ es)
 node-too code q e es on s s' g w h k a c = go e.node refl
   where
-    starts : (i : Node) → e.node ≡ i → Starts_at code s i
-    starts i is = subst (λ n. Starts_at code s n) is a.0
+    starts : (i : Node) → e.node ≡ i → StartsAt code s i
+    starts i is = subst (λ n. StartsAt code s n) is a.0
 
-    rest : (i : Node) → e.node ≡ i → Starts_all code (content_after s i) es × Covers q (content_after s i) (seen_after q g e.stamp i) es
-    rest i is = subst (λ n. Starts_all code (content_after s n) es × Covers q (content_after s n) (seen_after q g e.stamp n) es) is (a.1, c.1)
+    rest : (i : Node) → e.node ≡ i → StartsAll code (content_after s i) es × Covers q (content_after s i) (seen_after q g e.stamp i) es
+    rest i is = subst (λ n. StartsAll code (content_after s n) es × Covers q (content_after s n) (seen_after q g e.stamp n) es) is (a.1, c.1)
 
     go : (i : Node) → e.node ≡ i → Covered code q s' w (nodes_of (e ∷ es))
     go Root is = let r = rest Root is in rw is (on s s' g w h k r.0 r.1)
@@ -77,5 +77,5 @@ pub covered-too : (code : Code) (q : Queue) (es : List Entry) → Too code q es
 covered-too code q [] s s' g w h k a c = tt
 covered-too code q (e ∷ es) s s' g w h k a c = node-too code q e es (covered-too code q es) s s' g w h k a c
 
-pub covered-as-items : (code : Code) (q : Queue) (s : Store) (es : List Entry) → Starts_all code s es → Covers q s (λ p. false) es → Covered code q s none_waits (nodes_of es)
+pub covered-as-items : (code : Code) (q : Queue) (s : Store) (es : List Entry) → StartsAll code s es → Covers q s (λ p. false) es → Covered code q s none_waits (nodes_of es)
 covered-as-items code q s es a c = covered-too code q es s s (λ p. false) none_waits (λ p. refl) (λ p e. absurd (let no : false ≡ true = e in cc)) a c

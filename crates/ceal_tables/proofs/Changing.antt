@@ -11,13 +11,13 @@ use Rattle.ceal_mods.specs.Writes.{Write as WriteOf, stamps_of}
 use Rattle.ceal_mods.specs.declared.cell.Cell.{Cell}
 use Rattle.ceal_order.proofs.Places.{in_head, in_tail, place_below}
 use Rattle.ceal_order.specs.Stamps.{Distinct, is_in, place, OneMore}
-use Rattle.ceal_tables.proofs.Covering.{First_queued, Keeps, covers-still}
+use Rattle.ceal_tables.proofs.Covering.{FirstQueued, Keeps, covers-still}
 use Rattle.ceal_tables.proofs.Parting.{place-front, place-back, writes-append, where-append, writes-among, where-among, where-holds, false-of}
 use Rattle.ceal_tables.proofs.Putting.{in-back, in-parts, not-front, stamps_of-append, value-there, last-contents}
 use Rattle.ceal_tables.proofs.Waking.{first-woken}
 use Rattle.ceal_tables.specs.Covered.{Queue, Seen, queue_of, and_one, Covers, contents_after}
-use Rattle.ceal_tables.specs.Kept.{Is_awake, Are_reads, base_in}
-use Rattle.ceal_tables.specs.Lists.{Is_tabled, reads_at, writes_in, stamps_where, before, up_to, behind}
+use Rattle.ceal_tables.specs.Kept.{IsAwake, AreReads, base_in}
+use Rattle.ceal_tables.specs.Lists.{IsTabled, reads_at, writes_in, stamps_where, before, up_to, behind}
 use Rattle.ceal_trace.proofs.Parts.{split_at, after-part, without-part, entry-part}
 use Rattle.ceal_trace.specs.Nodes.{Entry, stamps_in, has_node, node_at, entry_at, held_by, is_read, with_entry_after, without_entry}
 use Rattle.ceal_trace.specs.declared.node.Node.{Node}
@@ -48,17 +48,17 @@ module _ (e : Entry) (back : List Entry) where
   ]
 
 -- a new node directly after another one
-pub record Put_after (after : ℕ) (new : Entry) (old nodes : List Entry) : Type 0 where
+pub record PutAfter (after : ℕ) (new : Entry) (old nodes : List Entry) : Type 0 where
   pub front : List Entry
   pub back : List Entry
   pub was : old ≡ front ++ back
   pub is : nodes ≡ front ++ new ∷ back
   pub front_is : up_to after old ≡ front
 
-pub put-after : (after : ℕ) (new : Entry) (old nodes : List Entry) → has_node after old ≡ true → nodes ≡ with_entry_after after new old → Put_after after new old nodes
+pub put-after : (after : ℕ) (new : Entry) (old nodes : List Entry) → has_node after old ≡ true → nodes ≡ with_entry_after after new old → PutAfter after new old nodes
 put-after after new old nodes h is = go (split_at after old h)
   where
-    go : (front : List Entry) × (e : Entry) × (back : List Entry) × (old ≡ front ++ e ∷ back) × (e.stamp ≡ after) × (has_node after front ≡ false) → Put_after after new old nodes
+    go : (front : List Entry) × (e : Entry) × (back : List Entry) × (old ≡ front ++ e ∷ back) × (e.stamp ≡ after) × (has_node after front ≡ false) → PutAfter after new old nodes
     go s =
         let apart : has_node s.1.stamp s.0 ≡ false = rw (← s.4) at s.5 in
         record {
@@ -71,7 +71,7 @@ put-after after new old nodes h is = go (split_at after old h)
         }
 
 -- the nodes part at the one of a stamp
-pub record Part_at (s : ℕ) (n : Node) (nodes : List Entry) : Type 0 where
+pub record PartAt (s : ℕ) (n : Node) (nodes : List Entry) : Type 0 where
   pub front : List Entry
   pub e : Entry
   pub back : List Entry
@@ -88,10 +88,10 @@ pub read-has : (s : ℕ) (es : List Entry) → is_read (node_at s es) ≡ true �
 read-has s [] h = absurd (let no : false ≡ true = h in cc)
 read-has s (e ∷ es) h = elim (eqb_tells e.stamp s) [ inl p ↦ rw p.0 refl | inr p ↦ rw p.0 (read-has s es (rw p.0 at h)) ]
 
-pub part-at : (s : ℕ) (n : Node) (nodes : List Entry) → node_at s nodes ≡ Some n → Part_at s n nodes
+pub part-at : (s : ℕ) (n : Node) (nodes : List Entry) → node_at s nodes ≡ Some n → PartAt s n nodes
 part-at s n nodes h = go (split_at s nodes (node-has s n nodes h))
   where
-    go : (front : List Entry) × (e : Entry) × (back : List Entry) × (nodes ≡ front ++ e ∷ back) × (e.stamp ≡ s) × (has_node s front ≡ false) → Part_at s n nodes
+    go : (front : List Entry) × (e : Entry) × (back : List Entry) × (nodes ≡ front ++ e ∷ back) × (e.stamp ≡ s) × (has_node s front ≡ false) → PartAt s n nodes
     go x = record {
       front = x.0;
       e = x.1;
@@ -103,13 +103,13 @@ part-at s n nodes h = go (split_at s nodes (node-has s n nodes h))
     }
 
 -- the node at a stamp is gone
-pub part-without : (s : ℕ) (n : Node) (nodes : List Entry) (c : Part_at s n nodes) → without_entry s nodes ≡ c.front ++ c.back
+pub part-without : (s : ℕ) (n : Node) (nodes : List Entry) (c : PartAt s n nodes) → without_entry s nodes ≡ c.front ++ c.back
 part-without s n nodes c = subst (λ t. without_entry t nodes ≡ c.front ++ c.back) c.stamp (ap (λ (l : List Entry). without_entry c.e.stamp l) c.was ∙ without-part c.e c.back c.front c.apart)
 
 -- ---- what is queued
 
 -- what a place's list of reads has are reads
-pub listed-read : (p : Place) (nodes : List Entry) (mods : Contents) (z : ℕ) → Distinct (stamps_in nodes) → Is_tabled nodes mods → is_in z (cell_of mods p).reads ≡ true → is_read (node_at z nodes) ≡ true
+pub listed-read : (p : Place) (nodes : List Entry) (mods : Contents) (z : ℕ) → Distinct (stamps_in nodes) → IsTabled nodes mods → is_in z (cell_of mods p).reads ≡ true → is_read (node_at z nodes) ≡ true
 listed-read p nodes mods z d t i = go (where-holds (reads_at p) nodes z d (subst (λ (l : List ℕ). is_in z l ≡ true) (t.reads p) i))
   where
     read : (n : Node) → reads_at p n ≡ true → is_read (Some n) ≡ true
@@ -123,8 +123,8 @@ listed-read p nodes mods z d t i = go (where-holds (reads_at p) nodes z d (subst
     go x = ap is_read x.1 ∙ read x.0 x.2
 
 -- the queue has reads of these nodes, and at most reads of a place came in
-pub are-reads : (p : Place) (nodes : List Entry) (mods : Contents) (q q' : List ℕ) → Distinct (stamps_in nodes) → Is_tabled nodes mods → Are_reads nodes q
-    → ((s : ℕ) → is_in s q ≡ false → is_in s q' ≡ true → is_in s (cell_of mods p).reads ≡ true) → Are_reads nodes q'
+pub are-reads : (p : Place) (nodes : List Entry) (mods : Contents) (q q' : List ℕ) → Distinct (stamps_in nodes) → IsTabled nodes mods → AreReads nodes q
+    → ((s : ℕ) → is_in s q ≡ false → is_in s q' ≡ true → is_in s (cell_of mods p).reads ≡ true) → AreReads nodes q'
 are-reads p nodes mods q q' d t reads only s i = go (is_in s q) refl
   where
     go : (b : Bool) → is_in s q ≡ b → is_read (node_at s nodes) ≡ true
@@ -132,21 +132,21 @@ are-reads p nodes mods q q' d t reads only s i = go (is_in s q) refl
     go false e = listed-read p nodes mods s d t (only s e i)
 
 -- reads stay reads where the nodes stay
-pub still-reads : (old nodes : List Entry) (q : List ℕ) → ((s : ℕ) → has_node s old ≡ true → entry_at s nodes ≡ entry_at s old) → Are_reads old q → Are_reads nodes q
+pub still-reads : (old nodes : List Entry) (q : List ℕ) → ((s : ℕ) → has_node s old ≡ true → entry_at s nodes ≡ entry_at s old) → AreReads old q → AreReads nodes q
 still-reads old nodes q same reads s i =
     let r = reads s i in
     ap is_read (ap held_by (same s (read-has s old r))) ∙ r
 
 -- so where one is taken out that is not queued
 pub fewer-reads : (gone : ℕ) (old nodes : List Entry) (q : List ℕ) → OneMore gone (stamps_in nodes) (stamps_in old) → ((s : ℕ) → has_node s nodes ≡ true → entry_at s old ≡ entry_at s nodes)
-    → is_in gone q ≡ false → Are_reads old q → Are_reads nodes q
+    → is_in gone q ≡ false → AreReads old q → AreReads nodes q
 fewer-reads gone old nodes q more same none reads s i =
     let r = reads s i in
     let there : has_node s nodes ≡ true = more.only s (read-has s old r) (λ e. absurd (let no : true ≡ false = sym i ∙ (ap (λ z. is_in z q) e ∙ none) in cc)) in
     sym (ap is_read (ap held_by (same s there))) ∙ r
 
 -- what is no read is not queued
-pub no-read : (s : ℕ) (nodes : List Entry) (q : List ℕ) → Are_reads nodes q → is_read (node_at s nodes) ≡ false → is_in s q ≡ false
+pub no-read : (s : ℕ) (nodes : List Entry) (q : List ℕ) → AreReads nodes q → is_read (node_at s nodes) ≡ false → is_in s q ≡ false
 no-read s nodes q reads h = false-of (is_in s q) (λ k. sym (reads s k) ∙ h)
 
 -- ---- queues that keep what others have
@@ -196,7 +196,7 @@ covers-and r q m s es h c = covers-still (queue_of q) (and_one r m) es (keep es)
 
 -- ---- the first read that is affected
 
--- the last one of a list stands behind all of it
+-- the last one of a list stands after all of it
 pub last-place : (xs : List ℕ) (y : ℕ) (ys : List ℕ) → is_in y xs ≡ false → (t : ℕ) → is_in t (xs ++ y ∷ []) ≡ true → place t ((xs ++ y ∷ []) ++ ys) ≤ place y ((xs ++ y ∷ []) ++ ys)
 last-place xs y ys h t k =
     let a = place-front t (xs ++ y ∷ []) ys k in
@@ -209,13 +209,13 @@ last-place xs y ys h t k =
     length-one [] y = omega arith
     length-one (x ∷ xs) y = omega (arith, length-one xs y)
 
--- Behind a stamp stand these nodes, before it others. Where what is woken behind it is the read that is affected, the first
--- node of the place behind it is queued if it is a read.
+-- After a stamp stand these nodes, before it others. Where what is woken after it is the read that is affected, the first
+-- node of the place after it is queued if it is a read.
 pub first-queued : (front back : List Entry) (own : List ℕ) (s : ℕ) (order : List ℕ) (p : Place) (cell : Cell) (q' : List ℕ)
     → order ≡ (own ++ s ∷ []) ++ stamps_in back → Distinct order
     → ((t : ℕ) → is_in t (stamps_in front) ≡ true → is_in t (own ++ s ∷ []) ≡ true)
     → cell.writes ≡ writes_in p (front ++ back) → cell.reads ≡ stamps_where (reads_at p) (front ++ back)
-    → Is_awake order cell s q' → First_queued (queue_of q') p back
+    → IsAwake order cell s q' → FirstQueued (queue_of q') p back
 unfolding queue_of
 first-queued front back own s order p cell q' is distinct in_own w r awake =
     first-woken (own ++ s ∷ []) p cell s (λ t. is_in t q') order distinct
@@ -242,14 +242,14 @@ first-queued front back own s order p cell q' is distinct in_own w r awake =
 pub cell-same : (p : Place) (a b : Contents) → a.cells ≡ b.cells → cell_of a p ≡ cell_of b p
 cell-same p a b e = rw e refl
 
-pub tabled-same : (nodes : List Entry) (a b : Contents) → a.cells ≡ b.cells → Is_tabled nodes a → Is_tabled nodes b
+pub tabled-same : (nodes : List Entry) (a b : Contents) → a.cells ≡ b.cells → IsTabled nodes a → IsTabled nodes b
 tabled-same nodes a b e t = record {
   writes = λ p. ap (λ (c : Cell). c.writes) (sym (cell-same p a b e)) ∙ t.writes p;
   reads = λ p. ap (λ (c : Cell). c.reads) (sym (cell-same p a b e)) ∙ t.reads p;
 }
 
 -- what a look-up at a node gives is what the nodes before it leave
-pub looked-up : (s : ℕ) (front : List Entry) (e : Entry) (back nodes : List Entry) (mods : Contents) (p : Place) → nodes ≡ front ++ e ∷ back → e.stamp ≡ s → Distinct (stamps_in nodes) → Is_tabled nodes mods
+pub looked-up : (s : ℕ) (front : List Entry) (e : Entry) (back nodes : List Entry) (mods : Contents) (p : Place) → nodes ≡ front ++ e ∷ back → e.stamp ≡ s → Distinct (stamps_in nodes) → IsTabled nodes mods
     → value_before (stamps_in nodes) s (cell_of mods p) ≡ contents_after (base_in mods) front p
 looked-up s front e back nodes mods p was is distinct t =
     subst (λ z. value_before (stamps_in nodes) z (cell_of mods p) ≡ contents_after (base_in mods) front p) is

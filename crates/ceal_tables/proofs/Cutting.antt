@@ -10,7 +10,7 @@ use Rattle.ceal_base.specs.Operators.{same_place}
 use Rattle.ceal_code.proofs.Same.{some-same, place-same}
 use Rattle.ceal_memo.specs.Memo.{Entries, HasNone, reads_of, allocs_of, Follows as Memo_follows}
 use Rattle.ceal_memo.specs.declared.key.ReadKey.{ReadKey}
-use Rattle.ceal_mods.specs.Cell.{with_base, without_write, without_read, value_before}
+use Rattle.ceal_mods.specs.Cell.{without_write, without_read, value_before}
 use Rattle.ceal_mods.specs.Mods.{Contents, cell_of, Changes, IsFree, Follows as Mods_follow}
 use Rattle.ceal_mods.specs.Writes.{Write as WriteOf, stamps_of}
 use Rattle.ceal_mods.specs.declared.cell.Cell.{Cell}
@@ -19,16 +19,16 @@ use Rattle.ceal_order.proofs.RisingLemmas.{rising_deleted, in_order}
 use Rattle.ceal_order.specs.Stamps.{Distinct, is_in, place, without, OneMore}
 use Rattle.ceal_order.specs.declared.stamp.Stamp.{Stamp}
 use Rattle.ceal_queue.specs.Queue.{Waiting, IsWithout, Follows as Queue_follows}
-use Rattle.ceal_tables.proofs.Changing.{Part_at, part-at, part-without, node-has, are-reads, fewer-reads, no-read, cell-same, tabled-same, before-node, looked-up, covers-base, covers-more, is-queued}
+use Rattle.ceal_tables.proofs.Changing.{PartAt, part-at, part-without, node-has, are-reads, fewer-reads, no-read, cell-same, tabled-same, before-node, looked-up, covers-base, covers-more, is-queued}
 use Rattle.ceal_tables.proofs.Parting.{false-of}
 use Rattle.ceal_tables.proofs.Putting.{own-gone}
-use Rattle.ceal_tables.proofs.Queueing.{Is_quiet, quiet-cut, read-honest}
+use Rattle.ceal_tables.proofs.Queueing.{IsQuiet, quiet-cut, read-honest}
 use Rattle.ceal_tables.proofs.Steps.{there-before, behind-cut, alloc-quiet, end-quiet, tabled-with, keyed-with, write-cut-covered, read-cut-covered, settled-covered}
 use Rattle.ceal_tables.proofs.Tabling.{alloc-no-write, end-no-write, other-place, write-listed, read-listed, tabled-out, keyed-out, tabled-cut-write, tabled-cut-read, keyed-cut, free-of, none-of}
 use Rattle.ceal_tables.proofs.Keeping.{tables}
 use Rattle.ceal_tables.specs.Covered.{queue_of, and_one, Covers, contents_after}
-use Rattle.ceal_tables.specs.Kept.{In_step, Kept, Covered_by, Are_reads, Is_awake, Records, Is_honest, Is_stale, base_in, contents_at}
-use Rattle.ceal_tables.specs.Lists.{Is_tabled, Is_keyed, reads_at, allocates, recalls, write_of, writes_in, before}
+use Rattle.ceal_tables.specs.Kept.{InStep, Kept, CoveredBy, AreReads, IsAwake, Records, IsHonestRecord, IsStale, base_in, contents_at}
+use Rattle.ceal_tables.specs.Lists.{IsTabled, IsKeyed, reads_at, allocates, recalls, write_of, writes_in, before}
 use Rattle.ceal_tables.specs.declared.tables.Tables.{Tables}
 use Rattle.ceal_trace.proofs.Parts.{changed-part}
 use Rattle.ceal_trace.specs.Nodes.{Entry, Timeline, IsTrace, NoLooseEnd, OneMoreNode, stamps_in, has_node, node_at, is_read, end_in, without_entry, value_set, with_value, valued, SameBut, held_by}
@@ -58,15 +58,15 @@ no-end s n t w h plain = go (end_in s t.nodes) refl
     go (Some u) e = absurd (let r : is_read (node_at s t.nodes) ≡ true = w.of_read u s e (node-has s n t.nodes h) in let no : false ≡ true = sym plain ∙ (rw h at r) in cc)
 
 -- what is there is in the lists
-pub write-there : (old : Tables) → In_step old → (s : ℕ) (p : Place) (v : Word) → node_at s old.trace.nodes ≡ Some (Write p v) → is_in s (stamps_of (cell_of old.mods p).writes) ≡ true
+pub write-there : (old : Tables) → InStep old → (s : ℕ) (p : Place) (v : Word) → node_at s old.trace.nodes ≡ Some (Write p v) → is_in s (stamps_of (cell_of old.mods p).writes) ≡ true
 write-there old k s p v h =
     let c = part-at s (Write p v) old.trace.nodes h in
-    subst (λ z. is_in z (stamps_of (cell_of old.mods p).writes) ≡ true) c.stamp (write-listed c.front c.e c.back p v c.node old.mods (subst (λ (l : List Entry). Is_tabled l old.mods) c.was k.tabled))
+    subst (λ z. is_in z (stamps_of (cell_of old.mods p).writes) ≡ true) c.stamp (write-listed c.front c.e c.back p v c.node old.mods (subst (λ (l : List Entry). IsTabled l old.mods) c.was k.tabled))
 
-pub read-there : (old : Tables) → In_step old → (s : ℕ) (p : Place) (v : Word) → Records p v (node_at s old.trace.nodes) → is_in s (cell_of old.mods p).reads ≡ true
+pub read-there : (old : Tables) → InStep old → (s : ℕ) (p : Place) (v : Word) → Records p v (node_at s old.trace.nodes) → is_in s (cell_of old.mods p).reads ≡ true
 read-there old k s p v r =
     let c = part-at s (Read p v r.unit r.var r.args) old.trace.nodes r.is in
-    subst (λ z. is_in z (cell_of old.mods p).reads ≡ true) c.stamp (read-listed c.front c.e c.back p v r.unit r.var r.args c.node old.mods (subst (λ (l : List Entry). Is_tabled l old.mods) c.was k.tabled))
+    subst (λ z. is_in z (cell_of old.mods p).reads ≡ true) c.stamp (read-listed c.front c.e c.back p v r.unit r.var r.args c.node old.mods (subst (λ (l : List Entry). IsTabled l old.mods) c.was k.tabled))
 
 pub by-queue : {X : Type 0} (r : ℕ) (q : List ℕ) → (is_in r q ≡ true → X) → (is_in r q ≡ false → X) → X
 by-queue {X} r q f g = go (is_in r q) refl
@@ -75,7 +75,7 @@ by-queue {X} r q f g = go (is_in r q) refl
     go true e = f e
     go false e = g e
 
--- where one is not queued and none before it, what is queued stands behind it
+-- where one is not queued and none before it, what is queued stands after it
 pub behind-own : (order q : List ℕ) (s : ℕ) → Rattle.ceal_order.specs.Rising.IsRising order q → is_in s order ≡ true → is_in s q ≡ false → ((r : ℕ) → is_in r q ≡ true → place s order ≤ place r order)
     → (r : ℕ) → is_in r q ≡ true → place s order < place r order
 behind-own order q s rises here none first r i =
@@ -90,14 +90,14 @@ still-first order q m s out first r i = elim (eqb_tells r s) [
 ]
 
 -- the moment of a node is after those before it
-pub moment : (s : ℕ) (n : Node) (t : Tables) (c : Part_at s n t.trace.nodes) → (p : Place) → contents_at s t p ≡ contents_after (base_in t.mods) c.front p
+pub moment : (s : ℕ) (n : Node) (t : Tables) (c : PartAt s n t.trace.nodes) → (p : Place) → contents_at s t p ≡ contents_after (base_in t.mods) c.front p
 moment s n t c p = ap (λ (l : List Entry). contents_after (base_in t.mods) l p) (subst (λ z. before z t.trace.nodes ≡ c.front) c.stamp (ap (before c.e.stamp) c.was ∙ before-node c.e c.back c.front c.apart))
 
 -- ---- one node is taken out
 
 module _ (old : Tables) (k : Kept old) (s : ℕ) (n : Node) (at_it : node_at s old.trace.nodes ≡ Some n) (tr : Timeline) (is : tr.nodes ≡ without_entry s old.trace.nodes)
     (more : OneMoreNode s tr.nodes old.trace.nodes) (whole : IsTrace tr) (closed : NoLooseEnd tr.nodes) where
-  pub cutting : Part_at s n old.trace.nodes
+  pub cutting : PartAt s n old.trace.nodes
   cutting = part-at s n old.trace.nodes at_it
 
   pub left : tr.nodes ≡ cutting.front ++ cutting.back
@@ -109,11 +109,11 @@ module _ (old : Tables) (k : Kept old) (s : ℕ) (n : Node) (at_it : node_at s o
   pub gone : has_node s tr.nodes ≡ false
   gone = subst (λ z. has_node z tr.nodes ≡ false) cutting.stamp (subst (λ (l : List Entry). has_node cutting.e.stamp l ≡ false) (sym left) (own-gone cutting.front cutting.e cutting.back parted))
 
-  tabled-old : (mods : Contents) → Is_tabled old.trace.nodes mods → Is_tabled (cutting.front ++ cutting.e ∷ cutting.back) mods
-  tabled-old mods t = subst (λ (l : List Entry). Is_tabled l mods) cutting.was t
+  tabled-old : (mods : Contents) → IsTabled old.trace.nodes mods → IsTabled (cutting.front ++ cutting.e ∷ cutting.back) mods
+  tabled-old mods t = subst (λ (l : List Entry). IsTabled l mods) cutting.was t
 
-  keyed-old : Is_keyed (cutting.front ++ cutting.e ∷ cutting.back) old.memo
-  keyed-old = subst (λ (l : List Entry). Is_keyed l old.memo) cutting.was k.step.keyed
+  keyed-old : IsKeyed (cutting.front ++ cutting.e ∷ cutting.back) old.memo
+  keyed-old = subst (λ (l : List Entry). IsKeyed l old.memo) cutting.was k.step.keyed
 
   unqueued : is_read (Some n) ≡ false → is_in s old.stale.stamps ≡ false
   unqueued plain = no-read s old.trace.nodes old.stale.stamps k.step.queued (ap is_read at_it ∙ plain)
@@ -126,7 +126,7 @@ module _ (old : Tables) (k : Kept old) (s : ℕ) (n : Node) (at_it : node_at s o
       whole = whole;
       closed = closed;
       tabled = tabled;
-      keyed = subst (λ (l : List Entry). Is_keyed l memo) (sym left) (keyed-cut cutting.front cutting.e cutting.back parted old.memo memo keyed-old
+      keyed = subst (λ (l : List Entry). IsKeyed l memo) (sym left) (keyed-cut cutting.front cutting.e cutting.back parted old.memo memo keyed-old
           (λ key. subst (λ z. reads_of memo key ≡ without z (reads_of old.memo key)) (sym cutting.stamp) (reads key)) (λ key. subst (λ z. allocs_of memo key ≡ without z (allocs_of old.memo key)) (sym cutting.stamp) (allocs key)));
       queued = fewer-reads s old.trace.nodes tr.nodes old.stale.stamps more.stamps more.entries (unqueued plain) k.step.queued;
       mods = mods-deleted s old.mods (stamps_in old.trace.nodes) (stamps_in tr.nodes) k.step.mods more.stamps (free-of s tr.nodes old.mods tabled gone);
@@ -141,19 +141,19 @@ module _ (old : Tables) (k : Kept old) (s : ℕ) (n : Node) (at_it : node_at s o
       plain : is_read (Some n) ≡ false
       plain = rw e refl
 
-      quiet-as : (i : Node) → i ≡ Alloc b key → Is_quiet i
+      quiet-as : (i : Node) → i ≡ Alloc b key → IsQuiet i
       quiet-as i h = rw h (alloc-quiet b key)
 
       no-alloc-read : (p : Place) (i : Node) → i ≡ Alloc b key → reads_at p i ≡ false
       no-alloc-read p i h = rw h refl
 
-      tabled : Is_tabled tr.nodes old.mods
-      tabled = subst (λ (l : List Entry). Is_tabled l old.mods) (sym left) (tabled-out cutting.front cutting.e cutting.back old.mods (λ p. no-alloc-read p cutting.e.node (cutting.node ∙ e)) (λ p. alloc-no-write p cutting.e.stamp cutting.e.node (writes_in p cutting.back) b key (cutting.node ∙ e)) (tabled-old old.mods k.step.tabled))
+      tabled : IsTabled tr.nodes old.mods
+      tabled = subst (λ (l : List Entry). IsTabled l old.mods) (sym left) (tabled-out cutting.front cutting.e cutting.back old.mods (λ p. no-alloc-read p cutting.e.node (cutting.node ∙ e)) (λ p. alloc-no-write p cutting.e.stamp cutting.e.node (writes_in p cutting.back) b key (cutting.node ∙ e)) (tabled-old old.mods k.step.tabled))
 
   -- a write, with what that affects woken
   module _ (p : Place) (v : Word) (e : n ≡ Write p v) (mods : Contents) (change : Changes old.mods mods p (without_write s (cell_of old.mods p))) where
-    pub write-cut-tabled : Is_tabled tr.nodes mods
-    write-cut-tabled = subst (λ (l : List Entry). Is_tabled l mods) (sym left) (tabled-cut-write cutting.front cutting.e cutting.back parted p v (cutting.node ∙ e) old.mods mods (tabled-old old.mods k.step.tabled)
+    pub write-cut-tabled : IsTabled tr.nodes mods
+    write-cut-tabled = subst (λ (l : List Entry). IsTabled l mods) (sym left) (tabled-cut-write cutting.front cutting.e cutting.back parted p v (cutting.node ∙ e) old.mods mods (tabled-old old.mods k.step.tabled)
         (subst (λ z. Changes old.mods mods p (without_write z (cell_of old.mods p))) (sym cutting.stamp) change))
 
     pub write-cut-free : IsFree s mods
@@ -184,7 +184,7 @@ module _ (old : Tables) (k : Kept old) (s : ℕ) (n : Node) (at_it : node_at s o
 
     pub write-cut-kept : (stale : Waiting) → ((t : ℕ) → is_in t old.stale.stamps ≡ true → is_in t stale.stamps ≡ true)
         → ((t : ℕ) → is_in t old.stale.stamps ≡ false → is_in t stale.stamps ≡ true → is_in t (cell_of mods p).reads ≡ true)
-        → (v ≡ contents_at s old p) ⊎ Is_awake (stamps_in old.trace.nodes) (cell_of mods p) s stale.stamps
+        → (v ≡ contents_at s old p) ⊎ IsAwake (stamps_in old.trace.nodes) (cell_of mods p) s stale.stamps
         → Mods_follow (stamps_in old.trace.nodes) mods → Queue_follows (stamps_in old.trace.nodes) stale → Kept (tables tr mods stale old.memo)
     write-cut-kept stale keep only awake mf qf = record {
       step = record {
@@ -200,14 +200,14 @@ module _ (old : Tables) (k : Kept old) (s : ℕ) (n : Node) (at_it : node_at s o
       };
       covered = subst (λ (l : List Entry). Covers (queue_of stale.stamps) (base_in mods) (λ p. false) l) (sym left)
           (write-cut-covered cutting.front cutting.e cutting.back old.trace.nodes p v cutting.was (cutting.node ∙ e) k.step.whole.order.distinct old.mods mods write-cut-bases
-          (subst (λ (l : List Entry). Is_tabled l mods) left write-cut-tabled) old.stale.stamps stale.stamps keep
+          (subst (λ (l : List Entry). IsTabled l mods) left write-cut-tabled) old.stale.stamps stale.stamps keep
           (told awake) k.covered);
     }
       where
-        told : (v ≡ contents_at s old p) ⊎ Is_awake (stamps_in old.trace.nodes) (cell_of mods p) s stale.stamps
-            → (contents_after (base_in old.mods) cutting.front p ≡ v) ⊎ Is_awake (stamps_in old.trace.nodes) (cell_of mods p) cutting.e.stamp stale.stamps
+        told : (v ≡ contents_at s old p) ⊎ IsAwake (stamps_in old.trace.nodes) (cell_of mods p) s stale.stamps
+            → (contents_after (base_in old.mods) cutting.front p ≡ v) ⊎ IsAwake (stamps_in old.trace.nodes) (cell_of mods p) cutting.e.stamp stale.stamps
         told (inl same) = inl (sym (same ∙ moment s n old cutting p))
-        told (inr woken) = inr (subst (λ z. Is_awake (stamps_in old.trace.nodes) (cell_of mods p) z stale.stamps) (sym cutting.stamp) woken)
+        told (inr woken) = inr (subst (λ z. IsAwake (stamps_in old.trace.nodes) (cell_of mods p) z stale.stamps) (sym cutting.stamp) woken)
 
         none : is_in s old.stale.stamps ≡ false
         none = unqueued (rw e refl)
@@ -218,8 +218,8 @@ module _ (old : Tables) (k : Kept old) (s : ℕ) (n : Node) (at_it : node_at s o
         no-write-read : (key : ReadKey) (i : Node) → i ≡ Write p v → recalls key i ≡ false
         no-write-read key i h = rw h refl
 
-        keyed : Is_keyed tr.nodes old.memo
-        keyed = subst (λ (l : List Entry). Is_keyed l old.memo) (sym left) (keyed-out cutting.front cutting.e cutting.back old.memo (λ key. no-write-key key cutting.e.node (cutting.node ∙ e)) (λ key. no-write-read key cutting.e.node (cutting.node ∙ e)) keyed-old)
+        keyed : IsKeyed tr.nodes old.memo
+        keyed = subst (λ (l : List Entry). IsKeyed l old.memo) (sym left) (keyed-out cutting.front cutting.e cutting.back old.memo (λ key. no-write-key key cutting.e.node (cutting.node ∙ e)) (λ key. no-write-read key cutting.e.node (cutting.node ∙ e)) keyed-old)
 
         now-none : is_in s stale.stamps ≡ false
         now-none = false-of (is_in s stale.stamps) (λ i. sym (only s none i) ∙ (write-cut-free p).1)
@@ -238,7 +238,7 @@ end-no-key key y i h = rw h refl
 end-no-recall : (key : ReadKey) (y : Stamp) (i : Node) → i ≡ End y → recalls key i ≡ false
 end-no-recall key y i h = rw h refl
 
-end-as : (y : Stamp) (i : Node) → i ≡ End y → Is_quiet i
+end-as : (y : Stamp) (i : Node) → i ≡ End y → IsQuiet i
 end-as y i h = rw h (end-quiet y)
 
 abbrev tells : Node → Bool
@@ -252,7 +252,7 @@ module _ (old : Tables) (k : Kept old) (s z : ℕ) (p : Place) (v : Word) (r : R
     (one two : Timeline) (is1 : one.nodes ≡ without_entry s old.trace.nodes) (more1 : OneMoreNode s one.nodes old.trace.nodes) (is2 : two.nodes ≡ without_entry z one.nodes) (more2 : OneMoreNode z two.nodes one.nodes)
     (whole1 : IsTrace one) (mods : Contents) (change : Changes old.mods mods p (without_read s (cell_of old.mods p)))
     (memo : Entries) (reads : (key : ReadKey) → reads_of memo key ≡ without s (reads_of old.memo key)) (allocs : (key : Key) → allocs_of memo key ≡ without s (allocs_of old.memo key)) where
-  read-part : Part_at s (Read p v r.unit r.var r.args) old.trace.nodes
+  read-part : PartAt s (Read p v r.unit r.var r.args) old.trace.nodes
   read-part = part-at s (Read p v r.unit r.var r.args) old.trace.nodes r.is
 
   left1 : one.nodes ≡ read-part.front ++ read-part.back
@@ -276,7 +276,7 @@ module _ (old : Tables) (k : Kept old) (s z : ℕ) (p : Place) (v : Word) (r : R
   pub end-is : node_at z one.nodes ≡ Some (End (stamp-of s))
   end-is = ap held_by (sym (more1.entries z end-there)) ∙ end-was
 
-  end-part : Part_at z (End (stamp-of s)) one.nodes
+  end-part : PartAt z (End (stamp-of s)) one.nodes
   end-part = part-at z (End (stamp-of s)) one.nodes end-is
 
   left2 : two.nodes ≡ end-part.front ++ end-part.back
@@ -288,19 +288,19 @@ module _ (old : Tables) (k : Kept old) (s z : ℕ) (p : Place) (v : Word) (r : R
   gone2 : has_node z two.nodes ≡ false
   gone2 = subst (λ y. has_node y two.nodes ≡ false) end-part.stamp (subst (λ (l : List Entry). has_node end-part.e.stamp l ≡ false) (sym left2) (own-gone end-part.front end-part.e end-part.back parted2))
 
-  tabled1 : Is_tabled one.nodes mods
-  tabled1 = subst (λ (l : List Entry). Is_tabled l mods) (sym left1) (tabled-cut-read read-part.front read-part.e read-part.back parted1 p v r.unit r.var r.args read-part.node old.mods mods
-      (subst (λ (l : List Entry). Is_tabled l old.mods) read-part.was k.step.tabled) (subst (λ y. Changes old.mods mods p (without_read y (cell_of old.mods p))) (sym read-part.stamp) change))
+  tabled1 : IsTabled one.nodes mods
+  tabled1 = subst (λ (l : List Entry). IsTabled l mods) (sym left1) (tabled-cut-read read-part.front read-part.e read-part.back parted1 p v r.unit r.var r.args read-part.node old.mods mods
+      (subst (λ (l : List Entry). IsTabled l old.mods) read-part.was k.step.tabled) (subst (λ y. Changes old.mods mods p (without_read y (cell_of old.mods p))) (sym read-part.stamp) change))
 
-  keyed1 : Is_keyed one.nodes memo
-  keyed1 = subst (λ (l : List Entry). Is_keyed l memo) (sym left1) (keyed-cut read-part.front read-part.e read-part.back parted1 old.memo memo (subst (λ (l : List Entry). Is_keyed l old.memo) read-part.was k.step.keyed)
+  keyed1 : IsKeyed one.nodes memo
+  keyed1 = subst (λ (l : List Entry). IsKeyed l memo) (sym left1) (keyed-cut read-part.front read-part.e read-part.back parted1 old.memo memo (subst (λ (l : List Entry). IsKeyed l old.memo) read-part.was k.step.keyed)
       (λ key. subst (λ y. reads_of memo key ≡ without y (reads_of old.memo key)) (sym read-part.stamp) (reads key)) (λ key. subst (λ y. allocs_of memo key ≡ without y (allocs_of old.memo key)) (sym read-part.stamp) (allocs key)))
 
-  tabled2 : Is_tabled two.nodes mods
-  tabled2 = subst (λ (l : List Entry). Is_tabled l mods) (sym left2) (tabled-out end-part.front end-part.e end-part.back mods (λ q. end-no-read q (stamp-of s) end-part.e.node end-part.node) (λ q. end-no-write q end-part.e.stamp end-part.e.node (writes_in q end-part.back) (stamp-of s) end-part.node) (subst (λ (l : List Entry). Is_tabled l mods) end-part.was tabled1))
+  tabled2 : IsTabled two.nodes mods
+  tabled2 = subst (λ (l : List Entry). IsTabled l mods) (sym left2) (tabled-out end-part.front end-part.e end-part.back mods (λ q. end-no-read q (stamp-of s) end-part.e.node end-part.node) (λ q. end-no-write q end-part.e.stamp end-part.e.node (writes_in q end-part.back) (stamp-of s) end-part.node) (subst (λ (l : List Entry). IsTabled l mods) end-part.was tabled1))
 
-  keyed2 : Is_keyed two.nodes memo
-  keyed2 = subst (λ (l : List Entry). Is_keyed l memo) (sym left2) (keyed-out end-part.front end-part.e end-part.back memo (λ key. end-no-key key (stamp-of s) end-part.e.node end-part.node) (λ key. end-no-recall key (stamp-of s) end-part.e.node end-part.node) (subst (λ (l : List Entry). Is_keyed l memo) end-part.was keyed1))
+  keyed2 : IsKeyed two.nodes memo
+  keyed2 = subst (λ (l : List Entry). IsKeyed l memo) (sym left2) (keyed-out end-part.front end-part.e end-part.back memo (λ key. end-no-key key (stamp-of s) end-part.e.node end-part.node) (λ key. end-no-recall key (stamp-of s) end-part.e.node end-part.node) (subst (λ (l : List Entry). IsKeyed l memo) end-part.was keyed1))
 
   pub read-cut-bases : (q : Place) → base_in mods q ≡ base_in old.mods q
   read-cut-bases q = go (same_place q p) refl
@@ -311,16 +311,16 @@ module _ (old : Tables) (k : Kept old) (s z : ℕ) (p : Place) (v : Word) (r : R
 
   module _ (stale : Waiting) (none : is_in s stale.stamps ≡ false) (keep : (t : ℕ) → t ≢ s → is_in t old.stale.stamps ≡ true → is_in t stale.stamps ≡ true)
       (only : (t : ℕ) → is_in t old.stale.stamps ≡ false → is_in t stale.stamps ≡ true → is_in t (cell_of old.mods p).reads ≡ true) where
-    reads-old : Are_reads old.trace.nodes stale.stamps
+    reads-old : AreReads old.trace.nodes stale.stamps
     reads-old = are-reads p old.trace.nodes old.mods old.stale.stamps stale.stamps k.step.whole.order.distinct k.step.tabled k.step.queued only
 
-    reads1 : Are_reads one.nodes stale.stamps
+    reads1 : AreReads one.nodes stale.stamps
     reads1 = fewer-reads s old.trace.nodes one.nodes stale.stamps more1.stamps more1.entries none reads-old
 
     pub end-none : is_in z stale.stamps ≡ false
     end-none = no-read z old.trace.nodes stale.stamps reads-old (ap is_read end-was)
 
-    reads2 : Are_reads two.nodes stale.stamps
+    reads2 : AreReads two.nodes stale.stamps
     reads2 = fewer-reads z one.nodes two.nodes stale.stamps more2.stamps more2.entries end-none reads1
 
     pub read-cut-behind : place s (stamps_in old.trace.nodes) < place z (stamps_in old.trace.nodes) → Queue_follows (stamps_in old.trace.nodes) stale
@@ -338,7 +338,7 @@ module _ (old : Tables) (k : Kept old) (s z : ℕ) (p : Place) (v : Word) (r : R
         behind-cut z (stamps_in two.nodes) (stamps_in one.nodes) more2.stamps y r (more1.stamps.only y y-in y-s) (more1.stamps.only r inside r-s) y-z r-z
         (behind-cut s (stamps_in one.nodes) (stamps_in old.trace.nodes) more1.stamps y r y-in inside y-s r-s (omega (arith, a, lt)))
 
-    pub read-cut-kept : (is_in s old.stale.stamps ≡ true → Is_awake (stamps_in old.trace.nodes) (cell_of old.mods p) s stale.stamps) → IsTrace two → NoLooseEnd two.nodes
+    pub read-cut-kept : (is_in s old.stale.stamps ≡ true → IsAwake (stamps_in old.trace.nodes) (cell_of old.mods p) s stale.stamps) → IsTrace two → NoLooseEnd two.nodes
         → Mods_follow (stamps_in old.trace.nodes) mods → HasNone s memo → Memo_follows (stamps_in old.trace.nodes) memo → Queue_follows (stamps_in old.trace.nodes) stale → Kept (tables two mods stale memo)
     read-cut-kept awake whole closed mf none-s ef qf = record {
       step = record {
@@ -360,7 +360,7 @@ module _ (old : Tables) (k : Kept old) (s z : ℕ) (p : Place) (v : Word) (r : R
           (subst (λ (l : List Entry). Covers (queue_of stale.stamps) (base_in old.mods) (λ q. false) l) (sym left1 ∙ end-part.was)
           (read-cut-covered read-part.front read-part.e read-part.back old.trace.nodes p v r.unit r.var r.args read-part.was read-part.node k.step.whole.order.distinct old.mods k.step.tabled old.stale.stamps stale.stamps
           (λ t ne. keep t (λ e. ne (e ∙ sym read-part.stamp)))
-          (λ i. subst (λ y. Is_awake (stamps_in old.trace.nodes) (cell_of old.mods p) y stale.stamps) (sym read-part.stamp) (awake (subst (λ y. is_in y old.stale.stamps ≡ true) read-part.stamp i))) k.covered))));
+          (λ i. subst (λ y. IsAwake (stamps_in old.trace.nodes) (cell_of old.mods p) y stale.stamps) (sym read-part.stamp) (awake (subst (λ y. is_in y old.stale.stamps ≡ true) read-part.stamp i))) k.covered))));
     }
 
 -- ---- a read is looked at
@@ -371,8 +371,8 @@ records-same p q v w n a b = same (some-same (Read p v a.unit a.var a.args) (Rea
     same : Read p v a.unit a.var a.args ≡ Read q w b.unit b.var b.args → (p ≡ q) × (v ≡ w)
     same e = (grind (arith, e), grind (arith, e))
 
-module _ (old : Tables) (k : In_step old) (s : ℕ) (p : Place) (v now : Word) (r : Records p v (node_at s old.trace.nodes)) (found : now ≡ value_before (stamps_in old.trace.nodes) s (cell_of old.mods p)) where
-  pub look-part : Part_at s (Read p v r.unit r.var r.args) old.trace.nodes
+module _ (old : Tables) (k : InStep old) (s : ℕ) (p : Place) (v now : Word) (r : Records p v (node_at s old.trace.nodes)) (found : now ≡ value_before (stamps_in old.trace.nodes) s (cell_of old.mods p)) where
+  pub look-part : PartAt s (Read p v r.unit r.var r.args) old.trace.nodes
   look-part = part-at s (Read p v r.unit r.var r.args) old.trace.nodes r.is
 
   pub now-front : contents_after (base_in old.mods) look-part.front p ≡ now
@@ -381,32 +381,32 @@ module _ (old : Tables) (k : In_step old) (s : ℕ) (p : Place) (v now : Word) (
   pub now-is : now ≡ contents_at s old p
   now-is = sym (moment s (Read p v r.unit r.var r.args) old look-part p ∙ now-front)
 
-  pub honest-read : v ≡ now → Is_honest s old
+  pub honest-read : v ≡ now → IsHonestRecord s old
   honest-read same q w other =
       let e = records-same p q v w (node_at s old.trace.nodes) r other in
       sym e.1 ∙ (same ∙ (now-is ∙ ap (contents_at s old) e.0))
 
-  pub stale-read : v ≢ now → Is_stale s old
+  pub stale-read : v ≢ now → IsStale s old
   stale-read differ = record { place = p; value = v; read = r; differs = λ e. differ (e ∙ sym now-is) }
 
-  module _ (covered : Covered_by (and_one s old.stale.stamps) old) (mods : Contents) (cells : mods.cells ≡ old.mods.cells) (stale : Waiting)
+  module _ (covered : CoveredBy (and_one s old.stale.stamps) old) (mods : Contents) (cells : mods.cells ≡ old.mods.cells) (stale : Waiting)
       (more : (t : ℕ) → is_in t old.stale.stamps ≡ true → is_in t stale.stamps ≡ true)
       (only : (t : ℕ) → is_in t old.stale.stamps ≡ false → is_in t stale.stamps ≡ true → is_in t (cell_of old.mods p).reads ≡ true)
-      (awake : Is_awake (stamps_in old.trace.nodes) (cell_of old.mods p) s stale.stamps) (qf : Queue_follows (stamps_in old.trace.nodes) stale) where
+      (awake : IsAwake (stamps_in old.trace.nodes) (cell_of old.mods p) s stale.stamps) (qf : Queue_follows (stamps_in old.trace.nodes) stale) where
     bases : (q : Place) → base_in old.mods q ≡ base_in mods q
     bases q = ap (λ (c : Cell). c.base) (sym (cell-same q mods old.mods cells))
 
     mods-now : Mods_follow (stamps_in old.trace.nodes) mods
     mods-now = λ q. subst (λ (c : Cell). Rattle.ceal_mods.specs.Cell.Rises (stamps_in old.trace.nodes) c) (sym (cell-same q mods old.mods cells)) (k.mods q)
 
-    queued : Are_reads old.trace.nodes stale.stamps
+    queued : AreReads old.trace.nodes stale.stamps
     queued = are-reads p old.trace.nodes old.mods old.stale.stamps stale.stamps k.whole.order.distinct k.tabled k.queued only
 
     settled : (w : Word) → w ≡ now → Covers (queue_of stale.stamps) (base_in mods) (λ q. false) (look-part.front ++ record { stamp = look-part.e.stamp; node = Read p w r.unit r.var r.args; steps = look-part.e.steps } ∷ look-part.back)
     settled w is = covers-base (queue_of stale.stamps) (base_in old.mods) (base_in mods) (λ q. false) (look-part.front ++ record { stamp = look-part.e.stamp; node = Read p w r.unit r.var r.args; steps = look-part.e.steps } ∷ look-part.back) bases
         (settled-covered look-part.front look-part.e look-part.back old.trace.nodes p v w r.unit r.var r.args look-part.was look-part.node k.whole.order.distinct old.mods k.tabled old.stale.stamps stale.stamps more
-        (subst (λ z. Is_awake (stamps_in old.trace.nodes) (cell_of old.mods p) z stale.stamps) (sym look-part.stamp) awake) (now-front ∙ sym is)
-        (subst (λ z. Covered_by (and_one z old.stale.stamps) old) (sym look-part.stamp) covered))
+        (subst (λ z. IsAwake (stamps_in old.trace.nodes) (cell_of old.mods p) z stale.stamps) (sym look-part.stamp) awake) (now-front ∙ sym is)
+        (subst (λ z. CoveredBy (and_one z old.stale.stamps) old) (sym look-part.stamp) covered))
 
     own : look-part.e ≡ record { stamp = look-part.e.stamp; node = Read p v r.unit r.var r.args; steps = look-part.e.steps }
     own = whole-entry look-part.e (Read p v r.unit r.var r.args) look-part.node
@@ -437,10 +437,10 @@ module _ (old : Tables) (k : In_step old) (s : ℕ) (p : Place) (v now : Word) (
       step = record {
         whole = whole;
         closed = closed;
-        tabled = subst (λ (l : List Entry). Is_tabled l mods) (sym there) (tabled-with look-part.front look-part.e new look-part.back refl mods (λ q. reads-as q look-part.e.node look-part.node) (λ q. writes-as q look-part.e.stamp (writes_in q look-part.back) look-part.e.node look-part.node)
-            (subst (λ (l : List Entry). Is_tabled l mods) look-part.was (tabled-same old.trace.nodes old.mods mods (sym cells) k.tabled)));
-        keyed = subst (λ (l : List Entry). Is_keyed l old.memo) (sym there) (keyed-with look-part.front look-part.e new look-part.back refl old.memo (λ key. allocs-as key look-part.e.node look-part.node) (λ key. recalls-as key look-part.e.node look-part.node)
-            (subst (λ (l : List Entry). Is_keyed l old.memo) look-part.was k.keyed));
+        tabled = subst (λ (l : List Entry). IsTabled l mods) (sym there) (tabled-with look-part.front look-part.e new look-part.back refl mods (λ q. reads-as q look-part.e.node look-part.node) (λ q. writes-as q look-part.e.stamp (writes_in q look-part.back) look-part.e.node look-part.node)
+            (subst (λ (l : List Entry). IsTabled l mods) look-part.was (tabled-same old.trace.nodes old.mods mods (sym cells) k.tabled)));
+        keyed = subst (λ (l : List Entry). IsKeyed l old.memo) (sym there) (keyed-with look-part.front look-part.e new look-part.back refl old.memo (λ key. allocs-as key look-part.e.node look-part.node) (λ key. recalls-as key look-part.e.node look-part.node)
+            (subst (λ (l : List Entry). IsKeyed l old.memo) look-part.was k.keyed));
         queued = λ z i. read-still z (queued z i);
         mods = subst (λ (l : List ℕ). Mods_follow l mods) (sym others.stamps) mods-now;
         memo = subst (λ (l : List ℕ). Memo_follows l old.memo) (sym others.stamps) k.memo;
@@ -479,14 +479,14 @@ module _ (old : Tables) (k : In_step old) (s : ℕ) (p : Place) (v now : Word) (
         ]
 
 -- one that is not queued, and none before it, has the content of its moment
-pub unqueued-honest : (t : Tables) → Kept t → (s : ℕ) → is_in s t.stale.stamps ≡ false → ((r : ℕ) → is_in r t.stale.stamps ≡ true → place s (stamps_in t.trace.nodes) ≤ place r (stamps_in t.trace.nodes)) → Is_honest s t
+pub unqueued-honest : (t : Tables) → Kept t → (s : ℕ) → is_in s t.stale.stamps ≡ false → ((r : ℕ) → is_in r t.stale.stamps ≡ true → place s (stamps_in t.trace.nodes) ≤ place r (stamps_in t.trace.nodes)) → IsHonestRecord s t
 unqueued-honest t k s none first p v r =
     sym (moment s (Read p v r.unit r.var r.args) t at p
     ∙ read-honest (queue_of t.stale.stamps) (base_in t.mods) at.front at.e.stamp at.e.steps p v r.unit r.var r.args at.back none-front
     (is-queued at.e.stamp t.stale.stamps false (ap (λ z. is_in z t.stale.stamps) at.stamp ∙ none))
     (subst (λ (l : List Entry). Covers (queue_of t.stale.stamps) (base_in t.mods) (λ q. false) l) (at.was ∙ ap (λ x. at.front ++ x ∷ at.back) (own at.e at.node)) k.covered))
   where
-    at : Part_at s (Read p v r.unit r.var r.args) t.trace.nodes
+    at : PartAt s (Read p v r.unit r.var r.args) t.trace.nodes
     at = part-at s (Read p v r.unit r.var r.args) t.trace.nodes r.is
 
     own : (e : Entry) → e.node ≡ Read p v r.unit r.var r.args → e ≡ record { stamp = e.stamp; node = Read p v r.unit r.var r.args; steps = e.steps }
@@ -539,7 +539,7 @@ pub same-write : (p q : Place) (v w : Word) → Write p v ≡ Write q w → (p �
 same-write p q v w e = (grind (arith, e), grind (arith, e))
 
 -- what a write's place holds at its moment
-pub held-at : (old : Tables) → In_step old → (s : ℕ) (p : Place) (v held : Word) → node_at s old.trace.nodes ≡ Some (Write p v) → held ≡ value_before (stamps_in old.trace.nodes) s (cell_of old.mods p) → held ≡ contents_at s old p
+pub held-at : (old : Tables) → InStep old → (s : ℕ) (p : Place) (v held : Word) → node_at s old.trace.nodes ≡ Some (Write p v) → held ≡ value_before (stamps_in old.trace.nodes) s (cell_of old.mods p) → held ≡ contents_at s old p
 held-at old k s p v held h found =
     let c = part-at s (Write p v) old.trace.nodes h in
     found ∙ (looked-up s c.front c.e c.back old.trace.nodes old.mods p c.was c.stamp k.whole.order.distinct k.tabled ∙ sym (moment s (Write p v) old c p))

@@ -18,15 +18,15 @@ use Rattle.ceal_order.specs.Stamps.{is_in, place, head_of}
 use Rattle.ceal_order.specs.declared.stamp.Stamp.{Stamp}
 use Rattle.ceal_queue.specs.Queue.{Waiting, IsWithout, IsEarliest, IsBefore, Follows as Queue_follows}
 use Rattle.ceal_tables.proofs.Changing.{are-reads, keeps-among, covers-and}
-use Rattle.ceal_tables.proofs.Covering.{First_queued}
+use Rattle.ceal_tables.proofs.Covering.{FirstQueued}
 use Rattle.ceal_tables.proofs.Keeping.{tables}
 use Rattle.ceal_tables.proofs.Parting.{false-of}
 use Rattle.ceal_tables.proofs.Queueing.{base-edited}
 use Rattle.ceal_tables.proofs.Steps.{awake-behind}
 use Rattle.ceal_tables.proofs.Tabling.{other-place}
 use Rattle.ceal_tables.specs.Covered.{queue_of, and_one}
-use Rattle.ceal_tables.specs.Kept.{In_step, Kept, Covered_by, Is_awake, Is_stale, Is_honest, Queued_behind, Records, base_in, contents_at}
-use Rattle.ceal_tables.specs.Lists.{Is_tabled}
+use Rattle.ceal_tables.specs.Kept.{InStep, Kept, CoveredBy, IsAwake, IsStale, IsHonestRecord, QueuedBehind, Records, base_in, contents_at}
+use Rattle.ceal_tables.specs.Lists.{IsTabled}
 use Rattle.ceal_tables.specs.declared.tables.Tables.{Tables}
 use Rattle.ceal_trace.specs.Nodes.{Entry, Timeline, stamps_in, node_at, position, is_read, with_value}
 use Rattle.ceal_trace.specs.declared.node.Node.TheVariants.{Root}
@@ -59,12 +59,12 @@ module _ (old : Tables) (k : Kept old) (p : Place) (v : Word) (mods : Contents) 
   base-away : (q : Place) → same_place q p ≡ false → base_in old.mods q ≡ base_in mods q
   base-away q e = ap (λ (c : Cell). c.base) (sym (change.others q (other-place q p e)))
 
-  edit-tabled : Is_tabled old.trace.nodes mods
+  edit-tabled : IsTabled old.trace.nodes mods
   edit-tabled = record { writes = λ q. writes-same q ∙ k.step.tabled.writes q; reads = λ q. edit-reads q ∙ k.step.tabled.reads q }
 
   pub edit-kept : (root : ℕ) → head_of (stamps_in old.trace.nodes) ≡ Some root → node_at root old.trace.nodes ≡ Some Root → (stale : Waiting) → ((t : ℕ) → is_in t old.stale.stamps ≡ true → is_in t stale.stamps ≡ true)
       → ((t : ℕ) → is_in t old.stale.stamps ≡ false → is_in t stale.stamps ≡ true → is_in t (cell_of mods p).reads ≡ true)
-      → Is_awake (stamps_in old.trace.nodes) (cell_of mods p) root stale.stamps
+      → IsAwake (stamps_in old.trace.nodes) (cell_of mods p) root stale.stamps
       → Mods_follow (stamps_in old.trace.nodes) mods → Queue_follows (stamps_in old.trace.nodes) stale → Kept (tables old.trace mods stale old.memo)
   edit-kept root first is_root stale more only awake mf qf = record {
     step = record {
@@ -81,7 +81,7 @@ module _ (old : Tables) (k : Kept old) (p : Place) (v : Word) (mods : Contents) 
         (woken old.trace.nodes refl first is_root) k.covered;
   }
     where
-      woken : (nodes : List Entry) → old.trace.nodes ≡ nodes → head_of (stamps_in nodes) ≡ Some root → node_at root nodes ≡ Some Root → First_queued (queue_of stale.stamps) p nodes
+      woken : (nodes : List Entry) → old.trace.nodes ≡ nodes → head_of (stamps_in nodes) ≡ Some root → node_at root nodes ≡ Some Root → FirstQueued (queue_of stale.stamps) p nodes
       woken [] e h n = tt
       woken (x ∷ xs) e h n =
           let own : x.stamp ≡ root = some-same x.stamp root h in
@@ -90,7 +90,7 @@ module _ (old : Tables) (k : Kept old) (p : Place) (v : Word) (mods : Contents) 
 
 -- ---- the search for the first stale read
 
--- how far it has come, over so many places
+-- how far it has come, over the places
 pub record Looking (old t : Tables) (n : ℕ) : Type 0 where
   pub kept : Kept t
   pub trace : t.trace ≡ old.trace
@@ -101,7 +101,7 @@ pub record Looking (old t : Tables) (n : ℕ) : Type 0 where
 pub looking-first : (old : Tables) → Kept old → Looking old old 0
 looking-first old k = record { kept = k; trace = refl; cells = refl; memo = refl; late = λ s i. omega arith }
 
--- no place is so far behind
+-- no place is that far on
 pub none-late : (old t : Tables) (n : ℕ) → Looking old t n → 2 ^ 32 ≤ n → (s : ℕ) → is_in s t.stale.stamps ≡ true → ⊥
 none-late old t n l far s i =
     omega (arith, l.late s i, far, place_below s (stamps_in t.trace.nodes) (in_order s t.stale.stamps (stamps_in t.trace.nodes) l.kept.step.stale i), l.kept.step.whole.order.few)
@@ -114,7 +114,7 @@ module _ (t : Tables) (k : Kept t) (s : ℕ) (stale : Waiting) (first : IsEarlie
     | inr q ↦ sym (out.others z q.1) ∙ i
   ]
 
-  pub popped-step : Queue_follows (stamps_in t.trace.nodes) stale → In_step (tables t.trace t.mods stale t.memo)
+  pub popped-step : Queue_follows (stamps_in t.trace.nodes) stale → InStep (tables t.trace t.mods stale t.memo)
   popped-step qf = record {
     whole = k.step.whole;
     closed = k.step.closed;
@@ -126,17 +126,14 @@ module _ (t : Tables) (k : Kept t) (s : ℕ) (stale : Waiting) (first : IsEarlie
     stale = qf;
   }
 
-  pub popped-covered : Covered_by (and_one s stale.stamps) (tables t.trace t.mods stale t.memo)
+  pub popped-covered : CoveredBy (and_one s stale.stamps) (tables t.trace t.mods stale t.memo)
   popped-covered = covers-and s t.stale.stamps stale.stamps (base_in t.mods) t.trace.nodes out.others k.covered
 
   pub popped-read : is_read (node_at s t.trace.nodes) ≡ true
   popped-read = k.step.queued s first.there
 
-  pub popped-first : (z : ℕ) → is_in z stale.stamps ≡ true → position s t.trace.nodes ≤ position z t.trace.nodes
-  popped-first z i = first.first z (was-in z i)
-
 -- one that was not stale
-pub looked-more : (old t t' : Tables) (n s : ℕ) → Looking old t n → is_in s t.stale.stamps ≡ true → Kept t' → t'.trace ≡ t.trace → t'.mods.cells ≡ t.mods.cells → t'.memo ≡ t.memo → Queued_behind s t' → Looking old t' (n + 1)
+pub looked-more : (old t t' : Tables) (n s : ℕ) → Looking old t n → is_in s t.stale.stamps ≡ true → Kept t' → t'.trace ≡ t.trace → t'.mods.cells ≡ t.mods.cells → t'.memo ≡ t.memo → QueuedBehind s t' → Looking old t' (n + 1)
 looked-more old t t' n s l i kept trace cells memo behind = record {
   kept = kept;
   trace = trace ∙ l.trace;
@@ -149,7 +146,7 @@ looked-more old t t' n s l i kept trace cells memo behind = record {
 pub contents-same : (a b : Tables) (s : ℕ) → a.trace ≡ b.trace → a.mods.cells ≡ b.mods.cells → (p : Place) → contents_at s a p ≡ contents_at s b p
 contents-same a b s e f p = rw (e, f) refl
 
-pub stale-same : (a b : Tables) (s : ℕ) → a.trace ≡ b.trace → a.mods.cells ≡ b.mods.cells → Is_stale s a → Is_stale s b
+pub stale-same : (a b : Tables) (s : ℕ) → a.trace ≡ b.trace → a.mods.cells ≡ b.mods.cells → IsStale s a → IsStale s b
 stale-same a b s e f h = record {
   place = h.place;
   value = h.value;
@@ -157,7 +154,7 @@ stale-same a b s e f h = record {
   differs = λ k. h.differs (k ∙ sym (contents-same a b s e f h.place));
 }
 
-pub honest-same : (a b : Tables) (s : ℕ) → a.trace ≡ b.trace → a.mods.cells ≡ b.mods.cells → Is_honest s a → Is_honest s b
+pub honest-same : (a b : Tables) (s : ℕ) → a.trace ≡ b.trace → a.mods.cells ≡ b.mods.cells → IsHonestRecord s a → IsHonestRecord s b
 honest-same a b s e f h p v r = h p v (subst (λ (w : Timeline). Records p v (node_at s w.nodes)) (sym e) r) ∙ contents-same a b s e f p
 
 pub nodes-same : (a b : Tables) (s : ℕ) (nodes : List Entry) → a.trace ≡ b.trace → a.mods.cells ≡ b.mods.cells

@@ -137,7 +137,7 @@ module _ (f : Node → Bool) (front mid : List Entry) (u : Entry) (later : List 
           absurd (omega (arith, p.1, none x (in-list x own) p.0))
 
 -- the nodes part at two of them
-pub record Parted_twice (after until : ℕ) (nodes : List Entry) : Type 0 where
+pub record PartedTwice (after until : ℕ) (nodes : List Entry) : Type 0 where
   pub front : List Entry
   pub mid : List Entry
   pub u : Entry
@@ -148,10 +148,10 @@ pub record Parted_twice (after until : ℕ) (nodes : List Entry) : Type 0 where
   pub stamp : u.stamp ≡ until
   pub mid_is : between after until nodes ≡ mid
 
-parted-twice : (after until : ℕ) (nodes : List Entry) → Distinct (stamps_in nodes) → has_node after nodes ≡ true → has_node until nodes ≡ true → position after nodes < position until nodes → Parted_twice after until nodes
+parted-twice : (after until : ℕ) (nodes : List Entry) → Distinct (stamps_in nodes) → has_node after nodes ≡ true → has_node until nodes ≡ true → position after nodes < position until nodes → PartedTwice after until nodes
 parted-twice after until nodes distinct h k lt = go (split_at after nodes h)
   where
-    go : (front : List Entry) × (e : Entry) × (back : List Entry) × (nodes ≡ front ++ e ∷ back) × (e.stamp ≡ after) × (has_node after front ≡ false) → Parted_twice after until nodes
+    go : (front : List Entry) × (e : Entry) × (back : List Entry) × (nodes ≡ front ++ e ∷ back) × (e.stamp ≡ after) × (has_node after front ≡ false) → PartedTwice after until nodes
     go s = more (split_at until s.2 until-behind)
       where
         front-stamps : stamps_in (s.0 ++ s.1 ∷ []) ≡ stamps_in s.0 ++ after ∷ []
@@ -189,7 +189,7 @@ parted-twice after until nodes distinct h k lt = go (split_at after nodes h)
         behind-is : behind after nodes ≡ s.2
         behind-is = subst (λ (a : ℕ). behind a nodes ≡ s.2) s.4 (ap (behind s.1.stamp) s.3 ∙ behind-node s.1 s.2 s.0 (rw (← s.4) at s.5))
 
-        more : (mid : List Entry) × (u : Entry) × (later : List Entry) × (s.2 ≡ mid ++ u ∷ later) × (u.stamp ≡ until) × (has_node until mid ≡ false) → Parted_twice after until nodes
+        more : (mid : List Entry) × (u : Entry) × (later : List Entry) × (s.2 ≡ mid ++ u ∷ later) × (u.stamp ≡ until) × (has_node until mid ≡ false) → PartedTwice after until nodes
         more m = record {
           front = s.0 ++ s.1 ∷ [];
           mid = m.0;

@@ -1,11 +1,9 @@
 -- Each call keeps the tables in step and the stale reads covered.
 use Rattle.std.proofs.Common.{◌≡◌, ℕ, inl, inr, Bool, true, false, List, ◌∷◌, ◌++◌, refl, sym, ap, subst, ◌∙◌}
-use Rattle.std.proofs.lemmas.Bool.{eq-eqb}
 use Rattle.ceal_base.specs.declared.forest.Key.{Key}
 use Rattle.ceal_base.specs.declared.word.BlockId.{BlockId}
 use Rattle.ceal_base.specs.declared.word.Place.{Place}
 use Rattle.ceal_base.specs.declared.word.Word.{Word}
-use Rattle.ceal_code.proofs.Same.{some-same}
 use Rattle.ceal_memo.specs.Lists.{with_stamp}
 use Rattle.ceal_memo.specs.Memo.{Entries, HasNone, ReadsChange, AllocsChange, reads_of, allocs_of, Follows as Memo_follows}
 use Rattle.ceal_memo.specs.declared.key.ReadKey.{ReadKey}
@@ -15,13 +13,13 @@ use Rattle.ceal_mods.specs.declared.cell.Cell.{Cell}
 use Rattle.ceal_order.specs.Stamps.{Distinct, is_in}
 use Rattle.ceal_order.specs.declared.stamp.Stamp.{Stamp}
 use Rattle.ceal_queue.specs.Queue.{Waiting, Follows as Queue_follows}
-use Rattle.ceal_tables.proofs.Changing.{Put_after, put-after, read-has, are-reads, still-reads, covers-base, is-queued}
+use Rattle.ceal_tables.proofs.Changing.{PutAfter, put-after, read-has, are-reads, still-reads, covers-base, is-queued}
 use Rattle.ceal_tables.proofs.Queueing.{quiet-put, read-put}
 use Rattle.ceal_tables.proofs.Steps.{alloc-quiet, end-quiet, tabled-with, keyed-with, steps-covered, write-put-covered}
 use Rattle.ceal_tables.proofs.Tabling.{alloc-no-write, end-no-write, other-place, tabled-in, keyed-in, tabled-write, tabled-read, keyed-alloc, keyed-read, free-of, none-of}
 use Rattle.ceal_tables.specs.Covered.{queue_of, Covers, contents_after}
-use Rattle.ceal_tables.specs.Kept.{In_step, Kept, Are_reads, Is_awake, base_in}
-use Rattle.ceal_tables.specs.Lists.{Is_tabled, Is_keyed, writes_in, up_to}
+use Rattle.ceal_tables.specs.Kept.{InStep, Kept, AreReads, IsAwake, base_in}
+use Rattle.ceal_tables.specs.Lists.{IsTabled, IsKeyed, writes_in, up_to}
 use Rattle.ceal_tables.specs.declared.tables.Tables.{Tables}
 use Rattle.ceal_trace.proofs.Parts.{changed-part}
 use Rattle.ceal_trace.specs.Nodes.{Entry, Timeline, IsTrace, NoLooseEnd, Inserted, stamps_in, has_node, node_at, is_read, new_entry, with_entry_after, steps_set, with_steps, SameBut, held_by}
@@ -43,7 +41,7 @@ bases-same old new p cell change same q = go (Rattle.ceal_base.specs.Operators.s
 
 module _ (old : Tables) (k : Kept old) (after s : ℕ) (n : Node) (tr : Timeline) (here : has_node after old.trace.nodes ≡ true) (is : tr.nodes ≡ with_entry_after after (new_entry s n) old.trace.nodes)
     (ins : Inserted after s n old.trace.nodes tr.nodes) (whole : IsTrace tr) (closed : NoLooseEnd tr.nodes) where
-  pub putting : Put_after after (new_entry s n) old.trace.nodes tr.nodes
+  pub putting : PutAfter after (new_entry s n) old.trace.nodes tr.nodes
   putting = put-after after (new_entry s n) old.trace.nodes tr.nodes here is
 
   abbrev front : List Entry
@@ -55,13 +53,13 @@ module _ (old : Tables) (k : Kept old) (after s : ℕ) (n : Node) (tr : Timeline
   parted : Distinct (stamps_in (putting.front ++ new_entry s n ∷ putting.back))
   parted = subst (λ (l : List Entry). Distinct (stamps_in l)) putting.is whole.order.distinct
 
-  tabled-old : Is_tabled (putting.front ++ putting.back) old.mods
-  tabled-old = subst (λ (l : List Entry). Is_tabled l old.mods) putting.was k.step.tabled
+  tabled-old : IsTabled (putting.front ++ putting.back) old.mods
+  tabled-old = subst (λ (l : List Entry). IsTabled l old.mods) putting.was k.step.tabled
 
-  keyed-old : Is_keyed (putting.front ++ putting.back) old.memo
-  keyed-old = subst (λ (l : List Entry). Is_keyed l old.memo) putting.was k.step.keyed
+  keyed-old : IsKeyed (putting.front ++ putting.back) old.memo
+  keyed-old = subst (λ (l : List Entry). IsKeyed l old.memo) putting.was k.step.keyed
 
-  still-queued : Are_reads tr.nodes old.stale.stamps
+  still-queued : AreReads tr.nodes old.stale.stamps
   still-queued = still-reads old.trace.nodes tr.nodes old.stale.stamps ins.others.entries k.step.queued
 
   -- an allocation
@@ -71,8 +69,8 @@ module _ (old : Tables) (k : Kept old) (after s : ℕ) (n : Node) (tr : Timeline
     step = record {
       whole = whole;
       closed = closed;
-      tabled = subst (λ (l : List Entry). Is_tabled l old.mods) (sym putting.is) (tabled-in putting.front (new_entry s n) putting.back old.mods (λ p. rw e refl) (λ p. alloc-no-write p s n (writes_in p putting.back) b key e) tabled-old);
-      keyed = subst (λ (l : List Entry). Is_keyed l memo) (sym putting.is) (keyed-alloc putting.front (new_entry s n) putting.back parted b key e old.memo memo keyed-old
+      tabled = subst (λ (l : List Entry). IsTabled l old.mods) (sym putting.is) (tabled-in putting.front (new_entry s n) putting.back old.mods (λ p. rw e refl) (λ p. alloc-no-write p s n (writes_in p putting.back) b key e) tabled-old);
+      keyed = subst (λ (l : List Entry). IsKeyed l memo) (sym putting.is) (keyed-alloc putting.front (new_entry s n) putting.back parted b key e old.memo memo keyed-old
           (subst (λ (l : List Entry). AllocsChange key (with_stamp (stamps_in l) s (allocs_of old.memo key)) old.memo memo) putting.is change));
       queued = still-queued;
       mods = mf;
@@ -90,8 +88,8 @@ module _ (old : Tables) (k : Kept old) (after s : ℕ) (n : Node) (tr : Timeline
     step = record {
       whole = whole;
       closed = closed;
-      tabled = subst (λ (l : List Entry). Is_tabled l old.mods) (sym putting.is) (tabled-in putting.front (new_entry s n) putting.back old.mods (λ p. rw e refl) (λ p. end-no-write p s n (writes_in p putting.back) r e) tabled-old);
-      keyed = subst (λ (l : List Entry). Is_keyed l old.memo) (sym putting.is) (keyed-in putting.front (new_entry s n) putting.back old.memo (λ p. rw e refl) (λ p. rw e refl) keyed-old);
+      tabled = subst (λ (l : List Entry). IsTabled l old.mods) (sym putting.is) (tabled-in putting.front (new_entry s n) putting.back old.mods (λ p. rw e refl) (λ p. end-no-write p s n (writes_in p putting.back) r e) tabled-old);
+      keyed = subst (λ (l : List Entry). IsKeyed l old.memo) (sym putting.is) (keyed-in putting.front (new_entry s n) putting.back old.memo (λ p. rw e refl) (λ p. rw e refl) keyed-old);
       queued = still-queued;
       mods = mf;
       memo = ef;
@@ -103,8 +101,8 @@ module _ (old : Tables) (k : Kept old) (after s : ℕ) (n : Node) (tr : Timeline
   }
 
   -- a write, with what it affects woken
-  pub write-tabled : (p : Place) (v : Word) → n ≡ Write p v → (mods : Contents) → Changes old.mods mods p (with_write (stamps_in tr.nodes) s v (cell_of old.mods p)) → Is_tabled tr.nodes mods
-  write-tabled p v e mods change = subst (λ (l : List Entry). Is_tabled l mods) (sym putting.is) (tabled-write putting.front (new_entry s n) putting.back parted p v e old.mods mods tabled-old
+  pub write-tabled : (p : Place) (v : Word) → n ≡ Write p v → (mods : Contents) → Changes old.mods mods p (with_write (stamps_in tr.nodes) s v (cell_of old.mods p)) → IsTabled tr.nodes mods
+  write-tabled p v e mods change = subst (λ (l : List Entry). IsTabled l mods) (sym putting.is) (tabled-write putting.front (new_entry s n) putting.back parted p v e old.mods mods tabled-old
       (subst (λ (l : List Entry). Changes old.mods mods p (with_write (stamps_in l) s v (cell_of old.mods p))) putting.is change))
 
   pub write-bases : (p : Place) (v : Word) (mods : Contents) → Changes old.mods mods p (with_write (stamps_in tr.nodes) s v (cell_of old.mods p)) → (q : Place) → base_in mods q ≡ base_in old.mods q
@@ -117,20 +115,20 @@ module _ (old : Tables) (k : Kept old) (after s : ℕ) (n : Node) (tr : Timeline
   pub write-kept : (p : Place) (v : Word) → n ≡ Write p v → (mods : Contents) (stale : Waiting) → Changes old.mods mods p (with_write (stamps_in tr.nodes) s v (cell_of old.mods p))
       → ((t : ℕ) → is_in t old.stale.stamps ≡ true → is_in t stale.stamps ≡ true)
       → ((t : ℕ) → is_in t old.stale.stamps ≡ false → is_in t stale.stamps ≡ true → is_in t (cell_of mods p).reads ≡ true)
-      → Is_awake (stamps_in tr.nodes) (cell_of mods p) s stale.stamps
+      → IsAwake (stamps_in tr.nodes) (cell_of mods p) s stale.stamps
       → Mods_follow (stamps_in tr.nodes) mods → Memo_follows (stamps_in tr.nodes) old.memo → Queue_follows (stamps_in tr.nodes) stale → Kept (tables tr mods stale old.memo)
   write-kept p v e mods stale change more only awake mf ef qf = record {
     step = record {
       whole = whole;
       closed = closed;
       tabled = write-tabled p v e mods change;
-      keyed = subst (λ (l : List Entry). Is_keyed l old.memo) (sym putting.is) (keyed-in putting.front (new_entry s n) putting.back old.memo (λ p. rw e refl) (λ p. rw e refl) keyed-old);
+      keyed = subst (λ (l : List Entry). IsKeyed l old.memo) (sym putting.is) (keyed-in putting.front (new_entry s n) putting.back old.memo (λ p. rw e refl) (λ p. rw e refl) keyed-old);
       queued = are-reads p tr.nodes mods old.stale.stamps stale.stamps whole.order.distinct (write-tabled p v e mods change) still-queued only;
       mods = mf;
       memo = ef;
       stale = qf;
     };
-    covered = write-put-covered after s p v old.trace.nodes tr.nodes (subst (λ i. Put_after after (new_entry s i) old.trace.nodes tr.nodes) e putting) whole.order.distinct old.mods mods (write-bases p v mods change)
+    covered = write-put-covered after s p v old.trace.nodes tr.nodes (subst (λ i. PutAfter after (new_entry s i) old.trace.nodes tr.nodes) e putting) whole.order.distinct old.mods mods (write-bases p v mods change)
         (write-tabled p v e mods change) old.stale.stamps stale.stamps more awake k.covered;
   }
 
@@ -144,9 +142,9 @@ module _ (old : Tables) (k : Kept old) (after s : ℕ) (n : Node) (tr : Timeline
     step = record {
       whole = whole;
       closed = closed;
-      tabled = subst (λ (l : List Entry). Is_tabled l mods) (sym putting.is) (tabled-read putting.front (new_entry s n) putting.back parted key.place v key.unit key.var key.args e old.mods mods tabled-old
+      tabled = subst (λ (l : List Entry). IsTabled l mods) (sym putting.is) (tabled-read putting.front (new_entry s n) putting.back parted key.place v key.unit key.var key.args e old.mods mods tabled-old
           (subst (λ (l : List Entry). Changes old.mods mods key.place (with_read (stamps_in l) s (cell_of old.mods key.place))) putting.is change));
-      keyed = subst (λ (l : List Entry). Is_keyed l memo) (sym putting.is) (keyed-read putting.front (new_entry s n) putting.back parted key v e old.memo memo keyed-old
+      keyed = subst (λ (l : List Entry). IsKeyed l memo) (sym putting.is) (keyed-read putting.front (new_entry s n) putting.back parted key v e old.memo memo keyed-old
           (subst (λ (l : List Entry). ReadsChange key (with_stamp (stamps_in l) s (reads_of old.memo key)) old.memo memo) putting.is entry));
       queued = still-queued;
       mods = mf;
@@ -170,10 +168,10 @@ module _ (old : Tables) (k : Kept old) (after s : ℕ) (n : Node) (tr : Timeline
       unqueued = is-queued s old.stale.stamps false (Rattle.ceal_tables.proofs.Parting.false-of (is_in s old.stale.stamps) (λ i. sym (read-has s old.trace.nodes (k.step.queued s i)) ∙ ins.new))
 
 -- what is not there has no entry
-pub no-entry : (s : ℕ) (old : Tables) → In_step old → has_node s old.trace.nodes ≡ false → HasNone s old.memo
+pub no-entry : (s : ℕ) (old : Tables) → InStep old → has_node s old.trace.nodes ≡ false → HasNone s old.memo
 no-entry s old k h = none-of s old.trace.nodes old.memo k.keyed h
 
-pub is-free : (s : ℕ) (old : Tables) → In_step old → has_node s old.trace.nodes ≡ false → IsFree s old.mods
+pub is-free : (s : ℕ) (old : Tables) → InStep old → has_node s old.trace.nodes ≡ false → IsFree s old.mods
 is-free s old k h = free-of s old.trace.nodes old.mods k.tabled h
 
 -- ---- steps are set
@@ -196,8 +194,8 @@ steps-kept old k s n tr here is same others whole closed = go (Rattle.ceal_trace
           step = record {
             whole = whole;
             closed = closed;
-            tabled = subst (λ (l : List Entry). Is_tabled l old.mods) (sym at) (tabled-with x.0 x.1 (steps_set n x.1) x.2 refl old.mods (λ p. refl) (λ p. refl) (subst (λ (l : List Entry). Is_tabled l old.mods) x.3 k.step.tabled));
-            keyed = subst (λ (l : List Entry). Is_keyed l old.memo) (sym at) (keyed-with x.0 x.1 (steps_set n x.1) x.2 refl old.memo (λ p. refl) (λ p. refl) (subst (λ (l : List Entry). Is_keyed l old.memo) x.3 k.step.keyed));
+            tabled = subst (λ (l : List Entry). IsTabled l old.mods) (sym at) (tabled-with x.0 x.1 (steps_set n x.1) x.2 refl old.mods (λ p. refl) (λ p. refl) (subst (λ (l : List Entry). IsTabled l old.mods) x.3 k.step.tabled));
+            keyed = subst (λ (l : List Entry). IsKeyed l old.memo) (sym at) (keyed-with x.0 x.1 (steps_set n x.1) x.2 refl old.memo (λ p. refl) (λ p. refl) (subst (λ (l : List Entry). IsKeyed l old.memo) x.3 k.step.keyed));
             queued = λ z i. ap is_read (node-same z) ∙ k.step.queued z i;
             mods = subst (λ (l : List ℕ). Mods_follow l old.mods) (sym others.stamps) k.step.mods;
             memo = subst (λ (l : List ℕ). Memo_follows l old.memo) (sym others.stamps) k.step.memo;

@@ -1,7 +1,9 @@
+-- what crates above cite
+pub mod Putting
+pub mod Parting
+-- the rest
 pub mod Covering
 pub mod Queueing
-pub mod Parting
-pub mod Putting
 pub mod Waking
 pub mod Tabling
 pub mod Changing

@@ -1,22 +1,21 @@
--- What a place holds behind a node, and the first tables.
-use Rattle.std.proofs.Common.{◌≡◌, ℕ, inl, inr, true, false, List, [], ◌∷◌, ◌++◌, refl, sym, ap, subst, ◌∙◌, Some, None}
+-- What a place holds after a node, and the first tables.
+use Rattle.std.proofs.Common.{◌≡◌, ℕ, inl, inr, true, false, List, [], ◌∷◌, ◌++◌, refl, sym, ap, ◌∙◌, Some, None}
 use Rattle.std.proofs.lemmas.Bool.Decides.{eqb_tells}
 use Rattle.ceal_base.specs.declared.forest.Key.{Key}
 use Rattle.ceal_base.specs.declared.word.Place.{Place}
 use Rattle.ceal_code.proofs.Same.{some-same, none-some}
 use Rattle.ceal_memo.specs.Memo.{reads_of, allocs_of, Follows as Memo_follows}
 use Rattle.ceal_memo.specs.declared.key.ReadKey.{ReadKey}
-use Rattle.ceal_mods.specs.Cell.{value_before, latest_value, untouched}
-use Rattle.ceal_mods.specs.Mods.{Contents, cell_of, IsUntouched, Follows as Mods_follow}
+use Rattle.ceal_mods.specs.Cell.{value_before, latest_value}
+use Rattle.ceal_mods.specs.Mods.{cell_of, IsUntouched, Follows as Mods_follow}
 use Rattle.ceal_mods.specs.Writes.{Write as WriteOf, last_of}
 use Rattle.ceal_mods.specs.declared.cell.Cell.{Cell}
 use Rattle.ceal_order.specs.Stamps.{head_of, successor}
 use Rattle.ceal_queue.specs.Queue.{Follows as Queue_follows}
-use Rattle.ceal_tables.proofs.Changing.{cell-same, tabled-same, looked-up, covers-base}
-use Rattle.ceal_tables.proofs.Keeping.{tables}
+use Rattle.ceal_tables.proofs.Changing.{looked-up}
 use Rattle.ceal_tables.proofs.Putting.{last-contents}
-use Rattle.ceal_tables.specs.Covered.{queue_of, contents_after}
-use Rattle.ceal_tables.specs.Kept.{In_step, Kept, base_in}
+use Rattle.ceal_tables.specs.Covered.{contents_after}
+use Rattle.ceal_tables.specs.Kept.{InStep, Kept, base_in}
 use Rattle.ceal_tables.specs.Lists.{up_to}
 use Rattle.ceal_tables.specs.declared.tables.Tables.{Tables}
 use Rattle.ceal_trace.specs.Nodes.{Entry, IsTrace, NoLooseEnd, stamps_in, has_node, new_entry}
@@ -44,35 +43,19 @@ up-to-next s n (e ∷ es) k = elim (eqb_tells e.stamp s) [
     first [] h = none-some n h
     first (x ∷ xs) h = (x, xs, refl, some-same x.stamp n h)
 
--- behind the last node
-pub value-last : (old : Tables) → In_step old → (p : Place) (s : ℕ) → has_node s old.trace.nodes ≡ true → successor s (stamps_in old.trace.nodes) ≡ None
+-- after the last node
+pub value-last : (old : Tables) → InStep old → (p : Place) (s : ℕ) → has_node s old.trace.nodes ≡ true → successor s (stamps_in old.trace.nodes) ≡ None
     → latest_value (cell_of old.mods p) ≡ contents_after (base_in old.mods) (up_to s old.trace.nodes) p
 value-last old k p s h last =
     ap (λ (l : List WriteOf). last_of (cell_of old.mods p).base l) (k.tabled.writes p) ∙ (last-contents p old.trace.nodes (base_in old.mods)
     ∙ ap (λ (l : List Entry). contents_after (base_in old.mods) l p) (sym (up-to-last s old.trace.nodes h last)))
 
--- behind another one
-pub value-next : (old : Tables) → In_step old → (p : Place) (s n : ℕ) → successor s (stamps_in old.trace.nodes) ≡ Some n
+-- after another one
+pub value-next : (old : Tables) → InStep old → (p : Place) (s n : ℕ) → successor s (stamps_in old.trace.nodes) ≡ Some n
     → value_before (stamps_in old.trace.nodes) n (cell_of old.mods p) ≡ contents_after (base_in old.mods) (up_to s old.trace.nodes) p
 value-next old k p s n next =
     let r = up-to-next s n old.trace.nodes next in
     looked-up n (up_to s old.trace.nodes) r.0 r.1 old.trace.nodes old.mods p r.2 r.3 k.whole.order.distinct k.tabled
-
--- a look-up changes nothing
-pub look-kept : (old : Tables) (mods : Contents) → Kept old → mods.cells ≡ old.mods.cells → Kept (tables old.trace mods old.stale old.memo)
-look-kept old mods k cells = record {
-  step = record {
-    whole = k.step.whole;
-    closed = k.step.closed;
-    tabled = tabled-same old.trace.nodes old.mods mods (sym cells) k.step.tabled;
-    keyed = k.step.keyed;
-    queued = k.step.queued;
-    mods = λ q. subst (λ (c : Cell). Rattle.ceal_mods.specs.Cell.Rises (stamps_in old.trace.nodes) c) (sym (cell-same q mods old.mods cells)) (k.step.mods q);
-    memo = k.step.memo;
-    stale = k.step.stale;
-  };
-  covered = covers-base (queue_of old.stale.stamps) (base_in old.mods) (base_in mods) (λ q. false) old.trace.nodes (λ q. ap (λ (c : Cell). c.base) (sym (cell-same q mods old.mods cells))) k.covered;
-}
 
 -- the tables of the root alone
 pub first-kept : (t : Tables) → t.trace.nodes ≡ new_entry 0 Root ∷ [] → IsTrace t.trace → NoLooseEnd t.trace.nodes → IsUntouched t.mods → t.stale.stamps ≡ []

@@ -66,9 +66,6 @@ stamps_of-length (w ∷ ws) = ap suc (stamps_of-length ws)
 
 -- nodes that are parted at one of them
 module _ (front : List Entry) (e : Entry) (back : List Entry) (distinct : Distinct (stamps_in (front ++ e ∷ back))) where
-  order : List ℕ
-  order = stamps_in (front ++ e ∷ back)
-
   parts : Distinct (stamps_in front ++ e.stamp ∷ stamps_in back)
   parts = rw (stamps-append front (e ∷ back)) at distinct
 

@@ -8,13 +8,13 @@ use Rattle.ceal_code.proofs.Same.{place-same}
 use Rattle.ceal_code.specs.Replay.{Store, stored}
 use Rattle.ceal_order.proofs.Places.{in_head, in_tail}
 use Rattle.ceal_order.specs.Stamps.{is_in}
-use Rattle.ceal_tables.proofs.Covering.{First_queued, Same_but, Same_all, Keeps, all_seen, false-true, seen-read, seen-closed, seen-still, covers-still, covers-first}
-use Rattle.ceal_tables.specs.Covered.{Queue, Seen, content_after, contents_after, with_seen, seen_after, Is_covered, Covers}
+use Rattle.ceal_tables.proofs.Covering.{FirstQueued, SameBut, SameAll, Keeps, all_seen, false-true, seen-read, seen-closed, seen-still, covers-still, covers-first}
+use Rattle.ceal_tables.specs.Covered.{Queue, Seen, content_after, contents_after, with_seen, seen_after, IsCovered, Covers}
 use Rattle.ceal_trace.specs.Nodes.{Entry, stamps_in}
 use Rattle.ceal_trace.specs.declared.node.Node.{Node}
 use Rattle.ceal_trace.specs.declared.node.Node.TheVariants.{Root, Alloc, Write, Read, End}
 
--- the nodes before a place in the list and those behind it
+-- the nodes before a place in the list and those after it
 pub covers-part : (q : Queue) (front back : List Entry) (s : Store) (g : Seen) → Covers q s g (front ++ back)
     → Covers q s g front × Covers q (contents_after s front) (all_seen q g front) back
 covers-part q [] back s g c = (tt, c)
@@ -27,7 +27,7 @@ pub covers-join : (q : Queue) (front back : List Entry) (s : Store) (g : Seen) �
 covers-join q [] back s g c d = d
 covers-join q (k ∷ ks) back s g c d = (c.0, covers-join q ks back (content_after s k.node) (seen_after q g k.stamp k.node) c.1 d)
 
-all-same : (s : Store) (g : Seen) → Same_all s s g g
+all-same : (s : Store) (g : Seen) → SameAll s s g g
 all-same s g = record { store = λ x. refl; seen = λ x e. e }
 
 seen-node : (q q' : Queue) (n : ℕ) (g g' : Seen) → ((x : Place) → g x ≡ true → g' x ≡ true) → (q n ≡ true → q' n ≡ true) → (i : Node) (x : Place) → seen_after q g n i x ≡ true → seen_after q' g' n i x ≡ true
@@ -43,7 +43,7 @@ seen-more q q' [] g g' h k x t = h x t
 seen-more q q' (e ∷ ks) g g' h k x t =
     seen-more q q' ks (seen_after q g e.stamp e.node) (seen_after q' g' e.stamp e.node) (seen-node q q' e.stamp g g' h k.0 e.node) k.1 x t
 
--- Where the nodes in front stay, and behind them only one place changes, whose first read is queued now, all stay covered.
+-- Where the nodes in front stay, and after them only one place changes, whose first read is queued now, all stay covered.
 -- Each change of the trace is of this form.
 module _ (q q' : Queue) (s : Store) (g : Seen) (front back : List Entry) where
   pub front-still : Keeps q q' front → Covers q s g front → Covers q' s g front
@@ -70,21 +70,21 @@ module _ (q q' : Queue) (s : Store) (g : Seen) (front back : List Entry) where
   seen-unread g1 g2 p false x h e t = h t
 
   -- a write is added
-  pub write-added : (n m : ℕ) (p : Place) (v : Word) → Keeps q q' front → Keeps q q' back → First_queued q' p back
+  pub write-added : (n m : ℕ) (p : Place) (v : Word) → Keeps q q' front → Keeps q q' back → FirstQueued q' p back
       → Covers q s g (front ++ back) → Covers q' s g (front ++ record { stamp = n; node = Write p v; steps = m } ∷ back)
   write-added n m p v kf kb f c =
       let d = covers-part q front back s g c in
-      let same : Same_but p (contents_after s front) (stored (contents_after s front) p v) (all_seen q g front) (with_seen (all_seen q' g front) p false) =
+      let same : SameBut p (contents_after s front) (stored (contents_after s front) p v) (all_seen q g front) (with_seen (all_seen q' g front) p false) =
       record { store = same-written p v; seen = λ x e. seen-written (all_seen q g front) (all_seen q' g front) p x (front-seen kf x) e } in
       covers-join q' front (record { stamp = n; node = Write p v; steps = m } ∷ back) s g (front-still kf d.0)
       (tt, covers-first p q q' back kb (contents_after s front) (stored (contents_after s front) p v) (all_seen q g front) (with_seen (all_seen q' g front) p false) same f d.1)
 
   -- a write is taken out
-  pub write-removed : (n m : ℕ) (p : Place) (v : Word) → Keeps q q' front → Keeps q q' back → First_queued q' p back
+  pub write-removed : (n m : ℕ) (p : Place) (v : Word) → Keeps q q' front → Keeps q q' back → FirstQueued q' p back
       → Covers q s g (front ++ record { stamp = n; node = Write p v; steps = m } ∷ back) → Covers q' s g (front ++ back)
   write-removed n m p v kf kb f c =
       let d = covers-part q front (record { stamp = n; node = Write p v; steps = m } ∷ back) s g c in
-      let same : Same_but p (stored (contents_after s front) p v) (contents_after s front) (with_seen (all_seen q g front) p false) (all_seen q' g front) =
+      let same : SameBut p (stored (contents_after s front) p v) (contents_after s front) (with_seen (all_seen q g front) p false) (all_seen q' g front) =
       record { store = λ x e. sym (same-written p v x e); seen = λ x e. seen-unwritten (all_seen q g front) (all_seen q' g front) p x (front-seen kf x) e } in
       covers-join q' front back s g (front-still kf d.0)
       (covers-first p q q' back kb (stored (contents_after s front) p v) (contents_after s front) (with_seen (all_seen q g front) p false) (all_seen q' g front) same f d.1.1)
@@ -115,23 +115,23 @@ module _ (q q' : Queue) (s : Store) (g : Seen) (front back : List Entry) where
       (record { store = stored-idle (contents_after s front) p v e; seen = λ x h. front-seen kf x (unclosed (all_seen q g front) p x h) }) d.1.1)
 
   -- a read that may have been queued is taken out
-  pub read-removed : (n m : ℕ) (p : Place) (v : Word) (u : UnitId) (y : ℕ) (args : List Word) → Keeps q q' front → Keeps q q' back → First_queued q' p back
+  pub read-removed : (n m : ℕ) (p : Place) (v : Word) (u : UnitId) (y : ℕ) (args : List Word) → Keeps q q' front → Keeps q q' back → FirstQueued q' p back
       → Covers q s g (front ++ record { stamp = n; node = Read p v u y args; steps = m } ∷ back) → Covers q' s g (front ++ back)
   read-removed n m p v u y args kf kb f c =
       let d = covers-part q front (record { stamp = n; node = Read p v u y args; steps = m } ∷ back) s g c in
-      let same : Same_but p (contents_after s front) (contents_after s front) (if q n then with_seen (all_seen q g front) p true else all_seen q g front) (all_seen q' g front) =
+      let same : SameBut p (contents_after s front) (contents_after s front) (if q n then with_seen (all_seen q g front) p true else all_seen q g front) (all_seen q' g front) =
       record { store = λ x e. refl; seen = λ x e. seen-unread (all_seen q g front) (all_seen q' g front) p (q n) x (front-seen kf x) e } in
       covers-join q' front back s g (front-still kf d.0)
       (covers-first p q q' back kb (contents_after s front) (contents_after s front) (if q n then with_seen (all_seen q g front) p true else all_seen q g front) (all_seen q' g front) same f d.1.1)
 
   -- a read with this content, which is not queued now, stands there: one that was popped, whatever its value was, or a new one
-  pub read-settled : (n m m' : ℕ) (p : Place) (v w : Word) (u : UnitId) (y : ℕ) (args : List Word) → Keeps q q' front → Keeps q q' back → First_queued q' p back
+  pub read-settled : (n m m' : ℕ) (p : Place) (v w : Word) (u : UnitId) (y : ℕ) (args : List Word) → Keeps q q' front → Keeps q q' back → FirstQueued q' p back
       → contents_after s front p ≡ w
       → Covers q s g (front ++ record { stamp = n; node = Read p v u y args; steps = m } ∷ back)
       → Covers q' s g (front ++ record { stamp = n; node = Read p w u y args; steps = m' } ∷ back)
   read-settled n m m' p v w u y args kf kb f e c =
       let d = covers-part q front (record { stamp = n; node = Read p v u y args; steps = m } ∷ back) s g c in
-      let same : Same_but p (contents_after s front) (contents_after s front) (if q n then with_seen (all_seen q g front) p true else all_seen q g front) (if q' n then with_seen (all_seen q' g front) p true else all_seen q' g front) =
+      let same : SameBut p (contents_after s front) (contents_after s front) (if q n then with_seen (all_seen q g front) p true else all_seen q g front) (if q' n then with_seen (all_seen q' g front) p true else all_seen q' g front) =
       record { store = λ x e. refl; seen = λ x e t. still (q' n) x (seen-unread (all_seen q g front) (all_seen q' g front) p (q n) x (front-seen kf x) e t) } in
       covers-join q' front (record { stamp = n; node = Read p w u y args; steps = m' } ∷ back) s g (front-still kf d.0)
       (inl e, covers-first p q q' back kb (contents_after s front) (contents_after s front) (if q n then with_seen (all_seen q g front) p true else all_seen q g front) (if q' n then with_seen (all_seen q' g front) p true else all_seen q' g front) same f d.1.1)
@@ -140,17 +140,17 @@ module _ (q q' : Queue) (s : Store) (g : Seen) (front back : List Entry) where
       still b x t = seen-still p (all_seen q' g front) b x t
 
 -- a node that is neither a write nor a read
-abbrev pub Is_quiet : Node → Type 0
-Is_quiet n = (s : Store) (g : Seen) (q : Queue) (st : ℕ) (back : List Entry) → (Covers q s g back → Is_covered s (seen_after q g st n) n × Covers q (content_after s n) (seen_after q g st n) back)
-    × (Is_covered s (seen_after q g st n) n × Covers q (content_after s n) (seen_after q g st n) back → Covers q s g back)
+abbrev pub IsQuiet : Node → Type 0
+IsQuiet n = (s : Store) (g : Seen) (q : Queue) (st : ℕ) (back : List Entry) → (Covers q s g back → IsCovered s (seen_after q g st n) n × Covers q (content_after s n) (seen_after q g st n) back)
+    × (IsCovered s (seen_after q g st n) n × Covers q (content_after s n) (seen_after q g st n) back → Covers q s g back)
 
--- such a node counts for nothing
-pub quiet-put : (q : Queue) (s : Store) (g : Seen) (front : List Entry) (e : Entry) (back : List Entry) → Is_quiet e.node → Covers q s g (front ++ back) → Covers q s g (front ++ e ∷ back)
+-- such a node does not matter
+pub quiet-put : (q : Queue) (s : Store) (g : Seen) (front : List Entry) (e : Entry) (back : List Entry) → IsQuiet e.node → Covers q s g (front ++ back) → Covers q s g (front ++ e ∷ back)
 quiet-put q s g front e back quiet c =
     let d = covers-part q front back s g c in
     covers-join q front (e ∷ back) s g d.0 ((quiet (contents_after s front) (all_seen q g front) q e.stamp back).0 d.1)
 
-pub quiet-cut : (q : Queue) (s : Store) (g : Seen) (front : List Entry) (e : Entry) (back : List Entry) → Is_quiet e.node → Covers q s g (front ++ e ∷ back) → Covers q s g (front ++ back)
+pub quiet-cut : (q : Queue) (s : Store) (g : Seen) (front : List Entry) (e : Entry) (back : List Entry) → IsQuiet e.node → Covers q s g (front ++ e ∷ back) → Covers q s g (front ++ back)
 quiet-cut q s g front e back quiet c =
     let d = covers-part q front (e ∷ back) s g c in
     covers-join q front back s g d.0 ((quiet (contents_after s front) (all_seen q g front) q e.stamp back).1 d.1)
@@ -200,6 +200,6 @@ read-honest q s front n m p v u y args back none own c = go (subst (λ b. (conte
     go (inr e) = absurd (let no : true ≡ false = sym e ∙ none-seen q front (λ x. false) (λ x. refl) none p in cc)
 
 -- a base is edited
-pub base-edited : (q q' : Queue) (nodes : List Entry) (s s' : Store) (g : Seen) (p : Place) → ((x : Place) → same_place x p ≡ false → s x ≡ s' x) → Keeps q q' nodes → First_queued q' p nodes
+pub base-edited : (q q' : Queue) (nodes : List Entry) (s s' : Store) (g : Seen) (p : Place) → ((x : Place) → same_place x p ≡ false → s x ≡ s' x) → Keeps q q' nodes → FirstQueued q' p nodes
     → Covers q s g nodes → Covers q' s' g nodes
 base-edited q q' nodes s s' g p h k f c = covers-first p q q' nodes k s s' g g (record { store = h; seen = λ x e t. t }) f c

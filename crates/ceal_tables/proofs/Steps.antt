@@ -14,18 +14,18 @@ use Rattle.ceal_mods.specs.Writes.{Write as WriteOf}
 use Rattle.ceal_order.proofs.Places.{place_tells}
 use Rattle.ceal_order.specs.Stamps.{Distinct, is_in, place, OneMore}
 use Rattle.ceal_order.specs.declared.stamp.Stamp.{Stamp}
-use Rattle.ceal_tables.proofs.Changing.{Put_after, first-queued, keeps-among, keeps-but, covers-base, is-queued}
-use Rattle.ceal_tables.proofs.Covering.{First_queued, Keeps}
+use Rattle.ceal_tables.proofs.Changing.{PutAfter, first-queued, keeps-among, keeps-but, covers-base, is-queued}
+use Rattle.ceal_tables.proofs.Covering.{FirstQueued, Keeps}
 use Rattle.ceal_tables.proofs.Parting.{writes-append, where-append}
 use Rattle.ceal_tables.proofs.Putting.{own-apart, own-gone, in-front, in-back}
-use Rattle.ceal_tables.proofs.Queueing.{Is_quiet, covers-part, covers-join, write-added, write-removed, write-idle, read-removed, read-settled, read-cut}
+use Rattle.ceal_tables.proofs.Queueing.{IsQuiet, covers-part, covers-join, write-added, write-removed, write-idle, read-removed, read-settled, read-cut}
 use Rattle.ceal_tables.specs.Covered.{Queue, Seen, queue_of, and_one, Covers, contents_after}
-use Rattle.ceal_tables.specs.Kept.{Is_awake, base_in}
-use Rattle.ceal_tables.specs.Lists.{Is_tabled, Is_keyed, reads_at, allocates, recalls, write_of, writes_in, stamps_where}
+use Rattle.ceal_tables.specs.Kept.{IsAwake, base_in}
+use Rattle.ceal_tables.specs.Lists.{IsTabled, IsKeyed, reads_at, allocates, recalls, write_of, writes_in, stamps_where}
 use Rattle.ceal_trace.proofs.Parts.{stamps-append}
 use Rattle.ceal_trace.specs.Nodes.{Entry, stamps_in, has_node, position, new_entry, steps_set, Inserted}
 use Rattle.ceal_trace.specs.declared.node.Node.{Node}
-use Rattle.ceal_trace.specs.declared.node.Node.TheVariants.{Root, Alloc, Write, Read, End}
+use Rattle.ceal_trace.specs.declared.node.Node.TheVariants.{Alloc, Write, Read, End}
 
 -- ---- places in the order
 
@@ -37,7 +37,7 @@ there-before s (x ∷ xs) h = elim (eqb_tells x s) [
   | inr p ↦ rw p.0 (there-before s xs (let k : 1 + place s xs < length (x ∷ xs) = rw p.0 at h in omega (arith, k)))
 ]
 
--- what stands behind a node stands behind one that is put directly behind that
+-- what follows a node stands after one that is put directly after that
 pub behind-put : (after s : ℕ) (n : Node) (old nodes : List Entry) → Inserted after s n old nodes → has_node after old ≡ true
     → (r : ℕ) → has_node r old ≡ true → position after old < position r old → position s nodes < position r nodes
 behind-put after s n old nodes i here r there lt =
@@ -46,20 +46,17 @@ behind-put after s n old nodes i here r there lt =
     absurd (let no : true ≡ false = sym there ∙ (ap (λ z. is_in z (stamps_in old)) (place_tells r s (stamps_in nodes) (i.others.stamps.others r there) i.there e) ∙ i.new) in cc) in
     omega (arith, i.after, further, other)
 
--- what stands behind a node does so where another one is taken out
+-- what follows a node does so where another one is taken out
 pub behind-cut : (gone : ℕ) (fewer all : List ℕ) → OneMore gone fewer all → (s r : ℕ) → is_in s all ≡ true → is_in r all ≡ true → s ≢ gone → r ≢ gone
     → place s all < place r all → place s fewer < place r fewer
 behind-cut gone fewer all more s r i j a b lt = (more.order s r (more.only s i a) (more.only r j b)).1 lt
 
 -- ---- quiet nodes
 
-pub root-quiet : Is_quiet Root
-root-quiet s g q st back = (λ c. (tt, c), λ c. c.1)
-
-pub alloc-quiet : (b : BlockId) (key : Key) → Is_quiet (Alloc b key)
+pub alloc-quiet : (b : BlockId) (key : Key) → IsQuiet (Alloc b key)
 alloc-quiet b key s g q st back = (λ c. (tt, c), λ c. c.1)
 
-pub end-quiet : (r : Stamp) → Is_quiet (End r)
+pub end-quiet : (r : Stamp) → IsQuiet (End r)
 end-quiet r s g q st back = (λ c. (tt, c), λ c. c.1)
 
 -- ---- a node that is changed
@@ -75,14 +72,14 @@ module _ (front : List Entry) (e e' : Entry) (back : List Entry) (stamp : e'.sta
   writes-with p k = writes-append p front (e' ∷ back) ∙ (ap (λ (l : List WriteOf). writes_in p front ++ l) k ∙ sym (writes-append p front (e ∷ back)))
 
   pub tabled-with : (mods : Contents) → ((p : Place) → reads_at p e'.node ≡ reads_at p e.node) → ((p : Place) → write_of p e'.stamp e'.node (writes_in p back) ≡ write_of p e.stamp e.node (writes_in p back))
-      → Is_tabled (front ++ e ∷ back) mods → Is_tabled (front ++ e' ∷ back) mods
+      → IsTabled (front ++ e ∷ back) mods → IsTabled (front ++ e' ∷ back) mods
   tabled-with mods r w t = record {
     writes = λ p. t.writes p ∙ sym (writes-with p (w p));
     reads = λ p. t.reads p ∙ sym (where-with (reads_at p) (r p));
   }
 
   pub keyed-with : (memo : Entries) → ((key : Key) → allocates key e'.node ≡ allocates key e.node) → ((key : ReadKey) → recalls key e'.node ≡ recalls key e.node)
-      → Is_keyed (front ++ e ∷ back) memo → Is_keyed (front ++ e' ∷ back) memo
+      → IsKeyed (front ++ e ∷ back) memo → IsKeyed (front ++ e' ∷ back) memo
   keyed-with memo a r t = record {
     allocs = λ key. t.allocs key ∙ sym (where-with (allocates key) (a key));
     reads = λ key. t.reads key ∙ sym (where-with (recalls key) (r key));
@@ -100,7 +97,7 @@ module _ (front : List Entry) (e : Entry) (back nodes : List Entry) (was : nodes
   order-is = ap stamps_in was ∙ (stamps-append front (e ∷ back) ∙ sym (append_assoc (stamps_in front) (e.stamp ∷ []) (stamps_in back)))
 
   -- the lists still have the node
-  pub awake-behind : Is_tabled nodes mods → Is_awake (stamps_in nodes) (cell_of mods p) e.stamp q' → First_queued (queue_of q') p back
+  pub awake-behind : IsTabled nodes mods → IsAwake (stamps_in nodes) (cell_of mods p) e.stamp q' → FirstQueued (queue_of q') p back
   awake-behind t awake =
       first-queued (front ++ e ∷ []) back (stamps_in front) e.stamp (stamps_in nodes) p (cell_of mods p) q' order-is distinct
       (λ t h. subst (λ (l : List ℕ). is_in t l ≡ true) (stamps-append front (e ∷ [])) h)
@@ -110,7 +107,7 @@ module _ (front : List Entry) (e : Entry) (back nodes : List Entry) (was : nodes
       whole = was ∙ sym (append_assoc front (e ∷ []) back)
 
   -- they have it no more
-  pub awake-cut : Is_tabled (front ++ back) mods → Is_awake (stamps_in nodes) (cell_of mods p) e.stamp q' → First_queued (queue_of q') p back
+  pub awake-cut : IsTabled (front ++ back) mods → IsAwake (stamps_in nodes) (cell_of mods p) e.stamp q' → FirstQueued (queue_of q') p back
   awake-cut t awake =
       first-queued front back (stamps_in front) e.stamp (stamps_in nodes) p (cell_of mods p) q' order-is distinct
       (λ t h. in-front (stamps_in front) (e.stamp ∷ []) t h) (t.writes p) (t.reads p) awake
@@ -121,9 +118,9 @@ entry-of : (e : Entry) (n : Node) → e.node ≡ n → e ≡ record { stamp = e.
 entry-of e n is = rw is refl
 
 -- a write is put in
-pub write-put-covered : (after s : ℕ) (p : Place) (v : Word) (old nodes : List Entry) → Put_after after (new_entry s (Write p v)) old nodes → Distinct (stamps_in nodes)
-    → (mods new : Contents) → ((x : Place) → base_in new x ≡ base_in mods x) → Is_tabled nodes new → (q q' : List ℕ) → ((t : ℕ) → is_in t q ≡ true → is_in t q' ≡ true)
-    → Is_awake (stamps_in nodes) (cell_of new p) s q' → Covers (queue_of q) (base_in mods) (λ x. false) old → Covers (queue_of q') (base_in new) (λ x. false) nodes
+pub write-put-covered : (after s : ℕ) (p : Place) (v : Word) (old nodes : List Entry) → PutAfter after (new_entry s (Write p v)) old nodes → Distinct (stamps_in nodes)
+    → (mods new : Contents) → ((x : Place) → base_in new x ≡ base_in mods x) → IsTabled nodes new → (q q' : List ℕ) → ((t : ℕ) → is_in t q ≡ true → is_in t q' ≡ true)
+    → IsAwake (stamps_in nodes) (cell_of new p) s q' → Covers (queue_of q) (base_in mods) (λ x. false) old → Covers (queue_of q') (base_in new) (λ x. false) nodes
 write-put-covered after s p v old nodes put distinct mods new base t q q' more awake c =
     subst (λ (l : List Entry). Covers (queue_of q') (base_in new) (λ x. false) l) (sym put.is)
     (write-added (queue_of q) (queue_of q') (base_in new) (λ x. false) put.front put.back s 0 p v (keeps-among q q' put.front (λ z i. more z)) (keeps-among q q' put.back (λ z i. more z))
@@ -132,15 +129,15 @@ write-put-covered after s p v old nodes put distinct mods new base t q q' more a
 
 -- a write is taken out
 pub write-cut-covered : (front : List Entry) (e : Entry) (back nodes : List Entry) (p : Place) (v : Word) → nodes ≡ front ++ e ∷ back → e.node ≡ Write p v → Distinct (stamps_in nodes)
-    → (mods new : Contents) → ((x : Place) → base_in new x ≡ base_in mods x) → Is_tabled (front ++ back) new → (q q' : List ℕ) → ((t : ℕ) → is_in t q ≡ true → is_in t q' ≡ true)
-    → (contents_after (base_in mods) front p ≡ v) ⊎ Is_awake (stamps_in nodes) (cell_of new p) e.stamp q'
+    → (mods new : Contents) → ((x : Place) → base_in new x ≡ base_in mods x) → IsTabled (front ++ back) new → (q q' : List ℕ) → ((t : ℕ) → is_in t q ≡ true → is_in t q' ≡ true)
+    → (contents_after (base_in mods) front p ≡ v) ⊎ IsAwake (stamps_in nodes) (cell_of new p) e.stamp q'
     → Covers (queue_of q) (base_in mods) (λ x. false) nodes → Covers (queue_of q') (base_in new) (λ x. false) (front ++ back)
 write-cut-covered front e back nodes p v was is distinct mods new base t q q' more awake c = go awake
   where
     c' : Covers (queue_of q) (base_in mods) (λ x. false) (front ++ record { stamp = e.stamp; node = Write p v; steps = e.steps } ∷ back)
     c' = subst (λ (l : List Entry). Covers (queue_of q) (base_in mods) (λ x. false) l) (was ∙ ap (λ x. front ++ x ∷ back) (entry-of e (Write p v) is)) c
 
-    go : (contents_after (base_in mods) front p ≡ v) ⊎ Is_awake (stamps_in nodes) (cell_of new p) e.stamp q' → Covers (queue_of q') (base_in new) (λ x. false) (front ++ back)
+    go : (contents_after (base_in mods) front p ≡ v) ⊎ IsAwake (stamps_in nodes) (cell_of new p) e.stamp q' → Covers (queue_of q') (base_in new) (λ x. false) (front ++ back)
     go (inl same) = covers-base (queue_of q') (base_in mods) (base_in new) (λ x. false) (front ++ back) (λ x. sym (base x))
         (write-idle (queue_of q) (queue_of q') (base_in mods) (λ x. false) front back e.stamp e.steps p v (keeps-among q q' front (λ z i. more z)) (keeps-among q q' back (λ z i. more z)) same c')
     go (inr woken) = covers-base (queue_of q') (base_in mods) (base_in new) (λ x. false) (front ++ back) (λ x. sym (base x))
@@ -149,8 +146,8 @@ write-cut-covered front e back nodes p v was is distinct mods new base t q q' mo
 
 -- a read is taken out, that was queued or not
 pub read-cut-covered : (front : List Entry) (e : Entry) (back nodes : List Entry) (p : Place) (v : Word) (u : UnitId) (x : ℕ) (args : List Word) → nodes ≡ front ++ e ∷ back → e.node ≡ Read p v u x args → Distinct (stamps_in nodes)
-    → (mods : Contents) → Is_tabled nodes mods → (q q' : List ℕ) → ((t : ℕ) → t ≢ e.stamp → is_in t q ≡ true → is_in t q' ≡ true)
-    → (is_in e.stamp q ≡ true → Is_awake (stamps_in nodes) (cell_of mods p) e.stamp q') → Covers (queue_of q) (base_in mods) (λ x. false) nodes → Covers (queue_of q') (base_in mods) (λ x. false) (front ++ back)
+    → (mods : Contents) → IsTabled nodes mods → (q q' : List ℕ) → ((t : ℕ) → t ≢ e.stamp → is_in t q ≡ true → is_in t q' ≡ true)
+    → (is_in e.stamp q ≡ true → IsAwake (stamps_in nodes) (cell_of mods p) e.stamp q') → Covers (queue_of q) (base_in mods) (λ x. false) nodes → Covers (queue_of q') (base_in mods) (λ x. false) (front ++ back)
 read-cut-covered front e back nodes p v u x args was is distinct mods t q q' more awake c = go (is_in e.stamp q) refl
   where
     parted : Distinct (stamps_in (front ++ e ∷ back))
@@ -185,7 +182,7 @@ read-cut-covered front e back nodes p v u x args was is distinct mods t q q' mor
 
 -- a read that was popped has the content of its moment
 pub settled-covered : (front : List Entry) (e : Entry) (back nodes : List Entry) (p : Place) (v w : Word) (u : UnitId) (x : ℕ) (args : List Word) → nodes ≡ front ++ e ∷ back → e.node ≡ Read p v u x args → Distinct (stamps_in nodes)
-    → (mods : Contents) → Is_tabled nodes mods → (q q' : List ℕ) → ((t : ℕ) → is_in t q ≡ true → is_in t q' ≡ true) → Is_awake (stamps_in nodes) (cell_of mods p) e.stamp q'
+    → (mods : Contents) → IsTabled nodes mods → (q q' : List ℕ) → ((t : ℕ) → is_in t q ≡ true → is_in t q' ≡ true) → IsAwake (stamps_in nodes) (cell_of mods p) e.stamp q'
     → contents_after (base_in mods) front p ≡ w → Covers (and_one e.stamp q) (base_in mods) (λ x. false) nodes
     → Covers (queue_of q') (base_in mods) (λ x. false) (front ++ record { stamp = e.stamp; node = Read p w u x args; steps = e.steps } ∷ back)
 settled-covered front e back nodes p v w u x args was is distinct mods t q q' more awake now c =

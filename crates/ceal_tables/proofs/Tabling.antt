@@ -22,7 +22,7 @@ use Rattle.ceal_order.specs.declared.stamp.Stamp.{Stamp}
 use Rattle.ceal_tables.proofs.Covering.{place-sym}
 use Rattle.ceal_tables.proofs.Parting.{writes-append, where-append, writes-among, where-among, where-skip, writes-skip, out-write, false-of}
 use Rattle.ceal_tables.proofs.Putting.{write-put, where-put, where-cut, own-apart, in-back, stamps_of-append}
-use Rattle.ceal_tables.specs.Lists.{Is_tabled, Is_keyed, reads_at, allocates, recalls, write_of, writes_in, stamps_where}
+use Rattle.ceal_tables.specs.Lists.{IsTabled, IsKeyed, reads_at, allocates, recalls, write_of, writes_in, stamps_where}
 use Rattle.ceal_theory.proofs.Taken.{words-same, key-same, unit-same}
 use Rattle.ceal_theory.specs.Levels.{same_read}
 use Rattle.ceal_theory.specs.Take.{same_key, same_words}
@@ -70,23 +70,20 @@ module _ (p : Place) (s : ℕ) (n : Node) (l : List WriteOf) where
   pub alloc-no-write : (b : BlockId) (key : Key) → n ≡ Alloc b key → write_of p s n l ≡ l
   alloc-no-write b key e = rw e refl
 
-  pub read-no-write : (q : Place) (v : Word) (u : UnitId) (x : ℕ) (args : List Word) → n ≡ Read q v u x args → write_of p s n l ≡ l
-  read-no-write q v u x args e = rw e refl
-
   pub end-no-write : (r : Stamp) → n ≡ End r → write_of p s n l ≡ l
   end-no-write r e = rw e refl
 
 module _ (front : List Entry) (e : Entry) (back : List Entry) where
-  -- a node that is no read and no write counts for nothing in the modifiables
+  -- a node that is no read and no write changes no modifiable
   pub tabled-in : (mods : Contents) → ((p : Place) → reads_at p e.node ≡ false) → ((p : Place) → write_of p e.stamp e.node (writes_in p back) ≡ writes_in p back)
-      → Is_tabled (front ++ back) mods → Is_tabled (front ++ e ∷ back) mods
+      → IsTabled (front ++ back) mods → IsTabled (front ++ e ∷ back) mods
   tabled-in mods r w t = record {
     writes = λ p. t.writes p ∙ sym (writes-skip p front e back (w p));
     reads = λ p. t.reads p ∙ sym (where-skip (reads_at p) front e back (r p));
   }
 
   pub tabled-out : (mods : Contents) → ((p : Place) → reads_at p e.node ≡ false) → ((p : Place) → write_of p e.stamp e.node (writes_in p back) ≡ writes_in p back)
-      → Is_tabled (front ++ e ∷ back) mods → Is_tabled (front ++ back) mods
+      → IsTabled (front ++ e ∷ back) mods → IsTabled (front ++ back) mods
   tabled-out mods r w t = record {
     writes = λ p. t.writes p ∙ writes-skip p front e back (w p);
     reads = λ p. t.reads p ∙ where-skip (reads_at p) front e back (r p);
@@ -94,21 +91,21 @@ module _ (front : List Entry) (e : Entry) (back : List Entry) where
 
   -- and one that is no read and no allocation in the memo
   pub keyed-in : (memo : Entries) → ((key : Key) → allocates key e.node ≡ false) → ((key : ReadKey) → recalls key e.node ≡ false)
-      → Is_keyed (front ++ back) memo → Is_keyed (front ++ e ∷ back) memo
+      → IsKeyed (front ++ back) memo → IsKeyed (front ++ e ∷ back) memo
   keyed-in memo a r t = record {
     allocs = λ key. t.allocs key ∙ sym (where-skip (allocates key) front e back (a key));
     reads = λ key. t.reads key ∙ sym (where-skip (recalls key) front e back (r key));
   }
 
   pub keyed-out : (memo : Entries) → ((key : Key) → allocates key e.node ≡ false) → ((key : ReadKey) → recalls key e.node ≡ false)
-      → Is_keyed (front ++ e ∷ back) memo → Is_keyed (front ++ back) memo
+      → IsKeyed (front ++ e ∷ back) memo → IsKeyed (front ++ back) memo
   keyed-out memo a r t = record {
     allocs = λ key. t.allocs key ∙ where-skip (allocates key) front e back (a key);
     reads = λ key. t.reads key ∙ where-skip (recalls key) front e back (r key);
   }
 
   -- what is in the lists
-  pub write-listed : (p : Place) (v : Word) → e.node ≡ Write p v → (mods : Contents) → Is_tabled (front ++ e ∷ back) mods → is_in e.stamp (stamps_of (cell_of mods p).writes) ≡ true
+  pub write-listed : (p : Place) (v : Word) → e.node ≡ Write p v → (mods : Contents) → IsTabled (front ++ e ∷ back) mods → is_in e.stamp (stamps_of (cell_of mods p).writes) ≡ true
   write-listed p v is mods t =
       rw (t.writes p, writes-append p front (e ∷ back), stamps_of-append (writes_in p front) (writes_in p (e ∷ back)))
       (in-back (stamps_of (writes_in p front)) (stamps_of (writes_in p (e ∷ back))) e.stamp here)
@@ -116,7 +113,7 @@ module _ (front : List Entry) (e : Entry) (back : List Entry) where
       here : is_in e.stamp (stamps_of (writes_in p (e ∷ back))) ≡ true
       here = rw (is, place-refl p) (in_head e.stamp (stamps_of (writes_in p back)))
 
-  pub read-listed : (p : Place) (v : Word) (u : UnitId) (x : ℕ) (args : List Word) → e.node ≡ Read p v u x args → (mods : Contents) → Is_tabled (front ++ e ∷ back) mods
+  pub read-listed : (p : Place) (v : Word) (u : UnitId) (x : ℕ) (args : List Word) → e.node ≡ Read p v u x args → (mods : Contents) → IsTabled (front ++ e ∷ back) mods
       → is_in e.stamp (cell_of mods p).reads ≡ true
   read-listed p v u x args is mods t =
       rw (t.reads p, where-append (reads_at p) front (e ∷ back)) (in-back (stamps_where (reads_at p) front) (stamps_where (reads_at p) (e ∷ back)) e.stamp here)
@@ -126,8 +123,8 @@ module _ (front : List Entry) (e : Entry) (back : List Entry) where
 
   module _ (distinct : Distinct (stamps_in (front ++ e ∷ back))) where
     -- a write is put in
-    pub tabled-write : (p : Place) (v : Word) → e.node ≡ Write p v → (mods new : Contents) → Is_tabled (front ++ back) mods
-        → Changes mods new p (with_write (stamps_in (front ++ e ∷ back)) e.stamp v (cell_of mods p)) → Is_tabled (front ++ e ∷ back) new
+    pub tabled-write : (p : Place) (v : Word) → e.node ≡ Write p v → (mods new : Contents) → IsTabled (front ++ back) mods
+        → Changes mods new p (with_write (stamps_in (front ++ e ∷ back)) e.stamp v (cell_of mods p)) → IsTabled (front ++ e ∷ back) new
     tabled-write p v is mods new t c = record { writes = λ q. writes q (same_place q p) refl; reads = λ q. reads q (same_place q p) refl }
       where
         no : (q : Place) → reads_at q e.node ≡ false
@@ -142,8 +139,8 @@ module _ (front : List Entry) (e : Entry) (back : List Entry) where
         reads q false k = ap (λ (x : Cell). x.reads) (c.others q (other-place q p k)) ∙ (t.reads q ∙ sym (where-skip (reads_at q) front e back (no q)))
 
     -- a read is put in
-    pub tabled-read : (p : Place) (v : Word) (u : UnitId) (x : ℕ) (args : List Word) → e.node ≡ Read p v u x args → (mods new : Contents) → Is_tabled (front ++ back) mods
-        → Changes mods new p (with_read (stamps_in (front ++ e ∷ back)) e.stamp (cell_of mods p)) → Is_tabled (front ++ e ∷ back) new
+    pub tabled-read : (p : Place) (v : Word) (u : UnitId) (x : ℕ) (args : List Word) → e.node ≡ Read p v u x args → (mods new : Contents) → IsTabled (front ++ back) mods
+        → Changes mods new p (with_read (stamps_in (front ++ e ∷ back)) e.stamp (cell_of mods p)) → IsTabled (front ++ e ∷ back) new
     tabled-read p v u x args is mods new t c = record { writes = λ q. writes q (same_place q p) refl; reads = λ q. reads q (same_place q p) refl }
       where
         no : (q : Place) → write_of q e.stamp e.node (writes_in q back) ≡ writes_in q back
@@ -161,8 +158,8 @@ module _ (front : List Entry) (e : Entry) (back : List Entry) where
         reads q false k = ap (λ (x : Cell). x.reads) (c.others q (other-place q p k)) ∙ (t.reads q ∙ sym (where-skip (reads_at q) front e back (rw (is, place-sym q p k) refl)))
 
     -- a write is taken out
-    pub tabled-cut-write : (p : Place) (v : Word) → e.node ≡ Write p v → (mods new : Contents) → Is_tabled (front ++ e ∷ back) mods
-        → Changes mods new p (without_write e.stamp (cell_of mods p)) → Is_tabled (front ++ back) new
+    pub tabled-cut-write : (p : Place) (v : Word) → e.node ≡ Write p v → (mods new : Contents) → IsTabled (front ++ e ∷ back) mods
+        → Changes mods new p (without_write e.stamp (cell_of mods p)) → IsTabled (front ++ back) new
     tabled-cut-write p v is mods new t c = record { writes = λ q. writes q (same_place q p) refl; reads = λ q. reads q (same_place q p) refl }
       where
         no : (q : Place) → reads_at q e.node ≡ false
@@ -186,8 +183,8 @@ module _ (front : List Entry) (e : Entry) (back : List Entry) where
         reads q false k = ap (λ (x : Cell). x.reads) (c.others q (other-place q p k)) ∙ (t.reads q ∙ where-skip (reads_at q) front e back (no q))
 
     -- a read is taken out
-    pub tabled-cut-read : (p : Place) (v : Word) (u : UnitId) (x : ℕ) (args : List Word) → e.node ≡ Read p v u x args → (mods new : Contents) → Is_tabled (front ++ e ∷ back) mods
-        → Changes mods new p (without_read e.stamp (cell_of mods p)) → Is_tabled (front ++ back) new
+    pub tabled-cut-read : (p : Place) (v : Word) (u : UnitId) (x : ℕ) (args : List Word) → e.node ≡ Read p v u x args → (mods new : Contents) → IsTabled (front ++ e ∷ back) mods
+        → Changes mods new p (without_read e.stamp (cell_of mods p)) → IsTabled (front ++ back) new
     tabled-cut-read p v u x args is mods new t c = record { writes = λ q. writes q (same_place q p) refl; reads = λ q. reads q (same_place q p) refl }
       where
         no : (q : Place) → write_of q e.stamp e.node (writes_in q back) ≡ writes_in q back
@@ -202,8 +199,8 @@ module _ (front : List Entry) (e : Entry) (back : List Entry) where
         reads q false k = ap (λ (x : Cell). x.reads) (c.others q (other-place q p k)) ∙ (t.reads q ∙ where-skip (reads_at q) front e back (rw (is, place-sym q p k) refl))
 
     -- an allocation is entered
-    pub keyed-alloc : (b : BlockId) (key : Key) → e.node ≡ Alloc b key → (memo new : Entries) → Is_keyed (front ++ back) memo
-        → AllocsChange key (with_stamp (stamps_in (front ++ e ∷ back)) e.stamp (allocs_of memo key)) memo new → Is_keyed (front ++ e ∷ back) new
+    pub keyed-alloc : (b : BlockId) (key : Key) → e.node ≡ Alloc b key → (memo new : Entries) → IsKeyed (front ++ back) memo
+        → AllocsChange key (with_stamp (stamps_in (front ++ e ∷ back)) e.stamp (allocs_of memo key)) memo new → IsKeyed (front ++ e ∷ back) new
     keyed-alloc b key is memo new t c = record {
       allocs = λ k. allocs k (same_key key k) refl;
       reads = λ k. c.reads k ∙ (t.reads k ∙ sym (where-skip (recalls k) front e back (rw is refl)));
@@ -221,8 +218,8 @@ module _ (front : List Entry) (e : Entry) (back : List Entry) where
         allocs k false h = c.others k (other k h) ∙ (t.allocs k ∙ sym (where-skip (allocates k) front e back (rw is h)))
 
     -- a read is entered
-    pub keyed-read : (key : ReadKey) (v : Word) → e.node ≡ Read key.place v key.unit key.var key.args → (memo new : Entries) → Is_keyed (front ++ back) memo
-        → ReadsChange key (with_stamp (stamps_in (front ++ e ∷ back)) e.stamp (reads_of memo key)) memo new → Is_keyed (front ++ e ∷ back) new
+    pub keyed-read : (key : ReadKey) (v : Word) → e.node ≡ Read key.place v key.unit key.var key.args → (memo new : Entries) → IsKeyed (front ++ back) memo
+        → ReadsChange key (with_stamp (stamps_in (front ++ e ∷ back)) e.stamp (reads_of memo key)) memo new → IsKeyed (front ++ e ∷ back) new
     keyed-read key v is memo new t c = record {
       allocs = λ k. c.allocs k ∙ (t.allocs k ∙ sym (where-skip (allocates k) front e back (rw is refl)));
       reads = λ k. reads k (same_as key k) refl;
@@ -240,21 +237,21 @@ module _ (front : List Entry) (e : Entry) (back : List Entry) where
         reads k false h = c.others k (other k h) ∙ (t.reads k ∙ sym (where-skip (recalls k) front e back (rw is h)))
 
     -- an entry is taken out
-    pub keyed-cut : (memo new : Entries) → Is_keyed (front ++ e ∷ back) memo
-        → ((key : ReadKey) → reads_of new key ≡ without e.stamp (reads_of memo key)) → ((key : Key) → allocs_of new key ≡ without e.stamp (allocs_of memo key)) → Is_keyed (front ++ back) new
+    pub keyed-cut : (memo new : Entries) → IsKeyed (front ++ e ∷ back) memo
+        → ((key : ReadKey) → reads_of new key ≡ without e.stamp (reads_of memo key)) → ((key : Key) → allocs_of new key ≡ without e.stamp (allocs_of memo key)) → IsKeyed (front ++ back) new
     keyed-cut memo new t r a = record {
       allocs = λ key. a key ∙ (ap (without e.stamp) (t.allocs key) ∙ where-cut front e back distinct (allocates key));
       reads = λ key. r key ∙ (ap (without e.stamp) (t.reads key) ∙ where-cut front e back distinct (recalls key));
     }
 
 -- a stamp that no node has stands in no list
-pub free-of : (s : ℕ) (nodes : List Entry) (mods : Contents) → Is_tabled nodes mods → has_node s nodes ≡ false → IsFree s mods
+pub free-of : (s : ℕ) (nodes : List Entry) (mods : Contents) → IsTabled nodes mods → has_node s nodes ≡ false → IsFree s mods
 free-of s nodes mods t h q = (
   false-of (is_in s (stamps_of (cell_of mods q).writes)) (λ k. sym (writes-among q nodes s (subst (λ (l : List WriteOf). is_in s (stamps_of l) ≡ true) (t.writes q) k)) ∙ h),
   false-of (is_in s (cell_of mods q).reads) (λ k. sym (where-among (reads_at q) nodes s (subst (λ (l : List ℕ). is_in s l ≡ true) (t.reads q) k)) ∙ h),
 )
 
-pub none-of : (s : ℕ) (nodes : List Entry) (memo : Entries) → Is_keyed nodes memo → has_node s nodes ≡ false → HasNone s memo
+pub none-of : (s : ℕ) (nodes : List Entry) (memo : Entries) → IsKeyed nodes memo → has_node s nodes ≡ false → HasNone s memo
 none-of s nodes memo t h = record {
   reads = λ key. false-of (is_in s (reads_of memo key)) (λ k. sym (where-among (recalls key) nodes s (subst (λ (l : List ℕ). is_in s l ≡ true) (t.reads key) k)) ∙ h);
   allocs = λ key. false-of (is_in s (allocs_of memo key)) (λ k. sym (where-among (allocates key) nodes s (subst (λ (l : List ℕ). is_in s l ≡ true) (t.allocs key) k)) ∙ h);

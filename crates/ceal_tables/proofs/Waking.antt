@@ -1,28 +1,27 @@
--- The read that is affected by a change behind a stamp is the first one of its place there, before any write of the place.
+-- The read that is affected by a change after a stamp is the first one of its place there, before any write of the place.
 use Rattle.std.proofs.Common.{◌≡◌, ℕ, ◌<◌, ◌≤◌, Bool, true, false, List, [], ◌∷◌, ◌++◌, refl, sym, ap, subst, ◌∙◌, arith, append_assoc}
 use Rattle.std.specs.Prelude.{⊤}
 use Rattle.ceal_base.specs.Operators.{same_place}
 use Rattle.ceal_base.specs.declared.word.Place.{Place}
 use Rattle.ceal_order.proofs.Places.{in_head, place_below, place_head}
 use Rattle.ceal_order.specs.Stamps.{Distinct, is_in, place}
-use Rattle.ceal_trace.proofs.Parts.{stamps-append}
 use Rattle.ceal_trace.specs.Nodes.{Entry, stamps_in}
 use Rattle.ceal_trace.specs.declared.node.Node.{Node}
 use Rattle.ceal_trace.specs.declared.node.Node.TheVariants.{Root, Alloc, Write, Read, End}
 use Rattle.ceal_mods.specs.Cell.{Sees}
 use Rattle.ceal_mods.specs.Writes.{Write as WriteOf, stamps_of}
 use Rattle.ceal_mods.specs.declared.cell.Cell.{Cell}
-use Rattle.ceal_tables.proofs.Covering.{First_queued, First_queued_by, First_queued_if}
-use Rattle.ceal_tables.proofs.Parting.{place-front, place-back, writes-append, where-append, writes-among, where-among}
-use Rattle.ceal_tables.proofs.Putting.{back-apart, in-back, in-parts, stamps_of-append}
+use Rattle.ceal_tables.proofs.Covering.{FirstQueued, FirstQueuedBy, FirstQueuedIf}
+use Rattle.ceal_tables.proofs.Parting.{place-front, place-back, writes-among, where-among}
+use Rattle.ceal_tables.proofs.Putting.{back-apart, in-back}
 use Rattle.ceal_tables.specs.Covered.{Queue}
 use Rattle.ceal_tables.specs.Lists.{write_of, writes_in, reads_at, stamps_where}
 
--- the order parts at the stamp behind which things change: those up to it, those between with nothing of the place, and the rest
+-- the order parts at the stamp after which things change: those up to it, those between with nothing of the place, and the rest
 module _ (front : List ℕ) (p : Place) (cell : Cell) (after : ℕ) (q' : Queue) where
-  -- a queued read of the place that stands behind the stamp, and no other such before it
-  abbrev pub Is_woken : List ℕ → Type 0
-  Is_woken order = (r : ℕ) → Sees order cell after r → ((other : ℕ) → Sees order cell after other → place r order ≤ place other order) → q' r ≡ true
+  -- a queued read of the place that stands after the stamp, and no other such before it
+  abbrev pub IsWoken : List ℕ → Type 0
+  IsWoken order = (r : ℕ) → Sees order cell after r → ((other : ℕ) → Sees order cell after other → place r order ≤ place other order) → q' r ≡ true
 
   first-read : (mid : List ℕ) (e : Entry) (es : List Entry)
       → Distinct (front ++ (mid ++ stamps_in (e ∷ es)))
@@ -31,7 +30,7 @@ module _ (front : List ℕ) (p : Place) (cell : Cell) (after : ℕ) (q' : Queue)
       → ((t : ℕ) → is_in t (stamps_of cell.writes) ≡ true → (is_in t front ≡ false) → is_in t (stamps_in (e ∷ es)) ≡ true)
       → ((t : ℕ) → is_in t cell.reads ≡ true → (is_in t front ≡ false) → is_in t (stamps_in (e ∷ es)) ≡ true)
       → is_in e.stamp cell.reads ≡ true
-      → Is_woken (front ++ (mid ++ stamps_in (e ∷ es))) → q' e.stamp ≡ true
+      → IsWoken (front ++ (mid ++ stamps_in (e ∷ es))) → q' e.stamp ≡ true
   first-read mid e es distinct up_to here writes reads there woken =
       woken e.stamp (record {
         there = there;
@@ -76,14 +75,14 @@ module _ (front : List ℕ) (p : Place) (cell : Cell) (after : ℕ) (q' : Queue)
           first-place : place e.stamp (stamps_in (e ∷ es)) ≡ 0
           first-place = place_head e.stamp (stamps_in es)
 
-  -- what is known of the nodes behind
+  -- what is known of the nodes after
   pub record Behind (order mid : List ℕ) (rest : List Entry) : Type 0 where
     pub parts : order ≡ front ++ (mid ++ stamps_in rest)
     pub writes : (t : ℕ) → is_in t (stamps_of cell.writes) ≡ true → is_in t front ≡ false → is_in t (stamps_of (writes_in p rest)) ≡ true
     pub reads : (t : ℕ) → is_in t cell.reads ≡ true → is_in t front ≡ false → is_in t (stamps_where (reads_at p) rest) ≡ true
     pub there : (t : ℕ) → is_in t (stamps_where (reads_at p) rest) ≡ true → is_in t cell.reads ≡ true
 
-  module _ (order : List ℕ) (distinct : Distinct order) (up_to : (t : ℕ) → is_in t front ≡ true → place t order ≤ place after order) (here : is_in after front ≡ true) (woken : Is_woken order) where
+  module _ (order : List ℕ) (distinct : Distinct order) (up_to : (t : ℕ) → is_in t front ≡ true → place t order ≤ place after order) (here : is_in after front ≡ true) (woken : IsWoken order) where
     one-more : (mid : List ℕ) (e : Entry) (es : List Entry) → order ≡ front ++ (mid ++ stamps_in (e ∷ es)) → order ≡ front ++ ((mid ++ e.stamp ∷ []) ++ stamps_in es)
     one-more mid e es h = h ∙ ap (λ (l : List ℕ). front ++ l) (sym (append_assoc mid (e.stamp ∷ []) (stamps_in es)))
 
@@ -96,12 +95,12 @@ module _ (front : List ℕ) (p : Place) (cell : Cell) (after : ℕ) (q' : Queue)
         (λ t i k. writes-among p (e ∷ es) t (b.writes t i k))
         (λ t i k. where-among (reads_at p) (e ∷ es) t (b.reads t i k))
         there
-        (subst (λ (l : List ℕ). Is_woken l) b.parts woken)
+        (subst (λ (l : List ℕ). IsWoken l) b.parts woken)
 
-    first-node : (mid : List ℕ) (e : Entry) (es : List Entry) → Behind order mid (e ∷ es) → ((mid : List ℕ) → Behind order mid es → First_queued q' p es) → First_queued q' p (e ∷ es)
+    first-node : (mid : List ℕ) (e : Entry) (es : List Entry) → Behind order mid (e ∷ es) → ((mid : List ℕ) → Behind order mid es → FirstQueued q' p es) → FirstQueued q' p (e ∷ es)
     first-node mid e es b on = go e.node refl
       where
-        skip : ((l : List WriteOf) → write_of p e.stamp e.node l ≡ l) → reads_at p e.node ≡ false → First_queued q' p es
+        skip : ((l : List WriteOf) → write_of p e.stamp e.node l ≡ l) → reads_at p e.node ≡ false → FirstQueued q' p es
         skip w r = on (mid ++ e.stamp ∷ []) (record {
           parts = one-more mid e es b.parts;
           writes = λ t i k. subst (λ (l : List WriteOf). is_in t (stamps_of l) ≡ true) (w (writes_in p es)) (b.writes t i k);
@@ -112,44 +111,21 @@ module _ (front : List ℕ) (p : Place) (cell : Cell) (after : ℕ) (q' : Queue)
             same : stamps_where (reads_at p) (e ∷ es) ≡ stamps_where (reads_at p) es
             same = rw r refl
 
-        go : (i : Node) → e.node ≡ i → First_queued_by q' p e.stamp i (First_queued q' p es)
+        go : (i : Node) → e.node ≡ i → FirstQueuedBy q' p e.stamp i (FirstQueued q' p es)
         go Root k = skip (λ l. rw k refl) (rw k refl)
         go (Alloc block key) k = skip (λ l. rw k refl) (rw k refl)
         go (End read) k = skip (λ l. rw k refl) (rw k refl)
         go (Write q v) k = by (same_place q p) refl
           where
-            by : (t : Bool) → same_place q p ≡ t → First_queued_if t ⊤ (First_queued q' p es)
+            by : (t : Bool) → same_place q p ≡ t → FirstQueuedIf t ⊤ (FirstQueued q' p es)
             by true s = tt
             by false s = skip (λ l. rw (k, s) refl) (rw k refl)
         go (Read q v u x args) k = by (same_place q p) refl
           where
-            by : (t : Bool) → same_place q p ≡ t → First_queued_if t (q' e.stamp ≡ true) (First_queued q' p es)
+            by : (t : Bool) → same_place q p ≡ t → FirstQueuedIf t (q' e.stamp ≡ true) (FirstQueued q' p es)
             by true s = read-here mid e es b (b.there e.stamp (rw (k, s) (in_head e.stamp (stamps_where (reads_at p) es))))
             by false s = skip (λ l. rw k refl) (rw (k, s) refl)
 
-    pub first-woken : (mid : List ℕ) (rest : List Entry) → Behind order mid rest → First_queued q' p rest
+    pub first-woken : (mid : List ℕ) (rest : List Entry) → Behind order mid rest → FirstQueued q' p rest
     first-woken mid [] b = tt
     first-woken mid (e ∷ es) b = first-node mid e es b (λ mid' b'. first-woken mid' es b')
-
--- Where the modifiable has the writes and reads of the nodes, and what is woken behind the last node of the front is the
--- read that is affected, the first node of the place behind it is queued if it is a read.
-pub affected-first : (front back : List Entry) (p : Place) (cell : Cell) (after : ℕ) (q' : Queue) → Distinct (stamps_in (front ++ back))
-    → cell.writes ≡ writes_in p (front ++ back) → cell.reads ≡ stamps_where (reads_at p) (front ++ back)
-    → is_in after (stamps_in front) ≡ true → ((t : ℕ) → is_in t (stamps_in front) ≡ true → place t (stamps_in (front ++ back)) ≤ place after (stamps_in (front ++ back)))
-    → Is_woken (stamps_in front) p cell after q' (stamps_in (front ++ back)) → First_queued q' p back
-affected-first front back p cell after q' distinct w r here up_to woken =
-    first-woken (stamps_in front) p cell after q' (stamps_in (front ++ back)) distinct up_to here woken [] back (record {
-      parts = stamps-append front back;
-      writes = λ t i k. in-parts (stamps_of (writes_in p front)) (stamps_of (writes_in p back)) t
-          (subst (λ (l : List ℕ). is_in t l ≡ true) (stamps_of-append (writes_in p front) (writes_in p back)) (subst (λ (l : List WriteOf). is_in t (stamps_of l) ≡ true) (w ∙ writes-append p front back) i))
-          (none-of (stamps_of (writes_in p front)) t k (λ h. writes-among p front t h));
-      reads = λ t i k. in-parts (stamps_where (reads_at p) front) (stamps_where (reads_at p) back) t (subst (λ (l : List ℕ). is_in t l ≡ true) (r ∙ where-append (reads_at p) front back) i) (none-of (stamps_where (reads_at p) front) t k (λ h. where-among (reads_at p) front t h));
-      there = λ t i. subst (λ (l : List ℕ). is_in t l ≡ true) (sym (r ∙ where-append (reads_at p) front back)) (in-back (stamps_where (reads_at p) front) (stamps_where (reads_at p) back) t i);
-    })
-  where
-    none-of : (xs : List ℕ) (t : ℕ) → is_in t (stamps_in front) ≡ false → (is_in t xs ≡ true → is_in t (stamps_in front) ≡ true) → is_in t xs ≡ false
-    none-of xs t k h = go (is_in t xs) refl
-      where
-        go : (b : Bool) → is_in t xs ≡ b → b ≡ false
-        go false e = refl
-        go true e = absurd (let no : true ≡ false = sym (h e) ∙ k in cc)

@@ -11,7 +11,7 @@ use Rattle.ceal_mods.specs.declared.cell.Cell.{Cell}
 use Rattle.ceal_order.specs.Stamps.{is_in, place}
 use Rattle.ceal_queue.specs.Queue.{Follows as Queue_follows}
 use Rattle.ceal_tables.specs.Covered.{Queue, queue_of, Covers, contents_after}
-use Rattle.ceal_tables.specs.Lists.{Is_tabled, Is_keyed, before}
+use Rattle.ceal_tables.specs.Lists.{IsTabled, IsKeyed, before}
 use Rattle.ceal_tables.specs.declared.tables.Tables.{Tables}
 use Rattle.ceal_trace.specs.Nodes.{Entry, stamps_in, node_at, position, is_read, IsTrace, NoLooseEnd}
 use Rattle.ceal_trace.specs.declared.node.Node.{Node}
@@ -26,36 +26,36 @@ abbrev pub contents_at : ℕ → Tables → Store
 contents_at s t = contents_after (base_in t.mods) (before s t.trace.nodes)
 
 -- these stamps are those of reads
-abbrev pub Are_reads : List Entry → List ℕ → Type 0
-Are_reads nodes stamps = (s : ℕ) → is_in s stamps ≡ true → is_read (node_at s nodes) ≡ true
+abbrev pub AreReads : List Entry → List ℕ → Type 0
+AreReads nodes stamps = (s : ℕ) → is_in s stamps ≡ true → is_read (node_at s nodes) ≡ true
 
 -- the nodes are those of a trace, the modifiables and the memo have theirs, and what is queued are reads of theirs
-pub record In_step (t : Tables) : Type 0 where
+pub record InStep (t : Tables) : Type 0 where
   pub whole : IsTrace t.trace
   pub closed : NoLooseEnd t.trace.nodes
-  pub tabled : Is_tabled t.trace.nodes t.mods
-  pub keyed : Is_keyed t.trace.nodes t.memo
-  pub queued : Are_reads t.trace.nodes t.stale.stamps
+  pub tabled : IsTabled t.trace.nodes t.mods
+  pub keyed : IsKeyed t.trace.nodes t.memo
+  pub queued : AreReads t.trace.nodes t.stale.stamps
   pub mods : Mods_follow (stamps_in t.trace.nodes) t.mods
   pub memo : Memo_follows (stamps_in t.trace.nodes) t.memo
   pub stale : Queue_follows (stamps_in t.trace.nodes) t.stale
 
 -- each read that has not the content of its moment is covered by this queue
-abbrev pub Covered_by : Queue → Tables → Type 0
-Covered_by q t = Covers q (base_in t.mods) (λ p. false) t.trace.nodes
+abbrev pub CoveredBy : Queue → Tables → Type 0
+CoveredBy q t = Covers q (base_in t.mods) (λ p. false) t.trace.nodes
 
 -- the tables are in step, and the queue covers each read that has not the content of its moment
 pub record Kept (t : Tables) : Type 0 where
-  pub step : In_step t
-  pub covered : Covered_by (queue_of t.stale.stamps) t
+  pub step : InStep t
+  pub covered : CoveredBy (queue_of t.stale.stamps) t
 
--- what is queued stands behind a node
-abbrev pub Queued_behind : ℕ → Tables → Type 0
-Queued_behind s t = (r : ℕ) → is_in r t.stale.stamps ≡ true → position s t.trace.nodes < position r t.trace.nodes
+-- what is queued stands after a node
+abbrev pub QueuedBehind : ℕ → Tables → Type 0
+QueuedBehind s t = (r : ℕ) → is_in r t.stale.stamps ≡ true → position s t.trace.nodes < position r t.trace.nodes
 
 -- what is queued does not stand before a node
-abbrev pub Queued_from : ℕ → Tables → Type 0
-Queued_from s t = (r : ℕ) → is_in r t.stale.stamps ≡ true → position s t.trace.nodes ≤ position r t.trace.nodes
+abbrev pub QueuedFrom : ℕ → Tables → Type 0
+QueuedFrom s t = (r : ℕ) → is_in r t.stale.stamps ≡ true → position s t.trace.nodes ≤ position r t.trace.nodes
 
 -- a node that records a read of this value
 pub record Records (p : Place) (v : Word) (node : Option Node) : Type 0 where
@@ -65,16 +65,16 @@ pub record Records (p : Place) (v : Word) (node : Option Node) : Type 0 where
   pub is : node ≡ Some (Read p v unit var args)
 
 -- a read has not the content of its moment
-pub record Is_stale (s : ℕ) (t : Tables) : Type 0 where
+pub record IsStale (s : ℕ) (t : Tables) : Type 0 where
   pub place : Place
   pub value : Word
   pub read : Records place value (node_at s t.trace.nodes)
   pub differs : value ≢ contents_at s t place
 
 -- a read has the content of its moment
-abbrev pub Is_honest : ℕ → Tables → Type 0
-Is_honest s t = (p : Place) (v : Word) → Records p v (node_at s t.trace.nodes) → v ≡ contents_at s t p
+abbrev pub IsHonestRecord : ℕ → Tables → Type 0
+IsHonestRecord s t = (p : Place) (v : Word) → Records p v (node_at s t.trace.nodes) → v ≡ contents_at s t p
 
--- the first read that sees the change behind a stamp is queued
-abbrev pub Is_awake : List ℕ → Cell → ℕ → List ℕ → Type 0
-Is_awake order cell after queue = (r : ℕ) → Sees order cell after r → ((other : ℕ) → Sees order cell after other → place r order ≤ place other order) → is_in r queue ≡ true
+-- the first read that sees the change after a stamp is queued
+abbrev pub IsAwake : List ℕ → Cell → ℕ → List ℕ → Type 0
+IsAwake order cell after queue = (r : ℕ) → Sees order cell after r → ((other : ℕ) → Sees order cell after other → place r order ≤ place other order) → is_in r queue ≡ true

@@ -1,3 +1,4 @@
+-- what the crate promises
 pub mod Lists
 pub mod Covered
 pub mod Kept

@@ -44,12 +44,12 @@ writes_in p [] = []
 writes_in p (e ∷ es) = write_of p e.stamp e.node (writes_in p es)
 
 -- the modifiables have the writes and the reads of the nodes
-pub record Is_tabled (nodes : List Entry) (mods : Contents) : Type 0 where
+pub record IsTabled (nodes : List Entry) (mods : Contents) : Type 0 where
   pub writes : (p : Place) → (cell_of mods p).writes ≡ writes_in p nodes
   pub reads : (p : Place) → (cell_of mods p).reads ≡ stamps_where (reads_at p) nodes
 
 -- the memo has the allocations and the reads of the nodes
-pub record Is_keyed (nodes : List Entry) (memo : Entries) : Type 0 where
+pub record IsKeyed (nodes : List Entry) (memo : Entries) : Type 0 where
   pub allocs : (key : Key) → allocs_of memo key ≡ stamps_where (allocates key) nodes
   pub reads : (key : ReadKey) → reads_of memo key ≡ stamps_where (recalls key) nodes
 
@@ -63,11 +63,11 @@ abbrev pub up_to : ℕ → List Entry → List Entry
 up_to s [] = []
 up_to s (e ∷ es) = if e.stamp == s then e ∷ [] else e ∷ up_to s es
 
--- the nodes behind one
+-- the nodes after one
 abbrev pub behind : ℕ → List Entry → List Entry
 behind s [] = []
 behind s (e ∷ es) = if e.stamp == s then es else behind s es
 
--- the nodes behind one and before another
+-- the nodes after one and before another
 abbrev pub between : ℕ → ℕ → List Entry → List Entry
 between after until nodes = before until (behind after nodes)

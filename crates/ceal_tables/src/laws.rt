@@ -4,27 +4,28 @@ ghost use Rattle.std.specs.Prelude.{◌≡◌, ◌<◌, ◌≤◌, ℕ, List, tr
 ghost use Rattle.ceal_code.specs.Program.{Code};
 ghost use Rattle.ceal_code.specs.Replay.{Store};
 ghost use Rattle.ceal_order.specs.Stamps.{is_in};
-ghost use Rattle.ceal_tables.specs.AsItems.{nodes_of, Starts_all};
+ghost use Rattle.ceal_tables.specs.AsItems.{nodes_of, StartsAll};
 ghost use Rattle.ceal_tables.specs.Covered.{Queue, Covers};
-ghost use Rattle.ceal_tables.specs.Kept.{Kept, Queued_behind, Queued_from, Is_honest};
+ghost use Rattle.ceal_tables.specs.Kept.{Kept, QueuedBehind, QueuedFrom, IsHonestRecord};
 ghost use Rattle.ceal_tables.specs.declared.tables.Tables.{Tables};
 ghost use Rattle.ceal_theory.specs.Cover.{Covered, none_waits};
 ghost use Rattle.ceal_trace.specs.Nodes.{Entry, position};
 
-/// Laws: a read up to a node behind which all that is queued stands has the content of its moment; so has one before a node
+/// Laws: a read up to a node after which all that is queued stands has the content of its moment; so has one before a node
 /// before which nothing is queued, and where nothing is queued each one.
 pub fn unqueued_reads_are_honest()
-    ensures behind { (t : Tables) → Kept t → (s : ℕ) → Queued_behind s t → (r : ℕ)
-        → position r t.trace.nodes ≤ position s t.trace.nodes → Is_honest r t }
-    ensures from { (t : Tables) → Kept t → (s : ℕ) → Queued_from s t → (r : ℕ)
-        → position r t.trace.nodes < position s t.trace.nodes → Is_honest r t }
+    ensures behind { (t : Tables) → Kept t → (s : ℕ) → QueuedBehind s t → (r : ℕ)
+        → position r t.trace.nodes ≤ position s t.trace.nodes → IsHonestRecord r t }
+    ensures from { (t : Tables) → Kept t → (s : ℕ) → QueuedFrom s t → (r : ℕ)
+        → position r t.trace.nodes < position s t.trace.nodes → IsHonestRecord r t }
     ensures none { (t : Tables) → Kept t → ((s : ℕ) → is_in s t.stale.stamps ≡ false) → (r : ℕ)
-        → Is_honest r t }
+        → IsHonestRecord r t }
 {}
 
 /// A law: what is covered is so in the words of the theory of repair, where each allocation stands where the modifiables of
 /// its block hold their defaults. The lists of the modifiables know nothing of allocations.
 pub fn covered_as_items()
-    ensures law { (code : Code) (q : Queue) (s : Store) (nodes : List Entry) → Starts_all code s nodes → Covers q s (λ p. false) nodes
+    ensures law { (code : Code) (q : Queue) (s : Store) (nodes : List Entry)
+        → StartsAll code s nodes → Covers q s (λ p. false) nodes
         → Covered code q s none_waits (nodes_of nodes) }
 {}

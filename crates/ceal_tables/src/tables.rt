@@ -11,7 +11,7 @@ ghost use Rattle.ceal_mods.specs.Mods.{cell_of, IsUntouched, Follows as Mods_fol
 ghost use Rattle.ceal_order.specs.Stamps.{is_in, head_of, place as rank};
 ghost use Rattle.ceal_queue.specs.Queue.{IsBefore, IsWithout, Follows as Queue_follows};
 ghost use Rattle.ceal_tables.specs.Covered.{and_one, contents_after};
-ghost use Rattle.ceal_tables.specs.Kept.{In_step, Kept, Covered_by, Queued_behind, Queued_from, Records, Is_stale, Is_honest, Is_awake, base_in, contents_at};
+ghost use Rattle.ceal_tables.specs.Kept.{InStep, Kept, CoveredBy, QueuedBehind, QueuedFrom, Records, IsStale, IsHonestRecord, IsAwake, base_in, contents_at};
 ghost use Rattle.ceal_tables.specs.Lists.{allocates, recalls, stamps_where, up_to, between};
 ghost use Rattle.ceal_trace.specs.Nodes.{stamps_in, has_node, node_at, position, is_read, end_in, with_entry_after, without_entry, with_value, with_steps, new_entry, Inserted};
 ghost use Rattle.ceal_trace.specs.declared.node.Node.TheVariants.{Root, Alloc, Write, Read, End};
@@ -75,7 +75,8 @@ impl Tables {
             → base_in self.new.mods p ≡ stored (base_in self.old.mods) place value p) }
         ensures err { OnErr result (self.new.mods ≡ self.old.mods) }
         ensures queue_err { OnErr result (self.new.stale.stamps ≡ self.old.stale.stamps) }
-        ensures only { (s : ℕ) → IsTrue (is_in s self.new.stale.stamps) → is_in s self.old.stale.stamps ≡ false
+        ensures only { (s : ℕ) → IsTrue (is_in s self.new.stale.stamps)
+            → is_in s self.old.stale.stamps ≡ false
             → IsTrue (is_in s (cell_of self.old.mods place).reads) }
         ensures kept { Kept self.new }
     {
@@ -91,14 +92,15 @@ impl Tables {
         requires kept { Kept self.old }
         requires here { IsTrue (has_node after.0 self.old.trace.nodes) }
         ensures nodes { IfOk result (λ s.
-            self.new.trace.nodes ≡ with_entry_after after.0 (new_entry s.0 (Alloc block key.now)) self.old.trace.nodes) }
+            self.new.trace.nodes
+            ≡ with_entry_after after.0 (new_entry s.0 (Alloc block key.now)) self.old.trace.nodes) }
         ensures inserted { IfOk result
             (λ s. Inserted after.0 s.0
             (Alloc block key.now) self.old.trace.nodes self.new.trace.nodes) }
         ensures mods { OnOk result (self.new.mods ≡ self.old.mods) }
         ensures queue { OnOk result (self.new.stale ≡ self.old.stale) }
         ensures behind { IfOk result
-            (λ s. Queued_behind after.0 self.old → Queued_behind s.0 self.new) }
+            (λ s. QueuedBehind after.0 self.old → QueuedBehind s.0 self.new) }
         ensures kept { OnOk result (Kept self.new) }
     {
         mods_follow();
@@ -117,14 +119,15 @@ impl Tables {
         requires kept { Kept self.old }
         requires here { IsTrue (has_node after.0 self.old.trace.nodes) }
         ensures nodes { IfOk result (λ s.
-            self.new.trace.nodes ≡ with_entry_after after.0 (new_entry s.0 (Write place value)) self.old.trace.nodes) }
+            self.new.trace.nodes
+            ≡ with_entry_after after.0 (new_entry s.0 (Write place value)) self.old.trace.nodes) }
         ensures inserted { IfOk result
             (λ s. Inserted after.0 s.0
             (Write place value) self.old.trace.nodes self.new.trace.nodes) }
         ensures bases { OnOk result
             ((p : PlaceOf) → base_in self.new.mods p ≡ base_in self.old.mods p) }
         ensures behind { IfOk result
-            (λ s. Queued_behind after.0 self.old → Queued_behind s.0 self.new) }
+            (λ s. QueuedBehind after.0 self.old → QueuedBehind s.0 self.new) }
         ensures kept { OnOk result (Kept self.new) }
     {
         mods_follow();
@@ -139,7 +142,7 @@ impl Tables {
         Ok(added)
     }
 
-    /// What a place holds directly behind a node.
+    /// What a place holds directly after a node.
     pub fn value_behind(&mut self, place: Place, after: Stamp) -> Word
         requires kept { Kept self.old }
         requires here { IsTrue (has_node after.0 self.old.trace.nodes) }
@@ -162,17 +165,22 @@ impl Tables {
         requires kept { Kept self.old }
         requires here { IsTrue (has_node after.0 self.old.trace.nodes) }
         ensures value { IfOk result (λ b.
-            b.value ≡ contents_after (base_in self.old.mods) (up_to after.0 self.old.trace.nodes) key.now.place) }
+            b.value ≡ contents_after (base_in self.old.mods)
+            (up_to after.0 self.old.trace.nodes) key.now.place) }
         ensures nodes { IfOk result (λ b. self.new.trace.nodes
-            ≡ with_entry_after after.0 (new_entry b.read.0 (Read key.now.place b.value key.now.unit key.now.var key.now.args)) self.old.trace.nodes) }
+            ≡ with_entry_after after.0
+            (new_entry b.read.0 (Read key.now.place b.value key.now.unit key.now.var key.now.args))
+            self.old.trace.nodes) }
         ensures inserted { IfOk result (λ b.
-            Inserted after.0 b.read.0 (Read key.now.place b.value key.now.unit key.now.var key.now.args) self.old.trace.nodes self.new.trace.nodes) }
+            Inserted after.0 b.read.0
+            (Read key.now.place b.value key.now.unit key.now.var key.now.args) self.old.trace.nodes
+            self.new.trace.nodes) }
         ensures open { IfOk result (λ b. end_in b.read.0 self.new.trace.nodes ≡ None) }
         ensures bases { OnOk result
             ((p : PlaceOf) → base_in self.new.mods p ≡ base_in self.old.mods p) }
         ensures queue { OnOk result (self.new.stale ≡ self.old.stale) }
         ensures behind { IfOk result
-            (λ b. Queued_behind after.0 self.old → Queued_behind b.read.0 self.new) }
+            (λ b. QueuedBehind after.0 self.old → QueuedBehind b.read.0 self.new) }
         ensures kept { OnOk result (Kept self.new) }
     {
         mods_follow();
@@ -199,14 +207,15 @@ impl Tables {
         requires order { position read.0 self.old.trace.nodes
             ≤ position after.0 self.old.trace.nodes }
         ensures nodes { IfOk result (λ s.
-            self.new.trace.nodes ≡ with_entry_after after.0 (new_entry s.0 (End read)) self.old.trace.nodes) }
+            self.new.trace.nodes
+            ≡ with_entry_after after.0 (new_entry s.0 (End read)) self.old.trace.nodes) }
         ensures inserted { IfOk result
             (λ s. Inserted after.0 s.0 (End read) self.old.trace.nodes self.new.trace.nodes) }
         ensures finished { IfOk result (λ s. end_in read.0 self.new.trace.nodes ≡ Some s.0) }
         ensures mods { OnOk result (self.new.mods ≡ self.old.mods) }
         ensures queue { OnOk result (self.new.stale ≡ self.old.stale) }
         ensures behind { IfOk result
-            (λ s. Queued_behind after.0 self.old → Queued_behind s.0 self.new) }
+            (λ s. QueuedBehind after.0 self.old → QueuedBehind s.0 self.new) }
         ensures kept { OnOk result (Kept self.new) }
     {
         mods_follow();
@@ -252,8 +261,9 @@ impl Tables {
             (self.new.trace.nodes ≡ without_entry write.0 self.old.trace.nodes) }
         ensures bases { OnOk result
             ((p : PlaceOf) → base_in self.new.mods p ≡ base_in self.old.mods p) }
-        ensures behind { OnOk result ((s : ℕ) → position s self.old.trace.nodes < position write.0 self.old.trace.nodes
-            → Queued_behind s self.old → Queued_behind s self.new) }
+        ensures behind { OnOk result
+            ((s : ℕ) → position s self.old.trace.nodes < position write.0 self.old.trace.nodes
+            → QueuedBehind s self.old → QueuedBehind s self.new) }
         ensures kept { OnOk result (Kept self.new) }
     {
         self.stale.reserve(1)?;
@@ -269,13 +279,14 @@ impl Tables {
         requires kept { Kept self.old }
         requires here { IsTrue (is_read (node_at read.0 self.old.trace.nodes)) }
         requires finished { IsSome (end_in read.0 self.old.trace.nodes) }
-        requires first { Queued_from read.0 self.old }
+        requires first { QueuedFrom read.0 self.old }
         ensures nodes { (end : ℕ) × (end_in read.0 self.old.trace.nodes ≡ Some end)
-            × (self.new.trace.nodes ≡ without_entry end (without_entry read.0 self.old.trace.nodes)) }
+            × (self.new.trace.nodes
+            ≡ without_entry end (without_entry read.0 self.old.trace.nodes)) }
         ensures bases { (p : PlaceOf) → base_in self.new.mods p ≡ base_in self.old.mods p }
         ensures behind { (s : ℕ)
             → position s self.old.trace.nodes < position read.0 self.old.trace.nodes
-            → Queued_behind s self.new }
+            → QueuedBehind s self.new }
         ensures kept { Kept self.new }
     {
         let end = match self.trace.end_of(read) {
@@ -290,7 +301,7 @@ impl Tables {
         drop(self.trace.remove(end));
     }
 
-    /// The earliest allocation with a key behind one node and before another.
+    /// The earliest allocation with a key after one node and before another.
     pub fn find_alloc(&self, key: &Key, after: Stamp, until: Stamp) -> Option<Stamp>
         requires kept { Kept self.now }
         requires after { IsTrue (has_node after.0 self.now.trace.nodes) }
@@ -298,12 +309,13 @@ impl Tables {
         requires order { position after.0 self.now.trace.nodes
             < position until.0 self.now.trace.nodes }
         ensures { option_map (λ s. s.0) result
-            ≡ head_of (stamps_where (allocates key.now) (between after.0 until.0 self.now.trace.nodes)) }
+            ≡ head_of
+            (stamps_where (allocates key.now) (between after.0 until.0 self.now.trace.nodes)) }
     {
         self.memo.first_alloc(self.trace.order(), key, after, until)
     }
 
-    /// The earliest read with a key behind one node and before another.
+    /// The earliest read with a key after one node and before another.
     pub fn find_read(&self, key: &ReadKey, after: Stamp, until: Stamp) -> Option<Stamp>
         requires kept { Kept self.now }
         requires after { IsTrue (has_node after.0 self.now.trace.nodes) }
@@ -311,7 +323,8 @@ impl Tables {
         requires order { position after.0 self.now.trace.nodes
             < position until.0 self.now.trace.nodes }
         ensures { option_map (λ s. s.0) result
-            ≡ head_of (stamps_where (recalls key.now) (between after.0 until.0 self.now.trace.nodes)) }
+            ≡ head_of
+            (stamps_where (recalls key.now) (between after.0 until.0 self.now.trace.nodes)) }
     {
         self.memo.first_read(self.trace.order(), key, after, until)
     }
@@ -321,15 +334,17 @@ impl Tables {
     pub fn look(&mut self, read: Stamp) -> bool
         requires kept { Kept self.old }
         requires here { IsTrue (is_read (node_at read.0 self.old.trace.nodes)) }
-        requires first { Queued_from read.0 self.old }
-        ensures stale { IsTrue result → Is_stale read.0 self.old }
-        ensures honest { result ≡ false → Is_honest read.0 self.old }
-        ensures nodes { IsTrue result → (p : PlaceOf) × (v : WordOf) × Records p v (node_at read.0 self.old.trace.nodes)
-            × (self.new.trace.nodes ≡ with_value read.0 (contents_at read.0 self.old p) self.old.trace.nodes) }
+        requires first { QueuedFrom read.0 self.old }
+        ensures stale { IsTrue result → IsStale read.0 self.old }
+        ensures honest { result ≡ false → IsHonestRecord read.0 self.old }
+        ensures nodes { IsTrue result
+            → (p : PlaceOf) × (v : WordOf) × Records p v (node_at read.0 self.old.trace.nodes)
+            × (self.new.trace.nodes
+            ≡ with_value read.0 (contents_at read.0 self.old p) self.old.trace.nodes) }
         ensures same { result ≡ false → self.new.trace ≡ self.old.trace }
         ensures cells { self.new.mods.cells ≡ self.old.mods.cells }
         ensures memo { self.new.memo ≡ self.old.memo }
-        ensures behind { Queued_behind read.0 self.new }
+        ensures behind { QueuedBehind read.0 self.new }
         ensures kept { Kept self.new }
     {
         if self.unqueue(read) {
@@ -344,10 +359,12 @@ impl Tables {
     pub fn first_stale(&mut self, until: Option<Stamp>) -> Option<Stamp>
         requires kept { Kept self.old }
         requires until { ForSome until (λ u. IsTrue (has_node u.0 self.old.trace.nodes)) }
-        ensures stale { IfSome result (λ s. Is_stale s.0 self.old) }
-        ensures nodes { IfSome result (λ s. (p : PlaceOf) × (v : WordOf) × Records p v (node_at s.0 self.old.trace.nodes)
-            × (self.new.trace.nodes ≡ with_value s.0 (contents_at s.0 self.old p) self.old.trace.nodes)) }
-        ensures behind { IfSome result (λ s. Queued_behind s.0 self.new) }
+        ensures stale { IfSome result (λ s. IsStale s.0 self.old) }
+        ensures nodes { IfSome result
+            (λ s. (p : PlaceOf) × (v : WordOf) × Records p v (node_at s.0 self.old.trace.nodes)
+            × (self.new.trace.nodes
+            ≡ with_value s.0 (contents_at s.0 self.old p) self.old.trace.nodes)) }
+        ensures behind { IfSome result (λ s. QueuedBehind s.0 self.new) }
         ensures limit { IfSome result (λ s. IsBefore (stamps_in self.old.trace.nodes) until s.0) }
         ensures none { IfNone result (self.new.trace ≡ self.old.trace) }
         ensures left { IfNone result ((s : ℕ) → is_in s self.new.stale.stamps ≡ true
@@ -365,7 +382,7 @@ impl Tables {
         None
     }
 
-    // Queues the read that a change of a place behind a node affects; there is room for it.
+    // Queues the read that a change of a place after a node affects; there is room for it.
     fn wake(&mut self, place: Place, after: Stamp)
         requires here { IsTrue (has_node after.0 self.old.trace.nodes) }
         requires mods { Mods_follow (stamps_in self.old.trace.nodes) self.old.mods }
@@ -377,11 +394,14 @@ impl Tables {
         ensures stale { Queue_follows (stamps_in self.new.trace.nodes) self.new.stale }
         ensures more { (s : ℕ) → IsTrue (is_in s self.old.stale.stamps)
             → IsTrue (is_in s self.new.stale.stamps) }
-        ensures only { (s : ℕ) → is_in s self.old.stale.stamps ≡ false → is_in s self.new.stale.stamps ≡ true
+        ensures only { (s : ℕ) → is_in s self.old.stale.stamps ≡ false
+            → is_in s self.new.stale.stamps ≡ true
             → is_in s (cell_of self.old.mods place).reads ≡ true }
-        ensures ahead { (s : ℕ) → is_in s self.old.stale.stamps ≡ false → is_in s self.new.stale.stamps ≡ true
-            → rank after.0 (stamps_in self.old.trace.nodes) < rank s (stamps_in self.old.trace.nodes) }
-        ensures woken { Is_awake (stamps_in self.old.trace.nodes)
+        ensures ahead { (s : ℕ) → is_in s self.old.stale.stamps ≡ false
+            → is_in s self.new.stale.stamps ≡ true
+            → rank after.0 (stamps_in self.old.trace.nodes)
+            < rank s (stamps_in self.old.trace.nodes) }
+        ensures woken { IsAwake (stamps_in self.old.trace.nodes)
             (cell_of self.old.mods place) after.0 self.new.stale.stamps }
     {
         if let Some(read) = self.mods.affected(self.trace.order(), place, after) {
@@ -395,7 +415,8 @@ impl Tables {
         requires here { (v : WordOf)
             × (node_at write.0 self.old.trace.nodes ≡ Some (Write place v)) }
         ensures same { IsTrue result
-            → node_at write.0 self.old.trace.nodes ≡ Some (Write place (contents_at write.0 self.old place)) }
+            → node_at write.0 self.old.trace.nodes
+            ≡ Some (Write place (contents_at write.0 self.old place)) }
         ensures trace { self.new.trace ≡ self.old.trace }
         ensures cells { self.new.mods.cells ≡ self.old.mods.cells }
         ensures queue { self.new.stale ≡ self.old.stale }
@@ -407,7 +428,7 @@ impl Tables {
         is_same(value, held)
     }
 
-    // Queues the read that a change of a place behind a node affects, unless nothing has changed.
+    // Queues the read that a change of a place after a node affects, unless nothing has changed.
     fn wake_unless(&mut self, same: bool, place: Place, after: Stamp)
         requires here { IsTrue (has_node after.0 self.old.trace.nodes) }
         requires mods { Mods_follow (stamps_in self.old.trace.nodes) self.old.mods }
@@ -419,12 +440,16 @@ impl Tables {
         ensures stale { Queue_follows (stamps_in self.new.trace.nodes) self.new.stale }
         ensures more { (s : ℕ) → IsTrue (is_in s self.old.stale.stamps)
             → IsTrue (is_in s self.new.stale.stamps) }
-        ensures only { (s : ℕ) → is_in s self.old.stale.stamps ≡ false → is_in s self.new.stale.stamps ≡ true
+        ensures only { (s : ℕ) → is_in s self.old.stale.stamps ≡ false
+            → is_in s self.new.stale.stamps ≡ true
             → is_in s (cell_of self.old.mods place).reads ≡ true }
-        ensures ahead { (s : ℕ) → is_in s self.old.stale.stamps ≡ false → is_in s self.new.stale.stamps ≡ true
-            → rank after.0 (stamps_in self.old.trace.nodes) < rank s (stamps_in self.old.trace.nodes) }
+        ensures ahead { (s : ℕ) → is_in s self.old.stale.stamps ≡ false
+            → is_in s self.new.stale.stamps ≡ true
+            → rank after.0 (stamps_in self.old.trace.nodes)
+            < rank s (stamps_in self.old.trace.nodes) }
         ensures woken { same ≡ false
-            → Is_awake (stamps_in self.old.trace.nodes) (cell_of self.old.mods place) after.0 self.new.stale.stamps }
+            → IsAwake (stamps_in self.old.trace.nodes)
+            (cell_of self.old.mods place) after.0 self.new.stale.stamps }
     {
         if !same {
             self.wake(place, after);
@@ -435,7 +460,7 @@ impl Tables {
     fn unqueue(&mut self, read: Stamp) -> bool
         requires here { IsTrue (has_node read.0 self.old.trace.nodes) }
         requires stale { Queue_follows (stamps_in self.old.trace.nodes) self.old.stale }
-        requires first { Queued_from read.0 self.old }
+        requires first { QueuedFrom read.0 self.old }
         ensures was { IsTrue result ↔ IsTrue (is_in read.0 self.old.stale.stamps) }
         ensures without { IsWithout read.0 self.old.stale.stamps self.new.stale.stamps }
         ensures room { IsTrue result → 0 < self.new.stale.spare }
@@ -453,7 +478,7 @@ impl Tables {
         requires here { IsTrue (has_node read.0 self.old.trace.nodes) }
         requires mods { Mods_follow (stamps_in self.old.trace.nodes) self.old.mods }
         requires stale { Queue_follows (stamps_in self.old.trace.nodes) self.old.stale }
-        requires first { Queued_from read.0 self.old }
+        requires first { QueuedFrom read.0 self.old }
         ensures trace { self.new.trace ≡ self.old.trace }
         ensures mods { self.new.mods ≡ self.old.mods }
         ensures memo { self.new.memo ≡ self.old.memo }
@@ -461,11 +486,13 @@ impl Tables {
         ensures gone { is_in read.0 self.new.stale.stamps ≡ false }
         ensures more { (s : ℕ) → s ≢ read.0 → IsTrue (is_in s self.old.stale.stamps)
             → IsTrue (is_in s self.new.stale.stamps) }
-        ensures only { (s : ℕ) → is_in s self.old.stale.stamps ≡ false → is_in s self.new.stale.stamps ≡ true
+        ensures only { (s : ℕ) → is_in s self.old.stale.stamps ≡ false
+            → is_in s self.new.stale.stamps ≡ true
             → is_in s (cell_of self.old.mods place).reads ≡ true }
-        ensures ahead { Queued_behind read.0 self.new }
+        ensures ahead { QueuedBehind read.0 self.new }
         ensures woken { IsTrue (is_in read.0 self.old.stale.stamps)
-            → Is_awake (stamps_in self.old.trace.nodes) (cell_of self.old.mods place) read.0 self.new.stale.stamps }
+            → IsAwake (stamps_in self.old.trace.nodes)
+            (cell_of self.old.mods place) read.0 self.new.stale.stamps }
     {
         if self.unqueue(read) {
             self.wake(place, read);
@@ -475,20 +502,22 @@ impl Tables {
     // A read that was popped hands on to the next one of its place, and gets the content of its moment. Says whether it
     // had another one.
     fn settle(&mut self, popped: Stamp) -> bool
-        requires step { In_step self.old }
-        requires covered { Covered_by (and_one popped.0 self.old.stale.stamps) self.old }
+        requires step { InStep self.old }
+        requires covered { CoveredBy (and_one popped.0 self.old.stale.stamps) self.old }
         requires out { is_in popped.0 self.old.stale.stamps ≡ false }
-        requires first { Queued_from popped.0 self.old }
+        requires first { QueuedFrom popped.0 self.old }
         requires here { IsTrue (is_read (node_at popped.0 self.old.trace.nodes)) }
         requires room { 0 < self.old.stale.spare }
-        ensures stale { IsTrue result → Is_stale popped.0 self.old }
-        ensures honest { result ≡ false → Is_honest popped.0 self.old }
-        ensures nodes { IsTrue result → (p : PlaceOf) × (v : WordOf) × Records p v (node_at popped.0 self.old.trace.nodes)
-            × (self.new.trace.nodes ≡ with_value popped.0 (contents_at popped.0 self.old p) self.old.trace.nodes) }
+        ensures stale { IsTrue result → IsStale popped.0 self.old }
+        ensures honest { result ≡ false → IsHonestRecord popped.0 self.old }
+        ensures nodes { IsTrue result
+            → (p : PlaceOf) × (v : WordOf) × Records p v (node_at popped.0 self.old.trace.nodes)
+            × (self.new.trace.nodes
+            ≡ with_value popped.0 (contents_at popped.0 self.old p) self.old.trace.nodes) }
         ensures same { result ≡ false → self.new.trace ≡ self.old.trace }
         ensures cells { self.new.mods.cells ≡ self.old.mods.cells }
         ensures memo { self.new.memo ≡ self.old.memo }
-        ensures behind { Queued_behind popped.0 self.new }
+        ensures behind { QueuedBehind popped.0 self.new }
         ensures kept { Kept self.new }
     {
         let (place, value) = recorded(&self.trace, popped);

@@ -2,7 +2,6 @@
 use Rattle.std.proofs.Common.{◌≡◌, ◌≢◌, ℕ, inl, inr, ◌⊎◌, ◌+◌, ◌-◌, ◌*◌, ◌<◌, ◌≤◌, ◌^◌, max, true, List, [], ◌∷◌, length, refl, sym, ap, subst, ◌∙◌, arith, Option, Some, None}
 use Rattle.std.specs.Prelude.{unwrap_or, option_map, Result, Ok, Err, OnOk, OnErr}
 use Rattle.std.proofs.lemmas.Bool.Decides.{eqb_tells}
-use Rattle.slab.specs.Slab.{get, slab_len, Slab}
 use Rattle.ceal_base.specs.declared.word.Word.{Word}
 use Rattle.ceal_order.specs.Stamps.{Listing, IsOrder, is_in}
 use Rattle.ceal_trace.specs.declared.node.Node.{Node}
@@ -11,13 +10,13 @@ use Rattle.ceal_trace.specs.declared.row.Row.{Row}
 use Rattle.ceal_trace.specs.declared.table.Table.{Table}
 use Rattle.ceal_trace.specs.Nodes.{Entry, stamps_in, entry_at, held_by, steps_on, node_at, steps_at, steps_sum, is_read, ends, changed_at, valued, value_set, steps_set, with_value, with_steps, IsTrace, NoLooseEnd, SameBut}
 use Rattle.ceal_trace.specs.Rows.{row_of}
-use Rattle.ceal_trace.specs.Keeping.{kept, key_of, steps_of, end_of, node_of, entry_of, listed, timeline, noted, HasNodes, KnowsEnds, Sound, Wider, ValueSet, StepsSet}
+use Rattle.ceal_trace.specs.Keeping.{kept, steps_of, end_of, node_of, entry_of, listed, timeline, noted, HasNodes, KnowsEnds, Sound, Wider, ValueSet, StepsSet}
 use Rattle.ceal_trace.proofs.Entries.{has-read, stamps-changed, entry-changed, entry-unchanged, sum-changed, ends-changed}
 use Rattle.ceal_trace.proofs.Stamped.{in_head, in_tail}
 use Rattle.ceal_trace.proofs.Listings.{listed_same, listed_changed}
 use Rattle.ceal_trace.proofs.Shapes.{changed_closed, changed_trace}
-use Rattle.ceal_trace.proofs.Keeps.{entry_eq, found_is, kept_eq, stamps_are, there_is, is_there, entry_found, row_bound}
-use Rattle.ceal_trace.proofs.Removing.{held_is, steps_are, steps_within}
+use Rattle.ceal_trace.proofs.Keeps.{entry_eq, found_is, stamps_are, there_is, is_there, entry_found}
+use Rattle.ceal_trace.proofs.Removing.{steps_are, steps_within}
 
 -- ---- values
 
@@ -134,36 +133,27 @@ module _ (order : Listing) (t t' : Table) (s steps : ℕ) (value : Word)
   read_here : is_in s order.stamps ≡ true
   read_here = there_is order t s (has-read s (timeline order t).nodes reads)
 
-  pub read_row : s < length t.rows.items
-  read_row = row_bound order t s sound.is_order sound.has_nodes read_here
-
-  row_same : (u : ℕ) → row_of t'.rows.items u ≡ row_of t.rows.items u
-  row_same u = ap (λ (r : _). row_of r.items u) set.rows
-
   kept_same : (u : ℕ) → is_in u order.stamps ≡ true → u ≢ s → kept t' u ≡ kept t u
-  kept_same u found other = set.others u (λ e. other (sound.has_nodes.apart u s found read_here e))
+  kept_same u found other = set.others u other
 
   kept_now : kept t' s ≡ Some (valued value (node_of t s))
   kept_now = set.changed ∙ ap (λ (o : Option Node). option_map (valued value) o) (sound.has_nodes.found s read_here)
 
   value_has : HasNodes order t'
   value_has = record {
-    rows = subst (λ (k : ℕ). length order.stamps + order.spare ≤ k) (ap (λ (r : _). length r.items) (sym set.rows)) sound.has_nodes.rows;
+    rows = let rows = sound.has_nodes.rows in let long = set.long in omega arith;
     count = set.count ∙ sound.has_nodes.count;
-    room = let room = sound.has_nodes.room in let count = set.count in let capacity = set.capacity in omega arith;
     found = λ u found. elim (eqb_tells u s) [
       | inl p ↦ subst (λ (k : ℕ). kept t' k ≡ Some (node_of t' k)) (sym p.1) (found_is t' s (valued value (node_of t s)) kept_now)
       | inr p ↦ found_is t' u (node_of t u) (kept_same u found p.1 ∙ sound.has_nodes.found u found)
     ];
-    apart = λ u v u_in v_in same. sound.has_nodes.apart u v u_in v_in
-        (ap (λ (r : Row). r.key) (sym (row_same u)) ∙ (same ∙ ap (λ (r : Row). r.key) (row_same v)));
-    low = λ u found. subst (λ (r : Row). r.steps < 2 ^ 32) (sym (row_same u)) (sound.has_nodes.low u found);
+    low = λ u found. let low = sound.has_nodes.low u found in let same = set.steps u in omega arith;
   }
 
   value_entry : entry_of t' s ≡ value_set value (entry_of t s)
   value_entry =
       let node : node_of t' s ≡ valued value (node_of t s) = ap (λ (o : Option Node). unwrap_or o Root) kept_now in
-      let count : steps_of t' s ≡ steps_of t s = ap (λ (r : Row). r.steps) (row_same s) in
+      let count : steps_of t' s ≡ steps_of t s = set.steps s in
       ap (λ (n : Node). record { stamp = s; node = n; steps = steps_of t' s }) node ∙ ap (λ (k : ℕ). record { stamp = s; node = valued value (node_of t s); steps = k }) count
 
   abbrev before : List Entry
@@ -180,8 +170,8 @@ module _ (order : Listing) (t t' : Table) (s steps : ℕ) (value : Word)
 
   pub value_changed : Changed order t t' s steps (value_set value)
   value_changed = changed_as order t t' s steps steps (value_set value) (λ e. refl) (λ read e. value_ends value read e.node) sound read_here value_has value_entry
-      (λ u found other. entry_eq t t' u (kept_same u found other) (ap (λ (r : Row). r.steps) (row_same u)))
-      (ap (λ (r : _). length r.items) set.rows) (λ u. ap (λ (r : Row). r.end) (row_same u))
+      (λ u found other. entry_eq t t' u (kept_same u found other) (set.steps u))
+      set.long set.ends
       (sound.sum ∙ value_sum)
       (inr (ap is_read value_node ∙ (option_reads value (node_at s before) ∙ reads), reads))
 
@@ -193,12 +183,6 @@ module _ (order : Listing) (t t' : Table) (s steps : ℕ) (value : Word)
 
   pub value_sum_same : steps_sum (timeline order t').nodes ≡ steps_sum (timeline order t).nodes
   value_sum_same = ap steps_sum value_changed.nodes ∙ sym value_sum
-
--- a table keeps the node of a read
-pub kept_read : (order : Listing) (t : Table) (s steps : ℕ) → Sound order t steps → is_read (node_at s (timeline order t).nodes) ≡ true → is_read (kept t s) ≡ true
-kept_read order t s steps sound reads =
-    let found = there_is order t s (has-read s (timeline order t).nodes reads) in
-    ap is_read (sound.has_nodes.found s found ∙ sym (held_is order t s found)) ∙ reads
 
 -- ---- other steps
 
@@ -217,15 +201,13 @@ module _ (order : Listing) (t t' : Table) (s n steps was_on now_on : ℕ)
     (set : StepsSet s n t t')
     (was_is : was_on ≡ steps_of t s) (now_is : now_on ≡ n) where
   kept_still : (u : ℕ) → kept t' u ≡ kept t u
-  kept_still u = kept_eq t t' u set.nodes (set.keys u)
+  kept_still u = set.nodes u
 
   steps_has : HasNodes order t'
   steps_has = record {
     rows = let rows = sound.has_nodes.rows in let long = set.long in omega arith;
-    count = ap slab_len set.nodes ∙ sound.has_nodes.count;
-    room = subst (λ (m : Slab Node). slab_len m + order.spare ≤ m.capacity) (sym set.nodes) sound.has_nodes.room;
+    count = set.count ∙ sound.has_nodes.count;
     found = λ u found. found_is t' u (node_of t u) (kept_still u ∙ sound.has_nodes.found u found);
-    apart = λ u v u_in v_in same. sound.has_nodes.apart u v u_in v_in (sym (set.keys u) ∙ (same ∙ set.keys v));
     low = λ u found. elim (eqb_tells u s) [
       | inl p ↦ let same : steps_of t' u ≡ n = ap (λ (k : ℕ). steps_of t' k) p.1 ∙ set.changed in omega arith
       | inr p ↦ let low = sound.has_nodes.low u found in let same = set.others u p.1 in omega arith
@@ -277,14 +259,14 @@ sum_small order t steps sound =
 -- ---- more room
 
 pub widened : (order order' : Listing) (t t' : Table) (steps : ℕ) → Sound order t steps → order'.stamps ≡ order.stamps → IsOrder order' → Wider t t'
-    → length order.stamps + order'.spare ≤ length t'.rows.items → slab_len t'.nodes + order'.spare ≤ t'.nodes.capacity
+    → length order.stamps + order'.spare ≤ length t'.rows.items
     → Sound order' t' steps × ((timeline order' t').nodes ≡ (timeline order t).nodes)
-widened order order' t t' steps sound stamps whole wider rows room =
+widened order order' t t' steps sound stamps whole wider rows =
     let was_in : (u : ℕ) → is_in u order'.stamps ≡ true → is_in u order.stamps ≡ true = λ u found. ap (λ (l : List ℕ). is_in u l) (sym stamps) ∙ found in
     let row : (u : ℕ) → is_in u order.stamps ≡ true → row_of t'.rows.items u ≡ row_of t.rows.items u =
-    λ u found. wider.rows u (row_bound order t u sound.is_order sound.has_nodes found) in
+    λ u found. wider.rows u in
     let same : (u : ℕ) → is_in u order.stamps ≡ true → kept t' u ≡ kept t u =
-    λ u found. wider.nodes (key_of t' u) ∙ ap (λ (r : Row). get t.nodes r.key) (row u found) in
+    λ u found. ap (λ (r : Row). r.node) (row u found) in
     let nodes : (timeline order' t').nodes ≡ (timeline order t).nodes =
     ap (λ (l : List ℕ). listed (entry_of t') l) stamps
     ∙ listed_same (entry_of t) (entry_of t') order.stamps (λ u found. entry_eq t t' u (same u found) (ap (λ (r : Row). r.steps) (row u found))) in
@@ -294,12 +276,7 @@ widened order order' t t' steps sound stamps whole wider rows room =
     let has : HasNodes order' t' = record {
       rows = subst (λ (l : List ℕ). length l + order'.spare ≤ length t'.rows.items) (sym stamps) rows;
       count = wider.count ∙ (sound.has_nodes.count ∙ ap (λ (l : List ℕ). length l) (sym stamps));
-      room = room;
       found = λ u found. let was = was_in u found in found_is t' u (node_of t u) (same u was ∙ sound.has_nodes.found u was);
-      apart = λ u v u_in v_in same_key.
-          let u_was = was_in u u_in in
-          let v_was = was_in v v_in in
-          sound.has_nodes.apart u v u_was v_was (ap (λ (r : Row). r.key) (sym (row u u_was)) ∙ (same_key ∙ ap (λ (r : Row). r.key) (row v v_was)));
       low = λ u found. let was = was_in u found in subst (λ (r : Row). r.steps < 2 ^ 32) (sym (row u was)) (sound.has_nodes.low u was);
     } in
     let knows : KnowsEnds t' es = record {
@@ -308,7 +285,7 @@ widened order order' t t' steps sound stamps whole wider rows room =
           let was = sound.knows_ends.end_noted x read found in
           let low = was.0 in
           let long = wider.long in
-          (omega arith, ap (λ (r : Row). r.end) (wider.rows read low) ∙ was.1);
+          (omega arith, ap (λ (r : Row). r.end) (wider.rows read) ∙ was.1);
     } in
     let trace : IsTrace (record { nodes = es; spare = order'.spare }) = record {
       order = order_es;
@@ -336,26 +313,22 @@ spare_most order order' n (Ok x) ok err = omega arith
 spare_most order order' n (Err x) ok err = let same : order'.spare ≡ order.spare = ap (λ (o : Listing). o.spare) err in omega arith
 
 pub reserved : (order order' : Listing) (t t' : Table) (steps n : ℕ) → Sound order t steps → order'.stamps ≡ order.stamps → IsOrder order' → Wider t t'
-    → slab_len t'.nodes + n ≤ t'.nodes.capacity → slab_len t'.nodes + n ≤ length t'.rows.items → order'.spare ≤ max order.spare n
+    → t'.count + n ≤ length t'.rows.items → order'.spare ≤ max order.spare n
     → Sound order' t' steps × ((timeline order' t').nodes ≡ (timeline order t).nodes)
-reserved order order' t t' steps n sound stamps whole wider room rows most =
+reserved order order' t t' steps n sound stamps whole wider rows most =
     let long = wider.long in
     let same = wider.count in
     let count = sound.has_nodes.count in
-    let more = wider.capacity in
     let old_rows = sound.has_nodes.rows in
-    let old_room = sound.has_nodes.room in
-    widened order order' t t' steps sound stamps whole wider (omega arith) (omega arith)
+    widened order order' t t' steps sound stamps whole wider (omega arith)
 
 pub not_reserved : (order : Listing) (t t' : Table) (steps : ℕ) → Sound order t steps → Wider t t'
     → Sound order t' steps × ((timeline order t').nodes ≡ (timeline order t).nodes)
 not_reserved order t t' steps sound wider =
     let long = wider.long in
     let same = wider.count in
-    let more = wider.capacity in
     let old_rows = sound.has_nodes.rows in
-    let old_room = sound.has_nodes.room in
-    widened order order t t' steps sound refl sound.is_order wider (omega arith) (omega arith)
+    widened order order t t' steps sound refl sound.is_order wider (omega arith)
 
 pub on_err_of : {T E : Type 0} {P : Type 0} (result : Result T E) → P → OnErr result P
 on_err_of (Ok x) p = tt

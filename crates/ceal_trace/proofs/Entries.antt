@@ -12,20 +12,6 @@ use Rattle.ceal_trace.proofs.Stamped.{NotIn-apart}
 
 -- ---- the entry at a stamp
 
-pub entry-none : (s : ℕ) (es : List Entry) → has_node s es ≡ false → entry_at s es ≡ None
-entry-none s [] none = refl
-entry-none s (e ∷ es) none = elim (eqb_tells e.stamp s) [
-  | inl p ↦ absurd (let no : true ≡ false = rw p.0 at none in cc)
-  | inr p ↦ rw p.0 (entry-none s es (rw p.0 at none))
-]
-
-pub entry-some : (s : ℕ) (es : List Entry) → has_node s es ≡ true → (e : Entry) × (entry_at s es ≡ Some e)
-entry-some s [] found = absurd (cc)
-entry-some s (e ∷ es) found = elim (eqb_tells e.stamp s) [
-  | inl p ↦ (e, rw p.0 refl)
-  | inr p ↦ let rest = entry-some s es (rw p.0 at found) in (rest.0, rw p.0 rest.1)
-]
-
 pub has-entry : (s : ℕ) (e : Entry) (es : List Entry) → entry_at s es ≡ Some e → has_node s es ≡ true
 has-entry s x [] h = absurd (cc)
 has-entry s x (e ∷ es) h = elim (eqb_tells e.stamp s) [ inl p ↦ rw p.0 refl | inr p ↦ rw p.0 (has-entry s x es (rw p.0 at h)) ]
@@ -88,20 +74,6 @@ end-found read s (e ∷ es) distinct h = elim (cases_Bool (ends read e.node)) [
         | inl q ↦ absurd (NotIn-apart s e.stamp (stamps_in es) distinct.0 (has-held s (End (record { 0 = read })) es found) (sym q.1))
         | inr q ↦ rw q.0 found
       ]
-]
-
--- a node that ends a read makes it finished
-pub end-some : (read s : ℕ) (n : Node) (es : List Entry) → node_at s es ≡ Some n → ends read n ≡ true → IsSome (end_in read es)
-end-some read s n [] h does = absurd (cc)
-end-some read s n (e ∷ es) h does = elim (cases_Bool (ends read e.node)) [
-  | inl p ↦ rw p refl
-  | inr p ↦ elim (eqb_tells e.stamp s) [
-    | inl q ↦
-        let is : Some e.node ≡ Some n = rw q.0 at h in
-        let same : e.node ≡ n = cc in
-        absurd (let no : true ≡ false = sym does ∙ (ap (λ (m : Node). ends read m) (sym same) ∙ p) in cc)
-    | inr q ↦ rw p (end-some read s n es (rw q.0 at h) does)
-  ]
 ]
 
 -- ---- one entry more

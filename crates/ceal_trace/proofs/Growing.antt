@@ -1,7 +1,6 @@
 -- A trace with one node more.
 use Rattle.std.proofs.Common.{◌≡◌, ◌≢◌, ℕ, inl, inr, ◌+◌, ◌<◌, ◌≤◌, true, List, length, sym, ap, subst, ◌∙◌, arith, Some, None}
 use Rattle.std.proofs.lemmas.Bool.Decides.{eqb_tells}
-use Rattle.slab.specs.Slab.{slab_len, Slab}
 use Rattle.ceal_order.specs.declared.stamp.Stamp.{Stamp}
 use Rattle.ceal_order.specs.Stamps.{Listing, IsOrder, OneMore, is_in, place, with_after}
 use Rattle.ceal_trace.specs.declared.node.Node.{Node}
@@ -14,7 +13,7 @@ use Rattle.ceal_trace.specs.Keeping.{kept, end_of, node_of, entry_of, timeline, 
 use Rattle.ceal_trace.proofs.Entries.{has-read, is_some_of, stamps-after, sum-after}
 use Rattle.ceal_trace.proofs.Listings.{listed_same}
 use Rattle.ceal_trace.proofs.Shapes.{inserted_as, other_than_new, new_open, ends_same, plain_trace, plain_closed, end_now, ends_others, end_trace, end_closed}
-use Rattle.ceal_trace.proofs.Keeps.{entry_eq, found_is, kept_eq, stamps_are, there_is, is_there, noted_stamp, row_bound, nodes_put, has_put}
+use Rattle.ceal_trace.proofs.Keeps.{entry_eq, found_is, stamps_are, there_is, is_there, noted_stamp, row_bound, nodes_put, has_put}
 
 module _ (order order' : Listing) (t : Table) (s f : ℕ) (node : Node)
     (here : is_in s order.stamps ≡ true)
@@ -158,7 +157,7 @@ module _ (order order' : Listing) (t t' : Table) (s f steps : ℕ) (node : Node)
     other_ends u other = ends_others es order.spare order'.spare s f node sound.is_trace here_es one_es order_es closed read is reads unfinished up after_es u other
 
     kept_set : (u : ℕ) → kept t'' u ≡ kept t' u
-    kept_set u = kept_eq t' t'' u set.nodes (set.keys u)
+    kept_set u = set.nodes u
 
     entries_set : (timeline order' t'').nodes ≡ (timeline order' t').nodes
     entries_set = listed_same (entry_of t') (entry_of t'') order'.stamps (λ u found. entry_eq t' t'' u (kept_set u) (set.steps u))
@@ -169,10 +168,8 @@ module _ (order order' : Listing) (t t' : Table) (s f steps : ℕ) (node : Node)
     has_set : HasNodes order' t''
     has_set = record {
       rows = let rows = has.rows in let long = set.long in omega arith;
-      count = ap slab_len set.nodes ∙ has.count;
-      room = subst (λ (n : Slab Node). slab_len n + order'.spare ≤ n.capacity) (sym set.nodes) has.room;
+      count = set.count ∙ has.count;
       found = λ u there. found_is t'' u (node_of t' u) (kept_set u ∙ has.found u there);
-      apart = λ u v u_in v_in same. has.apart u v u_in v_in (sym (set.keys u) ∙ (same ∙ set.keys v));
       low = λ u there. let low = has.low u there in let same = set.steps u in omega arith;
     }
 

@@ -1,8 +1,7 @@
 -- A table keeps a trace while nodes are put into it and taken out.
-use Rattle.std.proofs.Common.{◌≡◌, ◌≢◌, ℕ, suc, inl, inr, ◌+◌, ◌<◌, true, List, length, refl, sym, ap, subst, ◌∙◌, arith, Option, Some}
+use Rattle.std.proofs.Common.{◌≡◌, ◌≢◌, ℕ, suc, inl, inr, ◌+◌, ◌<◌, ◌^◌, true, List, [], ◌∷◌, length, refl, sym, ap, subst, ◌∙◌, arith, Option, Some}
 use Rattle.std.specs.Prelude.{unwrap_or}
 use Rattle.std.proofs.lemmas.Bool.Decides.{eqb_tells}
-use Rattle.slab.specs.Slab.{get, Slab}
 use Rattle.ceal_order.specs.Stamps.{Listing, IsOrder, OneMore, is_in, with_after}
 use Rattle.ceal_trace.specs.declared.node.Node.{Node}
 use Rattle.ceal_trace.specs.declared.node.Node.TheVariants.{Root}
@@ -10,7 +9,7 @@ use Rattle.ceal_trace.specs.declared.row.Row.{Row}
 use Rattle.ceal_trace.specs.declared.table.Table.{Table}
 use Rattle.ceal_trace.specs.Nodes.{Entry, stamps_in, has_node, entry_at, with_entry_after, new_entry}
 use Rattle.ceal_trace.specs.Rows.{row_of, no_stamp}
-use Rattle.ceal_trace.specs.Keeping.{kept, key_of, steps_of, end_of, node_of, entry_of, listed, timeline, noted, HasNodes, PutAt}
+use Rattle.ceal_trace.specs.Keeping.{kept, steps_of, node_of, entry_of, listed, timeline, noted, HasNodes, PutAt}
 use Rattle.ceal_trace.proofs.Stamped.{apart, below_of, length-after}
 use Rattle.ceal_trace.proofs.Listings.{stamps_listed, entry_listed, listed_after}
 
@@ -27,9 +26,6 @@ entry_is t s node is none = ap (λ (o : Option Node). made s o (steps_of t s)) i
 
 pub found_is : (t : Table) (s : ℕ) (node : Node) → kept t s ≡ Some node → kept t s ≡ Some (node_of t s)
 found_is t s node is = is ∙ ap (λ (o : Option Node). Some (unwrap_or o Root)) (sym is)
-
-pub kept_eq : (t t' : Table) (s : ℕ) → t'.nodes ≡ t.nodes → key_of t' s ≡ key_of t s → kept t' s ≡ kept t s
-kept_eq t t' s same_nodes same_key = ap (λ (n : Slab Node). get n (key_of t' s)) same_nodes ∙ ap (λ (k : ℕ). get t.nodes k) same_key
 
 module _ (order : Listing) (t : Table) where
   pub stamps_are : stamps_in (timeline order t).nodes ≡ order.stamps
@@ -66,6 +62,26 @@ new_row order order' t s f has here stamps spare below =
     let rows = has.rows in
     omega arith
 
+-- there are few enough nodes for a new one
+pub new_count : (order order' : Listing) (t : Table) (s f : ℕ) → HasNodes order t → is_in s order.stamps ≡ true → order'.stamps ≡ with_after s f order.stamps
+    → IsOrder order' → t.count + 1 < 2 ^ 32
+new_count order order' t s f has here stamps whole =
+    let longer : length order'.stamps ≡ suc (length order.stamps) = ap (λ (l : List ℕ). length l) stamps ∙ length-after s f order.stamps here in
+    let count = has.count in
+    let few = whole.few in
+    omega arith
+
+-- a table with a node of a stamp is not empty
+pub some_count : (order : Listing) (t : Table) (s : ℕ) → HasNodes order t → is_in s order.stamps ≡ true → 0 < t.count
+some_count order t s has here =
+    let long : 0 < length order.stamps = some order.stamps here in
+    let count = has.count in
+    omega arith
+  where
+    some : (ss : List ℕ) → is_in s ss ≡ true → 0 < length ss
+    some [] found = absurd (cc)
+    some (x ∷ xs) found = omega arith
+
 -- ---- a node more
 
 module _ (order order' : Listing) (t t' : Table) (s f : ℕ) (node : Node)
@@ -78,7 +94,7 @@ module _ (order order' : Listing) (t t' : Table) (s f : ℕ) (node : Node)
   old_apart u found = apart u f order.stamps found one.absent
 
   kept_put : (u : ℕ) → is_in u order.stamps ≡ true → kept t' u ≡ kept t u
-  kept_put u found = put.others u (old_apart u found) (rw (has.found u found) refl)
+  kept_put u found = ap (λ (r : Row). r.node) (put.rows u (old_apart u found))
 
   row_put : (u : ℕ) → is_in u order.stamps ≡ true → row_of t'.rows.items u ≡ row_of t.rows.items u
   row_put u found = put.rows u (old_apart u found)
@@ -99,24 +115,9 @@ module _ (order order' : Listing) (t t' : Table) (s f : ℕ) (node : Node)
   has_put = record {
     rows = let long = put.long in let rows = has.rows in omega (arith, longer, spare, long, rows);
     count = let more = put.count in let count = has.count in omega (arith, longer, more, count);
-    room = let more = put.count in let capacity = put.capacity in let room = has.room in omega (arith, spare, more, capacity, room);
     found = λ u found. elim (eqb_tells u f) [
       | inl p ↦ found_is t' u node (subst (λ (k : ℕ). kept t' k ≡ Some node) (sym p.1) put.there)
       | inr p ↦ let old = one.only u found p.1 in found_is t' u (node_of t u) (kept_put u old ∙ has.found u old)
-    ];
-    apart = λ u v u_in v_in same. elim (eqb_tells u f) [
-      | inl p ↦ elim (eqb_tells v f) [
-        | inl q ↦ p.1 ∙ sym q.1
-        | inr q ↦ absurd (put.apart v q.1 (rw (has.found v (one.only v v_in q.1)) refl) (sym same ∙ ap (λ (k : ℕ). key_of t' k) p.1))
-      ]
-      | inr p ↦
-          let u_old = one.only u u_in p.1 in
-          elim (eqb_tells v f) [
-            | inl q ↦ absurd (put.apart u p.1 (rw (has.found u u_old) refl) (same ∙ ap (λ (k : ℕ). key_of t' k) q.1))
-            | inr q ↦
-                let v_old = one.only v v_in q.1 in
-                has.apart u v u_old v_old (ap (λ (r : Row). r.key) (sym (row_put u u_old)) ∙ (same ∙ ap (λ (r : Row). r.key) (row_put v v_old)))
-          ]
     ];
     low = λ u found. elim (eqb_tells u f) [
       | inl p ↦ let none : steps_of t' u ≡ 0 = ap (λ (k : ℕ). steps_of t' k) p.1 ∙ put.steps in omega arith
@@ -127,6 +128,3 @@ module _ (order order' : Listing) (t t' : Table) (s f : ℕ) (node : Node)
           omega arith
     ];
   }
-
-  pub end_put : (u : ℕ) → is_in u order.stamps ≡ true → end_of t' u ≡ end_of t u
-  end_put u found = ap (λ (r : Row). r.end) (row_put u found)

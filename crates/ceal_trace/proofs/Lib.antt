@@ -1,6 +1,10 @@
-pub mod Samples
-pub mod Stamped
+-- what crates above cite
 pub mod Entries
+pub mod Parting
+pub mod Stamped
+pub mod Parts
+-- the rest
+pub mod Samples
 pub mod Listings
 pub mod Shapes
 pub mod Keeps
@@ -10,5 +14,3 @@ pub mod Changing
 pub mod Ends
 pub mod ItemSteps
 pub mod Nesting
-pub mod Parts
-pub mod Parting

@@ -8,7 +8,7 @@ use Rattle.ceal_base.specs.declared.forest.UnitId.{UnitId}
 use Rattle.ceal_base.specs.declared.word.BlockId.{BlockId}
 use Rattle.ceal_base.specs.declared.word.Place.{Place}
 use Rattle.ceal_base.specs.declared.word.Word.{Word}
-use Rattle.ceal_base.specs.Trace.{Trace, Nothing, Stepped, Allocated, Wrote, Was_read, flat, steps_of}
+use Rattle.ceal_base.specs.Trace.{Trace, Nothing, Stepped, Allocated, Wrote, WasRead, flat, steps_of}
 use Rattle.ceal_trace.specs.declared.node.Node.{Node}
 use Rattle.ceal_trace.specs.declared.node.Node.TheVariants.{Root, Alloc, Write, Read, End}
 use Rattle.ceal_trace.specs.Nodes.{Entry, steps_sum}
@@ -71,11 +71,11 @@ sum-wrote place value t [] = refl
 sum-wrote place value t (u ∷ us) = refl
 
 module _ (place : Place) (value : Word) (unit : UnitId) (var : ℕ) (args : List Word) where
-  joined-read : (t u : Trace) (us : List Trace) → joined (Was_read place value unit var args t u) us ≡ item.Read place value unit var args ∷ joined t (u ∷ us)
+  joined-read : (t u : Trace) (us : List Trace) → joined (WasRead place value unit var args t u) us ≡ item.Read place value unit var args ∷ joined t (u ∷ us)
   joined-read t u [] = refl
   joined-read t u (w ∷ ws) = ap (λ (l : List Item). item.Read place value unit var args ∷ l) (append_assoc (flat t) (item.End ∷ flat u) (item.End ∷ joined w ws))
 
-  sum-read : (t u : Trace) (us : List Trace) → sum_of (Was_read place value unit var args t u) us ≡ sum_of t (u ∷ us)
+  sum-read : (t u : Trace) (us : List Trace) → sum_of (WasRead place value unit var args t u) us ≡ sum_of t (u ∷ us)
   sum-read t u [] = refl
   sum-read t u (w ∷ ws) = omega arith
 
@@ -96,7 +96,7 @@ read_level s n k place value unit var args es inner (u ∷ us) depth items steps
     let t = ticked n inner in
     let l : Levels (suc k) es = record { inner = inner; outer = u ∷ us; depth = depth; items = items; steps = steps } in
     record {
-      inner = Was_read place value unit var args t u;
+      inner = WasRead place value unit var args t u;
       outer = us;
       depth = omega (arith, depth);
       items = joined-read place value unit var args t u us ∙ ap (λ (xs : List Item). item.Read place value unit var args ∷ xs) (front_items (suc k) n es l);

@@ -68,7 +68,7 @@ module _ (order order' : Listing) (t t' : Table) (s steps : ℕ) (node : Node)
   held = held_is order t s here ∙ (sym (sound.has_nodes.found s here) ∙ taken.was)
 
   kept_taken : (u : ℕ) → is_in u order.stamps ≡ true → u ≢ s → kept t' u ≡ kept t u
-  kept_taken u found other = taken.others u (λ e. other (sound.has_nodes.apart u s found here e))
+  kept_taken u found other = taken.others u other
 
   nodes_are : (timeline order' t').nodes ≡ rest
   nodes_are =
@@ -86,12 +86,9 @@ module _ (order order' : Listing) (t t' : Table) (s steps : ℕ) (node : Node)
   has = record {
     rows = let rows = sound.has_nodes.rows in let long = taken.long in omega (arith, shorter, spare);
     count = let less = taken.count in let count = sound.has_nodes.count in omega (arith, shorter);
-    room = let less = taken.count in let capacity = taken.capacity in let room = sound.has_nodes.room in omega arith;
     found = λ u found.
         let was = was_there u found in
         found_is t' u (node_of t u) (kept_taken u was.0 was.1 ∙ sound.has_nodes.found u was.0);
-    apart = λ u v u_in v_in same.
-        sound.has_nodes.apart u v (was_there u u_in).0 (was_there v v_in).0 (sym (taken.keys u) ∙ (same ∙ taken.keys v));
     low = λ u found. let low = sound.has_nodes.low u (was_there u found).0 in let same = taken.steps u in omega arith;
   }
 

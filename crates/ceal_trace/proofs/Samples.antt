@@ -5,7 +5,7 @@ use Rattle.ceal_base.specs.declared.forest.Item.TheVariants as item
 use Rattle.ceal_base.specs.declared.word.BlockId.TheVariants.{Input}
 use Rattle.ceal_base.specs.declared.word.Place.{Place}
 use Rattle.ceal_base.specs.declared.word.Word.TheVariants.{Num, At}
-use Rattle.ceal_base.specs.Trace.{Nothing, Stepped, Wrote, Was_read, trace_of}
+use Rattle.ceal_base.specs.Trace.{Nothing, Stepped, Wrote, WasRead, trace_of}
 use Rattle.ceal_trace.specs.declared.node.Node.{Node}
 use Rattle.ceal_trace.specs.declared.node.Node.TheVariants.{Root, Write, Read, End}
 use Rattle.ceal_trace.specs.Nodes.{Entry, node_at, steps_sum, end_in, with_entry_after, without_entry, with_value, with_steps, new_entry, position, has_node}
@@ -33,7 +33,7 @@ items = item.Step ∷ item.Read a (Num (pos 4)) (record { 0 = 1 }) 2 (At b ∷ [
 its_forest : forest_of increment ≡ items
 its_forest = refl
 
-its_tree : trace_of (forest_of increment) ≡ Some (Stepped (Was_read a (Num (pos 4)) (record { 0 = 1 }) 2 (At b ∷ []) (Stepped (Wrote b (Num (pos 5)) Nothing)) Nothing))
+its_tree : trace_of (forest_of increment) ≡ Some (Stepped (WasRead a (Num (pos 4)) (record { 0 = 1 }) 2 (At b ∷ []) (Stepped (Wrote b (Num (pos 5)) Nothing)) Nothing))
 its_tree = refl
 
 its_steps : steps_sum increment ≡ 2

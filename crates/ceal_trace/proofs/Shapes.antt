@@ -115,9 +115,6 @@ module _ (es : List Entry) (spare more s f : ℕ) (node : Node)
     pub plain_closed : NoLooseEnd (with_entry_after s (new_entry f node) es)
     plain_closed = record { read_there = λ read some. one.others read (closed.read_there read (subst (λ (o : _). IsSome o) (ends_same read) some)) }
 
-    pub plain_open : end_in f (with_entry_after s (new_entry f node) es) ≡ None
-    plain_open = ends_same f ∙ new_open
-
   -- ---- which is the end of a read
 
   module _ (read : Stamp) (is : node ≡ End read) (reads : is_read (node_at read.0 es) ≡ true) (unfinished : end_in read.0 es ≡ None)

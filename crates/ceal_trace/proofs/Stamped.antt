@@ -32,10 +32,6 @@ pub head_in : (s : ℕ) (xs : List ℕ) → head_of xs ≡ Some s → is_in s xs
 head_in s [] h = absurd (cc)
 head_in s (x ∷ xs) h = let same : x ≡ s = cc in rw (eq-eqb x s same) refl
 
-pub place_of_head : (s : ℕ) (xs : List ℕ) → head_of xs ≡ Some s → place s xs ≡ 0
-place_of_head s [] h = refl
-place_of_head s (x ∷ xs) h = let same : x ≡ s = cc in rw (eq-eqb x s same) refl
-
 -- two stamps at one place are one
 pub place_tells : (a b : ℕ) (xs : List ℕ) → is_in a xs ≡ true → is_in b xs ≡ true → place a xs ≡ place b xs → a ≡ b
 place_tells a b [] found also same = absurd (cc)

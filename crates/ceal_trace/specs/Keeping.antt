@@ -1,6 +1,5 @@
 -- How a table keeps the nodes of a trace.
-use Rattle.std.specs.Prelude.{◌≡◌, ◌≢◌, ◌<◌, ◌≤◌, ◌^◌, ℕ, ◌+◌, List, [], ◌∷◌, length, Option, None, Some, option_map, unwrap_or, IsSome, true, false, ◌==◌, if◌then◌else◌}
-use Rattle.slab.specs.Slab.{get, slab_len}
+use Rattle.std.specs.Prelude.{◌≡◌, ◌≢◌, ◌<◌, ◌≤◌, ◌^◌, ℕ, ◌+◌, List, [], ◌∷◌, length, Option, None, Some, option_map, unwrap_or, true, false, ◌==◌, if◌then◌else◌}
 use Rattle.ceal_base.specs.declared.word.Word.{Word}
 use Rattle.ceal_order.specs.Stamps.{Listing, IsOrder, is_in}
 use Rattle.ceal_trace.specs.declared.node.Node.{Node}
@@ -8,9 +7,6 @@ use Rattle.ceal_trace.specs.declared.node.Node.TheVariants.{Root}
 use Rattle.ceal_trace.specs.declared.table.Table.{Table}
 use Rattle.ceal_trace.specs.Nodes.{Entry, Timeline, IsTrace, has_node, end_in, steps_sum, ends, valued}
 use Rattle.ceal_trace.specs.Rows.{row_of, no_stamp}
-
-abbrev pub key_of : Table → ℕ → ℕ
-key_of t s = (row_of t.rows.items s).key
 
 abbrev pub steps_of : Table → ℕ → ℕ
 steps_of t s = (row_of t.rows.items s).steps
@@ -20,7 +16,7 @@ end_of t s = (row_of t.rows.items s).end
 
 -- the node that is kept of a stamp
 abbrev pub kept : Table → ℕ → Option Node
-kept t s = get t.nodes (key_of t s)
+kept t s = (row_of t.rows.items s).node
 
 abbrev pub node_of : Table → ℕ → Node
 node_of t s = unwrap_or (kept t s) Root
@@ -41,13 +37,11 @@ timeline order t = record { nodes = listed (entry_of t) order.stamps; spare = or
 abbrev pub noted : ℕ → Option ℕ
 noted s = if s == no_stamp then None else Some s
 
--- the table has a node of its own for each stamp, and room for each spare one
+-- the table has a node for each stamp, and room for each spare one
 pub record HasNodes (order : Listing) (t : Table) : Type 0 where
   pub rows : length order.stamps + order.spare ≤ length t.rows.items
-  pub count : slab_len t.nodes ≡ length order.stamps
-  pub room : slab_len t.nodes + order.spare ≤ t.nodes.capacity
+  pub count : t.count ≡ length order.stamps
   pub found : (s : ℕ) → is_in s order.stamps ≡ true → kept t s ≡ Some (node_of t s)
-  pub apart : (s u : ℕ) → is_in s order.stamps ≡ true → is_in u order.stamps ≡ true → key_of t s ≡ key_of t u → s ≡ u
   pub low : (s : ℕ) → is_in s order.stamps ≡ true → steps_of t s < 2 ^ 32
 
 -- the table knows the end of each read
@@ -68,55 +62,49 @@ pub record PutAt (s : ℕ) (node : Node) (old new : Table) : Type 0 where
   pub there : kept new s ≡ Some node
   pub steps : steps_of new s ≡ 0
   pub end : end_of new s ≡ no_stamp
-  pub others : (u : ℕ) → u ≢ s → IsSome (kept old u) → kept new u ≡ kept old u
-  pub apart : (u : ℕ) → u ≢ s → IsSome (kept old u) → key_of new u ≢ key_of new s
   pub rows : (u : ℕ) → u ≢ s → row_of new.rows.items u ≡ row_of old.rows.items u
   pub long : length new.rows.items ≡ length old.rows.items
-  pub count : slab_len new.nodes ≡ slab_len old.nodes + 1
-  pub capacity : new.nodes.capacity ≡ old.nodes.capacity
+  pub count : new.count ≡ old.count + 1
 
 -- the node at a stamp was taken out, and the read that it ends is not finished any more
 pub record TakenFrom (s : ℕ) (node : Node) (old new : Table) : Type 0 where
   pub was : kept old s ≡ Some node
-  pub others : (u : ℕ) → key_of old u ≢ key_of old s → kept new u ≡ kept old u
-  pub keys : (u : ℕ) → key_of new u ≡ key_of old u
+  pub others : (u : ℕ) → u ≢ s → kept new u ≡ kept old u
   pub steps : (u : ℕ) → steps_of new u ≡ steps_of old u
   pub opened : (u : ℕ) → ends u node ≡ true → end_of new u ≡ no_stamp
   pub ends : (u : ℕ) → ends u node ≡ false → end_of new u ≡ end_of old u
   pub long : length new.rows.items ≡ length old.rows.items
-  pub count : slab_len new.nodes + 1 ≡ slab_len old.nodes
-  pub capacity : new.nodes.capacity ≡ old.nodes.capacity
+  pub count : new.count + 1 ≡ old.count
 
 -- nothing but room was added
 pub record Wider (old new : Table) : Type 0 where
-  pub nodes : (key : ℕ) → get new.nodes key ≡ get old.nodes key
-  pub rows : (u : ℕ) → u < length old.rows.items → row_of new.rows.items u ≡ row_of old.rows.items u
+  pub rows : (u : ℕ) → row_of new.rows.items u ≡ row_of old.rows.items u
   pub long : length old.rows.items ≤ length new.rows.items
-  pub count : slab_len new.nodes ≡ slab_len old.nodes
-  pub capacity : old.nodes.capacity ≤ new.nodes.capacity
+  pub count : new.count ≡ old.count
 
 -- the read at a stamp has another value
 pub record ValueSet (s : ℕ) (value : Word) (old new : Table) : Type 0 where
-  pub rows : new.rows ≡ old.rows
   pub changed : kept new s ≡ option_map (valued value) (kept old s)
-  pub others : (u : ℕ) → key_of old u ≢ key_of old s → kept new u ≡ kept old u
-  pub count : slab_len new.nodes ≡ slab_len old.nodes
-  pub capacity : new.nodes.capacity ≡ old.nodes.capacity
+  pub others : (u : ℕ) → u ≢ s → kept new u ≡ kept old u
+  pub steps : (u : ℕ) → steps_of new u ≡ steps_of old u
+  pub ends : (u : ℕ) → end_of new u ≡ end_of old u
+  pub long : length new.rows.items ≡ length old.rows.items
+  pub count : new.count ≡ old.count
 
 -- the node at a stamp has so many steps
 pub record StepsSet (s n : ℕ) (old new : Table) : Type 0 where
-  pub nodes : new.nodes ≡ old.nodes
-  pub keys : (u : ℕ) → key_of new u ≡ key_of old u
+  pub nodes : (u : ℕ) → kept new u ≡ kept old u
   pub changed : steps_of new s ≡ n
   pub others : (u : ℕ) → u ≢ s → steps_of new u ≡ steps_of old u
   pub ends : (u : ℕ) → end_of new u ≡ end_of old u
   pub long : length new.rows.items ≡ length old.rows.items
+  pub count : new.count ≡ old.count
 
 -- the read at a stamp has this end
 pub record EndSet (s end : ℕ) (old new : Table) : Type 0 where
-  pub nodes : new.nodes ≡ old.nodes
-  pub keys : (u : ℕ) → key_of new u ≡ key_of old u
+  pub nodes : (u : ℕ) → kept new u ≡ kept old u
   pub steps : (u : ℕ) → steps_of new u ≡ steps_of old u
   pub changed : end_of new s ≡ end
   pub others : (u : ℕ) → u ≢ s → end_of new u ≡ end_of old u
   pub long : length new.rows.items ≡ length old.rows.items
+  pub count : new.count ≡ old.count

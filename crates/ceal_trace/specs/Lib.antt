@@ -1,3 +1,4 @@
+-- what the crate promises
 pub mod Nodes
 pub mod Items
 pub mod Rows

@@ -29,20 +29,23 @@ pub fn parts_follow()
 /// inside, which nest, and those behind its end. What nests may be put in and taken out anywhere: a node that is no
 /// read and no end, and a read with its end around nodes that nest.
 pub fn nodes_nest()
-    ensures parted { (t : Timeline) → IsTrace t → Nests t.nodes → (read : ℕ) → is_read (node_at read t.nodes) ≡ true
+    ensures parted { (t : Timeline) → IsTrace t → Nests t.nodes → (read : ℕ)
+        → is_read (node_at read t.nodes) ≡ true
         → (p : Parted read t.nodes) × (end_in read t.nodes ≡ Some p.ends'.stamp) }
     ensures put { (before inside behind : List Entry) → Nests inside
         → Nests (before ++ (inside ++ behind)) ↔ Nests (before ++ behind) }
     ensures plain { (e : Entry) → is_plain e.node ≡ true → is_read (Some e.node) ≡ false
         → Nests (e ∷ []) }
-    ensures read { (begin end : Entry) (inside : List Entry) → is_read (Some begin.node) ≡ true → ends begin.stamp end.node ≡ true
+    ensures read { (begin end : Entry) (inside : List Entry) → is_read (Some begin.node) ≡ true
+        → ends begin.stamp end.node ≡ true
         → Nests inside → Nests (begin ∷ (inside ++ end ∷ [])) }
 {}
 
 /// Laws: a stamp that a node has parts the nodes at that node, and it is the stamp of no other one.
 pub fn a_stamp_parts()
     ensures at { (s : ℕ) (nodes : List Entry) → has_node s nodes ≡ true
-        → (front : List Entry) × (e : Entry) × (back : List Entry) × (nodes ≡ front ++ e ∷ back) × (e.stamp ≡ s) × (has_node s front ≡ false) }
+        → (front : List Entry) × (e : Entry) × (back : List Entry) × (nodes ≡ front ++ e ∷ back)
+        × (e.stamp ≡ s) × (has_node s front ≡ false) }
     ensures before { (front : List Entry) (e : Entry) (back : List Entry)
         → Distinct (stamps_in (front ++ e ∷ back)) → has_node e.stamp front ≡ false }
     ensures behind { (front : List Entry) (e : Entry) (back : List Entry)
@@ -55,10 +58,12 @@ pub fn done_between()
         → entry_at e.stamp (front ++ e ∷ back) ≡ Some e }
     ensures position { (e : Entry) (back front : List Entry) → has_node e.stamp front ≡ false
         → position e.stamp (front ++ e ∷ back) ≡ length front }
-    ensures after { (e : Entry) (back : List Entry) (new : Entry) (front : List Entry) → has_node e.stamp front ≡ false
+    ensures after { (e : Entry) (back : List Entry) (new : Entry) (front : List Entry)
+        → has_node e.stamp front ≡ false
         → with_entry_after e.stamp new (front ++ e ∷ back) ≡ front ++ e ∷ new ∷ back }
     ensures without { (e : Entry) (back front : List Entry) → has_node e.stamp front ≡ false
         → without_entry e.stamp (front ++ e ∷ back) ≡ front ++ back }
-    ensures changed { (e : Entry) (back : List Entry) (change : Entry → Entry) (front : List Entry) → has_node e.stamp front ≡ false
+    ensures changed { (e : Entry) (back : List Entry) (change : Entry → Entry) (front : List Entry)
+        → has_node e.stamp front ≡ false
         → changed_at e.stamp change (front ++ e ∷ back) ≡ front ++ change e ∷ back }
 {}

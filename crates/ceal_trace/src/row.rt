@@ -1,47 +1,88 @@
-// What a table keeps of a stamp beside its node.
+// What a table keeps of a stamp.
 
-ghost use Rattle.std.specs.Prelude.{◌≡◌, ◌<◌, length, IfOk, OnOk, OnErr};
-ghost use Rattle.ceal_trace.specs.Rows.{row_of, RowSet, Longer};
+ghost use Rattle.std.specs.Prelude.{◌≡◌, ◌<◌, ◌≤◌, None, length, slice_set, slice_index_or, IfOk, OnOk, OnErr};
+ghost use Rattle.ceal_trace.specs.Rows.{row_of, RowPut, NodeTaken, StepsPut, EndPut, Longer};
 
+use crate::node::Node;
 use ceal_base::no_memory::NoMemory;
+use std::mem;
 
 /// Stands for no stamp: no order has a stamp of this number.
 pub const NO_STAMP: u32 = u32::MAX;
 
-/// Where the node of a stamp is kept, its steps, and the stamp of its end where it is a finished read.
-#[derive(Clone, Copy)]
+/// The node of a stamp, where it has one, its steps, and the stamp of its end where it is a finished read.
+#[derive(Drop)]
 pub struct Row {
-    pub key: usize,
+    pub node: Option<Node>,
     pub steps: u32,
     pub end: u32,
 }
 
-pub fn row_at(rows: &[Row], at: u32) -> Row
+pub fn row_at(rows: &[Row], at: u32) -> &Row
     requires { at < length rows.now }
-    ensures { result ≡ row_of rows.now at }
+    ensures { result.now ≡ row_of rows.now at }
 {
-    rows[at as usize]
+    &rows[at as usize]
 }
 
-pub fn set_row(rows: &mut [Row], at: u32, row: Row)
+/// Puts a node without steps into a row.
+pub fn put_node(rows: &mut [Row], at: u32, node: Node)
     requires { at < length rows.old }
-    ensures { RowSet rows.old rows.new at row }
+    ensures { RowPut rows.old rows.new at node }
 {
-    rows[at as usize] = row;
+    let row = Row {
+        node: Some(node),
+        steps: 0,
+        end: NO_STAMP,
+    };
+    put(&mut rows[at as usize], row);
+}
+
+/// Takes the node out of a row.
+pub fn take_node(rows: &mut [Row], at: u32) -> Option<Node>
+    requires { at < length rows.old }
+    ensures { NodeTaken rows.old rows.new at result }
+{
+    let row = &mut rows[at as usize];
+    mem::replace(&mut row.node, None)
+}
+
+pub fn set_steps(rows: &mut [Row], at: u32, steps: u32)
+    requires { at < length rows.old }
+    ensures { StepsPut rows.old rows.new at steps }
+{
+    let row = &mut rows[at as usize];
+    row.steps = steps;
+}
+
+pub fn set_end(rows: &mut [Row], at: u32, end: u32)
+    requires { at < length rows.old }
+    ensures { EndPut rows.old rows.new at end }
+{
+    let row = &mut rows[at as usize];
+    row.end = end;
 }
 
 /// Adds rows until there are so many.
 pub fn lengthen(rows: &mut Vec<Row>, count: usize) -> Result<(), NoMemory>
-    ensures ok { OnOk result (Longer rows.old.items rows.new.items count) }
-    ensures err { OnErr result (rows.new.items ≡ rows.old.items) }
+    ensures longer { Longer rows.old.items rows.new.items }
+    ensures enough { OnOk result (count ≤ length rows.new.items) }
 {
-    if rows.len() < count {
+    let more = count.saturating_sub(rows.len());
+    for added in 0..more {
         let row = Row {
-            key: 0,
+            node: None,
             steps: 0,
             end: NO_STAMP,
         };
-        rows.resize(count, row)?;
+        rows.push(row)?;
     }
     Ok(())
+}
+
+// Puts a value in the place of another one, which is dropped.
+fn put<T: Drop>(place: &mut T, value: T)
+    ensures { place.new ≡ value }
+{
+    *place = value;
 }

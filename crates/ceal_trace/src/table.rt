@@ -1,80 +1,72 @@
 // The nodes of a trace by the numbers of their stamps.
 
-ghost use Rattle.std.specs.Prelude.{◌≡◌, ◌<◌, ◌≤◌, ◌+◌, ◌^◌, ℕ, length, [], Some, None, IsSome, IfSome, IfNone, OnOk, true};
-ghost use Rattle.slab.specs.Slab.{HasRoomFor, slab_len};
+ghost use Rattle.std.specs.Prelude.{◌≡◌, ◌≢◌, ◌<◌, ◌≤◌, ◌+◌, ◌^◌, ℕ, length, [], Some, None, IsSome, IfSome, IfNone, OnOk, true};
 ghost use Rattle.ceal_trace.specs.Nodes.{is_read, ends, valued};
-ghost use Rattle.ceal_trace.specs.Rows.{Reopened};
+ghost use Rattle.ceal_trace.specs.Rows.{Reopened, Valued};
 ghost use Rattle.ceal_trace.specs.Keeping.{kept, steps_of, end_of, noted, PutAt, TakenFrom, Wider, ValueSet, StepsSet, EndSet};
 
 use crate::node::{Gone, Node};
-use crate::row::{NO_STAMP, Row, lengthen, row_at, set_row};
+use crate::row::{NO_STAMP, Row, lengthen, put_node, row_at, set_end, set_steps, take_node};
 use ceal_base::no_memory::NoMemory;
 use ceal_base::word::Word;
 use ceal_order::stamp::Stamp;
-use slab::Slab;
 use std::alloc::Global;
 
-/// The nodes in a slab, and where the slab keeps them: a row for each stamp and each spare place of the order, by its
-/// number.
+/// A row for each stamp and each spare place of the order, by its number, and how many nodes there are.
 #[derive(Drop)]
 pub struct Table {
-    nodes: Slab<Node>,
     rows: Vec<Row>,
+    count: u32,
 }
 
 impl Table {
     pub fn new(alloc: Global) -> Table
         ensures rows { result.rows.items ≡ [] }
-        ensures nodes { slab_len result.nodes ≡ 0 }
+        ensures nodes { result.count ≡ 0 }
     {
         Table {
-            nodes: Slab::new(alloc),
             rows: Vec::new(alloc),
+            count: 0,
         }
     }
 
     /// Makes room for so many more nodes.
     pub fn reserve(&mut self, more: u32) -> Result<(), NoMemory>
-        requires { slab_len self.old.nodes < 2 ^ 32 }
-        ensures ok { OnOk result (HasRoomFor self.new.nodes more) }
-        ensures rows { OnOk result (slab_len self.new.nodes + more ≤ length self.new.rows.items) }
+        ensures rows { OnOk result (self.new.count + more ≤ length self.new.rows.items) }
         ensures kept { Wider self.old self.new }
     {
-        self.nodes.reserve(more as usize)?;
-        let count = self.nodes.len() + more as usize;
+        let count = self.count as usize + more as usize;
         lengthen(&mut self.rows, count)
     }
 
     /// Puts a node without steps at a stamp that has none.
     pub fn put(&mut self, at: Stamp, node: Node)
         requires row { at.0 < length self.old.rows.items }
-        requires room { HasRoomFor self.old.nodes 1 }
+        requires few { self.old.count + 1 < 2 ^ 32 }
         ensures { PutAt at.0 node self.old self.new }
     {
-        let key = self.nodes.insert_reserved(node);
-        let row = Row {
-            key,
-            steps: 0,
-            end: NO_STAMP,
-        };
-        set_row(&mut self.rows, at.0, row);
+        put_node(&mut self.rows, at.0, node);
+        self.count += 1;
     }
 
     /// Takes the node at a stamp out.
     pub fn take(&mut self, at: Stamp) -> Gone
         requires row { at.0 < length self.old.rows.items }
         requires there { IsSome (kept self.old at.0) }
+        requires some { 0 < self.old.count }
         requires read { (read : ℕ) (node : Node) → kept self.old at.0 ≡ Some node
             → ends read node ≡ true → read < length self.old.rows.items }
         ensures node { TakenFrom at.0 result.node self.old self.new }
         ensures steps { result.steps ≡ steps_of self.old at.0 }
     {
-        let row = row_at(&self.rows, at.0);
-        let node = self.nodes.remove(row.key);
-        reopen(&mut self.rows, &node);
-        Gone {
-            node,
-            steps: row.steps,
+        let steps = row_at(&self.rows, at.0).steps;
+        match take_node(&mut self.rows, at.0) {
+            None => unreachable!(),
+            Some(node) => {
+                reopen(&mut self.rows, &node);
+                self.count -= 1;
+                Gone { node, steps }
+            }
         }
     }
 
@@ -84,19 +76,18 @@ impl Table {
         ensures { kept self.now at.0 ≡ Some result.now }
     {
         let row = row_at(&self.rows, at.0);
-        &self.nodes[row.key]
+        match &row.node {
+            None => unreachable!(),
+            Some(node) => node,
+        }
     }
 
     /// Gives a read another value.
     pub fn set_value(&mut self, read: Stamp, value: Word)
-        requires row { read.0 < length self.old.rows.items }
-        requires read { is_read (kept self.old read.0) ≡ true }
+        requires { read.0 < length self.old.rows.items }
         ensures { ValueSet read.0 value self.old self.new }
     {
-        let row = row_at(&self.rows, read.0);
-        if let Some(node) = self.nodes.get_mut(row.key) {
-            give_value(node, value);
-        }
+        value_row(&mut self.rows, read.0, value);
     }
 
     pub fn steps(&self, at: Stamp) -> u32
@@ -110,8 +101,7 @@ impl Table {
         requires { at.0 < length self.old.rows.items }
         ensures { StepsSet at.0 steps self.old self.new }
     {
-        let row = row_at(&self.rows, at.0);
-        set_row(&mut self.rows, at.0, Row { steps, ..row });
+        set_steps(&mut self.rows, at.0, steps);
     }
 
     /// The end of a read, None where it is not finished.
@@ -132,9 +122,18 @@ impl Table {
         requires { read.0 < length self.old.rows.items }
         ensures { EndSet read.0 end.0 self.old self.new }
     {
-        let row = row_at(&self.rows, read.0);
-        let end = end.0;
-        set_row(&mut self.rows, read.0, Row { end, ..row });
+        set_end(&mut self.rows, read.0, end.0);
+    }
+}
+
+// Gives the read of a row another value.
+fn value_row(rows: &mut [Row], at: u32, value: Word)
+    requires { at < length rows.old }
+    ensures { Valued rows.old rows.new at value }
+{
+    let row = &mut rows[at as usize];
+    if let Some(node) = &mut row.node {
+        give_value(node, value);
     }
 }
 
@@ -153,8 +152,6 @@ fn reopen(rows: &mut [Row], node: &Node)
     ensures { Reopened rows.old rows.new node.now }
 {
     if let Node::End { read } = node {
-        let row = row_at(rows, read.0);
-        let end = NO_STAMP;
-        set_row(rows, read.0, Row { end, ..row });
+        set_end(rows, read.0, NO_STAMP);
     }
 }

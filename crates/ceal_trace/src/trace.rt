@@ -279,7 +279,8 @@ impl Trace {
         ensures loose { NoLooseEnd self.old.nodes → LooseEndOf stamp.0 self.new.nodes }
         ensures closed { NoLooseEnd self.old.nodes → end_in stamp.0 self.old.nodes ≡ None
             → NoLooseEnd self.new.nodes }
-        ensures still { (read : ℕ) → LooseEndOf read self.old.nodes → ends read result.node ≡ false → end_in stamp.0 self.old.nodes ≡ None
+        ensures still { (read : ℕ) → LooseEndOf read self.old.nodes → ends read result.node ≡ false
+            → end_in stamp.0 self.old.nodes ≡ None
             → LooseEndOf read self.new.nodes }
         ensures mended { (read : ℕ) → LooseEndOf read self.old.nodes
             → IsTrue (ends read result.node) → NoLooseEnd self.new.nodes }

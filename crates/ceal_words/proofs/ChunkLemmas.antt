@@ -1,6 +1,6 @@
 -- Cells that are all written.
 use Rattle.std.proofs.Common.{◌≡◌, ℕ, zero, suc, ◌*◌, ◌^◌, ◌<◌, List, [], ◌∷◌, length, map, get_or, set, replicate, Option, Some, None, refl, sym, ap, ◌∙◌, arith}
-use Rattle.std.proofs.lemmas.List.{length-map, length-set, length-replicate, map-set}
+use Rattle.std.proofs.lemmas.List.{length-set, length-replicate, map-set}
 use Rattle.ceal_words.specs.Written.{held, IsWritten}
 
 pub held_map : (xs : List ℕ) → held (map Some xs) ≡ xs
@@ -13,9 +13,6 @@ get_map (x ∷ xs) zero inside = refl
 get_map (x ∷ xs) (suc i) inside = get_map xs i (omega (arith, inside))
 
 module _ (cells : List (Option ℕ)) (count : ℕ) (written : IsWritten cells count) where
-  pub length_held : length (held cells) ≡ length cells
-  length_held = sym (length-map (held cells) Some) ∙ ap length (sym written.all)
-
   pub get_held : (i : ℕ) → i < length (held cells) → get_or cells i None ≡ Some (get_or (held cells) i 0)
   get_held i inside = ap (λ (cs : List (Option ℕ)). get_or cs i None) written.all ∙ get_map (held cells) i inside
 

@@ -9,9 +9,6 @@ use Rattle.ceal_words.specs.Layout.{piece, pieces_from}
 abbrev pub Agree : ℕ → ℕ → ℕ → List ℕ → List ℕ → Type 0
 Agree size made i before after = (j n : ℕ) → j ≢ i → j < made → n ≤ size → take n (drop (j * size) after) ≡ take n (drop (j * size) before)
 
-pub agree_then : (size made i : ℕ) (a b c : List ℕ) → Agree size made i a b → Agree size made i b c → Agree size made i a c
-agree_then size made i a b c f g j n other below fits = g j n other below fits ∙ f j n other below fits
-
 pub agree_set : (size made i index value : ℕ) (words : List ℕ) → index < size → Agree size made i words (set words (i * size + index) value)
 agree_set size made i index value words within j n other below fits =
     ⊎_elim (λ same. absurd (other same)) (λ apart. ⊎_elim

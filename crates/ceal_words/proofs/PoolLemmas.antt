@@ -1,5 +1,5 @@
 -- What each step of a size class does to its layout, and to what contracts see of it.
-use Rattle.std.proofs.Common.{append_assoc, ◌≡◌, ℕ, zero, suc, ◌+◌, ◌-◌, ◌*◌, ◌<◌, ◌≤◌, List, [], ◌∷◌, ◌++◌, length, take, drop, get_or, set, replicate, Option, Some, None, IsSome, IfSome, Result, Ok, Err, OnOk, OnErr, refl, sym, ap, ◌∙◌, subst, ⊎_elim, arith, slice_get}
+use Rattle.std.proofs.Common.{append_assoc, ◌≡◌, ℕ, zero, suc, ◌+◌, ◌-◌, ◌*◌, ◌<◌, ◌≤◌, List, [], ◌∷◌, ◌++◌, length, take, drop, get_or, set, replicate, Option, Some, None, IsSome, IfSome, Result, Ok, Err, OnErr, refl, sym, ap, ◌∙◌, subst, ⊎_elim, arith, slice_get}
 use Rattle.std.proofs.lemmas.List.{drop-set-add, get_or-drop, get_or-take, get_or-set_same, get_or-set_other, get_or_past, length-set, length-drop, length-take-le, length_push, length-replicate, replicate-append-replicate, set-get_or, get_or_push, get_or_append_left, set-set, set_at, drop_more, drop_all, append-nil, replicate_more}
 use Rattle.std.proofs.lemmas.Option.{slice_get-get_or, slice_get_past}
 use Rattle.std.proofs.lemmas.Nat.{mul-add-lt, row_fits}
@@ -321,11 +321,7 @@ pub on_err : {T E P : Type 0} (r : Result T E) → P → OnErr r P
 on_err (Ok x) p = tt
 on_err (Err e) p = p
 
-pub on_ok : {T E P : Type 0} (r : Result T E) → P → OnOk r P
-on_ok (Ok x) p = p
-on_ok (Err e) p = tt
-
--- room for the piece behind those that were made
+-- room for the piece after those that were made
 pub room_for : (size made i more n : ℕ) → i < more → (made + more) * size ≤ n → (made + i) * size + size ≤ n
 room_for size made i more n l h =
     let all = mul-le-mul_right {m = made + i + 1} {n = made + more} size (omega (arith, l)) in
@@ -347,7 +343,7 @@ grown_none zero class h =
     ∙ ap (λ (k : ℕ). record class { pieces = class.pieces; spare = k }) spare
 grown_none (suc n) class h = absurd (omega (arith, h))
 
--- one piece more, behind so many
+-- one piece more after the others
 module _ (size made head spare i : ℕ) (words marks : List ℕ) (old : SizeClass) (laid : IsLaidOut size words marks (made + i) head (spare + i))
     (enough : (made + i) * size + size ≤ length words) (class : class_of size words marks (spare + i) ≡ grown i old) where
   pub laid_one : IsLaidOut size (set words ((made + i) * size) head) (marks ++ 0 ∷ []) (made + (i + 1)) (made + i) (spare + (i + 1))

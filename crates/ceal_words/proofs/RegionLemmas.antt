@@ -1,12 +1,12 @@
 -- A change of one size class is a change of its slots alone.
-use Rattle.std.proofs.Common.{◌≡◌, ◌≢◌, ℕ, zero, suc, ◌+◌, ◌-◌, ◌^◌, ◌<◌, List, [], ◌∷◌, ◌++◌, length, get_or, set, replicate, Bool, cond, Option, Some, None, IsSome, IfSome, refl, sym, ap, ◌∙◌, subst, inl, inr, ◌⊎◌, ⊎_elim, arith, slice_get, is_some}
+use Rattle.std.proofs.Common.{◌≡◌, ◌≢◌, ℕ, zero, suc, ◌+◌, ◌-◌, ◌^◌, ◌<◌, List, [], ◌∷◌, ◌++◌, length, get_or, set, replicate, Bool, cond, Option, Some, None, IsSome, IfSome, refl, sym, ap, ◌∙◌, subst, inl, inr, ◌⊎◌, ⊎_elim, arith, slice_get}
 use Rattle.std.proofs.lemmas.List.{get_or-set_same, get_or-set_other, get_or_past, length-set, get_or_append_left, get_or-append_right, get_or-replicate, length-replicate, length_push}
 use Rattle.std.proofs.lemmas.Option.{slice_get-get_or, slice_get_past, slice_get_within, slice_get_read}
 use Rattle.std.specs.Int.Count.{leading_unique}
 use Rattle.std.proofs.lemmas.Bool.{cases_lt, cases_eq, eq-eqb, ne_eqb, false≢true}
 use Rattle.ceal_words.specs.Lengths.{size_class, RoundsTo}
 use Rattle.ceal_words.specs.SizeClass.{SizeClass, words_at, word_in, changed, given, with_word, grown}
-use Rattle.ceal_words.specs.Region.{of_length, words_in, words_of, word_of, spare_in, spare, KeepsOthers, KeepsAll, KeepsOtherSpares, KeepsSpares, IsInOrder, IsEmpty, AreNew}
+use Rattle.ceal_words.specs.Region.{of_length, words_in, words_of, word_of, spare_in, spare, KeepsOthers, KeepsAll, KeepsOtherSpares, KeepsSpares, IsInOrder, AreNew}
 use Rattle.ceal_words.specs.declared.slot.Slot.{Slot}
 
 get_set_same : {X : Type 0} (xs : List X) (i : ℕ) (x : X) → i < length xs → slice_get (set xs i x) i ≡ Some x
@@ -229,12 +229,6 @@ get_push [] x y (suc j) e = inl e
 get_push (z ∷ xs) x y zero e = inl e
 get_push (z ∷ xs) x y (suc j) e = ⊎_elim (λ found. inl found) (λ last. inr (ap suc last.0, last.1)) (get_push xs x y j e)
 
-pub no_classes : IsInOrder 0 [] × AreNew []
-no_classes = (record { counted = refl; sizes = λ k class e. absurd (none_there k class e) }, λ k class e. absurd (none_there k class e))
-  where
-    none_there : (k : ℕ) (class : SizeClass) → slice_get [] k ≡ Some class → ⊥
-    none_there k class e = false≢true (ap is_some e)
-
 abbrev size_of : Option SizeClass → ℕ
 size_of None = 0
 size_of (Some class) = class.size
@@ -254,17 +248,3 @@ one_more_class n region class e now = (
   λ k other found. ⊎_elim (λ before. now.1 k other before)
       (λ last. (sym (ap pieces_of last.1) ∙ ap (λ (c : SizeClass). c.pieces) e, sym (ap spare_in last.1) ∙ ap (λ (c : SizeClass). c.spare) e)) (get_push region class other k found),
 )
-
-no_words : (o : Option SizeClass) (at len : ℕ) → ((class : SizeClass) → o ≡ Some class → class.pieces ≡ []) → words_in o at len ≡ None
-no_words None at len bare = refl
-no_words (Some class) at len bare = ap (λ (ps : List (Option (List ℕ))). of_length len (words_at ps at)) (bare class refl)
-
-no_spare_in : (o : Option SizeClass) → ((class : SizeClass) → o ≡ Some class → class.spare ≡ 0) → spare_in o ≡ 0
-no_spare_in None bare = refl
-no_spare_in (Some class) bare = bare class refl
-
-pub all_new : (region : List SizeClass) → AreNew region → IsEmpty region
-all_new region new = record {
-  no_slot = λ slot. no_words (slice_get region slot.chunk) slot.at slot.len (λ class found. (new slot.chunk class found).0);
-  no_spare = λ len. no_spare_in (slice_get region (size_class len)) (λ class found. (new (size_class len) class found).1);
-}

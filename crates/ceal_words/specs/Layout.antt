@@ -40,6 +40,7 @@ free_count [] = 0
 free_count (zero ∷ marks) = suc (free_count marks)
 free_count (suc n ∷ marks) = free_count marks
 
+-- how the words and the marks of a chunk hold pieces of one size, of which `made` were made and `spare` more can be
 pub record IsLaidOut (size : ℕ) (words marks : List ℕ) (made head spare : ℕ) : Type 0 where
   pub some : 0 < size
   pub counted : length marks ≡ made

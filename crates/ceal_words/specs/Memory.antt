@@ -13,14 +13,17 @@ abbrev pub cell : ℕ → ℕ → Option ℕ → Fml
 cell b o (Some x) = part_at u64 full_share x b o
 cell b o None = froom (ty_int w64) b o
 
+-- cells one after another, 8 bytes each
 abbrev pub cells : ℕ → ℕ → List (Option ℕ) → Fml
 cells b o [] = ftrue
 cells b o (c ∷ cs) = fsep (cell b o c) (cells b (o + 8) cs)
 
+-- a cell that is lent
 abbrev pub cell_lent : ℕ → ℕ → Option ℕ → Lft → Fml
 cell_lent b o (Some x) = shared_of u64 x b o
 cell_lent b o None = nothing
 
+-- cells one after another, which are lent
 abbrev pub cells_lent : ℕ → ℕ → List (Option ℕ) → Lft → Fml
 cells_lent b o [] = nothing
 cells_lent b o (c ∷ cs) = beside (cell_lent b o c) (cells_lent b (o + 8) cs)
@@ -34,6 +37,7 @@ abbrev pub block_owns : Ptr → List (Option ℕ) → Fml
 block_owns (block_ptr b o) cs = fsep (small cs) (cells b o cs)
 block_owns null_ptr cs = ffalse
 
+-- what a block of cells lends
 abbrev pub block_lends : Ptr → List (Option ℕ) → Lft → Fml
 block_lends (block_ptr b o) cs = beside (said (small cs)) (cells_lent b o cs)
 block_lends null_ptr cs = said ffalse

@@ -9,6 +9,7 @@ abbrev pub of_length : ℕ → Option (List ℕ) → Option (List ℕ)
 of_length len None = None
 of_length len (Some words) = if length words == len then Some words else None
 
+-- the words at a place of a size class, if it is there and they are of this length
 abbrev pub words_in : Option SizeClass → ℕ → ℕ → Option (List ℕ)
 words_in None at len = None
 words_in (Some class) at len = of_length len (words_at class.pieces at)
@@ -21,9 +22,11 @@ words_of region slot = words_in (slice_get region slot.chunk) slot.at slot.len
 abbrev pub word_of : List SizeClass → Slot → ℕ → Option ℕ
 word_of region slot index = word_in (words_of region slot) index
 
+-- the length of a slot
 abbrev pub slot_len : Slot → ℕ
 slot_len slot = slot.len
 
+-- how many slots a size class has left
 abbrev pub spare_in : Option SizeClass → ℕ
 spare_in None = 0
 spare_in (Some class) = class.spare
@@ -44,6 +47,7 @@ KeepsAll before after = (slot : Slot) → words_of after slot ≡ words_of befor
 abbrev pub KeepsOtherSpares : ℕ → List SizeClass → List SizeClass → Type 0
 KeepsOtherSpares len before after = (other : ℕ) → size_class other ≢ size_class len → spare after other ≡ spare before other
 
+-- of each length as many slots are left as before
 abbrev pub KeepsSpares : List SizeClass → List SizeClass → Type 0
 KeepsSpares before after = (len : ℕ) → spare after len ≡ spare before len
 

@@ -7,7 +7,7 @@ held [] = []
 held (None ∷ cs) = 0 ∷ held cs
 held (Some x ∷ cs) = x ∷ held cs
 
--- so many cells, and each is written
+-- n cells, and each is written
 pub record IsWritten (cells : List (Option ℕ)) (count : ℕ) : Type 0 where
   pub all : cells ≡ map Some (held cells)
   pub counted : length cells ≡ count

@@ -42,7 +42,7 @@ impl Drop for Chunk {
 }
 
 impl Chunk {
-    /// So many words that are 0.
+    /// `count` words that are 0.
     pub(crate) fn zeros(alloc: Global, count: usize) -> Result<Chunk, NoMemory>
         ensures { IfOk result (λ c. c ≡ replicate count 0) }
     {

@@ -33,7 +33,7 @@ impl Model for Pool {
     ghost invariant = { λ p. IsLaidOut p.size p.chunk p.marks.lens p.made p.head p.spare };
 }
 
-// Makes free pieces behind those that were made, in a chunk that has room for them, and says which one is the head of
+// Makes free pieces after those that were made, in a chunk that has room for them, and says which one is the head of
 // the free list then.
 fn link_pieces(
     chunk: &mut Chunk,
@@ -49,7 +49,8 @@ fn link_pieces(
     ensures laid { (spare : ℕ) → IsLaidOut size chunk.old marks.old.lens made head spare
         → IsLaidOut size chunk.new marks.new.lens (made + more) result (spare + more) }
     ensures class { (spare : ℕ) → IsLaidOut size chunk.old marks.old.lens made head spare
-        → class_of size chunk.new marks.new.lens (spare + more) ≡ grown more (class_of size chunk.old marks.old.lens spare) }
+        → class_of size chunk.new marks.new.lens (spare + more)
+        ≡ grown more (class_of size chunk.old marks.old.lens spare) }
 {
     let mut head = head;
     for i in 0..more {

@@ -2,7 +2,7 @@ use Rattle.std.proofs.Common.{sym}
 use Rattle.ceal_memo.specs.Homes.{entries_in}
 use Rattle.ceal_memo.specs.Memo.{HasNone}
 use Rattle.ceal_memo.proofs.Taking.{kept_less, none_less, none_still, follows_less, some_of_home, none_of_homeless}
-use Rattle.ceal_memo.proofs.StampLists.{without_none}
+use Rattle.ceal_order.proofs.StampLists.{without_none}
 use Rattle.ceal_memo.proofs.memo.Memo.remove.Goals as goal
 use Rattle.ceal_memo.proofs.memo.Memo.remove.Goals.{In_default}
 

@@ -1,26 +1,45 @@
-use Rattle.std.proofs.Common.{rules}
-use Rattle.ceal_mods.specs.declared.cell.Cell.{Cell}
-use Rattle.ceal_mods.proofs.ModsLemmas.{rise_same, rise_changed}
+use Rattle.std.proofs.Common.{◌≡◌, length, sym, ◌∙◌}
+use Rattle.std.proofs.lemmas.List.{with_items_is}
+use Rattle.ceal_mods.proofs.IndexLemmas.{length-with}
+use Rattle.ceal_mods.proofs.ModsLemmas.{rise_same, at, cell_here, rises_here, changed, follow, indexed, cell_none, added, follow_added}
 use Rattle.ceal_mods.proofs.mods.Mods.set_base.Goals as goal
 
-pub returns-in-Some-clause-follows : goal.returns-in-Some-clause-follows
-returns-in-Some-clause-follows c = λ order follows.
-    let rise = rw (← c.self.view_is) at follows in
-    let rises = rw (← c.in-Some.ensures.value) at (rise c.args.place) in
-    let next : Cell = record { base = c.args.value; writes = c.in-Some.cell.now.writes; reads = c.in-Some.cell.now.reads } in
-    let written = (c.get_mut.follows.holds next).3 (rw (← c.in-Some.ensures.value) (search rules)) in
-    rise_changed order c.self.inside.cells.entries (c.get_mut.follows.lender next).entries c.args.place next rise written.0
-    (record { writes = rises.writes; reads = rises.reads })
+pub set_base_at-requires : goal.set_base_at-requires
+set_base_at-requires c = rw c.deref_mut.ensures.value (at c.self.inside.index c.self.inside.cells.items c.args.place c.find-slot.result c.self.invariant c.find-slot.ensures c.if-slot.true).within
 
-pub returns-in_err-insert-clause-follows : goal.returns-in_err-insert-clause-follows
-returns-in_err-insert-clause-follows c = λ order follows.
+pub invariant_of-self : goal.invariant_of-self
+invariant_of-self c =
+    let cell = rw c.deref_mut.ensures.value at c.set_base_at.ensures in
+    let long : length c.set_base_at.new.cells ≡ length c.self.inside.cells.items = rw cell (length-with _ _ _) in
+    let back = with_items_is c.self.inside.cells c.set_base_at.new.cells (long ∙ sym c.self.inside.cells.ok.0) in
+    indexed c.self.inside.index c.self.inside.cells.items c.args.place c.find-slot.result c.self.invariant c.find-slot.ensures c.if-slot.true _ _ (back ∙ cell)
+
+pub returns-then-slot-clause-ok : goal.returns-then-slot-clause-ok
+returns-then-slot-clause-ok c =
+    let cell = rw c.deref_mut.ensures.value at c.set_base_at.ensures in
+    let long : length c.set_base_at.new.cells ≡ length c.self.inside.cells.items = rw cell (length-with _ _ _) in
+    let back = with_items_is c.self.inside.cells c.set_base_at.new.cells (long ∙ sym c.self.inside.cells.ok.0) in
+    rw (← c.self.view_is, cell_here c.self.inside.index c.self.inside.cells.items c.args.place c.find-slot.result c.self.invariant c.find-slot.ensures c.if-slot.true) (changed c.self.inside.index c.self.inside.cells.items c.args.place c.find-slot.result c.self.invariant c.find-slot.ensures c.if-slot.true c.self.inside.looked _ _ (back ∙ cell))
+
+pub returns-then-slot-clause-follows : goal.returns-then-slot-clause-follows
+returns-then-slot-clause-follows c = λ order follows.
+    let cell = rw c.deref_mut.ensures.value at c.set_base_at.ensures in
+    let long : length c.set_base_at.new.cells ≡ length c.self.inside.cells.items = rw cell (length-with _ _ _) in
+    let back = with_items_is c.self.inside.cells c.set_base_at.new.cells (long ∙ sym c.self.inside.cells.ok.0) in
     let rise = rw (← c.self.view_is) at follows in
-    let kept = rw c.get_mut.follows.holds-at-none at c.in_err-insert.ensures.err in
-    rise_same order c.self.inside.cells.entries c.insert.new.self.entries rise kept
+    let rises = rises_here c.self.inside.index c.self.inside.cells.items c.args.place c.find-slot.result c.self.invariant c.find-slot.ensures c.if-slot.true order rise in
+    follow c.self.inside.index c.self.inside.cells.items c.args.place c.find-slot.result c.self.invariant c.find-slot.ensures c.if-slot.true order _ _ rise (back ∙ cell) (record { writes = rises.writes; reads = rises.reads })
+
+pub returns-in_err-enter-clause-follows : goal.returns-in_err-enter-clause-follows
+returns-in_err-enter-clause-follows c = λ order follows.
+    let rise = rw (← c.self.view_is) at follows in
+    rise_same order c.self.inside.cells.items c.enter.new.cells.items rise c.in_err-enter.ensures.err
+
+pub returns-clause-ok : goal.returns-clause-ok
+returns-clause-ok c =
+    rw (← c.self.view_is, cell_none c.self.inside.index c.self.inside.cells.items c.args.place c.find-slot.result c.self.invariant c.find-slot.ensures c.if-slot.false) (rw c.new-cell.ensures at (added c.self.inside.index c.self.inside.cells.items c.args.place c.find-slot.result c.self.invariant c.find-slot.ensures c.if-slot.false c.self.inside.looked _ _ c.in_ok-enter.ensures.ok))
 
 pub returns-clause-follows : goal.returns-clause-follows
 returns-clause-follows c = λ order follows.
     let rise = rw (← c.self.view_is) at follows in
-    let updates = rw c.get_mut.follows.holds-at-none at c.in_ok-insert.ensures.updates in
-    rise_changed order c.self.inside.cells.entries c.insert.new.self.entries c.args.place c.new.result rise updates.0
-    (rw c.new.ensures (record { writes = tt; reads = tt }))
+    follow_added c.self.inside.index c.self.inside.cells.items c.args.place c.find-slot.result c.self.invariant c.find-slot.ensures c.if-slot.false order _ _ rise c.in_ok-enter.ensures.ok (rw c.new-cell.ensures (record { writes = tt; reads = tt }))

@@ -18,5 +18,5 @@ returns-else-count-eq0 c =
     let some = c.if-count-eq0.false in
     let within = c.count_before-count.ensures.within in
     let same = c.self.invariant in
-    let value = value_after-at c.args.base c.index.result.now c.self.inside.values.items c.count_before-count.result (omega (arith, some)) (omega (arith, within, same)) in
-    rw (← c.self.view_is, last-before _ _ _ _ _ c.self.invariant rising, ← c.count_before-count.ensures.count) (c.index.ensures ∙ sym value)
+    let value = value_after-at c.args.base c.args.base c.self.inside.values c.count_before-count.result (omega (arith, some)) (omega (arith, within, same)) in
+    rw (← c.self.view_is, last-before _ _ _ _ _ c.self.invariant rising, ← c.count_before-count.ensures.count) (sym (c.get.ensures c.args.base) ∙ sym value)

@@ -11,16 +11,16 @@ remove-at-requires-clause-there c = rw (stamps-written _ _ c.self.invariant) at 
 pub invariant_of-self : goal.invariant_of-self
 invariant_of-self c =
     let there = rw (stamps-written _ _ c.self.invariant) at (rw (← c.self.view_is) at c.requires.there) in
-    rw (c.remove-at.ensures.stamps, c.remove.ensures.items, c.remove-at.ensures.at) (as_many-without _ _ _ c.self.invariant there)
+    rw (c.remove-at.ensures.stamps, c.remove.ensures, c.remove-at.ensures.at) (as_many-without _ _ _ c.self.invariant there)
 
 pub returns-clause-writes : goal.returns-clause-writes
 returns-clause-writes c =
     let there = rw (stamps-written _ _ c.self.invariant) at (rw (← c.self.view_is) at c.requires.there) in
-    rw (c.remove-at.ensures.stamps, c.remove.ensures.items, c.remove-at.ensures.at, ← c.self.view_is) (written-without _ _ _ c.self.invariant there)
+    rw (c.remove-at.ensures.stamps, c.remove.ensures, c.remove-at.ensures.at, ← c.self.view_is) (written-without _ _ _ c.self.invariant there)
 
 pub returns-clause-rising : goal.returns-clause-rising
 returns-clause-rising c =
     let there = rw (stamps-written _ _ c.self.invariant) at (rw (← c.self.view_is) at c.requires.there) in
-    let same : length c.remove-at.new.self ≡ length c.remove.new.self.items
-    = rw (c.remove-at.ensures.stamps, c.remove.ensures.items, c.remove-at.ensures.at) (as_many-without _ _ _ c.self.invariant there) in
+    let same : length c.remove-at.new.self ≡ length c.remove.new.self
+    = rw (c.remove-at.ensures.stamps, c.remove.ensures, c.remove-at.ensures.at) (as_many-without _ _ _ c.self.invariant there) in
     rw (stamps-written _ _ same) c.remove-at.ensures.rising

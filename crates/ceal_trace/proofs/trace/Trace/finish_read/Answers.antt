@@ -1,6 +1,6 @@
 use Rattle.std.proofs.Common.{refl, arith, ◌<◌, length}
 use Rattle.ceal_trace.proofs.Entries.{has-read}
-use Rattle.ceal_trace.proofs.Keeps.{there_is, new_row, row_bound}
+use Rattle.ceal_trace.proofs.Keeps.{there_is, new_row, new_count, row_bound}
 use Rattle.ceal_trace.proofs.Growing.{end_grew, end_is_found, end_others_are}
 use Rattle.ceal_trace.proofs.trace.Trace.finish_read.Goals as goal
 
@@ -12,6 +12,12 @@ put-requires-clause-row c =
     let here = there_is c.self.inside.order c.self.inside.table c.args.after.0 (rw (← c.self.view_is) at c.requires.here) in
     let e = c.insert_after-end.ensures in
     new_row _ _ _ _ _ c.self.invariant.has_nodes here e.stamps e.spare e.below
+
+pub put-requires-clause-few : goal.put-requires-clause-few
+put-requires-clause-few c =
+    let here = there_is c.self.inside.order c.self.inside.table c.args.after.0 (rw (← c.self.view_is) at c.requires.here) in
+    let e = c.insert_after-end.ensures in
+    new_count _ _ _ _ _ c.self.invariant.has_nodes here e.stamps e.whole
 
 pub set_end-requires : goal.set_end-requires
 set_end-requires c =

@@ -1,4 +1,4 @@
-use Rattle.ceal_trace.proofs.Keeps.{there_is, new_row}
+use Rattle.ceal_trace.proofs.Keeps.{there_is, new_row, new_count}
 use Rattle.ceal_trace.proofs.Growing.{plain_grew, plain_ends_are, plain_is_open}
 use Rattle.ceal_trace.proofs.trace.Trace.insert.Goals as goal
 
@@ -10,6 +10,12 @@ put-requires-clause-row c =
     let here = there_is c.self.inside.order c.self.inside.table c.args.after.0 (rw (← c.self.view_is) at c.requires.here) in
     let e = c.insert_after-new.ensures in
     new_row _ _ _ _ _ c.self.invariant.has_nodes here e.stamps e.spare e.below
+
+pub put-requires-clause-few : goal.put-requires-clause-few
+put-requires-clause-few c =
+    let here = there_is c.self.inside.order c.self.inside.table c.args.after.0 (rw (← c.self.view_is) at c.requires.here) in
+    let e = c.insert_after-new.ensures in
+    new_count _ _ _ _ _ c.self.invariant.has_nodes here e.stamps e.whole
 
 pub invariant_of-self : goal.invariant_of-self
 invariant_of-self c =
