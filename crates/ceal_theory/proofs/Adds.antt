@@ -1,7 +1,7 @@
 -- What a repair adds: the numbers of its new blocks, each of which its items have, and their words.
 use Rattle.std.proofs.Common.{◌≡◌, ℕ, ◌+◌, ◌≤◌, Bool, true, false, ◌==◌, if◌then◌else◌, Some, List, ◌⊎◌, inl, inr, refl, sym, ◌∙◌, subst, arith}
 use Rattle.ceal_base.specs.Block.{Block}
-use Rattle.ceal_base.specs.Trace.{Trace, Nothing, Stepped, Allocated, Wrote, Was_read, blocks_of}
+use Rattle.ceal_base.specs.Trace.{Trace, Nothing, Stepped, Allocated, Wrote, WasRead, blocks_of}
 use Rattle.ceal_base.specs.declared.forest.UnitId.{UnitId}
 use Rattle.ceal_base.specs.declared.word.BlockId.TheVariants.{Input, Core}
 use Rattle.ceal_base.specs.declared.word.Place.{Place}
@@ -13,13 +13,13 @@ use Rattle.ceal_code.specs.Step.{Stack}
 use Rattle.ceal_code.specs.Value.{Plain}
 use Rattle.ceal_theory.proofs.DistinctBlocks.{uses, named, next-named, distinct-new, times-append, times-cons, anew-uses}
 use Rattle.ceal_theory.specs.Repair.{Single, State, clears, puts, works, grows, Fix, Mend, Anew}
-use Rattle.ceal_theory.specs.Slices.{Part, Names_apart}
-use Rattle.ceal_theory.specs.SliceLaws.{Is_named}
+use Rattle.ceal_theory.specs.Slices.{Part, NamesApart}
+use Rattle.ceal_theory.specs.SliceLaws.{IsNamed}
 
 -- from the state s to s' with the new items, and what was left over of the old ones
 pub record Adds (names : ℕ → ℕ) (s s' : State) (new : Trace) : Type 0 where
   pub input : (i : ℕ) → s'.plain (Input i) ≡ s.plain (Input i)
-  pub known : (b : ℕ) (block : Block) → s'.plain (Core b) ≡ Some block → (s.plain (Core b) ≡ Some block) ⊎ Is_named names s.number s'.number b
+  pub known : (b : ℕ) (block : Block) → s'.plain (Core b) ≡ Some block → (s.plain (Core b) ≡ Some block) ⊎ IsNamed names s.number s'.number b
   pub items : (b : ℕ) → named names s'.number b ≤ uses b new + named names s.number b
   pub numbers : s.number ≤ s'.number
   pub work : s'.number + s.work ≤ s.number + s'.work
@@ -42,11 +42,11 @@ then' names s t s' l m n e a c = record {
   work = omega (arith, a.work, c.work);
 }
   where
-    earlier : (b : ℕ) (block : Block) → (s.plain (Core b) ≡ Some block) ⊎ Is_named names s.number t.number b → (s.plain (Core b) ≡ Some block) ⊎ Is_named names s.number s'.number b
+    earlier : (b : ℕ) (block : Block) → (s.plain (Core b) ≡ Some block) ⊎ IsNamed names s.number t.number b → (s.plain (Core b) ≡ Some block) ⊎ IsNamed names s.number s'.number b
     earlier b block (inl h) = inl h
     earlier b block (inr h) = inr (h.0, h.1, omega (arith, h.2, c.numbers), h.3)
 
-    go : (b : ℕ) (block : Block) → (t.plain (Core b) ≡ Some block) ⊎ Is_named names t.number s'.number b → (s.plain (Core b) ≡ Some block) ⊎ Is_named names s.number s'.number b
+    go : (b : ℕ) (block : Block) → (t.plain (Core b) ≡ Some block) ⊎ IsNamed names t.number s'.number b → (s.plain (Core b) ≡ Some block) ⊎ IsNamed names s.number s'.number b
     go b block (inl h) = earlier b block (a.known b block h)
     go b block (inr h) = inr (h.0, omega (arith, h.1, a.numbers), h.2, h.3)
 
@@ -60,7 +60,7 @@ with-items names s t s' l n e p q w a = record {
   work = omega (arith, a.work, q, w);
 }
   where
-    go : (b : ℕ) (block : Block) → (t.plain (Core b) ≡ Some block) ⊎ Is_named names t.number s'.number b → (s.plain (Core b) ≡ Some block) ⊎ Is_named names s.number s'.number b
+    go : (b : ℕ) (block : Block) → (t.plain (Core b) ≡ Some block) ⊎ IsNamed names t.number s'.number b → (s.plain (Core b) ≡ Some block) ⊎ IsNamed names s.number s'.number b
     go b block (inl h) = inl (rw p at h)
     go b block (inr h) = inr (h.0, omega (arith, h.1, q), h.2, h.3)
 
@@ -86,12 +86,12 @@ adds-block code names s s' key l a = record {
   work = omega (arith, a.work);
 }
   where
-    of : (b : ℕ) (block : Block) → (s.plain (Core b) ≡ Some block) ⊎ (b ≡ names s.number) → (s.plain (Core b) ≡ Some block) ⊎ Is_named names s.number s'.number b
+    of : (b : ℕ) (block : Block) → (s.plain (Core b) ≡ Some block) ⊎ (b ≡ names s.number) → (s.plain (Core b) ≡ Some block) ⊎ IsNamed names s.number s'.number b
     of b block (inl h) = inl h
     of b block (inr h) = inr (s.number, omega arith, omega (arith, a.numbers), h)
 
-    go : (b : ℕ) (block : Block) → (learnt s.plain (Core (names s.number)) (made code s.plain key) (Core b) ≡ Some block) ⊎ Is_named names (s.number + 1) s'.number b
-        → (s.plain (Core b) ≡ Some block) ⊎ Is_named names s.number s'.number b
+    go : (b : ℕ) (block : Block) → (learnt s.plain (Core (names s.number)) (made code s.plain key) (Core b) ≡ Some block) ⊎ IsNamed names (s.number + 1) s'.number b
+        → (s.plain (Core b) ≡ Some block) ⊎ IsNamed names s.number s'.number b
     go b block (inl h) = of b block (learnt-known s.plain (names s.number) b (made code s.plain key) block h)
     go b block (inr h) = inr (h.0, omega (arith, h.1), h.2, h.3)
 
@@ -104,7 +104,7 @@ module _ (code : Code) {names : ℕ → ℕ} where
         with-items names s (clears code s c key) s' l (Allocated c key l) (λ b. omega (arith, times-cons b c (blocks_of l))) refl refl (omega arith) (fix-adds f)
     fix-adds {s} {s'} (Fix.write {p = p} {value = v} {rest' = l} f) = with-items names s (puts s p v) s' l (Wrote p v l) (λ b. omega arith) refl refl (omega arith) (fix-adds f)
     fix-adds {s} {s'} (Fix.read {t = t} {p = p} {u = u} {v = v} {args = args} {inside' = i} {rest' = l} m f) =
-        then' names s t s' i l (Was_read p (s.store p) u v args i l) (λ b. times-append b (blocks_of i) (blocks_of l)) (mend-adds m) (fix-adds f)
+        then' names s t s' i l (WasRead p (s.store p) u v args i l) (λ b. times-append b (blocks_of i) (blocks_of l)) (mend-adds m) (fix-adds f)
 
     pub mend-adds : {s t : State} {p : Place} {u : UnitId} {v : ℕ} {args : List Word} {value : Word} {old new : Trace} → Mend code names s p u v args value old t new → Adds names s t new
     mend-adds (Mend.kept e f) = fix-adds f
@@ -118,11 +118,11 @@ module _ (code : Code) {names : ℕ → ℕ} where
     anew-adds {s} {s'} (Anew.makes {key = key} {new = l} e w a) = adds-block code names s s' key l (anew-adds a)
     anew-adds {s} {s'} (Anew.writes {p = p} {value = v} {new = l} e a) = with-items names s (puts (works s) p v) s' l (Stepped (Wrote p v l)) (λ b. omega arith) refl refl (omega arith) (anew-adds a)
     anew-adds {s} {s'} (Anew.takes_read {t = t} {p = p} {u = u} {v = v} {args = args} {inside' = i} {new = l} e w m a) =
-        with-items names s (works s) s' (Was_read p (s.store p) u v args i l) (Stepped (Was_read p (s.store p) u v args i l)) (λ b. omega arith) refl refl (omega arith)
-        (then' names (works s) t s' i l (Was_read p (s.store p) u v args i l) (λ b. times-append b (blocks_of i) (blocks_of l)) (mend-adds m) (anew-adds a))
+        with-items names s (works s) s' (WasRead p (s.store p) u v args i l) (Stepped (WasRead p (s.store p) u v args i l)) (λ b. omega arith) refl refl (omega arith)
+        (then' names (works s) t s' i l (WasRead p (s.store p) u v args i l) (λ b. times-append b (blocks_of i) (blocks_of l)) (mend-adds m) (anew-adds a))
     anew-adds {s} {s'} (Anew.reads {t = t} {p = p} {u = u} {v = v} {args = args} {inside' = i} {new = l} e w m a) =
-        with-items names s (works s) s' (Was_read p (s.store p) u v args i l) (Stepped (Was_read p (s.store p) u v args i l)) (λ b. omega arith) refl refl (omega arith)
-        (then' names (works s) t s' i l (Was_read p (s.store p) u v args i l) (λ b. times-append b (blocks_of i) (blocks_of l)) (anew-adds m) (anew-adds a))
+        with-items names s (works s) s' (WasRead p (s.store p) u v args i l) (Stepped (WasRead p (s.store p) u v args i l)) (λ b. omega arith) refl refl (omega arith)
+        (then' names (works s) t s' i l (WasRead p (s.store p) u v args i l) (λ b. times-append b (blocks_of i) (blocks_of l)) (anew-adds m) (anew-adds a))
 
   adds-here : (s : State) (l : Trace) → Adds names s s l
   adds-here s l = with-items names s s s Nothing l (λ b. omega arith) refl refl (omega arith) (adds-none names s s refl refl refl)
@@ -135,9 +135,9 @@ module _ (code : Code) {names : ℕ → ℕ} where
       with-items names s (clears code s c key) s' l (Allocated c key l) (λ b. omega (arith, times-cons b c (blocks_of l))) refl refl (omega arith) (part-adds f)
   part-adds {s = s} {s' = s'} (Part.write {p = p} {value = v} {rest' = l} f) = with-items names s (puts s p v) s' l (Wrote p v l) (λ b. omega arith) refl refl (omega arith) (part-adds f)
   part-adds {s = s} {s' = s'} (Part.kept {t = t} {p = p} {u = u} {v = v} {args = args} {inside' = i} {rest' = l} e g f) =
-      then' names s t s' i l (Was_read p (s.store p) u v args i l) (λ b. times-append b (blocks_of i) (blocks_of l)) (part-adds g) (part-adds f)
+      then' names s t s' i l (WasRead p (s.store p) u v args i l) (λ b. times-append b (blocks_of i) (blocks_of l)) (part-adds g) (part-adds f)
   part-adds {s = s} {s' = s'} (Part.stale {t = t} {p = p} {u = u} {v = v} {args = args} {inside' = i} {rest' = l} n a f) =
-      then' names s t s' i l (Was_read p (s.store p) u v args i l) (λ b. times-append b (blocks_of i) (blocks_of l)) (anew-adds a) (part-adds f)
+      then' names s t s' i l (WasRead p (s.store p) u v args i l) (λ b. times-append b (blocks_of i) (blocks_of l)) (anew-adds a) (part-adds f)
 
   -- the new items have the old blocks at most, each as often, and new numbers
   pub part-uses : (b : ℕ) {k j : ℕ} {s s' : State} {old new : Trace} → Part code names k s old j s' new → uses b new + named names s.number b ≤ uses b old + named names s'.number b
@@ -152,6 +152,6 @@ module _ (code : Code) {names : ℕ → ℕ} where
       omega (arith, anew-uses code b a, part-uses b f, times-append b (blocks_of inside) (blocks_of rest), times-append b (blocks_of inside') (blocks_of rest'))
 
   pub part-distinct : {k j : ℕ} {s s' : State} {old new : Trace} → Single names → Part code names k s old j s' new → Distinct (core_numbers (blocks_of old))
-      → Names_apart names s.number old → Distinct (core_numbers (blocks_of new))
+      → NamesApart names s.number old → Distinct (core_numbers (blocks_of new))
   part-distinct {s = s} {s' = s'} {old = old} {new = new} single f d low b =
       distinct-new names single s.number s'.number b (uses b new) (uses b old) (part-uses b f) (d b) (λ k i e. subst (λ z. uses z old ≡ 0) (sym e) (low k i))

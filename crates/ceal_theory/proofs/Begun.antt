@@ -14,20 +14,20 @@ use Rattle.ceal_theory.proofs.Growth.{own-single}
 use Rattle.ceal_theory.proofs.Honesty.{fix-honest}
 use Rattle.ceal_theory.proofs.Inputs.{fits-more}
 use Rattle.ceal_theory.proofs.Repaired.{yields-new, played}
-use Rattle.ceal_theory.specs.Adjust.{Adjusts_as}
+use Rattle.ceal_theory.specs.Adjust.{AdjustsAs}
 use Rattle.ceal_theory.specs.Computed.{Repaired, adjusted}
 use Rattle.ceal_theory.specs.Laws.{Edited}
 use Rattle.ceal_theory.specs.Repair.{Single, own, State, Fix}
-use Rattle.ceal_theory.proofs.SameStore.{Fix_again, fix-again}
+use Rattle.ceal_theory.proofs.SameStore.{FixAgain, fix-again}
 use Rattle.ceal_theory.specs.Walk.{with_store}
 use Rattle.ceal_theory.proofs.SliceFunction.{sliced-sound, sliced-found}
 use Rattle.ceal_theory.proofs.Done.{same-bases, in-order}
 use Rattle.ceal_theory.proofs.Sound.{with-same, starting-known, begin-sound, runs-sound}
-use Rattle.ceal_theory.specs.SliceLaws.{Same_repair, Comes_to}
-use Rattle.ceal_theory.specs.Slices.{Names_apart, Repair, with_inputs, starting, goes_on, Runs, repair_at, Slices, sliced, beginning}
+use Rattle.ceal_theory.specs.SliceLaws.{SameRepair, ComesTo}
+use Rattle.ceal_theory.specs.Slices.{NamesApart, Repair, with_inputs, starting, goes_on, Runs, repair_at, Slices, sliced, beginning}
 
 module _ (code : Code) (names : ℕ → ℕ) (old new : List Block) (f : ℕ) (args : List Word) (l : Trace) (above number : ℕ) (e : Edited code old new f args l above) (single : Single names)
-    (apart : Names_apart names number l) where
+    (apart : NamesApart names number l) where
   fits : Fits code new f args
   fits = fits-more code old new e.extended f args e.call e.fit
 
@@ -38,11 +38,11 @@ module _ (code : Code) (names : ℕ → ℕ) (old new : List Block) (f : ℕ) (a
   abbrev at_plain : Plain → State
   at_plain x = record { store = starting code new (plain_of code new l); plain = x; number = number; work = 0 }
 
-  pub adjusts-slices : (m : Trace) (work : ℕ) → Adjusts_as code new names number l m work → Comes_to code names new (beginning code new l number) m work
+  pub adjusts-slices : (m : Trace) (work : ℕ) → AdjustsAs code new names number l m work → ComesTo code names new (beginning code new l number) m work
   adjusts-slices m work a = finish (fix-again code names (length new) a.fix (played code old new f args e.call e.fit e.extended l e.trace names single number apart m work a).mentions
       (starting code new (plain_of code new l)) (λ p k. sym (same-bases code new (plain_of code new l) p k)))
     where
-      finish : {cs : List ℕ} → Fix_again code names (length new) a.after (at_plain (plain_of code new l)) l m cs → Comes_to code names new (beginning code new l number) m work
+      finish : {cs : List ℕ} → FixAgain code names (length new) a.after (at_plain (plain_of code new l)) l m cs → ComesTo code names new (beginning code new l number) m work
       finish q = record {
         repair = repair_at (with_store a.after q.after) m;
         slice = record {
@@ -55,7 +55,7 @@ module _ (code : Code) (names : ℕ → ℕ) (old new : List Block) (f : ℕ) (a
         spent = a.counted;
       }
 
-  fix-adjusts : (s' : State) (m : Trace) → Runs code names None (goes_on code new (beginning code new l number)) l s' m → Adjusts_as code new names number l m s'.work
+  fix-adjusts : (s' : State) (m : Trace) → Runs code names None (goes_on code new (beginning code new l number)) l s' m → AdjustsAs code new names number l m s'.work
   fix-adjusts s' m (Runs.whole g) =
       let h = begin-sound code names old new f args l above number e single apart in
       let o = in-order code new f args fits (repair_at s' m) (runs-sound code new f args fits (beginning code new l number) h None s' m (Runs.whole g))
@@ -64,12 +64,12 @@ module _ (code : Code) (names : ℕ → ℕ) (old new : List Block) (f : ℕ) (a
       let q = fix-again code names (length new) g' o.mentions (bases code new) (same-bases code new (plain_of code new l)) in
       record { after = with_store s' q.after; fix = q.fix; counted = refl }
 
-  pub slices-adjusts : (r' : Repair) → Slices code names new None (beginning code new l number) r' → Adjusts_as code new names number l r'.items r'.spent
-  slices-adjusts r' s = subst (λ r'. Adjusts_as code new names number l r'.items r'.spent) (sym s.is) (fix-adjusts s.after s.items s.runs)
+  pub slices-adjusts : (r' : Repair) → Slices code names new None (beginning code new l number) r' → AdjustsAs code new names number l r'.items r'.spent
+  slices-adjusts r' s = subst (λ r'. AdjustsAs code new names number l r'.items r'.spent) (sym s.is) (fix-adjusts s.after s.items s.runs)
 
 module _ (code : Code) (old new : List Block) (f : ℕ) (args : List Word) (l : Trace) (number : ℕ) (e : Edited code old new f args l number) where
-  by-cases : (n : ℕ) (o : Option Repaired) (q : Option Repair) → adjusted code new number n l ≡ o → sliced code own new None n (beginning code new l number) ≡ q → Same_repair o q
-  by-cases n None None i j = Same_repair.none
+  by-cases : (n : ℕ) (o : Option Repaired) (q : Option Repair) → adjusted code new number n l ≡ o → sliced code own new None n (beginning code new l number) ≡ q → SameRepair o q
+  by-cases n None None i j = SameRepair.none
   by-cases n (Some a) None i j =
       let s = adjusted-sound code new number n l a i in
       let c = adjusts-slices code own old new f args l number number e own-single e.above a.items a.work s.0 in
@@ -80,7 +80,7 @@ module _ (code : Code) (old new : List Block) (f : ℕ) (args : List Word) (l : 
   by-cases n (Some a) (Some r) i j =
       let s = sliced-sound code own new n (beginning code new l number) None r j in
       let same = some-same a (record { items = r.items; work = r.spent }) (sym i ∙ adjusted-found code new number n l r.items r.spent (slices-adjusts code own old new f args l number number e own-single e.above r s.0) s.1) in
-      Same_repair.some (ap (λ a. a.items) (sym same)) (ap (λ a. a.work) (sym same))
+      SameRepair.some (ap (λ a. a.items) (sym same)) (ap (λ a. a.work) (sym same))
 
-  pub begun-adjusted : (n : ℕ) → Same_repair (adjusted code new number n l) (sliced code own new None n (beginning code new l number))
+  pub begun-adjusted : (n : ℕ) → SameRepair (adjusted code new number n l) (sliced code own new None n (beginning code new l number))
   begun-adjusted n = by-cases n (adjusted code new number n l) (sliced code own new None n (beginning code new l number)) refl refl

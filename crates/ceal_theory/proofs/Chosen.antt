@@ -22,8 +22,8 @@ use Rattle.ceal_theory.proofs.MachineLaws.{leads-stays, leads-then, takes-turn}
 use Rattle.ceal_theory.proofs.Named.{handed-law, named-back, named-there, first-back, first-there}
 use Rattle.ceal_theory.proofs.Repaired.{words-after}
 use Rattle.ceal_theory.proofs.Turns.{finishes-fix, finishes-anew, finishes-rises}
-use Rattle.ceal_theory.specs.Adjust.{Adjusts_as, Firsts_as}
-use Rattle.ceal_theory.specs.Chosen.{Continues, Comes_by, Free, Ended_repair, Ended_first, repair_begins, first_begins, Chosen_law}
+use Rattle.ceal_theory.specs.Adjust.{AdjustsAs, FirstsAs}
+use Rattle.ceal_theory.specs.Chosen.{Continues, ComesBy, Free, EndedRepair, EndedFirst, repair_begins, first_begins, ChosenLaw}
 use Rattle.ceal_theory.specs.Laws.{Edited}
 use Rattle.ceal_theory.specs.Named.{Apart, then_from}
 use Rattle.ceal_theory.specs.Repair.{Single, begins}
@@ -53,15 +53,15 @@ continues-more bs b names h = (λ k c e. h k c (front bs k c e), h (length bs) b
     last (d ∷ bs) = last bs
 
 module _ (code : Code) where
-  begun : (m : Machine) (chosen : List ℕ) → m.state.number ≡ length chosen → Comes_by code m m chosen []
+  begun : (m : Machine) (chosen : List ℕ) → m.state.number ≡ length chosen → ComesBy code m m chosen []
   begun m chosen e = record { number = e; leads = λ names h. leads-stays code names m }
 
-  more : (start m m' : Machine) (chosen : List ℕ) (out is : List Item) → Comes_by code start m chosen out
-      → ((names : ℕ → ℕ) → Leads code names m m' is) → m'.state.number ≡ m.state.number → Comes_by code start m' chosen (out ++ is)
+  more : (start m m' : Machine) (chosen : List ℕ) (out is : List Item) → ComesBy code start m chosen out
+      → ((names : ℕ → ℕ) → Leads code names m m' is) → m'.state.number ≡ m.state.number → ComesBy code start m' chosen (out ++ is)
   more start m m' chosen out is c h e = record { number = e ∙ c.number; leads = λ names k. leads-then code names start m m' out is (c.leads names k) (h names) }
 
-  numbered : (start m m' : Machine) (chosen : List ℕ) (out is : List Item) → Comes_by code start m chosen out
-      → (b : ℕ) → ((names : ℕ → ℕ) → names m.state.number ≡ b → Leads code names m m' is) → m'.state.number ≡ m.state.number + 1 → Comes_by code start m' (chosen ++ b ∷ []) (out ++ is)
+  numbered : (start m m' : Machine) (chosen : List ℕ) (out is : List Item) → ComesBy code start m chosen out
+      → (b : ℕ) → ((names : ℕ → ℕ) → names m.state.number ≡ b → Leads code names m m' is) → m'.state.number ≡ m.state.number + 1 → ComesBy code start m' (chosen ++ b ∷ []) (out ++ is)
   numbered start m m' chosen out is c b h e = record {
     number = e ∙ (ap (λ n. n + 1) c.number ∙ sym (longer chosen));
     leads = λ names k.
@@ -92,13 +92,13 @@ module _ (code : Code) where
     apart : Apart (then_from chosen (most chosen + number)) l
     apart = (handed-law chosen (most chosen + number) free.distinct (λ b i. omega (arith, below-most b chosen i))).2 l (λ b h. e.above b (omega (arith, h))) free.apart
 
-    ends : (m : Machine) (out : List Item) → Comes_by code (repair_begins code new l) m chosen out → ((names : ℕ → ℕ) → turn code names m ≡ Ended)
-        → Ended_repair code old new f args l number chosen m.state out
+    ends : (m : Machine) (out : List Item) → ComesBy code (repair_begins code new l) m chosen out → ((names : ℕ → ℕ) → turn code names m ≡ Ended)
+        → EndedRepair code old new f args l number chosen m.state out
     ends m out c h =
         let names = then_from chosen (most chosen + number) in
         let done = (c.leads names continues).back m.state [] (ended-at names m (h names)) in
         let r = finishes-fix code names (begins code new (plain_of code new l) 0) l m.state (out ++ []) done in
-        let d : Adjusts_as code new names 0 l r.items m.state.work = record { after = m.state; fix = r.fix; counted = refl } in
+        let d : AdjustsAs code new names 0 l r.items m.state.work = record { after = m.state; fix = r.fix; counted = refl } in
         let q = named-back code old new f args l number e names single apart m.state.work r.items m.state.work d (omega arith) in
         let walk = fix-honest r.fix in
         record {
@@ -114,7 +114,7 @@ module _ (code : Code) where
           words = words-after code old new f args e.call e.fit e.extended l e.trace names single 0 (λ k h. apart k) r.items m.state.work d;
         }
 
-    over : (m : Machine) (out : List Item) → Comes_by code (repair_begins code new l) m chosen out → (fuel : ℕ) → fuel < m.state.work → fresh code f args new fuel ≡ None
+    over : (m : Machine) (out : List Item) → ComesBy code (repair_begins code new l) m chosen out → (fuel : ℕ) → fuel < m.state.work → fresh code f args new fuel ≡ None
     over m out c fuel h = go (fresh code f args new fuel) refl
       where
         go : (o : Option Finished) → fresh code f args new fuel ≡ o → o ≡ None
@@ -134,13 +134,13 @@ module _ (code : Code) where
     continues-first : Continues chosen (then_from chosen (most chosen))
     continues-first = (handed-law chosen (most chosen) distinct (λ b i. below-most b chosen i)).1
 
-    first-ends : (m : Machine) (out : List Item) → Comes_by code (first_begins code inputs f args) m chosen out → ((names : ℕ → ℕ) → turn code names m ≡ Ended)
-        → Ended_first code inputs f args chosen m.state out
+    first-ends : (m : Machine) (out : List Item) → ComesBy code (first_begins code inputs f args) m chosen out → ((names : ℕ → ℕ) → turn code names m ≡ Ended)
+        → EndedFirst code inputs f args chosen m.state out
     first-ends m out c h =
         let names = then_from chosen (most chosen) in
         let done = (c.leads names continues-first).back m.state [] (ended-at names m (h names)) in
         let r = finishes-anew code names (begins code inputs (input_plain code inputs) 0) (started code f args) Nothing m.state (out ++ []) done in
-        let d : Firsts_as code inputs names f args r.items m.state.work = record { after = m.state; left = r.left; anew = r.anew; counted = refl } in
+        let d : FirstsAs code inputs names f args r.items m.state.work = record { after = m.state; left = r.left; anew = r.anew; counted = refl } in
         let q = first-back code inputs f args fits names single-first m.state.work r.items m.state.work d (omega arith) in
         let walk = anew-honest r.anew in
         let steps : steps_of r.items ≡ m.state.work = sym (steps-alike q.3.alike) ∙ (first-steps code inputs f args fits q.0.items q.0.work (first-sound code inputs m.state.work f args q.0 q.1).0 ∙ q.2) in
@@ -158,7 +158,7 @@ module _ (code : Code) where
           words = first-words code inputs f args fits names single-first r.items m.state.work d;
         }
 
-    first-over : (m : Machine) (out : List Item) → Comes_by code (first_begins code inputs f args) m chosen out → (fuel : ℕ) → fuel < m.state.work → fresh code f args inputs fuel ≡ None
+    first-over : (m : Machine) (out : List Item) → ComesBy code (first_begins code inputs f args) m chosen out → (fuel : ℕ) → fuel < m.state.work → fresh code f args inputs fuel ≡ None
     first-over m out c fuel h = go (fresh code f args inputs fuel) refl
       where
         go : (o : Option Finished) → fresh code f args inputs fuel ≡ o → o ≡ None
@@ -172,7 +172,7 @@ module _ (code : Code) where
             let g = (c.leads names continues-first).ahead d.after (flat q.0 ++ []) (Finishes.runs d.anew Resumes.bottom) in
             absurd (omega (arith, h, finishes-rises g.finishes, d.counted, s.2))
 
-pub chosen-law : Chosen_law
+pub chosen-law : ChosenLaw
 chosen-law code = record {
   begun = begun code;
   more = more code;

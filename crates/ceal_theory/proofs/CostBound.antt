@@ -1,6 +1,6 @@
 -- The work of a repair is bounded by the cost of two traces side by side.
 use Rattle.std.proofs.Common.{◌≡◌, ℕ, ◌+◌, ◌≤◌, ◌==◌, ◌&&◌, Bool, true, false, if◌then◌else◌, List, [], ◌⊎◌, inl, inr, refl, sym, ap, ap₂, ◌∙◌, subst, arith}
-use Rattle.ceal_base.specs.Trace.{Trace, Nothing, Stepped, Allocated, Wrote, Was_read, steps_of, blocks_of}
+use Rattle.ceal_base.specs.Trace.{Trace, Nothing, Stepped, Allocated, Wrote, WasRead, steps_of, blocks_of}
 use Rattle.ceal_base.specs.declared.forest.Key.{Key}
 use Rattle.ceal_base.specs.declared.forest.UnitId.{UnitId}
 use Rattle.ceal_base.specs.declared.word.BlockId.{BlockId}
@@ -11,7 +11,7 @@ use Rattle.ceal_base.specs.declared.word.Word.TheVariants.{Num, Null, Block as B
 use Rattle.ceal_code.proofs.AlikeLemmas.{steps-alike}
 use Rattle.ceal_code.proofs.Pairs.{zip-one}
 use Rattle.ceal_code.proofs.Same.{both, nat-same, nat-refl, word-same}
-use Rattle.ceal_code.specs.Alike.{Pairs, Tied, Id_alike, Word_alike, Trace_alike, One_to_one, zipped}
+use Rattle.ceal_code.specs.Alike.{Pairs, Tied, IdAlike, WordAlike, TraceAlike, OneToOne, zipped}
 use Rattle.ceal_code.specs.Program.{Code}
 use Rattle.ceal_code.specs.Replay.{core_numbers}
 use Rattle.ceal_theory.proofs.Found.{first-replays, first-honest}
@@ -20,7 +20,7 @@ use Rattle.ceal_theory.proofs.Honesty.{mend-work}
 use Rattle.ceal_theory.proofs.Inputs.{fits-more}
 use Rattle.ceal_theory.proofs.Main.{repair-law}
 use Rattle.ceal_theory.proofs.Unique.{same-traces}
-use Rattle.ceal_theory.specs.Cost.{paired, same_id, same_value, with_pair, cost_from, aligned, Cost_law}
+use Rattle.ceal_theory.specs.Cost.{paired, same_id, same_value, with_pair, cost_from, aligned, CostLaw}
 use Rattle.ceal_theory.specs.Repair.{State, Fix, Mend}
 
 -- two traces that go side by side, as rules
@@ -30,9 +30,9 @@ data Beside : Pairs → Trace → Trace → Pairs → ℕ → Type 0 where
   alloc : {ps qs : Pairs} {b c : BlockId} {k k' : Key} {l m : Trace} {n : ℕ} → Beside (with_pair ps b c) l m qs n → Beside ps (Allocated b k l) (Allocated c k' m) qs n
   write : {ps qs : Pairs} {p q : Place} {v w : Word} {l m : Trace} {n : ℕ} → Beside ps l m qs n → Beside ps (Wrote p v l) (Wrote q w m) qs n
   same : {ps qs rs : Pairs} {p q : Place} {v w : Word} {u u' : UnitId} {x x' : ℕ} {args args' : List Word} {i j l m : Trace} {n k : ℕ}
-      → same_value ps v w ≡ true → Beside ps i j qs n → Beside qs l m rs k → Beside ps (Was_read p v u x args i l) (Was_read q w u' x' args' j m) rs (n + k)
+      → same_value ps v w ≡ true → Beside ps i j qs n → Beside qs l m rs k → Beside ps (WasRead p v u x args i l) (WasRead q w u' x' args' j m) rs (n + k)
   other : {ps rs : Pairs} {p q : Place} {v w : Word} {u u' : UnitId} {x x' : ℕ} {args args' : List Word} {i j l m : Trace} {k : ℕ}
-      → same_value ps v w ≡ false → Beside ps l m rs k → Beside ps (Was_read p v u x args i l) (Was_read q w u' x' args' j m) rs (steps_of j + k)
+      → same_value ps v w ≡ false → Beside ps l m rs k → Beside ps (WasRead p v u x args i l) (WasRead q w u' x' args' j m) rs (steps_of j + k)
 
 beside-cost : {ps qs : Pairs} {l m : Trace} {n : ℕ} → Beside ps l m qs n → cost_from ps l m ≡ record { pairs = qs; cost = n }
 unfolding cost_from
@@ -103,14 +103,14 @@ by-value ps v w P f g = go (same_value ps v w) refl
 
 module _ (code : Code) (names : ℕ → ℕ) where
   same-read : (ps : Pairs) (p q : Place) (v w : Word) (u : UnitId) (x : ℕ) (args : List Word) (i j l m : Trace) (n0 n1 n2 : ℕ) → same_value ps v w ≡ true → Bounded ps i j n0 n1
-      → ((qs : Pairs) → Selves qs → Bounded qs l m n1 n2) → Bounded ps (Was_read p v u x args i l) (Was_read q w u x args j m) n0 n2
+      → ((qs : Pairs) → Selves qs → Bounded qs l m n1 n2) → Bounded ps (WasRead p v u x args i l) (WasRead q w u x args j m) n0 n2
   same-read ps p q v w u x args i j l m n0 n1 n2 e a f = go (f a.pairs a.selves)
     where
-      go : Bounded a.pairs l m n1 n2 → Bounded ps (Was_read p v u x args i l) (Was_read q w u x args j m) n0 n2
+      go : Bounded a.pairs l m n1 n2 → Bounded ps (WasRead p v u x args i l) (WasRead q w u x args j m) n0 n2
       go b = record { pairs = b.pairs; cost = a.cost + b.cost; beside = Beside.same e a.beside b.beside; selves = b.selves; bound = omega (arith, a.bound, b.bound) }
 
   other-read : (ps : Pairs) (p q : Place) (v w : Word) (u : UnitId) (x : ℕ) (args : List Word) (i j l m : Trace) (n0 n1 n2 : ℕ) → same_value ps v w ≡ false → n1 ≤ n0 + steps_of j
-      → Bounded ps l m n1 n2 → Bounded ps (Was_read p v u x args i l) (Was_read q w u x args j m) n0 n2
+      → Bounded ps l m n1 n2 → Bounded ps (WasRead p v u x args i l) (WasRead q w u x args j m) n0 n2
   other-read ps p q v w u x args i j l m n0 n1 n2 e k b =
       record { pairs = b.pairs; cost = steps_of j + b.cost; beside = Beside.other e b.beside; selves = b.selves; bound = omega (arith, k, b.bound) }
 
@@ -130,7 +130,7 @@ module _ (code : Code) (names : ℕ → ℕ) where
     fix-bounded {s} {s'} (Fix.alloc {b = b} {key = key} {rest = l} {rest' = m} f) ps h = allocated ps b key l m s.work s'.work (fix-bounded f (with_pair ps b b) (selves-with ps b h))
     fix-bounded {s} {s'} (Fix.write {p = p} {value = v} {rest = l} {rest' = m} f) ps h = wrote ps p v l m s.work s'.work (fix-bounded f ps h)
     fix-bounded {s} {s'} (Fix.read {t = t} {p = p} {value = v} {u = u} {v = x} {args = args} {inside = i} {inside' = j} {rest = l} {rest' = m} d f) ps h =
-        by-value ps v (s.store p) (Bounded ps (Was_read p v u x args i l) (Was_read p (s.store p) u x args j m) s.work s'.work)
+        by-value ps v (s.store p) (Bounded ps (WasRead p v u x args i l) (WasRead p (s.store p) u x args j m) s.work s'.work)
         (λ e. same-read ps p p v (s.store p) u x args i j l m s.work t.work s'.work e (mend-bounded d ps h e) (λ qs k. fix-bounded f qs k))
         (λ e. other-read ps p p v (s.store p) u x args i j l m s.work t.work s'.work e (mend-work d) (fix-bounded f ps h))
 
@@ -149,7 +149,7 @@ nat-equal a b c d f g = go (a == b) (c == d) refl refl
     go true false e e' = let z : (c == d) ≡ true = rw (f (nat-same a b e)) (nat-refl d) in absurd (grind (arith, z, e'))
     go false true e e' = let z : (a == b) ≡ true = rw (g (nat-same c d e')) (nat-refl b) in absurd (grind (arith, z, e))
 
-module _ (ps : Pairs) (one : One_to_one ps) (rs : Pairs) (two : One_to_one rs) where
+module _ (ps : Pairs) (one : OneToOne ps) (rs : Pairs) (two : OneToOne rs) where
   -- the pairs of the one walk are those of the other
   Renamed : Pairs → Pairs → Type 0
   Renamed qs qs' = (b b' c c' : ℕ) → Tied b b' ps → Tied c c' rs → paired qs b c ≡ paired qs' b' c'
@@ -160,70 +160,70 @@ module _ (ps : Pairs) (one : One_to_one ps) (rs : Pairs) (two : One_to_one rs) w
   right-both : (b b' c c' : ℕ) → Tied b b' rs → Tied c c' rs → (b == c) ≡ (b' == c')
   right-both b b' c c' s t = nat-equal b c b' c' (λ e. two.left b b' c' s (subst (λ z. Tied z c' rs) (sym e) t)) (λ e. two.right b c b' s (subst (λ z. Tied c z rs) (sym e) t))
 
-  with-both : (qs qs' : Pairs) → Renamed qs qs' → {b b' c c' : BlockId} → Id_alike ps b b' → Id_alike rs c c' → Renamed (with_pair qs b c) (with_pair qs' b' c')
+  with-both : (qs qs' : Pairs) → Renamed qs qs' → {b b' c c' : BlockId} → IdAlike ps b b' → IdAlike rs c c' → Renamed (with_pair qs b c) (with_pair qs' b' c')
   unfolding Renamed
-  with-both qs qs' h Id_alike.input Id_alike.input = h
-  with-both qs qs' h Id_alike.input (Id_alike.core t) = h
-  with-both qs qs' h (Id_alike.core s) Id_alike.input = h
-  with-both qs qs' h (Id_alike.core {b = b} {c = b'} s) (Id_alike.core {b = c} {c = c'} t) =
+  with-both qs qs' h IdAlike.input IdAlike.input = h
+  with-both qs qs' h IdAlike.input (IdAlike.core t) = h
+  with-both qs qs' h (IdAlike.core s) IdAlike.input = h
+  with-both qs qs' h (IdAlike.core {b = b} {c = b'} s) (IdAlike.core {b = c} {c = c'} t) =
       λ d d' e e' i j. rw (left-both b b' d d' s i, right-both c c' e e' t j, h d d' e e' i j) refl
 
-  id-both : (qs qs' : Pairs) → Renamed qs qs' → {b b' c c' : BlockId} → Id_alike ps b b' → Id_alike rs c c' → same_id qs b c ≡ same_id qs' b' c'
+  id-both : (qs qs' : Pairs) → Renamed qs qs' → {b b' c c' : BlockId} → IdAlike ps b b' → IdAlike rs c c' → same_id qs b c ≡ same_id qs' b' c'
   unfolding Renamed
-  id-both qs qs' h Id_alike.input Id_alike.input = refl
-  id-both qs qs' h Id_alike.input (Id_alike.core t) = refl
-  id-both qs qs' h (Id_alike.core s) Id_alike.input = refl
-  id-both qs qs' h (Id_alike.core {b = b} {c = b'} s) (Id_alike.core {b = c} {c = c'} t) = h b b' c c' s t
+  id-both qs qs' h IdAlike.input IdAlike.input = refl
+  id-both qs qs' h IdAlike.input (IdAlike.core t) = refl
+  id-both qs qs' h (IdAlike.core s) IdAlike.input = refl
+  id-both qs qs' h (IdAlike.core {b = b} {c = b'} s) (IdAlike.core {b = c} {c = c'} t) = h b b' c c' s t
 
-  value-both : (qs qs' : Pairs) → Renamed qs qs' → {v v' w w' : Word} → Word_alike ps v v' → Word_alike rs w w' → same_value qs v w ≡ same_value qs' v' w'
-  value-both qs qs' h Word_alike.num Word_alike.num = refl
-  value-both qs qs' h Word_alike.num Word_alike.null = refl
-  value-both qs qs' h Word_alike.num (Word_alike.block t) = refl
-  value-both qs qs' h Word_alike.num (Word_alike.at t) = refl
-  value-both qs qs' h Word_alike.null Word_alike.num = refl
-  value-both qs qs' h Word_alike.null Word_alike.null = refl
-  value-both qs qs' h Word_alike.null (Word_alike.block t) = refl
-  value-both qs qs' h Word_alike.null (Word_alike.at t) = refl
-  value-both qs qs' h (Word_alike.block s) Word_alike.num = refl
-  value-both qs qs' h (Word_alike.block s) Word_alike.null = refl
-  value-both qs qs' h (Word_alike.block s) (Word_alike.block t) = id-both qs qs' h s t
-  value-both qs qs' h (Word_alike.block s) (Word_alike.at t) = refl
-  value-both qs qs' h (Word_alike.at s) Word_alike.num = refl
-  value-both qs qs' h (Word_alike.at s) Word_alike.null = refl
-  value-both qs qs' h (Word_alike.at s) (Word_alike.block t) = refl
-  value-both qs qs' h (Word_alike.at s) (Word_alike.at t) = rw (id-both qs qs' h s.block t.block, s.field, t.field) refl
+  value-both : (qs qs' : Pairs) → Renamed qs qs' → {v v' w w' : Word} → WordAlike ps v v' → WordAlike rs w w' → same_value qs v w ≡ same_value qs' v' w'
+  value-both qs qs' h WordAlike.num WordAlike.num = refl
+  value-both qs qs' h WordAlike.num WordAlike.null = refl
+  value-both qs qs' h WordAlike.num (WordAlike.block t) = refl
+  value-both qs qs' h WordAlike.num (WordAlike.at t) = refl
+  value-both qs qs' h WordAlike.null WordAlike.num = refl
+  value-both qs qs' h WordAlike.null WordAlike.null = refl
+  value-both qs qs' h WordAlike.null (WordAlike.block t) = refl
+  value-both qs qs' h WordAlike.null (WordAlike.at t) = refl
+  value-both qs qs' h (WordAlike.block s) WordAlike.num = refl
+  value-both qs qs' h (WordAlike.block s) WordAlike.null = refl
+  value-both qs qs' h (WordAlike.block s) (WordAlike.block t) = id-both qs qs' h s t
+  value-both qs qs' h (WordAlike.block s) (WordAlike.at t) = refl
+  value-both qs qs' h (WordAlike.at s) WordAlike.num = refl
+  value-both qs qs' h (WordAlike.at s) WordAlike.null = refl
+  value-both qs qs' h (WordAlike.at s) (WordAlike.block t) = refl
+  value-both qs qs' h (WordAlike.at s) (WordAlike.at t) = rw (id-both qs qs' h s.block t.block, s.field, t.field) refl
 
-  record Beside_too (qs' after : Pairs) (l' m' : Trace) (n : ℕ) : Type 0 where
+  record BesideToo (qs' after : Pairs) (l' m' : Trace) (n : ℕ) : Type 0 where
     pairs : Pairs
     beside : Beside qs' l' m' pairs n
     renamed : Renamed after pairs
 
   same-too : (qs' after after' : Pairs) (p q : Place) (v w : Word) (u u' : UnitId) (x x' : ℕ) (args args' : List Word) (i j l m : Trace) (n k : ℕ) → same_value qs' v w ≡ true
-      → Beside_too qs' after i j n → ((rs' : Pairs) → Renamed after rs' → Beside_too rs' after' l m k) → Beside_too qs' after' (Was_read p v u x args i l) (Was_read q w u' x' args' j m) (n + k)
+      → BesideToo qs' after i j n → ((rs' : Pairs) → Renamed after rs' → BesideToo rs' after' l m k) → BesideToo qs' after' (WasRead p v u x args i l) (WasRead q w u' x' args' j m) (n + k)
   same-too qs' after after' p q v w u u' x x' args args' i j l m n k e a f = go (f a.pairs a.renamed)
     where
-      go : Beside_too a.pairs after' l m k → Beside_too qs' after' (Was_read p v u x args i l) (Was_read q w u' x' args' j m) (n + k)
+      go : BesideToo a.pairs after' l m k → BesideToo qs' after' (WasRead p v u x args i l) (WasRead q w u' x' args' j m) (n + k)
       go b = record { pairs = b.pairs; beside = Beside.same e a.beside b.beside; renamed = b.renamed }
 
   other-too : (qs' after : Pairs) (p q : Place) (v w : Word) (u u' : UnitId) (x x' : ℕ) (args args' : List Word) (i j j0 l m : Trace) (k : ℕ) → same_value qs' v w ≡ false → steps_of j ≡ steps_of j0
-      → Beside_too qs' after l m k → Beside_too qs' after (Was_read p v u x args i l) (Was_read q w u' x' args' j m) (steps_of j0 + k)
+      → BesideToo qs' after l m k → BesideToo qs' after (WasRead p v u x args i l) (WasRead q w u' x' args' j m) (steps_of j0 + k)
   other-too qs' after p q v w u u' x x' args args' i j j0 l m k e n a =
-      record { pairs = a.pairs; beside = subst (λ n. Beside qs' (Was_read p v u x args i l) (Was_read q w u' x' args' j m) a.pairs (n + k)) n (Beside.other e a.beside); renamed = a.renamed }
+      record { pairs = a.pairs; beside = subst (λ n. Beside qs' (WasRead p v u x args i l) (WasRead q w u' x' args' j m) a.pairs (n + k)) n (Beside.other e a.beside); renamed = a.renamed }
 
-  beside-too : {qs after : Pairs} {l m : Trace} {n : ℕ} → Beside qs l m after n → {l' m' : Trace} → Trace_alike ps l l' → Trace_alike rs m m' → (qs' : Pairs) → Renamed qs qs' → Beside_too qs' after l' m' n
-  beside-too Beside.end Trace_alike.nothing Trace_alike.nothing qs' h = record { pairs = qs'; beside = Beside.end; renamed = h }
-  beside-too (Beside.step d) (Trace_alike.stepped s) (Trace_alike.stepped t) qs' h =
+  beside-too : {qs after : Pairs} {l m : Trace} {n : ℕ} → Beside qs l m after n → {l' m' : Trace} → TraceAlike ps l l' → TraceAlike rs m m' → (qs' : Pairs) → Renamed qs qs' → BesideToo qs' after l' m' n
+  beside-too Beside.end TraceAlike.nothing TraceAlike.nothing qs' h = record { pairs = qs'; beside = Beside.end; renamed = h }
+  beside-too (Beside.step d) (TraceAlike.stepped s) (TraceAlike.stepped t) qs' h =
       let a = beside-too d s t qs' h in record { pairs = a.pairs; beside = Beside.step a.beside; renamed = a.renamed }
-  beside-too {qs} (Beside.alloc d) (Trace_alike.allocated {c = b'} i k s) (Trace_alike.allocated {c = c'} i' k' t) qs' h =
+  beside-too {qs} (Beside.alloc d) (TraceAlike.allocated {c = b'} i k s) (TraceAlike.allocated {c = c'} i' k' t) qs' h =
       let a = beside-too d s t (with_pair qs' b' c') (with-both qs qs' h i i') in record { pairs = a.pairs; beside = Beside.alloc a.beside; renamed = a.renamed }
-  beside-too (Beside.write d) (Trace_alike.wrote p v s) (Trace_alike.wrote q w t) qs' h =
+  beside-too (Beside.write d) (TraceAlike.wrote p v s) (TraceAlike.wrote q w t) qs' h =
       let a = beside-too d s t qs' h in record { pairs = a.pairs; beside = Beside.write a.beside; renamed = a.renamed }
-  beside-too {qs} {after} (Beside.same {qs = mid} {n = n} {k = k} e d1 d2) (Trace_alike.was_read {q = p'} {w = v'} {u = u} {x = x} {ws = args} {j = i'} {m = l'} kp kv ka si s) (Trace_alike.was_read {q = q'} {w = w'} {u = u'} {x = x'} {ws = args'} {j = j'} {m = m'} lp lv la ti t) qs' h =
+  beside-too {qs} {after} (Beside.same {qs = mid} {n = n} {k = k} e d1 d2) (TraceAlike.was_read {q = p'} {w = v'} {u = u} {x = x} {ws = args} {j = i'} {m = l'} kp kv ka si s) (TraceAlike.was_read {q = q'} {w = w'} {u = u'} {x = x'} {ws = args'} {j = j'} {m = m'} lp lv la ti t) qs' h =
       same-too qs' mid after p' q' v' w' u u' x x' args args' i' j' l' m' n k (sym (value-both qs qs' h kv lv) ∙ e) (beside-too d1 si ti qs' h) (λ rs' h'. beside-too d2 s t rs' h')
-  beside-too {qs} {after} (Beside.other {j = j} {k = k} e d) (Trace_alike.was_read {q = p'} {w = v'} {u = u} {x = x} {ws = args} {j = i'} {m = l'} kp kv ka si s) (Trace_alike.was_read {q = q'} {w = w'} {u = u'} {x = x'} {ws = args'} {j = j'} {m = m'} lp lv la ti t) qs' h =
+  beside-too {qs} {after} (Beside.other {j = j} {k = k} e d) (TraceAlike.was_read {q = p'} {w = v'} {u = u} {x = x} {ws = args} {j = i'} {m = l'} kp kv ka si s) (TraceAlike.was_read {q = q'} {w = w'} {u = u'} {x = x'} {ws = args'} {j = j'} {m = m'} lp lv la ti t) qs' h =
       other-too qs' after p' q' v' w' u u' x x' args args' i' j' j l' m' k (sym (value-both qs qs' h kv lv) ∙ e) (sym (steps-alike ti)) (beside-too d s t qs' h)
 
-none-paired : (ps rs : Pairs) (one : One_to_one ps) (two : One_to_one rs) → Renamed ps one rs two [] []
+none-paired : (ps rs : Pairs) (one : OneToOne ps) (two : OneToOne rs) → Renamed ps one rs two [] []
 unfolding Renamed
 none-paired ps rs one two b b' c c' s t = refl
 
@@ -231,7 +231,7 @@ none-selves : Selves []
 unfolding Selves
 none-selves b c e = absurd (grind (arith, e))
 
-pub bound-law : Cost_law
+pub bound-law : CostLaw
 bound-law code old new f args l number n a e honest there j k g h eg eh =
     let s = (adjusted-sound code new number n l a there).0 in
     let u = repair-law code old new f args l a.items number a.work e s in

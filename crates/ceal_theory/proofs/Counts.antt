@@ -1,6 +1,6 @@
 -- How many items of each sort a trace has.
 use Rattle.std.proofs.Common.{◌≡◌, ℕ, ◌+◌, ◌*◌, ◌≤◌, List, [], ◌∷◌, ◌++◌, length, arith}
-use Rattle.ceal_base.specs.Trace.{Trace, Nothing, Stepped, Allocated, Wrote, Was_read, flat, steps_of, blocks_of}
+use Rattle.ceal_base.specs.Trace.{Trace, Nothing, Stepped, Allocated, Wrote, WasRead, flat, steps_of, blocks_of}
 use Rattle.ceal_base.specs.declared.forest.Item.{Item}
 use Rattle.ceal_base.specs.declared.forest.Item.TheVariants.{Step, Alloc, Write, Read, End}
 use Rattle.ceal_base.specs.declared.forest.UnitId.{UnitId}
@@ -11,7 +11,7 @@ use Rattle.ceal_code.specs.Program.{Code}
 use Rattle.ceal_code.specs.Replay.{Yields}
 use Rattle.ceal_code.specs.Step.{Stack}
 use Rattle.ceal_code.specs.Value.{Plain}
-use Rattle.ceal_theory.specs.Counts.{writes_of, reads_of, others_in, Count_law, Blocks_law}
+use Rattle.ceal_theory.specs.Counts.{writes_of, reads_of, others_in, CountLaw, BlocksLaw}
 use Rattle.ceal_theory.specs.Repair.{State, Fix, Mend, Anew}
 
 length-append : (bs cs : List BlockId) → length (bs ++ cs) ≡ length bs + length cs
@@ -38,10 +38,10 @@ others Nothing = omega arith
 others (Stepped rest) = others rest
 others (Allocated b k rest) = omega (arith, others rest)
 others (Wrote p v rest) = omega (arith, others rest)
-others (Was_read p v u x args inside rest) =
+others (WasRead p v u x args inside rest) =
     omega (arith, others inside, others rest, others-append (flat inside) (End ∷ flat rest), length-append (blocks_of inside) (blocks_of rest))
 
-pub count-law : Count_law
+pub count-law : CountLaw
 count-law code x st l r = (few code x r, others l)
 
 mutual
@@ -66,5 +66,5 @@ mutual
   anew-blocks (Anew.takes_read e t m a) = omega (arith, mend-blocks m, anew-blocks a)
   anew-blocks (Anew.reads e t m a) = omega (arith, anew-blocks m, anew-blocks a)
 
-pub blocks-law : Blocks_law
+pub blocks-law : BlocksLaw
 blocks-law code names s s' old new f = fix-blocks f

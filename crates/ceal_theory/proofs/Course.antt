@@ -6,26 +6,26 @@ use Rattle.ceal_base.specs.declared.forest.Item.TheVariants as item
 use Rattle.ceal_base.specs.declared.forest.UnitId.{UnitId}
 use Rattle.ceal_base.specs.declared.word.Place.{Place}
 use Rattle.ceal_base.specs.declared.word.Word.{Word}
-use Rattle.ceal_code.specs.Known.{Known_stack}
+use Rattle.ceal_code.specs.Known.{KnownStack}
 use Rattle.ceal_code.specs.Program.{Code}
-use Rattle.ceal_code.specs.Replay.{Store, Known_word}
+use Rattle.ceal_code.specs.Replay.{Store, KnownWord}
 use Rattle.ceal_theory.proofs.FlatTake.{first-flat, followed-nothing}
 use Rattle.ceal_theory.proofs.MachineLaws.{takes-turn}
-use Rattle.ceal_theory.proofs.OneTurn.{Located, Ahead, locate, Same_first, one-first, at-flat, at-honest, at-store}
+use Rattle.ceal_theory.proofs.OneTurn.{Located, Ahead, locate, SameFirst, one-first, at-flat, at-honest, at-store}
 use Rattle.ceal_theory.proofs.Ready.{sound-ready}
 use Rattle.ceal_theory.proofs.SliceLaws.{turn-law}
 use Rattle.ceal_theory.proofs.Turns.{finishes-rises}
 use Rattle.ceal_theory.proofs.Uses.{uses-sure}
 use Rattle.ceal_theory.proofs.Walk.{agrees-front, flat-honest}
-use Rattle.ceal_theory.specs.Course.{Work_law, Turn_course, Turn_course_law, Turn_known_law}
+use Rattle.ceal_theory.specs.Course.{WorkLaw, TurnCourse, TurnCourseLaw, TurnKnownLaw}
 use Rattle.ceal_theory.specs.Cover.{At, known_after}
 use Rattle.ceal_theory.specs.Known.{Knows}
 use Rattle.ceal_theory.specs.Levels.{first, levels}
 use Rattle.ceal_theory.specs.Repair.{resumed}
-use Rattle.ceal_theory.specs.SliceLaws.{unit_alone, First_stale}
+use Rattle.ceal_theory.specs.SliceLaws.{unit_alone, FirstStale}
 use Rattle.ceal_theory.specs.Slices.{with_inputs, Uses, starting}
-use Rattle.ceal_theory.specs.Turns.{Machine, Ended, turn, Finishes, Goes, Ends, Takes_turn, Leads}
-use Rattle.ceal_theory.specs.Walk.{Agrees_all}
+use Rattle.ceal_theory.specs.Turns.{Machine, Ended, turn, Finishes, Goes, Ends, TakesTurn, Leads}
+use Rattle.ceal_theory.specs.Walk.{AgreesAll}
 
 steps-front : (is js : List Item) → steps_in is ≤ steps_in (is ++ js)
 steps-front [] js = omega arith
@@ -35,7 +35,7 @@ steps-front (item.Write p value ∷ is) js = steps-front is js
 steps-front (item.Read p value u v args ∷ is) js = steps-front is js
 steps-front (item.End ∷ is) js = steps-front is js
 
-pub work-law : Work_law
+pub work-law : WorkLaw
 work-law code names start m out l t items f = of (l.ahead t items f)
   where
     of : Goes code names m t out items → (m.state.work ≤ t.work) × (steps_in out ≤ steps_in items)
@@ -43,7 +43,7 @@ work-law code names start m out l t items f = of (l.ahead t items f)
 
 -- a machine whose turn is its last finishes with what it has
 ended-finishes : (code : Code) (names : ℕ → ℕ) (m : Machine) → turn code names m ≡ Ended → Finishes code names m m.state []
-ended-finishes code names m e = of (subst (Takes_turn code names m) e (takes-turn code names m))
+ended-finishes code names m e = of (subst (TakesTurn code names m) e (takes-turn code names m))
   where
     of : Ends code names m → Finishes code names m m.state []
     of h = h.back
@@ -56,18 +56,18 @@ same-tail : (is a b : List Item) → is ++ item.End ∷ a ≡ is ++ item.End ∷
 same-tail [] a b e = cc e
 same-tail (i ∷ is) a b e = same-tail is a b (cc e)
 
-pub turn-course-law : Turn_course_law
+pub turn-course-law : TurnCourseLaw
 turn-course-law code names inputs r front p value u v args inside back e h n m out l = of (turn-law code names inputs r front p value u v args (flat inside ++ item.End ∷ back) e h n)
   where
-    of : First_stale code names inputs r front p u v args (flat inside ++ item.End ∷ back) → Turn_course code names inputs r front p u v args inside back m out
+    of : FirstStale code names inputs r front p u v args (flat inside ++ item.End ∷ back) → TurnCourse code names inputs r front p u v args inside back m out
     of x =
         let same : inside ≡ x.inside = sym (inside-first inside back) ∙ (ap (λ is. first (levels is)) x.items ∙ inside-first x.inside x.back) in
         let tail : back ≡ x.back = same-tail (flat inside) back x.back (x.items ∙ ap (λ i. flat i ++ item.End ∷ x.back) (sym same)) in
-        subst (λ i. Leads code names (unit_alone code inputs r front p u v args i) m out → Turn_course code names inputs r front p u v args i back m out) (sym same)
-        (λ l. subst (λ b. Turn_course code names inputs r front p u v args x.inside b m out) (sym tail) (at-stale x l)) l
+        subst (λ i. Leads code names (unit_alone code inputs r front p u v args i) m out → TurnCourse code names inputs r front p u v args i back m out) (sym same)
+        (λ l. subst (λ b. TurnCourse code names inputs r front p u v args x.inside b m out) (sym tail) (at-stale x l)) l
       where
-        at-stale : (x : First_stale code names inputs r front p u v args (flat inside ++ item.End ∷ back)) → Leads code names (unit_alone code inputs r front p u v args x.inside) m out
-            → Turn_course code names inputs r front p u v args x.inside x.back m out
+        at-stale : (x : FirstStale code names inputs r front p u v args (flat inside ++ item.End ∷ back)) → Leads code names (unit_alone code inputs r front p u v args x.inside) m out
+            → TurnCourse code names inputs r front p u v args x.inside x.back m out
         at-stale x l = record {
           ended = λ e. x.slice m.state out (subst (λ is. Finishes code names (unit_alone code inputs r front p u v args x.inside) m.state is) (append-nil out) (l.back m.state [] (ended-finishes code names m e)));
           over = λ n h. x.over n (λ t items f. let w = work-law code names (unit_alone code inputs r front p u v args x.inside) m out l t items f in omega (arith, h, w.0));
@@ -82,7 +82,7 @@ at-uses code n bs (At.write a) h = at-uses code n bs a h.2
 at-uses code n bs (At.inner e a) h = at-uses code n bs a h.3
 at-uses code n bs (At.outer e k a) h = at-uses code n bs a h.4
 
-pub turn-known-law : Turn_known_law
+pub turn-known-law : TurnKnownLaw
 turn-known-law code names inputs f ws fits r h front p value u v args after e k n inside back i = found (locate code r.items (starting code inputs r.known))
   where
     knows : (q : Located code (starting code inputs r.known) r.items) → Knows code (length inputs) h.blocks (known_after [] q.front) (unit_alone code inputs r q.front q.place q.unit q.var q.args q.inside)
@@ -92,15 +92,15 @@ turn-known-law code names inputs f ws fits r h front p value u v args after e k 
         record {
           plain = y.good.plain;
           old = h.holds;
-          store = λ p. subst (λ z. Known_word (length inputs) (known_after [] q.front) (z p)) w (y.good.store p);
+          store = λ p. subst (λ z. KnownWord (length inputs) (known_after [] q.front) (z p)) w (y.good.store p);
           mode = (
-            subst (λ z. Known_stack (length inputs) (known_after [] q.front) (resumed code q.unit q.var q.args (z q.place))) w y.stack,
+            subst (λ z. KnownStack (length inputs) (known_after [] q.front) (resumed code q.unit q.var q.args (z q.place))) w y.stack,
             uses-sure code (length inputs) h.blocks (with_inputs code inputs r.known) y.yields (at-uses code (length inputs) h.blocks q.at-it h.uses),
           );
           frames = tt;
         }
 
-    moved : (q : Located code (starting code inputs r.known) r.items) → Same_first code q.front front q.place p q.value value q.unit u q.var v q.args args (flat q.inside ++ item.End ∷ q.back) after
+    moved : (q : Located code (starting code inputs r.known) r.items) → SameFirst code q.front front q.place p q.value value q.unit u q.var v q.args args (flat q.inside ++ item.End ∷ q.back) after
         → Knows code (length inputs) h.blocks (known_after [] front) (unit_alone code inputs r front p u v args inside)
     moved q o =
         let same : q.inside ≡ inside = sym (inside-first q.inside q.back) ∙ (ap (λ is. first (levels is)) (o.afters ∙ i) ∙ inside-first inside back) in
@@ -113,7 +113,7 @@ turn-known-law code names inputs f ws fits r h front p value u v args after e k 
 
     found : Ahead code (starting code inputs r.known) r.items → Knows code (length inputs) h.blocks (known_after [] front) (unit_alone code inputs r front p u v args inside)
     found (Ahead.honest m) =
-        absurd (n (agrees-front code (starting code inputs r.known) front (item.Read p value u v args ∷ after) (subst (λ is. Agrees_all code (starting code inputs r.known) is) e (flat-honest code m))).1.0)
+        absurd (n (agrees-front code (starting code inputs r.known) front (item.Read p value u v args ∷ after) (subst (λ is. AgreesAll code (starting code inputs r.known) is) e (flat-honest code m))).1.0)
     found (Ahead.stale q) = moved q
         (one-first code (starting code inputs r.known) q.front front (flat q.inside ++ item.End ∷ q.back) after q.place p q.value value q.unit u q.var v q.args args (sym (at-flat code q.at-it) ∙ e)
         (at-honest code q.at-it) (subst (λ z. ¬ (z q.place ≡ q.value)) (at-store code q.at-it) q.stale) k n)

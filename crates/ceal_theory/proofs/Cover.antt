@@ -11,8 +11,8 @@ use Rattle.ceal_code.proofs.Same.{place-same, place-refl, nat-refl}
 use Rattle.ceal_code.specs.Program.{Code}
 use Rattle.ceal_code.specs.Replay.{Store, cleared, stored}
 use Rattle.ceal_theory.proofs.Stored.{stored-equal, cleared-equal}
-use Rattle.ceal_theory.specs.Cover.{waits_after, Queued, More_on, Nodes, Nil, Node, items_of, before, Queue, Waiting, none_waits, closed, opened, Covered, first_read, with_queued, without, None_queued, Absent}
-use Rattle.ceal_theory.specs.Walk.{store_after, Agrees_all}
+use Rattle.ceal_theory.specs.Cover.{waits_after, Queued, MoreOn, Nodes, Nil, Node, items_of, before, Queue, Waiting, none_waits, closed, opened, Covered, first_read, with_queued, without, NoneQueued, Absent}
+use Rattle.ceal_theory.specs.Walk.{store_after, AgreesAll}
 
 -- at each place the same content and no less waiting, or a queued read waits
 abbrev pub Less : Store → Waiting → Store → Waiting → Type 0
@@ -64,11 +64,6 @@ less-cleared code s s' w w' b key h r = go (h r)
     go (inl k) = inl (cleared-equal code s s' b key r k.0, k.1)
     go (inr e) = inr e
 
--- what two stores and waitings have at a place after a write
-After_write : Store → Store → Waiting → Waiting → Word → Bool → Place → Type 0
-After_write s s' w w' value t r =
-    (((if t then value else s r) ≡ (if t then value else s' r)) × ((if t then false else w r) ≡ true → (if t then false else w' r) ≡ true)) ⊎ ((if t then false else w' r) ≡ true)
-
 less-stored : (s s' : Store) (w w' : Waiting) (p : Place) (value : Word) → ((r : Place) → same_place r p ≡ false → ((s r ≡ s' r) × (w r ≡ true → w' r ≡ true)) ⊎ (w' r ≡ true))
     → Less (stored s p value) (closed w p) (stored s' p value) (closed w' p)
 unfolding stored closed
@@ -89,7 +84,7 @@ read-less s s' w w' p value b b' h g k = go (h p) k
     go (inr i) k = inr (opened-keeps w' p b' p i)
 
 module _ (code : Code) where
-  pub covered-less : (q q' : Queue) (l : Nodes) → More_on q q' l → (s s' : Store) (w w' : Waiting) → Less s w s' w' → Covered code q s w l → Covered code q' s' w' l
+  pub covered-less : (q q' : Queue) (l : Nodes) → MoreOn q q' l → (s s' : Store) (w w' : Waiting) → Less s w s' w' → Covered code q s w l → Covered code q' s' w' l
   covered-less q q' Nil m s s' w w' h c = c
   covered-less q q' (Node n Step rest) m s s' w w' h c = covered-less q q' rest m.1 s s' w w' h c
   covered-less q q' (Node n (Alloc b key) rest) m s s' w w' h c = covered-less q q' rest m.1 (cleared code s b key) (cleared code s' b key) w w' (less-cleared code s s' w w' b key h) c
@@ -104,7 +99,7 @@ module _ (code : Code) where
   queued-more q None n e = e
   queued-more q (Some m) n e = or-left (q n) (n == m) e
 
-  queued-on : (q : Queue) (o : Option ℕ) (l : Nodes) → More_on q (with_queued q o) l
+  queued-on : (q : Queue) (o : Option ℕ) (l : Nodes) → MoreOn q (with_queued q o) l
   queued-on q o Nil = tt
   queued-on q o (Node n i rest) = (queued-more q o n, queued-on q o rest)
 
@@ -189,7 +184,7 @@ module _ (code : Code) where
       go true = rw (e, f) refl
       go false = e
 
-  pub same-on : (q : Queue) (l : Nodes) → More_on q q l
+  pub same-on : (q : Queue) (l : Nodes) → MoreOn q q l
   same-on q Nil = tt
   same-on q (Node n i rest) = (λ e. e, same-on q rest)
 
@@ -198,8 +193,8 @@ module _ (code : Code) where
   nobody q l s w h c = covered-less q q l (same-on q l) s s w none_waits (λ r. inl (refl, λ e. absurd (grind (arith, e, h r)))) c
 
   -- of the first nodes none is queued and none waits: they are honest
-  pub covered-front : (q : Queue) (front l : Nodes) → None_queued q front → (s : Store) (w : Waiting) → ((r : Place) → w r ≡ false) → Covered code q s w (before front l)
-      → Agrees_all code s (items_of front) × Covered code q (store_after code s (items_of front)) none_waits l
+  pub covered-front : (q : Queue) (front l : Nodes) → NoneQueued q front → (s : Store) (w : Waiting) → ((r : Place) → w r ≡ false) → Covered code q s w (before front l)
+      → AgreesAll code s (items_of front) × Covered code q (store_after code s (items_of front)) none_waits l
   covered-front q Nil l m s w h c = (tt, nobody q l s w h c)
   covered-front q (Node n Step rest) l m s w h c = let k = covered-front q rest l m.1 s w h c in ((tt, k.0), k.1)
   covered-front q (Node n (Alloc b key) rest) l m s w h c = let k = covered-front q rest l m.1 (cleared code s b key) w h c in ((tt, k.0), k.1)
@@ -219,7 +214,7 @@ module _ (code : Code) where
   without-if true a e f = absurd (grind (arith, e))
 
   -- a queue without a stamp that none of these has
-  without-on : (q : Queue) (n : ℕ) (l : Nodes) → Absent n l → More_on q (without q n) l
+  without-on : (q : Queue) (n : ℕ) (l : Nodes) → Absent n l → MoreOn q (without q n) l
   unfolding without
   without-on q n Nil a = tt
   without-on q n (Node m i rest) a = (λ e. without-if (m == n) (q m) a.0 e, without-on q n rest a.1)
@@ -236,7 +231,7 @@ module _ (code : Code) where
 
   -- flat items one after another
   -- honest nodes in front of covered ones, whoever waits
-  pub honest-front : (q : Queue) (front l : Nodes) (s : Store) (w : Waiting) → Agrees_all code s (items_of front) → Covered code q (store_after code s (items_of front)) none_waits l → Covered code q s w (before front l)
+  pub honest-front : (q : Queue) (front l : Nodes) (s : Store) (w : Waiting) → AgreesAll code s (items_of front) → Covered code q (store_after code s (items_of front)) none_waits l → Covered code q s w (before front l)
   honest-front q Nil l s w h c = covered-less q q l (same-on q l) s s none_waits w (λ r. inl (refl, λ e. absurd (grind (arith, e, none-waits r)))) c
   honest-front q (Node n Step rest) l s w h c = honest-front q rest l s w h.1 c
   honest-front q (Node n (Alloc b key) rest) l s w h c = honest-front q rest l (cleared code s b key) w h.1 c
@@ -246,7 +241,7 @@ module _ (code : Code) where
 
   -- the first that is queued goes
   pub first-pop : (q : Queue) (s : Store) (front : Nodes) (n : ℕ) (p : Place) (value : Word) (u : _) (v : ℕ) (args : List Word) (l : Nodes)
-      → None_queued q front → Absent n l → Covered code q s none_waits (before front (Node n (Read p value u v args) l)) → store_after code s (items_of front) p ≡ value
+      → NoneQueued q front → Absent n l → Covered code q s none_waits (before front (Node n (Read p value u v args) l)) → store_after code s (items_of front) p ≡ value
       → Covered code (with_queued (without q n) (first_read p l)) s none_waits (before front (Node n (Read p value u v args) l))
   first-pop q s front n p value u v args l m a c e =
       let k = covered-front q front (Node n (Read p value u v args) l) m s none_waits none-waits c in
@@ -311,7 +306,7 @@ module _ (code : Code) where
           let now : q' n ≡ true = subst (λ t. Queued q' (if t then Some n else first_read r rest)) e i in
           inr (inl (subst (λ z. opened w' x (q' n) z ≡ true) (place-same x r e) (opened-at w' x (q' n) ∙ or-right (w' x) (q' n) now)))
 
-  pub covered-any : (q q' : Queue) (l : Nodes) → More_on q q' l → (s s' : Store) (w w' : Waiting) → Loose q' l s w s' w' → Covered code q s w l → Covered code q' s' w' l
+  pub covered-any : (q q' : Queue) (l : Nodes) → MoreOn q q' l → (s s' : Store) (w w' : Waiting) → Loose q' l s w s' w' → Covered code q s w l → Covered code q' s' w' l
   covered-any q q' Nil m s s' w w' h c = c
   covered-any q q' (Node n Step rest) m s s' w w' h c = covered-any q q' rest m.1 s s' w w' h c
   covered-any q q' (Node n (Alloc b key) rest) m s s' w w' h c = covered-any q q' rest m.1 (cleared code s b key) (cleared code s' b key) w w' (loose-cleared q' rest s s' w w' b key h) c
@@ -329,7 +324,7 @@ module _ (code : Code) where
           inr (opened-at w' x (q' n) ∙ or-right (w' x) (q' n) now)
   covered-any q q' (Node n End rest) m s s' w w' h c = covered-any q q' rest m.1 s s' w w' h c
 
-  -- what is covered behind the first nodes
+  -- what is covered after the first nodes
   pub covered-behind : (q : Queue) (a l : Nodes) (s : Store) (w : Waiting) → Covered code q s w (before a l) → Covered code q (store_after code s (items_of a)) (waits_after q w a) l
   covered-behind q Nil l s w c = c
   covered-behind q (Node n Step rest) l s w c = covered-behind q rest l s w c
@@ -341,7 +336,7 @@ module _ (code : Code) where
   none-not : (w : Waiting) (r : Place) → w r ≡ false → w r ≡ true → none_waits r ≡ true
   none-not w r e i = absurd (grind (arith, e, i))
 
-  pub cover : (q q' : Queue) (l : Nodes) → More_on q q' l → (s s' : Store) (w : Waiting) → ((p : Place) → ((s p ≡ s' p) × (w p ≡ false)) ⊎ Queued q' (first_read p l)) → Covered code q s w l → Covered code q' s' none_waits l
+  pub cover : (q q' : Queue) (l : Nodes) → MoreOn q q' l → (s s' : Store) (w : Waiting) → ((p : Place) → ((s p ≡ s' p) × (w p ≡ false)) ⊎ Queued q' (first_read p l)) → Covered code q s w l → Covered code q' s' none_waits l
   cover q q' l m s s' w h c = covered-any q q' l m s s' w none_waits (λ r. go r (h r)) c
     where
       go : (r : Place) → ((s r ≡ s' r) × (w r ≡ false)) ⊎ Queued q' (first_read r l) → ((s r ≡ s' r) × (w r ≡ true → none_waits r ≡ true)) ⊎ ((none_waits r ≡ true) ⊎ Queued q' (first_read r l))

@@ -2,7 +2,7 @@
 -- new numbers.
 use Rattle.std.proofs.Common.{◌≡◌, ℕ, zero, suc, ◌+◌, ◌-◌, ◌<◌, ◌≤◌, min, Bool, true, false, ◌==◌, ◌&&◌, if◌then◌else◌, Option, Some, None, List, [], ◌∷◌, ◌++◌, nat_le, refl, sym, ap, ◌∙◌, subst, arith}
 use Rattle.ceal_base.specs.Operators.{same_place}
-use Rattle.ceal_base.specs.Trace.{Trace, Nothing, Stepped, Allocated, Wrote, Was_read, followed, blocks_of}
+use Rattle.ceal_base.specs.Trace.{Trace, Nothing, Stepped, Allocated, Wrote, WasRead, followed, blocks_of}
 use Rattle.ceal_base.specs.declared.forest.Key.{Key}
 use Rattle.ceal_base.specs.declared.forest.UnitId.{UnitId}
 use Rattle.ceal_base.specs.declared.word.BlockId.{BlockId}
@@ -14,7 +14,7 @@ use Rattle.ceal_code.proofs.Same.{some-same, none-some}
 use Rattle.ceal_code.specs.Program.{Code}
 use Rattle.ceal_code.specs.Replay.{count, Distinct, core_numbers}
 use Rattle.ceal_code.specs.Step.{Stack}
-use Rattle.ceal_theory.specs.Repair.{Single, own, State, Fix, Mend, Anew}
+use Rattle.ceal_theory.specs.Repair.{Single, State, Fix, Mend, Anew}
 use Rattle.ceal_theory.specs.Take.{TakenAlloc, TakenRead, same_words, same_key, alloc_then, read_then, take_alloc, take_read}
 
 -- how often a core block stands among the blocks, and in the items
@@ -46,7 +46,7 @@ uses-followed b Nothing g = omega arith
 uses-followed b (Stepped rest) g = uses-followed b rest g
 uses-followed b (Allocated c key rest) g = omega (arith, uses-followed b rest g, times-cons b c (blocks_of (followed rest g)), times-cons b c (blocks_of rest))
 uses-followed b (Wrote p v rest) g = uses-followed b rest g
-uses-followed b (Was_read p v u y args inside rest) g =
+uses-followed b (WasRead p v u y args inside rest) g =
     omega (arith, uses-followed b rest g, times-append b (blocks_of inside) (blocks_of (followed rest g)), times-append b (blocks_of inside) (blocks_of rest))
 
 alloc-then : (b : ℕ) (inside rest : Trace) (first second : Option TakenAlloc) (t : TakenAlloc)
@@ -74,7 +74,7 @@ alloc-uses b key Nothing t e = none-some t e
 alloc-uses b key (Stepped rest) t e = alloc-uses b key rest t e
 alloc-uses b key (Allocated c k rest) t e = omega (arith, alloc-if b c (same_key k key) key rest t (alloc-uses b key rest) e, times-cons b c (blocks_of rest))
 alloc-uses b key (Wrote p v rest) t e = alloc-uses b key rest t e
-alloc-uses b key (Was_read p v u y args inside rest) t e =
+alloc-uses b key (WasRead p v u y args inside rest) t e =
     omega (arith, alloc-then b inside rest (take_alloc key inside) (take_alloc key rest) t (alloc-uses b key inside) (alloc-uses b key rest) e, times-append b (blocks_of inside) (blocks_of rest))
 
 read-then : (b : ℕ) (inside rest : Trace) (first second : Option TakenRead) (t : TakenRead)
@@ -102,7 +102,7 @@ read-uses b p u y args Nothing t e = none-some t e
 read-uses b p u y args (Stepped rest) t e = read-uses b p u y args rest t e
 read-uses b p u y args (Allocated c k rest) t e = omega (arith, read-uses b p u y args rest t e, times-cons b c (blocks_of rest))
 read-uses b p u y args (Wrote q v rest) t e = read-uses b p u y args rest t e
-read-uses b p u y args (Was_read q v u' y' args' inside rest) t e =
+read-uses b p u y args (WasRead q v u' y' args' inside rest) t e =
     omega (
       arith,
       times-append b (blocks_of inside) (blocks_of rest),
@@ -200,14 +200,6 @@ named-same names from (suc to) b h f = go (named-same names from to b) (nat_le f
     go r true e =
         omega (arith, one-none b (names to) (λ i. f to (grind (arith, e)) (omega arith) (sym i)), r (grind (arith, e)) (λ k i j. f k i (omega (arith, j))))
     go r false e = let same : from ≡ suc to = grind (arith, e, h) in rw same refl
-
-past-next : (b n : ℕ) (t : Bool) → (n == b) ≡ t → (if t then 1 else 0) + past n b ≡ past (suc n) b
-past-next b n false e = let d : ¬ (n ≡ b) = λ h. grind (arith, e, h) in omega (arith, d)
-past-next b n true e = let e' : n ≡ b = grind (arith, e) in omega (arith, e')
-
-pub named-own : (n b : ℕ) → named own n b ≡ past n b
-named-own zero b = omega arith
-named-own (suc n) b = omega (arith, named-own n b, past-next b n (n == b) refl)
 
 module _ (code : Code) {names : ℕ → ℕ} (b : ℕ) where
   mutual

@@ -9,9 +9,9 @@ use Rattle.ceal_base.specs.declared.word.Word.{Word}
 use Rattle.ceal_code.proofs.FittingLemmas.{args-known}
 use Rattle.ceal_code.proofs.Local.{stack-more, given-known, next-known}
 use Rattle.ceal_code.specs.Fitting.{Fits}
-use Rattle.ceal_code.specs.Known.{Holds, Known_stack, Known_act}
+use Rattle.ceal_code.specs.Known.{Holds, KnownStack, KnownAct}
 use Rattle.ceal_code.specs.Program.{Code}
-use Rattle.ceal_code.specs.Replay.{Yields, Honest, Store, Known_block, Known_word, Mentions, input_plain, plain_of, plain_after, bases, Replays, IsHonest}
+use Rattle.ceal_code.specs.Replay.{Yields, Honest, Store, KnownBlock, KnownWord, Mentions, input_plain, plain_of, plain_after, bases, Replays, IsHonest}
 use Rattle.ceal_code.specs.Step.{Stack, Empty, Act, Quiet, Makes, Writes, Reads, started, next}
 use Rattle.ceal_code.specs.Value.{Plain}
 use Rattle.ceal_theory.proofs.Good.{Extends}
@@ -22,7 +22,7 @@ use Rattle.ceal_theory.proofs.Repaired.{holds-over}
 use Rattle.ceal_theory.proofs.Replays.{wider, holds-with, ran-known, held-key, cleared-known, stored-known, store-more}
 use Rattle.ceal_theory.proofs.PlainWords.{Walked, walked}
 use Rattle.ceal_theory.specs.Repair.{State}
-use Rattle.ceal_theory.proofs.SameStore.{Same_at, honest-again}
+use Rattle.ceal_theory.proofs.SameStore.{SameAt, honest-again}
 use Rattle.ceal_theory.proofs.Sound.{starting-known, runs-sound}
 use Rattle.ceal_theory.specs.Slices.{Repair, with_inputs, starting, starting_in, goes_on, Runs, repair_at, Slices, Sound}
 
@@ -31,13 +31,13 @@ module _ (code : Code) (n : ℕ) (y : Plain) where
     pub known : List ℕ
     pub mentions : Mentions n bs l known
     pub holds : Holds n known y
-    pub store : (p : Place) → Known_word n known (t p)
+    pub store : (p : Place) → KnownWord n known (t p)
 
-  knows : (bs : List ℕ) → Holds n bs y → (st : Stack) (a : Act) → Known_stack n bs st → next code y st ≡ a → Known_act n bs a
-  knows bs h st a k e = subst (Known_act n bs) e (next-known n bs y h y (λ b i. refl) code st k)
+  knows : (bs : List ℕ) → Holds n bs y → (st : Stack) (a : Act) → KnownStack n bs st → next code y st ≡ a → KnownAct n bs a
+  knows bs h st a k e = subst (KnownAct n bs) e (next-known n bs y h y (λ b i. refl) code st k)
 
   -- what is yielded and honest, from a store that names known blocks alone, mentions in order
-  pub ordered : {st : Stack} {l : Trace} {s t : Store} → Yields code y st l → Honest code s l t → (bs : List ℕ) → Holds n bs y → ((p : Place) → Known_word n bs (s p)) → Known_stack n bs st → Ordered bs l t
+  pub ordered : {st : Stack} {l : Trace} {s t : Store} → Yields code y st l → Honest code s l t → (bs : List ℕ) → Holds n bs y → ((p : Place) → KnownWord n bs (s p)) → KnownStack n bs st → Ordered bs l t
   ordered (Yields.over e) Honest.end bs h g k = record { known = bs; mentions = Mentions.end; holds = h; store = g }
   ordered {st} (Yields.quiet {after = after} e r) (Honest.step w) bs h g k =
       let q = ordered r w bs h g (knows bs h st (Quiet after) k e) in
@@ -53,17 +53,17 @@ module _ (code : Code) (n : ℕ) (y : Plain) where
       record { known = q.known; mentions = Mentions.step (Mentions.write a.0 a.1 q.mentions); holds = q.holds; store = q.store }
   ordered {st} {s = s} (Yields.reads {below = below} {p = p} {u = u} {v = v} {args = args} {value = value} {inside = inside} e r1 r2) (Honest.step (Honest.read same w1 w2)) bs h g k =
       let a = knows bs h st (Reads p u v args below) k e in
-      let kv : Known_word n bs value = subst (Known_word n bs) same (g p) in
+      let kv : KnownWord n bs value = subst (KnownWord n bs) same (g p) in
       let q1 = ordered r1 w1 bs h g (given-known n bs code u.0 v args value Empty a.1 kv tt) in
       let q2 = ordered r2 w2 q1.known q1.holds q1.store (stack-more n bs q1.known (mentions-subset q1.mentions) below a.2) in
       record { known = q2.known; mentions = Mentions.step (Mentions.read a.0 kv a.1 q1.mentions q2.mentions); holds = q2.holds; store = q2.store }
 
 -- the places of inputs have their bases at the beginning
-pub same-bases : (code : Code) (inputs : List Block) (x : Plain) → Same_at (length inputs) [] (starting code inputs x) (bases code inputs)
+pub same-bases : (code : Code) (inputs : List Block) (x : Plain) → SameAt (length inputs) [] (starting code inputs x) (bases code inputs)
 unfolding starting bases
 same-bases code inputs x p k = go p.block k
   where
-    go : (b : BlockId) → Known_block (length inputs) [] b → starting_in code inputs x b p.field ≡ bases code inputs (record { block = b; field = p.field })
+    go : (b : BlockId) → KnownBlock (length inputs) [] b → starting_in code inputs x b p.field ≡ bases code inputs (record { block = b; field = p.field })
     go (Input i) k = refl
     go (Core c) k = elim k [ ]
 
@@ -76,13 +76,13 @@ module _ {names : ℕ → ℕ} (code : Code) (inputs : List Block) (f : ℕ) (ar
   from-inputs (Input i) block e = e
   from-inputs (Core c) block e = Rattle.ceal_code.proofs.Same.none-some block e
 
-  start : Known_stack (length inputs) [] (started code f args)
+  start : KnownStack (length inputs) [] (started code f args)
   start = started-known (length inputs) [] code f args (args-known code inputs f args fits)
 
   pub begun : Holds (length inputs) [] (with_inputs code inputs r.known)
   begun = holds-over (length inputs) [] (input_plain code inputs) (with_inputs code inputs r.known) (inputs-hold code inputs fits.blocks) from-inputs
 
-  module _ (s t : Store) (known : (p : Place) → Known_word (length inputs) [] (s p)) (w : Honest code s r.items t) where
+  module _ (s t : Store) (known : (p : Place) → KnownWord (length inputs) [] (s p)) (w : Honest code s r.items t) where
     pub in-order : Ordered code (length inputs) (with_inputs code inputs r.known) [] r.items t
     in-order = ordered code (length inputs) (with_inputs code inputs r.known) h.yields w [] begun known start
 

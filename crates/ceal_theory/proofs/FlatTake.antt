@@ -1,6 +1,6 @@
 -- To take from old items is to find in a part of their flat list.
 use Rattle.std.proofs.Common.{◌≡◌, ℕ, zero, suc, ◌<◌, ◌≤◌, length, arith, Bool, true, false, if◌then◌else◌, Option, Some, None, List, [], ◌∷◌, ◌++◌, append_assoc, append-nil, refl, sym, ap, ◌∙◌, subst}
-use Rattle.ceal_base.specs.Trace.{Trace, Nothing, Stepped, Allocated, Wrote, Was_read, flat, followed}
+use Rattle.ceal_base.specs.Trace.{Trace, Nothing, Stepped, Allocated, Wrote, WasRead, flat, followed}
 use Rattle.ceal_base.specs.declared.forest.Item.{Item}
 use Rattle.ceal_base.specs.declared.forest.Item.TheVariants.{Step, Alloc, Write, Read, End}
 use Rattle.ceal_base.specs.declared.forest.Key.{Key}
@@ -17,14 +17,14 @@ followed-nothing Nothing = refl
 followed-nothing (Stepped rest) = ap Stepped (followed-nothing rest)
 followed-nothing (Allocated b k rest) = ap (Allocated b k) (followed-nothing rest)
 followed-nothing (Wrote p v rest) = ap (Wrote p v) (followed-nothing rest)
-followed-nothing (Was_read p v u x args inside rest) = ap (Was_read p v u x args inside) (followed-nothing rest)
+followed-nothing (WasRead p v u x args inside rest) = ap (WasRead p v u x args inside) (followed-nothing rest)
 
 pub followed-followed : (f g h : Trace) → followed (followed f g) h ≡ followed f (followed g h)
 followed-followed Nothing g h = refl
 followed-followed (Stepped rest) g h = ap Stepped (followed-followed rest g h)
 followed-followed (Allocated b k rest) g h = ap (Allocated b k) (followed-followed rest g h)
 followed-followed (Wrote p v rest) g h = ap (Wrote p v) (followed-followed rest g h)
-followed-followed (Was_read p v u x args inside rest) g h = ap (Was_read p v u x args inside) (followed-followed rest g h)
+followed-followed (WasRead p v u x args inside rest) g h = ap (WasRead p v u x args inside) (followed-followed rest g h)
 
 -- a part that begins with whole items
 pub around-flat : (f : Trace) (is : List Item) → around (levels (flat f ++ is)) ≡ around (levels is)
@@ -32,7 +32,7 @@ around-flat Nothing is = refl
 around-flat (Stepped rest) is = around-flat rest is
 around-flat (Allocated b k rest) is = around-flat rest is
 around-flat (Wrote p v rest) is = around-flat rest is
-around-flat (Was_read p v u x args inside rest) is =
+around-flat (WasRead p v u x args inside rest) is =
     rw (append_assoc (flat inside) (End ∷ flat rest) is, around-flat inside (End ∷ (flat rest ++ is))) (around-flat rest is)
 
 pub first-flat : (f : Trace) (is : List Item) → first (levels (flat f ++ is)) ≡ followed f (first (levels is))
@@ -40,7 +40,7 @@ first-flat Nothing is = refl
 first-flat (Stepped rest) is = ap Stepped (first-flat rest is)
 first-flat (Allocated b k rest) is = ap (Allocated b k) (first-flat rest is)
 first-flat (Wrote p v rest) is = ap (Wrote p v) (first-flat rest is)
-first-flat (Was_read p v u x args inside rest) is =
+first-flat (WasRead p v u x args inside rest) is =
     rw (append_assoc (flat inside) (End ∷ flat rest) is, first-flat inside (End ∷ (flat rest ++ is)), around-flat inside (End ∷ (flat rest ++ is)), first-flat rest is, followed-nothing inside) refl
 
 -- whole items are their trace
@@ -73,7 +73,7 @@ alloc-followed key (Stepped rest) g = alloc-followed key rest g
 alloc-followed key (Allocated b k rest) g =
     if-then b rest g (same_key k key) (take_alloc key (followed rest g)) (take_alloc key rest) (take_alloc key g) (alloc-followed key rest g)
 alloc-followed key (Wrote p v rest) g = alloc-followed key rest g
-alloc-followed key (Was_read p v u x args inside rest) g =
+alloc-followed key (WasRead p v u x args inside rest) g =
     ap (λ o. alloc_then (followed rest g) (take_alloc key inside) o) (alloc-followed key rest g) ∙ then-then rest g (take_alloc key inside) (take_alloc key rest) (take_alloc key g)
 
 if-found : (b : BlockId) (is : List Item) (n : ℕ) (t : Bool) (a : Option TakenAlloc) (c : Option FoundAlloc) → a ≡ taken_alloc c
@@ -127,7 +127,7 @@ read-followed p u x ws Nothing g = refl
 read-followed p u x ws (Stepped rest) g = read-followed p u x ws rest g
 read-followed p u x ws (Allocated b k rest) g = read-followed p u x ws rest g
 read-followed p u x ws (Wrote q v rest) g = read-followed p u x ws rest g
-read-followed p u x ws (Was_read q v w y args inside rest) g =
+read-followed p u x ws (WasRead q v w y args inside rest) g =
     if-then-read v inside rest g (same_read q w y args p u x ws)
     (read_then (followed rest g) (take_read p u x ws inside) (take_read p u x ws (followed rest g))) (read_then rest (take_read p u x ws inside) (take_read p u x ws rest)) (take_read p u x ws g)
     (ap (λ o. read_then (followed rest g) (take_read p u x ws inside) o) (read-followed p u x ws rest g) ∙ then-then-read rest g (take_read p u x ws inside) (take_read p u x ws rest) (take_read p u x ws g))
@@ -178,7 +178,7 @@ beyond-none : (n : ℕ) → beyond n [] ≡ []
 beyond-none zero = refl
 beyond-none (suc n) = beyond-none n
 
--- the items after so many levels are those of the levels around
+-- the items after some levels are those of the levels around
 pub skipped-levels : (n : ℕ) (is : List Item) → levels (skipped n is) ≡ beyond n (levels is)
 unfolding skipped
 skipped-levels zero is = refl
@@ -236,18 +236,6 @@ module _ (p : Place) (u : UnitId) (v : ℕ) (args : List Word) where
   unfolding find_read
   read-next zero m is i later o e h k w l = absurd (omega (arith, h))
   read-next (suc n) m is i later o e h k w l = rw (e, l, ← k, w) refl
-
-pub skipped-zero : (n : ℕ) (is : List Item) → n ≤ 0 → is ≡ skipped n is
-unfolding skipped
-skipped-zero zero is h = refl
-skipped-zero (suc n) is h = absurd (omega (arith, h))
-
-pub skipped-empty : (n : ℕ) (is : List Item) → length is ≡ 0 → [] ≡ skipped n is
-unfolding skipped
-skipped-empty zero [] h = refl
-skipped-empty zero (i ∷ is) h = absurd (omega (arith, h))
-skipped-empty (suc n) [] h = refl
-skipped-empty (suc n) (i ∷ is) h = absurd (omega (arith, h))
 
 pub skipped-next : (n m : ℕ) (is : List Item) (i : Item) (later : List Item) → is ≡ i ∷ later → 0 < n → m ≡ after_item i n → skipped m later ≡ skipped n is
 unfolding skipped

@@ -5,7 +5,7 @@ use Rattle.ceal_base.specs.declared.forest.Key.{Key}
 use Rattle.ceal_base.specs.declared.word.BlockId.{BlockId}
 use Rattle.ceal_base.specs.declared.word.Place.{Place}
 use Rattle.ceal_base.specs.declared.word.Word.{Word}
-use Rattle.ceal_code.specs.Alike.{Pair, Pairs, Tied, Id_alike, Place_alike, Word_alike, Words_alike, Key_alike, Trace_alike, One_to_one}
+use Rattle.ceal_code.specs.Alike.{Pair, Pairs, Tied, IdAlike, PlaceAlike, WordAlike, WordsAlike, KeyAlike, TraceAlike, OneToOne}
 
 abbrev pub flipped : Pairs → Pairs
 flipped [] = []
@@ -24,38 +24,38 @@ tied-back (p ∷ ps) b c t = back p ps b c t (tied-back ps b c)
     back p ps b c Tied.here h = Tied.here
     back p ps b c (Tied.there t) h = Tied.there (h t)
 
-pub one-flip : (ps : Pairs) → One_to_one ps → One_to_one (flipped ps)
+pub one-flip : (ps : Pairs) → OneToOne ps → OneToOne (flipped ps)
 one-flip ps one = record {
   left = λ b c d s t. one.right c d b (tied-back ps c b s) (tied-back ps d b t);
   right = λ b c d s t. one.left d b c (tied-back ps d b s) (tied-back ps d c t);
 }
 
 module _ (ps : Pairs) where
-  id-flip : {b c : BlockId} → Id_alike ps b c → Id_alike (flipped ps) c b
-  id-flip Id_alike.input = Id_alike.input
-  id-flip (Id_alike.core {b = b} {c = c} t) = Id_alike.core (tied-flip ps b c t)
+  id-flip : {b c : BlockId} → IdAlike ps b c → IdAlike (flipped ps) c b
+  id-flip IdAlike.input = IdAlike.input
+  id-flip (IdAlike.core {b = b} {c = c} t) = IdAlike.core (tied-flip ps b c t)
 
-  place-flip : {p q : Place} → Place_alike ps p q → Place_alike (flipped ps) q p
+  place-flip : {p q : Place} → PlaceAlike ps p q → PlaceAlike (flipped ps) q p
   place-flip h = record { block = id-flip h.block; field = sym h.field }
 
-  pub word-flip : {v w : Word} → Word_alike ps v w → Word_alike (flipped ps) w v
-  word-flip Word_alike.num = Word_alike.num
-  word-flip Word_alike.null = Word_alike.null
-  word-flip (Word_alike.block h) = Word_alike.block (id-flip h)
-  word-flip (Word_alike.at h) = Word_alike.at (place-flip h)
+  pub word-flip : {v w : Word} → WordAlike ps v w → WordAlike (flipped ps) w v
+  word-flip WordAlike.num = WordAlike.num
+  word-flip WordAlike.null = WordAlike.null
+  word-flip (WordAlike.block h) = WordAlike.block (id-flip h)
+  word-flip (WordAlike.at h) = WordAlike.at (place-flip h)
 
-  words-flip : {vs ws : List Word} → Words_alike ps vs ws → Words_alike (flipped ps) ws vs
-  words-flip Words_alike.none = Words_alike.none
-  words-flip (Words_alike.more h k) = Words_alike.more (word-flip h) (words-flip k)
+  words-flip : {vs ws : List Word} → WordsAlike ps vs ws → WordsAlike (flipped ps) ws vs
+  words-flip WordsAlike.none = WordsAlike.none
+  words-flip (WordsAlike.more h k) = WordsAlike.more (word-flip h) (words-flip k)
 
-  key-flip : {k l : Key} → Key_alike ps k l → Key_alike (flipped ps) l k
-  key-flip (Key_alike.init h) = Key_alike.init (words-flip h)
-  key-flip Key_alike.int = Key_alike.int
-  key-flip Key_alike.pointer = Key_alike.pointer
+  key-flip : {k l : Key} → KeyAlike ps k l → KeyAlike (flipped ps) l k
+  key-flip (KeyAlike.init h) = KeyAlike.init (words-flip h)
+  key-flip KeyAlike.int = KeyAlike.int
+  key-flip KeyAlike.pointer = KeyAlike.pointer
 
-  pub trace-flip : {l m : Trace} → Trace_alike ps l m → Trace_alike (flipped ps) m l
-  trace-flip Trace_alike.nothing = Trace_alike.nothing
-  trace-flip (Trace_alike.stepped h) = Trace_alike.stepped (trace-flip h)
-  trace-flip (Trace_alike.allocated b k h) = Trace_alike.allocated (id-flip b) (key-flip k) (trace-flip h)
-  trace-flip (Trace_alike.wrote p w h) = Trace_alike.wrote (place-flip p) (word-flip w) (trace-flip h)
-  trace-flip (Trace_alike.was_read p w vs i h) = Trace_alike.was_read (place-flip p) (word-flip w) (words-flip vs) (trace-flip i) (trace-flip h)
+  pub trace-flip : {l m : Trace} → TraceAlike ps l m → TraceAlike (flipped ps) m l
+  trace-flip TraceAlike.nothing = TraceAlike.nothing
+  trace-flip (TraceAlike.stepped h) = TraceAlike.stepped (trace-flip h)
+  trace-flip (TraceAlike.allocated b k h) = TraceAlike.allocated (id-flip b) (key-flip k) (trace-flip h)
+  trace-flip (TraceAlike.wrote p w h) = TraceAlike.wrote (place-flip p) (word-flip w) (trace-flip h)
+  trace-flip (TraceAlike.was_read p w vs i h) = TraceAlike.was_read (place-flip p) (word-flip w) (words-flip vs) (trace-flip i) (trace-flip h)

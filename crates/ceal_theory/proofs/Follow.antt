@@ -1,7 +1,7 @@
 -- Slices follow one another, as laws of repairs that hold.
 use Rattle.std.proofs.Common.{◌≡◌, ℕ, zero, suc, ◌+◌, Option, Some, None, List, [], length, refl, sym, ap, ◌∙◌, subst, arith}
 use Rattle.ceal_base.specs.Block.{Block}
-use Rattle.ceal_base.specs.Trace.{Trace, Was_read}
+use Rattle.ceal_base.specs.Trace.{Trace, WasRead}
 use Rattle.ceal_base.specs.declared.word.BlockId.{BlockId}
 use Rattle.ceal_base.specs.declared.word.BlockId.TheVariants.{Input, Core}
 use Rattle.ceal_base.specs.declared.word.Word.{Word}
@@ -9,7 +9,7 @@ use Rattle.ceal_code.proofs.Local.{given-known}
 use Rattle.ceal_code.specs.Fitting.{Fits}
 use Rattle.ceal_code.specs.Known.{Subset}
 use Rattle.ceal_code.specs.Program.{Code}
-use Rattle.ceal_code.specs.Replay.{Store, Known_block, cleared, stored, bases, IsHonest}
+use Rattle.ceal_code.specs.Replay.{Store, KnownBlock, cleared, stored, bases, IsHonest}
 use Rattle.ceal_code.specs.Step.{Empty}
 use Rattle.ceal_code.specs.Value.{Plain}
 use Rattle.ceal_theory.proofs.Good.{Extends, extends-trans, Good, Pieces}
@@ -17,27 +17,27 @@ use Rattle.ceal_theory.proofs.Growth.{mentions-subset, pieces-more, anew-grows}
 use Rattle.ceal_theory.proofs.Replays.{anew-plays}
 use Rattle.ceal_theory.proofs.Stored.{stored-equal, cleared-equal}
 use Rattle.ceal_theory.specs.Repair.{Single, State, resumed, Fix, Anew}
-use Rattle.ceal_theory.proofs.SameStore.{Same_at, anew-again, Honest_again, honest-again}
+use Rattle.ceal_theory.proofs.SameStore.{SameAt, anew-again, HonestAgain, honest-again}
 use Rattle.ceal_theory.specs.Walk.{with_store}
 use Rattle.ceal_theory.proofs.Done.{same-bases, in-order, whole-done}
 use Rattle.ceal_theory.proofs.Sound.{at-core, good, grown, same-plain, yields', slice-sound, start-known, starting-known}
 use Rattle.ceal_theory.proofs.Join.{walk-part, part-plus, join}
 use Rattle.ceal_theory.proofs.Uses.{uses-more, uses-pieces}
-use Rattle.ceal_theory.proofs.Parts.{beyond, beyond-sum, part-fix, As_part, fix-part, part-grows, good-again, good-puts}
+use Rattle.ceal_theory.proofs.Parts.{beyond, beyond-sum, part-fix, AsPart, fix-part, part-grows, good-again, good-puts}
 use Rattle.ceal_theory.specs.Slices.{Repair, with_inputs, default_in, starting_in, starting, goes_on, Part, Runs, repair_at, Slices, Uses, Sound, Follows}
 
 module _ (names : ℕ → ℕ) (single : Single names) (code : Code) (n : ℕ) (y : Plain) where
-  pub record Part_again (k j : ℕ) (bs : List ℕ) (t : State) (old new : Trace) (s' : State) : Type 0 where
+  pub record PartAgain (k j : ℕ) (bs : List ℕ) (t : State) (old new : Trace) (s' : State) : Type 0 where
     pub known : List ℕ
     pub sub : Subset bs known
     pub good : Good names n known s'
     pub after : Store
     pub part : Part code names k t old j (with_store s' after) new
-    pub same : Same_at n known s'.store after
+    pub same : SameAt n known s'.store after
 
   -- a part goes by what the store has at known places alone
   pub part-again : {k j : ℕ} {s s' : State} {old new : Trace} → Part code names k s old j s' new → Extends s'.plain y → (bs : List ℕ) → Good names n bs s → Pieces code s.plain y old → Uses n bs old
-      → (t : Store) → Same_at n bs s.store t → Part_again k j bs (with_store s t) old new s'
+      → (t : Store) → SameAt n bs s.store t → PartAgain k j bs (with_store s t) old new s'
   part-again Part.stays ext bs g h u t w = record { known = bs; sub = λ b i. i; good = g; after = t; part = Part.stays; same = w }
   part-again Part.end ext bs g h u t w = record { known = bs; sub = λ b i. i; good = g; after = t; part = Part.end; same = w }
   part-again (Part.step f) ext bs g h u t w =
@@ -54,13 +54,13 @@ module _ (names : ℕ → ℕ) (single : Single names) (code : Code) (n : ℕ) (
       let xt = extends-trans s1.plain s'.plain y (part-grows single f2 g1.free).plain ext in
       let q1 = part-again f1 xt bs g h.1 us.3 t w in
       let q2 = part-again f2 ext q1.known q1.good (pieces-more code s.plain s1.plain y g1.plain l h.2) (uses-more n bs q1.known q1.sub l us.4) q1.after q1.same in
-      let z : Part code names (suc k1) (with_store s t) (Was_read p value u v args o l) j (with_store s' q2.after) (Was_read p (t p) u v args o' l') = Part.kept (sym (w p us.0) ∙ e) q1.part q2.part in
+      let z : Part code names (suc k1) (with_store s t) (WasRead p value u v args o l) j (with_store s' q2.after) (WasRead p (t p) u v args o' l') = Part.kept (sym (w p us.0) ∙ e) q1.part q2.part in
       record {
         known = q2.known;
         sub = λ b i. q2.sub b (q1.sub b i);
         good = q2.good;
         after = q2.after;
-        part = subst (λ z. Part code names (suc k1) (with_store s t) (Was_read p value u v args o l) j (with_store s' q2.after) (Was_read p z u v args o' l')) (sym (w p us.0)) z;
+        part = subst (λ z. Part code names (suc k1) (with_store s t) (WasRead p value u v args o l) j (with_store s' q2.after) (WasRead p z u v args o' l')) (sym (w p us.0)) z;
         same = q2.same;
       }
   part-again {k} {j} {s} {s'} (Part.stale {k = k1} {t = s1} {p = p} {value = value} {u = u} {v = v} {args = args} {inside = o} {inside' = o'} {left = left} {rest = l} {rest' = l'} e a f) ext bs g h us t w =
@@ -71,28 +71,28 @@ module _ (names : ℕ → ℕ) (single : Single names) (code : Code) (n : ℕ) (
       let sub1 : Subset bs m.known = mentions-subset m.mentions in
       let q2 = part-again f ext m.known m.good (pieces-more code s.plain s1.plain y g1.plain l h.2) (uses-more n bs m.known sub1 l us.4) q1.after q1.same in
       let a' : Anew code names (with_store s t) (resumed code u v args (t p)) o (with_store s1 q1.after) o' left = subst (λ z. Anew code names (with_store s t) (resumed code u v args z) o (with_store s1 q1.after) o' left) (w p us.0) q1.anew in
-      let z : Part code names (suc k1) (with_store s t) (Was_read p value u v args o l) j (with_store s' q2.after) (Was_read p (t p) u v args o' l') = Part.stale (λ i. e (w p us.0 ∙ i)) a' q2.part in
+      let z : Part code names (suc k1) (with_store s t) (WasRead p value u v args o l) j (with_store s' q2.after) (WasRead p (t p) u v args o' l') = Part.stale (λ i. e (w p us.0 ∙ i)) a' q2.part in
       record {
         known = q2.known;
         sub = λ b i. q2.sub b (sub1 b i);
         good = q2.good;
         after = q2.after;
-        part = subst (λ z. Part code names (suc k1) (with_store s t) (Was_read p value u v args o l) j (with_store s' q2.after) (Was_read p z u v args o' l')) (sym (w p us.0)) z;
+        part = subst (λ z. Part code names (suc k1) (with_store s t) (WasRead p value u v args o l) j (with_store s' q2.after) (WasRead p z u v args o' l')) (sym (w p us.0)) z;
         same = q2.same;
       }
 
 module _ {names : ℕ → ℕ} (code : Code) (inputs : List Block) (f : ℕ) (args : List Word) (fits : Fits code inputs f args) (r : Repair) (h : Sound code names inputs f args r) where
   -- a later repair has the same defaults for the blocks that are known now
-  default-same : (z : Plain) → Extends (with_inputs code inputs r.known) z → Same_at (length inputs) h.blocks (starting code inputs r.known) (starting code inputs z)
+  default-same : (z : Plain) → Extends (with_inputs code inputs r.known) z → SameAt (length inputs) h.blocks (starting code inputs r.known) (starting code inputs z)
   unfolding starting
   default-same z ext p k = go p.block k
     where
-      core : (c : ℕ) → Known_block (length inputs) h.blocks (Core c) → default_in code.structs (r.known (Core c)) p.field ≡ default_in code.structs (z (Core c)) p.field
+      core : (c : ℕ) → KnownBlock (length inputs) h.blocks (Core c) → default_in code.structs (r.known (Core c)) p.field ≡ default_in code.structs (z (Core c)) p.field
       core c k =
           let i = h.holds (Core c) k in
           rw (sym (at-core code inputs r.known c) ∙ i.there, ext (Core c) i.block i.there) refl
 
-      go : (b : BlockId) → Known_block (length inputs) h.blocks b → starting_in code inputs r.known b p.field ≡ starting_in code inputs z b p.field
+      go : (b : BlockId) → KnownBlock (length inputs) h.blocks b → starting_in code inputs r.known b p.field ≡ starting_in code inputs z b p.field
       go (Input i) k = refl
       go (Core c) k = core c k
 
@@ -142,7 +142,7 @@ module _ {names : ℕ → ℕ} (code : Code) (inputs : List Block) (f : ℕ) (ar
 
 module _ {names : ℕ → ℕ} (code : Code) (inputs : List Block) (f : ℕ) (args : List Word) (fits : Fits code inputs f args) where
   module _ (r : Repair) (h : Sound code names inputs f args r) (honest : IsHonest code inputs r.items) where
-    pub from-start : Honest_again code (length inputs) (starting code inputs r.known) r.items (in-order code inputs f args fits r h (bases code inputs) honest.after
+    pub from-start : HonestAgain code (length inputs) (starting code inputs r.known) r.items (in-order code inputs f args fits r h (bases code inputs) honest.after
         (Rattle.ceal_theory.proofs.Inputs.bases-known code inputs fits.blocks) honest.walk).known honest.after
     from-start = honest-again code (length inputs) honest.walk
         (in-order code inputs f args fits r h (bases code inputs) honest.after (Rattle.ceal_theory.proofs.Inputs.bases-known code inputs fits.blocks) honest.walk).mentions
@@ -154,7 +154,7 @@ module _ {names : ℕ → ℕ} (code : Code) (inputs : List Block) (f : ℕ) (ar
         rw (q.state, q.items) refl
 
     runs-stay : (k : Option ℕ) (s' : State) (n : Trace) → Runs code names k (goes_on code inputs r) r.items s' n → repair_at s' n ≡ repair_at (goes_on code inputs r) r.items
-    runs-stay None s' n (Runs.whole g) = let q : As_part code names (goes_on code inputs r) r.items s' n 0 = fix-part g 0 in same-end q.reads 1 s' n q.part
+    runs-stay None s' n (Runs.whole g) = let q : AsPart code names (goes_on code inputs r) r.items s' n 0 = fix-part g 0 in same-end q.reads 1 s' n q.part
     runs-stay (Some zero) s' n (Runs.part Part.stays) = refl
     runs-stay (Some (suc j)) s' n (Runs.part {j = i} g) = same-end j i s' n g
 
@@ -177,7 +177,7 @@ module _ {names : ℕ → ℕ} (code : Code) (inputs : List Block) (f : ℕ) (ar
       used-up : Part code names k start r.items zero t m → (o : Option ℕ) (s' : State) (n : Trace) → Runs code names o (goes_on code inputs (repair_at t m)) m s' n
           → (z : Repair) → z ≡ repair_at s' n → Follows code names inputs k r o z
       used-up p None s' n (Runs.whole g) z e =
-          let q : As_part code names (goes_on code inputs (repair_at t m)) m s' n 0 = fix-part g 0 in
+          let q : AsPart code names (goes_on code inputs (repair_at t m)) m s' n 0 = fix-part g 0 in
           let w = two-parts code inputs f args fits r h k 1 t m p q.reads s' n q.part in
           subst (λ z. Follows code names inputs k r None z) (sym e) (Follows.whole (record { after = with_store s' w.0; items = n; runs = Runs.whole (part-fix w.1); is = refl }))
       used-up p (Some zero) s' n (Runs.part Part.stays) z e =

@@ -20,7 +20,7 @@ use Rattle.ceal_code.specs.Step.{Stack, started}
 use Rattle.ceal_theory.proofs.DistinctBlocks.{past, named-most, anew-uses}
 use Rattle.ceal_theory.proofs.FromScratch.{take-none, read-none, scratch-first}
 use Rattle.ceal_theory.proofs.Functions.{adjusted-sound, adjusted-found, first-sound, first-found}
-use Rattle.ceal_theory.proofs.Good.{Extends, Free_from, Good}
+use Rattle.ceal_theory.proofs.Good.{Extends, FreeFrom, Good}
 use Rattle.ceal_theory.proofs.Growth.{own-single, anew-grows}
 use Rattle.ceal_theory.proofs.Honesty.{fix-work, anew-honest}
 use Rattle.ceal_theory.proofs.Inputs.{inputs-hold, bases-known, no-core, started-known, fits-more}
@@ -31,9 +31,9 @@ use Rattle.ceal_theory.proofs.Told.{yields-told}
 use Rattle.ceal_theory.proofs.Total.{Like, FixTotal, fix-total, acts}
 use Rattle.ceal_theory.proofs.Unique.{inputs-alike, same-steps}
 use Rattle.ceal_theory.proofs.PlainWords.{Walked, walked}
-use Rattle.ceal_theory.specs.Adjust.{Firsts_as, Extended, Above, Adjusts, Firsts}
+use Rattle.ceal_theory.specs.Adjust.{FirstsAs, Extended, Above, Adjusts, Firsts}
 use Rattle.ceal_theory.specs.Computed.{Repaired, adjusted, first_of}
-use Rattle.ceal_theory.specs.Laws.{numbers, First_trace, First_outcome}
+use Rattle.ceal_theory.specs.Laws.{numbers, FirstTrace, FirstOutcome}
 use Rattle.ceal_theory.specs.Repair.{own, Single, State, begins, works, Anew}
 
 -- where nothing is left over, each step is made anew
@@ -53,13 +53,13 @@ numbers-append from (suc n) m to e =
     rw i (ap (λ ns. from ∷ ns) (numbers-append (from + 1) n m to (omega (arith, e))))
 
 -- and each block is new
-record New_blocks (s s' : State) (bs : List BlockId) (left : Trace) : Type 0 where
+record NewBlocks (s s' : State) (bs : List BlockId) (left : Trace) : Type 0 where
   pub left' : left ≡ Nothing
   pub many : ℕ
   pub after : s'.number ≡ s.number + many
   pub blocks : core_numbers bs ≡ numbers s.number many
 
-new-both : (s t s' : State) (bs cs : List BlockId) (between left : Trace) → New_blocks s t bs between → New_blocks t s' cs left → New_blocks s s' (bs ++ cs) left
+new-both : (s t s' : State) (bs cs : List BlockId) (between left : Trace) → NewBlocks s t bs between → NewBlocks t s' cs left → NewBlocks s s' (bs ++ cs) left
 new-both s t s' bs cs between left q1 q2 = record {
   left' = q2.left';
   many = q1.many + q2.many;
@@ -67,7 +67,7 @@ new-both s t s' bs cs between left q1 q2 = record {
   blocks = cores-append bs cs ∙ (ap (λ ns. ns ++ core_numbers cs) q1.blocks ∙ (ap (λ ns. numbers s.number q1.many ++ ns) q2.blocks ∙ sym (numbers-append s.number q1.many q2.many t.number q1.after)));
 }
 
-first-blocks : {code : Code} {s s' : State} {st : Stack} {old new left : Trace} → Anew code own s st old s' new left → old ≡ Nothing → New_blocks s s' (blocks_of new) left
+first-blocks : {code : Code} {s s' : State} {st : Stack} {old new left : Trace} → Anew code own s st old s' new left → old ≡ Nothing → NewBlocks s s' (blocks_of new) left
 first-blocks (Anew.over e) o = record { left' = o; many = 0; after = omega arith; blocks = refl }
 first-blocks (Anew.quiet e a) o = let q = first-blocks a o in record { left' = q.left'; many = q.many; after = q.after; blocks = q.blocks }
 first-blocks (Anew.takes_alloc {key = key} {t = t} e w a) o = none-some t (sym (take-none key) ∙ rw o at w)
@@ -77,7 +77,7 @@ first-blocks (Anew.writes e a) o = let q = first-blocks a o in record { left' = 
 first-blocks (Anew.takes_read {p = p} {u = u} {v = v} {args = args} {r = r} e w m a) o = none-some r (sym (read-none p u v args) ∙ rw o at w)
 first-blocks {s = s} {s' = s'} {left = left} (Anew.reads {t = t} {between = between} {inside' = i} {new = l} e w m a) o = go (first-blocks m o) (λ e. first-blocks a e)
   where
-    go : New_blocks (works s) t (blocks_of i) between → (between ≡ Nothing → New_blocks t s' (blocks_of l) left) → New_blocks s s' (blocks_of i ++ blocks_of l) left
+    go : NewBlocks (works s) t (blocks_of i) between → (between ≡ Nothing → NewBlocks t s' (blocks_of l) left) → NewBlocks s s' (blocks_of i ++ blocks_of l) left
     go q f = new-both s t s' (blocks_of i) (blocks_of l) between left (record { left' = q.left'; many = q.many; after = q.after; blocks = q.blocks }) (f q.left')
 
 length-numbers : (from n : ℕ) → length (numbers from n) ≡ n
@@ -85,8 +85,8 @@ length-numbers from zero = refl
 length-numbers from (suc n) = ap suc (length-numbers (from + 1) n)
 
 -- a first trace whose blocks have any names
-module _ (code : Code) (inputs : List Block) (f : ℕ) (args : List Word) (fits : Fits code inputs f args) (names : ℕ → ℕ) (single : Single names) (new : Trace) (work : ℕ) (a : Firsts_as code inputs names f args new work) where
-  none-known : Free_from names (input_plain code inputs) 0
+module _ (code : Code) (inputs : List Block) (f : ℕ) (args : List Word) (fits : Fits code inputs f args) (names : ℕ → ℕ) (single : Single names) (new : Trace) (work : ℕ) (a : FirstsAs code inputs names f args new work) where
+  none-known : FreeFrom names (input_plain code inputs) 0
   none-known k h = no-core code inputs (names k)
 
   begun : Good names (length inputs) [] (begins code inputs (input_plain code inputs) 0)
@@ -129,10 +129,10 @@ module _ (code : Code) (inputs : List Block) (f : ℕ) (args : List Word) (fits 
   pub first-run : Determined code inputs f args new first-honest.after
   first-run = trace-law code inputs f args fits new first-replays first-honest
 
-  pub first-trace : (n : ℕ) → work ≤ n → (r : Finished) → fresh code f args inputs n ≡ Some r → First_trace code inputs f args (record { items = new; work = work }) r
+  pub first-trace : (n : ℕ) → work ≤ n → (r : Finished) → fresh code f args inputs n ≡ Some r → FirstTrace code inputs f args (record { items = new; work = work }) r
   first-trace n k r e =
       let is = some-same (record { memory = first-run.memory; steps = steps_of new; blocks = length (blocks_of new) }) r (sym (first-run.ends n (omega (arith, k, first-steps))) ∙ e) in
-      subst (λ r. First_trace code inputs f args (record { items = new; work = work }) r) is (record {
+      subst (λ r. FirstTrace code inputs f args (record { items = new; work = work }) r) is (record {
         replays = first-replays;
         honest = first-honest;
         work = sym first-steps;
@@ -148,8 +148,8 @@ module _ (code : Code) (inputs : List Block) (f : ℕ) (args : List Word) (fits 
           q.blocks ∙ ap (numbers 0) many
 
 module _ (code : Code) (inputs : List Block) (f : ℕ) (args : List Word) (fits : Fits code inputs f args) (n : ℕ) where
-  first-by : (o : Option Repaired) (q : Option Finished) → first_of code inputs n f args ≡ o → fresh code f args inputs n ≡ q → First_outcome code inputs f args o q
-  first-by None None e g = First_outcome.none
+  first-by : (o : Option Repaired) (q : Option Finished) → first_of code inputs n f args ≡ o → fresh code f args inputs n ≡ q → FirstOutcome code inputs f args o q
+  first-by None None e g = FirstOutcome.none
   first-by (Some a) None e g =
       let s = first-sound code inputs n f args a e in
       let d = first-run code inputs f args fits a.items a.work s.0 in
@@ -157,10 +157,10 @@ module _ (code : Code) (inputs : List Block) (f : ℕ) (args : List Word) (fits 
   first-by None (Some r) e g =
       let q = scratch-first code inputs f args fits n r g in none-some _ (sym e ∙ first-found code inputs n f args q.0 r.steps q.1 q.2)
   first-by (Some a) (Some r) e g =
-      let s = first-sound code inputs n f args a e in First_outcome.some (first-trace code inputs f args fits a.items a.work s.0 n s.1 r g)
+      let s = first-sound code inputs n f args a e in FirstOutcome.some (first-trace code inputs f args fits a.items a.work s.0 n s.1 r g)
 
   -- the first trace is there exactly where the run from scratch ends
-  pub first-law : First_outcome code inputs f args (first_of code inputs n f args) (fresh code f args inputs n)
+  pub first-law : FirstOutcome code inputs f args (first_of code inputs n f args) (fresh code f args inputs n)
   first-law = first-by (first_of code inputs n f args) (fresh code f args inputs n) refl refl
 
 module _ (code : Code) (old new : List Block) (f : ℕ) (args : List Word) (fits : Fits code old f args) (fit : inputs_fit code.structs new ≡ true) (more : Extended code old new)
@@ -223,7 +223,7 @@ module _ (code : Code) (old new : List Block) (f : ℕ) (args : List Word) (fits
       let t = found s.0 (first-replays code new f args fits-new s.0 q.steps s.1) (first-honest code new f args fits-new s.0 q.steps s.1) n (omega (arith, s.2, steps)) in
       (t.0, t.1, t.2 ∙ steps, omega (arith, t.3, steps))
 
-  -- and where it is found, with so many steps at most, the run ends
+  -- and where it is found, with n steps at most, the run ends
   pub ended : (n : ℕ) (a : Repaired) → adjusted code new number n l ≡ Some a → steps_of a.items ≤ n → (q : Finished) × (fresh code f args new n ≡ Some q) × (q.steps ≡ steps_of a.items)
   ended n a e k =
       let s = (adjusted-sound code new number n l a e).0 in

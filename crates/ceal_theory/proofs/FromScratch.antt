@@ -7,7 +7,7 @@ use Rattle.ceal_base.specs.Finished.{Finished, with_block}
 use Rattle.ceal_base.specs.Fitting.{kind_in}
 use Rattle.ceal_base.specs.Operators.{same_block}
 use Rattle.ceal_base.specs.Shapes.{kinds_of_shape}
-use Rattle.ceal_base.specs.Trace.{Trace, Nothing, Stepped, Allocated, Wrote, Was_read}
+use Rattle.ceal_base.specs.Trace.{Trace, Nothing, Stepped, Allocated, Wrote, WasRead}
 use Rattle.ceal_base.specs.declared.forest.Key.{Key}
 use Rattle.ceal_base.specs.declared.forest.UnitId.{UnitId}
 use Rattle.ceal_base.specs.declared.kind.FieldKind.{FieldKind}
@@ -19,15 +19,15 @@ use Rattle.ceal_base.specs.declared.word.BlockId.TheVariants.{Input, Core}
 use Rattle.ceal_base.specs.declared.word.Place.{Place}
 use Rattle.ceal_base.specs.declared.word.Word.{Word}
 use Rattle.ceal_base.specs.declared.word.Word.TheVariants.{Num, Block as BlockWord, At, Null}
-use Rattle.ceal_code.proofs.Closed.{Of_stack, Of_key, Of_act, Equal, next-of, next-equal, set-of, given-of, entered-of, chosen-of}
+use Rattle.ceal_code.proofs.Closed.{OfStack, OfKey, OfAct, Equal, next-of, next-equal, set-of, given-of, entered-of, chosen-of}
 use Rattle.ceal_code.proofs.ClosedInit.{made-equal}
 use Rattle.ceal_code.proofs.Determined.{over-on, one-step, no-step}
 use Rattle.ceal_code.proofs.FittingLemmas.{begun-placed, input-full, args-placed}
-use Rattle.ceal_code.proofs.Memory.{contents, Cell_there, content-read, altered, got, get-set_other, get-push_other, length-set, written-here, written-other, written-count, written-contents, grown-here, grown-count, grown-contents, made-full}
+use Rattle.ceal_code.proofs.Memory.{contents, CellThere, content-read, altered, got, get-set_other, get-push_other, length-set, written-here, written-other, written-count, written-contents, grown-here, grown-count, grown-contents, made-full}
 use Rattle.ceal_code.proofs.PicksValid.{Starts, picks-valid}
 use Rattle.ceal_code.proofs.TypedInit.{rows-valid}
 use Rattle.ceal_code.specs.Valid.{valid}
-use Rattle.ceal_code.proofs.Placed.{Placed, Well_placed, Keeps, placed-keeps, stack-keeps, placed-closed, content-placed, written-keeps, written-well, grown-keeps, grown-well, pointer-placed}
+use Rattle.ceal_code.proofs.Placed.{Placed, WellPlaced, Keeps, placed-keeps, stack-keeps, placed-closed, content-placed, written-keeps, written-well, grown-keeps, grown-well, pointer-placed}
 use Rattle.ceal_code.proofs.Replayed.{empty-run}
 use Rattle.ceal_code.proofs.Same.{block-same, some-same, none-some, struct-shape}
 use Rattle.ceal_code.specs.Fitting.{Fits}
@@ -62,14 +62,14 @@ cell-within (kind ∷ kinds) zero h = omega arith
 cell-within (kind ∷ kinds) (suc n) h = omega (arith, cell-within kinds n h)
 
 module _ (structs : List StructInfo) (m : Blocks) (full : Full structs m) where
-  cell-in : (p : Place) (o : Option Block) → block_at m p.block ≡ o → is_cell (kind_in structs o p.field) ≡ true → Cell_there structs m p
+  cell-in : (p : Place) (o : Option Block) → block_at m p.block ≡ o → is_cell (kind_in structs o p.field) ≡ true → CellThere structs m p
   cell-in p None e c = absurd (grind (arith, c))
   cell-in p (Some block) e c =
       let w = got block.words p.field (omega (arith, cell-within (kinds_of_shape structs block.shape) p.field c, full p.block block e)) in
       record { block = block; there = e; cell = c; word = w.0; holds = w.1 }
 
   -- a modifiable that is named is there
-  cell-there : (p : Place) → Placed structs m (At p) → Cell_there structs m p
+  cell-there : (p : Place) → Placed structs m (At p) → CellThere structs m p
   cell-there p c = cell-in p (block_at m p.block) refl c
 
 -- a plain field is another than a modifiable
@@ -92,23 +92,23 @@ module _ (code : Code) (ok : valid code ≡ true) where
     pub plain : Equal code.structs (block_at m) s.plain (Placed code.structs m)
     pub store : (p : Place) → s.store p ≡ contents code m p
     pub number : s.number ≡ length m.made
-    pub well : Well_placed code.structs m
+    pub well : WellPlaced code.structs m
     pub full : Full code.structs m
 
   matches-works : (s : State) (m : Blocks) → Matches s m → Matches (works s) m
   matches-works s m h = record { plain = h.plain; store = h.store; number = h.number; well = h.well; full = h.full }
 
-  same-step : (s : State) (m : Blocks) → Matches s m → (st : Stack) → Of_stack (Placed code.structs m) st → next code s.plain st ≡ next code (block_at m) st
+  same-step : (s : State) (m : Blocks) → Matches s m → (st : Stack) → OfStack (Placed code.structs m) st → next code s.plain st ≡ next code (block_at m) st
   same-step s m h st k = sym (next-equal (Starts code.structs) (Placed code.structs m) code (block_at m) (placed-closed code.structs m h.well (rows-valid code ok)) (picks-valid code ok) s.plain h.plain st k)
 
-  same-made : (s : State) (m : Blocks) → Matches s m → (key : Key) → Of_key (Placed code.structs m) key → made code s.plain key ≡ made code (block_at m) key
+  same-made : (s : State) (m : Blocks) → Matches s m → (key : Key) → OfKey (Placed code.structs m) key → made code s.plain key ≡ made code (block_at m) key
   same-made s m h key k = sym (made-equal (Starts code.structs) (Placed code.structs m) code (block_at m) (placed-closed code.structs m h.well (rows-valid code ok)) (picks-valid code ok) s.plain h.plain key k)
 
-  places : (s : State) (m : Blocks) → Matches s m → (st : Stack) → Of_stack (Placed code.structs m) st → (a : Act) → next code (block_at m) st ≡ a → Of_act (Placed code.structs m) a
-  places s m h st k a e = subst (Of_act (Placed code.structs m)) e (next-of (Starts code.structs) (Placed code.structs m) code (block_at m) (placed-closed code.structs m h.well (rows-valid code ok)) (picks-valid code ok) st k)
+  places : (s : State) (m : Blocks) → Matches s m → (st : Stack) → OfStack (Placed code.structs m) st → (a : Act) → next code (block_at m) st ≡ a → OfAct (Placed code.structs m) a
+  places s m h st k a e = subst (OfAct (Placed code.structs m)) e (next-of (Starts code.structs) (Placed code.structs m) code (block_at m) (placed-closed code.structs m h.well (rows-valid code ok)) (picks-valid code ok) st k)
 
   -- after a write
-  module _ (s : State) (m : Blocks) (h : Matches s m) (p : Place) (cell : Cell_there code.structs m p) (w : Word) where
+  module _ (s : State) (m : Blocks) (h : Matches s m) (p : Place) (cell : CellThere code.structs m p) (w : Word) where
     in-if : (t : Bool) (z f : ℕ) → is_struct z cell.block.shape ≡ t
         → field_in (field_kind code.structs (Struct z) f) (if t then Some (altered cell.block p.field w) else None) f ≡ field_in (field_kind code.structs (Struct z) f) (if t then Some cell.block else None) f
     in-if false z f e = refl
@@ -150,7 +150,7 @@ module _ (code : Code) (ok : valid code ≡ true) where
     }
 
   -- after a new block
-  module _ (s : State) (m : Blocks) (h : Matches s m) (key : Key) (placed : Of_key (Placed code.structs m) key) where
+  module _ (s : State) (m : Blocks) (h : Matches s m) (key : Key) (placed : OfKey (Placed code.structs m) key) where
     new-at : (t : Bool) (b : BlockId) → same_block b (Core (length m.made)) ≡ t → (F : Option Block → Option Block → Type 0) → ((o : Option Block) → F o o) → F (block_at m b) (s.plain b)
         → F (block_at (with_block m (made code (block_at m) key)) b) (if t then Some (made code s.plain key) else s.plain b)
     new-at true b e F same older =
@@ -195,7 +195,7 @@ module _ (code : Code) (ok : valid code ≡ true) where
     }
 
   -- a run of a stack over another one is a first trace of the one, and then a run of the other
-  record First_part (n steps : ℕ) (s : State) (m : Blocks) (st below : Stack) (r : Finished) : Type 0 where
+  record FirstPart (n steps : ℕ) (s : State) (m : Blocks) (st below : Stack) (r : Finished) : Type 0 where
     pub state : State
     pub items : Trace
     pub anew : Anew code own s st Nothing state items Nothing
@@ -209,15 +209,15 @@ module _ (code : Code) (ok : valid code ≡ true) where
     pub later : run code fuel taken memory below ≡ Some r
 
   abbrev Running : ℕ → Type 0
-  Running n = (steps : ℕ) (s : State) (m : Blocks) → Matches s m → (st below : Stack) → Of_stack (Placed code.structs m) st → (r : Finished) → run code n steps m (on st below) ≡ Some r → First_part n steps s m st below r
+  Running n = (steps : ℕ) (s : State) (m : Blocks) → Matches s m → (st below : Stack) → OfStack (Placed code.structs m) st → (r : Finished) → run code n steps m (on st below) ≡ Some r → FirstPart n steps s m st below r
 
   step-inv : (n steps : ℕ) (m : Blocks) (st below : Stack) (a : Act) (r : Finished) → next code (block_at m) st ≡ a → only_over steps m (act_on a below (next code (block_at m) below)) ≡ None
       → run code n steps m (on st below) ≡ Some r → (k : ℕ) × (n ≡ suc k) × (ran code (run code k (steps + 1)) steps m (act_on a below (next code (block_at m) below)) ≡ Some r)
   step-inv zero steps m st below a r e none h = none-some r (sym none ∙ (sym (no-step code steps m st below a e) ∙ h))
   step-inv (suc k) steps m st below a r e none h = (k, refl, sym (one-step code k steps m st below a e) ∙ h)
 
-  runs-act : (b : ℕ) → ((n : ℕ) → n < b → Running n) → (n : ℕ) → n ≤ b → (steps : ℕ) (s : State) (m : Blocks) → Matches s m → (st below : Stack) → Of_stack (Placed code.structs m) st → (r : Finished)
-      → run code n steps m (on st below) ≡ Some r → (a : Act) → next code (block_at m) st ≡ a → First_part n steps s m st below r
+  runs-act : (b : ℕ) → ((n : ℕ) → n < b → Running n) → (n : ℕ) → n ≤ b → (steps : ℕ) (s : State) (m : Blocks) → Matches s m → (st below : Stack) → OfStack (Placed code.structs m) st → (r : Finished)
+      → run code n steps m (on st below) ≡ Some r → (a : Act) → next code (block_at m) st ≡ a → FirstPart n steps s m st below r
   runs-act b ih n k steps s m h st below c r g Over e = record {
     state = s;
     items = Nothing;
@@ -304,7 +304,7 @@ module _ (code : Code) (ok : valid code ≡ true) where
       let q2 = ih q1.fuel (omega (arith, k, i.1, q1.less, anew-rises q1.anew)) q1.taken q1.state q1.memory q1.matches under below (stack-keeps code.structs m q1.memory q1.keeps under a.2) r q1.later in
       record {
         state = q2.state;
-        items = Stepped (Was_read p (s.store p) u v args q1.items q2.items);
+        items = Stepped (WasRead p (s.store p) u v args q1.items q2.items);
         anew = Anew.reads (same-step s m h st c ∙ e) (read-none p u v args) q1.anew q2.anew;
         memory = q2.memory;
         matches = q2.matches;
@@ -387,10 +387,6 @@ module _ (code : Code) (inputs : List Block) (f : ℕ) (args : List Word) (fits 
     well = begun-placed code.structs inputs fits.blocks;
     full = begun-full;
   }
-
-  on-empty : (st : Stack) → on st Empty ≡ st
-  on-empty Empty = refl
-  on-empty (Run u i env st) = ap (Run u i env) (on-empty st)
 
   -- a run that ends has a first trace, of as many steps
   pub scratch-first : (fuel : ℕ) (r : Finished) → fresh code f args inputs fuel ≡ Some r → (l : Trace) × Firsts code inputs f args l r.steps × r.steps ≤ fuel

@@ -2,7 +2,7 @@
 use Rattle.std.proofs.Common.{◌≡◌, ℕ, zero, suc, ◌+◌, ◌≤◌, ◌<◌, Bool, true, false, nat_le, if◌then◌else◌, Option, Some, None, List, refl, sym, subst, arith}
 use Rattle.ceal_base.specs.Block.{Block}
 use Rattle.ceal_base.specs.Operators.{same_word}
-use Rattle.ceal_base.specs.Trace.{Trace, Nothing, Stepped, Allocated, Wrote, Was_read}
+use Rattle.ceal_base.specs.Trace.{Trace, Nothing, Stepped, Allocated, Wrote, WasRead}
 use Rattle.ceal_base.specs.declared.forest.Key.{Key}
 use Rattle.ceal_base.specs.declared.forest.UnitId.{UnitId}
 use Rattle.ceal_base.specs.declared.word.BlockId.TheVariants.{Core}
@@ -63,11 +63,11 @@ module _ (code : Code) (names : ℕ → ℕ) where
     then-fixed : (s : State) (p : Place) (u : UnitId) (y : ℕ) (args : List Word) (value : Word) (inside rest : Trace) (o : Option Fixed) (r : Fixed)
         → ((a : Fixed) → o ≡ Some a → Mend code names s p u y args value inside a.state a.items)
         → ((t : State) (a : Fixed) → fix_by code again t rest ≡ Some a → Fix code names t rest a.state a.items)
-        → and_fix o (λ a. fixed_with (Was_read p (s.store p) u y args a.items) (fix_by code again a.state rest)) ≡ Some r
-        → Fix code names s (Was_read p value u y args inside rest) r.state r.items
+        → and_fix o (λ a. fixed_with (WasRead p (s.store p) u y args a.items) (fix_by code again a.state rest)) ≡ Some r
+        → Fix code names s (WasRead p value u y args inside rest) r.state r.items
     then-fixed s p u y args value inside rest None r h g e = none-some r e
     then-fixed s p u y args value inside rest (Some a) r h g e =
-        with-fixed (Was_read p (s.store p) u y args a.items) s (Was_read p value u y args inside rest) (fix_by code again a.state rest) r
+        with-fixed (WasRead p (s.store p) u y args a.items) s (WasRead p value u y args inside rest) (fix_by code again a.state rest) r
         (λ b k. Fix.read (h a refl) (g a.state b k)) e
 
     pub fix-sound : (s : State) (l : Trace) (r : Fixed) → fix_by code again s l ≡ Some r → Fix code names s l r.state r.items
@@ -77,7 +77,7 @@ module _ (code : Code) (names : ℕ → ℕ) where
         with-fixed (Allocated b key) s (Allocated b key rest) (fix_by code again (clears code s b key) rest) r (λ a k. Fix.alloc (fix-sound (clears code s b key) rest a k)) e
     fix-sound s (Wrote p value rest) r e =
         with-fixed (Wrote p value) s (Wrote p value rest) (fix_by code again (puts s p value) rest) r (λ a k. Fix.write (fix-sound (puts s p value) rest a k)) e
-    fix-sound s (Was_read p value u y args inside rest) r e =
+    fix-sound s (WasRead p value u y args inside rest) r e =
         then-fixed s p u y args value inside rest (mend_if code again s p u y args inside (fix_by code again s inside) (same_word (s.store p) value)) r
         (λ a k. mend-if-sound s p u y args value inside (fix_by code again s inside) (same_word (s.store p) value) a refl (fix-sound s inside) k)
         (λ t a k. fix-sound t rest a k) e
@@ -100,21 +100,21 @@ module _ (code : Code) (names : ℕ → ℕ) where
     take-then : (s : State) (st : Stack) (old : Trace) (p : Place) (u : UnitId) (y : ℕ) (args : List Word) (below : Stack) (t : TakenRead) (o : Option Fixed) (r : Ran)
         → next code s.plain st ≡ Reads p u y args below → take_read p u y args old ≡ Some t
         → ((a : Fixed) → o ≡ Some a → Mend code names (works s) p u y args t.value t.inside a.state a.items)
-        → and_run o (λ a. ran_with (λ l. Stepped (Was_read p (s.store p) u y args a.items l)) (again a.state below t.leftover)) ≡ Some r
+        → and_run o (λ a. ran_with (λ l. Stepped (WasRead p (s.store p) u y args a.items l)) (again a.state below t.leftover)) ≡ Some r
         → Anew code names s st old r.state r.items r.left
     take-then s st old p u y args below t None r n w h e = none-some r e
     take-then s st old p u y args below t (Some a) r n w h e =
-        with-ran (λ l. Stepped (Was_read p (s.store p) u y args a.items l)) s st old (again a.state below t.leftover) r
+        with-ran (λ l. Stepped (WasRead p (s.store p) u y args a.items l)) s st old (again a.state below t.leftover) r
         (λ b k. Anew.takes_read n w (h a refl) (sound a.state below t.leftover b k)) e
 
     read-then : (s : State) (st : Stack) (old : Trace) (p : Place) (u : UnitId) (y : ℕ) (args : List Word) (below : Stack) (o : Option Ran) (r : Ran)
         → next code s.plain st ≡ Reads p u y args below → take_read p u y args old ≡ None
         → ((a : Ran) → o ≡ Some a → Anew code names (works s) (resumed code u y args (s.store p)) old a.state a.items a.left)
-        → and_ran o (λ a. ran_with (λ l. Stepped (Was_read p (s.store p) u y args a.items l)) (again a.state below a.left)) ≡ Some r
+        → and_ran o (λ a. ran_with (λ l. Stepped (WasRead p (s.store p) u y args a.items l)) (again a.state below a.left)) ≡ Some r
         → Anew code names s st old r.state r.items r.left
     read-then s st old p u y args below None r n w h e = none-some r e
     read-then s st old p u y args below (Some a) r n w h e =
-        with-ran (λ l. Stepped (Was_read p (s.store p) u y args a.items l)) s st old (again a.state below a.left) r
+        with-ran (λ l. Stepped (WasRead p (s.store p) u y args a.items l)) s st old (again a.state below a.left) r
         (λ b k. Anew.reads n w (h a refl) (sound a.state below a.left b k)) e
 
     read-sound : (s : State) (st : Stack) (old : Trace) (p : Place) (u : UnitId) (y : ℕ) (args : List Word) (below : Stack) (o : Option TakenRead) (r : Ran)

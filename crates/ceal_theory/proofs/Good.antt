@@ -2,14 +2,14 @@
 use Rattle.std.proofs.Common.{◌≡◌, ℕ, ◌≤◌, Some, None, List, sym, ◌∙◌}
 use Rattle.std.specs.Prelude.{⊤}
 use Rattle.ceal_base.specs.Block.{Block}
-use Rattle.ceal_base.specs.Trace.{Trace, Nothing, Stepped, Allocated, Wrote, Was_read}
+use Rattle.ceal_base.specs.Trace.{Trace, Nothing, Stepped, Allocated, Wrote, WasRead}
 use Rattle.ceal_base.specs.declared.word.BlockId.{BlockId}
 use Rattle.ceal_base.specs.declared.word.BlockId.TheVariants.{Input, Core}
 use Rattle.ceal_base.specs.declared.word.Place.{Place}
 use Rattle.ceal_code.specs.Init.{made}
 use Rattle.ceal_code.specs.Known.{Agree, Holds}
 use Rattle.ceal_code.specs.Program.{Code}
-use Rattle.ceal_code.specs.Replay.{Yields, Known_word}
+use Rattle.ceal_code.specs.Replay.{Yields, KnownWord}
 use Rattle.ceal_code.specs.Value.{Plain}
 use Rattle.ceal_theory.specs.Repair.{State, resumed}
 
@@ -25,14 +25,14 @@ pub agrees : (inputs : ℕ) (bs : List ℕ) (x y : Plain) → Holds inputs bs x 
 agrees inputs bs x y h e b k = let g = h b k in g.there ∙ sym (e b g.block g.there)
 
 -- no name of a number from the next one on is known
-abbrev pub Free_from : (ℕ → ℕ) → Plain → ℕ → Type 0
-Free_from names x n = (k : ℕ) → n ≤ k → x (Core (names k)) ≡ None
+abbrev pub FreeFrom : (ℕ → ℕ) → Plain → ℕ → Type 0
+FreeFrom names x n = (k : ℕ) → n ≤ k → x (Core (names k)) ≡ None
 
 -- the state of a repair whose new items so far made the blocks bs
 pub record Good (names : ℕ → ℕ) (inputs : ℕ) (bs : List ℕ) (s : State) : Type 0 where
   pub plain : Holds inputs bs s.plain
-  pub store : (p : Place) → Known_word inputs bs (s.store p)
-  pub free : Free_from names s.plain s.number
+  pub store : (p : Place) → KnownWord inputs bs (s.store p)
+  pub free : FreeFrom names s.plain s.number
 
 -- Old items, also where what stood around them is gone: each read's items are what its unit yields on its recorded
 -- value, and each block has in x what its key gives. The plain words y are those at the end.
@@ -42,5 +42,5 @@ Pieces code x y (Stepped rest) = Pieces code x y rest
 Pieces code x y (Allocated (Core b) key rest) = (x (Core b) ≡ Some (made code y key)) × Pieces code x y rest
 Pieces code x y (Allocated (Input i) key rest) = ⊥
 Pieces code x y (Wrote p value rest) = Pieces code x y rest
-Pieces code x y (Was_read p value u v args inside rest) =
+Pieces code x y (WasRead p value u v args inside rest) =
     Yields code y (resumed code u v args value) inside × Pieces code x y inside × Pieces code x y rest

@@ -13,14 +13,14 @@ use Rattle.ceal_base.specs.declared.word.Word.{Word}
 use Rattle.ceal_base.specs.declared.word.Word.TheVariants.{Num}
 use Rattle.ceal_code.proofs.Closed.{get-of, chosen-of, entered-of, field_default-of}
 use Rattle.ceal_code.proofs.FittingLemmas.{input-known}
-use Rattle.ceal_code.proofs.Kept.{Shapes_kept, words-kept}
+use Rattle.ceal_code.proofs.Kept.{ShapesKept, words-kept}
 use Rattle.ceal_code.proofs.Local.{each-words, stack-of}
 use Rattle.ceal_code.proofs.Memory.{get-within, got}
 use Rattle.ceal_code.proofs.Same.{some-same, none-some}
 use Rattle.ceal_code.specs.Fitting.{args_fit, Fits}
-use Rattle.ceal_code.specs.Known.{Holds, Known_stack}
+use Rattle.ceal_code.specs.Known.{Holds, KnownStack}
 use Rattle.ceal_code.specs.Program.{Code}
-use Rattle.ceal_code.specs.Replay.{Known_word, Known_words, plain_words, plain_block, input_plain, content_in, input_block, bases}
+use Rattle.ceal_code.specs.Replay.{KnownWord, KnownWords, plain_words, plain_block, input_plain, content_in, input_block, bases}
 use Rattle.ceal_code.specs.Step.{Empty, started, unit_at, entry_of, chosen}
 use Rattle.ceal_code.specs.Value.{field_kind, field_default, is_cell}
 use Rattle.ceal_code.specs.declared.function.FunctionCode.{FunctionCode}
@@ -28,7 +28,7 @@ use Rattle.ceal_code.specs.declared.function.FunctionCode.TheVariants.{Core as C
 use Rattle.ceal_theory.proofs.Good.{Extends}
 use Rattle.ceal_theory.specs.Adjust.{Extended}
 
-plain-known : (n : ℕ) (bs : List ℕ) (kinds : List FieldKind) (ws : List Word) → Known_words n bs ws → Known_words n bs (plain_words kinds ws)
+plain-known : (n : ℕ) (bs : List ℕ) (kinds : List FieldKind) (ws : List Word) → KnownWords n bs ws → KnownWords n bs (plain_words kinds ws)
 plain-known n bs [] ws h = h
 plain-known n bs (kind ∷ kinds) [] h = h
 plain-known n bs (PlainField kind ∷ kinds) (w ∷ ws) h = (h.0, plain-known n bs kinds ws h.1)
@@ -46,20 +46,20 @@ module _ (code : Code) (inputs : List Block) (fit : inputs_fit code.structs inpu
       }
   inputs-hold (Core c) h = elim h [ ]
 
-  content-known : (i f : ℕ) (o : Option Block) → slice_get inputs i ≡ o → Known_word (length inputs) [] (content_in code.structs o f)
+  content-known : (i f : ℕ) (o : Option Block) → slice_get inputs i ≡ o → KnownWord (length inputs) [] (content_in code.structs o f)
   content-known i f None e = tt
   content-known i f (Some block) e = go (is_cell (field_kind code.structs block.shape f))
     where
-      go : (t : Bool) → Known_word (length inputs) [] (if t then unwrap_or (slice_get block.words f) (field_default (field_kind code.structs block.shape f)) else Num (pos 0))
-      go true = get-of (Known_word (length inputs) []) (λ n. tt) tt block.words f (field_default (field_kind code.structs block.shape f))
-          (each-words (length inputs) [] block.words (input-known code.structs inputs fit i block e)) (field_default-of (Known_word (length inputs) []) (λ n. tt) tt (field_kind code.structs block.shape f))
+      go : (t : Bool) → KnownWord (length inputs) [] (if t then unwrap_or (slice_get block.words f) (field_default (field_kind code.structs block.shape f)) else Num (pos 0))
+      go true = get-of (KnownWord (length inputs) []) (λ n. tt) tt block.words f (field_default (field_kind code.structs block.shape f))
+          (each-words (length inputs) [] block.words (input-known code.structs inputs fit i block e)) (field_default-of (KnownWord (length inputs) []) (λ n. tt) tt (field_kind code.structs block.shape f))
       go false = tt
 
-  base-known : (b : BlockId) (f : ℕ) → Known_word (length inputs) [] (content_in code.structs (input_block inputs b) f)
+  base-known : (b : BlockId) (f : ℕ) → KnownWord (length inputs) [] (content_in code.structs (input_block inputs b) f)
   base-known (Input i) f = content-known i f (slice_get inputs i) refl
   base-known (Core c) f = tt
 
-  pub bases-known : (p : Place) → Known_word (length inputs) [] (bases code inputs p)
+  pub bases-known : (p : Place) → KnownWord (length inputs) [] (bases code inputs p)
   unfolding bases
   bases-known p = base-known p.block p.field
 
@@ -68,11 +68,11 @@ unfolding input_plain
 no-core code inputs c = refl
 
 -- the call knows what its arguments name
-pub started-known : (n : ℕ) (bs : List ℕ) (code : Code) (f : ℕ) (args : List Word) → Known_words n bs args → Known_stack n bs (started code f args)
+pub started-known : (n : ℕ) (bs : List ℕ) (code : Code) (f : ℕ) (args : List Word) → KnownWords n bs args → KnownStack n bs (started code f args)
 started-known n bs code f args h =
     stack-of n bs (started code f args)
-    (entered-of (Known_word n bs) (λ n. tt) tt code (entry_of code f) (chosen (unit_at code (entry_of code f)).params args) Empty
-    (chosen-of (Known_word n bs) (λ n. tt) tt (unit_at code (entry_of code f)).params args (each-words n bs args h)) tt)
+    (entered-of (KnownWord n bs) (λ n. tt) tt code (entry_of code f) (chosen (unit_at code (entry_of code f)).params args) Empty
+    (chosen-of (KnownWord n bs) (λ n. tt) tt (unit_at code (entry_of code f)).params args (each-words n bs args h)) tt)
 
 -- inputs that extend others
 module _ (code : Code) (old new : List Block) (more : Extended code old new) where
@@ -111,7 +111,7 @@ module _ (code : Code) (old new : List Block) (more : Extended code old new) whe
       let same : plain_block code.structs c ≡ plain_block code.structs b = some-same (plain_block code.structs c) (plain_block code.structs b) (sym (ap (option_map (plain_block code.structs)) h) ∙ more i b e) in
       (c, h, ap (λ block. block.shape) same)
 
-  shapes-kept : Shapes_kept before after
+  shapes-kept : ShapesKept before after
   shapes-kept (Input i) block e = shape-in i block (slice_get new i) e refl
   shapes-kept (Core n) block e = none-some block e
 

@@ -1,7 +1,7 @@
 -- The steps that a repair keeps.
 use Rattle.std.proofs.Common.{◌≡◌, ℕ, ◌+◌, ◌≤◌, Bool, true, false, if◌then◌else◌, Option, Some, None, List, refl, subst, arith, ◌==◌, ◌&&◌}
 use Rattle.ceal_base.specs.Operators.{same_place}
-use Rattle.ceal_base.specs.Trace.{Trace, Nothing, Stepped, Allocated, Wrote, Was_read, steps_of, followed}
+use Rattle.ceal_base.specs.Trace.{Trace, Nothing, Stepped, Allocated, Wrote, WasRead, steps_of, followed}
 use Rattle.ceal_base.specs.declared.forest.Key.{Key}
 use Rattle.ceal_base.specs.declared.forest.UnitId.{UnitId}
 use Rattle.ceal_base.specs.declared.word.BlockId.{BlockId}
@@ -10,7 +10,7 @@ use Rattle.ceal_base.specs.declared.word.Word.{Word}
 use Rattle.ceal_code.proofs.Same.{some-same, none-some}
 use Rattle.ceal_code.specs.Program.{Code}
 use Rattle.ceal_code.specs.Step.{Stack}
-use Rattle.ceal_theory.specs.KeptSteps.{kept_fix, kept_mend, kept_anew, Kept_steps_law}
+use Rattle.ceal_theory.specs.KeptSteps.{kept_fix, kept_mend, kept_anew, KeptStepsLaw}
 use Rattle.ceal_theory.specs.Repair.{State, Fix, Mend, Anew}
 use Rattle.ceal_theory.specs.Take.{TakenAlloc, TakenRead, same_words, same_key, alloc_then, read_then, take_alloc, take_read}
 
@@ -19,7 +19,7 @@ steps-followed Nothing g = omega arith
 steps-followed (Stepped rest) g = omega (arith, steps-followed rest g)
 steps-followed (Allocated b k rest) g = steps-followed rest g
 steps-followed (Wrote p v rest) g = steps-followed rest g
-steps-followed (Was_read p v u x args inside rest) g = omega (arith, steps-followed rest g)
+steps-followed (WasRead p v u x args inside rest) g = omega (arith, steps-followed rest g)
 
 alloc-then-steps : (rest : Trace) (a c : Option TakenAlloc) (n : ℕ) (t : TakenAlloc) → ((t : TakenAlloc) → a ≡ Some t → steps_of t.leftover ≤ n) → ((t : TakenAlloc) → c ≡ Some t → steps_of t.leftover ≤ steps_of rest)
     → alloc_then rest a c ≡ Some t → steps_of t.leftover ≤ n + steps_of rest
@@ -38,7 +38,7 @@ alloc-steps key Nothing t e = none-some t e
 alloc-steps key (Stepped rest) t e = omega (arith, alloc-steps key rest t e)
 alloc-steps key (Allocated b k rest) t e = alloc-if-steps b rest (same_key k key) (take_alloc key rest) t (alloc-steps key rest) e
 alloc-steps key (Wrote p v rest) t e = alloc-steps key rest t e
-alloc-steps key (Was_read p v u x args inside rest) t e = alloc-then-steps rest (take_alloc key inside) (take_alloc key rest) (steps_of inside) t (alloc-steps key inside) (alloc-steps key rest) e
+alloc-steps key (WasRead p v u x args inside rest) t e = alloc-then-steps rest (take_alloc key inside) (take_alloc key rest) (steps_of inside) t (alloc-steps key inside) (alloc-steps key rest) e
 
 read-then-steps : (rest : Trace) (a c : Option TakenRead) (n : ℕ) (t : TakenRead) → ((t : TakenRead) → a ≡ Some t → steps_of t.inside + steps_of t.leftover ≤ n)
     → ((t : TakenRead) → c ≡ Some t → steps_of t.inside + steps_of t.leftover ≤ steps_of rest) → read_then rest a c ≡ Some t → steps_of t.inside + steps_of t.leftover ≤ n + steps_of rest
@@ -57,7 +57,7 @@ read-steps p u v args Nothing t e = none-some t e
 read-steps p u v args (Stepped rest) t e = omega (arith, read-steps p u v args rest t e)
 read-steps p u v args (Allocated b k rest) t e = read-steps p u v args rest t e
 read-steps p u v args (Wrote q w rest) t e = read-steps p u v args rest t e
-read-steps p u v args (Was_read q w x y words inside rest) t e =
+read-steps p u v args (WasRead q w x y words inside rest) t e =
     read-if-steps w inside rest (same_place q p && x.0 == u.0 && y == v && same_words words args) (read_then rest (take_read p u v args inside) (take_read p u v args rest)) t
     (λ t. read-then-steps rest (take_read p u v args inside) (take_read p u v args rest) (steps_of inside) t (read-steps p u v args inside) (read-steps p u v args rest)) e
 
@@ -105,5 +105,5 @@ mutual
   anew-few (Anew.takes_read {p = p} {u = u} {v = v} {args = args} {old = old} {r = r} e w m a) = omega (arith, mend-few m, anew-few a, read-steps p u v args old r w)
   anew-few (Anew.reads e t m a) = omega (arith, anew-few m, anew-few a)
 
-pub kept-law : Kept_steps_law
+pub kept-law : KeptStepsLaw
 kept-law code names s s' old new f = (fix-sum f, fix-few f)

@@ -10,10 +10,10 @@ use Rattle.ceal_base.specs.declared.word.Word.{Word}
 use Rattle.ceal_code.proofs.Pairs.{one_if, one-at}
 use Rattle.ceal_code.proofs.Same.{nat-same, block-refl, place-same}
 use Rattle.ceal_code.specs.Program.{Code}
-use Rattle.ceal_code.specs.Replay.{In, here, there, Known_block, count, Distinct, cell_default, shape_of}
+use Rattle.ceal_code.specs.Replay.{In, here, there, KnownBlock, count, Distinct, cell_default, shape_of}
 use Rattle.ceal_code.specs.Value.{field_kind}
-use Rattle.ceal_theory.specs.Known.{Known_items}
-use Rattle.ceal_theory.specs.KnownContent.{allocs, Allocates, written_after, Known_content_law}
+use Rattle.ceal_theory.specs.Known.{KnownItems}
+use Rattle.ceal_theory.specs.KnownContent.{allocs, Allocates, written_after, KnownContentLaw}
 use Rattle.ceal_theory.specs.Walk.{content_after}
 
 allocates-count : (b : ℕ) (key : Key) {is : List Item} → Allocates b key is → 1 ≤ count b (allocs is)
@@ -41,48 +41,48 @@ in-case b c bs here = inl refl
 in-case b c bs (there i) = inr i
 
 module _ (code : Code) (n : ℕ) where
-  inputs-same : {bs cs : List ℕ} {is : List Item} → Known_items n bs is cs → (p : Place) (i : ℕ) → p.block ≡ Input i → (w : Word) → content_after code p w is ≡ written_after p w is
-  inputs-same Known_items.none p i e w = refl
-  inputs-same (Known_items.step h) p i e w = inputs-same h p i e w
-  inputs-same (Known_items.close h) p i e w = inputs-same h p i e w
-  inputs-same (Known_items.alloc {b = c} k h) p i e w = rw (input-apart p i c e) (inputs-same h p i e w)
-  inputs-same (Known_items.write {p = q} {value = v} k l h) p i e w = inputs-same h p i e (if same_place p q then v else w)
-  inputs-same (Known_items.read k l j h) p i e w = inputs-same h p i e w
+  inputs-same : {bs cs : List ℕ} {is : List Item} → KnownItems n bs is cs → (p : Place) (i : ℕ) → p.block ≡ Input i → (w : Word) → content_after code p w is ≡ written_after p w is
+  inputs-same KnownItems.none p i e w = refl
+  inputs-same (KnownItems.step h) p i e w = inputs-same h p i e w
+  inputs-same (KnownItems.close h) p i e w = inputs-same h p i e w
+  inputs-same (KnownItems.alloc {b = c} k h) p i e w = rw (input-apart p i c e) (inputs-same h p i e w)
+  inputs-same (KnownItems.write {p = q} {value = v} k l h) p i e w = inputs-same h p i e (if same_place p q then v else w)
+  inputs-same (KnownItems.read k l j h) p i e w = inputs-same h p i e w
 
-  after-same : {bs cs : List ℕ} {is : List Item} → Known_items n bs is cs → (p : Place) (b : ℕ) → p.block ≡ Core b → count b (allocs is) ≡ 0 → (w : Word) → content_after code p w is ≡ written_after p w is
-  after-same Known_items.none p b e z w = refl
-  after-same (Known_items.step h) p b e z w = after-same h p b e z w
-  after-same (Known_items.close h) p b e z w = after-same h p b e z w
-  after-same (Known_items.alloc {b = c} k h) p b e z w = rw (apart p b c e (omega (arith, z))) (after-same h p b e (omega (arith, z)) w)
-  after-same (Known_items.write {p = q} {value = v} k l h) p b e z w = after-same h p b e z (if same_place p q then v else w)
-  after-same (Known_items.read k l j h) p b e z w = after-same h p b e z w
+  after-same : {bs cs : List ℕ} {is : List Item} → KnownItems n bs is cs → (p : Place) (b : ℕ) → p.block ≡ Core b → count b (allocs is) ≡ 0 → (w : Word) → content_after code p w is ≡ written_after p w is
+  after-same KnownItems.none p b e z w = refl
+  after-same (KnownItems.step h) p b e z w = after-same h p b e z w
+  after-same (KnownItems.close h) p b e z w = after-same h p b e z w
+  after-same (KnownItems.alloc {b = c} k h) p b e z w = rw (apart p b c e (omega (arith, z))) (after-same h p b e (omega (arith, z)) w)
+  after-same (KnownItems.write {p = q} {value = v} k l h) p b e z w = after-same h p b e z (if same_place p q then v else w)
+  after-same (KnownItems.read k l j h) p b e z w = after-same h p b e z w
 
   abbrev default : Place → Key → Word
   default p key = cell_default (field_kind code.structs (shape_of code key) p.field)
 
-  not-written : (bs : List ℕ) (p q : Place) (b : ℕ) → p.block ≡ Core b → ¬ In b bs → Known_block n bs q.block → same_place p q ≡ false
+  not-written : (bs : List ℕ) (p q : Place) (b : ℕ) → p.block ≡ Core b → ¬ In b bs → KnownBlock n bs q.block → same_place p q ≡ false
   not-written bs p q b e fresh k = go (same_place p q) refl
     where
       go : (t : Bool) → same_place p q ≡ t → t ≡ false
       go false s = refl
-      go true s = absurd (fresh (subst (Known_block n bs) (ap (λ z. z.block) (sym (place-same p q s)) ∙ e) k))
+      go true s = absurd (fresh (subst (KnownBlock n bs) (ap (λ z. z.block) (sym (place-same p q s)) ∙ e) k))
 
-  core-same : {bs cs : List ℕ} {is : List Item} → Known_items n bs is cs → (p : Place) (b : ℕ) (key : Key) → p.block ≡ Core b → ¬ In b bs → Distinct (allocs is) → Allocates b key is
+  core-same : {bs cs : List ℕ} {is : List Item} → KnownItems n bs is cs → (p : Place) (b : ℕ) (key : Key) → p.block ≡ Core b → ¬ In b bs → Distinct (allocs is) → Allocates b key is
       → (w : Word) → content_after code p w is ≡ written_after p (default p key) is
-  core-same Known_items.none p b key e fresh d a w = elim a [ ]
-  core-same (Known_items.step h) p b key e fresh d (Allocates.there a) w = core-same h p b key e fresh d a w
-  core-same (Known_items.close h) p b key e fresh d (Allocates.there a) w = core-same h p b key e fresh d a w
-  core-same {bs} (Known_items.alloc {b = c} {key = k} {is = is} l h) p b key e fresh d Allocates.here w =
+  core-same KnownItems.none p b key e fresh d a w = elim a [ ]
+  core-same (KnownItems.step h) p b key e fresh d (Allocates.there a) w = core-same h p b key e fresh d a w
+  core-same (KnownItems.close h) p b key e fresh d (Allocates.there a) w = core-same h p b key e fresh d a w
+  core-same {bs} (KnownItems.alloc {b = c} {key = k} {is = is} l h) p b key e fresh d Allocates.here w =
       rw (e, block-refl (Core b)) (after-same h p b e (omega (arith, d b, one-at b b refl)) (default p key))
-  core-same {bs} (Known_items.alloc {b = c} {key = k} {is = is} l h) p b key e fresh d (Allocates.there a) w =
+  core-same {bs} (KnownItems.alloc {b = c} {key = k} {is = is} l h) p b key e fresh d (Allocates.there a) w =
       let z : one_if b c ≡ 0 = omega (arith, d b, allocates-count b key a) in
       rw (apart p b c e z) (core-same h p b key e (λ i. new z (in-case b c bs i)) (λ f. omega (arith, d f)) a w)
     where
       new : one_if b c ≡ 0 → (c ≡ b) ⊎ In b bs → ⊥
       new z (inl s) = omega (arith, z, one-at b c s)
       new z (inr i) = fresh i
-  core-same {bs} (Known_items.write {p = q} {value = v} k l h) p b key e fresh d (Allocates.there a) w = rw (not-written bs p q b e fresh k) (core-same h p b key e fresh d a w)
-  core-same (Known_items.read k l j h) p b key e fresh d (Allocates.there a) w = core-same h p b key e fresh d a w
+  core-same {bs} (KnownItems.write {p = q} {value = v} k l h) p b key e fresh d (Allocates.there a) w = rw (not-written bs p q b e fresh k) (core-same h p b key e fresh d a w)
+  core-same (KnownItems.read k l j h) p b key e fresh d (Allocates.there a) w = core-same h p b key e fresh d a w
 
   one-later : (b : ℕ) (bs : List ℕ) (i : Item) (is : List Item) → In b bs ⊎ ((key : Key) × Allocates b key is) → In b bs ⊎ ((key : Key) × Allocates b key (i ∷ is))
   one-later b bs i is (inl j) = inl j
@@ -96,15 +96,15 @@ module _ (code : Code) (n : ℕ) where
   made-later b c bs k is (inl i) = made-here b c bs k is (in-case b c bs i)
   made-later b c bs k is (inr (key, a)) = inr (key, Allocates.there a)
 
-  allocated : {bs cs : List ℕ} {is : List Item} → Known_items n bs is cs → (b : ℕ) → In b cs → In b bs ⊎ ((key : Key) × Allocates b key is)
-  allocated Known_items.none b i = inl i
-  allocated {bs} (Known_items.step {is = is} h) b i = one-later b bs Step is (allocated h b i)
-  allocated {bs} (Known_items.close {is = is} h) b i = one-later b bs End is (allocated h b i)
-  allocated {bs} (Known_items.alloc {b = c} {key = k} {is = is} l h) b i = made-later b c bs k is (allocated h b i)
-  allocated {bs} (Known_items.write {p = p} {value = v} {is = is} k l h) b i = one-later b bs (Write p v) is (allocated h b i)
-  allocated {bs} (Known_items.read {p = p} {value = v} {u = u} {v = x} {args = args} {is = is} k l j h) b i = one-later b bs (Read p v u x args) is (allocated h b i)
+  allocated : {bs cs : List ℕ} {is : List Item} → KnownItems n bs is cs → (b : ℕ) → In b cs → In b bs ⊎ ((key : Key) × Allocates b key is)
+  allocated KnownItems.none b i = inl i
+  allocated {bs} (KnownItems.step {is = is} h) b i = one-later b bs Step is (allocated h b i)
+  allocated {bs} (KnownItems.close {is = is} h) b i = one-later b bs End is (allocated h b i)
+  allocated {bs} (KnownItems.alloc {b = c} {key = k} {is = is} l h) b i = made-later b c bs k is (allocated h b i)
+  allocated {bs} (KnownItems.write {p = p} {value = v} {is = is} k l h) b i = one-later b bs (Write p v) is (allocated h b i)
+  allocated {bs} (KnownItems.read {p = p} {value = v} {u = u} {v = x} {args = args} {is = is} k l j h) b i = one-later b bs (Read p v u x args) is (allocated h b i)
 
-pub known-content-law : Known_content_law
+pub known-content-law : KnownContentLaw
 known-content-law code n is bs k d = record {
   allocated = λ b i. go b (allocated code n k b i);
   input = inputs-same code n k;

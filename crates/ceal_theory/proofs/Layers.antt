@@ -1,4 +1,4 @@
--- Nodes behind the cursor as layers: what is inside the innermost open read, up to its end, then what is around it.
+-- Nodes after the cursor as layers: what is inside the innermost open read, up to its end, then what is around it.
 use Rattle.std.proofs.Common.{◌≡◌, ℕ, zero, suc, List, ◌∷◌, ◌++◌, refl, sym, ap, ◌∙◌, subst, append_assoc, append-nil}
 use Rattle.ceal_base.specs.declared.forest.Item.TheVariants.{Alloc, Write, Read, End}
 use Rattle.ceal_base.specs.declared.forest.Key.{Key}
@@ -6,7 +6,7 @@ use Rattle.ceal_base.specs.declared.forest.UnitId.{UnitId}
 use Rattle.ceal_base.specs.declared.word.BlockId.{BlockId}
 use Rattle.ceal_base.specs.declared.word.Place.{Place}
 use Rattle.ceal_base.specs.declared.word.Word.{Word}
-use Rattle.ceal_theory.specs.Groves.{Knot, Grove, Bare, Made, Put, Got, knot, knots, Closed, done, alloc', write', read', end', Opened, Opened_law}
+use Rattle.ceal_theory.specs.Groves.{Knot, Grove, Bare, Made, Put, Got, knot, knots, Closed, done, alloc', write', read', end', Opened, OpenedLaw}
 
 pub data Layers : ℕ → Type 0 where
   last : (g : Grove) → Layers zero
@@ -62,5 +62,5 @@ opened {n} {ks} c = go (layered c).layers (layered c).same
     go : (ls : Layers (suc n)) → ks ≡ spread ls → Opened n ks
     go (more g e m ls) h = record { inside = g; end = e; steps = m; rest = spread ls; same = h; closed = spread-closed ls }
 
-pub opened-law : Opened_law
+pub opened-law : OpenedLaw
 opened-law n ks c = opened c

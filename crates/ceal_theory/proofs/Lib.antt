@@ -1,4 +1,11 @@
--- What crates above cite: taking from flat items, one turn of the machine, the repair as a function and where it ends.
+-- what crates above cite: taking from flat items, one turn of the machine, the repair as a function and where it ends.
+pub mod Bare
+pub mod Moves
+pub mod Revoked
+pub mod Sure
+pub mod Chosen
+pub mod Known
+pub mod MachineLaws
 pub mod Honesty
 pub mod Taken
 pub mod Inputs
@@ -7,20 +14,22 @@ pub mod FromScratch
 pub mod Found
 pub mod FlatTake
 pub mod Turns
--- The laws of repair.
 pub mod Good
 pub mod Growth
-pub mod Stored
-pub mod Told
-pub mod Sure
-pub mod Replays
 pub mod DistinctBlocks
 pub mod PlainWords
 pub mod Repaired
+pub mod Main
+pub mod Named
+pub mod Segments
+pub mod MoreInputs
+-- The laws of repair.
+pub mod Stored
+pub mod Told
+pub mod Replays
 pub mod Unchanged
 pub mod Unique
 pub mod Total
-pub mod Main
 pub mod Samples
 -- Names.
 pub mod SideBySide
@@ -28,19 +37,13 @@ pub mod Flipped
 pub mod RenamedWalk
 pub mod Renamed
 pub mod RenamedRepair
-pub mod Named
-pub mod Chosen
 -- The machine.
-pub mod MachineLaws
 pub mod FlatMachine
-pub mod Segments
 -- Walks, counts, and what is known.
 pub mod Walk
 pub mod Counts
 pub mod KeptSteps
-pub mod Known
 pub mod KnownContent
-pub mod MoreInputs
 -- Slices and turns.
 pub mod Uses
 pub mod Parts
@@ -68,10 +71,7 @@ pub mod Cover
 pub mod CoverKept
 pub mod NodeChanges
 -- Courses.
-pub mod Revoked
 pub mod Layers
-pub mod Bare
-pub mod Moves
 pub mod Course
 -- Cost.
 pub mod CostBound

@@ -7,10 +7,10 @@ use Rattle.ceal_code.specs.Step.{Stack}
 use Rattle.ceal_theory.proofs.Bare.{bare-law, frames-self, mode-self}
 use Rattle.ceal_theory.proofs.FlatTake.{take-found, found-beyond, take-found-read, found-beyond-read, skipped-levels, first-flat, around-flat, first-of-flat, around-of-flat}
 use Rattle.ceal_theory.proofs.Turns.{at, Kept, Ahead, turn-kept, turn-ahead, finishes-fix, finishes-anew}
-use Rattle.ceal_theory.specs.Course.{Bare_mode, Bare_frames}
-use Rattle.ceal_theory.specs.Levels.{Flat_take_law, Flat_levels_law}
+use Rattle.ceal_theory.specs.Course.{BareMode, BareFrames}
+use Rattle.ceal_theory.specs.Levels.{FlatTakeLaw, FlatLevelsLaw}
 use Rattle.ceal_theory.specs.Repair.{State, Fix, Anew}
-use Rattle.ceal_theory.specs.Turns.{Fixing, Running, Bottom, After_mend, Machine, Turn, Ended, Went, turn, Resumes, Finishes, Goes, Leads, Takes_turn, Machine_law}
+use Rattle.ceal_theory.specs.Turns.{Fixing, Running, Bottom, AfterMend, Machine, Turn, Ended, Went, turn, Resumes, Finishes, Goes, Leads, TakesTurn, MachineLaw}
 
 module _ (code : Code) (names : ℕ → ℕ) where
   pub leads-stays : (m : Machine) → Leads code names m m []
@@ -27,11 +27,11 @@ module _ (code : Code) (names : ℕ → ℕ) where
           let a = k.ahead s' g.rest g.finishes in
           record { rest = a.rest; same = g.same ∙ (ap (λ r. is ++ r) a.same ∙ sym (append_assoc is js a.rest)); finishes = a.finishes }
 
-  by-turn : (m : Machine) (t : Turn) → Kept code names m t → ((s' : State) (items : List Item) → Finishes code names m s' items → Ahead code names s' items t) → Takes_turn code names m t
+  by-turn : (m : Machine) (t : Turn) → Kept code names m t → ((s' : State) (items : List Item) → Finishes code names m s' items → Ahead code names s' items t) → TakesTurn code names m t
   by-turn m Ended h k = record { back = h; ahead = k }
   by-turn m (Went written m') h k = record { back = h; ahead = k }
 
-  pub takes-turn : (m : Machine) → Takes_turn code names m (turn code names m)
+  pub takes-turn : (m : Machine) → TakesTurn code names m (turn code names m)
   takes-turn m = by-turn m (turn code names m) (turn-kept code names m) (λ s' items f. turn-ahead code names f)
 
   pub leads-turn : (m m' : Machine) (written : List Item) → turn code names m ≡ Went written m' → Leads code names m m' written
@@ -50,24 +50,24 @@ module _ (code : Code) (names : ℕ → ℕ) where
     λ k. subst (λ is. Finishes code names (at s (Running st l) Bottom) s' is) (append-nil (flat k.0) ∙ sym k.2) (Finishes.runs k.3 Resumes.bottom),
   )
 
-pub machine-law : Machine_law
+pub machine-law : MachineLaw
 machine-law code names = record {
   turns = takes-turn code names;
   stays = leads-stays code names;
   leads = leads-then code names;
   fixes = fixes code names;
   runs = runs code names;
-  bare = λ s st l fs. bare-law code names (at s (Running st (Stepped l)) fs) (at s (Running st l) fs) (record { state = refl; mode = Bare_mode.runs refl; frames = frames-self code names fs });
-  bare_after = λ s mode below l fs. bare-law code names (at s mode (After_mend below (Stepped l) fs)) (at s mode (After_mend below l fs))
-      (record { state = refl; mode = mode-self code names mode; frames = Bare_frames.after_mend refl (frames-self code names fs) });
+  bare = λ s st l fs. bare-law code names (at s (Running st (Stepped l)) fs) (at s (Running st l) fs) (record { state = refl; mode = BareMode.runs refl; frames = frames-self code names fs });
+  bare_after = λ s mode below l fs. bare-law code names (at s mode (AfterMend below (Stepped l) fs)) (at s mode (AfterMend below l fs))
+      (record { state = refl; mode = mode-self code names mode; frames = BareFrames.after_mend refl (frames-self code names fs) });
 }
 
-pub flat-take-law : Flat_take_law
+pub flat-take-law : FlatTakeLaw
 flat-take-law n is = (
   λ key. (take-found key is n, found-beyond key is n),
   λ p u v args. (take-found-read p u v args is n, found-beyond-read p u v args is n),
   skipped-levels n is,
 )
 
-pub flat-levels-law : Flat_levels_law
+pub flat-levels-law : FlatLevelsLaw
 flat-levels-law f is = (first-flat f is, around-flat f is, first-of-flat f, around-of-flat f)

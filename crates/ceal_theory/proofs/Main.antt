@@ -15,16 +15,16 @@ use Rattle.ceal_theory.proofs.RenamedRepair.{repair-renamed}
 use Rattle.ceal_theory.proofs.Repaired.{mentions-new, adjust-replays, adjust-honest, adjust-old}
 use Rattle.ceal_theory.proofs.Unchanged.{adjust-same}
 use Rattle.ceal_theory.proofs.Unique.{same-traces, same-steps}
-use Rattle.ceal_theory.specs.Laws.{Memory_after, Repair_law, Unique_law, Renamed_law, Renamed_repair_law, End_law, Unchanged_law, Function_law}
+use Rattle.ceal_theory.specs.Laws.{MemoryAfter, RepairLaw, UniqueLaw, RenamedLaw, RenamedRepairLaw, EndLaw, UnchangedLaw, FunctionLaw}
 
-pub repair-law : Repair_law
+pub repair-law : RepairLaw
 repair-law code old new f args l m number work e a = record {
   replays = adjust-replays code old new f args e.call e.fit e.extended l e.trace number e.above m work a;
   honest = adjust-honest code old new f args e.call e.fit e.extended l e.trace number e.above m work a;
   blocks = adjust-old code old new f args e.call e.fit e.extended l e.trace number e.above m work a;
 }
 
-pub unique-law : Unique_law
+pub unique-law : UniqueLaw
 unique-law code inputs f args fits l m r r' h k =
     let d = trace-law code inputs f args fits l r h in
     let d' = trace-law code inputs f args fits m r' k in
@@ -35,7 +35,7 @@ unique-law code inputs f args fits l m r r' h k =
       steps = steps;
       memory = d.memory;
       left = d.same;
-      right = subst (λ memory. Memory_after code inputs m k.after memory) (sym is) d'.same;
+      right = subst (λ memory. MemoryAfter code inputs m k.after memory) (sym is) d'.same;
     }
   where
     one : (code : Code) (inputs : List Block) (f : ℕ) (args : List Word) (l m : Trace) (s t : Store) (d : Determined code inputs f args l s) (d' : Determined code inputs f args m t) → steps_of l ≡ steps_of m → d.memory ≡ d'.memory
@@ -44,26 +44,26 @@ unique-law code inputs f args fits l m r r' h k =
         (sym (d.ends (steps_of l) (omega arith)) ∙ d'.ends (steps_of l) (omega (arith, e))) in
         ap (λ r. r.memory) same
 
-pub renamed-law : Renamed_law
+pub renamed-law : RenamedLaw
 renamed-law code inputs f args fits ps one l m alike r = (
   renamed-replays code inputs f args fits ps one l m alike r,
   λ h. renamed-honest code inputs f args fits ps one l m alike r h,
 )
 
-pub renamed-repair-law : Renamed_repair_law
+pub renamed-repair-law : RenamedRepairLaw
 renamed-repair-law code old new f args l number e ps one m alike other above n =
     repair-renamed code new e.fit ps one l m alike e.trace.known (mentions-new code old new f args e.call e.fit e.extended l e.trace) number other e.above above n
 
-pub end-law : End_law
+pub end-law : EndLaw
 end-law code old new f args l number e n = record {
   repaired = repaired code old new f args e.call e.fit e.extended l e.trace number e.above n;
   ended = ended code old new f args e.call e.fit e.extended l e.trace number e.above n;
 }
 
-pub unchanged-law : Unchanged_law
+pub unchanged-law : UnchangedLaw
 unchanged-law code inputs l h number n = adjusted-found code inputs number n l l 0 (adjust-same code inputs number l h) (omega arith)
 
-pub function-law : Function_law
+pub function-law : FunctionLaw
 function-law code inputs n a = (
   λ number l. (adjusted-sound code inputs number n l a, λ h. adjusted-found code inputs number n l a.items a.work h.0 h.1),
   λ f args. (first-sound code inputs n f args a, λ h. first-found code inputs n f args a.items a.work h.0 h.1),

@@ -10,18 +10,18 @@ use Rattle.ceal_base.specs.declared.word.Place.{Place}
 use Rattle.ceal_base.specs.declared.word.Word.{Word}
 use Rattle.ceal_code.proofs.Same.{nat-refl}
 use Rattle.ceal_code.specs.Program.{Code}
-use Rattle.ceal_code.specs.Replay.{Store, here, there, Known_block, Mentions, Honest, cell_default, shape_of, cleared, stored, bases, IsHonest}
+use Rattle.ceal_code.specs.Replay.{Store, here, there, KnownBlock, Mentions, Honest, cell_default, shape_of, cleared, stored, bases, IsHonest}
 use Rattle.ceal_code.specs.Value.{field_kind}
 use Rattle.ceal_theory.proofs.Inputs.{fits-more}
 use Rattle.ceal_theory.proofs.Repaired.{yields-new, mentions-new}
-use Rattle.ceal_theory.specs.MoreInputs.{Same_bases, More_inputs_law}
+use Rattle.ceal_theory.specs.MoreInputs.{SameBases, MoreInputsLaw}
 
 -- both have the same content at each place of a known block
 Agreeing : ℕ → List ℕ → Store → Store → Type 0
-Agreeing n bs s s' = (p : Place) → Known_block n bs p.block → s p ≡ s' p
+Agreeing n bs s s' = (p : Place) → KnownBlock n bs p.block → s p ≡ s' p
 
 module _ (code : Code) (n : ℕ) where
-  older : (bs : List ℕ) (b : ℕ) (c : BlockId) → Known_block n (b ∷ bs) c → same_block c (Core b) ≡ false → Known_block n bs c
+  older : (bs : List ℕ) (b : ℕ) (c : BlockId) → KnownBlock n (b ∷ bs) c → same_block c (Core b) ≡ false → KnownBlock n bs c
   older bs b (Input i) k e = k
   older bs b (Core c) here e = absurd (grind (arith, e, nat-refl b))
   older bs b (Core c) (there i) e = i
@@ -43,16 +43,16 @@ module _ (code : Code) (n : ℕ) where
       go true = refl
       go false = h p k
 
-  same-at : (bs : List ℕ) (s s' : Store) (p : Place) → Known_block n bs p.block → Agreeing n bs s s' → s' p ≡ s p
+  same-at : (bs : List ℕ) (s s' : Store) (p : Place) → KnownBlock n bs p.block → Agreeing n bs s s' → s' p ≡ s p
   unfolding Agreeing
   same-at bs s s' p k h = sym (h p k)
 
-  record Honest_too (l : Trace) (s' t : Store) (cs : List ℕ) : Type 0 where
+  record HonestToo (l : Trace) (s' t : Store) (cs : List ℕ) : Type 0 where
     after : Store
     walk : Honest code s' l after
     agreeing : Agreeing n cs t after
 
-  honest-too : {bs cs : List ℕ} {l : Trace} → Mentions n bs l cs → {s t : Store} → Honest code s l t → (s' : Store) → Agreeing n bs s s' → Honest_too l s' t cs
+  honest-too : {bs cs : List ℕ} {l : Trace} → Mentions n bs l cs → {s t : Store} → Honest code s l t → (s' : Store) → Agreeing n bs s s' → HonestToo l s' t cs
   honest-too Mentions.end Honest.end s' h = record { after = s'; walk = Honest.end; agreeing = h }
   honest-too (Mentions.step m) (Honest.step w) s' h = let a = honest-too m w s' h in record { after = a.after; walk = Honest.step a.walk; agreeing = a.agreeing }
   honest-too {bs} (Mentions.alloc {b = b} {key = key} k m) {s} (Honest.alloc w) s' h =
@@ -64,15 +64,15 @@ module _ (code : Code) (n : ℕ) where
       let b = honest-too m2 w2 a.after a.agreeing in
       record { after = b.after; walk = Honest.read (same-at bs s s' p k h ∙ e) a.walk b.walk; agreeing = b.agreeing }
 
-begun : (code : Code) (old new : List Block) → Same_bases code old new → Agreeing (length old) [] (bases code old) (bases code new)
+begun : (code : Code) (old new : List Block) → SameBases code old new → Agreeing (length old) [] (bases code old) (bases code new)
 unfolding Agreeing
 begun code old new same p k = at p.block k
   where
-    at : (b : BlockId) → Known_block (length old) [] b → bases code old (record { block = b; field = p.field }) ≡ bases code new (record { block = b; field = p.field })
+    at : (b : BlockId) → KnownBlock (length old) [] b → bases code old (record { block = b; field = p.field }) ≡ bases code new (record { block = b; field = p.field })
     at (Input i) k = same i p.field k
     at (Core c) k = elim k [ ]
 
-pub inputs-law : More_inputs_law
+pub inputs-law : MoreInputsLaw
 inputs-law code old new f args fits fit more l r = record {
   call = fits-more code old new more f args fits fit;
   replays = record {
@@ -84,5 +84,5 @@ inputs-law code old new f args fits fit more l r = record {
   honest = λ same h. go same h;
 }
   where
-    go : Same_bases code old new → IsHonest code old l → IsHonest code new l
+    go : SameBases code old new → IsHonest code old l → IsHonest code new l
     go same h = let a = honest-too code (length old) r.mentions h.walk (bases code new) (begun code old new same) in record { after = a.after; walk = a.walk }

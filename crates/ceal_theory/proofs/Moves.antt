@@ -18,13 +18,13 @@ use Rattle.ceal_theory.proofs.Bare.{bare-law, frames-self, mode-self}
 use Rattle.ceal_theory.proofs.FlatTake.{followed-nothing, first-flat, around-flat}
 use Rattle.ceal_theory.proofs.MachineLaws.{leads-stays, leads-then, leads-turn}
 use Rattle.ceal_theory.proofs.Revoked.{bare-stepped}
-use Rattle.ceal_theory.specs.Course.{Wait, Fixes, Takes, Begins, frames_at, fixing_at, running_at, Nested, Bare_mode, Bare_frames, Bare_same, Moves_law}
+use Rattle.ceal_theory.specs.Course.{Wait, Fixes, Takes, Begins, frames_at, fixing_at, running_at, Nested, BareMode, BareFrames, BareSame, MovesLaw}
 use Rattle.ceal_theory.specs.Groves.{Knot, Grove, Bare, Made, Put, Got, stepped, trace_in, knot, knots, bare, ticks, items_in, Closes}
 use Rattle.ceal_theory.specs.Levels.{first, around, levels}
 use Rattle.ceal_theory.specs.Repair.{State, clears, puts, works, grows, resumed}
 use Rattle.ceal_theory.specs.Take.{TakenAlloc, TakenRead, take_alloc, take_read}
-use Rattle.ceal_theory.specs.Turns.{Fixing, Running, After_mend, Machine, Went, turn, Leads}
-use Rattle.ceal_theory.specs.Walk.{with_store, store_after, Agrees_all}
+use Rattle.ceal_theory.specs.Turns.{Fixing, Running, AfterMend, Machine, Went, turn, Leads}
+use Rattle.ceal_theory.specs.Walk.{with_store, store_after, AgreesAll}
 
 -- steps in front of items
 first-ticks : (n : ℕ) (is : List Item) → first (levels (ticks n ++ is)) ≡ stepped n (first (levels is))
@@ -65,21 +65,21 @@ around-knots g tail = rw (items-append (knots g) tail, items-knots g) (around-fl
 
 module _ (code : Code) (names : ℕ → ℕ) where
   -- steps in front of what is left over are dropped
-  pub drop-ticks : (s : State) (st : Stack) (ws : List Wait) (n : ℕ) (is : List Item) → Bare_same (running_at s st ws (ticks n ++ is)) (running_at s st ws is)
+  pub drop-ticks : (s : State) (st : Stack) (ws : List Wait) (n : ℕ) (is : List Item) → BareSame (running_at s st ws (ticks n ++ is)) (running_at s st ws is)
   drop-ticks s st ws n is = record {
     state = refl;
-    mode = Bare_mode.runs (ap bare (first-ticks n is) ∙ bare-stepped n (first (levels is)));
-    frames = subst (λ ts. Bare_frames (frames_at ws ts) (frames_at ws (around (levels is)))) (sym (around-ticks n is)) (frames-self code names (frames_at ws (around (levels is))));
+    mode = BareMode.runs (ap bare (first-ticks n is) ∙ bare-stepped n (first (levels is)));
+    frames = subst (λ ts. BareFrames (frames_at ws ts) (frames_at ws (around (levels is)))) (sym (around-ticks n is)) (frames-self code names (frames_at ws (around (levels is))));
   }
 
   abbrev Comes : Machine → List Item → Machine → Type 0
   Comes m out m' = Leads code names m m' out
 
-  bare-self : (m : Machine) → Bare_same m m
+  bare-self : (m : Machine) → BareSame m m
   bare-self m = record { state = refl; mode = mode-self code names m.mode; frames = frames-self code names m.frames }
 
   -- one turn, and then steps that are dropped
-  turn-then : (m m1 m2 : Machine) (w : List Item) → turn code names m ≡ Went w m1 → Bare_same m1 m2 → Leads code names m m2 w
+  turn-then : (m m1 m2 : Machine) (w : List Item) → turn code names m ≡ Went w m1 → BareSame m1 m2 → Leads code names m m2 w
   turn-then m m1 m2 w e d = subst (λ o. Leads code names m m2 o) (append-nil w) (leads-then code names m m1 m2 w [] (leads-turn code names m m1 w e) (bare-law code names m1 m2 d))
 
   one-turn : (m m1 : Machine) (w : List Item) → turn code names m ≡ Went w m1 → Leads code names m m1 w
@@ -89,7 +89,7 @@ module _ (code : Code) (names : ℕ → ℕ) where
   and-on : (m m1 m2 : Machine) (i : Item) (is : List Item) → turn code names m ≡ Went (i ∷ []) m1 → Leads code names m1 m2 is → Leads code names m m2 (i ∷ is)
   and-on m m1 m2 i is e l = leads-then code names m m1 m2 (i ∷ []) is (leads-turn code names m m1 (i ∷ []) e) l
 
-  pub passes : {ws vs : List Wait} {is : List Item} → Nested ws is vs → (s : State) → Agrees_all code s.store is → (rest : List Item)
+  pub passes : {ws vs : List Wait} {is : List Item} → Nested ws is vs → (s : State) → AgreesAll code s.store is → (rest : List Item)
       → Leads code names (fixing_at s ws (is ++ rest)) (fixing_at (with_store s (store_after code s.store is)) vs rest) is
   unfolding turn
   passes {ws} Nested.none s h rest = leads-stays code names (fixing_at s ws rest)
@@ -116,7 +116,7 @@ module _ (code : Code) (names : ℕ → ℕ) where
       turn-then (fixing_at s ws (items_in (knot stamp (Read p value u v args) n ∷ back))) (running_at s (resumed code u v args (s.store p)) (Fixes ∷ ws) (ticks n ++ items_in back))
       (running_at s (resumed code u v args (s.store p)) (Fixes ∷ ws) (items_in back)) (Read p (s.store p) u v args ∷ []) (rw e refl) (drop-ticks s (resumed code u v args (s.store p)) (Fixes ∷ ws) n (items_in back))
 
-  -- its unit is over: what is left over is revoked, and what is kept goes on behind its end
+  -- its unit is over: what is left over is revoked, and what is kept goes on after its end
   pub repaired : (s : State) (st : Stack) (ws : List Wait) (g : Grove) (e m : ℕ) (rest : List Knot) → next code s.plain st ≡ Over
       → Comes (running_at s st (Fixes ∷ ws) (items_in (knots g ++ knot e End m ∷ rest))) (End ∷ []) (fixing_at s ws (ticks m ++ items_in rest))
   unfolding turn
@@ -159,7 +159,7 @@ module _ (code : Code) (names : ℕ → ℕ) where
       (running_at s1 after ws (items_in (knots rest ++ tail))) (Step ∷ Alloc t.block key ∷ []) (rw (h, first-knots g c, k) refl)
       (record {
         state = refl;
-        mode = Bare_mode.runs (b ∙ ap bare (sym (first-knots rest c)));
+        mode = BareMode.runs (b ∙ ap bare (sym (first-knots rest c)));
         frames = rw (around-knots g tail, around-knots rest tail) (frames-self code names (frames_at ws (around (levels (items_in tail)))));
       })
 
@@ -196,11 +196,11 @@ module _ (code : Code) (names : ℕ → ℕ) where
       one-turn (running_at s st ws (items_in (knots g ++ tail))) (running_at (works s) (resumed code u v args (s.store p)) (Begins below ∷ ws) (items_in (knots g ++ tail))) (Step ∷ Read p (s.store p) u v args ∷ [])
       (rw (h, first-knots g c, k) refl)
 
-  -- a read that is taken stands after what was revoked, its items inside it and what is left over behind its end
+  -- a read that is taken stands after what was revoked, its items inside it and what is left over after its end
   module _ (s : State) (st below : Stack) (ws : List Wait) (g inside rest : Grove) (e m n : ℕ) (tail : List Knot) (p : Place) (u : UnitId) (v : ℕ) (args : List Word) (t : TakenRead)
       (c : Closes tail) (h : next code s.plain st ≡ Reads p u v args below) (k : take_read p u v args (trace_in g) ≡ Some t)
       (in_it : t.inside ≡ stepped n (trace_in inside)) (behind : bare t.leftover ≡ bare (trace_in rest)) where
-    -- its nodes, and those behind it
+    -- its nodes, and those after it
     abbrev taken_nodes : List Knot
     taken_nodes = knots inside ++ knot e End m ∷ (knots rest ++ tail)
 
@@ -210,20 +210,20 @@ module _ (code : Code) (names : ℕ → ℕ) where
     inside-around : around (levels (ticks n ++ items_in taken_nodes)) ≡ levels (ticks m ++ items_in (knots rest ++ tail))
     inside-around = around-ticks n (items_in taken_nodes) ∙ around-knots inside (knot e End m ∷ (knots rest ++ tail))
 
-    behind-same : Bare_frames (After_mend below t.leftover (frames_at ws (around (levels (items_in (knots g ++ tail)))))) (frames_at (Takes below ∷ ws) (levels (ticks m ++ items_in (knots rest ++ tail))))
+    behind-same : BareFrames (AfterMend below t.leftover (frames_at ws (around (levels (items_in (knots g ++ tail)))))) (frames_at (Takes below ∷ ws) (levels (ticks m ++ items_in (knots rest ++ tail))))
     behind-same = rw (first-ticks m (items_in (knots rest ++ tail)), first-knots rest c, around-ticks m (items_in (knots rest ++ tail)), around-knots rest tail, around-knots g tail)
-        (Bare_frames.after_mend (behind ∙ sym (bare-stepped m (trace_in rest))) (frames-self code names (frames_at ws (around (levels (items_in tail))))))
+        (BareFrames.after_mend (behind ∙ sym (bare-stepped m (trace_in rest))) (frames-self code names (frames_at ws (around (levels (items_in tail))))))
 
     -- it is honest, and what is inside it is gone through
     pub read-taken : same_word (s.store p) t.value ≡ true
         → Comes (running_at s st ws (items_in (knots g ++ tail))) (Step ∷ Read p (s.store p) u v args ∷ []) (fixing_at (works s) (Takes below ∷ ws) (ticks n ++ items_in taken_nodes))
     unfolding turn
     read-taken same =
-        turn-then (running_at s st ws (items_in (knots g ++ tail))) (record { state = works s; mode = Fixing t.inside; frames = After_mend below t.leftover (frames_at ws (around (levels (items_in (knots g ++ tail))))) })
+        turn-then (running_at s st ws (items_in (knots g ++ tail))) (record { state = works s; mode = Fixing t.inside; frames = AfterMend below t.leftover (frames_at ws (around (levels (items_in (knots g ++ tail))))) })
         (fixing_at (works s) (Takes below ∷ ws) (ticks n ++ items_in taken_nodes)) (Step ∷ Read p (s.store p) u v args ∷ []) (rw (h, first-knots g c, k, same) refl)
         (record {
           state = refl;
-          mode = rw (in_it, inside-first) Bare_mode.fixes;
+          mode = rw (in_it, inside-first) BareMode.fixes;
           frames = rw inside-around behind-same;
         })
 
@@ -232,15 +232,15 @@ module _ (code : Code) (names : ℕ → ℕ) where
         → Comes (running_at s st ws (items_in (knots g ++ tail))) (Step ∷ Read p (s.store p) u v args ∷ []) (running_at (works s) (resumed code u v args (s.store p)) (Takes below ∷ ws) (items_in taken_nodes))
     unfolding turn
     read-retaken other =
-        turn-then (running_at s st ws (items_in (knots g ++ tail))) (record { state = works s; mode = Running (resumed code u v args (s.store p)) t.inside; frames = After_mend below t.leftover (frames_at ws (around (levels (items_in (knots g ++ tail))))) })
+        turn-then (running_at s st ws (items_in (knots g ++ tail))) (record { state = works s; mode = Running (resumed code u v args (s.store p)) t.inside; frames = AfterMend below t.leftover (frames_at ws (around (levels (items_in (knots g ++ tail))))) })
         (running_at (works s) (resumed code u v args (s.store p)) (Takes below ∷ ws) (items_in taken_nodes)) (Step ∷ Read p (s.store p) u v args ∷ []) (rw (h, first-knots g c, k, other) refl)
         (record {
           state = refl;
-          mode = Bare_mode.runs (ap bare in_it ∙ (bare-stepped n (trace_in inside) ∙ ap bare (sym (first-knots inside (Closes.closes e m (knots rest ++ tail))))));
+          mode = BareMode.runs (ap bare in_it ∙ (bare-stepped n (trace_in inside) ∙ ap bare (sym (first-knots inside (Closes.closes e m (knots rest ++ tail))))));
           frames = rw (around-knots inside (knot e End m ∷ (knots rest ++ tail))) behind-same;
         })
 
-pub moves-law : Moves_law
+pub moves-law : MovesLaw
 moves-law code names = record {
   passes = λ n s h rest. passes code names n s h rest;
   repairs = repairs code names;

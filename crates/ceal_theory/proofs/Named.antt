@@ -11,13 +11,13 @@ use Rattle.ceal_base.specs.declared.word.Word.{Word}
 use Rattle.ceal_base.specs.declared.word.Word.TheVariants.{Num, Null, Block as BlockWord, At}
 use Rattle.ceal_code.proofs.Pairs.{one_if, one-at}
 use Rattle.ceal_code.proofs.Same.{none-some, some-same}
-use Rattle.ceal_code.specs.Alike.{Pairs, Tied, Id_alike, Place_alike, Word_alike, Words_alike, Key_alike, Plain_alike, Trace_alike, One_to_one}
+use Rattle.ceal_code.specs.Alike.{Pairs, Tied, IdAlike, PlaceAlike, WordAlike, WordsAlike, KeyAlike, PlainAlike, TraceAlike, OneToOne}
 use Rattle.ceal_code.specs.Fitting.{Fits}
 use Rattle.ceal_code.specs.Program.{Code}
-use Rattle.ceal_code.specs.Replay.{In, here, there, Known_block, Known_word, Known_words, Known_key, Mentions, Distinct, count, core_numbers, input_plain}
+use Rattle.ceal_code.specs.Replay.{In, here, there, KnownBlock, KnownWord, KnownWords, KnownKey, Mentions, Distinct, count, core_numbers, input_plain}
 use Rattle.ceal_theory.proofs.DistinctBlocks.{times, uses, times-append}
 use Rattle.ceal_theory.proofs.Flipped.{flipped, tied-back, one-flip, trace-flip}
-use Rattle.ceal_theory.proofs.SideBySide.{Sides, Comes_from, Ran_too, anew-too}
+use Rattle.ceal_theory.proofs.SideBySide.{Sides, ComesFrom, RanToo, anew-too}
 use Rattle.ceal_theory.proofs.Found.{first-replays, first-honest}
 use Rattle.ceal_code.proofs.FittingLemmas.{args-known}
 use Rattle.ceal_code.proofs.Replayed.{begin-self, bases-self, started-alike}
@@ -26,44 +26,44 @@ use Rattle.ceal_theory.proofs.Functions.{adjusted-sound, adjusted-found, first-s
 use Rattle.ceal_theory.proofs.Growth.{mentions-subset}
 use Rattle.ceal_theory.proofs.Inputs.{fits-more}
 use Rattle.ceal_theory.proofs.Main.{repair-law, renamed-law}
-use Rattle.ceal_theory.proofs.RenamedRepair.{Pair_from, above-apart, adjust-renamed}
+use Rattle.ceal_theory.proofs.RenamedRepair.{PairFrom, above-apart, adjust-renamed}
 use Rattle.ceal_theory.proofs.Repaired.{mentions-new}
-use Rattle.ceal_theory.specs.Adjust.{Adjusts_as, Firsts_as}
+use Rattle.ceal_theory.specs.Adjust.{AdjustsAs, FirstsAs}
 use Rattle.ceal_theory.specs.Computed.{Repaired, adjusted, first_of}
 use Rattle.ceal_theory.specs.Laws.{Edited}
-use Rattle.ceal_theory.specs.Named.{id_by, place_by, word_by, words_by, key_by, trace_by, naming, Apart, Named_pair, Named, Named_law, Named_first_law, then_from, Handed_law, Renaming_law}
+use Rattle.ceal_theory.specs.Named.{id_by, place_by, word_by, words_by, key_by, trace_by, naming, Apart, NamedPair, Named, NamedLaw, NamedFirstLaw, then_from, HandedLaw, RenamingLaw}
 use Rattle.ceal_theory.specs.Repair.{Single, own, begins}
 
 -- what is alike by pairs that a renaming has is renamed
 module _ (ps : Pairs) (r : ℕ → ℕ) (h : (b c : ℕ) → Tied b c ps → c ≡ r b) where
-  id-by : {b c : BlockId} → Id_alike ps b c → c ≡ id_by r b
-  id-by Id_alike.input = refl
-  id-by (Id_alike.core {b = b} {c = c} t) = ap Core (h b c t)
+  id-by : {b c : BlockId} → IdAlike ps b c → c ≡ id_by r b
+  id-by IdAlike.input = refl
+  id-by (IdAlike.core {b = b} {c = c} t) = ap Core (h b c t)
 
-  place-by : {p q : Place} → Place_alike ps p q → q ≡ place_by r p
+  place-by : {p q : Place} → PlaceAlike ps p q → q ≡ place_by r p
   place-by {p} {q} k = ap₂ (λ b f. record { block = b; field = f }) (id-by k.block) (sym k.field)
 
-  word-by : {v w : Word} → Word_alike ps v w → w ≡ word_by r v
-  word-by Word_alike.num = refl
-  word-by Word_alike.null = refl
-  word-by (Word_alike.block k) = ap BlockWord (id-by k)
-  word-by (Word_alike.at k) = ap At (place-by k)
+  word-by : {v w : Word} → WordAlike ps v w → w ≡ word_by r v
+  word-by WordAlike.num = refl
+  word-by WordAlike.null = refl
+  word-by (WordAlike.block k) = ap BlockWord (id-by k)
+  word-by (WordAlike.at k) = ap At (place-by k)
 
-  words-by : {vs ws : List Word} → Words_alike ps vs ws → ws ≡ words_by r vs
-  words-by Words_alike.none = refl
-  words-by (Words_alike.more k i) = ap₂ ◌∷◌ (word-by k) (words-by i)
+  words-by : {vs ws : List Word} → WordsAlike ps vs ws → ws ≡ words_by r vs
+  words-by WordsAlike.none = refl
+  words-by (WordsAlike.more k i) = ap₂ ◌∷◌ (word-by k) (words-by i)
 
-  key-by : {k l : Key} → Key_alike ps k l → l ≡ key_by r k
-  key-by (Key_alike.init {f = f} k) = ap (Init f) (words-by k)
-  key-by Key_alike.int = refl
-  key-by Key_alike.pointer = refl
+  key-by : {k l : Key} → KeyAlike ps k l → l ≡ key_by r k
+  key-by (KeyAlike.init {f = f} k) = ap (Init f) (words-by k)
+  key-by KeyAlike.int = refl
+  key-by KeyAlike.pointer = refl
 
-  pub trace-by : {l m : Trace} → Trace_alike ps l m → m ≡ trace_by r l
-  trace-by Trace_alike.nothing = refl
-  trace-by (Trace_alike.stepped k) = ap Stepped (trace-by k)
-  trace-by (Trace_alike.allocated i k t) = rw (id-by i, key-by k, trace-by t) refl
-  trace-by (Trace_alike.wrote p v t) = rw (place-by p, word-by v, trace-by t) refl
-  trace-by (Trace_alike.was_read p v vs i t) = rw (place-by p, word-by v, words-by vs, trace-by i, trace-by t) refl
+  pub trace-by : {l m : Trace} → TraceAlike ps l m → m ≡ trace_by r l
+  trace-by TraceAlike.nothing = refl
+  trace-by (TraceAlike.stepped k) = ap Stepped (trace-by k)
+  trace-by (TraceAlike.allocated i k t) = rw (id-by i, key-by k, trace-by t) refl
+  trace-by (TraceAlike.wrote p v t) = rw (place-by p, word-by v, trace-by t) refl
+  trace-by (TraceAlike.was_read p v vs i t) = rw (place-by p, word-by v, words-by vs, trace-by i, trace-by t) refl
 
 -- each block with itself
 abbrev pub selves : List ℕ → Pairs
@@ -80,46 +80,46 @@ tied-same b c [] t = elim t [ ]
 tied-same b c (d ∷ bs) Tied.here = refl
 tied-same b c (d ∷ bs) (Tied.there t) = tied-same b c bs t
 
-pub selves-one : (bs : List ℕ) → One_to_one (selves bs)
+pub selves-one : (bs : List ℕ) → OneToOne (selves bs)
 selves-one bs = record {
   left = λ b c d s t. sym (tied-same b c bs s) ∙ tied-same b d bs t;
   right = λ b c d s t. tied-same b d bs s ∙ sym (tied-same c d bs t);
 }
 
 module _ (n : ℕ) (ps : Pairs) (bs : List ℕ) (h : (b : ℕ) → In b bs → Tied b b ps) where
-  id-self : (b : BlockId) → Known_block n bs b → Id_alike ps b b
-  id-self (Input i) k = Id_alike.input
-  id-self (Core b) k = Id_alike.core (h b k)
+  id-self : (b : BlockId) → KnownBlock n bs b → IdAlike ps b b
+  id-self (Input i) k = IdAlike.input
+  id-self (Core b) k = IdAlike.core (h b k)
 
-  place-self : (p : Place) → Known_block n bs p.block → Place_alike ps p p
+  place-self : (p : Place) → KnownBlock n bs p.block → PlaceAlike ps p p
   place-self p k = record { block = id-self p.block k; field = refl }
 
-  word-self : (w : Word) → Known_word n bs w → Word_alike ps w w
-  word-self (Num z) k = Word_alike.num
-  word-self Null k = Word_alike.null
-  word-self (BlockWord b) k = Word_alike.block (id-self b k)
-  word-self (At p) k = Word_alike.at (place-self p k)
+  word-self : (w : Word) → KnownWord n bs w → WordAlike ps w w
+  word-self (Num z) k = WordAlike.num
+  word-self Null k = WordAlike.null
+  word-self (BlockWord b) k = WordAlike.block (id-self b k)
+  word-self (At p) k = WordAlike.at (place-self p k)
 
-  words-self : (ws : List Word) → Known_words n bs ws → Words_alike ps ws ws
-  words-self [] k = Words_alike.none
-  words-self (w ∷ ws) k = Words_alike.more (word-self w k.0) (words-self ws k.1)
+  words-self : (ws : List Word) → KnownWords n bs ws → WordsAlike ps ws ws
+  words-self [] k = WordsAlike.none
+  words-self (w ∷ ws) k = WordsAlike.more (word-self w k.0) (words-self ws k.1)
 
-  key-self : (key : Key) → Known_key n bs key → Key_alike ps key key
-  key-self (Init f args) k = Key_alike.init (words-self args k)
-  key-self IntKey k = Key_alike.int
-  key-self (PtrKey s) k = Key_alike.pointer
+  key-self : (key : Key) → KnownKey n bs key → KeyAlike ps key key
+  key-self (Init f args) k = KeyAlike.init (words-self args k)
+  key-self IntKey k = KeyAlike.int
+  key-self (PtrKey s) k = KeyAlike.pointer
 
 -- a trace is alike itself
-pub trace-self : (n : ℕ) (ps : Pairs) {bs cs : List ℕ} {l : Trace} → Mentions n bs l cs → ((b : ℕ) → In b cs → Tied b b ps) → Trace_alike ps l l
-trace-self n ps Mentions.end h = Trace_alike.nothing
-trace-self n ps (Mentions.step m) h = Trace_alike.stepped (trace-self n ps m h)
+pub trace-self : (n : ℕ) (ps : Pairs) {bs cs : List ℕ} {l : Trace} → Mentions n bs l cs → ((b : ℕ) → In b cs → Tied b b ps) → TraceAlike ps l l
+trace-self n ps Mentions.end h = TraceAlike.nothing
+trace-self n ps (Mentions.step m) h = TraceAlike.stepped (trace-self n ps m h)
 trace-self n ps {bs} {cs} (Mentions.alloc {b = b} {key = key} k m) h =
-    Trace_alike.allocated (Id_alike.core (h b (mentions-subset m b here))) (key-self n ps bs (λ c i. h c (mentions-subset m c (there i))) key k) (trace-self n ps m h)
+    TraceAlike.allocated (IdAlike.core (h b (mentions-subset m b here))) (key-self n ps bs (λ c i. h c (mentions-subset m c (there i))) key k) (trace-self n ps m h)
 trace-self n ps {bs} {cs} (Mentions.write {p = p} {value = v} k l m) h =
-    Trace_alike.wrote (place-self n ps bs (λ c i. h c (mentions-subset m c i)) p k) (word-self n ps bs (λ c i. h c (mentions-subset m c i)) v l) (trace-self n ps m h)
+    TraceAlike.wrote (place-self n ps bs (λ c i. h c (mentions-subset m c i)) p k) (word-self n ps bs (λ c i. h c (mentions-subset m c i)) v l) (trace-self n ps m h)
 trace-self n ps {bs} {cs} (Mentions.read {p = p} {value = v} {args = args} k l j m1 m2) h =
     let low : (c : ℕ) → In c bs → Tied c c ps = λ c i. h c (mentions-subset m2 c (mentions-subset m1 c i)) in
-    Trace_alike.was_read (place-self n ps bs low p k) (word-self n ps bs low v l) (words-self n ps bs low args j)
+    TraceAlike.was_read (place-self n ps bs low p k) (word-self n ps bs low v l) (words-self n ps bs low args j)
     (trace-self n ps m1 (λ c i. h c (mentions-subset m2 c i))) (trace-self n ps m2 h)
 
 -- each block with its new number
@@ -137,45 +137,45 @@ tied-renamed r b c [] t = elim t [ ]
 tied-renamed r b c (d ∷ bs) Tied.here = (refl, here)
 tied-renamed r b c (d ∷ bs) (Tied.there t) = let q = tied-renamed r b c bs t in (q.0, there q.1)
 
-renamings-one : (r : ℕ → ℕ) (bs : List ℕ) → ((b c : ℕ) → In b bs → In c bs → r b ≡ r c → b ≡ c) → One_to_one (renamings r bs)
+renamings-one : (r : ℕ → ℕ) (bs : List ℕ) → ((b c : ℕ) → In b bs → In c bs → r b ≡ r c → b ≡ c) → OneToOne (renamings r bs)
 renamings-one r bs h = record {
   left = λ b c d s t. (tied-renamed r b c bs s).0 ∙ sym (tied-renamed r b d bs t).0;
   right = λ b c d s t. let p = tied-renamed r b d bs s in let q = tied-renamed r c d bs t in h b c p.1 q.1 (sym p.0 ∙ q.0);
 }
 
 module _ (n : ℕ) (ps : Pairs) (r : ℕ → ℕ) (bs : List ℕ) (h : (b : ℕ) → In b bs → Tied b (r b) ps) where
-  id-renamed : (b : BlockId) → Known_block n bs b → Id_alike ps b (id_by r b)
-  id-renamed (Input i) k = Id_alike.input
-  id-renamed (Core b) k = Id_alike.core (h b k)
+  id-renamed : (b : BlockId) → KnownBlock n bs b → IdAlike ps b (id_by r b)
+  id-renamed (Input i) k = IdAlike.input
+  id-renamed (Core b) k = IdAlike.core (h b k)
 
-  place-renamed : (p : Place) → Known_block n bs p.block → Place_alike ps p (place_by r p)
+  place-renamed : (p : Place) → KnownBlock n bs p.block → PlaceAlike ps p (place_by r p)
   place-renamed p k = record { block = id-renamed p.block k; field = refl }
 
-  word-renamed : (w : Word) → Known_word n bs w → Word_alike ps w (word_by r w)
-  word-renamed (Num z) k = Word_alike.num
-  word-renamed Null k = Word_alike.null
-  word-renamed (BlockWord b) k = Word_alike.block (id-renamed b k)
-  word-renamed (At p) k = Word_alike.at (place-renamed p k)
+  word-renamed : (w : Word) → KnownWord n bs w → WordAlike ps w (word_by r w)
+  word-renamed (Num z) k = WordAlike.num
+  word-renamed Null k = WordAlike.null
+  word-renamed (BlockWord b) k = WordAlike.block (id-renamed b k)
+  word-renamed (At p) k = WordAlike.at (place-renamed p k)
 
-  words-renamed : (ws : List Word) → Known_words n bs ws → Words_alike ps ws (words_by r ws)
-  words-renamed [] k = Words_alike.none
-  words-renamed (w ∷ ws) k = Words_alike.more (word-renamed w k.0) (words-renamed ws k.1)
+  words-renamed : (ws : List Word) → KnownWords n bs ws → WordsAlike ps ws (words_by r ws)
+  words-renamed [] k = WordsAlike.none
+  words-renamed (w ∷ ws) k = WordsAlike.more (word-renamed w k.0) (words-renamed ws k.1)
 
-  key-renamed : (key : Key) → Known_key n bs key → Key_alike ps key (key_by r key)
-  key-renamed (Init f args) k = Key_alike.init (words-renamed args k)
-  key-renamed IntKey k = Key_alike.int
-  key-renamed (PtrKey s) k = Key_alike.pointer
+  key-renamed : (key : Key) → KnownKey n bs key → KeyAlike ps key (key_by r key)
+  key-renamed (Init f args) k = KeyAlike.init (words-renamed args k)
+  key-renamed IntKey k = KeyAlike.int
+  key-renamed (PtrKey s) k = KeyAlike.pointer
 
-trace-renamed : (n : ℕ) (ps : Pairs) (r : ℕ → ℕ) {bs cs : List ℕ} {l : Trace} → Mentions n bs l cs → ((b : ℕ) → In b cs → Tied b (r b) ps) → Trace_alike ps l (trace_by r l)
-trace-renamed n ps r Mentions.end h = Trace_alike.nothing
-trace-renamed n ps r (Mentions.step m) h = Trace_alike.stepped (trace-renamed n ps r m h)
+trace-renamed : (n : ℕ) (ps : Pairs) (r : ℕ → ℕ) {bs cs : List ℕ} {l : Trace} → Mentions n bs l cs → ((b : ℕ) → In b cs → Tied b (r b) ps) → TraceAlike ps l (trace_by r l)
+trace-renamed n ps r Mentions.end h = TraceAlike.nothing
+trace-renamed n ps r (Mentions.step m) h = TraceAlike.stepped (trace-renamed n ps r m h)
 trace-renamed n ps r {bs} {cs} (Mentions.alloc {b = b} {key = key} k m) h =
-    Trace_alike.allocated (Id_alike.core (h b (mentions-subset m b here))) (key-renamed n ps r bs (λ c i. h c (mentions-subset m c (there i))) key k) (trace-renamed n ps r m h)
+    TraceAlike.allocated (IdAlike.core (h b (mentions-subset m b here))) (key-renamed n ps r bs (λ c i. h c (mentions-subset m c (there i))) key k) (trace-renamed n ps r m h)
 trace-renamed n ps r {bs} {cs} (Mentions.write {p = p} {value = v} k l m) h =
-    Trace_alike.wrote (place-renamed n ps r bs (λ c i. h c (mentions-subset m c i)) p k) (word-renamed n ps r bs (λ c i. h c (mentions-subset m c i)) v l) (trace-renamed n ps r m h)
+    TraceAlike.wrote (place-renamed n ps r bs (λ c i. h c (mentions-subset m c i)) p k) (word-renamed n ps r bs (λ c i. h c (mentions-subset m c i)) v l) (trace-renamed n ps r m h)
 trace-renamed n ps r {bs} {cs} (Mentions.read {p = p} {value = v} {args = args} k l j m1 m2) h =
     let low : (c : ℕ) → In c bs → Tied c (r c) ps = λ c i. h c (mentions-subset m2 c (mentions-subset m1 c i)) in
-    Trace_alike.was_read (place-renamed n ps r bs low p k) (word-renamed n ps r bs low v l) (words-renamed n ps r bs low args j)
+    TraceAlike.was_read (place-renamed n ps r bs low p k) (word-renamed n ps r bs low v l) (words-renamed n ps r bs low args j)
     (trace-renamed n ps r m1 (λ c i. h c (mentions-subset m2 c i))) (trace-renamed n ps r m2 h)
 
 in-case : (b c : ℕ) (bs : List ℕ) → In b (c ∷ bs) → (c ≡ b) ⊎ In b bs
@@ -213,7 +213,7 @@ used n cs l m b i = go (known-uses m b i)
     go (inl j) = elim j [ ]
     go (inr h) = h
 
-pub renaming-law : Renaming_law
+pub renaming-law : RenamingLaw
 renaming-law code inputs f args fits l p r h =
     let ps = renamings r p.known in
     let u : (b : ℕ) → In b p.known → 1 ≤ uses b l = used (length inputs) p.known l p.mentions in
@@ -239,16 +239,13 @@ naming-new number k names =
     rw (e, d)
 
 module _ (code : Code) (old new : List Block) (f : ℕ) (args : List Word) (l : Trace) (number : ℕ) (e : Edited code old new f args l number) (names : ℕ → ℕ) (single : Single names) (apart : Apart names l) (n : ℕ) where
-  known : List ℕ
-  known = e.trace.known
-
   mentions : Mentions (length new) [] l e.trace.known
   mentions = mentions-new code old new f args e.call e.fit e.extended l e.trace
 
   ps : Pairs
   ps = selves e.trace.known
 
-  self : Trace_alike (selves e.trace.known) l l
+  self : TraceAlike (selves e.trace.known) l l
   self = trace-self (length new) (selves e.trace.known) mentions (λ b i. self-tied b e.trace.known i)
 
   away : (b : ℕ) → 1 ≤ uses b l → (k : ℕ) → 0 ≤ k → ¬ (b ≡ names k)
@@ -261,11 +258,11 @@ module _ (code : Code) (old new : List Block) (f : ℕ) (args : List Word) (l : 
       go true i = absurd (omega (arith, h, e.above b (grind (arith, i))))
       go false i = grind (arith, i)
 
-  named-pair : (b c : ℕ) → Named_pair l number names b c → c ≡ naming number names b
-  named-pair b c (Named_pair.old s h) = sym s ∙ naming-old number b names (below b h)
-  named-pair b c (Named_pair.new k s t) = t ∙ (naming-new number k names ∙ ap (naming number names) (sym s))
+  named-pair : (b c : ℕ) → NamedPair l number names b c → c ≡ naming number names b
+  named-pair b c (NamedPair.old s h) = sym s ∙ naming-old number b names (below b h)
+  named-pair b c (NamedPair.new k s t) = t ∙ (naming-new number k names ∙ ap (naming number names) (sym s))
 
-  named : (a m : Trace) (work : ℕ) → Adjusts_as code new own number l a work → (qs : Pairs) → One_to_one qs → ((b c : ℕ) → Tied b c qs → Named_pair l number names b c) → Trace_alike qs a m
+  named : (a m : Trace) (work : ℕ) → AdjustsAs code new own number l a work → (qs : Pairs) → OneToOne qs → ((b c : ℕ) → Tied b c qs → NamedPair l number names b c) → TraceAlike qs a m
       → Named code new f args l number names a m
   named a m work d qs one each alike =
       let u = repair-law code old new f args l a number work e d in
@@ -280,23 +277,23 @@ module _ (code : Code) (old new : List Block) (f : ℕ) (args : List Word) (l : 
         honest = r.1 u.honest;
       }
 
-  there-pair : (b c : ℕ) → Pair_from (selves e.trace.known) l l own names number 0 b c → Named_pair l number names b c
-  there-pair b c (Pair_from.old t h k) = Named_pair.old (tied-same b c e.trace.known t) h
-  there-pair b c (Pair_from.new k s t) = Named_pair.new k s (t ∙ ap names (omega arith))
+  there-pair : (b c : ℕ) → PairFrom (selves e.trace.known) l l own names number 0 b c → NamedPair l number names b c
+  there-pair b c (PairFrom.old t h k) = NamedPair.old (tied-same b c e.trace.known t) h
+  there-pair b c (PairFrom.new k s t) = NamedPair.new k s (t ∙ ap names (omega arith))
 
-  back-pair : (b c : ℕ) → Pair_from (selves e.trace.known) l l names own 0 number b c → Named_pair l number names c b
-  back-pair b c (Pair_from.old t h k) = Named_pair.old (sym (tied-same b c e.trace.known t)) k
-  back-pair b c (Pair_from.new k s t) = Named_pair.new k t (s ∙ ap names (omega arith))
+  back-pair : (b c : ℕ) → PairFrom (selves e.trace.known) l l names own 0 number b c → NamedPair l number names c b
+  back-pair b c (PairFrom.old t h k) = NamedPair.old (sym (tied-same b c e.trace.known t)) k
+  back-pair b c (PairFrom.new k s t) = NamedPair.new k t (s ∙ ap names (omega arith))
 
   pub named-there : (a : Repaired) → adjusted code new number n l ≡ Some a
-      → (m : Trace) × Adjusts_as code new names 0 l m a.work × Named code new f args l number names a.items m
+      → (m : Trace) × AdjustsAs code new names 0 l m a.work × Named code new f args l number names a.items m
   named-there a h =
       let s = adjusted-sound code new number n l a h in
       let q = adjust-renamed code new e.fit (selves e.trace.known) (selves-one e.trace.known) own names (λ j k i. i) single l l self e.trace.known mentions number 0
       (above-apart number l e.above) away a.items a.work s.0 in
       (q.items, q.adjusts, named a.items q.items a.work s.0 q.pairs q.one (λ b c t. there-pair b c (q.from b c t)) q.alike)
 
-  pub named-back : (m : Trace) (work : ℕ) → Adjusts_as code new names 0 l m work → work ≤ n
+  pub named-back : (m : Trace) (work : ℕ) → AdjustsAs code new names 0 l m work → work ≤ n
       → (a : Repaired) × (adjusted code new number n l ≡ Some a) × (a.work ≡ work) × Named code new f args l number names a.items m
   named-back m work d h =
       let q = adjust-renamed code new e.fit (selves e.trace.known) (selves-one e.trace.known) names own single (λ j k i. i) l l self e.trace.known mentions 0 number
@@ -307,25 +304,25 @@ module _ (code : Code) (old new : List Block) (f : ℕ) (args : List Word) (l : 
         named q.items m work q.adjusts (flipped q.pairs) (one-flip q.pairs q.one) (λ b c t. back-pair c b (q.from c b (tied-back q.pairs c b t))) (trace-flip q.pairs q.alike),
       )
 
-pub named-law : Named_law
+pub named-law : NamedLaw
 named-law code old new f args l number e names single apart n = record {
   there = named-there code old new f args l number e names single apart n;
   back = named-back code old new f args l number e names single apart n;
 }
 
 -- a first trace with other names
-record Renamed_first (code : Code) (inputs : List Block) (f : ℕ) (args : List Word) (names names' : ℕ → ℕ) (l' : Trace) (work : ℕ) : Type 0 where
+record RenamedFirst (code : Code) (inputs : List Block) (f : ℕ) (args : List Word) (names names' : ℕ → ℕ) (l' : Trace) (work : ℕ) : Type 0 where
   items : Trace
-  firsts : Firsts_as code inputs names' f args items work
+  firsts : FirstsAs code inputs names' f args items work
   pairs : Pairs
-  one : One_to_one pairs
-  alike : Trace_alike pairs l' items
+  one : OneToOne pairs
+  alike : TraceAlike pairs l' items
   from : (b c : ℕ) → Tied b c pairs → (k : ℕ) × (b ≡ names k) × (c ≡ names' k)
 
 module _ (code : Code) (inputs : List Block) (f : ℕ) (args : List Word) (fits : Fits code inputs f args) where
-  first-renamed : (names names' : ℕ → ℕ) → Single names → Single names' → (l' : Trace) (work : ℕ) → Firsts_as code inputs names f args l' work → Renamed_first code inputs f args names names' l' work
+  first-renamed : (names names' : ℕ → ℕ) → Single names → Single names' → (l' : Trace) (work : ℕ) → FirstsAs code inputs names f args l' work → RenamedFirst code inputs f args names names' l' work
   first-renamed names names' single single' l' work a =
-      finish (anew-too code sides a.anew [] (begins code inputs (input_plain code inputs) 0) (started-alike code (length inputs) [] f args (args-known code inputs f args fits)) Trace_alike.nothing (record {
+      finish (anew-too code sides a.anew [] (begins code inputs (input_plain code inputs) 0) (started-alike code (length inputs) [] f args (args-known code inputs f args fits)) TraceAlike.nothing (record {
         one = record { left = λ b c d s t. elim s [ ]; right = λ b c d s t. elim s [ ] };
         plain = plain;
         store = bases-self code inputs [] fits.blocks;
@@ -340,15 +337,15 @@ module _ (code : Code) (inputs : List Block) (f : ℕ) (args : List Word) (fits 
       sides : Sides
       sides = record { left = names; right = names'; from = 0; other = 0; base = []; single-left = single; single-right = single' }
 
-      plain : Plain_alike code.structs [] (input_plain code inputs) (input_plain code inputs)
-      plain b c (Id_alike.input {i = i}) = begin-self code inputs [] fits.blocks i
-      plain b c (Id_alike.core t) = elim t [ ]
+      plain : PlainAlike code.structs [] (input_plain code inputs) (input_plain code inputs)
+      plain b c (IdAlike.input {i = i}) = begin-self code inputs [] fits.blocks i
+      plain b c (IdAlike.core t) = elim t [ ]
 
-      from : (b c : ℕ) → Comes_from sides b c → (k : ℕ) × (b ≡ names k) × (c ≡ names' k)
-      from b c (Comes_from.begun i) = elim i [ ]
-      from b c (Comes_from.grown k s t) = (k, s ∙ ap names (omega arith), t ∙ ap names' (omega arith))
+      from : (b c : ℕ) → ComesFrom sides b c → (k : ℕ) × (b ≡ names k) × (c ≡ names' k)
+      from b c (ComesFrom.begun i) = elim i [ ]
+      from b c (ComesFrom.grown k s t) = (k, s ∙ ap names (omega arith), t ∙ ap names' (omega arith))
 
-      finish : Ran_too code sides [] a.after l' a.left (begins code inputs (input_plain code inputs) 0) (started code f args) Nothing → Renamed_first code inputs f args names names' l' work
+      finish : RanToo code sides [] a.after l' a.left (begins code inputs (input_plain code inputs) 0) (started code f args) Nothing → RenamedFirst code inputs f args names names' l' work
       finish x = record {
         items = x.items;
         firsts = record { after = x.state; left = x.over; anew = x.anew; counted = sym x.twin.work ∙ a.counted };
@@ -359,7 +356,7 @@ module _ (code : Code) (inputs : List Block) (f : ℕ) (args : List Word) (fits 
       }
 
   module _ (names : ℕ → ℕ) (single : Single names) (n : ℕ) where
-    first-named : (a m : Trace) (work : ℕ) → Firsts_as code inputs own f args a work → (qs : Pairs) → One_to_one qs → ((b c : ℕ) → Tied b c qs → (c ≡ names b)) → Trace_alike qs a m
+    first-named : (a m : Trace) (work : ℕ) → FirstsAs code inputs own f args a work → (qs : Pairs) → OneToOne qs → ((b c : ℕ) → Tied b c qs → (c ≡ names b)) → TraceAlike qs a m
         → Named code inputs f args Nothing 0 names a m
     first-named a m work d qs one each alike =
         let r = renamed-law code inputs f args fits qs one a m alike (first-replays code inputs f args fits a work d) in
@@ -367,7 +364,7 @@ module _ (code : Code) (inputs : List Block) (f : ℕ) (args : List Word) (fits 
           same = trace-by qs (naming 0 names) (λ b c t. each b c t ∙ start b) alike;
           pairs = qs;
           one = one;
-          each = λ b c t. Named_pair.new b (omega arith) (each b c t);
+          each = λ b c t. NamedPair.new b (omega arith) (each b c t);
           alike = alike;
           replays = r.0;
           honest = r.1 (first-honest code inputs f args fits a work d);
@@ -377,7 +374,7 @@ module _ (code : Code) (inputs : List Block) (f : ℕ) (args : List Word) (fits 
         start b = let e : 0 + b ≡ b = omega arith in naming-new 0 b names ∙ ap (naming 0 names) e
 
     pub first-there : (a : Repaired) → first_of code inputs n f args ≡ Some a
-        → (m : Trace) × Firsts_as code inputs names f args m a.work × Named code inputs f args Nothing 0 names a.items m
+        → (m : Trace) × FirstsAs code inputs names f args m a.work × Named code inputs f args Nothing 0 names a.items m
     first-there a h =
         let s = first-sound code inputs n f args a h in
         let q = first-renamed own names (λ j k i. i) single a.items a.work s.0 in
@@ -386,7 +383,7 @@ module _ (code : Code) (inputs : List Block) (f : ℕ) (args : List Word) (fits 
         each : (b c : ℕ) → (k : ℕ) × (b ≡ k) × (c ≡ names k) → c ≡ names b
         each b c (k, s, t) = t ∙ ap names (sym s)
 
-    pub first-back : (m : Trace) (work : ℕ) → Firsts_as code inputs names f args m work → work ≤ n
+    pub first-back : (m : Trace) (work : ℕ) → FirstsAs code inputs names f args m work → work ≤ n
         → (a : Repaired) × (first_of code inputs n f args ≡ Some a) × (a.work ≡ work) × Named code inputs f args Nothing 0 names a.items m
     first-back m work d h =
         let q = first-renamed names own single (λ j k i. i) m work d in (
@@ -399,7 +396,7 @@ module _ (code : Code) (inputs : List Block) (f : ℕ) (args : List Word) (fits 
         each : (b c : ℕ) → (k : ℕ) × (c ≡ names k) × (b ≡ k) → c ≡ names b
         each b c (k, s, t) = s ∙ ap names (sym t)
 
-pub named-first-law : Named_first_law
+pub named-first-law : NamedFirstLaw
 named-first-law code inputs f args fits names single n = record {
   there = first-there code inputs f args fits names single n;
   back = first-back code inputs f args fits names single n;
@@ -429,7 +426,7 @@ handed-at [] bound k b e = none-some b e
 handed-at (c ∷ bs) bound zero b e = some-same c b e
 handed-at (c ∷ bs) bound (suc k) b e = handed-at bs bound k b e
 
-pub handed-law : Handed_law
+pub handed-law : HandedLaw
 handed-law bs bound d h = (
   handed-single bs bound d h,
   handed-at bs bound,

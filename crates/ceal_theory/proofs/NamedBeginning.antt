@@ -3,20 +3,20 @@ use Rattle.std.proofs.Common.{◌≡◌, ℕ, ◌≤◌, [], length, refl, subst
 use Rattle.ceal_base.specs.Trace.{Trace}
 use Rattle.ceal_code.proofs.Pairs.{one-within}
 use Rattle.ceal_code.proofs.Replayed.{begin-self}
-use Rattle.ceal_code.specs.Alike.{Id_alike, Plain_alike}
+use Rattle.ceal_code.specs.Alike.{IdAlike, PlainAlike}
 use Rattle.ceal_code.specs.Replay.{input_plain, plain_of, plain_after}
 use Rattle.ceal_theory.proofs.DistinctBlocks.{uses}
 use Rattle.ceal_theory.proofs.Named.{selves, self-tied, tied-same, selves-one, trace-self}
 use Rattle.ceal_theory.proofs.RenamedSlice.{with-alike}
-use Rattle.ceal_theory.proofs.RenamedWalk.{Walked_too, walk-too}
+use Rattle.ceal_theory.proofs.RenamedWalk.{WalkedToo, walk-too}
 use Rattle.ceal_theory.proofs.Repaired.{mentions-new}
-use Rattle.ceal_theory.specs.SliceLaws.{Named_beginning, Named_beginning_law}
-use Rattle.ceal_theory.specs.Slices.{Names_apart, beginning}
+use Rattle.ceal_theory.specs.SliceLaws.{NamedBeginning, NamedBeginningLaw}
+use Rattle.ceal_theory.specs.Slices.{NamesApart, beginning}
 
-no-name : (names : ℕ → ℕ) (number : ℕ) (l : Trace) → Names_apart names number l → (b : ℕ) → 1 ≤ uses b l → (k : ℕ) → number ≤ k → ¬ (b ≡ names k)
+no-name : (names : ℕ → ℕ) (number : ℕ) (l : Trace) → NamesApart names number l → (b : ℕ) → 1 ≤ uses b l → (k : ℕ) → number ≤ k → ¬ (b ≡ names k)
 no-name names number l apart b h k i e = absurd (omega (arith, apart k i, subst (λ z. 1 ≤ uses z l) e h))
 
-pub named-beginning-law : Named_beginning_law
+pub named-beginning-law : NamedBeginningLaw
 unfolding plain_of
 named-beginning-law code names names' old new f args l above number number' e apart apart' =
     let m = mentions-new code old new f args e.call e.fit e.extended l e.trace in
@@ -24,12 +24,12 @@ named-beginning-law code names names' old new f args l above number number' e ap
     of (walk-too (length new) (selves e.trace.known) (selves-one e.trace.known) code (λ b. 1 ≤ uses b l) (λ c. 1 ≤ uses c l) m self [] (λ b c i. elim i [ ]) (λ b i. elim i [ ])
     (input_plain code new) (input_plain code new) plain (λ b c i. elim i [ ]) (λ b c i. elim i [ ]) (λ b e. e) (λ c e. e))
   where
-    plain : Plain_alike code.structs [] (input_plain code new) (input_plain code new)
-    plain b c (Id_alike.input {i = i}) = begin-self code new [] e.fit i
-    plain b c (Id_alike.core t) = elim t [ ]
+    plain : PlainAlike code.structs [] (input_plain code new) (input_plain code new)
+    plain b c (IdAlike.input {i = i}) = begin-self code new [] e.fit i
+    plain b c (IdAlike.core t) = elim t [ ]
 
-    of : Walked_too (length new) (selves e.trace.known) (selves-one e.trace.known) code [] (input_plain code new) (input_plain code new) l l e.trace.known (λ b. 1 ≤ uses b l) (λ c. 1 ≤ uses c l)
-        → Named_beginning code names names' new l (beginning code new l number) (beginning code new l number')
+    of : WalkedToo (length new) (selves e.trace.known) (selves-one e.trace.known) code [] (input_plain code new) (input_plain code new) l l e.trace.known (λ b. 1 ≤ uses b l) (λ c. 1 ≤ uses c l)
+        → NamedBeginning code names names' new l (beginning code new l number) (beginning code new l number')
     of w = record {
       pairs = w.pairs;
       alike = record {

@@ -1,7 +1,7 @@
 -- One read repaired: the first that is not honest runs anew, and all other items stay.
 use Rattle.std.proofs.Common.{◌≡◌, ℕ, zero, suc, ◌≤◌, Bool, true, false, List, [], ◌∷◌, ◌++◌, refl, sym, ap, ◌∙◌, subst, arith}
 use Rattle.ceal_base.specs.Operators.{same_word}
-use Rattle.ceal_base.specs.Trace.{Trace, Nothing, Stepped, Allocated, Wrote, Was_read, flat}
+use Rattle.ceal_base.specs.Trace.{Trace, Nothing, Stepped, Allocated, Wrote, WasRead, flat}
 use Rattle.ceal_base.specs.declared.forest.Item.{Item}
 use Rattle.ceal_base.specs.declared.forest.Item.TheVariants.{Step, Alloc, Write, Read, End}
 use Rattle.ceal_base.specs.declared.forest.UnitId.{UnitId}
@@ -17,7 +17,7 @@ use Rattle.ceal_theory.proofs.SliceFunction.{part-rises}
 use Rattle.ceal_theory.proofs.Join.{walk-part}
 use Rattle.ceal_theory.proofs.Walk.{flat-after, flat-honest, agrees-append, after-append}
 use Rattle.ceal_theory.specs.Cover.{At}
-use Rattle.ceal_theory.specs.Walk.{store_item, store_after, Agrees, Agrees_all, with_store}
+use Rattle.ceal_theory.specs.Walk.{store_item, store_after, Agrees, AgreesAll, with_store}
 use Rattle.ceal_theory.specs.Slices.{Part}
 
 module _ (code : Code) where
@@ -58,14 +58,14 @@ module _ (code : Code) where
 
   -- all before it are honest
   pub at-honest : {s w : Store} {l inside : Trace} {front back : List Item} {p : Place} {value : Word} {u : UnitId} {v : ℕ} {args : List Word} → At code s l front w p value u v args inside back
-      → Agrees_all code s front
+      → AgreesAll code s front
   at-honest At.here = tt
   at-honest (At.step a) = (tt, at-honest a)
   at-honest (At.alloc a) = (tt, at-honest a)
   at-honest (At.write a) = (tt, at-honest a)
   at-honest (At.inner e a) = (e, at-honest a)
   at-honest {s = s} (At.outer {within = within} {front = front} e h a) =
-      (e, agrees-append code s (flat within) (End ∷ front) (flat-honest code h) (tt, subst (λ z. Agrees_all code z front) (flat-after code h) (at-honest a)))
+      (e, agrees-append code s (flat within) (End ∷ front) (flat-honest code h) (tt, subst (λ z. AgreesAll code z front) (flat-after code h) (at-honest a)))
 
   -- the first read that is not honest
   pub record Located (s : Store) (l : Trace) : Type 0 where
@@ -102,9 +102,9 @@ module _ (code : Code) where
       go : Ahead (stored s x y) rest → Ahead s (Wrote x y rest)
       go (Ahead.honest h) = Ahead.honest (Honest.write h)
       go (Ahead.stale q) = Ahead.stale (record { front = Write x y ∷ q.front; store = q.store; place = q.place; value = q.value; unit = q.unit; var = q.var; args = q.args; inside = q.inside; back = q.back; at-it = At.write q.at-it; stale = q.stale })
-  locate (Was_read x y c n ws within rest) s = at-read (same_word (s x) y) refl (locate within s) (locate rest)
+  locate (WasRead x y c n ws within rest) s = at-read (same_word (s x) y) refl (locate within s) (locate rest)
     where
-      after : s x ≡ y → {t : Store} → Honest code s within t → Ahead t rest → Ahead s (Was_read x y c n ws within rest)
+      after : s x ≡ y → {t : Store} → Honest code s within t → Ahead t rest → Ahead s (WasRead x y c n ws within rest)
       after e h (Ahead.honest k) = Ahead.honest (Honest.read e h k)
       after e h (Ahead.stale q) = Ahead.stale (record {
         front = Read x y c n ws ∷ (flat within ++ End ∷ q.front);
@@ -120,7 +120,7 @@ module _ (code : Code) where
         stale = q.stale;
       })
 
-      at-read : (b : Bool) → same_word (s x) y ≡ b → Ahead s within → ((t : Store) → Ahead t rest) → Ahead s (Was_read x y c n ws within rest)
+      at-read : (b : Bool) → same_word (s x) y ≡ b → Ahead s within → ((t : Store) → Ahead t rest) → Ahead s (WasRead x y c n ws within rest)
       at-read false e a k = Ahead.stale (record {
         front = [];
         store = s;
@@ -155,7 +155,7 @@ module _ (code : Code) where
   read-same : (p q : Place) (v w : Word) (u x : UnitId) (n m : ℕ) (vs ws : List Word) → Read p v u n vs ≡ Read q w x m ws → (p ≡ q) × (v ≡ w) × (u ≡ x) × (n ≡ m) × (vs ≡ ws)
   read-same p q v w u x n m vs ws e = (cc e, cc e, cc e, cc e, cc e)
 
-  pub record Same_first (f g : List Item) (p q : Place) (value value' : Word) (u u' : UnitId) (v v' : ℕ) (args args' : List Word) (r r' : List Item) : Type 0 where
+  pub record SameFirst (f g : List Item) (p q : Place) (value value' : Word) (u u' : UnitId) (v v' : ℕ) (args args' : List Word) (r r' : List Item) : Type 0 where
     pub fronts : f ≡ g
     pub places : p ≡ q
     pub values : value ≡ value'
@@ -167,8 +167,8 @@ module _ (code : Code) where
   -- there is one first read that is not honest
   pub one-first : (s : Store) (f g r r' : List Item) (p q : Place) (value value' : Word) (u u' : UnitId) (v v' : ℕ) (args args' : List Word)
       → f ++ Read p value u v args ∷ r ≡ g ++ Read q value' u' v' args' ∷ r'
-      → Agrees_all code s f → ¬ (store_after code s f p ≡ value) → Agrees_all code s g → ¬ (store_after code s g q ≡ value')
-      → Same_first f g p q value value' u u' v v' args args' r r'
+      → AgreesAll code s f → ¬ (store_after code s f p ≡ value) → AgreesAll code s g → ¬ (store_after code s g q ≡ value')
+      → SameFirst f g p q value value' u u' v v' args args' r r'
   one-first s [] [] r r' p q value value' u u' v v' args args' e h n k m =
       let d = first-head (Read p value u v args) (Read q value' u' v' args') r r' e in
       let c = read-same p q value value' u u' v v' args args' d.0 in
@@ -182,7 +182,7 @@ module _ (code : Code) where
   one-first s (i ∷ f) (j ∷ g) r r' p q value value' u u' v v' args args' e h n k m =
       let d = first-head i j (f ++ Read p value u v args ∷ r) (g ++ Read q value' u' v' args' ∷ r') e in
       let o = one-first (store_item code s i) f g r r' p q value value' u u' v v' args args' d.1 h.1 n
-      (subst (λ z. Agrees_all code (store_item code s z) g) (sym d.0) k.1) (subst (λ z. ¬ (store_after code (store_item code s z) g q ≡ value')) (sym d.0) m) in
+      (subst (λ z. AgreesAll code (store_item code s z) g) (sym d.0) k.1) (subst (λ z. ¬ (store_after code (store_item code s z) g q ≡ value')) (sym d.0) m) in
       record { fronts = rw (d.0, o.fronts) refl; places = o.places; values = o.values; units = o.units; vars = o.vars; words = o.words; afters = o.afters }
 
 module _ (code : Code) (names : ℕ → ℕ) where
@@ -193,8 +193,8 @@ module _ (code : Code) (names : ℕ → ℕ) where
   honest-part (Honest.alloc h) s k = Part.alloc (honest-part h s k)
   honest-part (Honest.write h) s k = Part.write (honest-part h s k)
   honest-part {a} {b} (Honest.read {p = p} {value = value} {u = u} {v = v} {args = args} {inside = i} {rest = l} e h1 h2) s k =
-      let z : Part code names (suc k) (with_store s a) (Was_read p value u v args i l) (suc k) (with_store s b) (Was_read p (a p) u v args i l) = Part.kept e (honest-part h1 s k) (honest-part h2 s k) in
-      subst (λ w. Part code names (suc k) (with_store s a) (Was_read p value u v args i l) (suc k) (with_store s b) (Was_read p w u v args i l)) e z
+      let z : Part code names (suc k) (with_store s a) (WasRead p value u v args i l) (suc k) (with_store s b) (WasRead p (a p) u v args i l) = Part.kept e (honest-part h1 s k) (honest-part h2 s k) in
+      subst (λ w. Part code names (suc k) (with_store s a) (WasRead p value u v args i l) (suc k) (with_store s b) (WasRead p w u v args i l)) e z
 
   -- the trace once the unit of the read ran anew
   pub record Repaired (s : State) (l : Trace) (front : List Item) (p : Place) (w : Word) (u : UnitId) (v : ℕ) (args : List Word) (back : List Item) (t : State) (inside' : Trace) : Type 0 where
@@ -204,7 +204,7 @@ module _ (code : Code) (names : ℕ → ℕ) where
 
   pub at-run : {l inside : Trace} {front back : List Item} {w : Store} {p : Place} {value : Word} {u : UnitId} {v : ℕ} {args : List Word} (s : State) → At code s.store l front w p value u v args inside back
       → ¬ (w p ≡ value) → {t : State} {inside' left : Trace} → Anew code names (with_store s w) (resumed code u v args (w p)) inside t inside' left → Repaired s l front p (w p) u v args back t inside'
-  at-run s (At.here {p = p} {u = u} {v = v} {args = args} {rest = rest}) n {t} {inside'} a = record { items = Was_read p (s.store p) u v args inside' rest; part = Part.stale n a Part.stays; flat_items = refl }
+  at-run s (At.here {p = p} {u = u} {v = v} {args = args} {rest = rest}) n {t} {inside'} a = record { items = WasRead p (s.store p) u v args inside' rest; part = Part.stale n a Part.stays; flat_items = refl }
   at-run s (At.step q) n a = let x = at-run s q n a in record { items = Stepped x.items; part = Part.step x.part; flat_items = ap (λ is. Step ∷ is) x.flat_items }
   at-run s (At.alloc {b = b} {key = key} q) n a =
       let x = at-run (clears code s b key) q n a in record { items = Allocated b key x.items; part = Part.alloc x.part; flat_items = ap (λ is. Alloc b key ∷ is) x.flat_items }
@@ -212,7 +212,7 @@ module _ (code : Code) (names : ℕ → ℕ) where
   at-run s (At.inner {w = w} {x = x} {y = y} {c = c} {n = k} {ws = ws} {rest = rest} {front = front} {back = back} {p = p} {u = u} {v = v} {args = args} e q) n {t} {inside'} a =
       let z = at-run s q n a in
       record {
-        items = Was_read x (s.store x) c k ws z.items rest;
+        items = WasRead x (s.store x) c k ws z.items rest;
         part = Part.kept e z.part Part.stays;
         flat_items = ap (λ i. Read x i c k ws ∷ (flat z.items ++ End ∷ flat rest)) e
             ∙ ap (λ is. Read x y c k ws ∷ is) (ap (λ is. is ++ End ∷ flat rest) z.flat_items ∙ around code front (flat inside') back (End ∷ flat rest) (Read p (w p) u v args) End);
@@ -220,7 +220,7 @@ module _ (code : Code) (names : ℕ → ℕ) where
   at-run s (At.outer {t = m} {x = x} {y = y} {c = c} {n = k} {ws = ws} {within = within} {front = front} e h q) n a =
       let z = at-run (with_store s m) q n a in
       record {
-        items = Was_read x (s.store x) c k ws within z.items;
+        items = WasRead x (s.store x) c k ws within z.items;
         part = Part.kept e (honest-part h s zero) z.part;
         flat_items = ap (λ i. Read x i c k ws ∷ (flat within ++ End ∷ flat z.items)) e
             ∙ ap (λ is. Read x y c k ws ∷ is) (ap (λ is. flat within ++ End ∷ is) z.flat_items ∙ sym (parts code (flat within) front _ End));

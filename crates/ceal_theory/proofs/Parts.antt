@@ -1,7 +1,7 @@
 -- What a part of a repair gives is yielded by the same stack, over the plain words at its end, and all that it mentions is
 -- known then.
 use Rattle.std.proofs.Common.{◌≡◌, ℕ, zero, suc, ◌+◌, List, sym, subst, arith}
-use Rattle.ceal_base.specs.Trace.{Trace, Was_read}
+use Rattle.ceal_base.specs.Trace.{Trace, WasRead}
 use Rattle.ceal_base.specs.declared.forest.UnitId.{UnitId}
 use Rattle.ceal_base.specs.declared.word.BlockId.{BlockId}
 use Rattle.ceal_base.specs.declared.word.BlockId.TheVariants.{Core}
@@ -9,12 +9,12 @@ use Rattle.ceal_base.specs.declared.word.Place.{Place}
 use Rattle.ceal_base.specs.declared.word.Word.{Word}
 use Rattle.ceal_code.proofs.Local.{word-more, words-more, stack-more, set-known, given-known}
 use Rattle.ceal_code.specs.Init.{pointer}
-use Rattle.ceal_code.specs.Known.{Subset, Known_stack}
+use Rattle.ceal_code.specs.Known.{Subset, KnownStack}
 use Rattle.ceal_code.specs.Program.{Code}
-use Rattle.ceal_code.specs.Replay.{Yields, Known_word}
+use Rattle.ceal_code.specs.Replay.{Yields, KnownWord}
 use Rattle.ceal_code.specs.Step.{Stack, Empty, Run, Quiet, Makes, Writes, Reads}
 use Rattle.ceal_code.specs.Value.{Plain, set}
-use Rattle.ceal_theory.proofs.Good.{Extends, extends-trans, Free_from, Good, Pieces}
+use Rattle.ceal_theory.proofs.Good.{Extends, extends-trans, FreeFrom, Good, Pieces}
 use Rattle.ceal_theory.proofs.Growth.{Grown, mentions-subset, pieces-more, anew-grows}
 use Rattle.ceal_theory.proofs.Replays.{pointer-known, cleared-known, stored-known, step-y, anew-plays}
 use Rattle.ceal_theory.specs.Repair.{Single, State, clears, puts, resumed, Fix, Mend}
@@ -22,12 +22,12 @@ use Rattle.ceal_theory.proofs.Uses.{uses-more, mentions-uses}
 use Rattle.ceal_theory.specs.Slices.{Part, Uses}
 
 -- a whole repair is a part with reads left over
-pub record As_part (code : Code) (names : ℕ → ℕ) (s : State) (l : Trace) (s' : State) (m : Trace) (j : ℕ) : Type 0 where
+pub record AsPart (code : Code) (names : ℕ → ℕ) (s : State) (l : Trace) (s' : State) (m : Trace) (j : ℕ) : Type 0 where
   pub reads : ℕ
   pub part : Part code names (suc reads) s l (suc j) s' m
 
 mutual
-  pub fix-part : {code : Code} {names : ℕ → ℕ} {s s' : State} {l m : Trace} → Fix code names s l s' m → (j : ℕ) → As_part code names s l s' m j
+  pub fix-part : {code : Code} {names : ℕ → ℕ} {s s' : State} {l m : Trace} → Fix code names s l s' m → (j : ℕ) → AsPart code names s l s' m j
   fix-part Fix.end j = record { reads = j; part = Part.end }
   fix-part (Fix.step f) j = let q = fix-part f j in record { reads = q.reads; part = Part.step q.part }
   fix-part (Fix.alloc f) j = let q = fix-part f j in record { reads = q.reads; part = Part.alloc q.part }
@@ -35,8 +35,8 @@ mutual
   fix-part (Fix.read m f) j = mend-part m f (fix-part f j)
 
   mend-part : {code : Code} {names : ℕ → ℕ} {s t s' : State} {p : Place} {value : Word} {u : UnitId} {v : ℕ} {args : List Word} {inside inside' rest rest' : Trace} {j : ℕ}
-      → Mend code names s p u v args value inside t inside' → Fix code names t rest s' rest' → As_part code names t rest s' rest' j
-      → As_part code names s (Was_read p value u v args inside rest) s' (Was_read p (s.store p) u v args inside' rest') j
+      → Mend code names s p u v args value inside t inside' → Fix code names t rest s' rest' → AsPart code names t rest s' rest' j
+      → AsPart code names s (WasRead p value u v args inside rest) s' (WasRead p (s.store p) u v args inside' rest') j
   mend-part (Mend.kept e g) f q = let k = fix-part g q.reads in record { reads = k.reads; part = Part.kept e k.part q.part }
   mend-part (Mend.stale n a) f q = record { reads = suc q.reads; part = Part.stale n a q.part }
 
@@ -51,18 +51,7 @@ part-fix (Part.kept {i = zero} e g f) = elim f [ ]
 part-fix (Part.stale {k = suc k} n a f) = Fix.read (Mend.stale n a) (part-fix f)
 part-fix (Part.stale {k = zero} n a f) = elim f [ ]
 
--- one more read may be run anew
-pub part-more : {code : Code} {names : ℕ → ℕ} {k j : ℕ} {s s' : State} {l m : Trace} → Part code names k s l (suc j) s' m → Part code names (suc k) s l (suc (suc j)) s' m
-part-more Part.end = Part.end
-part-more (Part.step f) = Part.step (part-more f)
-part-more (Part.alloc f) = Part.alloc (part-more f)
-part-more (Part.write f) = Part.write (part-more f)
-part-more (Part.kept {i = suc i} e g f) = Part.kept e (part-more g) (part-more f)
-part-more (Part.kept {i = zero} e g f) = elim f [ ]
-part-more (Part.stale {k = suc k} m a f) = Part.stale m a (part-more f)
-part-more (Part.stale {k = zero} m a f) = elim f [ ]
-
--- so many more
+-- more of them
 abbrev pub beyond : ℕ → ℕ → ℕ
 beyond zero k = k
 beyond (suc n) k = suc (beyond n k)
@@ -71,14 +60,10 @@ pub beyond-sum : (n k : ℕ) → beyond n k ≡ n + k
 beyond-sum zero k = omega arith
 beyond-sum (suc n) k = omega (arith, beyond-sum n k)
 
-pub part-beyond : {code : Code} {names : ℕ → ℕ} {k j : ℕ} {s s' : State} {l m : Trace} → (n : ℕ) → Part code names k s l (suc j) s' m → Part code names (beyond n k) s l (suc (beyond n j)) s' m
-part-beyond zero f = f
-part-beyond (suc n) f = part-more (part-beyond n f)
-
 grown-trans : {names : ℕ → ℕ} (s t s' : State) → Grown names s t → Grown names t s' → Grown names s s'
 grown-trans s t s' g h = record { plain = extends-trans s.plain t.plain s'.plain g.plain h.plain; free = h.free }
 
-pub part-grows : {code : Code} {names : ℕ → ℕ} {k j : ℕ} {s s' : State} {l m : Trace} → Single names → Part code names k s l j s' m → Free_from names s.plain s.number → Grown names s s'
+pub part-grows : {code : Code} {names : ℕ → ℕ} {k j : ℕ} {s s' : State} {l m : Trace} → Single names → Part code names k s l j s' m → FreeFrom names s.plain s.number → Grown names s s'
 part-grows z Part.stays h = record { plain = λ b block e. e; free = h }
 part-grows z Part.end h = record { plain = λ b block e. e; free = h }
 part-grows z (Part.step f) h = part-grows z f h
@@ -99,13 +84,13 @@ module _ (code : Code) (names : ℕ → ℕ) (inputs : ℕ) where
   pub good-again : (bs : List ℕ) (s : State) (b : BlockId) (key : _) → Good names inputs bs s → Good names inputs bs (clears code s b key)
   good-again bs s b key g = record { plain = g.plain; store = cleared-known code inputs bs s.store b key g.store; free = g.free }
 
-  pub good-puts : (bs : List ℕ) (s : State) (p : Place) (w : Word) → Good names inputs bs s → Known_word inputs bs w → Good names inputs bs (puts s p w)
+  pub good-puts : (bs : List ℕ) (s : State) (p : Place) (w : Word) → Good names inputs bs s → KnownWord inputs bs w → Good names inputs bs (puts s p w)
   good-puts bs s p w g k = record { plain = g.plain; store = stored-known inputs bs s.store p w g.store k; free = g.free }
 
   module _ (single : Single names) (y : Plain) where
     pub part-plays : {k j : ℕ} {s s' : State} {old new : Trace} → Part code names k s old j s' new
         → Extends s'.plain y → (bs : List ℕ) → Good names inputs bs s
-        → (st : Stack) → Yields code y st old → Known_stack inputs bs st → Pieces code s.plain y old → Uses inputs bs old
+        → (st : Stack) → Yields code y st old → KnownStack inputs bs st → Pieces code s.plain y old → Uses inputs bs old
         → Parted y bs st new s'
     part-plays Part.stays ext bs g st r k h u = record { known = bs; sub = λ b i. i; uses = u; yields = r; good = g }
     part-plays Part.end ext bs g st (Yields.over e) k h u = record { known = bs; sub = λ b i. i; uses = u; yields = Yields.over e; good = g }
@@ -116,7 +101,7 @@ module _ (code : Code) (names : ℕ → ℕ) (inputs : ℕ) where
     part-plays {s = s} {s' = s'} (Part.step (Part.alloc f)) ext bs g st (Yields.makes {key = key} {v = v} {u = w} {i = i} {env = env} {below = below} {b = b} e m r) k h u =
         let x = extends-trans s.plain s'.plain y (part-grows single f g.free).plain ext in
         let a = step-y code inputs y bs s.plain st (Makes key v w i env below) g.plain x k e in
-        let ks : Known_stack inputs bs (Run w i (set env v (pointer key (Core b))) below) =
+        let ks : KnownStack inputs bs (Run w i (set env v (pointer key (Core b))) below) =
         (set-known inputs bs env v (pointer key (Core b)) a.1 (pointer-known inputs bs key (Core b) u.0), a.2) in
         let q = part-plays f ext bs (good-again bs s (Core b) key g) (Run w i (set env v (pointer key (Core b))) below) r ks h.1 u.2 in
         record { known = q.known; sub = q.sub; uses = (q.sub b u.0, Rattle.ceal_code.proofs.Local.key-more inputs bs q.known q.sub key u.1, q.uses); yields = Yields.makes e m q.yields; good = q.good }

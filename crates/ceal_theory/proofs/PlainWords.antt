@@ -12,9 +12,9 @@ use Rattle.ceal_base.specs.declared.word.Word.TheVariants.{Num, Null, Block as B
 use Rattle.ceal_code.proofs.Local.{words-more, stack-more, given-known, made-known, made-same, next-same}
 use Rattle.ceal_code.proofs.Same.{block-same, some-same}
 use Rattle.ceal_code.specs.Init.{made}
-use Rattle.ceal_code.specs.Known.{Subset, Held, Holds, Known_stack}
+use Rattle.ceal_code.specs.Known.{Subset, Held, Holds, KnownStack}
 use Rattle.ceal_code.specs.Program.{Code}
-use Rattle.ceal_code.specs.Replay.{Yields, here, Known_block, Known_word, Known_words, Known_key, Mentions, learnt, plain_after}
+use Rattle.ceal_code.specs.Replay.{Yields, here, KnownBlock, KnownWord, KnownWords, KnownKey, Mentions, learnt, plain_after}
 use Rattle.ceal_code.specs.Step.{Stack, Empty, Act, Over, Quiet, Makes, Writes, Reads, next}
 use Rattle.ceal_code.specs.Value.{Plain}
 use Rattle.ceal_theory.proofs.Good.{Extends, extends-trans, agrees, Pieces}
@@ -23,21 +23,21 @@ use Rattle.ceal_theory.proofs.Replays.{wider, holds-with, ran-known, step-y}
 
 -- more inputs
 module _ (n m : ℕ) (h : n ≤ m) where
-  pub block-inputs : (bs : List ℕ) (b : BlockId) → Known_block n bs b → Known_block m bs b
+  pub block-inputs : (bs : List ℕ) (b : BlockId) → KnownBlock n bs b → KnownBlock m bs b
   block-inputs bs (Input i) k = omega (arith, h, k)
   block-inputs bs (Core c) k = k
 
-  pub word-inputs : (bs : List ℕ) (w : Word) → Known_word n bs w → Known_word m bs w
+  pub word-inputs : (bs : List ℕ) (w : Word) → KnownWord n bs w → KnownWord m bs w
   word-inputs bs (Num k) l = l
   word-inputs bs Null l = l
   word-inputs bs (BlockWord b) l = block-inputs bs b l
   word-inputs bs (At p) l = block-inputs bs p.block l
 
-  pub words-inputs : (bs : List ℕ) (ws : List Word) → Known_words n bs ws → Known_words m bs ws
+  pub words-inputs : (bs : List ℕ) (ws : List Word) → KnownWords n bs ws → KnownWords m bs ws
   words-inputs bs [] l = l
   words-inputs bs (w ∷ ws) l = (word-inputs bs w l.0, words-inputs bs ws l.1)
 
-  pub key-inputs : (bs : List ℕ) (key : Key) → Known_key n bs key → Known_key m bs key
+  pub key-inputs : (bs : List ℕ) (key : Key) → KnownKey n bs key → KnownKey m bs key
   key-inputs bs (Init f args) k = words-inputs bs args k
   key-inputs bs IntKey k = k
   key-inputs bs (PtrKey s) k = k
@@ -87,14 +87,14 @@ module _ (code : Code) (inputs : ℕ) where
     pub yields : (z : Plain) → Extends (plain_after code x l) z → Yields code z st l
     pub mono : (x' : Plain) → Extends x x' → Extends (plain_after code x l) (plain_after code x' l)
 
-  knows : (y : Plain) (bs : List ℕ) (x z : Plain) (st : Stack) (a : Act) → Holds inputs bs x → Extends x y → Extends x z → Known_stack inputs bs st → next code y st ≡ a → next code z st ≡ a
+  knows : (y : Plain) (bs : List ℕ) (x z : Plain) (st : Stack) (a : Act) → Holds inputs bs x → Extends x y → Extends x z → KnownStack inputs bs st → next code y st ≡ a → next code z st ≡ a
   knows y bs x z st a h ext ext' k e =
       sym (next-same inputs bs x h z (agrees inputs bs x z h ext') code st k) ∙ (next-same inputs bs x h y (agrees inputs bs x y h ext) code st k ∙ e)
 
-  makes-same : (bs : List ℕ) (x z : Plain) (key : Key) → Holds inputs bs x → Extends x z → Known_key inputs bs key → made code x key ≡ made code z key
+  makes-same : (bs : List ℕ) (x z : Plain) (key : Key) → Holds inputs bs x → Extends x z → KnownKey inputs bs key → made code x key ≡ made code z key
   makes-same bs x z key h ext k = made-same inputs bs x h z (agrees inputs bs x z h ext) code key k
 
-  pub walked : (y : Plain) {st : Stack} {l : Trace} → Yields code y st l → (bs cs : List ℕ) (x : Plain) → Holds inputs bs x → Extends x y → Known_stack inputs bs st → Mentions inputs bs l cs → Walked x y st l cs
+  pub walked : (y : Plain) {st : Stack} {l : Trace} → Yields code y st l → (bs cs : List ℕ) (x : Plain) → Holds inputs bs x → Extends x y → KnownStack inputs bs st → Mentions inputs bs l cs → Walked x y st l cs
   walked y {st} (Yields.over e) bs cs x h ext k Mentions.end = record {
     from = λ b block i. i;
     within = ext;

@@ -3,7 +3,7 @@
 use Rattle.std.proofs.Common.{◌≡◌, ℕ, Some, List, [], ◌∷◌, ◌++◌, length, refl, sym, ap, ◌∙◌, subst}
 use Rattle.ceal_base.specs.Block.{Block}
 use Rattle.std.specs.Prelude.{⊤}
-use Rattle.ceal_base.specs.Trace.{Trace, Nothing, Stepped, Allocated, Wrote, Was_read, flat}
+use Rattle.ceal_base.specs.Trace.{Trace, Nothing, Stepped, Allocated, Wrote, WasRead, flat}
 use Rattle.ceal_base.specs.declared.forest.Item.{Item}
 use Rattle.ceal_base.specs.declared.forest.Item.TheVariants.{Step, Alloc, Write, Read, End}
 use Rattle.ceal_base.specs.declared.forest.Key.{Key}
@@ -14,10 +14,10 @@ use Rattle.ceal_base.specs.declared.word.Place.{Place}
 use Rattle.ceal_base.specs.declared.word.Word.{Word}
 use Rattle.ceal_code.proofs.Local.{stack-more, given-known}
 use Rattle.ceal_code.specs.Fitting.{Fits}
-use Rattle.ceal_code.specs.Known.{Subset, Held, Known_stack}
+use Rattle.ceal_code.specs.Known.{Subset, Held, KnownStack}
 use Rattle.ceal_code.specs.Init.{made, pointer}
 use Rattle.ceal_code.specs.Program.{Code}
-use Rattle.ceal_code.specs.Replay.{Yields, Honest, Store, there, Known_block, Known_word, Known_words, cleared, stored}
+use Rattle.ceal_code.specs.Replay.{Yields, Honest, Store, there, KnownBlock, KnownWord, KnownWords, cleared, stored}
 use Rattle.ceal_code.specs.Step.{Stack, Empty, Run, Quiet, Makes, Writes, Reads, started, next}
 use Rattle.ceal_code.specs.Value.{Plain, Variables, set}
 use Rattle.ceal_theory.proofs.Good.{Extends, agrees, Good, Pieces}
@@ -59,7 +59,7 @@ module _ (names : ℕ → ℕ) (single : Single names) (code : Code) (n : ℕ) (
 
   module _ (x : Plain) (ext : Extends x y) where
     -- honest items are gone through, and more blocks are known
-    walk-good : {st : Stack} {l : Trace} {a t : Store} → Yields code y st l → Honest code a l t → (s : State) → s.plain ≡ x → s.store ≡ a → (bs : List ℕ) → Good names n bs s → Known_stack n bs st → Pieces code x y l
+    walk-good : {st : Stack} {l : Trace} {a t : Store} → Yields code y st l → Honest code a l t → (s : State) → s.plain ≡ x → s.store ≡ a → (bs : List ℕ) → Good names n bs s → KnownStack n bs st → Pieces code x y l
         → Good names n (known_after bs (flat l)) (with_store s t)
     walk-good (Yields.over e) Honest.end s is at bs g k h = subst (λ z. Good names n bs (with_store s z)) at g
     walk-good {st} (Yields.quiet {after = after} e r) (Honest.step w) s is at bs g k h =
@@ -74,7 +74,7 @@ module _ (names : ℕ → ℕ) (single : Single names) (code : Code) (n : ℕ) (
         walk-good r w (puts s p value) is (ap (λ z. stored z p value) at) bs (good-puts code names n bs s p value g c.1) c.2 h
     walk-good {st} {a = a} {t = t} (Yields.reads {below = below} {p = p} {u = u} {v = v} {args = args} {value = value} {inside = o} {rest = l} e r1 r2) (Honest.step (Honest.read {t = m} same w1 w2)) s is at bs g k h =
         let c = step-y code n y bs s.plain st (Reads p u v args below) g.plain (subst (λ z. Extends z y) (sym is) ext) k e in
-        let kv : Known_word n bs value = subst (Known_word n bs) (ap (λ z. z p) at ∙ same) (g.store p) in
+        let kv : KnownWord n bs value = subst (KnownWord n bs) (ap (λ z. z p) at ∙ same) (g.store p) in
         let g1 = walk-good r1 w1 s is at bs g (given-known n bs code u.0 v args value Empty c.1 kv tt) h.1 in
         let g2 = walk-good r2 w2 (with_store s m) is refl (known_after bs (flat o)) g1 (stack-more n bs (known_after bs (flat o)) (allocs-more bs (flat o)) below c.2) h.2 in
         subst (λ bs. Good names n bs (with_store s t)) (sym (allocs-both bs (flat o) (End ∷ flat l))) g2
@@ -82,36 +82,19 @@ module _ (names : ℕ → ℕ) (single : Single names) (code : Code) (n : ℕ) (
   -- what is known where the unit runs anew, bs being the blocks that the items before the read allocate
   pub record Ready (bs : List ℕ) (s : State) (p : Place) (value : Word) (u : UnitId) (v : ℕ) (args : List Word) (inside : Trace) : Type 0 where
     pub good : Good names n bs s
-    pub place : Known_block n bs p.block
-    pub words : Known_words n bs args
-    pub stack : Known_stack n bs (resumed code u v args (s.store p))
+    pub place : KnownBlock n bs p.block
+    pub words : KnownWords n bs args
+    pub stack : KnownStack n bs (resumed code u v args (s.store p))
     pub yields : Yields code y (resumed code u v args value) inside
     pub pieces : Pieces code s.plain y inside
 
-  ready-here : (bs : List ℕ) (s : State) (st below : Stack) (p : Place) (value : Word) (u : UnitId) (v : ℕ) (args : List Word) (inside rest : Trace) → Extends s.plain y → Good names n bs s → Known_stack n bs st → next code y st ≡ Reads p u v args below
-      → Yields code y (resumed code u v args value) inside → Pieces code s.plain y inside → Ready bs s p value u v args inside
-  ready-here bs s st below p value u v args inside rest ext g k e r h =
-      let c = step-y code n y bs s.plain st (Reads p u v args below) g.plain ext k e in
-      record { good = g; place = c.0; words = c.1; stack = given-known n bs code u.0 v args (s.store p) Empty c.1 (g.store p) tt; yields = r; pieces = h }
-
-  -- the stack inside a read that is honest
-  inside-known : (bs : List ℕ) (s : State) (st below : Stack) (p : Place) (value : Word) (u : UnitId) (v : ℕ) (args : List Word) → Extends s.plain y → Good names n bs s → Known_stack n bs st → next code y st ≡ Reads p u v args below
-      → s.store p ≡ value → Known_stack n bs (resumed code u v args value)
-  inside-known bs s st below p value u v args ext g k e same =
-      given-known n bs code u.0 v args value Empty (step-y code n y bs s.plain st (Reads p u v args below) g.plain ext k e).1 (subst (Known_word n bs) same (g.store p)) tt
-
-  below-known : (bs : List ℕ) (s : State) (st below : Stack) (p : Place) (u : UnitId) (v : ℕ) (args : List Word) (is : List Item) → Extends s.plain y → Good names n bs s → Known_stack n bs st → next code y st ≡ Reads p u v args below
-      → Known_stack n (known_after bs is) below
-  below-known bs s st below p u v args is ext g k e =
-      stack-more n bs (known_after bs is) (allocs-more bs is) below (step-y code n y bs s.plain st (Reads p u v args below) g.plain ext k e).2
-
-  alloc-good : (bs : List ℕ) (s : State) (st below : Stack) (key : Key) (v u i b : ℕ) (env : Variables) → Extends s.plain y → Good names n bs s → Known_stack n bs st → next code y st ≡ Makes key v u i env below
+  alloc-good : (bs : List ℕ) (s : State) (st below : Stack) (key : Key) (v u i b : ℕ) (env : Variables) → Extends s.plain y → Good names n bs s → KnownStack n bs st → next code y st ≡ Makes key v u i env below
       → s.plain (Core b) ≡ Some (made code y key) → Good names n (b ∷ bs) (clears code s (Core b) key)
   alloc-good bs s st below key v u i b env ext g k e h =
       good-alloc bs s b key g (held-key code n y bs s.plain key b g.plain ext (step-y code n y bs s.plain st (Makes key v u i env below) g.plain ext k e).0 h)
 
-  alloc-known : (bs : List ℕ) (s : State) (st below : Stack) (key : Key) (v u i b : ℕ) (env : Variables) → Extends s.plain y → Good names n bs s → Known_stack n bs st → next code y st ≡ Makes key v u i env below
-      → Known_stack n (b ∷ bs) (Run u i (set env v (pointer key (Core b))) below)
+  alloc-known : (bs : List ℕ) (s : State) (st below : Stack) (key : Key) (v u i b : ℕ) (env : Variables) → Extends s.plain y → Good names n bs s → KnownStack n bs st → next code y st ≡ Makes key v u i env below
+      → KnownStack n (b ∷ bs) (Run u i (set env v (pointer key (Core b))) below)
   alloc-known bs s st below key v u i b env ext g k e =
       let c = step-y code n y bs s.plain st (Makes key v u i env below) g.plain ext k e in ran-known n bs key b v u i env below c.1 c.2
 
@@ -123,20 +106,20 @@ module _ (names : ℕ → ℕ) (single : Single names) (code : Code) (n : ℕ) (
   -- what is known of the items that follow, also between a step and what the step does
   abbrev Flow : List ℕ → State → Trace → Type 0
   Flow bs s Nothing = ⊤
-  Flow bs s (Stepped rest) = (st : Stack) × Yields code y st (Stepped rest) × Known_stack n bs st
-  Flow bs s (Allocated c key rest) = (b : ℕ) × (c ≡ Core b) × Good names n (b ∷ bs) (clears code s (Core b) key) × (st : Stack) × Yields code y st rest × Known_stack n (b ∷ bs) st
-  Flow bs s (Wrote p value rest) = Known_word n bs value × (st : Stack) × Yields code y st rest × Known_stack n bs st
-  Flow bs s (Was_read p value u v args inside rest) =
-      Known_block n bs p.block × Known_words n bs args × Yields code y (resumed code u v args value) inside × (below : Stack) × Yields code y below rest × Known_stack n bs below
+  Flow bs s (Stepped rest) = (st : Stack) × Yields code y st (Stepped rest) × KnownStack n bs st
+  Flow bs s (Allocated c key rest) = (b : ℕ) × (c ≡ Core b) × Good names n (b ∷ bs) (clears code s (Core b) key) × (st : Stack) × Yields code y st rest × KnownStack n (b ∷ bs) st
+  Flow bs s (Wrote p value rest) = KnownWord n bs value × (st : Stack) × Yields code y st rest × KnownStack n bs st
+  Flow bs s (WasRead p value u v args inside rest) =
+      KnownBlock n bs p.block × KnownWords n bs args × Yields code y (resumed code u v args value) inside × (below : Stack) × Yields code y below rest × KnownStack n bs below
 
-  flows : (bs : List ℕ) (s : State) (st : Stack) (l : Trace) → Yields code y st l → Known_stack n bs st → Flow bs s l
+  flows : (bs : List ℕ) (s : State) (st : Stack) (l : Trace) → Yields code y st l → KnownStack n bs st → Flow bs s l
   flows bs s st Nothing r k = tt
   flows bs s st (Stepped rest) r k = (st, r, k)
   flows bs s st (Allocated c key rest) r k = elim r [ ]
   flows bs s st (Wrote p value rest) r k = elim r [ ]
-  flows bs s st (Was_read p value u v args inside rest) r k = elim r [ ]
+  flows bs s st (WasRead p value u v args inside rest) r k = elim r [ ]
 
-  after-step : (bs : List ℕ) (s : State) (st : Stack) (rest : Trace) → Yields code y st (Stepped rest) → Extends s.plain y → Good names n bs s → Known_stack n bs st → Pieces code s.plain y rest → Flow bs s rest
+  after-step : (bs : List ℕ) (s : State) (st : Stack) (rest : Trace) → Yields code y st (Stepped rest) → Extends s.plain y → Good names n bs s → KnownStack n bs st → Pieces code s.plain y rest → Flow bs s rest
   after-step bs s st rest (Yields.quiet {after = after} e r) ext g k h = flows bs s after rest r (step-y code n y bs s.plain st (Quiet after) g.plain ext k e)
   after-step bs s st rest (Yields.makes {key = key} {v = v} {u = u} {i = i} {env = env} {below = below} {b = b} e m r) ext g k h =
       (b, refl, alloc-good bs s st below key v u i b env ext g k e h.0, Run u i (set env v (pointer key (Core b))) below, r, alloc-known bs s st below key v u i b env ext g k e)
@@ -151,11 +134,11 @@ module _ (names : ℕ → ℕ) (single : Single names) (code : Code) (n : ℕ) (
   core-pieces : (s : State) (c : BlockId) (b : ℕ) (key : Key) (rest : Trace) → c ≡ Core b → Pieces code s.plain y (Allocated c key rest) → Pieces code s.plain y rest
   core-pieces s c b key rest e h = let h' : Pieces code s.plain y (Allocated (Core b) key rest) = subst (λ c. Pieces code s.plain y (Allocated c key rest)) e h in h'.1
 
-  alloc-flow : (bs : List ℕ) (s : State) (c : BlockId) (b : ℕ) (key : Key) (st : Stack) (rest : Trace) → Yields code y st rest → Known_stack n (b ∷ bs) st → Flow (b ∷ bs) (clears code s c key) rest
+  alloc-flow : (bs : List ℕ) (s : State) (c : BlockId) (b : ℕ) (key : Key) (st : Stack) (rest : Trace) → Yields code y st rest → KnownStack n (b ∷ bs) st → Flow (b ∷ bs) (clears code s c key) rest
   alloc-flow bs s c b key st rest r k = flows (b ∷ bs) (clears code s c key) st rest r k
 
-  inside-stack : (bs : List ℕ) (s : State) (p : Place) (value : Word) (u : UnitId) (v : ℕ) (args : List Word) → Good names n bs s → Known_words n bs args → s.store p ≡ value → Known_stack n bs (resumed code u v args value)
-  inside-stack bs s p value u v args g k same = given-known n bs code u.0 v args value Empty k (subst (Known_word n bs) same (g.store p)) tt
+  inside-stack : (bs : List ℕ) (s : State) (p : Place) (value : Word) (u : UnitId) (v : ℕ) (args : List Word) → Good names n bs s → KnownWords n bs args → s.store p ≡ value → KnownStack n bs (resumed code u v args value)
+  inside-stack bs s p value u v args g k same = given-known n bs code u.0 v args value Empty k (subst (KnownWord n bs) same (g.store p)) tt
 
   pub at-ready : (s : State) {l inside : Trace} {front back : List Item} {w : Store} {p : Place} {value : Word} {u : UnitId} {v : ℕ} {args : List Word} → At code s.store l front w p value u v args inside back
       → (bs : List ℕ) → Flow bs s l → Extends s.plain y → Good names n bs s → Pieces code s.plain y l → Ready (known_after bs front) (with_store s w) p value u v args inside

@@ -6,37 +6,37 @@ use Rattle.ceal_base.specs.declared.word.Word.{Word}
 use Rattle.ceal_code.proofs.AlikeLemmas.{next-alike}
 use Rattle.ceal_code.proofs.FittingLemmas.{args-known}
 use Rattle.ceal_code.proofs.Replayed.{started-alike}
-use Rattle.ceal_code.specs.Alike.{Pairs, Tied, Id_alike, Trace_alike, One_to_one}
+use Rattle.ceal_code.specs.Alike.{Pairs, Tied, IdAlike, TraceAlike, OneToOne}
 use Rattle.ceal_code.specs.Fitting.{Fits}
 use Rattle.ceal_code.specs.Program.{Code}
 use Rattle.ceal_code.specs.Replay.{In}
 use Rattle.ceal_code.specs.Step.{started}
 use Rattle.ceal_code.specs.Value.{Plain}
-use Rattle.ceal_theory.proofs.Renamed.{id-known, word-known, words-known, key-known, told-yields, told-renamed, distinct-renamed, Made_in as Made_core}
+use Rattle.ceal_theory.proofs.Renamed.{id-known, word-known, words-known, key-known, told-yields, told-renamed, distinct-renamed, MadeIn as Made_core}
 use Rattle.ceal_theory.proofs.Told.{yields-told}
 use Rattle.ceal_theory.specs.Repair.{Single}
-use Rattle.ceal_theory.specs.SliceLaws.{Made_in, Stands_for}
-use Rattle.ceal_theory.specs.Slices.{Repair, with_inputs, Uses, Sound, Alike_repairs}
+use Rattle.ceal_theory.specs.SliceLaws.{MadeIn, StandsFor}
+use Rattle.ceal_theory.specs.Slices.{Repair, with_inputs, Uses, Sound, AlikeRepairs}
 
-module _ (ps : Pairs) (one : One_to_one ps) (n : ℕ) (bs cs : List ℕ) (listed : (b : ℕ) → In b bs → (c : ℕ) × Tied b c ps × In c cs) where
-  uses-alike : {l m : Trace} → Trace_alike ps l m → Uses n bs l → Uses n cs m
-  uses-alike Trace_alike.nothing u = u
-  uses-alike (Trace_alike.stepped h) u = uses-alike h u
-  uses-alike (Trace_alike.allocated b k h) u = (id-known ps one n bs cs listed b u.0, key-known ps one n bs cs listed k u.1, uses-alike h u.2)
-  uses-alike (Trace_alike.wrote p w h) u = (id-known ps one n bs cs listed p.block u.0, word-known ps one n bs cs listed w u.1, uses-alike h u.2)
-  uses-alike (Trace_alike.was_read p w vs i h) u = (id-known ps one n bs cs listed p.block u.0, word-known ps one n bs cs listed w u.1, words-known ps one n bs cs listed vs u.2, uses-alike i u.3, uses-alike h u.4)
+module _ (ps : Pairs) (one : OneToOne ps) (n : ℕ) (bs cs : List ℕ) (listed : (b : ℕ) → In b bs → (c : ℕ) × Tied b c ps × In c cs) where
+  uses-alike : {l m : Trace} → TraceAlike ps l m → Uses n bs l → Uses n cs m
+  uses-alike TraceAlike.nothing u = u
+  uses-alike (TraceAlike.stepped h) u = uses-alike h u
+  uses-alike (TraceAlike.allocated b k h) u = (id-known ps one n bs cs listed b u.0, key-known ps one n bs cs listed k u.1, uses-alike h u.2)
+  uses-alike (TraceAlike.wrote p w h) u = (id-known ps one n bs cs listed p.block u.0, word-known ps one n bs cs listed w u.1, uses-alike h u.2)
+  uses-alike (TraceAlike.was_read p w vs i h) u = (id-known ps one n bs cs listed p.block u.0, word-known ps one n bs cs listed w u.1, words-known ps one n bs cs listed vs u.2, uses-alike i u.3, uses-alike h u.4)
 
 -- blocks of items that stand for core blocks are core blocks
-made-core : (code : Code) (y : Plain) (ps : Pairs) (n : ℕ) (bs : List ℕ) (x : Plain) {l m : Trace} → Trace_alike ps l m → Rattle.ceal_theory.proofs.Good.Pieces code x x l → Made_in code y m → Made_core code y m
-made-core code y ps n bs x Trace_alike.nothing p h = tt
-made-core code y ps n bs x (Trace_alike.stepped t) p h = made-core code y ps n bs x t p h
-made-core code y ps n bs x (Trace_alike.allocated (Id_alike.core i) k t) p h = (h.0, made-core code y ps n bs x t p.1 h.1)
-made-core code y ps n bs x (Trace_alike.allocated Id_alike.input k t) p h = absurd p
-made-core code y ps n bs x (Trace_alike.wrote q w t) p h = made-core code y ps n bs x t p h
-made-core code y ps n bs x (Trace_alike.was_read q w vs i t) p h = (made-core code y ps n bs x i p.1 h.0, made-core code y ps n bs x t p.2 h.1)
+made-core : (code : Code) (y : Plain) (ps : Pairs) (n : ℕ) (bs : List ℕ) (x : Plain) {l m : Trace} → TraceAlike ps l m → Rattle.ceal_theory.proofs.Good.Pieces code x x l → MadeIn code y m → Made_core code y m
+made-core code y ps n bs x TraceAlike.nothing p h = tt
+made-core code y ps n bs x (TraceAlike.stepped t) p h = made-core code y ps n bs x t p h
+made-core code y ps n bs x (TraceAlike.allocated (IdAlike.core i) k t) p h = (h.0, made-core code y ps n bs x t p.1 h.1)
+made-core code y ps n bs x (TraceAlike.allocated IdAlike.input k t) p h = absurd p
+made-core code y ps n bs x (TraceAlike.wrote q w t) p h = made-core code y ps n bs x t p h
+made-core code y ps n bs x (TraceAlike.was_read q w vs i t) p h = (made-core code y ps n bs x i p.1 h.0, made-core code y ps n bs x t p.2 h.1)
 
-module _ {names : ℕ → ℕ} (code : Code) (inputs : List Block) (f : ℕ) (args : List Word) (fits : Fits code inputs f args) (r : Repair) (h : Sound code names inputs f args r) (names' : ℕ → ℕ) (single' : Single names') (ps : Pairs) (q : Repair) (a : Alike_repairs code names names' inputs ps r q)
-    (t : Stands_for code names' inputs ps h.blocks q) where
+module _ {names : ℕ → ℕ} (code : Code) (inputs : List Block) (f : ℕ) (args : List Word) (fits : Fits code inputs f args) (r : Repair) (h : Sound code names inputs f args r) (names' : ℕ → ℕ) (single' : Single names') (ps : Pairs) (q : Repair) (a : AlikeRepairs code names names' inputs ps r q)
+    (t : StandsFor code names' inputs ps h.blocks q) where
   pub sound-renamed : Sound code names' inputs f args q
   sound-renamed =
       let x = with_inputs code inputs r.known in

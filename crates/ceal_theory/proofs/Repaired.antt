@@ -3,7 +3,7 @@ use Rattle.std.proofs.Common.{◌≡◌, ℕ, ◌≤◌, ◌<◌, Bool, true, fa
 use Rattle.ceal_base.specs.Block.{Block}
 use Rattle.ceal_base.specs.Fitting.{inputs_fit}
 use Rattle.ceal_base.specs.Operators.{same_block}
-use Rattle.ceal_base.specs.Trace.{Trace, Nothing, Stepped, Allocated, Wrote, Was_read, blocks_of}
+use Rattle.ceal_base.specs.Trace.{Trace, Nothing, Stepped, Allocated, Wrote, WasRead, blocks_of}
 use Rattle.ceal_base.specs.declared.word.BlockId.{BlockId}
 use Rattle.ceal_base.specs.declared.word.BlockId.TheVariants.{Input, Core}
 use Rattle.ceal_base.specs.declared.word.Word.{Word}
@@ -14,17 +14,17 @@ use Rattle.ceal_code.specs.Fitting.{Fits}
 use Rattle.ceal_code.specs.Init.{made}
 use Rattle.ceal_code.specs.Known.{Holds}
 use Rattle.ceal_code.specs.Program.{Code}
-use Rattle.ceal_code.specs.Replay.{Yields, Mentions, learnt, count, Distinct, core_numbers, input_plain, plain_after, plain_of, bases, Replays, IsHonest}
+use Rattle.ceal_code.specs.Replay.{Yields, Mentions, learnt, Distinct, core_numbers, input_plain, plain_after, plain_of, Replays, IsHonest}
 use Rattle.ceal_code.specs.Step.{Stack, started}
 use Rattle.ceal_code.specs.Value.{Plain}
 use Rattle.ceal_theory.proofs.DistinctBlocks.{uses, times-append, fix-distinct, fix-old}
-use Rattle.ceal_theory.proofs.Good.{Extends, extends-trans, Free_from, Good}
+use Rattle.ceal_theory.proofs.Good.{Extends, extends-trans, FreeFrom, Good}
 use Rattle.ceal_theory.proofs.Growth.{own-single, fix-grows}
 use Rattle.ceal_theory.proofs.Honesty.{fix-honest}
 use Rattle.ceal_theory.proofs.Inputs.{inputs-hold, bases-known, no-core, started-known, inputs-extend, more-inputs}
 use Rattle.ceal_theory.proofs.Replays.{Played, fix-plays}
 use Rattle.ceal_theory.proofs.PlainWords.{words-inputs, mentions-inputs, Walked, walked, yields-pieces}
-use Rattle.ceal_theory.specs.Adjust.{Extended, Above, Adjusts, Adjusts_as}
+use Rattle.ceal_theory.specs.Adjust.{Extended, Above, Adjusts, AdjustsAs}
 use Rattle.ceal_theory.specs.Repair.{Single, own, begins}
 
 learnt-none-if : (x : Plain) (b c : ℕ) (block : Block) (test : Bool) → (c == b) ≡ test → one_if c b ≡ 0 → x (Core c) ≡ None
@@ -49,7 +49,7 @@ plain-none code x (Allocated (Core b) key rest) c h e =
 plain-none code x (Allocated (Input i) key rest) c h e =
     plain-none code (learnt x (Input i) (made code x key)) rest c h (learnt-input x i c (made code x key) e)
 plain-none code x (Wrote p value rest) c h e = plain-none code x rest c h e
-plain-none code x (Was_read p value u v args inside rest) c h e =
+plain-none code x (WasRead p value u v args inside rest) c h e =
     plain-none code (plain_after code x inside) rest c (omega (arith, h, times-append c (blocks_of inside) (blocks_of rest)))
     (plain-none code x inside c (omega (arith, h, times-append c (blocks_of inside) (blocks_of rest))) e)
 
@@ -85,7 +85,7 @@ holds-over n bs x y h e b k = let g = h b k in record { block = g.block; there =
 
 module _ (code : Code) (old new : List Block) (f : ℕ) (args : List Word) (fits : Fits code old f args) (fit : inputs_fit code.structs new ≡ true) (more : Extended code old new)
     (l : Trace) (r : Replays code old f args l) where
-  pub known-new : Rattle.ceal_code.specs.Replay.Known_words (length new) [] args
+  pub known-new : Rattle.ceal_code.specs.Replay.KnownWords (length new) [] args
   known-new = words-inputs (length old) (length new) (more-inputs code old new more) [] args (args-known code old f args fits)
 
   from-old : Extends (input_plain code old) (plain_of code old l)
@@ -121,12 +121,12 @@ module _ (code : Code) (old new : List Block) (f : ℕ) (args : List Word) (fits
   unfolding plain_of
   yield-over y h = walk-new.yields y h
 
-  pub free : (names : ℕ → ℕ) (number : ℕ) → ((k : ℕ) → number ≤ k → uses (names k) l ≡ 0) → Free_from names (plain_of code new l) number
+  pub free : (names : ℕ → ℕ) (number : ℕ) → ((k : ℕ) → number ≤ k → uses (names k) l ≡ 0) → FreeFrom names (plain_of code new l) number
   unfolding plain_of
   free names number low k h = plain-none code (input_plain code new) l (names k) (low k h) (no-core code new (names k))
 
   -- new blocks with names that no block of the trace has
-  module _ (names : ℕ → ℕ) (single : Single names) (number : ℕ) (low : (k : ℕ) → number ≤ k → uses (names k) l ≡ 0) (m : Trace) (work : ℕ) (a : Adjusts_as code new names number l m work) where
+  module _ (names : ℕ → ℕ) (single : Single names) (number : ℕ) (low : (k : ℕ) → number ≤ k → uses (names k) l ≡ 0) (m : Trace) (work : ℕ) (a : AdjustsAs code new names number l m work) where
     good : Good names (length new) [] (begins code new (plain_of code new l) number)
     good = record {
       plain = holds-over (length new) [] (input_plain code new) (plain_of code new l) (inputs-hold code new fit) from-new;

@@ -14,9 +14,9 @@ use Rattle.ceal_base.specs.declared.word.Word.TheVariants.{Num}
 use Rattle.ceal_code.proofs.Closed.{field_default-of}
 use Rattle.ceal_code.proofs.Local.{word-more, words-more, stack-more, variables-more, set-known, given-known, next-known, next-same, made-known, made-same}
 use Rattle.ceal_code.specs.Init.{made, pointer}
-use Rattle.ceal_code.specs.Known.{Subset, Held, Holds, Known_variables, Known_stack, Known_act}
+use Rattle.ceal_code.specs.Known.{Subset, Held, Holds, KnownVariables, KnownStack, KnownAct}
 use Rattle.ceal_code.specs.Program.{Code}
-use Rattle.ceal_code.specs.Replay.{Yields, In, here, there, Known_block, Known_word, Known_words, Known_key, Mentions, Store, learnt, cell_default, shape_of, cleared, stored}
+use Rattle.ceal_code.specs.Replay.{Yields, In, here, there, KnownBlock, KnownWord, KnownWords, KnownKey, Mentions, Store, learnt, cell_default, shape_of, cleared, stored}
 use Rattle.ceal_code.specs.Step.{Stack, Empty, Run, Act, Over, Quiet, Makes, Writes, Reads, next}
 use Rattle.ceal_code.specs.Value.{Plain, Variables, set, field_kind, field_default, is_cell}
 use Rattle.ceal_theory.proofs.Good.{Extends, extends-trans, agrees, Good, Pieces}
@@ -27,7 +27,7 @@ use Rattle.ceal_theory.specs.Repair.{Single, State, clears, puts, works, grows, 
 pub wider : (b : ℕ) (bs : List ℕ) → Subset bs (b ∷ bs)
 wider b bs c h = there h
 
-pub pointer-known : (inputs : ℕ) (bs : List ℕ) (key : Key) (b : BlockId) → Known_block inputs bs b → Known_word inputs bs (pointer key b)
+pub pointer-known : (inputs : ℕ) (bs : List ℕ) (key : Key) (b : BlockId) → KnownBlock inputs bs b → KnownWord inputs bs (pointer key b)
 pointer-known inputs bs (Init f args) b h = h
 pointer-known inputs bs IntKey b h = h
 pointer-known inputs bs (PtrKey s) b h = h
@@ -45,23 +45,23 @@ pub holds-with : (inputs : ℕ) (bs : List ℕ) (x x' : Plain) (b : ℕ) → Hol
 holds-with inputs bs x x' b h ext k (Input i) l = held-more inputs bs (b ∷ bs) x x' (wider b bs) ext (Input i) (h (Input i) l)
 holds-with inputs bs x x' b h ext k (Core c) l = core-held inputs bs x x' b c h ext k l
 
-if-word : (inputs : ℕ) (bs : List ℕ) (b : Bool) (v w : Word) → Known_word inputs bs v → Known_word inputs bs w → Known_word inputs bs (if b then v else w)
+if-word : (inputs : ℕ) (bs : List ℕ) (b : Bool) (v w : Word) → KnownWord inputs bs v → KnownWord inputs bs w → KnownWord inputs bs (if b then v else w)
 if-word inputs bs true v w h k = h
 if-word inputs bs false v w h k = k
 
-pub cell-known : (inputs : ℕ) (bs : List ℕ) (kind : Option FieldKind) → Known_word inputs bs (cell_default kind)
-cell-known inputs bs kind = if-word inputs bs (is_cell kind) (field_default kind) (Num (pos 0)) (field_default-of (Known_word inputs bs) (λ n. tt) tt kind) tt
+pub cell-known : (inputs : ℕ) (bs : List ℕ) (kind : Option FieldKind) → KnownWord inputs bs (cell_default kind)
+cell-known inputs bs kind = if-word inputs bs (is_cell kind) (field_default kind) (Num (pos 0)) (field_default-of (KnownWord inputs bs) (λ n. tt) tt kind) tt
 
-pub cleared-known : (code : Code) (inputs : ℕ) (bs : List ℕ) (s : Store) (b : BlockId) (key : Key) → ((p : Place) → Known_word inputs bs (s p)) → (p : Place) → Known_word inputs bs (cleared code s b key p)
+pub cleared-known : (code : Code) (inputs : ℕ) (bs : List ℕ) (s : Store) (b : BlockId) (key : Key) → ((p : Place) → KnownWord inputs bs (s p)) → (p : Place) → KnownWord inputs bs (cleared code s b key p)
 unfolding cleared
 cleared-known code inputs bs s b key h p =
     if-word inputs bs (same_block p.block b) (cell_default (field_kind code.structs (shape_of code key) p.field)) (s p) (cell-known inputs bs (field_kind code.structs (shape_of code key) p.field)) (h p)
 
-pub stored-known : (inputs : ℕ) (bs : List ℕ) (s : Store) (q : Place) (v : Word) → ((p : Place) → Known_word inputs bs (s p)) → Known_word inputs bs v → (p : Place) → Known_word inputs bs (stored s q v p)
+pub stored-known : (inputs : ℕ) (bs : List ℕ) (s : Store) (q : Place) (v : Word) → ((p : Place) → KnownWord inputs bs (s p)) → KnownWord inputs bs v → (p : Place) → KnownWord inputs bs (stored s q v p)
 unfolding stored
 stored-known inputs bs s q v h k p = if-word inputs bs (same_place p q) v (s p) k (h p)
 
-pub store-more : (inputs : ℕ) (bs cs : List ℕ) (s : Store) → Subset bs cs → ((p : Place) → Known_word inputs bs (s p)) → (p : Place) → Known_word inputs cs (s p)
+pub store-more : (inputs : ℕ) (bs cs : List ℕ) (s : Store) → Subset bs cs → ((p : Place) → KnownWord inputs bs (s p)) → (p : Place) → KnownWord inputs cs (s p)
 store-more inputs bs cs s sub h p = word-more inputs bs cs sub (s p) (h p)
 
 good-clears : (names : ℕ → ℕ) (code : Code) (inputs : ℕ) (bs : List ℕ) (s : State) (b : ℕ) (key : Key) → Good names inputs bs s → Held inputs (b ∷ bs) s.plain (Core b) → Good names inputs (b ∷ bs) (clears code s (Core b) key)
@@ -74,43 +74,43 @@ good-clears names code inputs bs s b key g h = record {
 good-works : (names : ℕ → ℕ) (inputs : ℕ) (bs : List ℕ) (s : State) → Good names inputs bs s → Good names inputs bs (works s)
 good-works names inputs bs s g = record { plain = g.plain; store = g.store; free = g.free }
 
-good-puts : (names : ℕ → ℕ) (inputs : ℕ) (bs : List ℕ) (s : State) (p : Place) (v : Word) → Good names inputs bs s → Known_word inputs bs v → Good names inputs bs (puts s p v)
+good-puts : (names : ℕ → ℕ) (inputs : ℕ) (bs : List ℕ) (s : State) (p : Place) (v : Word) → Good names inputs bs s → KnownWord inputs bs v → Good names inputs bs (puts s p v)
 good-puts names inputs bs s p v g k = record { plain = g.plain; store = stored-known inputs bs s.store p v g.store k; free = g.free }
 
 -- with a new block, to which the variable points
 pub ran-known : (inputs : ℕ) (bs : List ℕ) (key : Key) (b v u i : ℕ) (env : Variables) (below : Stack)
-    → Known_variables inputs bs env → Known_stack inputs bs below → Known_stack inputs (b ∷ bs) (Run u i (set env v (pointer key (Core b))) below)
+    → KnownVariables inputs bs env → KnownStack inputs bs below → KnownStack inputs (b ∷ bs) (Run u i (set env v (pointer key (Core b))) below)
 ran-known inputs bs key b v u i env below h k = (
   set-known inputs (b ∷ bs) env v (pointer key (Core b)) (variables-more inputs bs (b ∷ bs) (wider b bs) env h) (pointer-known inputs (b ∷ bs) key (Core b) here),
   stack-more inputs bs (b ∷ bs) (wider b bs) below k,
 )
 
 module _ (code : Code) (inputs : ℕ) (y : Plain) where
-  pub step-y : (bs : List ℕ) (x : Plain) (st : Stack) (a : Act) → Holds inputs bs x → Extends x y → Known_stack inputs bs st → next code y st ≡ a → Known_act inputs bs a
+  pub step-y : (bs : List ℕ) (x : Plain) (st : Stack) (a : Act) → Holds inputs bs x → Extends x y → KnownStack inputs bs st → next code y st ≡ a → KnownAct inputs bs a
   step-y bs x st a h ext k e =
-      subst (Known_act inputs bs) (next-same inputs bs x h y (agrees inputs bs x y h ext) code st k ∙ e) (next-known inputs bs x h y (agrees inputs bs x y h ext) code st k)
+      subst (KnownAct inputs bs) (next-same inputs bs x h y (agrees inputs bs x y h ext) code st k ∙ e) (next-known inputs bs x h y (agrees inputs bs x y h ext) code st k)
 
-  pub step-x : (bs : List ℕ) (x : Plain) (st : Stack) (a : Act) → Holds inputs bs x → Extends x y → Known_stack inputs bs st → next code x st ≡ a → (next code y st ≡ a) × Known_act inputs bs a
+  pub step-x : (bs : List ℕ) (x : Plain) (st : Stack) (a : Act) → Holds inputs bs x → Extends x y → KnownStack inputs bs st → next code x st ≡ a → (next code y st ≡ a) × KnownAct inputs bs a
   step-x bs x st a h ext k e = (
     sym (next-same inputs bs x h y (agrees inputs bs x y h ext) code st k) ∙ e,
-    subst (Known_act inputs bs) e (next-known inputs bs x h y (agrees inputs bs x y h ext) code st k),
+    subst (KnownAct inputs bs) e (next-known inputs bs x h y (agrees inputs bs x y h ext) code st k),
   )
 
-  pub same-made : (bs : List ℕ) (x : Plain) (key : Key) → Holds inputs bs x → Extends x y → Known_key inputs bs key → made code x key ≡ made code y key
+  pub same-made : (bs : List ℕ) (x : Plain) (key : Key) → Holds inputs bs x → Extends x y → KnownKey inputs bs key → made code x key ≡ made code y key
   same-made bs x key h ext k = made-same inputs bs x h y (agrees inputs bs x y h ext) code key k
 
   -- a block that is in x what y makes of a known key
-  pub held-key : (bs : List ℕ) (x : Plain) (key : Key) (b : ℕ) → Holds inputs bs x → Extends x y → Known_key inputs bs key → x (Core b) ≡ Some (made code y key)
+  pub held-key : (bs : List ℕ) (x : Plain) (key : Key) (b : ℕ) → Holds inputs bs x → Extends x y → KnownKey inputs bs key → x (Core b) ≡ Some (made code y key)
       → Held inputs (b ∷ bs) x (Core b)
   held-key bs x key b h ext k e = record {
     block = made code y key;
     there = e;
     known = words-more inputs bs (b ∷ bs) (wider b bs) (made code y key).words
-        (subst (λ block. Known_words inputs bs block.words) (same-made bs x key h ext k) (made-known inputs bs x h y (agrees inputs bs x y h ext) code key k));
+        (subst (λ block. KnownWords inputs bs block.words) (same-made bs x key h ext k) (made-known inputs bs x h y (agrees inputs bs x y h ext) code key k));
   }
 
 module _ (names : ℕ → ℕ) (single : Single names) (code : Code) (inputs : ℕ) where
-  good-grows : (bs : List ℕ) (s : State) (key : Key) → Good names inputs bs s → Known_key inputs bs key → Good names inputs (names s.number ∷ bs) (grows code names s key)
+  good-grows : (bs : List ℕ) (s : State) (key : Key) → Good names inputs bs s → KnownKey inputs bs key → Good names inputs (names s.number ∷ bs) (grows code names s key)
   good-grows bs s key g k =
       let block = made code s.plain key in
       let held : Held inputs (names s.number ∷ bs) (learnt s.plain (Core (names s.number)) block) (Core (names s.number)) = record {
@@ -141,12 +141,12 @@ module _ (names : ℕ → ℕ) (single : Single names) (code : Code) (inputs : �
   module _ (y : Plain) where
     -- a taken block, which is a core block
     took : (bs : List ℕ) (st below : Stack) (key : Key) (v u i b : ℕ) (env : Variables) (d : BlockId) (new left : Trace) (s s' : State)
-        → d ≡ Core b → next code y st ≡ Makes key v u i env below → Known_key inputs bs key → y (Core b) ≡ Some (made code y key) → Good names inputs bs s → Held inputs (b ∷ bs) s.plain (Core b)
-        → Known_variables inputs bs env → Known_stack inputs bs below
-        → (Good names inputs (b ∷ bs) (clears code s d key) → Known_stack inputs (b ∷ bs) (Run u i (set env v (pointer key d)) below) → Left y (b ∷ bs) (Run u i (set env v (pointer key d)) below) new left s')
+        → d ≡ Core b → next code y st ≡ Makes key v u i env below → KnownKey inputs bs key → y (Core b) ≡ Some (made code y key) → Good names inputs bs s → Held inputs (b ∷ bs) s.plain (Core b)
+        → KnownVariables inputs bs env → KnownStack inputs bs below
+        → (Good names inputs (b ∷ bs) (clears code s d key) → KnownStack inputs (b ∷ bs) (Run u i (set env v (pointer key d)) below) → Left y (b ∷ bs) (Run u i (set env v (pointer key d)) below) new left s')
         → Left y bs st (Stepped (Allocated d key new)) left s'
     took bs st below key v u i b env d new left s s' is e kk h g held kv ks =
-        subst (λ d. (Good names inputs (b ∷ bs) (clears code s d key) → Known_stack inputs (b ∷ bs) (Run u i (set env v (pointer key d)) below) → Left y (b ∷ bs) (Run u i (set env v (pointer key d)) below) new left s')
+        subst (λ d. (Good names inputs (b ∷ bs) (clears code s d key) → KnownStack inputs (b ∷ bs) (Run u i (set env v (pointer key d)) below) → Left y (b ∷ bs) (Run u i (set env v (pointer key d)) below) new left s')
         → Left y bs st (Stepped (Allocated d key new)) left s') (sym is) (λ f. go (f (good-clears names code inputs bs s b key g held) (ran-known inputs bs key b v u i env below kv ks)))
       where
         go : Left y (b ∷ bs) (Run u i (set env v (pointer key (Core b))) below) new left s' → Left y bs st (Stepped (Allocated (Core b) key new)) left s'
@@ -155,7 +155,7 @@ module _ (names : ℕ → ℕ) (single : Single names) (code : Code) (inputs : �
     mutual
       pub fix-plays : {s s' : State} {old new : Trace} → Fix code names s old s' new
           → Extends s'.plain y → (bs : List ℕ) → Good names inputs bs s
-          → (st : Stack) → Yields code y st old → Known_stack inputs bs st → Pieces code s.plain y old
+          → (st : Stack) → Yields code y st old → KnownStack inputs bs st → Pieces code s.plain y old
           → Played y bs st new s'
       fix-plays Fix.end ext bs g st (Yields.over e) k h = record { known = bs; mentions = Mentions.end; yields = Yields.over e; good = g }
       fix-plays {s} {s'} (Fix.step f) ext bs g st (Yields.quiet {after = after} e r) k h =
@@ -188,10 +188,10 @@ module _ (names : ℕ → ℕ) (single : Single names) (code : Code) (inputs : �
       pub mend-plays : {s t : State} {p : Place} {u : UnitId} {v : ℕ} {args : List Word} {value : Word} {old new : Trace}
           → Mend code names s p u v args value old t new
           → Extends t.plain y → (bs : List ℕ) → Good names inputs bs s
-          → Yields code y (resumed code u v args value) old → Known_words inputs bs args → Pieces code s.plain y old
+          → Yields code y (resumed code u v args value) old → KnownWords inputs bs args → Pieces code s.plain y old
           → Played y bs (resumed code u v args (s.store p)) new t
       mend-plays {s} {t} {p} {u} {v} {args} {value} {old} {new} (Mend.kept e f) ext bs g r k h =
-          let kv : Known_word inputs bs value = subst (Known_word inputs bs) e (g.store p) in
+          let kv : KnownWord inputs bs value = subst (KnownWord inputs bs) e (g.store p) in
           let q = fix-plays f ext bs g (resumed code u v args value) r (given-known inputs bs code u.0 v args value Empty k kv tt) h in
           subst (λ w. Played y bs (resumed code u v args w) new t) (sym e) q
       mend-plays {s} {t} {p} {u} {v} {args} (Mend.stale e a) ext bs g r k h =
@@ -200,7 +200,7 @@ module _ (names : ℕ → ℕ) (single : Single names) (code : Code) (inputs : �
 
       pub anew-plays : {s s' : State} {st : Stack} {old new left : Trace} → Anew code names s st old s' new left
           → Extends s'.plain y → (bs : List ℕ) → Good names inputs bs s
-          → Known_stack inputs bs st → Pieces code s.plain y old
+          → KnownStack inputs bs st → Pieces code s.plain y old
           → Left y bs st new left s'
       anew-plays {s} {s'} {st} (Anew.over e) ext bs g k h =
           let a = step-x code inputs y bs s.plain st Over g.plain ext k e in

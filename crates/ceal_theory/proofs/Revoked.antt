@@ -1,14 +1,14 @@
 -- What is taken from old nodes stays when nodes before it are revoked.
-use Rattle.std.proofs.Common.{◌≡◌, ℕ, zero, suc, Bool, true, false, if◌then◌else◌, Option, Some, None, List, [], ◌∷◌, ◌++◌, refl, sym, ap, ◌∙◌, append_assoc}
-use Rattle.ceal_base.specs.Trace.{Trace, Nothing, Stepped, Allocated, Wrote, Was_read, followed}
-use Rattle.ceal_base.specs.declared.forest.Item.TheVariants.{Alloc, Write, Read, End}
+use Rattle.std.proofs.Common.{◌≡◌, ℕ, zero, suc, Bool, true, false, if◌then◌else◌, Option, Some, None, List, [], ◌∷◌, ◌++◌, refl, sym, ap, ◌∙◌}
+use Rattle.ceal_base.specs.Trace.{Trace, Nothing, Stepped, Allocated, Wrote, WasRead, followed}
+use Rattle.ceal_base.specs.declared.forest.Item.TheVariants.{End}
 use Rattle.ceal_base.specs.declared.forest.Key.{Key}
 use Rattle.ceal_base.specs.declared.forest.UnitId.{UnitId}
 use Rattle.ceal_base.specs.declared.word.BlockId.{BlockId}
 use Rattle.ceal_base.specs.declared.word.Place.{Place}
 use Rattle.ceal_base.specs.declared.word.Word.{Word}
 use Rattle.ceal_theory.proofs.FlatTake.{alloc-followed, read-followed}
-use Rattle.ceal_theory.specs.Groves.{Knot, bare_alloc, bare_read, first_has, first_reads, Lacks, Lacks_read, Taking_law, Grove, Bare, Made, Put, Got, stepped, trace_in, knots, joined, cut, bare}
+use Rattle.ceal_theory.specs.Groves.{Knot, bare_alloc, bare_read, first_has, first_reads, Lacks, LacksRead, TakingLaw, Grove, Bare, Made, Put, Got, stepped, trace_in, knots, joined, cut, bare}
 use Rattle.ceal_theory.specs.Levels.{same_read}
 use Rattle.ceal_theory.specs.Take.{TakenAlloc, TakenRead, same_key, alloc_then, read_then, take_alloc, take_read}
 
@@ -17,14 +17,14 @@ bare-followed Nothing g = refl
 bare-followed (Stepped rest) g = bare-followed rest g
 bare-followed (Allocated b key rest) g = ap (Allocated b key) (bare-followed rest g)
 bare-followed (Wrote p v rest) g = ap (Wrote p v) (bare-followed rest g)
-bare-followed (Was_read p v u x args inside rest) g = ap (Was_read p v u x args inside) (bare-followed rest g)
+bare-followed (WasRead p v u x args inside rest) g = ap (WasRead p v u x args inside) (bare-followed rest g)
 
 bare-bare : (f : Trace) → bare (bare f) ≡ bare f
 bare-bare Nothing = refl
 bare-bare (Stepped rest) = bare-bare rest
 bare-bare (Allocated b key rest) = ap (Allocated b key) (bare-bare rest)
 bare-bare (Wrote p v rest) = ap (Wrote p v) (bare-bare rest)
-bare-bare (Was_read p v u x args inside rest) = ap (Was_read p v u x args inside) (bare-bare rest)
+bare-bare (WasRead p v u x args inside rest) = ap (WasRead p v u x args inside) (bare-bare rest)
 
 pub bare-stepped : (n : ℕ) (t : Trace) → bare (stepped n t) ≡ bare t
 bare-stepped zero t = refl
@@ -46,7 +46,7 @@ bare-take key Nothing = refl
 bare-take key (Stepped rest) = bare-take key rest
 bare-take key (Allocated b k rest) = bare-if (same_key k key) b rest (take_alloc key (bare rest)) (take_alloc key rest) (bare-take key rest)
 bare-take key (Wrote p v rest) = bare-take key rest
-bare-take key (Was_read p v u x args inside rest) = bare-then rest (take_alloc key inside) (take_alloc key (bare rest)) (take_alloc key rest) (bare-take key rest)
+bare-take key (WasRead p v u x args inside rest) = bare-then rest (take_alloc key inside) (take_alloc key (bare rest)) (take_alloc key rest) (bare-take key rest)
 
 bare-then-read : (rest : Trace) (a c c' : Option TakenRead) → bare_read c ≡ bare_read c' → bare_read (read_then (bare rest) a c) ≡ bare_read (read_then rest a c')
 bare-then-read rest None c c' e = e
@@ -63,7 +63,7 @@ bare-take-read p u x args Nothing = refl
 bare-take-read p u x args (Stepped rest) = bare-take-read p u x args rest
 bare-take-read p u x args (Allocated b k rest) = bare-take-read p u x args rest
 bare-take-read p u x args (Wrote q v rest) = bare-take-read p u x args rest
-bare-take-read p u x args (Was_read q v w y words inside rest) =
+bare-take-read p u x args (WasRead q v w y words inside rest) =
     bare-if-read (same_read q w y words p u x args) v inside rest (read_then (bare rest) (take_read p u x args inside) (take_read p u x args (bare rest))) (read_then rest (take_read p u x args inside) (take_read p u x args rest))
     (bare-then-read rest (take_read p u x args inside) (take_read p u x args (bare rest)) (take_read p u x args rest) (bare-take-read p u x args rest))
 
@@ -77,15 +77,7 @@ trace-joined Bare g = refl
 trace-joined (Made s b key n rest) g = ap (λ t. Allocated b key (stepped n t)) (trace-joined rest g) ∙ ap (Allocated b key) (sym (stepped-followed n (trace_in rest) (trace_in g)))
 trace-joined (Put s p v n rest) g = ap (λ t. Wrote p v (stepped n t)) (trace-joined rest g) ∙ ap (Wrote p v) (sym (stepped-followed n (trace_in rest) (trace_in g)))
 trace-joined (Got s p v u x args n inside e m rest) g =
-    ap (λ t. Was_read p v u x args (stepped n (trace_in inside)) (stepped m t)) (trace-joined rest g) ∙ ap (Was_read p v u x args (stepped n (trace_in inside))) (sym (stepped-followed m (trace_in rest) (trace_in g)))
-
-pub knots-joined : (f g : Grove) → knots (joined f g) ≡ knots f ++ knots g
-knots-joined Bare g = refl
-knots-joined (Made s b key n rest) g = ap (λ ks. record { stamp = s; item = Alloc b key; steps = n } ∷ ks) (knots-joined rest g)
-knots-joined (Put s p v n rest) g = ap (λ ks. record { stamp = s; item = Write p v; steps = n } ∷ ks) (knots-joined rest g)
-knots-joined (Got s p v u x args n inside e m rest) g =
-    ap (λ ks. record { stamp = s; item = Read p v u x args; steps = n } ∷ (knots inside ++ record { stamp = e; item = End; steps = m } ∷ ks)) (knots-joined rest g)
-    ∙ ap (λ ks. record { stamp = s; item = Read p v u x args; steps = n } ∷ ks) (sym (append_assoc (knots inside) (record { stamp = e; item = End; steps = m } ∷ knots rest) (knots g)))
+    ap (λ t. WasRead p v u x args (stepped n (trace_in inside)) (stepped m t)) (trace-joined rest g) ∙ ap (WasRead p v u x args (stepped n (trace_in inside))) (sym (stepped-followed m (trace_in rest) (trace_in g)))
 
 take-stepped : (key : Key) (n : ℕ) (t : Trace) → take_alloc key (stepped n t) ≡ take_alloc key t
 unfolding take_alloc
@@ -161,15 +153,15 @@ absent-take key (Got s p v u x args n inside e m rest) h =
       absent-take key rest (lacks-back key (knots inside) (record { stamp = e; item = End; steps = m } ∷ knots rest) h.1).1,
     ) refl
 
-lacks-front-read : (p : Place) (u : UnitId) (x : ℕ) (args : List Word) (f g : List Knot) → Lacks_read p u x args (f ++ g) → Lacks_read p u x args f
+lacks-front-read : (p : Place) (u : UnitId) (x : ℕ) (args : List Word) (f g : List Knot) → LacksRead p u x args (f ++ g) → LacksRead p u x args f
 lacks-front-read p u x args [] g h = tt
 lacks-front-read p u x args (k ∷ ks) g h = (h.0, lacks-front-read p u x args ks g h.1)
 
-lacks-back-read : (p : Place) (u : UnitId) (x : ℕ) (args : List Word) (f g : List Knot) → Lacks_read p u x args (f ++ g) → Lacks_read p u x args g
+lacks-back-read : (p : Place) (u : UnitId) (x : ℕ) (args : List Word) (f g : List Knot) → LacksRead p u x args (f ++ g) → LacksRead p u x args g
 lacks-back-read p u x args [] g h = h
 lacks-back-read p u x args (k ∷ ks) g h = lacks-back-read p u x args ks g h.1
 
-pub absent-take-read : (p : Place) (u : UnitId) (x : ℕ) (args : List Word) (g : Grove) → Lacks_read p u x args (knots g) → take_read p u x args (trace_in g) ≡ None
+pub absent-take-read : (p : Place) (u : UnitId) (x : ℕ) (args : List Word) (g : Grove) → LacksRead p u x args (knots g) → take_read p u x args (trace_in g) ≡ None
 unfolding take_read
 absent-take-read p u x args Bare h = refl
 absent-take-read p u x args (Made s b k n rest) h = rw (take-stepped-read p u x args n (trace_in rest)) (absent-take-read p u x args rest h.1)
@@ -183,7 +175,7 @@ absent-take-read p u x args (Got s q v w y words n inside e m rest) h =
       absent-take-read p u x args rest (lacks-back-read p u x args (knots inside) (record { stamp = e; item = End; steps = m } ∷ knots rest) h.1).1,
     ) refl
 
-pub taking-law : Taking_law
+pub taking-law : TakingLaw
 taking-law = record {
   alloc_kept = cut-take;
   alloc_found = found-take;

@@ -2,7 +2,7 @@
 -- out again.
 use Rattle.std.proofs.Common.{◌≡◌, ℕ, pos, Option, Some, None, List, [], ◌∷◌, refl}
 use Rattle.ceal_base.specs.Block.{Block}
-use Rattle.ceal_base.specs.Trace.{Trace, Nothing, Stepped, Wrote, Was_read, steps_of, blocks_of}
+use Rattle.ceal_base.specs.Trace.{Trace, Nothing, Stepped, Wrote, WasRead, steps_of, blocks_of}
 use Rattle.ceal_base.specs.declared.forest.UnitId.{UnitId}
 use Rattle.ceal_base.specs.declared.kind.FieldKind.TheVariants.{Plain as PlainField, CellPtr}
 use Rattle.ceal_base.specs.declared.kind.Kind.TheVariants.{Int, Ptr, ModInt as ModIntKind, ModPtr as ModPtrKind}
@@ -68,7 +68,7 @@ abbrev inc_args : List Word
 inc_args = At (place 0) ∷ At (place 1) ∷ []
 
 abbrev inc_items : ℕ → ℕ → Trace
-inc_items n m = Stepped (Was_read (place 0) (Num (pos n)) (u 1) 2 (At (place 1) ∷ []) (Stepped (Wrote (place 1) (Num (pos m)) Nothing)) Nothing)
+inc_items n m = Stepped (WasRead (place 0) (Num (pos n)) (u 1) 2 (At (place 1) ∷ []) (Stepped (Wrote (place 1) (Num (pos m)) Nothing)) Nothing)
 
 inc-first : first_of inc (inc_inputs 4) 2 0 inc_args ≡ Some (record { items = inc_items 4 5; work = 2 })
 unfolding first_of anew next settled chosen bound woven set unset expr_value values bases input_plain stored take_read hidden-the_row-CodeExpr-0 shape-the_row-CodeExpr-0 denote.Hole.Carrier.hidden

@@ -2,7 +2,7 @@
 use Rattle.std.proofs.Common.{◌≡◌, ℕ, zero, suc, ◌+◌, ◌≤◌, ◌<◌, Bool, true, false, nat_le, if◌then◌else◌, Option, Some, None, List, refl, sym, subst, arith}
 use Rattle.ceal_base.specs.Block.{Block}
 use Rattle.ceal_base.specs.Operators.{same_word}
-use Rattle.ceal_base.specs.Trace.{Trace, Nothing, Stepped, Allocated, Wrote, Was_read}
+use Rattle.ceal_base.specs.Trace.{Trace, Nothing, Stepped, Allocated, Wrote, WasRead}
 use Rattle.ceal_base.specs.declared.forest.UnitId.{UnitId}
 use Rattle.ceal_base.specs.declared.word.Place.{Place}
 use Rattle.ceal_base.specs.declared.word.Word.{Word}
@@ -24,19 +24,19 @@ part-rises (Part.kept e g f) = omega (arith, part-rises g, part-rises f)
 part-rises (Part.stale n a f) = omega (arith, anew-rises a, part-rises f)
 
 module _ (code : Code) (names : ℕ → ℕ) where
-  abbrev Is_part : ℕ → State → Trace → Cut → Type 0
-  Is_part k s l c = Part code names k s l c.left c.state c.items
+  abbrev IsPart : ℕ → State → Trace → Cut → Type 0
+  IsPart k s l c = Part code names k s l c.left c.state c.items
 
   with-cut : (f : Trace → Trace) (k : ℕ) (s : State) (l : Trace) (o : Option Cut) (c : Cut)
-      → ((a : Cut) → o ≡ Some a → Is_part k s l (record a { items = f a.items })) → cut_with f o ≡ Some c → Is_part k s l c
+      → ((a : Cut) → o ≡ Some a → IsPart k s l (record a { items = f a.items })) → cut_with f o ≡ Some c → IsPart k s l c
   with-cut f k s l None c h e = none-some c e
-  with-cut f k s l (Some a) c h e = subst (λ c. Is_part k s l c) (some-same (record a { items = f a.items }) c e) (h a refl)
+  with-cut f k s l (Some a) c h e = subst (λ c. IsPart k s l c) (some-same (record a { items = f a.items }) c e) (h a refl)
 
   module _ (again : Runner) (sound : Sound_runner code names again) where
     -- what a read's items become
     abbrev Mends : ℕ → State → Place → UnitId → ℕ → List Word → Word → Trace → Cut → Type 0
     Mends k s p u v args value inside c = (rest rest' : Trace) (j : ℕ) (s' : State) → Part code names c.left c.state rest j s' rest'
-        → Part code names (suc k) s (Was_read p value u v args inside rest) j s' (Was_read p (s.store p) u v args c.items rest')
+        → Part code names (suc k) s (WasRead p value u v args inside rest) j s' (WasRead p (s.store p) u v args c.items rest')
 
     off-sound : (k : ℕ) (s : State) (p : Place) (u : UnitId) (v : ℕ) (args : List Word) (value : Word) (inside : Trace) (o : Option Ran) (c : Cut)
         → same_word (s.store p) value ≡ false
@@ -49,7 +49,7 @@ module _ (code : Code) (names : ℕ → ℕ) where
 
     if-sound : (k : ℕ) (s : State) (p : Place) (u : UnitId) (v : ℕ) (args : List Word) (value : Word) (inside : Trace) (walked : Option Cut) (b : Bool) (c : Cut)
         → same_word (s.store p) value ≡ b
-        → ((a : Cut) → walked ≡ Some a → Is_part (suc k) s inside a)
+        → ((a : Cut) → walked ≡ Some a → IsPart (suc k) s inside a)
         → cut_if code again k s p u v args inside walked b ≡ Some c → Mends k s p u v args value inside c
     if-sound k s p u v args value inside walked true c n h e = λ rest rest' j s' q. Part.kept (word-same (s.store p) value n) (h c e) q
     if-sound k s p u v args value inside walked false c n h e =
@@ -57,23 +57,23 @@ module _ (code : Code) (names : ℕ → ℕ) where
 
     then-cut : (k : ℕ) (s : State) (p : Place) (u : UnitId) (v : ℕ) (args : List Word) (value : Word) (inside rest : Trace) (o : Option Cut) (c : Cut)
         → ((a : Cut) → o ≡ Some a → Mends k s p u v args value inside a)
-        → ((a b : Cut) → part_by code again a.left a.state rest ≡ Some b → Is_part a.left a.state rest b)
-        → and_cut o (λ a. cut_with (Was_read p (s.store p) u v args a.items) (part_by code again a.left a.state rest)) ≡ Some c
-        → Is_part (suc k) s (Was_read p value u v args inside rest) c
+        → ((a b : Cut) → part_by code again a.left a.state rest ≡ Some b → IsPart a.left a.state rest b)
+        → and_cut o (λ a. cut_with (WasRead p (s.store p) u v args a.items) (part_by code again a.left a.state rest)) ≡ Some c
+        → IsPart (suc k) s (WasRead p value u v args inside rest) c
     then-cut k s p u v args value inside rest None c f g e = none-some c e
     then-cut k s p u v args value inside rest (Some a) c f g e =
-        with-cut (Was_read p (s.store p) u v args a.items) (suc k) s (Was_read p value u v args inside rest) (part_by code again a.left a.state rest) c
+        with-cut (WasRead p (s.store p) u v args a.items) (suc k) s (WasRead p value u v args inside rest) (part_by code again a.left a.state rest) c
         (λ b h. f a refl rest b.items b.left b.state (g a b h)) e
 
-    pub part-sound : (k : ℕ) (s : State) (l : Trace) (c : Cut) → part_by code again k s l ≡ Some c → Is_part k s l c
-    part-sound zero s l c e = subst (λ c. Is_part zero s l c) (some-same (record { left = zero; state = s; items = l }) c e) Part.stays
-    part-sound (suc k) s Nothing c e = subst (λ c. Is_part (suc k) s Nothing c) (some-same (record { left = suc k; state = s; items = Nothing }) c e) Part.end
+    pub part-sound : (k : ℕ) (s : State) (l : Trace) (c : Cut) → part_by code again k s l ≡ Some c → IsPart k s l c
+    part-sound zero s l c e = subst (λ c. IsPart zero s l c) (some-same (record { left = zero; state = s; items = l }) c e) Part.stays
+    part-sound (suc k) s Nothing c e = subst (λ c. IsPart (suc k) s Nothing c) (some-same (record { left = suc k; state = s; items = Nothing }) c e) Part.end
     part-sound (suc k) s (Stepped rest) c e = with-cut Stepped (suc k) s (Stepped rest) (part_by code again (suc k) s rest) c (λ a h. Part.step (part-sound (suc k) s rest a h)) e
     part-sound (suc k) s (Allocated b key rest) c e =
         with-cut (Allocated b key) (suc k) s (Allocated b key rest) (part_by code again (suc k) (clears code s b key) rest) c (λ a h. Part.alloc (part-sound (suc k) (clears code s b key) rest a h)) e
     part-sound (suc k) s (Wrote p value rest) c e =
         with-cut (Wrote p value) (suc k) s (Wrote p value rest) (part_by code again (suc k) (puts s p value) rest) c (λ a h. Part.write (part-sound (suc k) (puts s p value) rest a h)) e
-    part-sound (suc k) s (Was_read p value u v args inside rest) c e =
+    part-sound (suc k) s (WasRead p value u v args inside rest) c e =
         then-cut k s p u v args value inside rest (cut_if code again k s p u v args inside (part_by code again (suc k) s inside) (same_word (s.store p) value)) c
         (λ a h. if-sound k s p u v args value inside (part_by code again (suc k) s inside) (same_word (s.store p) value) a refl (part-sound (suc k) s inside) h)
         (λ a b h. part-sound a.left a.state rest b h) e

@@ -11,13 +11,13 @@ use Rattle.ceal_base.specs.declared.word.BlockId.TheVariants.{Core}
 use Rattle.ceal_base.specs.declared.word.Word.{Word}
 use Rattle.ceal_code.proofs.Replayed.{trace-law}
 use Rattle.ceal_code.specs.Fitting.{Fits}
-use Rattle.ceal_code.specs.Known.{Known_stack}
+use Rattle.ceal_code.specs.Known.{KnownStack}
 use Rattle.ceal_code.specs.Program.{Code}
-use Rattle.ceal_code.specs.Replay.{Known_word, stored, IsHonest}
+use Rattle.ceal_code.specs.Replay.{KnownWord, stored, IsHonest}
 use Rattle.ceal_theory.proofs.Walk.{agrees-honest, flat-honest, walk-fix}
 use Rattle.ceal_theory.specs.Repair.{State, resumed}
 use Rattle.ceal_theory.specs.Turns.{Finishes}
-use Rattle.ceal_theory.proofs.Turns.{Ran_flat, finishes-anew}
+use Rattle.ceal_theory.proofs.Turns.{RanFlat, finishes-anew}
 use Rattle.ceal_theory.proofs.DistinctBlocks.{named-same, named-one, named-later}
 use Rattle.ceal_theory.proofs.Bases.{to-bases, from-bases}
 use Rattle.ceal_theory.proofs.Begun.{adjusts-slices, slices-adjusts, begun-adjusted}
@@ -25,7 +25,7 @@ use Rattle.ceal_theory.proofs.SliceFunction.{sliced-sound, sliced-found}
 use Rattle.ceal_theory.proofs.Cover.{cover, covered-behind, covered-change, covered-front, none-waits, honest-front, first-pop}
 use Rattle.ceal_theory.proofs.Walk.{flat-honest, agrees-front}
 use Rattle.ceal_theory.proofs.NodeChanges.{stored-other}
-use Rattle.ceal_theory.proofs.OneTurn.{honest-part, at-flat, at-store, at-honest, at-run, at-must, Located, Ahead, locate, Same_first, one-first, alone, anew-finishes}
+use Rattle.ceal_theory.proofs.OneTurn.{honest-part, at-flat, at-store, at-honest, at-run, at-must, Located, Ahead, locate, SameFirst, one-first, alone, anew-finishes}
 use Rattle.ceal_theory.proofs.Ready.{sound-ready}
 use Rattle.ceal_code.proofs.Same.{some-same, none-some}
 use Rattle.ceal_theory.proofs.Split.{runs-after}
@@ -38,17 +38,17 @@ use Rattle.ceal_theory.proofs.Done.{any-start-honest, replays-words, done-replay
 use Rattle.ceal_theory.proofs.Follow.{done-stays, follow, from-start}
 use Rattle.ceal_theory.proofs.Sound.{low, at-core, begin-sound, sound-more, grown, part-sound}
 use Rattle.ceal_theory.proofs.Adds.{part-adds, part-uses}
-use Rattle.ceal_theory.proofs.Parts.{As_part, part-fix, fix-part}
+use Rattle.ceal_theory.proofs.Parts.{AsPart, part-fix, fix-part}
 use Rattle.ceal_theory.proofs.RenamedSlice.{slice-renamed, done-too}
-use Rattle.ceal_theory.specs.SliceLaws.{Start_law, Other_names_law, Begin_law, More_law, Sliced, Slice_law, Done_law, Whole_law, Stays_law, Begun_law, Begun_adjusted_law, Is_named, Renamed_slice_law, and_more, Follow_law, Slices_law, Is_done_law, Bases_law, unit_alone, First_stale, Turn_law, Known_there, Ready_law, Turns, Turns_law, History, Held_up, History_law, Renamed_sound_law, Keep_law, Split_law, Turned_over, Turns_over_law}
-use Rattle.ceal_theory.specs.Cover.{before, items_of, waits_after, Cover_law, Replace_law, known_after, Waiting, none_waits, closed, opened, Change_law, Pop_law, First_queued_law, Front_law}
-use Rattle.ceal_theory.specs.Walk.{store_after, Agrees_all, with_store}
+use Rattle.ceal_theory.specs.SliceLaws.{StartLaw, OtherNamesLaw, BeginLaw, MoreLaw, Sliced, SliceLaw, DoneLaw, WholeLaw, StaysLaw, BegunLaw, BegunAdjustedLaw, IsNamed, RenamedSliceLaw, and_more, FollowLaw, SlicesLaw, IsDoneLaw, BasesLaw, unit_alone, FirstStale, TurnLaw, KnownThere, ReadyLaw, Turns, TurnsLaw, History, HeldUp, HistoryLaw, RenamedSoundLaw, KeepLaw, SplitLaw, TurnedOver, TurnsOverLaw}
+use Rattle.ceal_theory.specs.Cover.{before, items_of, waits_after, CoverLaw, ReplaceLaw, known_after, Waiting, none_waits, closed, opened, ChangeLaw, PopLaw, FirstQueuedLaw, FrontLaw}
+use Rattle.ceal_theory.specs.Walk.{store_after, AgreesAll, with_store}
 use Rattle.ceal_theory.specs.Slices.{Repair, with_inputs, starting, goes_on, Part, Runs, repair_at, Slices, sliced, Sound, Follows}
 
-pub begin-law : Begin_law
+pub begin-law : BeginLaw
 begin-law code names old new f args l above number e single apart = begin-sound code names old new f args l above number e single apart
 
-pub more-law : More_law
+pub more-law : MoreLaw
 more-law code names old new f args fits fit more r h = sound-more code old new f args fits fit more r h
 
 module _ {names : ℕ → ℕ} (code : Code) (inputs : List Block) (f : ℕ) (args : List Word) (fits : Fits code inputs f args) (r : Repair) (h : Sound code names inputs f args r) where
@@ -66,18 +66,18 @@ module _ {names : ℕ → ℕ} (code : Code) (inputs : List Block) (f : ℕ) (ar
         room = a.work;
       }
     where
-      known : (b : ℕ) (block : Block) → (with_inputs code inputs r.known (Core b) ≡ Some block) ⊎ Is_named names r.number s'.number b → (r.known (Core b) ≡ Some block) ⊎ Is_named names r.number s'.number b
+      known : (b : ℕ) (block : Block) → (with_inputs code inputs r.known (Core b) ≡ Some block) ⊎ IsNamed names r.number s'.number b → (r.known (Core b) ≡ Some block) ⊎ IsNamed names r.number s'.number b
       known b block (inl e) = inl (sym (at-core code inputs r.known b) ∙ e)
       known b block (inr e) = inr e
 
   runs-sliced : (k : Option ℕ) (s' : State) (m : Trace) → Runs code names k (goes_on code inputs r) r.items s' m → Sliced code names inputs f args r (repair_at s' m)
-  runs-sliced k s' m (Runs.whole g) = let q : As_part code names (goes_on code inputs r) r.items s' m 0 = fix-part g 0 in part-sliced (suc q.reads) 1 s' m q.part
+  runs-sliced k s' m (Runs.whole g) = let q : AsPart code names (goes_on code inputs r) r.items s' m 0 = fix-part g 0 in part-sliced (suc q.reads) 1 s' m q.part
   runs-sliced k s' m (Runs.part {k = n} {j = j} p) = part-sliced n j s' m p
 
-pub slice-law : Slice_law
+pub slice-law : SliceLaw
 slice-law code names inputs f args fits r h k r' s = subst (Sliced code names inputs f args r) (sym s.is) (runs-sliced code inputs f args fits r h k s.after s.items s.runs)
 
-pub other-names-law : Other_names_law
+pub other-names-law : OtherNamesLaw
 other-names-law code names names' inputs f args r h single number free = record {
   yields = h.yields;
   distinct = h.distinct;
@@ -89,86 +89,86 @@ other-names-law code names names' inputs f args r h single number free = record 
   free = free;
 }
 
-pub done-law : Done_law
+pub done-law : DoneLaw
 done-law code names inputs f args fits r h k =
     let p = done-replays code inputs f args fits r h k in record { replays = p; run = trace-law code inputs f args fits r.items p k }
 
-pub start-law : Start_law
+pub start-law : StartLaw
 start-law code names inputs f args fits r s = (
   λ h. flat-honest code (from-start code inputs f args fits r s h).walk,
   λ a. any-start-honest code inputs f args fits r s r.known (store_after code (starting code inputs r.known) (flat r.items)) (agrees-honest code (starting code inputs r.known) r.items a),
 )
 
-pub whole-law : Whole_law
+pub whole-law : WholeLaw
 whole-law code names inputs f args fits r h r' s = whole-done code inputs f args fits r h r' s
 
-pub stays-law : Stays_law
+pub stays-law : StaysLaw
 stays-law code names inputs f args fits r h k o r' s = done-stays code inputs f args fits r h k o r' s
 
-pub begun-law : Begun_law
+pub begun-law : BegunLaw
 begun-law code names old new f args l above number e single apart =
     (adjusts-slices code names old new f args l above number e single apart, slices-adjusts code names old new f args l above number e single apart)
 
-pub begun-adjusted-law : Begun_adjusted_law
+pub begun-adjusted-law : BegunAdjustedLaw
 begun-adjusted-law code old new f args l number e n = begun-adjusted code old new f args l number e n
 
-pub renamed-slice-law : Renamed_slice_law
+pub renamed-slice-law : RenamedSliceLaw
 renamed-slice-law code names names' single single' inputs fit ps r q h = (λ k n. slice-renamed code inputs fit names names' single single' ps r q h k n, done-too code inputs fit ps r q h)
 
-pub follow-law : Follow_law
+pub follow-law : FollowLaw
 follow-law code names inputs f args fits r h k r' s o z s' = go o (follow code inputs f args fits r h k r' s o z s')
   where
     go : (o : Option ℕ) → Follows code names inputs k r o z → Slices code names inputs (and_more k o) r z
     go None (Follows.whole q) = q
     go (Some j) (Follows.part q) = q
 
-pub slices-law : Slices_law
+pub slices-law : SlicesLaw
 slices-law code names inputs k n r r' = (sliced-sound code names inputs n r k r', λ h. sliced-found code names inputs n r k r' h.0 h.1)
 
-pub is-done-law : Is_done_law
+pub is-done-law : IsDoneLaw
 is-done-law code inputs r = (done-honest code inputs r, honest-done code inputs r)
 
-pub bases-law : Bases_law
+pub bases-law : BasesLaw
 bases-law code names inputs f args fits r h k r' = (to-bases code inputs f args fits r h k r', from-bases code inputs f args fits r h k r')
 
 other-place : (w : Waiting) (p : Place) (wait : Bool) (r : Place) → same_place r p ≡ false → w r ≡ true → opened (closed w p) p wait r ≡ true
 unfolding opened closed
 other-place w p wait r e i = rw e i
 
-pub change-law : Change_law
+pub change-law : ChangeLaw
 change-law code q s p value l = (
   λ c. covered-change code p q l s (stored s p value) none_waits none_waits (λ r e. (stored-other s p value r e, λ i. i)) c,
   λ w wait c. covered-change code p q l s s w (opened (closed w p) p wait) (λ r e. (refl, λ i. other-place w p wait r e i)) c,
 )
 
-pub pop-law : Pop_law
+pub pop-law : PopLaw
 pop-law code q s front n p value u v args l m a c e = first-pop code q s front n p value u v args l m a c e
 
-pub first-queued-law : First_queued_law
+pub first-queued-law : FirstQueuedLaw
 first-queued-law code q s front l m c = covered-front code q front l m s none_waits (none-waits code) c
 
-pub front-law : Front_law
+pub front-law : FrontLaw
 front-law code q s front l h c = honest-front code q front l s none_waits h c
 
 -- what a turn at a read comes to
-pub record Turned_at (code : Code) (names : ℕ → ℕ) (inputs : List Block) (r : Repair) (inside : Trace) (back front : List Item) (p : Place) (u : UnitId) (v : ℕ) (args : List Word) : Type 0 where
+pub record TurnedAt (code : Code) (names : ℕ → ℕ) (inputs : List Block) (r : Repair) (inside : Trace) (back front : List Item) (p : Place) (u : UnitId) (v : ℕ) (args : List Word) : Type 0 where
   pub slice : (t : State) (out : List Item) → Finishes code names (unit_alone code inputs r front p u v args inside) t out
       → (m : Trace) × Slices code names inputs (Some 1) r (repair_at t m) × (flat m ≡ front ++ Read p (store_after code (starting code inputs r.known) front p) u v args ∷ (out ++ End ∷ back))
   pub over : (n : ℕ) → ((t : State) (out : List Item) → Finishes code names (unit_alone code inputs r front p u v args inside) t out → n < t.work)
       → (k : Option ℕ) → ¬ (k ≡ Some zero) → sliced code names inputs k n r ≡ None
 
 moved : (code : Code) (names : ℕ → ℕ) (inputs : List Block) (r : Repair) (inside : Trace) (back : List Item) (f0 f : List Item) (p0 p : Place) (u0 u : UnitId) (v0 v : ℕ) (args0 args : List Word)
-    → f0 ≡ f → p0 ≡ p → u0 ≡ u → v0 ≡ v → args0 ≡ args → Turned_at code names inputs r inside back f0 p0 u0 v0 args0 → Turned_at code names inputs r inside back f p u v args
+    → f0 ≡ f → p0 ≡ p → u0 ≡ u → v0 ≡ v → args0 ≡ args → TurnedAt code names inputs r inside back f0 p0 u0 v0 args0 → TurnedAt code names inputs r inside back f p u v args
 moved code names inputs r inside back f0 f p0 p u0 u v0 v args0 args e0 e1 e2 e3 e4 h =
-    subst (λ z. Turned_at code names inputs r inside back f p u v z) e4 (subst (λ z. Turned_at code names inputs r inside back f p u z args0) e3
-    (subst (λ z. Turned_at code names inputs r inside back f p z v0 args0) e2 (subst (λ z. Turned_at code names inputs r inside back f z u0 v0 args0) e1 (subst (λ z. Turned_at code names inputs r inside back z p0 u0 v0 args0) e0 h))))
+    subst (λ z. TurnedAt code names inputs r inside back f p u v z) e4 (subst (λ z. TurnedAt code names inputs r inside back f p u z args0) e3
+    (subst (λ z. TurnedAt code names inputs r inside back f p z v0 args0) e2 (subst (λ z. TurnedAt code names inputs r inside back f z u0 v0 args0) e1 (subst (λ z. TurnedAt code names inputs r inside back z p0 u0 v0 args0) e0 h))))
 
 runs-part : (code : Code) (names : ℕ → ℕ) (s : State) (l : Trace) (k : Option ℕ) (t : State) (m : Trace) → Runs code names k s l t m → ¬ (k ≡ Some zero) → (j i : ℕ) × Part code names (suc j) s l i t m
-runs-part code names s l None t m (Runs.whole g) h = let q : As_part code names s l t m 0 = fix-part g 0 in (q.reads, 1, q.part)
+runs-part code names s l None t m (Runs.whole g) h = let q : AsPart code names s l t m 0 = fix-part g 0 in (q.reads, 1, q.part)
 runs-part code names s l (Some zero) t m (Runs.part p) h = absurd (h refl)
 runs-part code names s l (Some (suc j)) t m (Runs.part {j = i} p) h = (j, i, p)
 
-turned : (code : Code) (names : ℕ → ℕ) (inputs : List Block) (r : Repair) (q : Located code (starting code inputs r.known) r.items) → Turned_at code names inputs r q.inside q.back q.front q.place q.unit q.var q.args
+turned : (code : Code) (names : ℕ → ℕ) (inputs : List Block) (r : Repair) (q : Located code (starting code inputs r.known) r.items) → TurnedAt code names inputs r q.inside q.back q.front q.place q.unit q.var q.args
 turned code names inputs r q = record {
   slice = λ t out h. sliced-one t out (finishes-anew code names (with_store (goes_on code inputs r) q.store) (resumed code q.unit q.var q.args (q.store q.place)) q.inside t out (to-store t out h));
   over = λ n h k z. none-over n h k z (sliced code names inputs k n r) refl;
@@ -181,7 +181,7 @@ turned code names inputs r q = record {
         → Finishes code names (alone code names (with_store (goes_on code inputs r) q.store) (resumed code q.unit q.var q.args (q.store q.place)) q.inside) t out
     to-store t out h = subst (λ z. Finishes code names (alone code names (with_store (goes_on code inputs r) z) (resumed code q.unit q.var q.args (z q.place)) q.inside) t out) (sym w) h
 
-    sliced-one : (t : State) (out : List Item) → Ran_flat code names (with_store (goes_on code inputs r) q.store) (resumed code q.unit q.var q.args (q.store q.place)) q.inside t out
+    sliced-one : (t : State) (out : List Item) → RanFlat code names (with_store (goes_on code inputs r) q.store) (resumed code q.unit q.var q.args (q.store q.place)) q.inside t out
         → (m : Trace) × Slices code names inputs (Some 1) r (repair_at t m) × (flat m ≡ q.front ++ Read q.place (store_after code (starting code inputs r.known) q.front q.place) q.unit q.var q.args ∷ (out ++ End ∷ q.back))
     sliced-one t out x =
         let y = at-run code names (goes_on code inputs r) q.at-it q.stale x.anew in (
@@ -203,13 +203,13 @@ turned code names inputs r q = record {
         absurd (omega (arith, h m.state (flat m.new ++ []) f, m.work, subst (λ a. a.spent ≤ n) s.0.is s.1))
 
 -- the turn at the located read, which is the one that was found
-pub turn-law : Turn_law
+pub turn-law : TurnLaw
 turn-law code names inputs r front p value u v args after e h n = found (locate code r.items (starting code inputs r.known))
   where
-    read-honest : Agrees_all code (starting code inputs r.known) (front ++ Read p value u v args ∷ after) → store_after code (starting code inputs r.known) front p ≡ value
+    read-honest : AgreesAll code (starting code inputs r.known) (front ++ Read p value u v args ∷ after) → store_after code (starting code inputs r.known) front p ≡ value
     read-honest k = (agrees-front code (starting code inputs r.known) front (Read p value u v args ∷ after) k).1.0
 
-    finish : (q : Located code (starting code inputs r.known) r.items) → after ≡ flat q.inside ++ End ∷ q.back → Turned_at code names inputs r q.inside q.back front p u v args → First_stale code names inputs r front p u v args after
+    finish : (q : Located code (starting code inputs r.known) r.items) → after ≡ flat q.inside ++ End ∷ q.back → TurnedAt code names inputs r q.inside q.back front p u v args → FirstStale code names inputs r front p u v args after
     finish q i x = record {
       inside = q.inside;
       back = q.back;
@@ -224,16 +224,16 @@ turn-law code names inputs r front p value u v args after e h n = found (locate 
         some-is : {A : Type 0} (k : ℕ) → Some (suc k) ≡ Some zero → A
         some-is k z = absurd (omega (arith, Rattle.ceal_code.proofs.Same.some-same (suc k) zero z))
 
-    at : (q : Located code (starting code inputs r.known) r.items) → Same_first code q.front front q.place p q.value value q.unit u q.var v q.args args (flat q.inside ++ End ∷ q.back) after → First_stale code names inputs r front p u v args after
+    at : (q : Located code (starting code inputs r.known) r.items) → SameFirst code q.front front q.place p q.value value q.unit u q.var v q.args args (flat q.inside ++ End ∷ q.back) after → FirstStale code names inputs r front p u v args after
     at q o = finish q (sym o.afters) (moved code names inputs r q.inside q.back q.front front q.place p q.unit u q.var v q.args args o.fronts o.places o.units o.vars o.words (turned code names inputs r q))
 
-    found : Ahead code (starting code inputs r.known) r.items → First_stale code names inputs r front p u v args after
-    found (Ahead.honest k) = absurd (n (read-honest (subst (λ is. Agrees_all code (starting code inputs r.known) is) e (flat-honest code k))))
+    found : Ahead code (starting code inputs r.known) r.items → FirstStale code names inputs r front p u v args after
+    found (Ahead.honest k) = absurd (n (read-honest (subst (λ is. AgreesAll code (starting code inputs r.known) is) e (flat-honest code k))))
     found (Ahead.stale q) = at q (one-first code (starting code inputs r.known) q.front front (flat q.inside ++ End ∷ q.back) after q.place p q.value value q.unit u q.var v q.args args (sym (at-flat code q.at-it) ∙ e)
         (at-honest code q.at-it) (subst (λ z. ¬ (z q.place ≡ q.value)) (at-store code q.at-it) q.stale) h n)
 
 known-there : {names : ℕ → ℕ} (code : Code) (inputs : List Block) (f : ℕ) (ws : List Word) → Fits code inputs f ws → (r : Repair) → Sound code names inputs f ws r → (q : Located code (starting code inputs r.known) r.items)
-    → Known_there code inputs r q.front q.place q.value q.unit q.var q.args (flat q.inside ++ End ∷ q.back)
+    → KnownThere code inputs r q.front q.place q.value q.unit q.var q.args (flat q.inside ++ End ∷ q.back)
 known-there code inputs f ws fits r h q =
     let x = sound-ready code inputs f ws fits r h q.at-it in
     let w = at-store code q.at-it in
@@ -242,25 +242,25 @@ known-there code inputs f ws fits r h q =
       back = q.back;
       items = refl;
       holds = x.good.plain;
-      store = λ p. subst (λ z. Known_word (length inputs) (known_after [] q.front) (z p)) w (x.good.store p);
+      store = λ p. subst (λ z. KnownWord (length inputs) (known_after [] q.front) (z p)) w (x.good.store p);
       place = x.place;
       words = x.words;
-      stack = subst (λ z. Known_stack (length inputs) (known_after [] q.front) (resumed code q.unit q.var q.args (z q.place))) w x.stack;
+      stack = subst (λ z. KnownStack (length inputs) (known_after [] q.front) (resumed code q.unit q.var q.args (z q.place))) w x.stack;
       yields = x.yields;
     }
 
 moved-there : (code : Code) (inputs : List Block) (r : Repair) (f0 f : List Item) (p0 p : Place) (value0 value : Word) (u0 u : UnitId) (v0 v : ℕ) (args0 args : List Word) (a0 a : List Item)
-    → Same_first code f0 f p0 p value0 value u0 u v0 v args0 args a0 a → Known_there code inputs r f0 p0 value0 u0 v0 args0 a0 → Known_there code inputs r f p value u v args a
+    → SameFirst code f0 f p0 p value0 value u0 u v0 v args0 args a0 a → KnownThere code inputs r f0 p0 value0 u0 v0 args0 a0 → KnownThere code inputs r f p value u v args a
 moved-there code inputs r f0 f p0 p value0 value u0 u v0 v args0 args a0 a o h =
-    subst (λ z. Known_there code inputs r f p value u v args z) o.afters (subst (λ z. Known_there code inputs r f p value u v z a0) o.words (subst (λ z. Known_there code inputs r f p value u z args0 a0) o.vars
-    (subst (λ z. Known_there code inputs r f p value z v0 args0 a0) o.units (subst (λ z. Known_there code inputs r f p z u0 v0 args0 a0) o.values
-    (subst (λ z. Known_there code inputs r f z value0 u0 v0 args0 a0) o.places (subst (λ z. Known_there code inputs r z p0 value0 u0 v0 args0 a0) o.fronts h))))))
+    subst (λ z. KnownThere code inputs r f p value u v args z) o.afters (subst (λ z. KnownThere code inputs r f p value u v z a0) o.words (subst (λ z. KnownThere code inputs r f p value u z args0 a0) o.vars
+    (subst (λ z. KnownThere code inputs r f p value z v0 args0 a0) o.units (subst (λ z. KnownThere code inputs r f p z u0 v0 args0 a0) o.values
+    (subst (λ z. KnownThere code inputs r f z value0 u0 v0 args0 a0) o.places (subst (λ z. KnownThere code inputs r z p0 value0 u0 v0 args0 a0) o.fronts h))))))
 
-pub ready-law : Ready_law
+pub ready-law : ReadyLaw
 ready-law code names inputs f ws fits r h front p value u v args after e k n = found (locate code r.items (starting code inputs r.known))
   where
-    found : Ahead code (starting code inputs r.known) r.items → Known_there code inputs r front p value u v args after
-    found (Ahead.honest m) = absurd (n (agrees-front code (starting code inputs r.known) front (Read p value u v args ∷ after) (subst (λ is. Agrees_all code (starting code inputs r.known) is) e (flat-honest code m))).1.0)
+    found : Ahead code (starting code inputs r.known) r.items → KnownThere code inputs r front p value u v args after
+    found (Ahead.honest m) = absurd (n (agrees-front code (starting code inputs r.known) front (Read p value u v args ∷ after) (subst (λ is. AgreesAll code (starting code inputs r.known) is) e (flat-honest code m))).1.0)
     found (Ahead.stale q) = moved-there code inputs r q.front front q.place p q.value value q.unit u q.var v q.args args (flat q.inside ++ End ∷ q.back) after
         (one-first code (starting code inputs r.known) q.front front (flat q.inside ++ End ∷ q.back) after q.place p q.value value q.unit u q.var v q.args args (sym (at-flat code q.at-it) ∙ e)
         (at-honest code q.at-it) (subst (λ z. ¬ (z q.place ≡ q.value)) (at-store code q.at-it) q.stale) k n)
@@ -298,7 +298,7 @@ module _ {names : ℕ → ℕ} (code : Code) (inputs : List Block) (f : ℕ) (ar
   turns-ended r z n h (Turns.turn {n = m} {r' = r'} s t) k (suc j) l =
       follow-some r h r' s (suc j) (repair_at (goes_on code inputs z) z.items) (turns-ended r' z m (slice-law code names inputs f args fits r h (Some 1) r' s).sound t k j (omega (arith, l)))
 
-pub turns-law : Turns_law
+pub turns-law : TurnsLaw
 turns-law code names inputs f args fits r h n z t = record {
   many = λ l. many n t l;
   whole = λ k. turns-whole code inputs f args fits r z n h t k;
@@ -313,7 +313,7 @@ turns-law code names inputs f args fits r h n z t = record {
     ended k zero l = absurd (omega (arith, l))
     ended k (suc j) l = turns-ended code inputs f args fits r z n h t k j (omega (arith, l))
 
-pub renamed-sound-law : Renamed_sound_law
+pub renamed-sound-law : RenamedSoundLaw
 renamed-sound-law code names names' single' inputs f args fits r h ps q a t = sound-renamed code inputs f args fits r h names' single' ps q a t
 
 extended-refl : (code : Code) (inputs : List Block) → Extended code inputs inputs
@@ -328,10 +328,10 @@ history code names f args (History.edited {old = old} {new = new} {r = r} h more
 history code names f args (History.cut {inputs = inputs} {k = k} {r = r} {r' = r'} h s) =
     let i = history code names f args h in (i.0, (slice-law code names inputs f args i.0 r i.1 k r' s).sound)
 
-pub history-law : History_law
+pub history-law : HistoryLaw
 history-law code names f args inputs r h = of (history code names f args h)
   where
-    of : Fits code inputs f args × Sound code names inputs f args r → Held_up code names inputs f args r
+    of : Fits code inputs f args × Sound code names inputs f args r → HeldUp code names inputs f args r
     of k = record {
       call = k.0;
       sound = k.1;
@@ -383,17 +383,17 @@ module _ {names : ℕ → ℕ} (code : Code) (inputs : List Block) (f : ℕ) (ar
           let w = sliced-sound code names inputs n r (and_more k o) a i in
           none-some a (sym e ∙ sliced-found code names inputs n r' o a (split-slices k r' s o z a w.0) w.1)
 
-pub split-law : Split_law
+pub split-law : SplitLaw
 split-law code names inputs f args fits r h k r' s o z = record { later = split-slices code inputs f args fits r h k r' s o z; over = split-over code inputs f args fits r h k r' s o z }
 
-turns-over : (code : Code) (names : ℕ → ℕ) (inputs : List Block) (f : ℕ) (args : List Word) → Fits code inputs f args → (r z : Repair) (n : ℕ) → Sound code names inputs f args r → Turns code names inputs n r z → Turned_over code names inputs n r z
+turns-over : (code : Code) (names : ℕ → ℕ) (inputs : List Block) (f : ℕ) (args : List Word) → Fits code inputs f args → (r z : Repair) (n : ℕ) → Sound code names inputs f args r → Turns code names inputs n r z → TurnedOver code names inputs n r z
 turns-over code names inputs f args fits r z n h Turns.none = record { whole = λ k e. e; part = λ k j e. e' k j e }
   where
     e' : (k j : ℕ) → sliced code names inputs (Some (suc j)) k r ≡ None → sliced code names inputs (Some (zero + suc j)) k r ≡ None
     e' k j e = subst (λ i. sliced code names inputs (Some i) k r ≡ None) (omega arith) e
 turns-over code names inputs f args fits r z n h (Turns.turn {n = m} {r' = r'} s t) = of (turns-over code names inputs f args fits r' z m (slice-law code names inputs f args fits r h (Some 1) r' s).sound t)
   where
-    of : Turned_over code names inputs m r' z → Turned_over code names inputs (suc m) r z
+    of : TurnedOver code names inputs m r' z → TurnedOver code names inputs (suc m) r z
     of x = record {
       whole = λ k e. split-over code inputs f args fits r h 1 r' s None (λ i. no-none i) k (x.whole k e);
       part = λ k j e. later k j (x.part k j e);
@@ -408,13 +408,13 @@ turns-over code names inputs f args fits r z n h (Turns.turn {n = m} {r' = r'} s
             no-zero : {A : Type 0} → Some (m + suc j) ≡ Some zero → A
             no-zero i = absurd (omega (arith, some-same (m + suc j) zero i))
 
-pub turns-over-law : Turns_over_law
+pub turns-over-law : TurnsOverLaw
 turns-over-law code names inputs f args fits r h n z t = turns-over code names inputs f args fits r z n h t
 
-pub cover-law : Cover_law
+pub cover-law : CoverLaw
 cover-law code q q' l m s s' w h c = cover code q q' l m s s' w h c
 
-pub replace-law : Replace_law
+pub replace-law : ReplaceLaw
 replace-law code q q' s front old new back m c h more loose =
     let k = covered-front code q front (before old back) m s none_waits none_waits' c in
     let b = covered-behind code q old back (store_after code s (items_of front)) none_waits k.1 in
@@ -425,6 +425,6 @@ replace-law code q q' s front old new back m c h more loose =
     none_waits' : (r : Place) → none_waits r ≡ false
     none_waits' = none-waits code
 
-pub keep-law : Keep_law
+pub keep-law : KeepLaw
 keep-law code names inputs f ws fits r h front old fresh behind w p value u v args inside back at t new left a stamp last now all q q' none c more loose =
     turn-kept code inputs f ws fits r h at t new left a front old fresh behind stamp last refl now q q' all none c more loose

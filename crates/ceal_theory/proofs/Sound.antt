@@ -3,7 +3,7 @@ use Rattle.std.proofs.Common.{◌≡◌, ◌==◌, ℕ, zero, suc, ◌+◌, ◌�
 use Rattle.std.proofs.Math.Path.{fun_ext}
 use Rattle.ceal_base.specs.Block.{Block}
 use Rattle.ceal_base.specs.Fitting.{inputs_fit}
-use Rattle.ceal_base.specs.Trace.{Trace, Nothing, Stepped, Allocated, Wrote, Was_read, blocks_of}
+use Rattle.ceal_base.specs.Trace.{Trace, Nothing, Stepped, Allocated, Wrote, WasRead, blocks_of}
 use Rattle.ceal_base.specs.declared.typed.StructInfo.{StructInfo}
 use Rattle.ceal_base.specs.declared.word.BlockId.{BlockId}
 use Rattle.ceal_base.specs.declared.word.BlockId.TheVariants.{Input, Core}
@@ -15,9 +15,9 @@ use Rattle.ceal_code.proofs.Pairs.{one_if}
 use Rattle.ceal_code.proofs.Replayed.{input-after}
 use Rattle.ceal_code.proofs.Same.{none-some}
 use Rattle.ceal_code.specs.Fitting.{Fits}
-use Rattle.ceal_code.specs.Known.{Agree, Holds, Known_stack}
+use Rattle.ceal_code.specs.Known.{Agree, Holds, KnownStack}
 use Rattle.ceal_code.specs.Program.{Code}
-use Rattle.ceal_code.specs.Replay.{Yields, In, Known_word, input_plain, plain_of, bases}
+use Rattle.ceal_code.specs.Replay.{Yields, In, KnownWord, input_plain, plain_of, bases}
 use Rattle.ceal_code.specs.Step.{started}
 use Rattle.ceal_code.specs.Value.{Plain, field_kind}
 use Rattle.ceal_theory.proofs.DistinctBlocks.{one-is, uses, named-one, named-later, times-append}
@@ -28,12 +28,12 @@ use Rattle.ceal_theory.proofs.PlainWords.{words-inputs}
 use Rattle.ceal_theory.proofs.Replays.{cell-known}
 use Rattle.ceal_theory.specs.Adjust.{Extended}
 use Rattle.ceal_theory.specs.Laws.{Edited}
-use Rattle.ceal_theory.specs.SliceLaws.{Is_named}
+use Rattle.ceal_theory.specs.SliceLaws.{IsNamed}
 use Rattle.ceal_theory.specs.Repair.{Single, State}
 use Rattle.ceal_theory.proofs.Uses.{uses-inputs, mentions-uses, uses-yields, uses-pieces}
 use Rattle.ceal_theory.proofs.Adds.{Adds, part-adds, part-distinct}
-use Rattle.ceal_theory.proofs.Parts.{part-grows, Parted, part-plays, As_part, fix-part}
-use Rattle.ceal_theory.specs.Slices.{Names_apart, Repair, with_inputs, default_in, starting_in, starting, goes_on, Part, Runs, repair_at, Slices, Uses, Sound, beginning}
+use Rattle.ceal_theory.proofs.Parts.{part-grows, Parted, part-plays, AsPart, fix-part}
+use Rattle.ceal_theory.specs.Slices.{NamesApart, Repair, with_inputs, default_in, starting_in, starting, goes_on, Part, Runs, repair_at, Slices, Uses, Sound, beginning}
 
 in-this : (n : ℕ) (bs : List ℕ) (b c m : ℕ) → In c bs → 1 ≤ one_if b c + m → (1 ≤ m → In b bs) → In b bs
 in-this n bs b c m i h f = go (one_if b c) refl
@@ -53,23 +53,23 @@ uses-in n bs b (Stepped rest) u h = uses-in n bs b rest u h
 uses-in n bs b (Allocated (Core c) key rest) u h = in-this n bs b c (uses b rest) u.0 h (λ i. uses-in n bs b rest u.2 i)
 uses-in n bs b (Allocated (Input i) key rest) u h = uses-in n bs b rest u.2 h
 uses-in n bs b (Wrote p value rest) u h = uses-in n bs b rest u.2 h
-uses-in n bs b (Was_read p value w v args inside rest) u h =
+uses-in n bs b (WasRead p value w v args inside rest) u h =
     in-either b (uses b inside) (uses b rest) bs (omega (arith, h, times-append b (blocks_of inside) (blocks_of rest)))
     (λ i. uses-in n bs b inside u.3 i) (λ i. uses-in n bs b rest u.4 i)
 
-default-known : (n : ℕ) (bs : List ℕ) (structs : List StructInfo) (o : Option Block) (field : ℕ) → Known_word n bs (default_in structs o field)
+default-known : (n : ℕ) (bs : List ℕ) (structs : List StructInfo) (o : Option Block) (field : ℕ) → KnownWord n bs (default_in structs o field)
 default-known n bs structs None field = tt
 default-known n bs structs (Some block) field = cell-known n bs (field_kind structs block.shape field)
 
-word-known : (n : ℕ) (bs : List ℕ) (w : Word) → Known_word n [] w → Known_word n bs w
+word-known : (n : ℕ) (bs : List ℕ) (w : Word) → KnownWord n [] w → KnownWord n bs w
 word-known n bs w h = Rattle.ceal_code.proofs.Local.word-more n [] bs (λ b i. elim i [ ]) w h
 
 -- the store at the beginning names inputs alone
-pub starting-known : (code : Code) (inputs : List Block) → inputs_fit code.structs inputs ≡ true → (x : Plain) (p : Place) → Known_word (length inputs) [] (starting code inputs x p)
+pub starting-known : (code : Code) (inputs : List Block) → inputs_fit code.structs inputs ≡ true → (x : Plain) (p : Place) → KnownWord (length inputs) [] (starting code inputs x p)
 unfolding starting bases
 starting-known code inputs fit x p = go p.block p.field
   where
-    go : (b : BlockId) (field : ℕ) → Known_word (length inputs) [] (starting_in code inputs x b field)
+    go : (b : BlockId) (field : ℕ) → KnownWord (length inputs) [] (starting_in code inputs x b field)
     go (Input i) field = bases-known code inputs fit (record { block = Input i; field = field })
     go (Core c) field = default-known (length inputs) [] code.structs (x (Core c)) field
 
@@ -90,7 +90,7 @@ with-same code inputs x h = fun_ext go
     go (Core c) = at-core code inputs x c
 
 module _ {names : ℕ → ℕ} (code : Code) (inputs : List Block) (f : ℕ) (args : List Word) (fits : Fits code inputs f args) (r : Repair) (h : Sound code names inputs f args r) where
-  pub start-known : (bs : List ℕ) → Known_stack (length inputs) bs (started code f args)
+  pub start-known : (bs : List ℕ) → KnownStack (length inputs) bs (started code f args)
   start-known bs = stack-more (length inputs) [] bs (λ b i. elim i [ ]) (started code f args) (started-known (length inputs) [] code f args (args-known code inputs f args fits))
 
   pub good : Good names (length inputs) h.blocks (goes_on code inputs r)
@@ -100,7 +100,7 @@ module _ {names : ℕ → ℕ} (code : Code) (inputs : List Block) (f : ℕ) (ar
     free = λ k e. at-core code inputs r.known (names k) ∙ h.free k e;
   }
 
-  pub low : Names_apart names r.number r.items
+  pub low : NamesApart names r.number r.items
   low n e = go (uses (names n) r.items) refl
     where
       go : (k : ℕ) → uses (names n) r.items ≡ k → uses (names n) r.items ≡ 0
@@ -134,7 +134,7 @@ module _ {names : ℕ → ℕ} (code : Code) (inputs : List Block) (f : ℕ) (ar
         made' k i j = uses-in (length inputs) parted.known (names k) m parted.uses
             (omega (arith, adds.items (names k), named-one names h.single s'.number k j, named-later names h.single r.number k i))
 
-        go : (with_inputs code inputs r.known (Core b) ≡ Some block) ⊎ Is_named names r.number s'.number b → In b parted.known
+        go : (with_inputs code inputs r.known (Core b) ≡ Some block) ⊎ IsNamed names r.number s'.number b → In b parted.known
         go (inl i) = parted.sub b (h.all b block (sym (at-core code inputs r.known b) ∙ i))
         go (inr i) = subst (λ z. In z parted.known) (sym i.3) (made' i.0 i.1 i.2)
 
@@ -152,7 +152,7 @@ module _ {names : ℕ → ℕ} (code : Code) (inputs : List Block) (f : ℕ) (ar
     }
 
   pub runs-sound : (k : Option ℕ) (s' : State) (m : Trace) → Runs code names k (goes_on code inputs r) r.items s' m → Sound code names inputs f args (repair_at s' m)
-  runs-sound k s' m (Runs.whole g) = let q : As_part code names (goes_on code inputs r) r.items s' m 0 = fix-part g 0 in part-sound (suc q.reads) 1 s' m q.part
+  runs-sound k s' m (Runs.whole g) = let q : AsPart code names (goes_on code inputs r) r.items s' m 0 = fix-part g 0 in part-sound (suc q.reads) 1 s' m q.part
   runs-sound k s' m (Runs.part {k = n} {j = j} p) = part-sound n j s' m p
 
   pub slice-sound : (k : Option ℕ) (r' : Repair) → Slices code names inputs k r r' → Sound code names inputs f args r'
@@ -160,7 +160,7 @@ module _ {names : ℕ → ℕ} (code : Code) (inputs : List Block) (f : ℕ) (ar
 
 -- a repair that begins from a replay holds, whatever the bases
 pub begin-sound : (code : Code) (names : ℕ → ℕ) (old new : List Block) (f : ℕ) (args : List Word) (l : Trace) (above number : ℕ) → Edited code old new f args l above
-    → Single names → Names_apart names number l → Sound code names new f args (beginning code new l number)
+    → Single names → NamesApart names number l → Sound code names new f args (beginning code new l number)
 unfolding plain_of
 begin-sound code names old new f args l above number e single apart =
     let y = yields-new code old new f args e.call e.fit e.extended l e.trace in

@@ -1,14 +1,14 @@
 -- A slice is what its first part comes to and then a further slice: the other way round of one slice following another.
 use Rattle.std.proofs.Common.{◌≡◌, ℕ, zero, suc, ◌+◌, Option, Some, None, List, refl, sym, ap, ◌∙◌, subst, arith}
 use Rattle.ceal_base.specs.Block.{Block}
-use Rattle.ceal_base.specs.Trace.{Trace, Was_read}
+use Rattle.ceal_base.specs.Trace.{Trace, WasRead}
 use Rattle.ceal_base.specs.declared.forest.UnitId.{UnitId}
 use Rattle.ceal_base.specs.declared.word.Place.{Place}
 use Rattle.ceal_base.specs.declared.word.Word.{Word}
 use Rattle.ceal_code.proofs.Same.{some-same, none-some}
 use Rattle.ceal_code.specs.Fitting.{Fits}
 use Rattle.ceal_code.specs.Program.{Code}
-use Rattle.ceal_code.specs.Replay.{Store, IsHonest}
+use Rattle.ceal_code.specs.Replay.{Store}
 use Rattle.ceal_code.specs.Step.{Stack}
 use Rattle.ceal_theory.proofs.Functions.{anew-found}
 use Rattle.ceal_theory.proofs.Honesty.{anew-honest}
@@ -19,19 +19,19 @@ use Rattle.ceal_theory.proofs.SliceFunction.{part-found}
 use Rattle.ceal_theory.proofs.Follow.{to-later}
 use Rattle.ceal_theory.proofs.Sound.{grown, same-plain}
 use Rattle.ceal_theory.proofs.Join.{part-plus, part-honest}
-use Rattle.ceal_theory.proofs.Parts.{beyond, beyond-sum, part-fix, As_part, fix-part}
+use Rattle.ceal_theory.proofs.Parts.{beyond, beyond-sum, part-fix, AsPart, fix-part}
 use Rattle.ceal_theory.proofs.OneTurn.{honest-part}
 use Rattle.ceal_theory.specs.SliceLaws.{and_more}
 use Rattle.ceal_theory.specs.Slices.{Repair, goes_on, starting, Cut, Part, Runs, repair_at, Slices, Sound}
 
 module _ (code : Code) (names : ℕ → ℕ) where
-  pub record Same_run (t t' : State) (m m' left left' : Trace) : Type 0 where
+  pub record SameRun (t t' : State) (m m' left left' : Trace) : Type 0 where
     pub states : t ≡ t'
     pub items : m ≡ m'
     pub lefts : left ≡ left'
 
   -- a unit that is run anew comes to one end
-  pub anew-one : {s t t' : State} {st : Stack} {old m m' left left' : Trace} → Anew code names s st old t m left → Anew code names s st old t' m' left' → Same_run t t' m m' left left'
+  pub anew-one : {s t t' : State} {st : Stack} {old m m' left left' : Trace} → Anew code names s st old t m left → Anew code names s st old t' m' left' → SameRun t t' m m' left left'
   anew-one {s} {t} {t'} {st} {old} {m} {m'} {left} {left'} a b =
       let d = suc (t.work + t'.work) in
       let e = anew-found code names d s t st old m left a (omega arith) in
@@ -39,13 +39,13 @@ module _ (code : Code) (names : ℕ → ℕ) where
       let z = some-same (record { state = t; items = m; left = left }) (record { state = t'; items = m'; left = left' }) (sym e ∙ e') in
       record { states = ap (λ (r : Ran). r.state) z; items = ap (λ (r : Ran). r.items) z; lefts = ap (λ (r : Ran). r.left) z }
 
-  pub record Same_part (j j' : ℕ) (t t' : State) (m m' : Trace) : Type 0 where
+  pub record SamePart (j j' : ℕ) (t t' : State) (m m' : Trace) : Type 0 where
     pub lefts : j ≡ j'
     pub states : t ≡ t'
     pub items : m ≡ m'
 
   -- and so does a part
-  pub part-one : {k j j' : ℕ} {s t t' : State} {l m m' : Trace} → Part code names k s l j t m → Part code names k s l j' t' m' → Same_part j j' t t' m m'
+  pub part-one : {k j j' : ℕ} {s t t' : State} {l m m' : Trace} → Part code names k s l j t m → Part code names k s l j' t' m' → SamePart j j' t t' m m'
   part-one {k} {j} {j'} {s} {t} {t'} {l} {m} {m'} a b =
       let d = suc (t.work + t'.work) in
       let e = part-found code names (anew code names d) d (anew-found code names d) a (omega arith) in
@@ -56,9 +56,9 @@ module _ (code : Code) (names : ℕ → ℕ) where
   -- the rest, after a read whose items came to be honest
   rest-kept : (j i d : ℕ) (s t t1 t2 s' : State) (p : Place) (u : UnitId) (v : ℕ) (args : List Word) (o' o'' l' l'' : Trace)
       → Rattle.ceal_code.specs.Replay.Honest code s.store o' t1.store → o'' ≡ o' → Part code names (suc j) (with_store t t1.store) l' i s' l''
-      → Part code names (suc j) (with_store t s.store) (Was_read p (s.store p) u v args o' l') i s' (Was_read p (s.store p) u v args o'' l'')
+      → Part code names (suc j) (with_store t s.store) (WasRead p (s.store p) u v args o' l') i s' (WasRead p (s.store p) u v args o'' l'')
   rest-kept j i d s t t1 t2 s' p u v args o' o'' l' l'' h e f =
-      subst (λ z. Part code names (suc j) (with_store t s.store) (Was_read p (s.store p) u v args o' l') i s' (Was_read p (s.store p) u v args z l'')) (sym e) (Part.kept refl (honest-part code names h t j) f)
+      subst (λ z. Part code names (suc j) (with_store t s.store) (WasRead p (s.store p) u v args o' l') i s' (WasRead p (s.store p) u v args z l'')) (sym e) (Part.kept refl (honest-part code names h t j) f)
 
   moved-part : (b b' i : ℕ) (t1 t2 s' : State) (l n : Trace) → b' ≡ b → t2 ≡ t1 → Part code names b' t2 l i s' n → Part code names b t1 l i s' n
   moved-part b b' i t1 t2 s' l n e e' f = subst (λ z. Part code names z t1 l i s' n) e (subst (λ z. Part code names b' z l i s' n) e' f)
@@ -96,7 +96,7 @@ module _ {names : ℕ → ℕ} (code : Code) (inputs : List Block) (f : ℕ) (ar
     where
       of-fix : Fix code names (goes_on code inputs r) r.items s' n → Slices code names inputs None (repair_at t m) (repair_at s' n)
       of-fix g =
-          let w : As_part code names (goes_on code inputs r) r.items s' n 0 = fix-part g 0 in
+          let w : AsPart code names (goes_on code inputs r) r.items s' n 0 = fix-part g 0 in
           let big = part-plus code w.part k in
           let same : beyond (suc w.reads) k ≡ beyond k (suc w.reads) = omega (arith, beyond-sum (suc w.reads) k, beyond-sum k (suc w.reads)) in
           let y = part-after k (suc k) t m p w.reads s' n (subst (λ z. Part code names z (goes_on code inputs r) r.items (suc k) s' n) same big) in

@@ -1,7 +1,7 @@
 -- Old items whose blocks are all old ones, also where what stood around them is gone, stay so as a repair learns more.
 use Rattle.std.proofs.Common.{◌≡◌, ℕ, Bool, true, false, ◌==◌, ◌&&◌, if◌then◌else◌, Option, Some, None, List, ◌∷◌, refl, ap, ◌∙◌, subst}
 use Rattle.ceal_base.specs.Operators.{same_place}
-use Rattle.ceal_base.specs.Trace.{Trace, Nothing, Stepped, Allocated, Wrote, Was_read, followed}
+use Rattle.ceal_base.specs.Trace.{Trace, Nothing, Stepped, Allocated, Wrote, WasRead, followed}
 use Rattle.ceal_base.specs.declared.forest.Key.{Key}
 use Rattle.ceal_base.specs.declared.forest.UnitId.{UnitId}
 use Rattle.ceal_base.specs.declared.word.BlockId.TheVariants.{Input, Core}
@@ -10,9 +10,9 @@ use Rattle.ceal_base.specs.declared.word.Word.{Word}
 use Rattle.ceal_code.proofs.Local.{word-more, words-more, key-more, set-known, given-known, next-known, next-same, made-same}
 use Rattle.ceal_code.proofs.Same.{both, nat-same, some-same, none-some}
 use Rattle.ceal_code.specs.Init.{made, pointer}
-use Rattle.ceal_code.specs.Known.{Subset, Holds, Known_variables, Known_stack, Known_act}
+use Rattle.ceal_code.specs.Known.{Subset, Holds, KnownVariables, KnownStack, KnownAct}
 use Rattle.ceal_code.specs.Program.{Code}
-use Rattle.ceal_code.specs.Replay.{Yields, In, here, there, Known_word, Known_words, Known_key, Mentions}
+use Rattle.ceal_code.specs.Replay.{Yields, In, here, there, KnownWord, KnownWords, KnownKey, Mentions}
 use Rattle.ceal_code.specs.Step.{Stack, Empty, Run, Act, next}
 use Rattle.ceal_code.specs.Value.{Plain, Variables, set}
 use Rattle.ceal_theory.proofs.Good.{Extends, agrees}
@@ -26,20 +26,20 @@ use Rattle.ceal_theory.specs.Take.{TakenAlloc, TakenRead, same_words, same_key, 
 
 module _ (code : Code) (n : ℕ) (ds : List ℕ) where
   -- what a state knows of a step
-  pub knows : (x : Plain) → Holds n ds x → (st : Stack) → Known_stack n ds st → Known_act n ds (next code x st)
+  pub knows : (x : Plain) → Holds n ds x → (st : Stack) → KnownStack n ds st → KnownAct n ds (next code x st)
   knows x h st k = next-known n ds x h x (λ b i. refl) code st k
 
   module _ (x y : Plain) (h : Holds n ds x) (ext : Extends x y) where
-    at-more : (st : Stack) (l : Trace) → Known_stack n ds st → Told code y (next code x st) l → Told code y (next code y st) l
+    at-more : (st : Stack) (l : Trace) → KnownStack n ds st → Told code y (next code x st) l → Told code y (next code y st) l
     at-more st l k t = subst (λ a. Told code y a l) (next-same n ds x h y (agrees n ds x y h ext) code st k) t
 
-    made-more : (key : Key) → Known_key n ds key → made code x key ≡ made code y key
+    made-more : (key : Key) → KnownKey n ds key → made code x key ≡ made code y key
     made-more key k = made-same n ds x h y (agrees n ds x y h ext) code key k
 
-  pub run-known : (key : Key) (b v u i : ℕ) (env : Variables) (below : Stack) → In b ds → Known_variables n ds env → Known_stack n ds below → Known_stack n ds (Run u i (set env v (pointer key (Core b))) below)
+  pub run-known : (key : Key) (b v u i : ℕ) (env : Variables) (below : Stack) → In b ds → KnownVariables n ds env → KnownStack n ds below → KnownStack n ds (Run u i (set env v (pointer key (Core b))) below)
   run-known key b v u i env below j h k = (set-known n ds env v (pointer key (Core b)) h (pointer-known n ds key (Core b) j), k)
 
-  pub told-more : (x y : Plain) → Holds n ds x → Extends x y → {a : Act} {l : Trace} → Told code x a l → Known_act n ds a → Sure code n ds x l → Told code y a l
+  pub told-more : (x y : Plain) → Holds n ds x → Extends x y → {a : Act} {l : Trace} → Told code x a l → KnownAct n ds a → Sure code n ds x l → Told code y a l
   told-more x y h ext Told.over k s = Told.over
   told-more x y h ext (Told.quiet {after = after} {rest = rest} r) k s =
       Told.quiet (at-more x y h ext after rest k (told-more x y h ext r (knows x h after k) s))
@@ -52,7 +52,7 @@ module _ (code : Code) (n : ℕ) (ds : List ℕ) where
       Told.writes (at-more x y h ext after rest k.2 (told-more x y h ext r (knows x h after k.2) s))
   told-more x y h ext (Told.reads {below = below} {u = u} {v = v} {args = args} {value = value} {inside = inside} {rest = rest} r1 r2) k s =
       let st : Stack = resumed code u v args value in
-      let ks : Known_stack n ds st = given-known n ds code u.0 v args value Empty k.1 s.0 tt in
+      let ks : KnownStack n ds st = given-known n ds code u.0 v args value Empty k.1 s.0 tt in
       Told.reads (at-more x y h ext st inside ks (told-more x y h ext r1 (knows x h st ks) s.3))
       (at-more x y h ext below rest k.2 (told-more x y h ext r2 (knows x h below k.2) s.4))
 
@@ -63,13 +63,13 @@ module _ (code : Code) (n : ℕ) (ds : List ℕ) where
       (s.0, s.1, ext (Core b) (made code x key) s.2 ∙ ap Some (made-more x y h ext key s.1), sure-more x y h ext rest s.3)
   sure-more x y h ext (Allocated (Input i) key rest) s = absurd s
   sure-more x y h ext (Wrote p value rest) s = sure-more x y h ext rest s
-  sure-more x y h ext (Was_read p value u v args inside rest) s =
+  sure-more x y h ext (WasRead p value u v args inside rest) s =
       let st : Stack = resumed code u v args value in
-      let ks : Known_stack n ds st = given-known n ds code u.0 v args value Empty s.1 s.0 tt in
+      let ks : KnownStack n ds st = given-known n ds code u.0 v args value Empty s.1 s.0 tt in
       (s.0, s.1, at-more x y h ext st inside ks (told-more x y h ext s.2 (knows x h st ks) s.3), sure-more x y h ext inside s.3, sure-more x y h ext rest s.4)
 
   -- what a stack yields, over what a state knows later
-  pub later : (x z : Plain) → Holds n ds x → Extends x z → (st : Stack) (l : Trace) → Known_stack n ds st → Sure code n ds x l → Told code x (next code x st) l → Told code z (next code z st) l
+  pub later : (x z : Plain) → Holds n ds x → Extends x z → (st : Stack) (l : Trace) → KnownStack n ds st → Sure code n ds x l → Told code x (next code x st) l → Told code z (next code z st) l
   later x z h e st l k s t = at-more x z h e st l k (told-more x z h e t (knows x h st k) s)
 
   sure-followed : (x : Plain) (f g : Trace) → Sure code n ds x f → Sure code n ds x g → Sure code n ds x (followed f g)
@@ -78,7 +78,7 @@ module _ (code : Code) (n : ℕ) (ds : List ℕ) where
   sure-followed x (Allocated (Core b) key rest) g h k = (h.0, h.1, h.2, sure-followed x rest g h.3 k)
   sure-followed x (Allocated (Input i) key rest) g h k = absurd h
   sure-followed x (Wrote p value rest) g h k = sure-followed x rest g h k
-  sure-followed x (Was_read p value u v args inside rest) g h k = (h.0, h.1, h.2, h.3, sure-followed x rest g h.4 k)
+  sure-followed x (WasRead p value u v args inside rest) g h k = (h.0, h.1, h.2, h.3, sure-followed x rest g h.4 k)
 
   pub record SureAlloc (x : Plain) (key : Key) (t : TakenAlloc) : Type 0 where
     pub core : ℕ
@@ -88,8 +88,8 @@ module _ (code : Code) (n : ℕ) (ds : List ℕ) where
     pub left : Sure code n ds x t.leftover
 
   pub record SureRead (x : Plain) (u : UnitId) (v : ℕ) (args : List Word) (t : TakenRead) : Type 0 where
-    pub value : Known_word n ds t.value
-    pub words : Known_words n ds args
+    pub value : KnownWord n ds t.value
+    pub words : KnownWords n ds args
     pub told : Told code x (next code x (resumed code u v args t.value)) t.inside
     pub inside : Sure code n ds x t.inside
     pub left : Sure code n ds x t.leftover
@@ -118,7 +118,7 @@ module _ (code : Code) (n : ℕ) (ds : List ℕ) where
     sure-alloc key (Allocated (Core b) k rest) h t e = alloc-if (same_key k key) b k key rest t refl h.0 h.2 h.3 (sure-alloc key rest h.3) e
     sure-alloc key (Allocated (Input i) k rest) h t e = absurd h
     sure-alloc key (Wrote p value rest) h t e = sure-alloc key rest h t e
-    sure-alloc key (Was_read p value u v args inside rest) h t e =
+    sure-alloc key (WasRead p value u v args inside rest) h t e =
         alloc-then key rest (take_alloc key inside) (take_alloc key rest) t h.4 (sure-alloc key inside h.3) (sure-alloc key rest h.4) e
 
     read-then : (u : UnitId) (v : ℕ) (args : List Word) (rest : Trace) (first second : Option TakenRead) (r : TakenRead)
@@ -132,7 +132,7 @@ module _ (code : Code) (n : ℕ) (ds : List ℕ) where
 
     read-if : (test : Bool) (p q : Place) (value : Word) (u u' : UnitId) (v v' : ℕ) (args args' : List Word) (inside rest : Trace) (other : Option TakenRead) (r : TakenRead)
         → (same_place p q && u.0 == u'.0 && v == v' && same_words args args') ≡ test
-        → Sure code n ds x (Was_read p value u v args inside rest)
+        → Sure code n ds x (WasRead p value u v args inside rest)
         → ((r : TakenRead) → other ≡ Some r → SureRead x u' v' args' r)
         → (if test then Some (record { value = value; inside = inside; leftover = rest }) else other) ≡ Some r
         → SureRead x u' v' args' r
@@ -152,7 +152,7 @@ module _ (code : Code) (n : ℕ) (ds : List ℕ) where
     sure-read p u v args (Allocated (Core b) k rest) h r e = sure-read p u v args rest h.3 r e
     sure-read p u v args (Allocated (Input i) k rest) h r e = absurd h
     sure-read p u v args (Wrote q value rest) h r e = sure-read p u v args rest h r e
-    sure-read p u v args (Was_read q value u' v' args' inside rest) h r e =
+    sure-read p u v args (WasRead q value u' v' args' inside rest) h r e =
         read-if (same_place q p && u'.0 == u.0 && v' == v && same_words args' args) q p value u' u v' v args' args inside rest
         (read_then rest (take_read p u v args inside) (take_read p u v args rest)) r refl h
         (λ r. read-then u v args rest (take_read p u v args inside) (take_read p u v args rest) r h.4 (sure-read p u v args inside h.3) (sure-read p u v args rest h.4)) e

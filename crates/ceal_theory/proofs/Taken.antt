@@ -1,7 +1,7 @@
 -- What is taken from old items, and what is left over.
 use Rattle.std.proofs.Common.{◌≡◌, ℕ, Bool, true, false, ◌==◌, ◌&&◌, if◌then◌else◌, Option, Some, None, List, [], ◌∷◌, refl, ap, ap₂, subst, arith}
 use Rattle.ceal_base.specs.Operators.{same_place, same_word}
-use Rattle.ceal_base.specs.Trace.{Trace, Nothing, Stepped, Allocated, Wrote, Was_read, followed}
+use Rattle.ceal_base.specs.Trace.{Trace, Nothing, Stepped, Allocated, Wrote, WasRead, followed}
 use Rattle.ceal_base.specs.declared.forest.Key.{Key}
 use Rattle.ceal_base.specs.declared.forest.Key.TheVariants.{Init, ModInt as IntKey, ModPtr as PtrKey}
 use Rattle.ceal_base.specs.declared.forest.UnitId.{UnitId}
@@ -40,7 +40,7 @@ module _ (code : Code) (x y : Plain) where
   pieces-followed (Allocated (Core b) key rest) g h k = (h.0, pieces-followed rest g h.1 k)
   pieces-followed (Allocated (Input i) key rest) g h k = absurd h
   pieces-followed (Wrote p value rest) g h k = pieces-followed rest g h k
-  pieces-followed (Was_read p value u v args inside rest) g h k = (h.0, h.1, pieces-followed rest g h.2 k)
+  pieces-followed (WasRead p value u v args inside rest) g h k = (h.0, h.1, pieces-followed rest g h.2 k)
 
   pub record FromAlloc (key : Key) (t : TakenAlloc) : Type 0 where
     pub core : ℕ
@@ -84,7 +84,7 @@ module _ (code : Code) (x y : Plain) where
   take-alloc key (Allocated (Core b) k rest) h t e = alloc-if (same_key k key) b k key rest t refl h.0 h.1 (take-alloc key rest h.1) e
   take-alloc key (Allocated (Input i) k rest) h t e = absurd h
   take-alloc key (Wrote p value rest) h t e = take-alloc key rest h t e
-  take-alloc key (Was_read p value u v args inside rest) h t e =
+  take-alloc key (WasRead p value u v args inside rest) h t e =
       alloc-then key rest (take_alloc key inside) (take_alloc key rest) t h.2 (take-alloc key inside h.1) (take-alloc key rest h.2) e
 
   read-then : (u : UnitId) (v : ℕ) (args : List Word) (rest : Trace) (first second : Option TakenRead) (r : TakenRead)
@@ -124,7 +124,7 @@ module _ (code : Code) (x y : Plain) where
   take-read p u v args (Allocated (Core b) k rest) h r e = take-read p u v args rest h.1 r e
   take-read p u v args (Allocated (Input i) k rest) h r e = absurd h
   take-read p u v args (Wrote q value rest) h r e = take-read p u v args rest h r e
-  take-read p u v args (Was_read q value u' v' args' inside rest) h r e =
+  take-read p u v args (WasRead q value u' v' args' inside rest) h r e =
       read-if (same_place q p && u'.0 == u.0 && v' == v && same_words args' args) q p value u' u v' v args' args inside rest
       (read_then rest (take_read p u v args inside) (take_read p u v args rest)) r refl h.0 h.1 h.2
       (λ r. read-then u v args rest (take_read p u v args inside) (take_read p u v args rest) r h.2 (take-read p u v args inside h.1) (take-read p u v args rest h.2)) e

@@ -1,7 +1,7 @@
 -- One turn of the machine keeps what it finishes with.
 use Rattle.std.proofs.Common.{◌≡◌, ℕ, ◌≤◌, Bool, true, false, Option, Some, None, List, [], ◌∷◌, ◌++◌, append_assoc, append-nil, refl, sym, ap, subst, arith}
 use Rattle.ceal_base.specs.Operators.{same_word}
-use Rattle.ceal_base.specs.Trace.{Trace, Nothing, Stepped, Allocated, Wrote, Was_read, flat}
+use Rattle.ceal_base.specs.Trace.{Trace, Nothing, Stepped, Allocated, Wrote, WasRead, flat}
 use Rattle.ceal_base.specs.declared.forest.Item.{Item}
 use Rattle.ceal_base.specs.declared.forest.Item.TheVariants.{Step, Alloc, Write, Read, End}
 use Rattle.ceal_base.specs.declared.forest.Key.{Key}
@@ -18,7 +18,7 @@ use Rattle.ceal_theory.specs.Turns.{Goes}
 use Rattle.ceal_theory.proofs.Honesty.{fix-rises, anew-rises}
 use Rattle.ceal_theory.specs.Repair.{State, clears, puts, works, grows, resumed, Fix, Mend, Anew}
 use Rattle.ceal_theory.specs.Take.{TakenAlloc, TakenRead, take_alloc, take_read}
-use Rattle.ceal_theory.specs.Turns.{Mode, Fixing, Running, Frames, Bottom, After_fix, After_mend, After_run, Machine, Turn, Ended, Went, closed, opened, fixing, making, reading, acting, moving, turn, Resumes, Finishes}
+use Rattle.ceal_theory.specs.Turns.{Mode, Fixing, Running, Frames, Bottom, AfterFix, AfterMend, AfterRun, Machine, Turn, Ended, Went, closed, opened, fixing, making, reading, acting, moving, turn, Resumes, Finishes}
 
 abbrev pub at : State → Mode → Frames → Machine
 at s mode fs = record { state = s; mode = mode; frames = fs }
@@ -43,25 +43,25 @@ on-running : (code : Code) (names : ℕ → ℕ) (s s' : State) (st : Stack) (ol
 on-running code names s s' st old fs out P h (Finishes.runs {t = t} {new = new} {left = left} {out = later} a r) = h t new left later a r
 
 -- a machine whose part is over, and has left this over
-Over_at : Code → (ℕ → ℕ) → State → Machine → Trace → Frames → Type 0
-Over_at code names s m left fs = (s' : State) (out : List Item) → Resumes code names s left fs s' out → Finishes code names m s' out
+OverAt : Code → (ℕ → ℕ) → State → Machine → Trace → Frames → Type 0
+OverAt code names s m left fs = (s' : State) (out : List Item) → Resumes code names s left fs s' out → Finishes code names m s' out
 
-closed-kept : (code : Code) (names : ℕ → ℕ) (s : State) (m : Machine) (left : Trace) (fs : Frames) → m.state ≡ s → Over_at code names s m left fs → Kept code names m (closed s left fs)
-unfolding Over_at
+closed-kept : (code : Code) (names : ℕ → ℕ) (s : State) (m : Machine) (left : Trace) (fs : Frames) → m.state ≡ s → OverAt code names s m left fs → Kept code names m (closed s left fs)
+unfolding OverAt
 closed-kept code names s m left Bottom e h = subst (λ t. Finishes code names m t []) (sym e) (h s [] Resumes.bottom)
-closed-kept code names s m left (After_fix rest outer) e h = λ s' out.
+closed-kept code names s m left (AfterFix rest outer) e h = λ s' out.
     on-fixing code names s s' rest outer out (λ o. Finishes code names m s' (End ∷ o)) (λ t new later f r. h s' (End ∷ (flat new ++ later)) (Resumes.after_fix f r))
-closed-kept code names s m left (After_mend below old outer) e h = λ s' out.
+closed-kept code names s m left (AfterMend below old outer) e h = λ s' out.
     on-running code names s s' below old outer out (λ o. Finishes code names m s' (End ∷ o)) (λ t new l later a r. h s' (End ∷ (flat new ++ later)) (Resumes.after_mend a r))
-closed-kept code names s m left (After_run below outer) e h = λ s' out.
+closed-kept code names s m left (AfterRun below outer) e h = λ s' out.
     on-running code names s s' below left outer out (λ o. Finishes code names m s' (End ∷ o)) (λ t new l later a r. h s' (End ∷ (flat new ++ later)) (Resumes.after_run a r))
 
 fix-closed : (code : Code) (names : ℕ → ℕ) (s : State) (fs : Frames) → Kept code names (at s (Fixing Nothing) fs) (closed s Nothing fs)
-unfolding Over_at
+unfolding OverAt
 fix-closed code names s fs = closed-kept code names s (at s (Fixing Nothing) fs) Nothing fs refl (λ s' out r. Finishes.fixes Fix.end r)
 
 run-closed : (code : Code) (names : ℕ → ℕ) (s : State) (st : Stack) (old : Trace) (fs : Frames) → next code s.plain st ≡ Over → Kept code names (at s (Running st old) fs) (closed s old fs)
-unfolding Over_at
+unfolding OverAt
 run-closed code names s st old fs e = closed-kept code names s (at s (Running st old) fs) old fs refl (λ s' out r. Finishes.runs (Anew.over e) r)
 
 -- the items inside a read that was opened, and what follows
@@ -82,12 +82,12 @@ opened-inside code names s p u v args value inside fs s' out false e (Finishes.r
     record { state = t; items = new; left = left; later = later; mend = Mend.stale (λ same. grind (arith, rw same at e, word-refl value)) a; resumes = r; same = refl }
 
 fix-read : (code : Code) (names : ℕ → ℕ) (s : State) (p : Place) (value : Word) (u : UnitId) (v : ℕ) (args : List Word) (inside rest : Trace) (fs : Frames) (s' : State) (out : List Item)
-    → Inside code names s p u v args value inside (After_fix rest fs) s' out
-    → Finishes code names (at s (Fixing (Was_read p value u v args inside rest)) fs) s' (Read p (s.store p) u v args ∷ out)
+    → Inside code names s p u v args value inside (AfterFix rest fs) s' out
+    → Finishes code names (at s (Fixing (WasRead p value u v args inside rest)) fs) s' (Read p (s.store p) u v args ∷ out)
 fix-read code names s p value u v args inside rest fs s' out i = go i.state i.items i.left i.later i.mend i.resumes i.same
   where
-    go : (t : State) (items left : Trace) (later : List Item) → Mend code names s p u v args value inside t items → Resumes code names t left (After_fix rest fs) s' later → out ≡ flat items ++ later
-        → Finishes code names (at s (Fixing (Was_read p value u v args inside rest)) fs) s' (Read p (s.store p) u v args ∷ out)
+    go : (t : State) (items left : Trace) (later : List Item) → Mend code names s p u v args value inside t items → Resumes code names t left (AfterFix rest fs) s' later → out ≡ flat items ++ later
+        → Finishes code names (at s (Fixing (WasRead p value u v args inside rest)) fs) s' (Read p (s.store p) u v args ∷ out)
     go t items left later m (Resumes.after_fix {rest' = rest'} {out = out'} f r) e =
         rw (e, ← append-end items out' (flat rest')) (Finishes.fixes (Fix.read m f) r)
 
@@ -99,8 +99,8 @@ fix-turn code names s fs (Allocated b key rest) = λ s' out.
     on-fixing code names (clears code s b key) s' rest fs out (λ o. Finishes code names (at s (Fixing (Allocated b key rest)) fs) s' (Alloc b key ∷ o)) (λ t new later f r. Finishes.fixes (Fix.alloc f) r)
 fix-turn code names s fs (Wrote p value rest) = λ s' out.
     on-fixing code names (puts s p value) s' rest fs out (λ o. Finishes code names (at s (Fixing (Wrote p value rest)) fs) s' (Write p value ∷ o)) (λ t new later f r. Finishes.fixes (Fix.write f) r)
-fix-turn code names s fs (Was_read p value u v args inside rest) = λ s' out h.
-    fix-read code names s p value u v args inside rest fs s' out (opened-inside code names s p u v args value inside (After_fix rest fs) s' out (same_word (s.store p) value) refl h)
+fix-turn code names s fs (WasRead p value u v args inside rest) = λ s' out h.
+    fix-read code names s p value u v args inside rest fs s' out (opened-inside code names s p u v args value inside (AfterFix rest fs) s' out (same_word (s.store p) value) refl h)
 
 make-turn : (code : Code) (names : ℕ → ℕ) (s : State) (st : Stack) (fs : Frames) (key : Key) (v u i : ℕ) (env : Variables) (below : Stack) (old : Trace) (o : Option TakenAlloc)
     → next code s.plain st ≡ Makes key v u i env below → take_alloc key old ≡ o → Kept code names (at s (Running st old) fs) (making code names s fs key v u i env below old o)
@@ -111,18 +111,18 @@ make-turn code names s st fs key v u i env below old None e w = λ s' out.
 
 took-read : (code : Code) (names : ℕ → ℕ) (s : State) (st below : Stack) (fs : Frames) (p : Place) (u : UnitId) (v : ℕ) (args : List Word) (old : Trace) (x : TakenRead) (s' : State) (out : List Item)
     → next code s.plain st ≡ Reads p u v args below → take_read p u v args old ≡ Some x
-    → Inside code names (works s) p u v args x.value x.inside (After_mend below x.leftover fs) s' out
+    → Inside code names (works s) p u v args x.value x.inside (AfterMend below x.leftover fs) s' out
     → Finishes code names (at s (Running st old) fs) s' (Step ∷ Read p (s.store p) u v args ∷ out)
 took-read code names s st below fs p u v args old x s' out e w i = go i.state i.items i.left i.later i.mend i.resumes i.same
   where
-    go : (t : State) (items left : Trace) (later : List Item) → Mend code names (works s) p u v args x.value x.inside t items → Resumes code names t left (After_mend below x.leftover fs) s' later → out ≡ flat items ++ later
+    go : (t : State) (items left : Trace) (later : List Item) → Mend code names (works s) p u v args x.value x.inside t items → Resumes code names t left (AfterMend below x.leftover fs) s' later → out ≡ flat items ++ later
         → Finishes code names (at s (Running st old) fs) s' (Step ∷ Read p (s.store p) u v args ∷ out)
     go t items left later m (Resumes.after_mend {new = new} {out = out'} a r) k =
         rw (k, ← append-end items out' (flat new)) (Finishes.runs (Anew.takes_read e w m a) r)
 
 ran-read : (code : Code) (names : ℕ → ℕ) (s : State) (st below : Stack) (fs : Frames) (p : Place) (u : UnitId) (v : ℕ) (args : List Word) (old : Trace) (s' t : State) (items left : Trace) (later : List Item)
     → next code s.plain st ≡ Reads p u v args below → take_read p u v args old ≡ None
-    → Anew code names (works s) (resumed code u v args (s.store p)) old t items left → Resumes code names t left (After_run below fs) s' later
+    → Anew code names (works s) (resumed code u v args (s.store p)) old t items left → Resumes code names t left (AfterRun below fs) s' later
     → Finishes code names (at s (Running st old) fs) s' (Step ∷ Read p (s.store p) u v args ∷ (flat items ++ later))
 ran-read code names s st below fs p u v args old s' t items left later e w m (Resumes.after_run {new = new} {out = out'} a r) =
     rw (← append-end items out' (flat new)) (Finishes.runs (Anew.reads e w m a) r)
@@ -130,9 +130,9 @@ ran-read code names s st below fs p u v args old s' t items left later e w m (Re
 read-turn : (code : Code) (names : ℕ → ℕ) (s : State) (st : Stack) (fs : Frames) (p : Place) (u : UnitId) (v : ℕ) (args : List Word) (below : Stack) (old : Trace) (o : Option TakenRead)
     → next code s.plain st ≡ Reads p u v args below → take_read p u v args old ≡ o → Kept code names (at s (Running st old) fs) (reading code s fs p u v args below old o)
 read-turn code names s st fs p u v args below old (Some x) e w = λ s' out h.
-    took-read code names s st below fs p u v args old x s' out e w (opened-inside code names (works s) p u v args x.value x.inside (After_mend below x.leftover fs) s' out (same_word (s.store p) x.value) refl h)
+    took-read code names s st below fs p u v args old x s' out e w (opened-inside code names (works s) p u v args x.value x.inside (AfterMend below x.leftover fs) s' out (same_word (s.store p) x.value) refl h)
 read-turn code names s st fs p u v args below old None e w = λ s' out.
-    on-running code names (works s) s' (resumed code u v args (s.store p)) old (After_run below fs) out (λ o. Finishes code names (at s (Running st old) fs) s' (Step ∷ Read p (s.store p) u v args ∷ o))
+    on-running code names (works s) s' (resumed code u v args (s.store p)) old (AfterRun below fs) out (λ o. Finishes code names (at s (Running st old) fs) s' (Step ∷ Read p (s.store p) u v args ∷ o))
     (λ t new left later a r. ran-read code names s st below fs p u v args old s' t new left later e w a r)
 
 act-turn : (code : Code) (names : ℕ → ℕ) (s : State) (st : Stack) (fs : Frames) (old : Trace) (a : Act) → next code s.plain st ≡ a → Kept code names (at s (Running st old) fs) (acting code names s fs old a)
@@ -188,7 +188,7 @@ turn-ahead code names {s' = s'} (Finishes.fixes {fs = fs} {out = out} (Fix.read 
     record {
       rest = flat new ++ (End ∷ (flat rest' ++ out));
       same = ap (λ o. Read p (s.store p) u v args ∷ o) (append-end new out (flat rest'));
-      finishes = mend-ahead code names s t s' p u v args value inside new (After_fix rest fs) (End ∷ (flat rest' ++ out)) m (λ left. Resumes.after_fix f r);
+      finishes = mend-ahead code names s t s' p u v args value inside new (AfterFix rest fs) (End ∷ (flat rest' ++ out)) m (λ left. Resumes.after_fix f r);
     }
 turn-ahead code names (Finishes.runs (Anew.over e) r) = rw e (closed-ahead code names r)
 turn-ahead code names (Finishes.runs {out = out} (Anew.quiet {new = new} e a) r) = rw e (record { rest = flat new ++ out; same = refl; finishes = Finishes.runs a r })
@@ -199,7 +199,7 @@ turn-ahead code names {s' = s'} (Finishes.runs {fs = fs} {out = out} (Anew.takes
     rw (e, w) (record {
       rest = flat i ++ (End ∷ (flat new ++ out));
       same = ap (λ o. Step ∷ Read p (s.store p) u v args ∷ o) (append-end i out (flat new));
-      finishes = mend-ahead code names (works s) t s' p u v args x.value x.inside i (After_mend below x.leftover fs) (End ∷ (flat new ++ out)) m (λ left. Resumes.after_mend a r);
+      finishes = mend-ahead code names (works s) t s' p u v args x.value x.inside i (AfterMend below x.leftover fs) (End ∷ (flat new ++ out)) m (λ left. Resumes.after_mend a r);
     })
 turn-ahead code names {s' = s'} (Finishes.runs {fs = fs} {out = out} (Anew.reads {s = s} {p = p} {u = u} {v = v} {args = args} {inside' = i} {new = new} e w m a) r) =
     rw (e, w) (record {
@@ -208,23 +208,23 @@ turn-ahead code names {s' = s'} (Finishes.runs {fs = fs} {out = out} (Anew.reads
       finishes = Finishes.runs m (Resumes.after_run a r);
     })
 
-pub record Fixed_flat (code : Code) (names : ℕ → ℕ) (s : State) (old : Trace) (s' : State) (out : List Item) : Type 0 where
+pub record FixedFlat (code : Code) (names : ℕ → ℕ) (s : State) (old : Trace) (s' : State) (out : List Item) : Type 0 where
   pub items : Trace
   pub fix : Fix code names s old s' items
   pub same : out ≡ flat items
 
 -- what a machine finishes with that begins with items alone is their repair
-pub finishes-fix : (code : Code) (names : ℕ → ℕ) (s : State) (old : Trace) (s' : State) (out : List Item) → Finishes code names (at s (Fixing old) Bottom) s' out → Fixed_flat code names s old s' out
+pub finishes-fix : (code : Code) (names : ℕ → ℕ) (s : State) (old : Trace) (s' : State) (out : List Item) → Finishes code names (at s (Fixing old) Bottom) s' out → FixedFlat code names s old s' out
 finishes-fix code names s old s' out (Finishes.fixes {new = new} f Resumes.bottom) = record { items = new; fix = f; same = append-nil (flat new) }
 
-pub record Ran_flat (code : Code) (names : ℕ → ℕ) (s : State) (st : Stack) (old : Trace) (s' : State) (out : List Item) : Type 0 where
+pub record RanFlat (code : Code) (names : ℕ → ℕ) (s : State) (st : Stack) (old : Trace) (s' : State) (out : List Item) : Type 0 where
   pub items : Trace
   pub left : Trace
   pub anew : Anew code names s st old s' items left
   pub same : out ≡ flat items
 
 -- and one that begins with a stack is its run
-pub finishes-anew : (code : Code) (names : ℕ → ℕ) (s : State) (st : Stack) (old : Trace) (s' : State) (out : List Item) → Finishes code names (at s (Running st old) Bottom) s' out → Ran_flat code names s st old s' out
+pub finishes-anew : (code : Code) (names : ℕ → ℕ) (s : State) (st : Stack) (old : Trace) (s' : State) (out : List Item) → Finishes code names (at s (Running st old) Bottom) s' out → RanFlat code names s st old s' out
 finishes-anew code names s st old s' out (Finishes.runs {new = new} {left = left} a Resumes.bottom) =
     record { items = new; left = left; anew = a; same = append-nil (flat new) }
 

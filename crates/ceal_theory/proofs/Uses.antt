@@ -1,13 +1,13 @@
 -- What items mention, in any order.
 use Rattle.std.proofs.Common.{◌≡◌, ℕ, ◌≤◌, Some, List, sym, ap, ◌∙◌, subst}
-use Rattle.ceal_base.specs.Trace.{Trace, Nothing, Stepped, Allocated, Wrote, Was_read}
+use Rattle.ceal_base.specs.Trace.{Trace, Nothing, Stepped, Allocated, Wrote, WasRead}
 use Rattle.ceal_base.specs.declared.word.BlockId.TheVariants.{Core}
 use Rattle.ceal_code.proofs.Local.{block-more, word-more, words-more, key-more, set-known, given-known, next-known, next-same, made-same}
 use Rattle.ceal_code.proofs.Same.{some-same}
 use Rattle.ceal_code.specs.Init.{made, pointer}
-use Rattle.ceal_code.specs.Known.{Subset, Agree, Holds, Known_stack, Known_act}
+use Rattle.ceal_code.specs.Known.{Subset, Agree, Holds, KnownStack, KnownAct}
 use Rattle.ceal_code.specs.Program.{Code}
-use Rattle.ceal_code.specs.Replay.{Yields, here, Known_block, Known_word, Known_words, Known_key, Mentions}
+use Rattle.ceal_code.specs.Replay.{Yields, here, Mentions}
 use Rattle.ceal_code.specs.Step.{Stack, Empty, Act, Over, Quiet, Makes, Writes, Reads, next}
 use Rattle.ceal_code.specs.Value.{Plain}
 use Rattle.ceal_theory.proofs.Good.{Extends, Pieces}
@@ -24,7 +24,7 @@ uses-more n bs cs sub Nothing u = u
 uses-more n bs cs sub (Stepped rest) u = uses-more n bs cs sub rest u
 uses-more n bs cs sub (Allocated b key rest) u = (block-more n bs cs sub b u.0, key-more n bs cs sub key u.1, uses-more n bs cs sub rest u.2)
 uses-more n bs cs sub (Wrote p value rest) u = (block-more n bs cs sub p.block u.0, word-more n bs cs sub value u.1, uses-more n bs cs sub rest u.2)
-uses-more n bs cs sub (Was_read p value u v args inside rest) w =
+uses-more n bs cs sub (WasRead p value u v args inside rest) w =
     (block-more n bs cs sub p.block w.0, word-more n bs cs sub value w.1, words-more n bs cs sub args w.2, uses-more n bs cs sub inside w.3, uses-more n bs cs sub rest w.4)
 
 -- what is mentioned in order is mentioned
@@ -52,19 +52,19 @@ uses-inputs n m h bs Nothing u = u
 uses-inputs n m h bs (Stepped rest) u = uses-inputs n m h bs rest u
 uses-inputs n m h bs (Allocated b key rest) u = (block-inputs n m h bs b u.0, key-inputs n m h bs key u.1, uses-inputs n m h bs rest u.2)
 uses-inputs n m h bs (Wrote p value rest) u = (block-inputs n m h bs p.block u.0, word-inputs n m h bs value u.1, uses-inputs n m h bs rest u.2)
-uses-inputs n m h bs (Was_read p value u v args inside rest) w =
+uses-inputs n m h bs (WasRead p value u v args inside rest) w =
     (block-inputs n m h bs p.block w.0, word-inputs n m h bs value w.1, words-inputs n m h bs args w.2, uses-inputs n m h bs inside w.3, uses-inputs n m h bs rest w.4)
 
 -- what is yielded over some plain words, all that it mentions being known, is yielded over others that agree on the
 -- known blocks
 module _ (code : Code) (n : ℕ) (bs : List ℕ) (x z : Plain) (h : Holds n bs x) (agree : Agree n bs x z) where
-  knows : (st : Stack) (a : Act) → Known_stack n bs st → next code x st ≡ a → Known_act n bs a
-  knows st a k e = subst (Known_act n bs) e (next-known n bs x h z agree code st k)
+  knows : (st : Stack) (a : Act) → KnownStack n bs st → next code x st ≡ a → KnownAct n bs a
+  knows st a k e = subst (KnownAct n bs) e (next-known n bs x h z agree code st k)
 
-  same : (st : Stack) (a : Act) → Known_stack n bs st → next code x st ≡ a → next code z st ≡ a
+  same : (st : Stack) (a : Act) → KnownStack n bs st → next code x st ≡ a → next code z st ≡ a
   same st a k e = sym (next-same n bs x h z agree code st k) ∙ e
 
-  pub uses-yields : {st : Stack} {l : Trace} → Yields code x st l → Known_stack n bs st → Uses n bs l → Yields code z st l
+  pub uses-yields : {st : Stack} {l : Trace} → Yields code x st l → KnownStack n bs st → Uses n bs l → Yields code z st l
   uses-yields {st} (Yields.over e) k u = Yields.over (same st Over k e)
   uses-yields {st} (Yields.quiet {after = after} e r) k u = Yields.quiet (same st (Quiet after) k e) (uses-yields r (knows st (Quiet after) k e) u)
   uses-yields {st} (Yields.makes {key = key} {v = v} {u = w} {i = i} {env = env} {below = below} {b = b} e g r) k u =

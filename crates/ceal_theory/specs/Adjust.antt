@@ -21,17 +21,17 @@ Above number l = (b : ℕ) → number ≤ b → count b (core_numbers (blocks_of
 
 -- the repair of the old items on these inputs is these items, with this work; the new blocks have the names of the
 -- numbers from one on
-pub record Adjusts_as (code : Code) (inputs : List Block) (names : ℕ → ℕ) (number : ℕ) (old new : Trace) (work : ℕ) : Type 0 where
+pub record AdjustsAs (code : Code) (inputs : List Block) (names : ℕ → ℕ) (number : ℕ) (old new : Trace) (work : ℕ) : Type 0 where
   pub after : State
   pub fix : Fix code names (begins code inputs (plain_of code inputs old) number) old after new
   pub counted : after.work ≡ work
 
 -- the new blocks have the numbers from one on
 abbrev pub Adjusts : Code → List Block → ℕ → Trace → Trace → ℕ → Type 0
-Adjusts code inputs = Adjusts_as code inputs own
+Adjusts code inputs = AdjustsAs code inputs own
 
 -- the first trace of a call: it is run anew with nothing left over; its blocks have the names of the numbers from 0 on
-pub record Firsts_as (code : Code) (inputs : List Block) (names : ℕ → ℕ) (f : ℕ) (args : List Word) (new : Trace) (work : ℕ) : Type 0 where
+pub record FirstsAs (code : Code) (inputs : List Block) (names : ℕ → ℕ) (f : ℕ) (args : List Word) (new : Trace) (work : ℕ) : Type 0 where
   pub after : State
   pub left : Trace
   pub anew : Anew code names (begins code inputs (input_plain code inputs) 0) (started code f args) Nothing after new left
@@ -39,4 +39,4 @@ pub record Firsts_as (code : Code) (inputs : List Block) (names : ℕ → ℕ) (
 
 -- its blocks have the numbers from 0 on
 abbrev pub Firsts : Code → List Block → ℕ → List Word → Trace → ℕ → Type 0
-Firsts code inputs = Firsts_as code inputs own
+Firsts code inputs = FirstsAs code inputs own

@@ -23,7 +23,7 @@ Continues bs names = (k b : ℕ) → slice_get bs k ≡ Some b → names k ≡ b
 
 -- The machine that began has come to this one and has written these items, and has given its new blocks these numbers:
 -- so it is with all names that go on from them.
-pub record Comes_by (code : Code) (start m : Machine) (chosen : List ℕ) (out : List Item) : Type 0 where
+pub record ComesBy (code : Code) (start m : Machine) (chosen : List ℕ) (out : List Item) : Type 0 where
   pub number : m.state.number ≡ length chosen
   pub leads : (names : ℕ → ℕ) → Continues chosen names → Leads code names start m out
 
@@ -35,7 +35,7 @@ pub record Free (chosen : List ℕ) (l : Trace) : Type 0 where
 -- A repair that has ended in a state: its items are those of the repair with the chosen numbers in place of the new
 -- ones, and its work is that of the repair. They determine the run from scratch, where the contents are those of the
 -- state at the end; their blocks have the plain words that the state has.
-pub record Ended_repair (code : Code) (old new : List Block) (f : ℕ) (args : List Word) (l : Trace) (number : ℕ) (chosen : List ℕ) (after : State) (out : List Item) : Type 0 where
+pub record EndedRepair (code : Code) (old new : List Block) (f : ℕ) (args : List Word) (l : Trace) (number : ℕ) (chosen : List ℕ) (after : State) (out : List Item) : Type 0 where
   pub bound : ℕ
   pub a : Repaired
   pub is : (n : ℕ) → after.work ≤ n → adjusted code new number n l ≡ Some a
@@ -48,7 +48,7 @@ pub record Ended_repair (code : Code) (old new : List Block) (f : ℕ) (args : L
   pub words : (b : BlockId) (block : Block) → plain_of code new items b ≡ Some block → after.plain b ≡ Some block
 
 -- so with a first trace, each of whose steps is work
-pub record Ended_first (code : Code) (inputs : List Block) (f : ℕ) (args : List Word) (chosen : List ℕ) (after : State) (out : List Item) : Type 0 where
+pub record EndedFirst (code : Code) (inputs : List Block) (f : ℕ) (args : List Word) (chosen : List ℕ) (after : State) (out : List Item) : Type 0 where
   pub bound : ℕ
   pub a : Repaired
   pub is : (n : ℕ) → after.work ≤ n → first_of code inputs n f args ≡ Some a
@@ -65,33 +65,36 @@ pub record Ended_first (code : Code) (inputs : List Block) (f : ℕ) (args : Lis
 abbrev pub repair_begins : Code → List Block → Trace → Machine
 repair_begins code new l = record { state = begins code new (plain_of code new l) 0; mode = Fixing l; frames = Bottom }
 
+-- the machine that makes a first trace, at its beginning
 abbrev pub first_begins : Code → List Block → ℕ → List Word → Machine
 first_begins code inputs f args = record { state = begins code inputs (input_plain code inputs) 0; mode = Running (started code f args) Nothing; frames = Bottom }
 
-pub record Chosen_laws (code : Code) : Type 0 where
-  -- at a beginning, where so many numbers were handed out before; after what all names have in common; and after a turn that
+-- what holds of names that are chosen turn by turn
+pub record ChosenLaws (code : Code) : Type 0 where
+  -- at a beginning, where some numbers were handed out before; after what all names have in common; and after a turn that
   -- makes a block of any number
-  pub begun : (m : Machine) (chosen : List ℕ) → m.state.number ≡ length chosen → Comes_by code m m chosen []
-  pub more : (start m m' : Machine) (chosen : List ℕ) (out is : List Item) → Comes_by code start m chosen out
-      → ((names : ℕ → ℕ) → Leads code names m m' is) → m'.state.number ≡ m.state.number → Comes_by code start m' chosen (out ++ is)
-  pub numbered : (start m m' : Machine) (chosen : List ℕ) (out is : List Item) → Comes_by code start m chosen out
-      → (b : ℕ) → ((names : ℕ → ℕ) → names m.state.number ≡ b → Leads code names m m' is) → m'.state.number ≡ m.state.number + 1 → Comes_by code start m' (chosen ++ b ∷ []) (out ++ is)
+  pub begun : (m : Machine) (chosen : List ℕ) → m.state.number ≡ length chosen → ComesBy code m m chosen []
+  pub more : (start m m' : Machine) (chosen : List ℕ) (out is : List Item) → ComesBy code start m chosen out
+      → ((names : ℕ → ℕ) → Leads code names m m' is) → m'.state.number ≡ m.state.number → ComesBy code start m' chosen (out ++ is)
+  pub numbered : (start m m' : Machine) (chosen : List ℕ) (out is : List Item) → ComesBy code start m chosen out
+      → (b : ℕ) → ((names : ℕ → ℕ) → names m.state.number ≡ b → Leads code names m m' is) → m'.state.number ≡ m.state.number + 1 → ComesBy code start m' (chosen ++ b ∷ []) (out ++ is)
   -- where the machine has ended
   pub ends : (old new : List Block) (f : ℕ) (args : List Word) (l : Trace) (number : ℕ) → Edited code old new f args l number
-      → (m : Machine) (chosen : List ℕ) (out : List Item) → Comes_by code (repair_begins code new l) m chosen out → Free chosen l
+      → (m : Machine) (chosen : List ℕ) (out : List Item) → ComesBy code (repair_begins code new l) m chosen out → Free chosen l
       → ((names : ℕ → ℕ) → turn code names m ≡ Ended)
-      → Ended_repair code old new f args l number chosen m.state out
+      → EndedRepair code old new f args l number chosen m.state out
   -- where its work is more than the run from scratch may take
   pub over : (old new : List Block) (f : ℕ) (args : List Word) (l : Trace) (number : ℕ) → Edited code old new f args l number
-      → (m : Machine) (chosen : List ℕ) (out : List Item) → Comes_by code (repair_begins code new l) m chosen out → Free chosen l
+      → (m : Machine) (chosen : List ℕ) (out : List Item) → ComesBy code (repair_begins code new l) m chosen out → Free chosen l
       → (fuel : ℕ) → fuel < m.state.work → fresh code f args new fuel ≡ None
   pub first_ends : (inputs : List Block) (f : ℕ) (args : List Word) → Fits code inputs f args
-      → (m : Machine) (chosen : List ℕ) (out : List Item) → Comes_by code (first_begins code inputs f args) m chosen out → Distinct chosen
+      → (m : Machine) (chosen : List ℕ) (out : List Item) → ComesBy code (first_begins code inputs f args) m chosen out → Distinct chosen
       → ((names : ℕ → ℕ) → turn code names m ≡ Ended)
-      → Ended_first code inputs f args chosen m.state out
+      → EndedFirst code inputs f args chosen m.state out
   pub first_over : (inputs : List Block) (f : ℕ) (args : List Word) → Fits code inputs f args
-      → (m : Machine) (chosen : List ℕ) (out : List Item) → Comes_by code (first_begins code inputs f args) m chosen out → Distinct chosen
+      → (m : Machine) (chosen : List ℕ) (out : List Item) → ComesBy code (first_begins code inputs f args) m chosen out → Distinct chosen
       → (fuel : ℕ) → fuel < m.state.work → fresh code f args inputs fuel ≡ None
 
-abbrev pub Chosen_law : Type 0
-Chosen_law = (code : Code) → Chosen_laws code
+-- It holds of all code.
+abbrev pub ChosenLaw : Type 0
+ChosenLaw = (code : Code) → ChosenLaws code

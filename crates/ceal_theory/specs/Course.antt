@@ -1,5 +1,5 @@
 -- The course of a turn over nodes: what an engine does to its nodes is what the machine of repair does in its turns, but
--- for steps that stand between the items of what is left over, which count for nothing and may be dropped.
+-- for steps that stand between the items of what is left over, which do not matter and may be dropped.
 use Rattle.std.specs.Prelude.{◌≡◌, ℕ, suc, ◌≤◌, ◌<◌, true, false, Some, None, List, [], ◌∷◌, ◌++◌, length}
 use Rattle.ceal_base.specs.Block.{Block}
 use Rattle.ceal_base.specs.Operators.{same_word}
@@ -25,10 +25,10 @@ use Rattle.ceal_theory.specs.Repair.{State, clears, puts, works, grows, resumed}
 use Rattle.ceal_theory.specs.SliceLaws.{unit_alone}
 use Rattle.ceal_theory.specs.Slices.{Repair, starting, repair_at, Slices, sliced, Sound}
 use Rattle.ceal_theory.specs.Take.{TakenAlloc, TakenRead, take_alloc, take_read}
-use Rattle.ceal_theory.specs.Turns.{Mode, Fixing, Running, Frames, Bottom, After_fix, After_mend, After_run, Machine, Ended, turn, Finishes, Leads}
-use Rattle.ceal_theory.specs.Walk.{with_store, store_after, Agrees_all}
+use Rattle.ceal_theory.specs.Turns.{Mode, Fixing, Running, Frames, Bottom, AfterFix, AfterMend, AfterRun, Machine, Ended, turn, Finishes, Leads}
+use Rattle.ceal_theory.specs.Walk.{with_store, store_after, AgreesAll}
 
--- what waits for the end of a read: kept items around it, a stack with the old items behind it, or a stack with those that
+-- what waits for the end of a read: kept items around it, a stack with the old items after it, or a stack with those that
 -- are left over then
 pub data Wait : Type 0 where
   Fixes : Wait
@@ -38,15 +38,15 @@ pub data Wait : Type 0 where
 -- what waits, where these levels of old items stand around those of now
 abbrev pub frames_at : List Wait → List Trace → Frames
 frames_at [] ts = Bottom
-frames_at (Fixes ∷ ws) ts = After_fix (first ts) (frames_at ws (around ts))
-frames_at (Takes below ∷ ws) ts = After_mend below (first ts) (frames_at ws (around ts))
-frames_at (Begins below ∷ ws) ts = After_run below (frames_at ws ts)
+frames_at (Fixes ∷ ws) ts = AfterFix (first ts) (frames_at ws (around ts))
+frames_at (Takes below ∷ ws) ts = AfterMend below (first ts) (frames_at ws (around ts))
+frames_at (Begins below ∷ ws) ts = AfterRun below (frames_at ws ts)
 
--- items are gone through, with these behind
+-- items are gone through, with these after it
 abbrev pub fixing_at : State → List Wait → List Item → Machine
 fixing_at s ws is = record { state = s; mode = Fixing (first (levels is)); frames = frames_at ws (around (levels is)) }
 
--- a stack runs, with these behind
+-- a stack runs, with these after it
 abbrev pub running_at : State → Stack → List Wait → List Item → Machine
 running_at s st ws is = record { state = s; mode = Running st (first (levels is)); frames = frames_at ws (around (levels is)) }
 
@@ -60,38 +60,40 @@ pub data Nested : List Wait → List Item → List Wait → Type 0 where
   end : {ws vs : List Wait} {is : List Item} → Nested ws is vs → Nested (Fixes ∷ ws) (End ∷ is) vs
 
 -- the same but for steps between the items of what is left over
-pub data Bare_mode : Mode → Mode → Type 0 where
-  fixes : {l : Trace} → Bare_mode (Fixing l) (Fixing l)
-  runs : {st : Stack} {l m : Trace} → bare l ≡ bare m → Bare_mode (Running st l) (Running st m)
+pub data BareMode : Mode → Mode → Type 0 where
+  fixes : {l : Trace} → BareMode (Fixing l) (Fixing l)
+  runs : {st : Stack} {l m : Trace} → bare l ≡ bare m → BareMode (Running st l) (Running st m)
 
-pub data Bare_frames : Frames → Frames → Type 0 where
-  bottom : Bare_frames Bottom Bottom
-  after_fix : {l : Trace} {fs gs : Frames} → Bare_frames fs gs → Bare_frames (After_fix l fs) (After_fix l gs)
-  after_mend : {st : Stack} {l m : Trace} {fs gs : Frames} → bare l ≡ bare m → Bare_frames fs gs → Bare_frames (After_mend st l fs) (After_mend st m gs)
-  after_run : {st : Stack} {fs gs : Frames} → Bare_frames fs gs → Bare_frames (After_run st fs) (After_run st gs)
+-- frames that are the same but for steps between items of what is left over
+pub data BareFrames : Frames → Frames → Type 0 where
+  bottom : BareFrames Bottom Bottom
+  after_fix : {l : Trace} {fs gs : Frames} → BareFrames fs gs → BareFrames (AfterFix l fs) (AfterFix l gs)
+  after_mend : {st : Stack} {l m : Trace} {fs gs : Frames} → bare l ≡ bare m → BareFrames fs gs → BareFrames (AfterMend st l fs) (AfterMend st m gs)
+  after_run : {st : Stack} {fs gs : Frames} → BareFrames fs gs → BareFrames (AfterRun st fs) (AfterRun st gs)
 
-pub record Bare_same (m m' : Machine) : Type 0 where
+-- machines that are the same but for such steps
+pub record BareSame (m m' : Machine) : Type 0 where
   pub state : m.state ≡ m'.state
-  pub mode : Bare_mode m.mode m'.mode
-  pub frames : Bare_frames m.frames m'.frames
+  pub mode : BareMode m.mode m'.mode
+  pub frames : BareFrames m.frames m'.frames
 
 -- steps between the items of what is left over may be dropped, or put in
-abbrev pub Bare_law : Type 0
-Bare_law = (code : Code) (names : ℕ → ℕ) (m m' : Machine) → Bare_same m m' → Leads code names m m' []
+abbrev pub BareLaw : Type 0
+BareLaw = (code : Code) (names : ℕ → ℕ) (m m' : Machine) → BareSame m m' → Leads code names m m' []
 
--- What an engine does to its nodes. Behind the cursor stand the nodes of a grove, which are left over, and then the end of the
+-- What an engine does to its nodes. After the cursor stand the nodes of a grove, which are left over, and then the end of the
 -- read that is repaired, or nothing.
 pub record Moves (code : Code) (names : ℕ → ℕ) : Type 0 where
   -- kept items that agree with the store are passed
-  pub passes : {ws vs : List Wait} {is : List Item} → Nested ws is vs → (s : State) → Agrees_all code s.store is → (rest : List Item)
+  pub passes : {ws vs : List Wait} {is : List Item} → Nested ws is vs → (s : State) → AgreesAll code s.store is → (rest : List Item)
       → Leads code names (fixing_at s ws (is ++ rest)) (fixing_at (with_store s (store_after code s.store is)) vs rest) is
   -- a stale read among them: its unit runs, with what is inside it left over; its steps are dropped
   pub repairs : (s : State) (ws : List Wait) (p : Place) (value : Word) (u : UnitId) (v : ℕ) (args : List Word) (stamp n : ℕ) (back : List Knot) → same_word (s.store p) value ≡ false
       → Leads code names (fixing_at s ws (items_in (knot stamp (Read p value u v args) n ∷ back))) (running_at s (resumed code u v args (s.store p)) (Fixes ∷ ws) (items_in back)) (Read p (s.store p) u v args ∷ [])
-  -- its unit is over: what is left over is revoked, and what is kept goes on behind its end
+  -- its unit is over: what is left over is revoked, and what is kept goes on after its end
   pub repaired : (s : State) (st : Stack) (ws : List Wait) (g : Grove) (e m : ℕ) (rest : List Knot) → next code s.plain st ≡ Over
       → Leads code names (running_at s st (Fixes ∷ ws) (items_in (knots g ++ knot e End m ∷ rest))) (fixing_at s ws (ticks m ++ items_in rest)) (End ∷ [])
-  -- a taken read that ran anew is over: what is left over is revoked, and what is left over behind its end is used from here on
+  -- a taken read that ran anew is over: what is left over is revoked, and what is left over after its end is used from here on
   pub retaken : (s : State) (st below : Stack) (ws : List Wait) (g : Grove) (e m : ℕ) (rest : List Knot) → next code s.plain st ≡ Over
       → Leads code names (running_at s st (Takes below ∷ ws) (items_in (knots g ++ knot e End m ∷ rest))) (running_at s below ws (items_in rest)) (End ∷ [])
   -- a taken read that was kept is over
@@ -130,30 +132,30 @@ pub record Moves (code : Code) (names : ℕ → ℕ) : Type 0 where
       → same_word (s.store p) t.value ≡ false
       → Leads code names (running_at s st ws (items_in (knots g ++ tail))) (running_at (works s) (resumed code u v args (s.store p)) (Takes below ∷ ws) (items_in (knots inside ++ knot e End m ∷ (knots rest ++ tail)))) (Step ∷ Read p (s.store p) u v args ∷ [])
 
-abbrev pub Moves_law : Type 0
-Moves_law = (code : Code) (names : ℕ → ℕ) → Moves code names
+abbrev pub MovesLaw : Type 0
+MovesLaw = (code : Code) (names : ℕ → ℕ) → Moves code names
 
 -- whatever a machine finishes with has at least the work of each machine that it comes to, and the steps that it has written by then
-abbrev pub Work_law : Type 0
-Work_law = (code : Code) (names : ℕ → ℕ) (start m : Machine) (out : List Item) → Leads code names start m out
+abbrev pub WorkLaw : Type 0
+WorkLaw = (code : Code) (names : ℕ → ℕ) (start m : Machine) (out : List Item) → Leads code names start m out
     → (t : State) (items : List Item) → Finishes code names start t items → (m.state.work ≤ t.work) × (steps_in out ≤ steps_in items)
 
 -- A turn that has come to an end is a slice of one read; one whose work is more than n by now has no slice of n steps spent.
-pub record Turn_course (code : Code) (names : ℕ → ℕ) (inputs : List Block) (r : Repair) (front : List Item) (p : Place) (u : UnitId) (v : ℕ) (args : List Word) (inside : Trace) (back : List Item) (m : Machine) (out : List Item) : Type 0 where
+pub record TurnCourse (code : Code) (names : ℕ → ℕ) (inputs : List Block) (r : Repair) (front : List Item) (p : Place) (u : UnitId) (v : ℕ) (args : List Word) (inside : Trace) (back : List Item) (m : Machine) (out : List Item) : Type 0 where
   pub ended : turn code names m ≡ Ended
       → (l : Trace) × Slices code names inputs (Some 1) r (repair_at m.state l) × (flat l ≡ front ++ Read p (store_after code (starting code inputs r.known) front p) u v args ∷ (out ++ End ∷ back))
   pub over : (n : ℕ) → n < m.state.work → (sliced code names inputs None n r ≡ None) × ((k : ℕ) → sliced code names inputs (Some (suc k)) n r ≡ None)
 
-abbrev pub Turn_course_law : Type 0
-Turn_course_law = (code : Code) (names : ℕ → ℕ) (inputs : List Block) (r : Repair) (front : List Item) (p : Place) (value : Word) (u : UnitId) (v : ℕ) (args : List Word) (inside : Trace) (back : List Item)
-    → flat r.items ≡ front ++ Read p value u v args ∷ (flat inside ++ End ∷ back) → Agrees_all code (starting code inputs r.known) front → ¬ (store_after code (starting code inputs r.known) front p ≡ value)
-    → (m : Machine) (out : List Item) → Leads code names (unit_alone code inputs r front p u v args inside) m out → Turn_course code names inputs r front p u v args inside back m out
+abbrev pub TurnCourseLaw : Type 0
+TurnCourseLaw = (code : Code) (names : ℕ → ℕ) (inputs : List Block) (r : Repair) (front : List Item) (p : Place) (value : Word) (u : UnitId) (v : ℕ) (args : List Word) (inside : Trace) (back : List Item)
+    → flat r.items ≡ front ++ Read p value u v args ∷ (flat inside ++ End ∷ back) → AgreesAll code (starting code inputs r.known) front → ¬ (store_after code (starting code inputs r.known) front p ≡ value)
+    → (m : Machine) (out : List Item) → Leads code names (unit_alone code inputs r front p u v args inside) m out → TurnCourse code names inputs r front p u v args inside back m out
 
 -- what the machine of a turn knows at its beginning: the blocks that the items before the read allocate, and of old ones those
 -- that the repair knows
-abbrev pub Turn_known_law : Type 0
-Turn_known_law = (code : Code) (names : ℕ → ℕ) (inputs : List Block) (f : ℕ) (ws : List Word) → Fits code inputs f ws → (r : Repair) → (h : Sound code names inputs f ws r)
+abbrev pub TurnKnownLaw : Type 0
+TurnKnownLaw = (code : Code) (names : ℕ → ℕ) (inputs : List Block) (f : ℕ) (ws : List Word) → Fits code inputs f ws → (r : Repair) → (h : Sound code names inputs f ws r)
     → (front : List Item) (p : Place) (value : Word) (u : UnitId) (v : ℕ) (args : List Word) (after : List Item)
-    → flat r.items ≡ front ++ Read p value u v args ∷ after → Agrees_all code (starting code inputs r.known) front → ¬ (store_after code (starting code inputs r.known) front p ≡ value)
+    → flat r.items ≡ front ++ Read p value u v args ∷ after → AgreesAll code (starting code inputs r.known) front → ¬ (store_after code (starting code inputs r.known) front p ≡ value)
     → (inside : Trace) (back : List Item) → after ≡ flat inside ++ End ∷ back
     → Knows code (length inputs) h.blocks (known_after [] front) (unit_alone code inputs r front p u v args inside)

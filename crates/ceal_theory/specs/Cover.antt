@@ -1,7 +1,7 @@
 -- What the queue of a repair that goes on has to hold, over the items in the order of time, each with its stamp.
 use Rattle.std.specs.Prelude.{◌≡◌, ℕ, ◌==◌, ◌||◌, Bool, true, false, if◌then◌else◌, Option, Some, None, List, [], ◌∷◌, ◌++◌, ◌⊎◌, ⊤}
 use Rattle.ceal_base.specs.Operators.{same_place}
-use Rattle.ceal_base.specs.Trace.{Trace, Stepped, Allocated, Wrote, Was_read, flat}
+use Rattle.ceal_base.specs.Trace.{Trace, Stepped, Allocated, Wrote, WasRead, flat}
 use Rattle.ceal_base.specs.declared.forest.Item.{Item}
 use Rattle.ceal_base.specs.declared.forest.Item.TheVariants.{Step, Alloc, Write, Read, End}
 use Rattle.ceal_base.specs.declared.forest.UnitId.{UnitId}
@@ -12,12 +12,14 @@ use Rattle.ceal_base.specs.declared.word.Place.{Place}
 use Rattle.ceal_base.specs.declared.word.Word.{Word}
 use Rattle.ceal_code.specs.Program.{Code}
 use Rattle.ceal_code.specs.Replay.{Store, Honest, cleared, stored}
-use Rattle.ceal_theory.specs.Walk.{store_after, Agrees_all}
+use Rattle.ceal_theory.specs.Walk.{store_after, AgreesAll}
 
+-- nodes of a trace: items with their stamps, in order
 pub data Nodes : Type 0 where
   Nil : Nodes
   Node : (stamp : ℕ) (item : Item) (rest : Nodes) → Nodes
 
+-- the items of nodes
 abbrev pub items_of : Nodes → List Item
 items_of Nil = []
 items_of (Node n i rest) = i ∷ items_of rest
@@ -31,15 +33,19 @@ before (Node n i rest) l = Node n i (before rest l)
 abbrev pub Queue : Type 0
 Queue = ℕ → Bool
 
+-- at which places somebody waits for a queued read
 abbrev pub Waiting : Type 0
 Waiting = Place → Bool
 
+-- nobody waits
 unfoldable pub none_waits : Waiting
 none_waits = λ p. false
 
+-- nobody waits at place p any more
 unfoldable pub closed : Waiting → Place → Waiting
 closed w p = λ q. if same_place q p then false else w q
 
+-- at place p somebody waits, if b says so
 unfoldable pub opened : Waiting → Place → Bool → Waiting
 opened w p b = λ q. if same_place q p then w q || b else w q
 
@@ -61,16 +67,19 @@ first_read p (Node n (Write q value) rest) = if same_place q p then None else fi
 first_read p (Node n (Read q value u v args) rest) = if same_place q p then Some n else first_read p rest
 first_read p (Node n End rest) = first_read p rest
 
+-- the queue with one more, if there is one
 unfoldable pub with_queued : Queue → Option ℕ → Queue
 with_queued q None = q
 with_queued q (Some n) = λ m. q m || m == n
 
+-- the queue without n
 unfoldable pub without : Queue → ℕ → Queue
 without q n = λ m. if m == n then false else q m
 
-abbrev pub None_queued : Queue → Nodes → Type 0
-None_queued q Nil = ⊤
-None_queued q (Node n i rest) = (q n ≡ false) × None_queued q rest
+-- none of the nodes is queued
+abbrev pub NoneQueued : Queue → Nodes → Type 0
+NoneQueued q Nil = ⊤
+NoneQueued q (Node n i rest) = (q n ≡ false) × NoneQueued q rest
 
 -- the stamp stands at none of these
 abbrev pub Absent : ℕ → Nodes → Type 0
@@ -79,27 +88,27 @@ Absent m (Node n i rest) = ((n == m) ≡ false) × Absent m rest
 
 -- A change of what the store has at one place keeps the cover, where the first read of the place is queued: so with an edit
 -- of a base, with a write that is put in or taken out, and with a queued read that is taken out.
-abbrev pub Change_law : Type 0
-Change_law = (code : Code) (q : Queue) (s : Store) (p : Place) (value : Word) (l : Nodes)
+abbrev pub ChangeLaw : Type 0
+ChangeLaw = (code : Code) (q : Queue) (s : Store) (p : Place) (value : Word) (l : Nodes)
     → (Covered code q s none_waits l → Covered code (with_queued q (first_read p l)) (stored s p value) none_waits l)
     × ((w : Waiting) (wait : Bool) → Covered code q s w l → Covered code (with_queued q (first_read p l)) s (opened (closed w p) p wait) l)
 
 -- Where none of the first nodes is queued they are honest, and what follows is covered. So the first queued read, if it is
 -- stale, is the first stale read; and where nothing is queued all is honest.
-abbrev pub First_queued_law : Type 0
-First_queued_law = (code : Code) (q : Queue) (s : Store) (front l : Nodes) → None_queued q front → Covered code q s none_waits (before front l)
-    → Agrees_all code s (items_of front) × Covered code q (store_after code s (items_of front)) none_waits l
+abbrev pub FirstQueuedLaw : Type 0
+FirstQueuedLaw = (code : Code) (q : Queue) (s : Store) (front l : Nodes) → NoneQueued q front → Covered code q s none_waits (before front l)
+    → AgreesAll code s (items_of front) × Covered code q (store_after code s (items_of front)) none_waits l
 
 -- the first queued read, where it is honest, goes from the queue, and the next one of its place, with no write between, comes
 -- in its stead
-abbrev pub Pop_law : Type 0
-Pop_law = (code : Code) (q : Queue) (s : Store) (front : Nodes) (n : ℕ) (p : Place) (value : Word) (u : UnitId) (v : ℕ) (args : List Word) (l : Nodes)
-    → None_queued q front → Absent n l → Covered code q s none_waits (before front (Node n (Read p value u v args) l)) → store_after code s (items_of front) p ≡ value
+abbrev pub PopLaw : Type 0
+PopLaw = (code : Code) (q : Queue) (s : Store) (front : Nodes) (n : ℕ) (p : Place) (value : Word) (u : UnitId) (v : ℕ) (args : List Word) (l : Nodes)
+    → NoneQueued q front → Absent n l → Covered code q s none_waits (before front (Node n (Read p value u v args) l)) → store_after code s (items_of front) p ≡ value
     → Covered code (with_queued (without q n) (first_read p l)) s none_waits (before front (Node n (Read p value u v args) l))
 
 -- honest nodes may be put in front of covered ones
-abbrev pub Front_law : Type 0
-Front_law = (code : Code) (q : Queue) (s : Store) (front l : Nodes) → Agrees_all code s (items_of front) → Covered code q (store_after code s (items_of front)) none_waits l
+abbrev pub FrontLaw : Type 0
+FrontLaw = (code : Code) (q : Queue) (s : Store) (front l : Nodes) → AgreesAll code s (items_of front) → Covered code q (store_after code s (items_of front)) none_waits l
     → Covered code q s none_waits (before front l)
 
 -- the core blocks of these, and those that the items allocate
@@ -116,7 +125,7 @@ known_after bs (End ∷ is) = known_after bs is
 -- after its end.
 pub data At (code : Code) : Store → Trace → List Item → Store → Place → Word → UnitId → ℕ → List Word → Trace → List Item → Type 0 where
   here : {s : Store} {p : Place} {value : Word} {u : UnitId} {v : ℕ} {args : List Word} {inside rest : Trace}
-      → At code s (Was_read p value u v args inside rest) [] s p value u v args inside (flat rest)
+      → At code s (WasRead p value u v args inside rest) [] s p value u v args inside (flat rest)
   step : {s w : Store} {rest : Trace} {front back : List Item} {p : Place} {value : Word} {u : UnitId} {v : ℕ} {args : List Word} {inside : Trace}
       → At code s rest front w p value u v args inside back → At code s (Stepped rest) (Step ∷ front) w p value u v args inside back
   alloc : {s w : Store} {b : BlockId} {key : Key} {rest : Trace} {front back : List Item} {p : Place} {value : Word} {u : UnitId} {v : ℕ} {args : List Word} {inside : Trace}
@@ -125,10 +134,10 @@ pub data At (code : Code) : Store → Trace → List Item → Store → Place �
       → At code (stored s x y) rest front w p value u v args inside back → At code s (Wrote x y rest) (Write x y ∷ front) w p value u v args inside back
   inner : {s w : Store} {x : Place} {y : Word} {c : UnitId} {n : ℕ} {ws : List Word} {within rest : Trace} {front back : List Item} {p : Place} {value : Word} {u : UnitId} {v : ℕ} {args : List Word} {inside : Trace}
       → s x ≡ y → At code s within front w p value u v args inside back
-      → At code s (Was_read x y c n ws within rest) (Read x y c n ws ∷ front) w p value u v args inside (back ++ End ∷ flat rest)
+      → At code s (WasRead x y c n ws within rest) (Read x y c n ws ∷ front) w p value u v args inside (back ++ End ∷ flat rest)
   outer : {s t w : Store} {x : Place} {y : Word} {c : UnitId} {n : ℕ} {ws : List Word} {within rest : Trace} {front back : List Item} {p : Place} {value : Word} {u : UnitId} {v : ℕ} {args : List Word} {inside : Trace}
       → s x ≡ y → Honest code s within t → At code t rest front w p value u v args inside back
-      → At code s (Was_read x y c n ws within rest) (Read x y c n ws ∷ (flat within ++ End ∷ front)) w p value u v args inside back
+      → At code s (WasRead x y c n ws within rest) (Read x y c n ws ∷ (flat within ++ End ∷ front)) w p value u v args inside back
 
 -- who waits after these
 abbrev pub waits_after : Queue → Waiting → Nodes → Waiting
@@ -145,48 +154,48 @@ Queued q None = ⊤
 Queued q (Some n) = q n ≡ true
 
 -- what the one queue has of these nodes the other has
-abbrev pub More_on : Queue → Queue → Nodes → Type 0
-More_on q q' Nil = ⊤
-More_on q q' (Node n i rest) = (q n ≡ true → q' n ≡ true) × More_on q q' rest
+abbrev pub MoreOn : Queue → Queue → Nodes → Type 0
+MoreOn q q' Nil = ⊤
+MoreOn q q' (Node n i rest) = (q n ≡ true → q' n ≡ true) × MoreOn q q' rest
 
 -- The one law of the queue, of which the others are instances: the store and who waits may change at any places whose first
 -- read in these nodes is queued.
-abbrev pub Cover_law : Type 0
-Cover_law = (code : Code) (q q' : Queue) (l : Nodes) → More_on q q' l → (s s' : Store) (w : Waiting)
+abbrev pub CoverLaw : Type 0
+CoverLaw = (code : Code) (q q' : Queue) (l : Nodes) → MoreOn q q' l → (s s' : Store) (w : Waiting)
     → ((p : Place) → ((s p ≡ s' p) × (w p ≡ false)) ⊎ Queued q' (first_read p l)) → Covered code q s w l → Covered code q' s' none_waits l
 
 -- Old nodes between a front and a back give place to new ones that are honest, as in a turn: the cover stays where the first read
--- behind is queued of each place whose content differs there or of which somebody waited.
-abbrev pub Replace_law : Type 0
-Replace_law = (code : Code) (q q' : Queue) (s : Store) (front old new back : Nodes) → None_queued q front → Covered code q s none_waits (before front (before old back))
-    → Agrees_all code (store_after code s (items_of front)) (items_of new) → More_on q q' back
+-- after is queued of each place whose content differs there or of which somebody waited.
+abbrev pub ReplaceLaw : Type 0
+ReplaceLaw = (code : Code) (q q' : Queue) (s : Store) (front old new back : Nodes) → NoneQueued q front → Covered code q s none_waits (before front (before old back))
+    → AgreesAll code (store_after code s (items_of front)) (items_of new) → MoreOn q q' back
     → ((p : Place) → ((store_after code (store_after code s (items_of front)) (items_of old) p ≡ store_after code (store_after code s (items_of front)) (items_of new) p) × (waits_after q none_waits old p ≡ false))
     ⊎ Queued q' (first_read p back))
     → Covered code q' s none_waits (before front (before new back))
 
 -- What an engine does to its nodes keeps the cover, where none of the nodes in front is queued.
-pub record Node_changes (code : Code) : Type 0 where
+pub record NodeChanges (code : Code) : Type 0 where
   -- a write is put in or taken out, and the next read of its place is queued
-  pub put_write : (q : Queue) (s : Store) (front back : Nodes) (n : ℕ) (p : Place) (value : Word) → None_queued q front → Covered code q s none_waits (before front back)
+  pub put_write : (q : Queue) (s : Store) (front back : Nodes) (n : ℕ) (p : Place) (value : Word) → NoneQueued q front → Covered code q s none_waits (before front back)
       → Covered code (with_queued q (first_read p back)) s none_waits (before front (Node n (Write p value) back))
-  pub cut_write : (q : Queue) (s : Store) (front back : Nodes) (n : ℕ) (p : Place) (value : Word) → None_queued q front → Covered code q s none_waits (before front (Node n (Write p value) back))
+  pub cut_write : (q : Queue) (s : Store) (front back : Nodes) (n : ℕ) (p : Place) (value : Word) → NoneQueued q front → Covered code q s none_waits (before front (Node n (Write p value) back))
       → Covered code (with_queued q (first_read p back)) s none_waits (before front back)
   -- a read is revoked, queued or not, and the next read of its place is queued
-  pub cut_read : (q : Queue) (s : Store) (front back : Nodes) (n : ℕ) (p : Place) (value : Word) (u : UnitId) (v : ℕ) (args : List Word) → None_queued q front
+  pub cut_read : (q : Queue) (s : Store) (front back : Nodes) (n : ℕ) (p : Place) (value : Word) (u : UnitId) (v : ℕ) (args : List Word) → NoneQueued q front
       → Covered code q s none_waits (before front (Node n (Read p value u v args) back)) → Covered code (with_queued q (first_read p back)) s none_waits (before front back)
   -- a new read is put in that has the content of its moment
-  pub put_read : (q : Queue) (s : Store) (front back : Nodes) (n : ℕ) (p : Place) (value : Word) (u : UnitId) (v : ℕ) (args : List Word) → None_queued q front → store_after code s (items_of front) p ≡ value
+  pub put_read : (q : Queue) (s : Store) (front back : Nodes) (n : ℕ) (p : Place) (value : Word) (u : UnitId) (v : ℕ) (args : List Word) → NoneQueued q front → store_after code s (items_of front) p ≡ value
       → Covered code q s none_waits (before front back) → Covered code q s none_waits (before front (Node n (Read p value u v args) back))
   -- an end is put in or taken out
-  pub put_end : (q : Queue) (s : Store) (front back : Nodes) (n : ℕ) → None_queued q front → Covered code q s none_waits (before front back) → Covered code q s none_waits (before front (Node n End back))
-  pub cut_end : (q : Queue) (s : Store) (front back : Nodes) (n : ℕ) → None_queued q front → Covered code q s none_waits (before front (Node n End back)) → Covered code q s none_waits (before front back)
+  pub put_end : (q : Queue) (s : Store) (front back : Nodes) (n : ℕ) → NoneQueued q front → Covered code q s none_waits (before front back) → Covered code q s none_waits (before front (Node n End back))
+  pub cut_end : (q : Queue) (s : Store) (front back : Nodes) (n : ℕ) → NoneQueued q front → Covered code q s none_waits (before front (Node n End back)) → Covered code q s none_waits (before front back)
   -- an allocation is put in or taken out where the modifiables of its block have their defaults
-  pub put_alloc : (q : Queue) (s : Store) (front back : Nodes) (n : ℕ) (b : BlockId) (key : Key) → None_queued q front
+  pub put_alloc : (q : Queue) (s : Store) (front back : Nodes) (n : ℕ) (b : BlockId) (key : Key) → NoneQueued q front
       → ((p : Place) → cleared code (store_after code s (items_of front)) b key p ≡ store_after code s (items_of front) p)
       → Covered code q s none_waits (before front back) → Covered code q s none_waits (before front (Node n (Alloc b key) back))
-  pub cut_alloc : (q : Queue) (s : Store) (front back : Nodes) (n : ℕ) (b : BlockId) (key : Key) → None_queued q front
+  pub cut_alloc : (q : Queue) (s : Store) (front back : Nodes) (n : ℕ) (b : BlockId) (key : Key) → NoneQueued q front
       → ((p : Place) → cleared code (store_after code s (items_of front)) b key p ≡ store_after code s (items_of front) p)
       → Covered code q s none_waits (before front (Node n (Alloc b key) back)) → Covered code q s none_waits (before front back)
 
-abbrev pub Node_changes_law : Type 0
-Node_changes_law = (code : Code) → Node_changes code
+abbrev pub NodeChangesLaw : Type 0
+NodeChangesLaw = (code : Code) → NodeChanges code

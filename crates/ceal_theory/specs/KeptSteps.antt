@@ -17,11 +17,13 @@ abbrev mutual
   kept_fix (Fix.write f) = kept_fix f
   kept_fix (Fix.read m f) = kept_mend m + kept_fix f
 
+  -- the steps that are kept inside a read that is taken
   pub kept_mend : {code : Code} {names : ℕ → ℕ} {s t : State} {p : Place} {u : UnitId} {v : ℕ} {args : List Word} {value : Word} {old new : Trace}
       → Mend code names s p u v args value old t new → ℕ
   kept_mend (Mend.kept e f) = kept_fix f
   kept_mend (Mend.stale e a) = kept_anew a
 
+  -- the steps that are kept in what runs anew
   pub kept_anew : {code : Code} {names : ℕ → ℕ} {s s' : State} {st : Stack} {old new left : Trace} → Anew code names s st old s' new left → ℕ
   kept_anew (Anew.over e) = 0
   kept_anew (Anew.quiet e a) = kept_anew a
@@ -32,6 +34,6 @@ abbrev mutual
   kept_anew (Anew.reads e t m a) = kept_anew m + kept_anew a
 
 -- the kept and the new steps together are those of the new items; what is kept are steps of the old ones
-abbrev pub Kept_steps_law : Type 0
-Kept_steps_law = (code : Code) (names : ℕ → ℕ) (s s' : State) (old new : Trace) (f : Fix code names s old s' new)
+abbrev pub KeptStepsLaw : Type 0
+KeptStepsLaw = (code : Code) (names : ℕ → ℕ) (s s' : State) (old new : Trace) (f : Fix code names s old s' new)
     → (kept_fix f + s'.work ≡ steps_of new + s.work) × (kept_fix f ≤ steps_of old)

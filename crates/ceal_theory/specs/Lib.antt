@@ -1,3 +1,4 @@
+-- what the crate promises
 -- the repair of traces, as rules and as a function, and its laws
 pub mod Take
 pub mod Repair

@@ -7,21 +7,21 @@ use Rattle.ceal_base.specs.declared.word.Place.{Place}
 use Rattle.ceal_base.specs.declared.word.Word.{Word}
 use Rattle.ceal_code.specs.Fitting.{Fits}
 use Rattle.ceal_code.specs.Program.{Code}
-use Rattle.ceal_code.specs.Replay.{Known_block, Distinct}
+use Rattle.ceal_code.specs.Replay.{KnownBlock, Distinct}
 use Rattle.ceal_theory.specs.Cover.{known_after}
-use Rattle.ceal_theory.specs.Known.{Known_items}
+use Rattle.ceal_theory.specs.Known.{KnownItems}
 use Rattle.ceal_theory.specs.KnownContent.{allocs, written_after}
 use Rattle.ceal_theory.specs.Slices.{Repair, starting, Sound}
-use Rattle.ceal_theory.specs.Walk.{store_after, Agrees_all}
+use Rattle.ceal_theory.specs.Walk.{store_after, AgreesAll}
 
 -- It mentions known blocks alone and allocates each once, and at each place of
 -- a block that is known after it the store is the last write of the place in it, or else what it was at the beginning.
 pub record Listed (code : Code) (inputs : List Block) (r : Repair) (front : List Item) : Type 0 where
-  pub items : Known_items (length inputs) [] front (known_after [] front)
+  pub items : KnownItems (length inputs) [] front (known_after [] front)
   pub once : Distinct (allocs front)
-  pub last : (p : Place) → Known_block (length inputs) (known_after [] front) p.block → store_after code (starting code inputs r.known) front p ≡ written_after p (starting code inputs r.known p) front
+  pub last : (p : Place) → KnownBlock (length inputs) (known_after [] front) p.block → store_after code (starting code inputs r.known) front p ≡ written_after p (starting code inputs r.known p) front
 
 -- so it is with honest items at the beginning of a repair that holds
-abbrev pub Listed_law : Type 0
-Listed_law = (code : Code) (names : ℕ → ℕ) (inputs : List Block) (f : ℕ) (args : List Word) → Fits code inputs f args → (r : Repair) → Sound code names inputs f args r
-    → (front back : List Item) → flat r.items ≡ front ++ back → Agrees_all code (starting code inputs r.known) front → Listed code inputs r front
+abbrev pub ListedLaw : Type 0
+ListedLaw = (code : Code) (names : ℕ → ℕ) (inputs : List Block) (f : ℕ) (args : List Word) → Fits code inputs f args → (r : Repair) → Sound code names inputs f args r
+    → (front back : List Item) → flat r.items ≡ front ++ back → AgreesAll code (starting code inputs r.known) front → Listed code inputs r front

@@ -11,16 +11,16 @@ use Rattle.ceal_code.specs.Replay.{bases, Replays, IsHonest}
 use Rattle.ceal_theory.specs.Adjust.{Extended}
 
 -- the old inputs have the bases that they had
-abbrev pub Same_bases : Code → List Block → List Block → Type 0
-Same_bases code old new = (i field : ℕ) → i < length old
+abbrev pub SameBases : Code → List Block → List Block → Type 0
+SameBases code old new = (i field : ℕ) → i < length old
     → bases code old (record { block = Input i; field = field }) ≡ bases code new (record { block = Input i; field = field })
 
 -- a trace of a call is one on inputs that extend the old ones; where no old base is another, it stays honest
-pub record On_more (code : Code) (old new : List Block) (f : ℕ) (args : List Word) (l : Trace) : Type 0 where
+pub record OnMore (code : Code) (old new : List Block) (f : ℕ) (args : List Word) (l : Trace) : Type 0 where
   pub call : Fits code new f args
   pub replays : Replays code new f args l
-  pub honest : Same_bases code old new → IsHonest code old l → IsHonest code new l
+  pub honest : SameBases code old new → IsHonest code old l → IsHonest code new l
 
-abbrev pub More_inputs_law : Type 0
-More_inputs_law = (code : Code) (old new : List Block) (f : ℕ) (args : List Word) → Fits code old f args → inputs_fit code.structs new ≡ true → Extended code old new
-    → (l : Trace) → Replays code old f args l → On_more code old new f args l
+abbrev pub MoreInputsLaw : Type 0
+MoreInputsLaw = (code : Code) (old new : List Block) (f : ℕ) (args : List Word) → Fits code old f args → inputs_fit code.structs new ≡ true → Extended code old new
+    → (l : Trace) → Replays code old f args l → OnMore code old new f args l

@@ -1,7 +1,7 @@
 -- The repair of a trace, as rules.
 use Rattle.std.specs.Prelude.{◌≡◌, ℕ, ◌+◌, Some, None, List}
 use Rattle.ceal_base.specs.Block.{Block}
-use Rattle.ceal_base.specs.Trace.{Trace, Nothing, Stepped, Allocated, Wrote, Was_read}
+use Rattle.ceal_base.specs.Trace.{Trace, Nothing, Stepped, Allocated, Wrote, WasRead}
 use Rattle.ceal_base.specs.declared.forest.Key.{Key}
 use Rattle.ceal_base.specs.declared.forest.UnitId.{UnitId}
 use Rattle.ceal_base.specs.declared.word.BlockId.{BlockId}
@@ -30,6 +30,7 @@ begins code inputs x number = record { store = bases code inputs; plain = x; num
 abbrev pub clears : Code → State → BlockId → Key → State
 clears code s b key = record s { store = cleared code s.store b key }
 
+-- the state after a write
 abbrev pub puts : State → Place → Word → State
 puts s p value = record s { store = stored s.store p value }
 
@@ -71,7 +72,7 @@ mutual
     read : {s t s' : State} {p : Place} {value : Word} {u : UnitId} {v : ℕ} {args : List Word} {inside inside' rest rest' : Trace}
         → Mend code names s p u v args value inside t inside'
         → Fix code names t rest s' rest'
-        → Fix code names s (Was_read p value u v args inside rest) s' (Was_read p (s.store p) u v args inside' rest')
+        → Fix code names s (WasRead p value u v args inside rest) s' (WasRead p (s.store p) u v args inside' rest')
 
   -- One read with this key, its old value and its old items gets these new items. Its new value is the store's; where
   -- that is another one the read is stale, and its unit is run anew with the old items as leftover, whose rest is revoked.
@@ -109,10 +110,10 @@ mutual
         → take_read p u v args old ≡ Some r
         → Mend code names (works s) p u v args r.value r.inside t inside'
         → Anew code names t below r.leftover s' new left
-        → Anew code names s st old s' (Stepped (Was_read p (s.store p) u v args inside' new)) left
+        → Anew code names s st old s' (Stepped (WasRead p (s.store p) u v args inside' new)) left
     reads : {s t s' : State} {st below : Stack} {p : Place} {u : UnitId} {v : ℕ} {args : List Word} {old between inside' new left : Trace}
         → next code s.plain st ≡ Reads p u v args below
         → take_read p u v args old ≡ None
         → Anew code names (works s) (resumed code u v args (s.store p)) old t inside' between
         → Anew code names t below between s' new left
-        → Anew code names s st old s' (Stepped (Was_read p (s.store p) u v args inside' new)) left
+        → Anew code names s st old s' (Stepped (WasRead p (s.store p) u v args inside' new)) left

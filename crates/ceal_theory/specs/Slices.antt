@@ -2,7 +2,7 @@
 use Rattle.std.specs.Prelude.{◌≡◌, ℕ, zero, suc, ◌+◌, ◌≤◌, pos, nat_le, Bool, true, false, Option, Some, None, List, length, slice_get, if◌then◌else◌, ⊤, is_some}
 use Rattle.ceal_base.specs.Block.{Block}
 use Rattle.ceal_base.specs.Operators.{same_word}
-use Rattle.ceal_base.specs.Trace.{Trace, Nothing, Stepped, Allocated, Wrote, Was_read, blocks_of}
+use Rattle.ceal_base.specs.Trace.{Trace, Nothing, Stepped, Allocated, Wrote, WasRead, blocks_of}
 use Rattle.ceal_base.specs.declared.forest.Key.{Key}
 use Rattle.ceal_base.specs.declared.forest.UnitId.{UnitId}
 use Rattle.ceal_base.specs.declared.typed.StructInfo.{StructInfo}
@@ -11,10 +11,10 @@ use Rattle.ceal_base.specs.declared.word.BlockId.TheVariants.{Input, Core}
 use Rattle.ceal_base.specs.declared.word.Place.{Place}
 use Rattle.ceal_base.specs.declared.word.Word.{Word}
 use Rattle.ceal_base.specs.declared.word.Word.TheVariants.{Num}
-use Rattle.ceal_code.specs.Alike.{Pairs, Tied, Plain_alike, Trace_alike, Within, One_to_one}
+use Rattle.ceal_code.specs.Alike.{Pairs, Tied, PlainAlike, TraceAlike, Within, OneToOne}
 use Rattle.ceal_code.specs.Known.{Holds}
 use Rattle.ceal_code.specs.Program.{Code}
-use Rattle.ceal_code.specs.Replay.{Yields, Store, In, Known_block, Known_word, Known_words, Known_key, Distinct, count, core_numbers, input_plain, content_in, cell_default, plain_of, cleared, stored, bases}
+use Rattle.ceal_code.specs.Replay.{Yields, Store, In, KnownBlock, KnownWord, KnownWords, KnownKey, Distinct, count, core_numbers, input_plain, content_in, cell_default, plain_of, cleared, stored, bases}
 use Rattle.ceal_code.specs.Step.{started}
 use Rattle.ceal_code.specs.Value.{Plain, field_kind}
 use Rattle.ceal_theory.specs.Computed.{Runner, Ran, Fixed, fix_by, anew}
@@ -38,6 +38,7 @@ abbrev pub default_in : List StructInfo → Option Block → ℕ → Word
 default_in structs None field = Num (pos 0)
 default_in structs (Some block) field = cell_default (field_kind structs block.shape field)
 
+-- what a place holds at the beginning of a slice
 abbrev pub starting_in : Code → List Block → Plain → BlockId → ℕ → Word
 starting_in code inputs x (Input i) field = content_in code.structs (slice_get inputs i) field
 starting_in code inputs x (Core c) field = default_in code.structs (x (Core c)) field
@@ -50,8 +51,8 @@ starting code inputs x = λ p. starting_in code inputs x p.block p.field
 abbrev pub goes_on : Code → List Block → Repair → State
 goes_on code inputs r = record { store = starting code inputs r.known; plain = with_inputs code inputs r.known; number = r.number; work = r.spent }
 
--- A part of the repair of items, by rules: from so many reads that may still be run anew to so many. Where none may, all
--- later items stay as they are.
+-- A part of the repair of items, by rules: from the number of reads that may still be run anew before it to the number after it.
+-- Where none may, all later items stay as they are.
 pub data Part (code : Code) (names : ℕ → ℕ) : ℕ → State → Trace → ℕ → State → Trace → Type 0 where
   stays : {s : State} {l : Trace} → Part code names zero s l zero s l
   end : {k : ℕ} {s : State} → Part code names (suc k) s Nothing (suc k) s Nothing
@@ -64,15 +65,15 @@ pub data Part (code : Code) (names : ℕ → ℕ) : ℕ → State → Trace → 
       → s.store p ≡ value
       → Part code names (suc k) s inside i t inside'
       → Part code names i t rest j s' rest'
-      → Part code names (suc k) s (Was_read p value u v args inside rest) j s' (Was_read p (s.store p) u v args inside' rest')
+      → Part code names (suc k) s (WasRead p value u v args inside rest) j s' (WasRead p (s.store p) u v args inside' rest')
   -- a stale read that counts
   stale : {k j : ℕ} {s t s' : State} {p : Place} {value : Word} {u : UnitId} {v : ℕ} {args : List Word} {inside inside' left rest rest' : Trace}
       → ¬ (s.store p ≡ value)
       → Anew code names s (resumed code u v args (s.store p)) inside t inside' left
       → Part code names k t rest j s' rest'
-      → Part code names (suc k) s (Was_read p value u v args inside rest) j s' (Was_read p (s.store p) u v args inside' rest')
+      → Part code names (suc k) s (WasRead p value u v args inside rest) j s' (WasRead p (s.store p) u v args inside' rest')
 
--- a slice of at most so many reads, or of all
+-- a slice of at most k reads, or of all
 pub data Runs (code : Code) (names : ℕ → ℕ) : Option ℕ → State → Trace → State → Trace → Type 0 where
   whole : {s s' : State} {l m : Trace} → Fix code names s l s' m → Runs code names None s l s' m
   part : {k j : ℕ} {s s' : State} {l m : Trace} → Part code names k s l j s' m → Runs code names (Some k) s l s' m
@@ -94,10 +95,12 @@ pub record Cut : Type 0 where
   pub state : State
   pub items : Trace
 
+-- a cut with more items in front
 abbrev pub cut_with : (Trace → Trace) → Option Cut → Option Cut
 cut_with f None = None
 cut_with f (Some c) = Some (record c { items = f c.items })
 
+-- a cut, and then another
 abbrev pub and_cut : Option Cut → (Cut → Option Cut) → Option Cut
 and_cut None f = None
 and_cut (Some c) f = f c
@@ -111,26 +114,29 @@ abbrev pub cut_if : Code → Runner → ℕ → State → Place → UnitId → �
 cut_if code again k s p u v args inside walked true = walked
 cut_if code again k s p u v args inside walked false = cut_off k (again s (resumed code u v args (s.store p)) inside)
 
+-- a part of the repair of items, of k reads at most
 abbrev pub part_by : Code → Runner → ℕ → State → Trace → Option Cut
 part_by code again zero s l = Some (record { left = zero; state = s; items = l })
 part_by code again (suc k) s Nothing = Some (record { left = suc k; state = s; items = Nothing })
 part_by code again (suc k) s (Stepped rest) = cut_with Stepped (part_by code again (suc k) s rest)
 part_by code again (suc k) s (Allocated b key rest) = cut_with (Allocated b key) (part_by code again (suc k) (clears code s b key) rest)
 part_by code again (suc k) s (Wrote p value rest) = cut_with (Wrote p value) (part_by code again (suc k) (puts s p value) rest)
-part_by code again (suc k) s (Was_read p value u v args inside rest) =
+part_by code again (suc k) s (WasRead p value u v args inside rest) =
     let walked = part_by code again (suc k) s inside in
     and_cut (cut_if code again k s p u v args inside walked (same_word (s.store p) value))
-    (λ c. cut_with (Was_read p (s.store p) u v args c.items) (part_by code again c.left c.state rest))
+    (λ c. cut_with (WasRead p (s.store p) u v args c.items) (part_by code again c.left c.state rest))
 
+-- a whole repair, where its steps are n at most
 abbrev pub whole_within : ℕ → Option Fixed → Option Repair
 whole_within n None = None
 whole_within n (Some f) = if nat_le f.state.work n then Some (repair_at f.state f.items) else None
 
+-- a part, where its steps are n at most
 abbrev pub part_within : ℕ → Option Cut → Option Repair
 part_within n None = None
 part_within n (Some c) = if nat_le c.state.work n then Some (repair_at c.state c.items) else None
 
--- a slice of the repair on these inputs of at most so many reads, where no more than n steps are spent then
+-- a slice of the repair on these inputs of at most k reads, where no more than n steps are spent then
 unfoldable pub sliced : Code → (ℕ → ℕ) → List Block → Option ℕ → ℕ → Repair → Option Repair
 sliced code names inputs None n r = whole_within n (fix_by code (anew code names (n + 1)) (goes_on code inputs r) r.items)
 sliced code names inputs (Some k) n r = part_within n (part_by code (anew code names (n + 1)) k (goes_on code inputs r) r.items)
@@ -139,10 +145,10 @@ sliced code names inputs (Some k) n r = part_within n (part_by code (anew code n
 abbrev pub Uses : ℕ → List ℕ → Trace → Type 0
 Uses n bs Nothing = ⊤
 Uses n bs (Stepped rest) = Uses n bs rest
-Uses n bs (Allocated b key rest) = Known_block n bs b × Known_key n bs key × Uses n bs rest
-Uses n bs (Wrote p value rest) = Known_block n bs p.block × Known_word n bs value × Uses n bs rest
-Uses n bs (Was_read p value u v args inside rest) =
-    Known_block n bs p.block × Known_word n bs value × Known_words n bs args × Uses n bs inside × Uses n bs rest
+Uses n bs (Allocated b key rest) = KnownBlock n bs b × KnownKey n bs key × Uses n bs rest
+Uses n bs (Wrote p value rest) = KnownBlock n bs p.block × KnownWord n bs value × Uses n bs rest
+Uses n bs (WasRead p value u v args inside rest) =
+    KnownBlock n bs p.block × KnownWord n bs value × KnownWords n bs args × Uses n bs inside × Uses n bs rest
 
 -- The repair holds for a call on these inputs. The call yields its items over the known plain words; so each block of them
 -- has the words that its key gives. Its blocks are distinct. All that is mentioned is an input or a known block. No known
@@ -158,26 +164,26 @@ pub record Sound (code : Code) (names : ℕ → ℕ) (inputs : List Block) (f : 
   pub free : (k : ℕ) → r.number ≤ k → r.known (Core (names k)) ≡ None
 
 -- no block of the trace has a name of a number from this one on
-abbrev pub Names_apart : (ℕ → ℕ) → ℕ → Trace → Type 0
-Names_apart names number l = (k : ℕ) → number ≤ k → count (names k) (core_numbers (blocks_of l)) ≡ 0
+abbrev pub NamesApart : (ℕ → ℕ) → ℕ → Trace → Type 0
+NamesApart names number l = (k : ℕ) → number ≤ k → count (names k) (core_numbers (blocks_of l)) ≡ 0
 
 -- the repair that begins for items on these inputs, with a number above their blocks
 abbrev pub beginning : Code → List Block → Trace → ℕ → Repair
 beginning code inputs l number = record { items = l; known = plain_of code inputs l; number = number; spent = 0 }
 
 -- one repair is the other with its core blocks renamed one to one
-pub record Alike_repairs (code : Code) (names names' : ℕ → ℕ) (inputs : List Block) (ps : Pairs) (r q : Repair) : Type 0 where
-  pub one : One_to_one ps
-  pub items : Trace_alike ps r.items q.items
-  pub known : Plain_alike code.structs ps (with_inputs code inputs r.known) (with_inputs code inputs q.known)
+pub record AlikeRepairs (code : Code) (names names' : ℕ → ℕ) (inputs : List Block) (ps : Pairs) (r q : Repair) : Type 0 where
+  pub one : OneToOne ps
+  pub items : TraceAlike ps r.items q.items
+  pub known : PlainAlike code.structs ps (with_inputs code inputs r.known) (with_inputs code inputs q.known)
   pub left : (b c : ℕ) → Tied b c ps → (k : ℕ) → r.number ≤ k → ¬ (b ≡ names k)
   pub right : (b c : ℕ) → Tied b c ps → (k : ℕ) → q.number ≤ k → ¬ (c ≡ names' k)
   pub spent : r.spent ≡ q.spent
 
 -- both are not there, or the one is the other renamed
-pub data Renamed_slices (code : Code) (names names' : ℕ → ℕ) (inputs : List Block) (ps : Pairs) : Option Repair → Option Repair → Type 0 where
-  none : Renamed_slices code names names' inputs ps None None
-  some : {r q : Repair} (qs : Pairs) → Within ps qs → Alike_repairs code names names' inputs qs r q → Renamed_slices code names names' inputs ps (Some r) (Some q)
+pub data RenamedSlices (code : Code) (names names' : ℕ → ℕ) (inputs : List Block) (ps : Pairs) : Option Repair → Option Repair → Type 0 where
+  none : RenamedSlices code names names' inputs ps None None
+  some : {r q : Repair} (qs : Pairs) → Within ps qs → AlikeRepairs code names names' inputs qs r q → RenamedSlices code names names' inputs ps (Some r) (Some q)
 
 -- after a slice of k reads a further one comes to what one slice of this repair comes to
 pub data Follows (code : Code) (names : ℕ → ℕ) (inputs : List Block) (k : ℕ) (r : Repair) : Option ℕ → Repair → Type 0 where
@@ -189,12 +195,13 @@ abbrev pub and_store : Option Store → (Store → Option Store) → Option Stor
 and_store None f = None
 and_store (Some t) f = f t
 
+-- the store after items, if they are honest
 abbrev pub honest_by : Code → Store → Trace → Option Store
 honest_by code s Nothing = Some s
 honest_by code s (Stepped rest) = honest_by code s rest
 honest_by code s (Allocated b key rest) = honest_by code (cleared code s b key) rest
 honest_by code s (Wrote p value rest) = honest_by code (stored s p value) rest
-honest_by code s (Was_read p value u v args inside rest) =
+honest_by code s (WasRead p value u v args inside rest) =
     let walked = honest_by code s inside in
     if same_word (s p) value then and_store walked (λ t. honest_by code t rest) else None
 

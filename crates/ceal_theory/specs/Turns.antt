@@ -1,7 +1,7 @@
 -- The repair as a machine with a stack of what is to follow, which writes flat items.
 use Rattle.std.specs.Prelude.{◌≡◌, ◌↔◌, ℕ, Bool, true, false, Option, Some, None, List, [], ◌∷◌, ◌++◌}
 use Rattle.ceal_base.specs.Operators.{same_word}
-use Rattle.ceal_base.specs.Trace.{Trace, Nothing, Stepped, Allocated, Wrote, Was_read, flat}
+use Rattle.ceal_base.specs.Trace.{Trace, Nothing, Stepped, Allocated, Wrote, WasRead, flat}
 use Rattle.ceal_base.specs.declared.forest.Item.{Item}
 use Rattle.ceal_base.specs.declared.forest.Item.TheVariants.{Step, Alloc, Write, Read, End}
 use Rattle.ceal_base.specs.declared.forest.Key.{Key}
@@ -24,10 +24,11 @@ pub data Mode : Type 0 where
 -- what follows the end of a read: items to go through, a stack with other old items, or a stack with what is left over
 pub data Frames : Type 0 where
   Bottom : Frames
-  After_fix : (rest : Trace) (outer : Frames) → Frames
-  After_mend : (below : Stack) (old : Trace) (outer : Frames) → Frames
-  After_run : (below : Stack) (outer : Frames) → Frames
+  AfterFix : (rest : Trace) (outer : Frames) → Frames
+  AfterMend : (below : Stack) (old : Trace) (outer : Frames) → Frames
+  AfterRun : (below : Stack) (outer : Frames) → Frames
 
+-- the machine of a repair: a state, a mode, and the reads that are open
 pub record Machine : Type 0 where
   pub state : State
   pub mode : Mode
@@ -38,42 +39,47 @@ pub data Turn : Type 0 where
   Ended : Turn
   Went : (written : List Item) (machine : Machine) → Turn
 
+-- a turn that writes these items, and the machine after it
 abbrev pub goes_on : List Item → State → Mode → Frames → Turn
 goes_on written s mode frames = Went written (record { state = s; mode = mode; frames = frames })
 
 -- a part is over, with this left over
 abbrev pub closed : State → Trace → Frames → Turn
 closed s left Bottom = Ended
-closed s left (After_fix rest outer) = goes_on (End ∷ []) s (Fixing rest) outer
-closed s left (After_mend below old outer) = goes_on (End ∷ []) s (Running below old) outer
-closed s left (After_run below outer) = goes_on (End ∷ []) s (Running below left) outer
+closed s left (AfterFix rest outer) = goes_on (End ∷ []) s (Fixing rest) outer
+closed s left (AfterMend below old outer) = goes_on (End ∷ []) s (Running below old) outer
+closed s left (AfterRun below outer) = goes_on (End ∷ []) s (Running below left) outer
 
 -- a read with old items inside: they are gone through where its value is the store's, else the unit runs
 abbrev pub opened : Code → Bool → UnitId → ℕ → List Word → Word → Trace → Mode
 opened code true u v args now inside = Fixing inside
 opened code false u v args now inside = Running (resumed code u v args now) inside
 
+-- a turn while old items are repaired
 abbrev pub fixing : Code → State → Frames → Trace → Turn
 fixing code s fs Nothing = closed s Nothing fs
 fixing code s fs (Stepped rest) = goes_on (Step ∷ []) s (Fixing rest) fs
 fixing code s fs (Allocated b key rest) = goes_on (Alloc b key ∷ []) (clears code s b key) (Fixing rest) fs
 fixing code s fs (Wrote p value rest) = goes_on (Write p value ∷ []) (puts s p value) (Fixing rest) fs
-fixing code s fs (Was_read p value u v args inside rest) =
-    goes_on (Read p (s.store p) u v args ∷ []) s (opened code (same_word (s.store p) value) u v args (s.store p) inside) (After_fix rest fs)
+fixing code s fs (WasRead p value u v args inside rest) =
+    goes_on (Read p (s.store p) u v args ∷ []) s (opened code (same_word (s.store p) value) u v args (s.store p) inside) (AfterFix rest fs)
 
+-- a turn that allocates
 abbrev pub making : Code → (ℕ → ℕ) → State → Frames → Key → ℕ → ℕ → ℕ → Variables → Stack → Trace → Option TakenAlloc → Turn
 making code names s fs key v u i env below old (Some t) =
     goes_on (Step ∷ Alloc t.block key ∷ []) (clears code (works s) t.block key) (Running (Run u i (set env v (pointer key t.block)) below) t.leftover) fs
 making code names s fs key v u i env below old None =
     goes_on (Step ∷ Alloc (Core (names s.number)) key ∷ []) (grows code names (works s) key) (Running (Run u i (set env v (pointer key (Core (names s.number)))) below) old) fs
 
+-- a turn that reads
 abbrev pub reading : Code → State → Frames → Place → UnitId → ℕ → List Word → Stack → Trace → Option TakenRead → Turn
 reading code s fs p u v args below old (Some r) =
     goes_on (Step ∷ Read p (s.store p) u v args ∷ []) (works s)
-    (opened code (same_word (s.store p) r.value) u v args (s.store p) r.inside) (After_mend below r.leftover fs)
+    (opened code (same_word (s.store p) r.value) u v args (s.store p) r.inside) (AfterMend below r.leftover fs)
 reading code s fs p u v args below old None =
-    goes_on (Step ∷ Read p (s.store p) u v args ∷ []) (works s) (Running (resumed code u v args (s.store p)) old) (After_run below fs)
+    goes_on (Step ∷ Read p (s.store p) u v args ∷ []) (works s) (Running (resumed code u v args (s.store p)) old) (AfterRun below fs)
 
+-- a turn of a run, by its next step
 abbrev pub acting : Code → (ℕ → ℕ) → State → Frames → Trace → Act → Turn
 acting code names s fs old Over = closed s old fs
 acting code names s fs old (Quiet after) = goes_on (Step ∷ []) (works s) (Running after old) fs
@@ -81,6 +87,7 @@ acting code names s fs old (Makes key v u i env below) = making code names s fs 
 acting code names s fs old (Writes p value after) = goes_on (Step ∷ Write p value ∷ []) (puts (works s) p value) (Running after old) fs
 acting code names s fs old (Reads p u v args below) = reading code s fs p u v args below old (take_read p u v args old)
 
+-- a turn, by the mode
 abbrev pub moving : Code → (ℕ → ℕ) → State → Frames → Mode → Turn
 moving code names s fs (Fixing todo) = fixing code s fs todo
 moving code names s fs (Running st old) = acting code names s fs old (next code s.plain st)
@@ -93,11 +100,11 @@ turn code names m = moving code names m.state m.frames m.mode
 pub data Resumes (code : Code) (names : ℕ → ℕ) : State → Trace → Frames → State → List Item → Type 0 where
   bottom : {s : State} {left : Trace} → Resumes code names s left Bottom s []
   after_fix : {s t s' : State} {left rest rest' : Trace} {outer : Frames} {out : List Item}
-      → Fix code names s rest t rest' → Resumes code names t Nothing outer s' out → Resumes code names s left (After_fix rest outer) s' (End ∷ (flat rest' ++ out))
+      → Fix code names s rest t rest' → Resumes code names t Nothing outer s' out → Resumes code names s left (AfterFix rest outer) s' (End ∷ (flat rest' ++ out))
   after_mend : {s t s' : State} {left old new left' : Trace} {below : Stack} {outer : Frames} {out : List Item}
-      → Anew code names s below old t new left' → Resumes code names t left' outer s' out → Resumes code names s left (After_mend below old outer) s' (End ∷ (flat new ++ out))
+      → Anew code names s below old t new left' → Resumes code names t left' outer s' out → Resumes code names s left (AfterMend below old outer) s' (End ∷ (flat new ++ out))
   after_run : {s t s' : State} {left new left' : Trace} {below : Stack} {outer : Frames} {out : List Item}
-      → Anew code names s below left t new left' → Resumes code names t left' outer s' out → Resumes code names s left (After_run below outer) s' (End ∷ (flat new ++ out))
+      → Anew code names s below left t new left' → Resumes code names t left' outer s' out → Resumes code names s left (AfterRun below outer) s' (End ∷ (flat new ++ out))
 
 -- the machine ends in this state, and writes these items until then
 pub data Finishes (code : Code) (names : ℕ → ℕ) : Machine → State → List Item → Type 0 where
@@ -122,24 +129,25 @@ pub record Ends (code : Code) (names : ℕ → ℕ) (m : Machine) : Type 0 where
   pub back : Finishes code names m m.state []
   pub ahead : (s' : State) (items : List Item) → Finishes code names m s' items → items ≡ []
 
-abbrev pub Takes_turn : Code → (ℕ → ℕ) → Machine → Turn → Type 0
-Takes_turn code names m Ended = Ends code names m
-Takes_turn code names m (Went written m') = Leads code names m m' written
+-- the turn is one by the rules
+abbrev pub TakesTurn : Code → (ℕ → ℕ) → Machine → Turn → Type 0
+TakesTurn code names m Ended = Ends code names m
+TakesTurn code names m (Went written m') = Leads code names m m' written
 
 -- The machine: one turn, turns after one another, the machine of a repair and that of a first trace.
-pub record Machine_laws (code : Code) (names : ℕ → ℕ) : Type 0 where
-  pub turns : (m : Machine) → Takes_turn code names m (turn code names m)
+pub record MachineLaws (code : Code) (names : ℕ → ℕ) : Type 0 where
+  pub turns : (m : Machine) → TakesTurn code names m (turn code names m)
   pub stays : (m : Machine) → Leads code names m m []
   pub leads : (m m' m'' : Machine) (is js : List Item) → Leads code names m m' is → Leads code names m' m'' js → Leads code names m m'' (is ++ js)
   pub fixes : (s s' : State) (l : Trace) (items : List Item) → Finishes code names (record { state = s; mode = Fixing l; frames = Bottom }) s' items
       ↔ ((m : Trace) × (items ≡ flat m) × Fix code names s l s' m)
   pub runs : (s s' : State) (st : Stack) (l : Trace) (items : List Item) → Finishes code names (record { state = s; mode = Running st l; frames = Bottom }) s' items
       ↔ ((m left : Trace) × (items ≡ flat m) × Anew code names s st l s' m left)
-  -- steps in front of what is left over count for nothing
+  -- steps in front of what is left over do not matter
   pub bare : (s : State) (st : Stack) (l : Trace) (fs : Frames)
       → Leads code names (record { state = s; mode = Running st (Stepped l); frames = fs }) (record { state = s; mode = Running st l; frames = fs }) []
   pub bare_after : (s : State) (mode : Mode) (below : Stack) (l : Trace) (fs : Frames)
-      → Leads code names (record { state = s; mode = mode; frames = After_mend below (Stepped l) fs }) (record { state = s; mode = mode; frames = After_mend below l fs }) []
+      → Leads code names (record { state = s; mode = mode; frames = AfterMend below (Stepped l) fs }) (record { state = s; mode = mode; frames = AfterMend below l fs }) []
 
-abbrev pub Machine_law : Type 0
-Machine_law = (code : Code) (names : ℕ → ℕ) → Machine_laws code names
+abbrev pub MachineLaw : Type 0
+MachineLaw = (code : Code) (names : ℕ → ℕ) → MachineLaws code names

@@ -33,14 +33,15 @@ Agrees s (Alloc b key) = ⊤
 Agrees s (Write p value) = ⊤
 Agrees s End = ⊤
 
-abbrev pub Agrees_all : Code → Store → List Item → Type 0
-Agrees_all code s [] = ⊤
-Agrees_all code s (i ∷ is) = Agrees s i × Agrees_all code (store_item code s i) is
+-- each item agrees with the store before it
+abbrev pub AgreesAll : Code → Store → List Item → Type 0
+AgreesAll code s [] = ⊤
+AgreesAll code s (i ∷ is) = Agrees s i × AgreesAll code (store_item code s i) is
 
 -- a trace is honest where each flat read agrees with the walk, and the walk gives the store at the end
-abbrev pub Walk_law : Type 0
-Walk_law = (code : Code)
-    → ((s t : Store) (l : Trace) → Honest code s l t ↔ (Agrees_all code s (flat l) × (t ≡ store_after code s (flat l))))
+abbrev pub WalkLaw : Type 0
+WalkLaw = (code : Code)
+    → ((s t : Store) (l : Trace) → Honest code s l t ↔ (AgreesAll code s (flat l) × (t ≡ store_after code s (flat l))))
     × ((s : Store) (is js : List Item) → store_after code s (is ++ js) ≡ store_after code (store_after code s is) js)
 
 -- the content of one place after items: that of the last write, or the default since its block was allocated
@@ -51,12 +52,13 @@ content_item code p now Step = now
 content_item code p now (Read q value u v args) = now
 content_item code p now End = now
 
+-- what a place holds after items, where it held `now`
 abbrev pub content_after : Code → Place → Word → List Item → Word
 content_after code p now [] = now
 content_after code p now (i ∷ is) = content_after code p (content_item code p now i) is
 
-abbrev pub Content_law : Type 0
-Content_law = (code : Code) (s : Store) (is : List Item) (p : Place) → store_after code s is p ≡ content_after code p (s p) is
+abbrev pub ContentLaw : Type 0
+ContentLaw = (code : Code) (s : Store) (is : List Item) (p : Place) → store_after code s is p ≡ content_after code p (s p) is
 
 -- the first read that does not agree, with the items before it, which do, and those after it
 pub record Stale (code : Code) (s : Store) (is : List Item) : Type 0 where
@@ -68,21 +70,21 @@ pub record Stale (code : Code) (s : Store) (is : List Item) : Type 0 where
   pub args : List Word
   pub back : List Item
   pub split : is ≡ front ++ Read place value unit var args ∷ back
-  pub agrees : Agrees_all code s front
+  pub agrees : AgreesAll code s front
   pub stale : ¬ (store_after code s front place ≡ value)
 
-abbrev pub Stale_law : Type 0
-Stale_law = (code : Code) (s : Store) (is : List Item) → Agrees_all code s is ⊎ Stale code s is
+abbrev pub StaleLaw : Type 0
+StaleLaw = (code : Code) (s : Store) (is : List Item) → AgreesAll code s is ⊎ Stale code s is
 
 -- with another store
 abbrev pub with_store : State → Store → State
 with_store s t = record s { store = t }
 
 -- an honest stretch is left as it is
-abbrev pub Honest_fix_law : Type 0
-Honest_fix_law = (code : Code) (names : ℕ → ℕ) (s : State) (l : Trace) (t : Store) → Honest code s.store l t → Fix code names s l (with_store s t) l
+abbrev pub HonestFixLaw : Type 0
+HonestFixLaw = (code : Code) (names : ℕ → ℕ) (s : State) (l : Trace) (t : Store) → Honest code s.store l t → Fix code names s l (with_store s t) l
 
 -- what stands before the first read that is stale stays as it is
-abbrev pub Prefix_law : Type 0
-Prefix_law = (code : Code) (names : ℕ → ℕ) (s s' : State) (l m : Trace) → Fix code names s l s' m
+abbrev pub PrefixLaw : Type 0
+PrefixLaw = (code : Code) (names : ℕ → ℕ) (s s' : State) (l m : Trace) → Fix code names s l s' m
     → (h : Stale code s.store (flat l)) → (rest : List Item) × (flat m ≡ h.front ++ rest)

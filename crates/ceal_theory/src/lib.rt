@@ -1,5 +1,7 @@
 //! The theory of repair: change propagation as a definition, and the laws that make its result that of a run from
-//! scratch. It runs nothing; each law is the contract of a function that does nothing.
+//! scratch. It runs nothing; each law is the contract of a function that does nothing. Memoised change propagation is that
+//! of Acar and others (Acar, *Self-Adjusting Computation*, 2005); to say it as a relation of traces and to prove it consistent
+//! is that of Acar, Blume and Donham (2007).
 //!
 //! - `laws`: what a repair gives is a trace of the call, honest on the new inputs; there is one; a repair ends where the
 //!   run from scratch ends. `specs/Take`, `Repair`, `Adjust` have the rules, `Computed` the same as a function.

@@ -1,44 +1,44 @@
 // Laws of the queue of an unfinished repair, each the contract of a function that does nothing.
 
-ghost use Rattle.ceal_theory.specs.Cover.{Node_changes_law, First_queued_law, Pop_law, Front_law, Change_law, Cover_law, Replace_law};
-ghost use Rattle.ceal_theory.specs.SliceLaws.{Keep_law};
+ghost use Rattle.ceal_theory.specs.Cover.{NodeChangesLaw, FirstQueuedLaw, PopLaw, FrontLaw, ChangeLaw, CoverLaw, ReplaceLaw};
+ghost use Rattle.ceal_theory.specs.SliceLaws.{KeepLaw};
 
 /// The first queued read, if it is stale, is the first stale one; where nothing is queued all is honest.
 pub fn first_queued_law()
-    ensures law { First_queued_law }
+    ensures law { FirstQueuedLaw }
 {}
 
 /// A queued read that is honest hands on to the next one of its place.
 pub fn pop_law()
-    ensures law { Pop_law }
+    ensures law { PopLaw }
 {}
 
 /// Honest nodes may stand in front of covered ones.
 pub fn front_law()
-    ensures law { Front_law }
+    ensures law { FrontLaw }
 {}
 
-/// A change at one place keeps the cover, where the first read of the place behind it is queued.
+/// A change at one place keeps the cover, where the first read of the place after it is queued.
 pub fn change_law()
-    ensures law { Change_law }
+    ensures law { ChangeLaw }
 {}
 
 /// The store and who waits may change at any places whose first read is queued.
 pub fn cover_law()
-    ensures law { Cover_law }
+    ensures law { CoverLaw }
 {}
 
-/// New honest nodes in place of old ones keep the cover, where what is behind them is told.
+/// New honest nodes in place of old ones keep the cover, where what is after them is told.
 pub fn replace_law()
-    ensures law { Replace_law }
+    ensures law { ReplaceLaw }
 {}
 
 /// A turn keeps the cover, from the start of the old repair to that of the new one.
 pub fn keep_law()
-    ensures law { Keep_law }
+    ensures law { KeepLaw }
 {}
 
 /// What an engine does to its nodes keeps the cover.
 pub fn node_changes_law()
-    ensures law { Node_changes_law }
+    ensures law { NodeChangesLaw }
 {}

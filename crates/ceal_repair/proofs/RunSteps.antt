@@ -1,0 +1,104 @@
+-- A run begins, and makes blocks.
+use Rattle.std.proofs.Common.{◌≡◌, ◌≢◌, ◌<◌, ℕ, ◌==◌, pos, inl, inr, Bool, true, false, if◌then◌else◌, Some, None, List, [], ◌∷◌, length, refl, sym, ap, ap₂, subst, ◌∙◌, slice_get}
+use Rattle.ceal_base.specs.Block.{Block}
+use Rattle.ceal_base.specs.Operators.{same_block}
+use Rattle.ceal_base.specs.declared.forest.Key.{Key}
+use Rattle.ceal_base.specs.declared.kind.Shape.{Shape}
+use Rattle.ceal_base.specs.declared.typed.StructInfo.{StructInfo}
+use Rattle.ceal_base.specs.declared.word.BlockId.{BlockId}
+use Rattle.ceal_base.specs.declared.word.BlockId.TheVariants.{Input, Core}
+use Rattle.ceal_base.specs.declared.word.Place.{Place}
+use Rattle.ceal_base.specs.declared.word.Word.{Word}
+use Rattle.ceal_base.specs.declared.word.Word.TheVariants.{Num}
+use Rattle.ceal_code.proofs.Memory.{made-shape}
+use Rattle.ceal_code.proofs.Same.{nat-refl, block-same, block-refl}
+use Rattle.ceal_code.specs.Init.{made}
+use Rattle.ceal_code.specs.Program.{Code}
+use Rattle.ceal_code.specs.Replay.{cell_default, content_in, shape_of}
+use Rattle.ceal_code.specs.Value.{Plain, is_cell, field_kind, field_default}
+use Rattle.ceal_heap.specs.Heap.{Contents, IsFreeFor, IsMade, IsNew, KeepsBlocks, standing, plain_of}
+use Rattle.ceal_mods.specs.Mods.{Contents as Mods, IsUntouched}
+use Rattle.ceal_mods.specs.declared.cell.Cell.{Cell}
+use Rattle.ceal_order.specs.Stamps.{is_in}
+use Rattle.ceal_repair.specs.Words.{HasBases, default_of, base_of}
+use Rattle.ceal_tables.specs.Kept.{Kept, base_in}
+use Rattle.ceal_tables.specs.declared.tables.Tables.{Tables}
+use Rattle.ceal_trace.specs.Nodes.{new_entry, is_read, held_by}
+use Rattle.ceal_trace.specs.declared.node.Node.TheVariants.{Root}
+
+-- the root alone is no read, so nothing is queued
+alone : (s root : ℕ) (b : Bool) → is_read (held_by (if b then Some (new_entry root Root) else None)) ≡ false
+alone s root true = refl
+alone s root false = refl
+
+pub none-queued : (t : Tables) → Kept t → t.trace.nodes ≡ new_entry 0 Root ∷ [] → t.stale.stamps ≡ []
+none-queued t k e = go t.stale.stamps (λ s i. sym (alone s 0 (0 == s)) ∙ rw e at k.step.queued s i)
+  where
+    go : (stamps : List ℕ) → ((s : ℕ) → is_in s stamps ≡ true → false ≡ true) → stamps ≡ []
+    go [] h = refl
+    go (s ∷ ss) h = absurd (let clash = h s (rw (nat-refl s) refl) in cc)
+
+-- the bases of a run at its beginning
+pub first-bases : (structs : List StructInfo) (inputs : List Block) (heap : Contents) (old new : Mods) → IsNew heap → IsUntouched old
+    → ((i field : ℕ) → i < length inputs → base_in new (record { block = Input i; field = field }) ≡ content_in structs (slice_get inputs i) field)
+    → ((p : Place) → ((i : ℕ) → same_block p.block (Input i) ≡ false) → base_in new p ≡ base_in old p)
+    → HasBases structs inputs heap new
+first-bases structs inputs heap old new empty fresh of_inputs others = record {
+  of_cores = λ b field. others (record { block = Core b; field = field }) (λ i. refl) ∙ (ap (λ (c : Cell). c.base) (fresh (record { block = Core b; field = field })) ∙ rw (empty.blocks (Core b)) refl);
+  of_inputs = of_inputs;
+}
+
+-- a block that is made is a core block, with the words of its key
+pub made-core : (heap : Contents) (id : BlockId) (shape : Shape) (key : Key) (words : List Word) → IsMade heap id shape key words → (b : ℕ) × (id ≡ Core b)
+made-core heap (Core b) shape key words m = (b, refl)
+made-core heap (Input i) shape key words m = let clash = m.1 in cc
+
+pub made-words : (code : Code) (x : Plain) (heap : Contents) (id : BlockId) (shape : Shape) (key : Key) (words : List Word) → IsMade heap id shape key words
+    → shape ≡ shape_of code key → words ≡ (made code x key).words → plain_of heap id ≡ Some (made code x key)
+made-words code x heap id shape key words m s w =
+    rw m.1 (ap₂ (λ sh ws. Some (record { shape = sh; words = ws })) (s ∙ sym (made-shape code x key)) w)
+
+past-last : {A : Type 0} (xs : List A) → slice_get xs (length xs) ≡ None
+past-last [] = refl
+past-last (x ∷ xs) = past-last xs
+
+-- where a number is free for a shape, its modifiables of that shape alone may have another base than 0
+free-plain : (structs : List StructInfo) (heap : Contents) (id : BlockId) (shape : Shape) (field : ℕ) → IsFreeFor shape heap id → is_cell (field_kind structs shape field) ≡ false
+    → default_of structs (standing heap id) field ≡ Num (pos 0)
+free-plain structs heap id shape field free plain = elim free [
+  | inl released ↦ rw (released, plain) refl
+  | inr next ↦ rw (next.0, past-last heap.numbers) refl
+]
+
+module _ (structs : List StructInfo) (inputs : List Block) (heap heap' : Contents) (mods mods' : Mods) (id : BlockId) (shape : Shape) (key : Key) (words : List Word) where
+  pub made-bases : IsFreeFor shape heap id → IsMade heap' id shape key words → KeepsBlocks id heap heap'
+      → ((p : Place) → same_block p.block id ≡ true → base_in mods' p ≡ base_of structs shape [] p.field (base_in mods p))
+      → ((p : Place) → same_block p.block id ≡ false → base_in mods' p ≡ base_in mods p)
+      → HasBases structs inputs heap mods → HasBases structs inputs heap' mods'
+  made-bases free new_one kept here others h = record { of_cores = cores; of_inputs = of_inputs }
+    where
+      default-here : (field : ℕ) (now : Word) → (is_cell (field_kind structs shape field) ≡ false → now ≡ Num (pos 0)) → base_of structs shape [] field now ≡ cell_default (field_kind structs shape field)
+      default-here field now plain = go (is_cell (field_kind structs shape field)) refl
+        where
+          go : (b : Bool) → is_cell (field_kind structs shape field) ≡ b
+              → (if b then field_default (field_kind structs shape field) else now) ≡ (if b then field_default (field_kind structs shape field) else Num (pos 0))
+          go true e = refl
+          go false e = plain e
+
+      cores : (b field : ℕ) → base_in mods' (record { block = Core b; field = field }) ≡ default_of structs (standing heap' (Core b)) field
+      cores b field = go (same_block (Core b) id) refl
+        where
+          go : (same : Bool) → same_block (Core b) id ≡ same → base_in mods' (record { block = Core b; field = field }) ≡ default_of structs (standing heap' (Core b)) field
+          go true e =
+              let is : Core b ≡ id = block-same (Core b) id e in
+              here (record { block = Core b; field = field }) e
+              ∙ (default-here field (base_in mods (record { block = Core b; field = field })) (λ plain. h.of_cores b field ∙ subst (λ i. default_of structs (standing heap i) field ≡ Num (pos 0)) (sym is) (free-plain structs heap id shape field free plain))
+              ∙ subst (λ i. cell_default (field_kind structs shape field) ≡ default_of structs (standing heap' i) field) (sym is) (rw new_one.1 refl))
+          go false e =
+              let away : Core b ≢ id = λ same. let clash : true ≡ false = sym (block-refl (Core b)) ∙ (rw (← same) at e) in cc in
+              others (record { block = Core b; field = field }) e ∙ (h.of_cores b field ∙ rw (kept (Core b) away) refl)
+
+      of_inputs : (i field : ℕ) → i < length inputs → base_in mods' (record { block = Input i; field = field }) ≡ content_in structs (slice_get inputs i) field
+      of_inputs i field l =
+          let core = made-core heap' id shape key words new_one in
+          others (record { block = Input i; field = field }) (rw core.1 refl) ∙ h.of_inputs i field l

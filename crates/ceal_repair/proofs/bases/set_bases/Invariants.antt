@@ -1,0 +1,5 @@
+use Rattle.ceal_repair.proofs.BaseSteps.{Setting}
+use Rattle.ceal_repair.proofs.bases.set_bases.Given as goal
+
+abbrev pub invariant-loop-field : goal.invariant-loop-field
+invariant-loop-field l = Setting l.structs l.id l.shape l.words l.fn.tables l.tables l.field

@@ -1,0 +1,42 @@
+use Rattle.std.proofs.Common.{ℕ, ◌++◌, ◌∷◌, refl}
+use Rattle.ceal_repair.proofs.Finishing.{among, open-is-read, open-before, now-finish}
+use Rattle.ceal_repair.proofs.Moves.{NodeMore, cursor-here}
+use Rattle.ceal_repair.specs.Entries.{entries}
+use Rattle.ceal_repair.specs.Moment.{View}
+use Rattle.ceal_repair.specs.Repairs.{code_of, inputs_of, view}
+use Rattle.ceal_repair.specs.declared.frame.Frame.TheVariants.{Begun}
+use Rattle.ceal_repair.specs.declared.repair.Repair.{Repair}
+use Rattle.ceal_trace.specs.declared.node.Node.TheVariants.{End}
+use Rattle.ceal_repair.proofs.repair.Repair.finish.Goals as goal
+
+pub finish_read-requires-clause-read : goal.finish_read-requires-clause-read
+finish_read-requires-clause-read c =
+    let r : Repair = c.args.self.now in
+    let e = c.requires.ends.1 in
+    let v : View = record (view r) { frames = Begun c.args.below c.args.read ∷ (view r).frames } in
+    open-is-read c.requires.ends.0 v e.now.reads (entries e.now.left ++ e.now.tail) e.now.placed c.args.read.0
+    (among (code_of r) (inputs_of r) c.requires.ends.0 e.stack (view r) c.args.below c.args.read e.now)
+
+pub finish_read-requires-clause-here : goal.finish_read-requires-clause-here
+finish_read-requires-clause-here c =
+    let r : Repair = c.args.self.now in
+    let e = c.requires.ends.1 in
+    let v : View = record (view r) { frames = Begun c.args.below c.args.read ∷ (view r).frames } in
+    cursor-here c.requires.ends.0 v e.now.reads (entries e.now.left ++ e.now.tail) e.now.placed
+
+pub finish_read-requires-clause-order : goal.finish_read-requires-clause-order
+finish_read-requires-clause-order c =
+    let r : Repair = c.args.self.now in
+    let e = c.requires.ends.1 in
+    let v : View = record (view r) { frames = Begun c.args.below c.args.read ∷ (view r).frames } in
+    open-before c.requires.ends.0 v e.now.reads (entries e.now.left ++ e.now.tail) e.now.placed c.args.read.0
+    (among (code_of r) (inputs_of r) c.requires.ends.0 e.stack (view r) c.args.below c.args.read e.now)
+
+pub returns-clause-runs : goal.returns-clause-runs
+returns-clause-runs c = λ start a.
+    let r : Repair = c.args.self.now in
+    let s : ℕ = c.in_ok-self.field-0.0 in
+    let f = c.in_ok-self.ensures in
+    let k : NodeMore r.cursor.0 s (End c.args.read) r.running.tables c.finish_read.new.self =
+    record { nodes = f.nodes; inserted = f.inserted; bases = λ p. rw f.mods refl; behind = f.behind; kept = f.kept } in
+    now-finish (code_of r) (inputs_of r) start a.stack (view r) c.args.below c.args.read a.now c.finish_read.new.self s a.over k

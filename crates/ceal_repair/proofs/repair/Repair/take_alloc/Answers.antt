@@ -1,0 +1,106 @@
+use Rattle.std.proofs.Common.{◌≡◌, Some, sym, ap, ◌∙◌}
+use Rattle.ceal_base.specs.declared.word.BlockId.{BlockId}
+use Rattle.ceal_code.specs.Init.{arguments, pointer}
+use Rattle.ceal_code.specs.Stacks.{stack_in}
+use Rattle.ceal_code.specs.Step.{Run}
+use Rattle.ceal_code.specs.Value.{set}
+use Rattle.ceal_code.specs.declared.stack.Activation.{Activation}
+use Rattle.ceal_repair.proofs.Items.{more}
+use Rattle.ceal_repair.proofs.Matching.{has-stepped, lies-code, until-code, matches-left, cut-result, found-there, cut-more-code, node-dropped}
+use Rattle.ceal_repair.proofs.Taking.{the-match, node-there, now-take-alloc}
+use Rattle.ceal_repair.proofs.Under_way.{running-here, runs-as, IsStepped, made-view}
+use Rattle.ceal_repair.specs.Moment.{through}
+use Rattle.ceal_repair.specs.Repairs.{code_of, inputs_of, view}
+use Rattle.ceal_repair.specs.declared.repair.Repair.{Repair}
+use Rattle.ceal_trace.specs.declared.node.Node.TheVariants.{Alloc}
+use Rattle.ceal_repair.proofs.repair.Repair.take_alloc.Goals as goal
+
+pub step-requires-clause-here : goal.step-requires-clause-here
+step-requires-clause-here c = running-here c.requires.acts.0 c.requires.acts.1.stack c.args.self.now c.requires.acts.1.now
+
+pub cut_until-requires-clause-has : goal.cut_until-requires-clause-has
+cut_until-requires-clause-has c =
+    let old : Repair = c.args.self.now in
+    let e = c.in_ok-step.ensures in
+    let h : IsStepped old c.step.new.self = record { rest = e.rest; heap = e.heap; spent = e.spent; more = record { nodes = e.nodes; mods = e.mods; queue = e.queue; kept = e.kept } } in
+    let a = c.requires.acts.1 in
+    (code_of old, inputs_of old, has-stepped old c.step.new.self h c.requires.acts.0 a.stack a.now)
+
+pub cut_until-requires-clause-lies : goal.cut_until-requires-clause-lies
+cut_until-requires-clause-lies c =
+    let old : Repair = c.args.self.now in
+    let e = c.in_ok-step.ensures in
+    let h : IsStepped old c.step.new.self = record { rest = e.rest; heap = e.heap; spent = e.spent; more = record { nodes = e.nodes; mods = e.mods; queue = e.queue; kept = e.kept } } in
+    let a = c.requires.acts.1 in (
+      through a.now.placed.done (more a.now.placed.last),
+      a.now.left,
+      a.now.tail,
+      lies-code old c.step.new.self h c.requires.acts.0 a.stack a.now,
+      until-code old c.step.new.self h c.requires.acts.0 a.stack a.now c.args.key c.args.found c.requires.found,
+    )
+
+pub set_steps-requires-clause-here : goal.set_steps-requires-clause-here
+set_steps-requires-clause-here c =
+    let old : Repair = c.args.self.now in
+    let e = c.in_ok-step.ensures in
+    let h : IsStepped old c.step.new.self = record { rest = e.rest; heap = e.heap; spent = e.spent; more = record { nodes = e.nodes; mods = e.mods; queue = e.queue; kept = e.kept } } in
+    let a = c.requires.acts.1 in
+    let f = c.in_ok-cut_until.ensures in
+    found-there old c.step.new.self h c.requires.acts.0 a.stack a.now c.args.key c.args.found c.requires.found c.cut_until.new.self.tables f.kept f.there
+
+pub block_at-block-requires : goal.block_at-block-requires
+block_at-block-requires c =
+    let old : Repair = c.args.self.now in
+    let new : Repair = c.step.new.self in
+    let e = c.in_ok-step.ensures in
+    let h : IsStepped old new = record { rest = e.rest; heap = e.heap; spent = e.spent; more = record { nodes = e.nodes; mods = e.mods; queue = e.queue; kept = e.kept } } in
+    let start = c.requires.acts.0 in
+    let a = c.requires.acts.1 in
+    let f = c.in_ok-cut_until.ensures in
+    let g = c.set_steps.ensures in
+    let r = cut-result old new h start a.stack a.now c.args.key c.args.found c.requires.found c.cut_until.new.self.tables f.kept f.there in
+    let cut = cut-more-code old new h start a.stack a.now c.args.key c.args.found c.requires.found c.cut_until.new.self.tables f.kept f.there
+    c.cut_until.new.self.heap c.set_steps.new.self f.bases f.blocks f.has g.nodes g.mods g.queue g.kept in
+    let matches = matches-left old new h start a.stack a.now c.args.key c.args.found c.requires.found in
+    let m = the-match (code_of old) (inputs_of old) start a.stack (view old) a.now c.args.key c.args.found c.cut_until.new.self.heap new.running.tables c.cut_until.new.self.tables c.set_steps.new.self r.0 h.more cut matches in
+    record {
+      here = (
+        m.block,
+        m.own,
+        node-dropped c.args.found.0 c.cut_until.new.self.tables c.set_steps.new.self g.nodes
+            ∙ node-there (code_of old) (inputs_of old) start a.stack (view old) a.now c.args.key c.args.found c.cut_until.new.self.heap new.running.tables c.cut_until.new.self.tables c.set_steps.new.self r.0 h.more cut matches,
+      );
+    }
+
+pub returns-clause-runs : goal.returns-clause-runs
+returns-clause-runs c = λ start a.
+    let old : Repair = c.args.self.now in
+    let new : Repair = c.step.new.self in
+    let e = c.in_ok-step.ensures in
+    let h : IsStepped old new = record { rest = e.rest; heap = e.heap; spent = e.spent; more = record { nodes = e.nodes; mods = e.mods; queue = e.queue; kept = e.kept } } in
+    let f = c.in_ok-cut_until.ensures in
+    let g = c.set_steps.ensures in
+    let r = cut-result old new h start a.stack a.now c.args.key c.args.found c.requires.found c.cut_until.new.self.tables f.kept f.there in
+    let cut = cut-more-code old new h start a.stack a.now c.args.key c.args.found c.requires.found c.cut_until.new.self.tables f.kept f.there
+    c.cut_until.new.self.heap c.set_steps.new.self f.bases f.blocks f.has g.nodes g.mods g.queue g.kept in
+    let matches = matches-left old new h start a.stack a.now c.args.key c.args.found c.requires.found in
+    let m = the-match (code_of old) (inputs_of old) start a.stack (view old) a.now c.args.key c.args.found c.cut_until.new.self.heap new.running.tables c.cut_until.new.self.tables c.set_steps.new.self r.0 h.more cut matches in
+    let block : BlockId = c.block_at-block.result in
+    let both : Some (Alloc block c.block_at-block.ensures.0) ≡ Some (Alloc m.block m.own) =
+    sym c.block_at-block.ensures.1 ∙ (node-dropped c.args.found.0 c.cut_until.new.self.tables c.set_steps.new.self g.nodes
+    ∙ node-there (code_of old) (inputs_of old) start a.stack (view old) a.now c.args.key c.args.found c.cut_until.new.self.heap new.running.tables c.cut_until.new.self.tables c.set_steps.new.self r.0 h.more cut matches) in
+    let same : block ≡ m.block = cc in
+    let unit : Activation = c.args.unit in
+    let env : arguments c.set.new.self.env.items ≡ set (arguments unit.env.items) c.args.var (pointer c.args.key m.block) =
+    c.in_ok-set.ensures.env ∙ ap (λ w. set (arguments unit.env.items) c.args.var w) (c.pointer_to.ensures.value ∙ ap (pointer c.args.key) same) in
+    let stack : stack_in c.push.new.self ≡ Run unit.unit unit.index (set (arguments unit.env.items) c.args.var (pointer c.args.key m.block)) (stack_in old.stack) =
+    c.in_ok-push.ensures.pushed ∙ (ap (λ u. Run u c.set.new.self.index (arguments c.set.new.self.env.items) (stack_in new.stack)) c.set.ensures.unit
+    ∙ (ap (λ i. Run unit.unit i (arguments c.set.new.self.env.items) (stack_in new.stack)) c.set.ensures.index
+    ∙ (ap (λ v. Run unit.unit unit.index v (stack_in new.stack)) env
+    ∙ ap (λ (r : Repair). Run unit.unit unit.index (set (arguments unit.env.items) c.args.var (pointer c.args.key m.block)) (stack_in r.stack)) h.rest))) in
+    runs-as (code_of old) (inputs_of old) start (Run unit.unit unit.index (set (arguments unit.env.items) c.args.var (pointer c.args.key m.block)) (stack_in old.stack)) _
+    (record new { running = record { tables = c.set_steps.new.self; heap = c.cut_until.new.self.heap; spent = c.cut_until.new.self.spent }; cursor = c.args.found; stack = c.push.new.self })
+    (now-take-alloc (code_of old) (inputs_of old) start a.stack (view old) a.now c.args.key c.args.found c.cut_until.new.self.heap new.running.tables c.cut_until.new.self.tables c.set_steps.new.self r.0 h.more cut matches
+    c.args.var unit.unit unit.index (arguments unit.env.items) (stack_in old.stack) a.does)
+    (ap code_of h.rest) (ap inputs_of h.rest) stack
+    (made-view old new h c.set_steps.new.self c.cut_until.new.self.heap c.cut_until.new.self.spent c.args.found.0 f.spent)

@@ -1,0 +1,26 @@
+-- A read that is taken.
+use Rattle.std.specs.Prelude.{◌≡◌, ◌∷◌, Bool, true, false}
+use Rattle.ceal_code.specs.Step.{Stack, Over}
+use Rattle.ceal_code.specs.declared.stack.Closure.{Closure}
+use Rattle.ceal_code.specs.declared.stack.Stack.{Stack as CodeStack}
+use Rattle.ceal_memo.specs.declared.key.ReadKey.{ReadKey}
+use Rattle.ceal_order.specs.declared.stamp.Stamp.{Stamp}
+use Rattle.ceal_repair.specs.Moment.{Start, RunningNow}
+use Rattle.ceal_repair.specs.Repairs.{code_of, inputs_of, view, next_in, Runs, PassesOn}
+use Rattle.ceal_repair.specs.declared.frame.Frame.TheVariants.{Taken}
+use Rattle.ceal_repair.specs.declared.repair.Repair.{Repair}
+
+-- what a read of a closure is found by
+abbrev pub key_in : Closure → ReadKey
+key_in closure = record { place = closure.place; unit = closure.unit; var = closure.var; args = closure.args }
+
+-- a read that was taken: its unit runs anew, or what is inside it is to be passed
+abbrev pub Entered : Bool → Start → Repair → Type 0
+Entered true start r = Runs start r
+Entered false start r = PassesOn start r
+
+-- the unit of a read that was taken is over; its frame was taken off
+pub record EndsTaken (start : Start) (below : CodeStack) (until : Stamp) (r : Repair) : Type 0 where
+  pub stack : Stack
+  pub now : RunningNow (code_of r) (inputs_of r) start stack (record (view r) { frames = Taken below until ∷ (view r).frames })
+  pub over : next_in r stack ≡ Over

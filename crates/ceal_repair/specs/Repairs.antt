@@ -1,0 +1,88 @@
+-- A repair under way in code.
+use Rattle.std.specs.Prelude.{◌≡◌, ℕ, ◌≤◌, ◌<◌, Bool, true, false, Option, Some, None, List, [], ◌∷◌, reverse}
+use Rattle.ceal_base.specs.Block.{Block}
+use Rattle.ceal_code.specs.Program.{Code}
+use Rattle.ceal_code.specs.Stacks.{stack_in, act_in}
+use Rattle.ceal_code.specs.Step.{Stack, Act as Step, Over, next}
+use Rattle.ceal_code.specs.declared.stack.Stack.{Stack as CodeStack}
+use Rattle.ceal_code.specs.declared.step.Act.{Act}
+use Rattle.ceal_order.specs.declared.stamp.Stamp.{Stamp}
+use Rattle.ceal_repair.specs.Moment.{View, Start, RunningNow, PassingNow}
+use Rattle.ceal_repair.specs.Words.{words_of}
+use Rattle.ceal_repair.specs.declared.frame.Frame.TheVariants.{Begun}
+use Rattle.ceal_repair.specs.declared.repair.Repair.{Repair}
+use Rattle.ceal_tables.specs.Lists.{between}
+use Rattle.ceal_trace.specs.Nodes.{Entry}
+
+abbrev pub code_of : Repair → Code
+code_of r = r.code.now
+
+abbrev pub inputs_of : Repair → List Block
+inputs_of r = r.inputs.now
+
+abbrev pub view : Repair → View
+view r = record {
+  tables = r.running.tables;
+  heap = r.running.heap;
+  spent = r.running.spent;
+  cursor = r.cursor.0;
+  limit = r.limit;
+  frames = reverse r.frames.items;
+}
+
+-- the next step of a stack over the plain words of a repair
+abbrev pub next_in : Repair → Stack → Step
+next_in r st = next (code_of r) (words_of (code_of r) (inputs_of r) r.running.heap) st
+
+-- a unit runs: that of this stack, or the one that the repair keeps
+abbrev pub RunsAt : Start → Stack → Repair → Type 0
+RunsAt start st r = RunningNow (code_of r) (inputs_of r) start st (view r)
+
+abbrev pub Runs : Start → Repair → Type 0
+Runs start r = RunsAt start (stack_in r.stack) r
+
+-- a unit runs, and this is what it does next; the stack that is kept is that after it
+pub record Acts (start : Start) (act : Act) (r : Repair) : Type 0 where
+  pub stack : Stack
+  pub now : RunsAt start stack r
+  pub does : next_in r stack ≡ act_in act (stack_in r.stack)
+
+-- the unit is over, and nothing follows
+pub record IsOver (start : Start) (r : Repair) : Type 0 where
+  pub stack : Stack
+  pub now : RunsAt start stack r
+  pub over : next_in r stack ≡ Over
+  pub last : r.frames.items ≡ []
+
+-- kept nodes are passed
+abbrev pub PassesOn : Start → Repair → Type 0
+PassesOn start r = (until : Stamp) × PassingNow (code_of r) (inputs_of r) start until (view r)
+
+-- the code and the inputs stay
+pub record SameCall (old new : Repair) : Type 0 where
+  pub code : code_of new ≡ code_of old
+  pub inputs : inputs_of new ≡ inputs_of old
+
+-- the unit of a new read is over; its frame was taken off
+pub record EndsRead (start : Start) (below : CodeStack) (read : Stamp) (r : Repair) : Type 0 where
+  pub stack : Stack
+  pub now : RunningNow (code_of r) (inputs_of r) start stack (record (view r) { frames = Begun below read ∷ (view r).frames })
+  pub over : next_in r stack ≡ Over
+
+-- the nodes behind a cursor up to the limit; without a limit none is left over
+abbrev pub nodes_to : Option Stamp → ℕ → List Entry → List Entry
+nodes_to None cursor nodes = []
+nodes_to (Some e) cursor nodes = between cursor e.0 nodes
+
+abbrev pub left_nodes : Repair → List Entry
+left_nodes r = nodes_to r.limit r.cursor.0 r.running.tables.trace.nodes
+
+-- a repair after a turn: it goes on, or it is over
+abbrev pub Turned : Bool → Start → Repair → Type 0
+Turned true start r = Runs start r
+Turned false start r = IsOver start r
+
+-- a repair is over within the fuel, or has run more steps than that
+abbrev pub Completed : Bool → ℕ → Start → Repair → Type 0
+Completed true fuel start r = IsOver start r × ((view r).spent ≤ fuel)
+Completed false fuel start r = Runs start r × (fuel < (view r).spent)

@@ -1,0 +1,134 @@
+// Nodes that are left over are revoked.
+
+ghost use Rattle.std.specs.Prelude.{◌≡◌, ◌≢◌, ℕ, List, [], Some, true, false, OnOk, IsSome, IfSome, IfNone};
+ghost use Rattle.ceal_base.specs.Block.{Block};
+ghost use Rattle.ceal_base.specs.declared.word.BlockId.{BlockId as Id};
+ghost use Rattle.ceal_base.specs.declared.word.Place.{Place as PlaceOf};
+ghost use Rattle.ceal_code.specs.Program.{Code as CodeOf};
+ghost use Rattle.ceal_heap.specs.Heap.{block_of};
+ghost use Rattle.ceal_order.specs.Stamps.{is_in, successor};
+ghost use Rattle.ceal_repair.specs.Blocks.{HasBlocks};
+ghost use Rattle.ceal_repair.specs.Entries.{CutTo, IsNoneOr, IsUntil, Lies, Revokes, starts, first_in, first_stamp};
+ghost use Rattle.ceal_tables.specs.Kept.{Kept, base_in};
+ghost use Rattle.ceal_theory.specs.Groves.{Grove, Bare, cut};
+ghost use Rattle.ceal_trace.specs.Nodes.{Entry, stamps_in, has_node, node_at, is_plain};
+ghost use Rattle.ceal_trace.specs.declared.node.Node.{Node as NodeOf};
+
+use crate::running::Running;
+use ceal_base::no_memory::NoMemory;
+use ceal_base::word::{BlockId, Place};
+use ceal_order::stamp::Stamp;
+use ceal_trace::node::Node;
+use ceal_trace::trace::Trace;
+
+/// What is to be done to revoke a node.
+enum Cut {
+    Alloc(BlockId),
+    Write(Place),
+    Read,
+}
+
+/// What is done to revoke a node, which is neither the root nor an end.
+fn cut_of(trace: &Trace, node: Stamp) -> Cut
+    requires here { has_node node.0 trace.now.nodes ≡ true }
+    requires plain { (n : NodeOf) → node_at node.0 trace.now.nodes ≡ Some n → is_plain n ≡ true }
+    ensures { Revokes result (node_at node.0 trace.now.nodes) }
+{
+    match trace.node(node) {
+        Node::Alloc { block, .. } => Cut::Alloc(*block),
+        Node::Write { place, .. } => Cut::Write(*place),
+        Node::Read { .. } => Cut::Read,
+        Node::Root => unreachable!(),
+        Node::End { .. } => unreachable!(),
+    }
+}
+
+impl Running {
+    /// Revokes the first node that is left over behind a cursor, a read with its end. The block of an allocation can still be read.
+    fn cut(&mut self, cursor: Stamp, node: Stamp) -> Result<(), NoMemory>
+        requires kept { Kept self.old.tables }
+        requires has { (code : CodeOf) × (inputs : List Block)
+            × HasBlocks code inputs self.old.heap self.old.tables }
+        requires lies { (front : List Entry) × (left : Grove) × (tail : List Entry)
+            × Lies cursor.0 front left tail self.old.tables × (first_stamp left ≡ Some node.0) }
+        ensures lies { OnOk result ((front : List Entry) (left : Grove) (tail : List Entry)
+            → Lies cursor.0 front left tail self.old.tables → first_stamp left ≡ Some node.0
+            → Lies cursor.0 front (cut left) tail self.new.tables) }
+        ensures bases { OnOk result
+            ((p : PlaceOf) → base_in self.new.tables.mods p ≡ base_in self.old.tables.mods p) }
+        ensures blocks { OnOk result
+            ((b : Id) → block_of self.new.heap b ≡ block_of self.old.heap b) }
+        ensures has { OnOk result ((code : CodeOf) (inputs : List Block)
+            → HasBlocks code inputs self.old.heap self.old.tables
+            → HasBlocks code inputs self.new.heap self.new.tables) }
+        ensures spent { self.new.spent ≡ self.old.spent }
+        ensures kept { OnOk result (Kept self.new.tables) }
+    {
+        match cut_of(&self.tables.trace, node) {
+            Cut::Alloc(block) => {
+                self.tables.cut_alloc(node);
+                self.heap.revoke(block);
+                Ok(())
+            }
+            Cut::Write(place) => {
+                self.tables.cut_write(node, place)?;
+                Ok(())
+            }
+            Cut::Read => {
+                self.tables.cut_read(node);
+                Ok(())
+            }
+        }
+    }
+
+    /// Revokes the nodes that are left over behind a cursor up to one of them, which is then the first; or all of them, up to the
+    /// node behind them. A read goes with its end, and what is inside it stays. No trace that fits into memory has 2^64 nodes.
+    pub fn cut_until(&mut self, cursor: Stamp, until: Stamp) -> Result<(), NoMemory>
+        requires kept { Kept self.old.tables }
+        requires has { (code : CodeOf) × (inputs : List Block)
+            × HasBlocks code inputs self.old.heap self.old.tables }
+        requires lies { (front : List Entry) × (left : Grove) × (tail : List Entry)
+            × Lies cursor.0 front left tail self.old.tables
+            × IsUntil until.0 left tail }
+        ensures there { OnOk result ((front : List Entry) (left : Grove) (tail : List Entry)
+            → Lies cursor.0 front left tail self.old.tables
+            → is_in until.0 (starts left) ≡ true
+            → (rest : Grove) × CutTo until.0 left rest
+            × Lies cursor.0 front rest tail self.new.tables) }
+        ensures all { OnOk result ((front : List Entry) (left : Grove) (tail : List Entry)
+            → Lies cursor.0 front left tail self.old.tables → first_in tail ≡ Some until.0
+            → Lies cursor.0 front Bare tail self.new.tables) }
+        ensures bases { OnOk result
+            ((p : PlaceOf) → base_in self.new.tables.mods p ≡ base_in self.old.tables.mods p) }
+        ensures blocks { OnOk result
+            ((b : Id) → block_of self.new.heap b ≡ block_of self.old.heap b) }
+        ensures has { OnOk result ((code : CodeOf) (inputs : List Block)
+            → HasBlocks code inputs self.old.heap self.old.tables
+            → HasBlocks code inputs self.new.heap self.new.tables) }
+        ensures spent { self.new.spent ≡ self.old.spent }
+        ensures kept { OnOk result (Kept self.new.tables) }
+    {
+        for _revoked in 0..u64::MAX {
+            match self.next_before(cursor, until) {
+                None => return Ok(()),
+                Some(node) => self.cut(cursor, node)?,
+            }
+        }
+        Err(NoMemory)
+    }
+
+    /// The node behind a cursor, None where it is this one or where there is none.
+    fn next_before(&self, cursor: Stamp, until: Stamp) -> Option<Stamp>
+        requires here { has_node cursor.0 self.now.tables.trace.nodes ≡ true }
+        ensures some { IfSome result (λ s. s.0 ≢ until.0) }
+        ensures next { IfSome result
+            (λ s. successor cursor.0 (stamps_in self.now.tables.trace.nodes) ≡ Some s.0) }
+        ensures none { IfNone result (IsNoneOr until.0
+            (successor cursor.0 (stamps_in self.now.tables.trace.nodes))) }
+    {
+        match self.tables.trace.order().next(cursor) {
+            None => None,
+            Some(node) => { if node == until { None } else { Some(node) } }
+        }
+    }
+}

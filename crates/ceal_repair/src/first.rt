@@ -1,0 +1,47 @@
+// The run from nothing.
+
+ghost use Rattle.std.specs.Prelude.{◌≡◌, ◌<◌, ◌^◌, length, IfOk};
+ghost use Rattle.ceal_code.specs.Fitting.{Fits};
+ghost use Rattle.ceal_repair.specs.Answers.{IsFirst};
+
+use crate::complete::complete;
+use crate::repair::Repair;
+use crate::running::{Outcome, Running};
+use ceal_base::memory::Inputs;
+use ceal_base::no_memory::NoMemory;
+use ceal_base::word::Word;
+use ceal_code::code::Code;
+use ceal_code::stack::Stack;
+use ceal_theory::names::chosen_law;
+use ceal_theory::walks::known_law;
+use std::alloc::Global;
+
+/// Runs a call of a core function from nothing: its nodes stand for the first trace of the call, its blocks with the numbers that
+/// the heap gives them. It is out of fuel exactly where the run from scratch needs more steps than the fuel allows.
+pub fn first(
+    alloc: Global,
+    code: &Code,
+    function: u32,
+    args: &[Word],
+    inputs: &Inputs,
+    fuel: u32,
+) -> Result<Outcome, NoMemory>
+    requires fits { Fits code.now inputs.now function args.now }
+    requires few { length inputs.now < 2 ^ 32 }
+    ensures first { IfOk result
+        (λ o. IsFirst code.now inputs.now function args.now fuel o) }
+{
+    chosen_law();
+    known_law();
+    let running = Running::begin(alloc, code, inputs)?;
+    let stack = Stack::call(alloc, code, function, args)?;
+    let mut repair = Repair::first(code, inputs, running, stack);
+    if complete(&mut repair, fuel)? {
+        let mut running = repair.into_running();
+        running.heap.release_revoked();
+        Ok(Outcome::Done(running))
+    } else {
+        drop(repair);
+        Ok(Outcome::OutOfFuel)
+    }
+}

@@ -1,0 +1,186 @@
+// A repair that is under way: the machine of change propagation over the nodes of a trace.
+
+ghost use Rattle.std.specs.Prelude.{◌≡◌, ◌+◌, ◌∷◌, ◌++◌, [], Some, None, true, false, IfOk, OnOk, reverse};
+ghost use Rattle.ceal_code.specs.Stacks.{stack_in, act_in};
+ghost use Rattle.ceal_code.specs.Step.{Empty};
+ghost use Rattle.ceal_code.specs.declared.step.Act.{Act as ActOf};
+ghost use Rattle.ceal_code.specs.declared.step.Act.TheVariants as act;
+ghost use Rattle.ceal_repair.specs.Moment.{Start};
+ghost use Rattle.ceal_repair.specs.Repairs.{code_of, inputs_of, view, next_in, Runs, RunsAt, Acts, IsOver, Turned, SameCall};
+ghost use Rattle.ceal_tables.specs.Kept.{Kept};
+ghost use Rattle.ceal_order.specs.Stamps.{head_of};
+ghost use Rattle.ceal_trace.specs.Nodes.{has_node, stamps_in, with_steps, steps_at};
+
+use crate::frame::Frame;
+use crate::running::Running;
+use crate::words::RunWords;
+use ceal_base::memory::Inputs;
+use ceal_base::no_memory::NoMemory;
+use ceal_code::code::Code;
+use ceal_code::stack::Stack;
+use ceal_code::step::{Act, advance};
+use ceal_order::stamp::Stamp;
+use std::alloc::Global;
+
+mod put;
+mod read;
+mod take;
+
+/// A repair that is under way, or a run from nothing. A unit runs; the nodes up to the cursor are final, and those behind it, up to
+/// the limit, are left over to the unit. The cursor only moves on.
+#[derive(Drop)]
+pub struct Repair<'a> {
+    alloc: Global,
+    code: &'a Code,
+    inputs: &'a Inputs,
+    running: Running,
+    cursor: Stamp,
+    stack: Stack,
+    limit: Option<Stamp>,
+    frames: Vec<Frame>,
+}
+
+impl<'a> Repair<'a> {
+    /// A run from nothing of this stack, behind the root.
+    pub fn first(code: &'a Code, inputs: &'a Inputs, running: Running, stack: Stack) -> Repair<'a>
+        ensures code { code_of result ≡ code.now }
+        ensures inputs { inputs_of result ≡ inputs.now }
+        ensures view { (view result).tables ≡ running.tables }
+        ensures heap { (view result).heap ≡ running.heap }
+        ensures spent { (view result).spent ≡ running.spent }
+        ensures frames { (view result).frames ≡ [] }
+        ensures limit { (view result).limit ≡ None }
+        ensures stack { stack_in result.stack ≡ stack_in stack }
+        ensures cursor { head_of (stamps_in running.tables.trace.nodes)
+            ≡ Some (view result).cursor }
+    {
+        let alloc = stack.allocator();
+        let cursor = running.tables.trace.root();
+        Repair {
+            alloc,
+            code,
+            inputs,
+            running,
+            cursor,
+            stack,
+            limit: None,
+            frames: Vec::new(alloc),
+        }
+    }
+
+    /// What is kept of it.
+    pub fn into_running(self) -> Running
+        ensures { result ≡ self.entry.running }
+    {
+        self.running
+    }
+
+    /// How many steps were run anew.
+    pub fn spent(&self) -> u32
+        ensures { result ≡ (view self.now).spent }
+    {
+        self.running.spent
+    }
+
+    /// What the unit that runs does next; the stack is that after it.
+    fn next(&mut self) -> Result<Act, NoMemory>
+        ensures rest { self.new ≡ record self.old { stack = self.new.stack } }
+        ensures acts { IfOk result (λ a. next_in self.old (stack_in self.old.stack)
+            ≡ act_in a (stack_in self.new.stack)) }
+    {
+        let words = RunWords {
+            code: self.code,
+            inputs: self.inputs,
+            heap: &self.running.heap,
+        };
+        advance(self.code, &words, &mut self.stack)
+    }
+
+    /// One step more was run anew, behind the node at the cursor. Where the count has no room in 32 bits, there is no memory for
+    /// so many steps.
+    fn step(&mut self) -> Result<(), NoMemory>
+        requires kept { Kept self.old.running.tables }
+        requires here { has_node self.old.cursor.0 self.old.running.tables.trace.nodes ≡ true }
+        ensures rest { self.new ≡ record self.old { running = self.new.running } }
+        ensures heap { self.new.running.heap ≡ self.old.running.heap }
+        ensures spent { OnOk result (self.new.running.spent ≡ self.old.running.spent + 1) }
+        ensures nodes { OnOk result (self.new.running.tables.trace.nodes
+            ≡ with_steps self.old.cursor.0
+            (steps_at self.old.cursor.0 self.old.running.tables.trace.nodes + 1)
+            self.old.running.tables.trace.nodes) }
+        ensures mods { self.new.running.tables.mods ≡ self.old.running.tables.mods }
+        ensures queue { self.new.running.tables.stale ≡ self.old.running.tables.stale }
+        ensures kept { Kept self.new.running.tables }
+    {
+        let steps = one_more(self.running.tables.trace.steps_at(self.cursor))?;
+        let spent = one_more(self.running.spent)?;
+        self.running.tables.set_steps(self.cursor, steps);
+        self.running.spent = spent;
+        Ok(())
+    }
+
+    /// What the running unit does next. It answers false where the unit is over and nothing follows. After want of memory the
+    /// repair is of no further use. There is no limit: nothing is left over.
+    pub fn turn(&mut self) -> Result<bool, NoMemory>
+        requires runs { (start : Start) × Runs start self.old }
+        requires alone { self.old.limit ≡ None }
+        ensures call { OnOk result (SameCall self.old self.new) }
+        ensures alone { OnOk result (self.new.limit ≡ None) }
+        ensures runs { IfOk result
+            (λ more. (start : Start) → Runs start self.old → Turned more start self.new) }
+        ensures spent { IfOk result
+            (λ more. more ≡ false → (view self.new).spent ≡ (view self.old).spent) }
+    {
+        match self.next()? {
+            Act::Over => self.close(),
+            Act::Quiet => {
+                self.quiet()?;
+                Ok(true)
+            }
+            Act::Makes { key, var, unit } => {
+                self.make(key, var, unit)?;
+                Ok(true)
+            }
+            Act::Writes { place, value } => {
+                self.write(place, value)?;
+                Ok(true)
+            }
+            Act::Reads(closure) => {
+                self.begin(closure)?;
+                Ok(true)
+            }
+        }
+    }
+
+    /// The unit is over. What follows it is done; it answers false where nothing does.
+    fn close(&mut self) -> Result<bool, NoMemory>
+        requires over { (start : Start) × Acts start act.Over self.old }
+        requires alone { self.old.limit ≡ None }
+        ensures call { OnOk result (SameCall self.old self.new) }
+        ensures alone { OnOk result (self.new.limit ≡ None) }
+        ensures runs { IfOk result
+            (λ more. (start : Start) → Acts start act.Over self.old → Turned more start self.new) }
+        ensures spent { IfOk result
+            (λ more. more ≡ false → (view self.new).spent ≡ (view self.old).spent) }
+    {
+        match self.frames.pop() {
+            None => Ok(false),
+            Some(Frame::Begun { below, read }) => {
+                self.finish(below, read)?;
+                Ok(true)
+            }
+            Some(Frame::Taken { .. }) => unreachable!(),
+            Some(Frame::Kept { .. }) => unreachable!(),
+        }
+    }
+}
+
+/// The next number; where it has no room in 32 bits, there is no memory for so many steps.
+fn one_more(n: u32) -> Result<u32, NoMemory>
+    ensures { IfOk result (λ m. m ≡ n + 1) }
+{
+    match n.checked_add(1) {
+        None => Err(NoMemory),
+        Some(m) => Ok(m),
+    }
+}

@@ -1,0 +1,135 @@
+// What a run keeps.
+
+ghost use Rattle.std.specs.Prelude.{◌≡◌, ◌⊎◌, ℕ, ◌<◌, ◌^◌, ◌∷◌, [], Some, None, true, false, length, IfOk, OnOk};
+ghost use Rattle.ceal_base.specs.Block.{Block};
+ghost use Rattle.ceal_base.specs.declared.word.BlockId.TheVariants.{Core};
+ghost use Rattle.ceal_base.specs.declared.word.Place.{Place as PlaceOf};
+ghost use Rattle.ceal_code.specs.Init.{made};
+ghost use Rattle.ceal_code.specs.Replay.{shape_of};
+ghost use Rattle.ceal_heap.specs.Heap.{IsLive, IsNew, KeepsBlocks, block_of, plain_of, standing};
+ghost use Rattle.ceal_order.specs.Stamps.{is_in};
+ghost use Rattle.ceal_mods.specs.Mods.{cell_of};
+ghost use Rattle.ceal_repair.specs.Words.{words_of, HasBases};
+ghost use Rattle.ceal_tables.specs.Kept.{Kept, base_in};
+ghost use Rattle.ceal_trace.specs.Nodes.{new_entry};
+ghost use Rattle.ceal_trace.specs.declared.node.Node.TheVariants.{Root};
+
+use crate::bases::{set_bases, set_inputs};
+use crate::words::RunWords;
+use ceal_base::forest::Key;
+use ceal_base::memory::{BlockWords, Inputs};
+use ceal_base::no_memory::NoMemory;
+use ceal_base::word::{BlockId, Word};
+use ceal_code::code::Code;
+use ceal_code::initialise::{made_shape, make_block};
+use ceal_heap::heap::Heap;
+use ceal_tables::tables::Tables;
+use std::alloc::Global;
+
+/// What a run keeps: the tables of its trace, its core blocks, and how many steps were run anew for it.
+#[derive(Drop)]
+pub struct Running {
+    pub tables: Tables,
+    pub heap: Heap,
+    pub spent: u32,
+}
+
+/// What a run from nothing or a repair comes to.
+#[derive(Drop)]
+pub enum Outcome {
+    Done(Running),
+    /// a run from scratch needs more steps than the fuel allows
+    OutOfFuel,
+}
+
+/// The number of words of a block, where the heap takes so many: at most 255. Valid code makes no larger block; one that was
+/// larger would be told as want of memory.
+fn few_words(block: &BlockWords) -> Result<&[Word], NoMemory>
+    ensures words { IfOk result (λ words. words.now ≡ block.now.words) }
+    ensures few { IfOk result (λ words. length words.now < 256) }
+{
+    let words = block.items();
+    if words.len() < 256 {
+        Ok(words)
+    } else {
+        Err(NoMemory)
+    }
+}
+
+impl Running {
+    /// Before the first step: the root alone, the inputs with their bases, and no core block.
+    pub fn begin(alloc: Global, code: &Code, inputs: &Inputs) -> Result<Running, NoMemory>
+        requires few { length inputs.now < 2 ^ 32 }
+        ensures nodes { IfOk result (λ r. r.tables.trace.nodes ≡ new_entry 0 Root ∷ []) }
+        ensures queue { IfOk result (λ r. r.tables.stale.stamps ≡ []) }
+        ensures heap { IfOk result (λ r. IsNew r.heap) }
+        ensures bases { IfOk result
+            (λ r. HasBases code.now.structs inputs.now r.heap r.tables.mods) }
+        ensures spent { IfOk result (λ r. r.spent ≡ 0) }
+        ensures kept { IfOk result (λ r. Kept r.tables) }
+    {
+        let mut tables = Tables::new(alloc)?;
+        set_inputs(&mut tables, code.structs.items(), inputs)?;
+        let heap = Heap::new(alloc)?;
+        Ok(Running {
+            tables,
+            heap,
+            spent: 0,
+        })
+    }
+
+    /// Makes the block of a key, with what its modifiables hold before any write. Reads of its places may be queued, no others.
+    pub fn make(
+        &mut self,
+        alloc: Global,
+        code: &Code,
+        inputs: &Inputs,
+        key: &Key,
+    ) -> Result<BlockId, NoMemory>
+        requires kept { Kept self.old.tables }
+        ensures core { IfOk result (λ block. (b : ℕ) × (block ≡ Core b)) }
+        ensures new { IfOk result (λ block. block_of self.old.heap block ≡ None) }
+        ensures live { IfOk result (λ block. IsLive self.new.heap block) }
+        ensures words { IfOk result (λ block. plain_of self.new.heap block
+            ≡ Some (made code.now (words_of code.now inputs.now self.old.heap) key.now)) }
+        ensures others { IfOk result (λ block. KeepsBlocks block self.old.heap self.new.heap) }
+        ensures bases { OnOk result
+            (HasBases code.now.structs inputs.now self.old.heap self.old.tables.mods
+            → HasBases code.now.structs inputs.now self.new.heap self.new.tables.mods) }
+        ensures kept_bases { IfOk result (λ block. (p : PlaceOf) → (p.block ≡ block → ⊥)
+            → base_in self.new.tables.mods p ≡ base_in self.old.tables.mods p) }
+        ensures trace { self.new.tables.trace ≡ self.old.tables.trace }
+        ensures spent { self.new.spent ≡ self.old.spent }
+        ensures only { IfOk result (λ block. (s : ℕ)
+            → is_in s self.new.tables.stale.stamps ≡ true
+            → is_in s self.old.tables.stale.stamps ≡ false
+            → (p : PlaceOf) × (p.block ≡ block)
+            × (is_in s (cell_of self.old.tables.mods p).reads ≡ true)) }
+        ensures kept { Kept self.new.tables }
+    {
+        let block = self.words_for(alloc, code, inputs, key)?;
+        let shape = made_shape(code, key);
+        let id = self.heap.make(shape, key.copy()?, few_words(&block)?)?;
+        set_bases(&mut self.tables, code.structs.items(), id, shape, &[])?;
+        Ok(id)
+    }
+
+    /// The words of a new block for a key.
+    fn words_for(
+        &self,
+        alloc: Global,
+        code: &Code,
+        inputs: &Inputs,
+        key: &Key,
+    ) -> Result<BlockWords, NoMemory>
+        ensures { IfOk result (λ block.
+            block ≡ made code.now (words_of code.now inputs.now self.now.heap) key.now) }
+    {
+        let words = RunWords {
+            code,
+            inputs,
+            heap: &self.heap,
+        };
+        make_block(alloc, code, &words, key)
+    }
+}
