@@ -1,11 +1,11 @@
 -- Writing replies one after another.
-use Rattle.std.proofs.Common.{◌≡◌, ◌⊎◌, inl, inr, ℕ, ◌≤◌, List, [], ◌∷◌, ◌++◌, Option, length, take, drop, refl, sym, ap, ◌∙◌, subst, append_assoc, append-nil, take-append-drop}
+use Rattle.std.proofs.Common.{inl, inr, ℕ, List, [], ◌∷◌, ◌++◌, Option, Result, Ok, Err, OnOk, take, drop, refl, append_assoc, append-nil, take-append-drop}
 use Rattle.std.specs.Io.KnownBytes.{Appends}
 use Rattle.std.proofs.KnownBytes.{Appends-trans, Appends-nil}
 use Rattle.ceal_io.specs.Streams.{GrowsByPrefix}
 use Rattle.ceal_session.specs.State.{Situation}
 use Rattle.ceal_cli.specs.Growth.{Grows, Serves, AreServed, BeginServed, WritesReply, WritesPart, BeginsReply, WritesReplies, BeginsToReply}
-use Rattle.ceal_cli.specs.Output.{IsPrefix}
+use Rattle.ceal_cli.specs.Output.{IsPrefix, Begins}
 
 -- what was written of a piece begins it
 pub of_prefix : (a b : Option (List ℕ)) (piece : List ℕ) → GrowsByPrefix a b piece → Grows a b (λ out. IsPrefix out piece)
@@ -17,6 +17,9 @@ nothing a P h = record { out = []; is = h; appends = Appends-nil a }
 
 pub weaker : {a b : Option (List ℕ)} {P Q : List ℕ → Type 0} → ((out : List ℕ) → P out → Q out) → Grows a b P → Grows a b Q
 weaker f g = record { out = g.out; is = f g.out g.is; appends = g.appends }
+
+pub part_text : (a b : Option (List ℕ)) (P : List ℕ → Type 0) (text : List ℕ) → P text → GrowsByPrefix a b text → Grows a b (Begins P)
+part_text a b P text h grows = weaker (λ out prefix. inr (text, h, prefix)) (of_prefix a b text grows)
 
 -- So far some text was written behind which the replies to what is left, or their beginning, are to be put.
 pub record SoFar (old now : Option (List ℕ)) (start here : Situation) (all left : List (List ℕ)) : Type 0 where

@@ -1,39 +1,42 @@
 -- An input has one output at most, whatever the words ask for.
-use Rattle.std.proofs.Common.{◌≡◌, ◌⊎◌, inl, inr, ℕ, Option, None, Result, Ok, Err, List, [], ◌∷◌, ◌++◌, refl, sym, ap, ◌∙◌, subst}
+use Rattle.std.proofs.Common.{◌≡◌, inl, inr, ℕ, None, Result, Ok, Err, List, [], ◌∷◌, sym, ap, ◌∙◌, subst}
 use Rattle.ceal_base.specs.declared.fault.Fault.{Fault}
 use Rattle.ceal_base.specs.declared.typed.Typed.{Typed}
 use Rattle.ceal_code.specs.Listing.{listing_text}
 use Rattle.ceal_compile.specs.Compiled.{IsCodeOf}
 use Rattle.ceal_compile.specs.FaultLine.{fault_line}
-use Rattle.ceal_compile.specs.Laws.{One_code_law}
+use Rattle.ceal_compile.specs.Laws.{OneCodeLaw}
 use Rattle.ceal_compile.specs.Source.{Comes, IsProgram, IsFirstFault}
 use Rattle.ceal_lex.specs.Parts.{IsSplit}
 use Rattle.ceal_lex.specs.declared.parts.Split.{Split}
-use Rattle.ceal_session.specs.Laws.{One_command_law, One_state_law, One_script_law, One_works_law}
+use Rattle.ceal_session.specs.Laws.{OneCommandLaw, OneStateLaw, OneScriptLaw, OneWorksLaw}
 use Rattle.ceal_session.specs.Replies.{Works, taken, AreReplies, IsReplied}
 use Rattle.ceal_session.specs.Runs.{begun}
 use Rattle.ceal_session.specs.State.{State}
 use Rattle.ceal_session.specs.Works.{completes}
 use Rattle.ceal_cli.specs.Fuel.{DEFAULT_FUEL}
-use Rattle.ceal_cli.specs.Laws.{One_output_law}
+use Rattle.ceal_cli.specs.Laws.{OneOutputLaw}
 use Rattle.ceal_cli.specs.Lines.{script_of, script_lines}
-use Rattle.ceal_cli.specs.Modes.{ReadsInput}
 use Rattle.ceal_code.specs.Program.{Code}
-use Rattle.ceal_cli.specs.Output.{AreRepliesFromRun, IsRepliedFromRun, Programmed, first_state, lines_behind, IsListing, IsOutputFromRun, IsAnswer, IsRefusal, IsOutput}
+use Rattle.ceal_cli.specs.Output.{AreRepliesFromRun, IsRepliedFromRun, Programmed, first_state, lines_behind, bytes_behind, IsListing, IsAnswer, IsRefusal}
+use Rattle.ceal_cli.specs.ManySessions.{AreManyReplies}
+use Rattle.ceal_cli.specs.Dumps.{IsDumped}
+use Rattle.ceal_cli.specs.Verdicts.{IsVerdictLine}
 use Rattle.ceal_cli.specs.declared.words.Mode.{Mode}
-use Rattle.ceal_cli.specs.declared.words.Mode.TheVariants.{Check, List as Listing, Run, Gen}
+use Rattle.ceal_cli.specs.declared.words.Mode.TheVariants.{Check, List as Listing, Run, Gen, Dump, Verify, Many}
 use Rattle.ceal_gen.specs.Text.{workload_text}
+use Rattle.ceal_cli.proofs.OneRecord.{Once, one-dumped, one-verdict, one-many}
 use Rattle.ceal_cli.proofs.OutputLaws.{answer_accepted, not_accepted}
 
 -- the laws that an input has one split, and that it comes to one program or first fault at most
-abbrev pub Split_law : Type 0
-Split_law = (input : List ℕ) (p q : Split) → IsSplit input p → IsSplit input q → p ≡ q
+abbrev pub SplitLaw : Type 0
+SplitLaw = (input : List ℕ) (p q : Split) → IsSplit input p → IsSplit input q → p ≡ q
 
-abbrev pub Answer_law : Type 0
-Answer_law = (input : List ℕ) (a b : Result Typed Fault) → Comes input a → Comes input b → a ≡ b
+abbrev pub AnswerLaw : Type 0
+AnswerLaw = (input : List ℕ) (a b : Result Typed Fault) → Comes input a → Comes input b → a ≡ b
 
 -- one text of replies from that of the first run on
-from-run : One_command_law → One_state_law → One_script_law → (s : State) (works : Works) (lines : List (List ℕ)) (a b : List ℕ)
+from-run : OneCommandLaw → OneStateLaw → OneScriptLaw → (s : State) (works : Works) (lines : List (List ℕ)) (a b : List ℕ)
     → AreRepliesFromRun s works lines a → AreRepliesFromRun s works lines b → a ≡ b
 unfolding AreRepliesFromRun
 from-run command state script s works [] a b h k = h ∙ sym k
@@ -48,19 +51,20 @@ from-run command state script s works (line ∷ lines) a b (inr h) (inr k) =
     (subst (λ t. AreRepliesFromRun t (taken (completes s k.3.command) works.latest works.coming) lines a) next later) k.4
 
 -- one text with its work numbers
-module _ (numbers : One_works_law) where
-  one-replied : One_script_law → (code : Code) (s : State) (lines : List (List ℕ)) (a b : List ℕ) → IsReplied code s lines a → IsReplied code s lines b → a ≡ b
+module _ (numbers : OneWorksLaw) where
+  one-replied : OneScriptLaw → (code : Code) (s : State) (lines : List (List ℕ)) (a b : List ℕ) → IsReplied code s lines a → IsReplied code s lines b → a ≡ b
   one-replied script code s lines a b h k =
       let same = numbers code s None lines h.works k.works h.repair k.repair in
       script s (record { latest = 0; coming = k.works }) lines a b (subst (λ w. AreReplies s (record { latest = 0; coming = w }) lines a) same h.replies) k.replies
 
-  one-from-run : One_command_law → One_state_law → One_script_law → (code : Code) (s : State) (lines : List (List ℕ)) (a b : List ℕ)
+  one-from-run : OneCommandLaw → OneStateLaw → OneScriptLaw → (code : Code) (s : State) (lines : List (List ℕ)) (a b : List ℕ)
       → IsRepliedFromRun code s lines a → IsRepliedFromRun code s lines b → a ≡ b
   one-from-run command state script code s lines a b h k =
       let same = numbers code s None lines h.works k.works h.repair k.repair in
       from-run command state script s (record { latest = 0; coming = k.works }) lines a b (subst (λ w. AreRepliesFromRun s (record { latest = 0; coming = w }) lines a) same h.replies) k.replies
 
-module _ (split : Split_law) (answer : Answer_law) (code : One_code_law) (command : One_command_law) (state : One_state_law) (script : One_script_law) (numbers : One_works_law) where
+module _ (split : SplitLaw) (answer : AnswerLaw) (code : OneCodeLaw) (command : OneCommandLaw) (state : OneStateLaw) (script : OneScriptLaw) (numbers : OneWorksLaw)
+    (known : Once) where
   one-program : (input : List ℕ) (p q : Typed) → IsProgram input p → IsProgram input q → p ≡ q
   one-program input p q h k = cc (answer input (Ok p) (Ok q) h k)
 
@@ -86,10 +90,21 @@ module _ (split : Split_law) (answer : Answer_law) (code : One_code_law) (comman
         subst (λ t. P q.code (begun t fuel) (script_lines (script_of input p.part)) a) programs coded in
         once q.code (begun q.program fuel) (script_lines (script_of input q.part)) a b (subst (λ t. P q.code (begun q.program fuel) (script_lines (script_of input t)) a) parts moved) k
 
+  one-checked : (input a b : List ℕ) (p q : Programmed input) → IsVerdictLine p.code (bytes_behind p) a → IsVerdictLine q.code (bytes_behind q) b → a ≡ b
+  one-checked input a b p q h k =
+      let parts : p.part ≡ q.part = split input p.part q.part p.split q.split in
+      let programs : p.program ≡ q.program = one-program input p.program q.program p.reads q.reads in
+      let codes : p.code ≡ q.code = code q.program p.code q.code (subst (λ t. IsCodeOf t p.code) programs p.is_code) q.is_code in
+      one-verdict known.dumps known.verdicts q.code (script_of input q.part) a b
+      (subst (λ c. IsVerdictLine c (script_of input q.part) a) codes (subst (λ t. IsVerdictLine p.code (script_of input t) a) parts h)) k
+
   one-answer : (mode : Mode) (input a b : List ℕ) → IsAnswer mode input a → IsAnswer mode input b → a ≡ b
   one-answer Check input a b h k = h.1 ∙ sym k.1
   one-answer Listing input a b h k = one-listing input a b h k
   one-answer (Run fuel) input a b h k = one-run IsReplied (one-replied numbers script) input fuel a b h.0 k.0 h.1 k.1
+  one-answer (Dump fuel) input a b h k = one-run IsDumped (one-dumped command known.records) input fuel a b h.0 k.0 h.1 k.1
+  one-answer Verify input a b h k = one-checked input a b h.0 k.0 h.1 k.1
+  one-answer (Many fuel) input a b h k = one-run AreManyReplies (one-many command known.replies known.sessions) input fuel a b h.0 k.0 h.1 k.1
   one-answer (Gen kind seed size) input a b h k =
       one-run IsRepliedFromRun (one-from-run numbers command state script) (workload_text kind seed size) DEFAULT_FUEL a b h.0 k.0 h.1 k.1
 
@@ -97,7 +112,7 @@ module _ (split : Split_law) (answer : Answer_law) (code : One_code_law) (comman
   not-both : (mode : Mode) (input a b : List ℕ) → IsAnswer mode input a → IsRefusal mode input b → ⊥
   not-both mode input a b h k = not_accepted input k.1 (answer input) k.2 (answer_accepted mode input a k.0 h)
 
-  pub one-output : One_output_law
+  pub one-output : OneOutputLaw
   one-output mode input a b (inl h) (inl k) = one-answer mode input a b h k
   one-output mode input a b (inl h) (inr k) = absurd (not-both mode input a b h k)
   one-output mode input a b (inr h) (inl k) = absurd (not-both mode input b a k h)

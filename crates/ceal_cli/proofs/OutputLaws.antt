@@ -1,5 +1,5 @@
 -- What is written for an input.
-use Rattle.std.proofs.Common.{◌≡◌, ◌⊎◌, inl, inr, ℕ, List, [], ◌++◌, Option, None, Result, Ok, Err, OnOk, IfOk, refl, sym, ap, ◌∙◌, subst}
+use Rattle.std.proofs.Common.{◌≡◌, inl, inr, ℕ, List, [], Option, None, Result, Ok, Err, OnOk, refl, subst}
 use Rattle.std.specs.Io.KnownBytes.{Appends}
 use Rattle.ceal_base.specs.declared.fault.Fault.{Fault}
 use Rattle.ceal_base.specs.declared.typed.Typed.{Typed}
@@ -12,18 +12,24 @@ use Rattle.ceal_compile.specs.Source.{Comes, IsAccepted, IsProgram, IsFirstFault
 use Rattle.ceal_io.specs.Streams.{GrowsByPrefix}
 use Rattle.ceal_lex.specs.Parts.{IsSplit}
 use Rattle.ceal_lex.specs.declared.parts.Split.{Split}
+use Rattle.ceal_record.specs.Laws.{RenamedLaw}
 use Rattle.ceal_session.specs.Following.{opened}
-use Rattle.ceal_session.specs.Laws.{Begun_law, Kept_law, Some_reply_law, Some_script_law}
-use Rattle.ceal_theory.specs.Laws.{Renamed_repair}
+use Rattle.ceal_session.specs.Laws.{BegunLaw, KeptLaw, SomeReplyLaw, SomeScriptLaw}
+use Rattle.ceal_session.specs.Runs.{begun as begun_state}
+use Rattle.ceal_theory.specs.Laws.{RenamedRepair}
+use Rattle.ceal_cli.specs.ManySessions.{AreTold}
 use Rattle.ceal_cli.specs.Fuel.{DEFAULT_FUEL}
-use Rattle.ceal_cli.specs.Growth.{Grows, WritesAnswer, WritesRefusal, WritesOutput, WritesPrefix, WritesReplies, BeginsToReply, WritesFromRun, BeginsFromRun}
+use Rattle.ceal_cli.specs.Growth.{Grows, IsDumpBehind, WritesAnswer, WritesRefusal, WritesOutput, WritesPrefix, WritesReplies, BeginsToReply, WritesFromRun, BeginsFromRun}
 use Rattle.ceal_cli.specs.Lines.{script_of, script_lines}
 use Rattle.ceal_cli.specs.Modes.{ReadsInput}
-use Rattle.ceal_cli.specs.Output.{IsPrefix, IsAnswer, IsRefusal, IsListing, Programmed, accepted_text, Begins, IsOutputFromRun}
+use Rattle.ceal_cli.specs.Output.{IsPrefix, IsAnswer, IsListing, Programmed, accepted_text, Begins, IsOutputFromRun}
+use Rattle.ceal_cli.specs.Situations.{opening}
+use Rattle.ceal_cli.specs.Verdicts.{IsVerdictLine}
 use Rattle.ceal_cli.specs.declared.words.Mode.{Mode}
-use Rattle.ceal_cli.specs.declared.words.Mode.TheVariants.{Check, List as Listing, Run, Gen}
+use Rattle.ceal_cli.specs.declared.words.Mode.TheVariants.{Check, List as Listing, Run, Gen, Dump, Verify, Many}
 use Rattle.ceal_cli.proofs.Growing.{of_prefix, weaker}
 use Rattle.ceal_cli.proofs.Prefixes.{At, served, served-from-run, begun, begun-from-run}
+use Rattle.ceal_cli.proofs.Situated.{in-opening, carried, dump-in}
 
 module _ (a b : Option (List ℕ)) (input : List ℕ) where
   -- of the word `accepted`
@@ -44,12 +50,36 @@ module _ (a b : Option (List ℕ)) (input : List ℕ) where
     unfolding listing
     listed_part grows = weaker (λ out prefix. inr (text, inl listing, prefix)) (of_prefix a b text grows)
 
+  -- of what the checker says of the dump behind the mark
+  module _ (part : Split) (split : IsSplit input part) (p : Program) (reads : IsProgram input p.typed) (compiled : IsCompiled p) (text : List ℕ) (is : IsVerdictLine p.code (script_of input part) text) where
+    verdict-answer : IsAnswer Verify input text
+    verdict-answer = (record { part = part; split = split; program = p.typed; reads = reads; code = p.code; is_code = compiled.code }, is)
+
+    pub checked : {E : Type 0} (r : Result (Unit {0}) E) → OnOk r (Appends a b text) → OnOk r (WritesOutput a b Verify input)
+    checked (Ok u) h = record { out = text; is = inl verdict-answer; appends = h }
+    checked (Err e) h = tt
+
+    pub checked_part : GrowsByPrefix a b text → WritesPrefix a b Verify input
+    checked_part grows = weaker (λ out prefix. inr (text, inl verdict-answer, prefix)) (of_prefix a b text grows)
+
+  -- of the replies of many sessions
+  module _ (part : Split) (split : IsSplit input part) (p : Program) (reads : IsProgram input p.typed) (compiled : IsCompiled p) (fuel : ℕ) where
+    many-answer : (text : List ℕ) → AreTold (opened p fuel) [] (script_lines (script_of input part)) text → IsAnswer (Many fuel) input text
+    many-answer text told = (record { part = part; split = split; program = p.typed; reads = reads; code = p.code; is_code = compiled.code }, told)
+
+    pub many_told : {E : Type 0} (r : Result (Unit {0}) E) → OnOk r (Grows a b (AreTold (opened p fuel) [] (script_lines (script_of input part)))) → OnOk r (WritesOutput a b (Many fuel) input)
+    many_told (Ok u) h = weaker (λ out told. inl (many-answer out told)) h
+    many_told (Err e) h = tt
+
+    pub many_part : Grows a b (Begins (AreTold (opened p fuel) [] (script_lines (script_of input part)))) → WritesPrefix a b (Many fuel) input
+    many_part h = weaker (λ out begun. elim begun [ inl e ↦ inl e | inr w ↦ inr (w.0, inl (many-answer w.0 w.1), w.2) ]) h
+
   -- of the line of the first fault
   pub refused_part : (mode : Mode) → ReadsInput mode → (fault : Fault) → IsFirstFault input fault → (text : List ℕ) → text ≡ fault_line input fault → GrowsByPrefix a b text → WritesPrefix a b mode input
   refused_part mode reads fault is text same grows =
       weaker (λ out prefix. inr (fault_line input fault, inr (reads, fault, is, refl), subst (IsPrefix out) same prefix)) (of_prefix a b text grows)
 
-  module _ (part : Split) (split : IsSplit input part) (p : Program) (reads : IsProgram input p.typed) (compiled : IsCompiled p) (begins : Begun_law) (kept : Kept_law) where
+  module _ (part : Split) (split : IsSplit input part) (p : Program) (reads : IsProgram input p.typed) (compiled : IsCompiled p) (begins : BegunLaw) (kept : KeptLaw) where
     programmed : Programmed input
     programmed = record { part = part; split = split; program = p.typed; reads = reads; code = p.code; is_code = compiled.code }
 
@@ -57,7 +87,7 @@ module _ (a b : Option (List ℕ)) (input : List ℕ) where
     lines = script_lines (script_of input part)
 
     at-begin : (fuel : ℕ) → At (opened p fuel) None 0
-    at-begin fuel = record { stands = begins p fuel compiled; is = tt; alike = Renamed_repair.none }
+    at-begin fuel = record { stands = begins p fuel compiled; is = tt; alike = RenamedRepair.none }
 
     module _ (fuel : ℕ) where
       -- of the replies
@@ -68,12 +98,27 @@ module _ (a b : Option (List ℕ)) (input : List ℕ) where
           inl (programmed, record { works = w.works; repair = w.repair; replies = w.is })) h
       replied (Err e) h = tt
 
-      pub replied_part : Some_script_law → BeginsToReply a b (opened p fuel) lines → WritesPrefix a b (Run fuel) input
+      pub replied_part : SomeScriptLaw → BeginsToReply a b (opened p fuel) lines → WritesPrefix a b (Run fuel) input
       unfolding programmed
       replied_part script h =
           weaker (λ out begins.
           let w = begun kept script (opened p fuel) None 0 lines out (at-begin fuel) begins in
           inr (w.text, inl (programmed, record { works = w.told.works; repair = w.told.repair; replies = w.told.is }), w.prefix)) h
+
+    -- of the dump behind the script
+    module _ (renamed : RenamedLaw) (fuel : ℕ) where
+      dump-answer : (text : List ℕ) → IsDumpBehind (opened p fuel) lines text → IsAnswer (Dump fuel) input text
+      unfolding programmed
+      dump-answer text behind =
+          let there = carried kept (opened p fuel) behind.end (opening p.code (begun_state p.typed fuel)) lines (in-opening begins p fuel compiled) behind.carries in
+          (programmed, record { end = there.0; leads = there.1; dump = dump-in renamed behind.end there.0 there.2 text behind.dump })
+
+      pub dumped : {E : Type 0} (r : Result (Unit {0}) E) → OnOk r (Grows a b (IsDumpBehind (opened p fuel) lines)) → OnOk r (WritesOutput a b (Dump fuel) input)
+      dumped (Ok u) h = weaker (λ out is. inl (dump-answer out is)) h
+      dumped (Err e) h = tt
+
+      pub dumped_part : Grows a b (Begins (IsDumpBehind (opened p fuel) lines)) → WritesPrefix a b (Dump fuel) input
+      dumped_part h = weaker (λ out begun. elim begun [ inl e ↦ inl e | inr w ↦ inr (w.0, inl (dump-answer w.0 w.1), w.2) ]) h
 
     -- of the replies from that of the first run on
     pub from_run : {E : Type 0} (r : Result (Unit {0}) E) → OnOk r (WritesFromRun a b (opened p DEFAULT_FUEL) lines) → OnOk r (Grows a b (IsOutputFromRun input))
@@ -83,7 +128,7 @@ module _ (a b : Option (List ℕ)) (input : List ℕ) where
         (programmed, record { works = w.works; repair = w.repair; replies = w.is })) h
     from_run (Err e) h = tt
 
-    pub from_run_part : Some_reply_law → Some_script_law → BeginsFromRun a b (opened p DEFAULT_FUEL) lines → Grows a b (Begins (IsOutputFromRun input))
+    pub from_run_part : SomeReplyLaw → SomeScriptLaw → BeginsFromRun a b (opened p DEFAULT_FUEL) lines → Grows a b (Begins (IsOutputFromRun input))
     unfolding programmed
     from_run_part reply script h =
         weaker (λ out begins.
@@ -103,7 +148,10 @@ answer_of a b mode input once accepted h = weaker (λ out is. elim is [ inl answ
 pub answer_accepted : (mode : Mode) (input out : List ℕ) → ReadsInput mode → IsAnswer mode input out → IsAccepted input
 answer_accepted Check input out reads h = h.0
 answer_accepted Listing input out reads h = (h.program, h.reads)
+answer_accepted Verify input out reads h = (h.0.program, h.0.reads)
 answer_accepted (Run fuel) input out reads h = (h.0.program, h.0.reads)
+answer_accepted (Dump fuel) input out reads h = (h.0.program, h.0.reads)
+answer_accepted (Many fuel) input out reads h = (h.0.program, h.0.reads)
 answer_accepted (Gen kind seed size) input out reads h = absurd reads
 
 pub refusal_of : (a b : Option (List ℕ)) (mode : Mode) (input : List ℕ) → ReadsInput mode → (IsAccepted input → ⊥) → WritesOutput a b mode input → WritesRefusal a b mode input

@@ -1,5 +1,5 @@
 -- Words that are no options, with `--` or without.
-use Rattle.std.proofs.Common.{◌≡◌, ◌∙◌, ◌⊎◌, inl, inr, Bool, true, false, refl, sym, ap, subst, List, [], ◌∷◌, ◌++◌, Option, Some, None, append-nil, append_assoc, fold}
+use Rattle.std.proofs.Common.{◌≡◌, ◌∙◌, inl, inr, Bool, true, false, refl, sym, ap, subst, List, [], ◌∷◌, ◌++◌, Option, Some, None, append-nil, append_assoc, fold}
 use Rattle.std.specs.List.{AllByRecursion}
 use Rattle.std.specs.Str.{bytes_eq}
 use Rattle.clap.specs.Kinds.{Kinds, or_else}
@@ -11,7 +11,6 @@ use Rattle.clap.proofs.FaultLemmas.{leaf_fault}
 use Rattle.ceal_cli.specs.CommandLine.{ceal_command}
 use Rattle.ceal_cli.specs.Modes.{AreMarked, Text}
 use Rattle.ceal_cli.proofs.Found.{plain_of}
-use Rattle.ceal_cli.proofs.Table.{head_is, tail_is}
 use Rattle.ceal_cli.proofs.Turns.{S, C, DASHES, FUEL, WORDS, at, held, plain_turn}
 
 -- the parser takes the words, and finds these

@@ -1,27 +1,26 @@
 -- What a session answers is what the definition says, and what it has begun to answer is a prefix of that.
-use Rattle.std.proofs.Common.{◌≡◌, inl, inr, ℕ, Bool, true, false, Option, None, List, [], ◌∷◌, ◌++◌, codes, eqb, refl, sym, ap, ◌∙◌, subst, append_assoc}
+use Rattle.std.proofs.Common.{◌≡◌, inl, inr, ℕ, Bool, true, false, Option, List, [], ◌∷◌, ◌++◌, codes, eqb, refl, sym, ap, ◌∙◌, subst, append_assoc}
 use Rattle.std.specs.List.{starts_with}
-use Rattle.std.proofs.lemmas.Bool.{cases_Bool, false≢true}
+use Rattle.std.proofs.lemmas.Bool.{false≢true}
 use Rattle.ceal_code.specs.Program.{Code}
-use Rattle.ceal_session.specs.Laws.{Behind, Answered, Kept, Replied, Kept_law, Some_reply_law, Some_script_law}
+use Rattle.ceal_session.specs.Laws.{Behind, Kept, Replied, KeptLaw, SomeReplyLaw, SomeScriptLaw}
 use Rattle.ceal_session.specs.Replies.{Answers, Works, taken, AreReplies, AreWorks}
 use Rattle.ceal_session.specs.Standing.{IsWorkOf, Stands}
 use Rattle.ceal_session.specs.State.{State, Situation, last}
-use Rattle.ceal_session.specs.Steps.{answered_line}
 use Rattle.ceal_session.specs.Works.{call_in, completes, number_of, trace_behind}
 use Rattle.ceal_theory.specs.Computed.{Repaired}
-use Rattle.ceal_theory.specs.Laws.{Renamed_repair}
+use Rattle.ceal_theory.specs.Laws.{RenamedRepair}
 use Rattle.ceal_cli.specs.Growth.{Serves, AreServed, BeginServed, AreServedFromRun, BeginServedFromRun}
 use Rattle.ceal_cli.specs.Output.{IsPrefix, IsRunLine, AreRepliesFromRun}
 use Rattle.ceal_cli.proofs.FromRun.{run_line}
 
-nothing-first : (out whole : List ℕ) → out ≡ [] → IsPrefix out whole
+pub nothing-first : (out whole : List ℕ) → out ≡ [] → IsPrefix out whole
 nothing-first out whole e = record { rest = whole; same = ap (λ l. l ++ whole) e }
 
-more-behind : (out text rest : List ℕ) → IsPrefix out text → IsPrefix out (text ++ rest)
+pub more-behind : (out text rest : List ℕ) → IsPrefix out text → IsPrefix out (text ++ rest)
 more-behind out text rest p = record { rest = p.rest ++ rest; same = sym (append_assoc out p.rest rest) ∙ ap (λ l. l ++ rest) p.same }
 
-same-front : (text out rest : List ℕ) → IsPrefix out rest → IsPrefix (text ++ out) (text ++ rest)
+pub same-front : (text out rest : List ℕ) → IsPrefix out rest → IsPrefix (text ++ out) (text ++ rest)
 same-front text out rest p = record { rest = p.rest; same = append_assoc text out p.rest ∙ ap (λ l. text ++ l) p.same }
 
 -- work numbers, and a text of this sort with them
@@ -41,7 +40,7 @@ ToldFromRun s lines out = λ works. AreRepliesFromRun s works lines out
 pub record At (m : Situation) (before : Option Repaired) (work : ℕ) : Type 0 where
   pub stands : Stands m.code m.state before
   pub is : IsWorkOf before work
-  pub alike : Renamed_repair before (last m)
+  pub alike : RenamedRepair before (last m)
 
 -- one line in front of those that have work numbers
 module _ (code : Code) (s next : State) (before : Option Repaired) (work : ℕ) (line text : List ℕ) (lines : List (List ℕ)) (answers : Answers s work line text next)
@@ -97,7 +96,7 @@ unfolding AreRepliesFromRun AreWorks
 no-run-lines code s before work = record { works = []; repair = refl; is = refl }
 
 -- the session behind a line
-module _ (kept : Kept_law) (m n : Situation) (before : Option Repaired) (work : ℕ) (line text : List ℕ) (at : At m before work) (serves : Serves m line text n) where
+module _ (kept : KeptLaw) (m n : Situation) (before : Option Repaired) (work : ℕ) (line text : List ℕ) (at : At m before work) (serves : Serves m line text n) where
   abbrev pub k : Kept m before work line text n
   k = kept m n before work line text at.stands at.is at.alike serves.answers serves.repairs
 
@@ -116,7 +115,7 @@ pub record Whole (code : Code) (s : State) (before : Option Repaired) (work : �
   pub told : With code s before work lines (P text)
   pub prefix : IsPrefix out text
 
-module _ (kept : Kept_law) where
+module _ (kept : KeptLaw) where
   pub served : (m : Situation) (before : Option Repaired) (work : ℕ) (lines : List (List ℕ)) (out : List ℕ) → At m before work → AreServed m lines out
       → With m.code m.state before work lines (Told m.state lines out)
   unfolding AreServed
@@ -139,7 +138,7 @@ module _ (kept : Kept_law) where
       let rest = served-from-run n (later kept m n before work line h.1 at h.3) k'.behind.latest lines out (at-next kept m n before work line h.1 at h.3) h.4 in
       front-other m.code m.state n.state before work line h.1 lines k'.answers k'.behind h.0 out (same-code kept m n before work line h.1 at h.3 lines (ToldFromRun n.state lines out) rest)
 
-  module _ (script : Some_script_law) where
+  module _ (script : SomeScriptLaw) where
     pub begun : (m : Situation) (before : Option Repaired) (work : ℕ) (lines : List (List ℕ)) (out : List ℕ) → At m before work → BeginServed m lines out
         → Whole m.code m.state before work lines (Told m.state lines) out
     unfolding BeginServed
@@ -170,23 +169,23 @@ run-or-not line true e P here later = here ((run_line line true e).0 refl)
 run-or-not line false e P here later = later (λ h. false≢true ((run_line line false e).1 h))
 
 -- there is a text from the first run on
-pub record Some_from (code : Code) (s : State) (before : Option Repaired) (work : ℕ) (lines : List (List ℕ)) : Type 0 where
+pub record SomeFrom (code : Code) (s : State) (before : Option Repaired) (work : ℕ) (lines : List (List ℕ)) : Type 0 where
   pub text : List ℕ
   pub told : With code s before work lines (ToldFromRun s lines text)
 
-module _ (reply : Some_reply_law) (script : Some_script_law) where
-  pub some-from-run : (code : Code) (s : State) (before : Option Repaired) (work : ℕ) (lines : List (List ℕ)) → Stands code s before → IsWorkOf before work → Some_from code s before work lines
+module _ (reply : SomeReplyLaw) (script : SomeScriptLaw) where
+  pub some-from-run : (code : Code) (s : State) (before : Option Repaired) (work : ℕ) (lines : List (List ℕ)) → Stands code s before → IsWorkOf before work → SomeFrom code s before work lines
   some-from-run code s before work [] st i = record { text = []; told = no-run-lines code s before work }
   some-from-run code s before work (line ∷ lines) st i =
       let a = reply code s before work line st i in
       let rest = some-from-run code a.next (trace_behind code s (call_in s a.answers.command) before) a.behind.latest lines a.behind.stands a.behind.is in
-      run-or-not line (starts_with eqb line (codes "run ")) refl (Some_from code s before work (line ∷ lines))
+      run-or-not line (starts_with eqb line (codes "run ")) refl (SomeFrom code s before work (line ∷ lines))
       (λ is.
       let w = script code s before work (line ∷ lines) st i in
       record { text = w.text; told = front-run code s before work line lines w.text is (of-replied code s before work (line ∷ lines) w) })
       (λ other. record { text = rest.text; told = front-other code s a.next before work line a.text lines a.answers a.behind other rest.text rest.told })
 
-  module _ (kept : Kept_law) where
+  module _ (kept : KeptLaw) where
     pub begun-from-run : (m : Situation) (before : Option Repaired) (work : ℕ) (lines : List (List ℕ)) (out : List ℕ) → At m before work → BeginServedFromRun m lines out
         → Whole m.code m.state before work lines (ToldFromRun m.state lines) out
     unfolding BeginServedFromRun

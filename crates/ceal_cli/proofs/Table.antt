@@ -1,10 +1,10 @@
 -- From the plain words and the values of the option to what the words ask for.
 use Rattle.std.proofs.Common.{◌≡◌, ◌∙◌, ◌⊎◌, inl, inr, ℕ, false, refl, sym, ap, subst, List, [], ◌∷◌, ◌++◌, Option, Some, None, codes}
-use Rattle.ceal_cli.specs.Modes.{AreMarked, Asks, HaveOption, Text}
+use Rattle.ceal_cli.specs.Modes.{AreMarked, Asks, HaveOption, NamesFuel, Text}
 use Rattle.ceal_cli.specs.Fuel.{SpellsFuel}
-use Rattle.ceal_cli.specs.CommandLine.{Chooses}
+use Rattle.ceal_cli.specs.CommandLine.{Chooses, IsFuel}
 use Rattle.ceal_cli.specs.declared.words.Mode.{Mode}
-use Rattle.ceal_cli.specs.declared.words.Mode.TheVariants.{Check, List as Listing, Run, Gen}
+use Rattle.ceal_cli.specs.declared.words.Mode.TheVariants.{Check, List as Listing, Run, Gen, Dump, Verify, Many}
 use Rattle.ceal_cli.proofs.Found.{Reads}
 
 -- the first of the values
@@ -95,6 +95,13 @@ none_is : (values : List Text) → first_value values ≡ None → values ≡ []
 none_is [] e = refl
 none_is (x ∷ more) e = absurd (cc e)
 
+-- a word with the option, or without it
+named_fuel : (words plain values : List Text) (fuel : ℕ) (word : Text) → Reads false words plain values → ((x y : Text) (more : List Text) → values ≡ x ∷ y ∷ more → ⊥)
+    → plain ≡ word ∷ [] → IsFuel (first_value values) fuel → NamesFuel fuel word words
+named_fuel words plain [] fuel word reads few is default = inl (subst (λ (l : List Text). AreMarked l words) is (marked words plain [] refl reads), default)
+named_fuel words plain (x ∷ []) fuel word reads few is spells = inr (in_table fuel x word words spells (with_option words plain (x ∷ []) x word (sym is) refl reads))
+named_fuel words plain (x ∷ y ∷ more) fuel word reads few is chosen = absurd (few x y more refl)
+
 -- what the parser's answer chooses is what the words ask for
 pub asked_for : (words plain values : List Text) (mode : Mode) → Reads false words plain values → ((x y : Text) (more : List Text) → values ≡ x ∷ y ∷ more → ⊥)
     → Chooses plain (first_value values) mode → Asks words mode
@@ -102,9 +109,9 @@ asked_for words plain values Check reads few (is, none) =
     subst (λ (l : List Text). AreMarked l words) is (marked words plain values (none_is values none) reads)
 asked_for words plain values Listing reads few (is, none) =
     subst (λ (l : List Text). AreMarked l words) is (marked words plain values (none_is values none) reads)
-asked_for words plain [] (Run fuel) reads few (is, default) =
-    inl (subst (λ (l : List Text). AreMarked l words) is (marked words plain [] refl reads), default)
-asked_for words plain (x ∷ []) (Run fuel) reads few (is, spells) =
-    inr (in_table fuel x (codes "run") words spells (with_option words plain (x ∷ []) x (codes "run") (sym is) refl reads))
-asked_for words plain (x ∷ y ∷ more) (Run fuel) reads few chosen = absurd (few x y more refl)
+asked_for words plain values Verify reads few (is, none) =
+    subst (λ (l : List Text). AreMarked l words) is (marked words plain values (none_is values none) reads)
+asked_for words plain values (Run fuel) reads few (is, chosen) = named_fuel words plain values fuel (codes "run") reads few is chosen
+asked_for words plain values (Dump fuel) reads few (is, chosen) = named_fuel words plain values fuel (codes "dump") reads few is chosen
+asked_for words plain values (Many fuel) reads few (is, chosen) = named_fuel words plain values fuel (codes "many") reads few is chosen
 asked_for words plain values (Gen kind seed size) reads few (names, none) = (plain, names, marked words plain values (none_is values none) reads)

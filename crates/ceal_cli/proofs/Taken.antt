@@ -5,12 +5,12 @@ use Rattle.clap.specs.Walk.{first_of}
 use Rattle.clap.specs.Faults.{fault_of, is_simple_and_free}
 use Rattle.clap.specs.Simple.{is_simple, matches_of}
 use Rattle.clap.proofs.OnLiterals.{clap_on_literals}
-use Rattle.ceal_cli.specs.Modes.{AreMarked, Asks, HaveOption, Text}
+use Rattle.ceal_cli.specs.Modes.{AreMarked, Asks, HaveOption, NamesFuel, Text}
 use Rattle.ceal_cli.specs.Fuel.{SpellsFuel}
 use Rattle.ceal_cli.specs.Workloads.{NamesWorkload, SpellsSeed, SpellsSize, kind_word}
-use Rattle.ceal_cli.specs.CommandLine.{Chooses, ceal_command}
+use Rattle.ceal_cli.specs.CommandLine.{Chooses, IsFuel, ceal_command}
 use Rattle.ceal_cli.specs.declared.words.Mode.{Mode}
-use Rattle.ceal_cli.specs.declared.words.Mode.TheVariants.{Check, List as Listing, Run, Gen}
+use Rattle.ceal_cli.specs.declared.words.Mode.TheVariants.{Check, List as Listing, Run, Gen, Dump, Verify, Many}
 use Rattle.ceal_gen.specs.declared.kind.Workload.{Workload}
 use Rattle.ceal_gen.specs.declared.kind.Workload.TheVariants.{List as OfList, Tree as OfTree}
 use Rattle.ceal_cli.proofs.Found.{plain_of}
@@ -43,8 +43,8 @@ CHECK = codes "check"
 abbrev LIST : Text
 LIST = codes "list"
 
-abbrev RUN : Text
-RUN = codes "run"
+abbrev VERIFY : Text
+VERIFY = codes "verify"
 
 check_alone : (words : List Text) → AreMarked (CHECK ∷ []) words → Takes (CHECK ∷ []) None words
 unfolding clap_on_literals
@@ -54,38 +54,9 @@ list_alone : (words : List Text) → AreMarked (LIST ∷ []) words → Takes (LI
 unfolding clap_on_literals
 list_alone = takes_plain LIST [] refl refl refl (record { dashes = refl; long = refl; short = refl }, tt)
 
-run_alone : (words : List Text) → AreMarked (RUN ∷ []) words → Takes (RUN ∷ []) None words
+verify_alone : (words : List Text) → AreMarked (VERIFY ∷ []) words → Takes (VERIFY ∷ []) None words
 unfolding clap_on_literals
-run_alone = takes_plain RUN [] refl refl refl (record { dashes = refl; long = refl; short = refl }, tt)
-
--- the option with its value, before the word and behind it
-joined_before : (text : Text) (rest : List Text) → AreMarked (RUN ∷ []) rest → Takes (RUN ∷ []) (Some text) ((JOINED ++ text) ∷ rest)
-unfolding clap_on_literals
-joined_before text = one_word (λ rest. Takes (RUN ∷ []) (Some text) ((JOINED ++ text) ∷ rest)) RUN
-    (record { taken = refl; plain_words = refl; value_is = refl })
-    (record { taken = refl; plain_words = refl; value_is = refl })
-    (record { taken = refl; plain_words = refl; value_is = refl })
-
-joined_behind : (text : Text) (rest : List Text) → AreMarked [] rest → Takes (RUN ∷ []) (Some text) (RUN ∷ (JOINED ++ text) ∷ rest)
-unfolding clap_on_literals
-joined_behind text = no_word (λ rest. Takes (RUN ∷ []) (Some text) (RUN ∷ (JOINED ++ text) ∷ rest))
-    (record { taken = refl; plain_words = refl; value_is = refl })
-    (record { taken = refl; plain_words = refl; value_is = refl })
-
--- the value does not begin with `-`
-module _ (d : ℕ) (ds : List ℕ) (no : eqb d 45 ≡ false) where
-  apart_before : (rest : List Text) → AreMarked (RUN ∷ []) rest → Takes (RUN ∷ []) (Some (d ∷ ds)) (OPTION ∷ (d ∷ ds) ∷ rest)
-  unfolding clap_on_literals
-  apart_before = one_word (λ rest. Takes (RUN ∷ []) (Some (d ∷ ds)) (OPTION ∷ (d ∷ ds) ∷ rest)) RUN
-      (record { taken = simp no refl; plain_words = simp no refl; value_is = simp no refl })
-      (record { taken = simp no refl; plain_words = simp no refl; value_is = simp no refl })
-      (record { taken = simp no refl; plain_words = simp no refl; value_is = simp no refl })
-
-  apart_behind : (rest : List Text) → AreMarked [] rest → Takes (RUN ∷ []) (Some (d ∷ ds)) (RUN ∷ OPTION ∷ (d ∷ ds) ∷ rest)
-  unfolding clap_on_literals
-  apart_behind = no_word (λ rest. Takes (RUN ∷ []) (Some (d ∷ ds)) (RUN ∷ OPTION ∷ (d ∷ ds) ∷ rest))
-      (record { taken = simp no refl; plain_words = simp no refl; value_is = simp no refl })
-      (record { taken = simp no refl; plain_words = simp no refl; value_is = simp no refl })
+verify_alone = takes_plain VERIFY [] refl refl refl (record { dashes = refl; long = refl; short = refl }, tt)
 
 no_hyphen : (d : ℕ) → digit_value d < 10 → eqb d 45 ≡ false
 no_hyphen d h = go (eqb d 45) refl
@@ -97,22 +68,78 @@ no_hyphen d h = go (eqb d 45) refl
         let bad : digit_value 45 < 10 = subst (λ (x : ℕ). digit_value x < 10) is h in
         absurd (omega (arith, bad))
 
-with_option : (fuel : ℕ) (words : List Text) → HaveOption fuel RUN words → (text : Text) × SpellsFuel text fuel × Takes (RUN ∷ []) (Some text) words
-with_option fuel words (option, rest, (text, spells, inr is), inl (same, marked)) =
-    (text, spells, subst (Takes (RUN ∷ []) (Some text)) (ap (λ (l : List Text). l ++ rest) (sym is) ∙ sym same) (joined_before text rest marked))
-with_option fuel words (option, rest, (text, spells, inr is), inr (same, marked)) =
-    (text, spells, subst (Takes (RUN ∷ []) (Some text)) (ap (λ (l : List Text). RUN ∷ l ++ rest) (sym is) ∙ sym same) (joined_behind text rest marked))
-with_option fuel words (option, rest, ([], spells, inl is), place) = absurd (omega (arith, spells.numeral.0))
-with_option fuel words (option, rest, (d ∷ ds, spells, inl is), inl (same, marked)) =
-    (d ∷ ds, spells, subst (Takes (RUN ∷ []) (Some (d ∷ ds))) (ap (λ (l : List Text). l ++ rest) (sym is) ∙ sym same) (apart_before d ds (no_hyphen d spells.numeral.1.0) rest marked))
-with_option fuel words (option, rest, (d ∷ ds, spells, inl is), inr (same, marked)) =
-    (d ∷ ds, spells, subst (Takes (RUN ∷ []) (Some (d ∷ ds))) (ap (λ (l : List Text). RUN ∷ l ++ rest) (sym is) ∙ sym same) (apart_behind d ds (no_hyphen d spells.numeral.1.0) rest marked))
+no_option : (d : ℕ) (ds : List ℕ) → eqb d 45 ≡ false → IsNoOption (d ∷ ds)
+no_option d ds other = record { dashes = simp other refl; long = simp other refl; short = simp other refl }
+
+-- a word that takes the option, and does not begin with `-`
+module _ (w : ℕ) (ws : List ℕ) (other : eqb w 45 ≡ false) where
+  abbrev WORD : Text
+  WORD = w ∷ ws
+
+  alone : (words : List Text) → AreMarked (WORD ∷ []) words → Takes (WORD ∷ []) None words
+  unfolding clap_on_literals
+  alone = takes_plain WORD [] refl refl refl (no_option w ws other, tt)
+
+  -- the option with its value, before the word and behind it
+  joined_before : (text : Text) (rest : List Text) → AreMarked (WORD ∷ []) rest → Takes (WORD ∷ []) (Some text) ((JOINED ++ text) ∷ rest)
+  unfolding clap_on_literals
+  joined_before text = one_word (λ rest. Takes (WORD ∷ []) (Some text) ((JOINED ++ text) ∷ rest)) WORD
+      (record { taken = simp other refl; plain_words = simp other refl; value_is = simp other refl })
+      (record { taken = refl; plain_words = refl; value_is = refl })
+      (record { taken = simp other refl; plain_words = simp other refl; value_is = simp other refl })
+
+  joined_behind : (text : Text) (rest : List Text) → AreMarked [] rest → Takes (WORD ∷ []) (Some text) (WORD ∷ (JOINED ++ text) ∷ rest)
+  unfolding clap_on_literals
+  joined_behind text = no_word (λ rest. Takes (WORD ∷ []) (Some text) (WORD ∷ (JOINED ++ text) ∷ rest))
+      (record { taken = simp other refl; plain_words = simp other refl; value_is = simp other refl })
+      (record { taken = simp other refl; plain_words = simp other refl; value_is = simp other refl })
+
+  -- the value does not begin with `-`
+  module _ (d : ℕ) (ds : List ℕ) (no : eqb d 45 ≡ false) where
+    apart_before : (rest : List Text) → AreMarked (WORD ∷ []) rest → Takes (WORD ∷ []) (Some (d ∷ ds)) (OPTION ∷ (d ∷ ds) ∷ rest)
+    unfolding clap_on_literals
+    apart_before = one_word (λ rest. Takes (WORD ∷ []) (Some (d ∷ ds)) (OPTION ∷ (d ∷ ds) ∷ rest)) WORD
+        (record { taken = simp (no, other) refl; plain_words = simp (no, other) refl; value_is = simp (no, other) refl })
+        (record { taken = simp no refl; plain_words = simp no refl; value_is = simp no refl })
+        (record { taken = simp (no, other) refl; plain_words = simp (no, other) refl; value_is = simp (no, other) refl })
+
+    apart_behind : (rest : List Text) → AreMarked [] rest → Takes (WORD ∷ []) (Some (d ∷ ds)) (WORD ∷ OPTION ∷ (d ∷ ds) ∷ rest)
+    unfolding clap_on_literals
+    apart_behind = no_word (λ rest. Takes (WORD ∷ []) (Some (d ∷ ds)) (WORD ∷ OPTION ∷ (d ∷ ds) ∷ rest))
+        (record { taken = simp (no, other) refl; plain_words = simp (no, other) refl; value_is = simp (no, other) refl })
+        (record { taken = simp (no, other) refl; plain_words = simp (no, other) refl; value_is = simp (no, other) refl })
+
+  with_option : (fuel : ℕ) (words : List Text) → HaveOption fuel WORD words → (text : Text) × SpellsFuel text fuel × Takes (WORD ∷ []) (Some text) words
+  with_option fuel words (option, rest, (text, spells, inr is), inl (same, marked)) =
+      (text, spells, subst (Takes (WORD ∷ []) (Some text)) (ap (λ (l : List Text). l ++ rest) (sym is) ∙ sym same) (joined_before text rest marked))
+  with_option fuel words (option, rest, (text, spells, inr is), inr (same, marked)) =
+      (text, spells, subst (Takes (WORD ∷ []) (Some text)) (ap (λ (l : List Text). WORD ∷ l ++ rest) (sym is) ∙ sym same) (joined_behind text rest marked))
+  with_option fuel words (option, rest, ([], spells, inl is), place) = absurd (omega (arith, spells.numeral.0))
+  with_option fuel words (option, rest, (d ∷ ds, spells, inl is), inl (same, marked)) =
+      (d ∷ ds, spells, subst (Takes (WORD ∷ []) (Some (d ∷ ds))) (ap (λ (l : List Text). l ++ rest) (sym is) ∙ sym same) (apart_before d ds (no_hyphen d spells.numeral.1.0) rest marked))
+  with_option fuel words (option, rest, (d ∷ ds, spells, inl is), inr (same, marked)) =
+      (d ∷ ds, spells, subst (Takes (WORD ∷ []) (Some (d ∷ ds))) (ap (λ (l : List Text). WORD ∷ l ++ rest) (sym is) ∙ sym same) (apart_behind d ds (no_hyphen d spells.numeral.1.0) rest marked))
+
+  -- the word, with the option or without it, is found with the fuel
+  pub record Names (fuel : ℕ) (words : List Text) : Type 0 where
+    pub none : fault_of ceal_command words ≡ []
+    pub word_is : plain_of (matches_of ceal_command words) ≡ WORD ∷ []
+    pub fuel_is : IsFuel (first_of FUEL (matches_of ceal_command words)) fuel
+
+  names : (fuel : ℕ) (words : List Text) → NamesFuel fuel WORD words → Names fuel words
+  names fuel words (inl (marked, default)) =
+      let t = alone words marked in
+      record { none = t.taken; word_is = t.plain_words; fuel_is = subst (λ (o : Option Text). IsFuel o fuel) (sym t.value_is) default }
+  names fuel words (inr option) =
+      let found = with_option fuel words option in
+      record {
+        none = found.2.taken;
+        word_is = found.2.plain_words;
+        fuel_is = subst (λ (o : Option Text). IsFuel o fuel) (sym found.2.value_is) found.1;
+      }
 
 abbrev GEN : Text
 GEN = codes "gen"
-
-no_option : (d : ℕ) (ds : List ℕ) → eqb d 45 ≡ false → IsNoOption (d ∷ ds)
-no_option d ds other = record { dashes = simp other refl; long = simp other refl; short = simp other refl }
 
 no_kind_option : (kind : Workload) → IsNoOption (kind_word kind)
 no_kind_option OfList = record { dashes = refl; long = refl; short = refl }
@@ -146,15 +173,18 @@ taken words Check asks =
 taken words Listing asks =
     let t = list_alone words asks in
     record { none = t.taken; chooses = (t.plain_words, t.value_is) }
-taken words (Run fuel) (inl (marked, default)) =
-    let t = run_alone words marked in
-    record { none = t.taken; chooses = subst (λ (o : Option Text). Chooses (plain_of (matches_of ceal_command words)) o (Run fuel)) (sym t.value_is) (t.plain_words, default) }
-taken words (Run fuel) (inr option) =
-    let found = with_option fuel words option in
-    record {
-      none = found.2.taken;
-      chooses = subst (λ (o : Option Text). Chooses (plain_of (matches_of ceal_command words)) o (Run fuel)) (sym found.2.value_is) (found.2.plain_words, found.1);
-    }
+taken words Verify asks =
+    let t = verify_alone words asks in
+    record { none = t.taken; chooses = (t.plain_words, t.value_is) }
+taken words (Run fuel) asks =
+    let t = names 114 (codes "un") refl fuel words asks in
+    record { none = t.none; chooses = (t.word_is, t.fuel_is) }
+taken words (Dump fuel) asks =
+    let t = names 100 (codes "ump") refl fuel words asks in
+    record { none = t.none; chooses = (t.word_is, t.fuel_is) }
+taken words (Many fuel) asks =
+    let t = names 109 (codes "any") refl fuel words asks in
+    record { none = t.none; chooses = (t.word_is, t.fuel_is) }
 taken words (Gen kind seed size) (plain, names, marked) =
     let t = generated words plain kind seed size names marked in
     record { none = t.taken; chooses = (subst (λ (l : List Text). NamesWorkload l kind seed size) (sym t.plain_words) names, t.value_is) }

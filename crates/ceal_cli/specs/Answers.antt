@@ -47,7 +47,8 @@ status_number WriteFault = 6
 abbrev pub status_text : Status → List ℕ
 status_text Done = []
 status_text Refused = []
-status_text Usage = codes "usage: ceal run [--fuel N] | check | list | gen KIND SEED SIZE\n"
+status_text Usage =
+    codes "usage: ceal run [--fuel N] | check | list | gen KIND SEED SIZE | dump [--fuel N] | verify | many [--fuel N]\n"
 status_text TooLong = codes "ceal: input longer than 4194304 bytes\n"
 status_text Memory = codes "ceal: out of memory\n"
 status_text ReadFault = codes "ceal: reading failed\n"

@@ -5,7 +5,7 @@ use Rattle.clap.specs.Lexer.{usize_max}
 use Rattle.ceal_cli.specs.Fuel.{DEFAULT_FUEL, SpellsFuel}
 use Rattle.ceal_cli.specs.Workloads.{NamesWorkload}
 use Rattle.ceal_cli.specs.declared.words.Mode.{Mode}
-use Rattle.ceal_cli.specs.declared.words.Mode.TheVariants.{Check, List as Listing, Run, Gen}
+use Rattle.ceal_cli.specs.declared.words.Mode.TheVariants.{Check, List as Listing, Run, Gen, Dump, Verify, Many}
 
 -- the option `--fuel` with one value
 abbrev pub fuel_option : Rule
@@ -34,7 +34,10 @@ HasNoFuelIn option = (fuel : ℕ) → ¬ IsFuel option fuel
 abbrev pub Chooses : List (List ℕ) → Option (List ℕ) → Mode → Type 0
 Chooses words option Check = (words ≡ codes "check" ∷ []) × (option ≡ None)
 Chooses words option Listing = (words ≡ codes "list" ∷ []) × (option ≡ None)
+Chooses words option Verify = (words ≡ codes "verify" ∷ []) × (option ≡ None)
 Chooses words option (Run fuel) = (words ≡ codes "run" ∷ []) × IsFuel option fuel
+Chooses words option (Dump fuel) = (words ≡ codes "dump" ∷ []) × IsFuel option fuel
+Chooses words option (Many fuel) = (words ≡ codes "many" ∷ []) × IsFuel option fuel
 Chooses words option (Gen kind seed size) = NamesWorkload words kind seed size × (option ≡ None)
 
 abbrev pub ChoosesNone : List (List ℕ) → Option (List ℕ) → Type 0

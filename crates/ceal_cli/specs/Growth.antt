@@ -1,10 +1,15 @@
 -- By what a sink has grown.
 use Rattle.std.specs.Prelude.{◌≡◌, ◌⊎◌, List, [], ◌∷◌, ◌++◌, ℕ, Option}
 use Rattle.std.specs.Io.KnownBytes.{Appends}
+use Rattle.ceal_base.specs.declared.recorded.Record.{Record}
+use Rattle.ceal_dump.specs.DumpText.{dump_text}
+use Rattle.ceal_session.specs.Asking.{IsReady}
 use Rattle.ceal_session.specs.Following.{Repairs}
+use Rattle.ceal_session.specs.Recording.{IsRecorded}
 use Rattle.ceal_session.specs.Replies.{Answers}
 use Rattle.ceal_session.specs.State.{Situation, last}
 use Rattle.ceal_session.specs.Works.{latest_work}
+use Rattle.ceal_cli.specs.Dumps.{no_run_text}
 use Rattle.ceal_cli.specs.Output.{IsPrefix, Begins, IsAnswer, IsRefusal, IsOutput, IsRunLine, IsGenerated}
 use Rattle.ceal_cli.specs.declared.words.Mode.{Mode}
 use Rattle.ceal_gen.specs.declared.kind.Workload.{Workload}
@@ -109,3 +114,21 @@ BeginsReply m line out =
 
 abbrev pub WritesPart : Option (List ℕ) → Option (List ℕ) → Situation → List ℕ → Type 0
 WritesPart old now m line = Grows old now (λ out. BeginsReply m line out)
+
+-- The lines are carried out, one after another, and the session is left so.
+unfoldable pub Carries : Situation → List (List ℕ) → Situation → Type 0
+Carries m [] n = n ≡ m
+Carries m (line ∷ lines) n =
+    (text : List ℕ) × (next : Situation) × Serves m line text next × Carries next lines n
+
+-- The text is that of the session's record, or says that there is none.
+abbrev pub IsDumpFrom : Situation → List ℕ → Type 0
+IsDumpFrom m out =
+    ((¬ IsReady m.state) × (out ≡ no_run_text))
+    ⊎ ((r : Record) × IsRecorded m r × (out ≡ dump_text r))
+
+-- So it is behind the lines.
+pub record IsDumpBehind (m : Situation) (lines : List (List ℕ)) (out : List ℕ) : Type 0 where
+  pub end : Situation
+  pub carries : Carries m lines end
+  pub dump : IsDumpFrom end out

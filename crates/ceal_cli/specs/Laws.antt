@@ -1,45 +1,82 @@
 -- Laws of outputs, and of the generated workloads.
-use Rattle.std.specs.Prelude.{◌≡◌, ℕ, ◌<◌, ◌≤◌, ◌^◌, List, length}
+use Rattle.std.specs.Prelude.{◌≡◌, ℕ, ◌<◌, ◌≤◌, ◌^◌, Some, List, length}
+use Rattle.ceal_base.specs.Finished.{Finished}
+use Rattle.ceal_base.specs.Same.{Same}
+use Rattle.ceal_base.specs.Trace.{Trace, flat, steps_in, blocks_of}
+use Rattle.ceal_base.specs.declared.recorded.Record.{Record}
+use Rattle.ceal_base.specs.declared.typed.Typed.{Typed}
+use Rattle.ceal_code.specs.Replay.{core_numbers}
 use Rattle.ceal_compile.specs.Compiled.{IsCompiled}
 use Rattle.ceal_compile.specs.Source.{IsProgram, IsAccepted}
 use Rattle.ceal_compile.specs.declared.program.Program.{Program}
+use Rattle.ceal_dump.specs.DumpText.{IsDump}
 use Rattle.ceal_gen.specs.Text.{workload_text}
 use Rattle.ceal_gen.specs.declared.kind.Workload.{Workload}
+use Rattle.ceal_mean.specs.Fresh.{fresh}
+use Rattle.ceal_traceck.specs.Laws.{block_of}
+use Rattle.ceal_traceck.specs.declared.verdict.Verdict.TheVariants.{Yes}
 use Rattle.ceal_cli.specs.Modes.{ReadsInput}
-use Rattle.ceal_cli.specs.Output.{IsOutput, IsRefusal}
+use Rattle.ceal_cli.specs.Output.{IsAnswer, IsOutput, IsRefusal, bytes_behind}
+use Rattle.ceal_cli.specs.Verdicts.{verdict_text}
 use Rattle.ceal_cli.specs.declared.words.Mode.{Mode}
-use Rattle.ceal_cli.specs.declared.words.Mode.TheVariants.{Check, List as Listing, Run}
+use Rattle.ceal_cli.specs.declared.words.Mode.TheVariants.{Check, List as Listing, Run, Dump, Verify, Many}
 
 -- Every workload is accepted that is short enough to be an input.
-abbrev pub Accepted_law : Type 0
-Accepted_law = (kind : Workload) (seed size : ℕ) → length (workload_text kind seed size) < 2 ^ 32
+abbrev pub AcceptedLaw : Type 0
+AcceptedLaw = (kind : Workload) (seed size : ℕ) → length (workload_text kind seed size) < 2 ^ 32
     → IsAccepted (workload_text kind seed size)
 
 -- It is, up to this size at least.
-abbrev pub Short_law : Type 0
-Short_law = (kind : Workload) (seed size : ℕ) → size ≤ 2 ^ 24
+abbrev pub ShortLaw : Type 0
+ShortLaw = (kind : Workload) (seed size : ℕ) → size ≤ 2 ^ 24
     → length (workload_text kind seed size) < 2 ^ 32
 
 -- An input has one output at most, whatever the words ask for.
-abbrev pub One_output_law : Type 0
-One_output_law = (mode : Mode) (input a b : List ℕ) → IsOutput mode input a
+abbrev pub OneOutputLaw : Type 0
+OneOutputLaw = (mode : Mode) (input a b : List ℕ) → IsOutput mode input a
     → IsOutput mode input b → a ≡ b
 
 -- Each input is checked: there is a word, or a line, that is written for it.
-abbrev pub Checked_law : Type 0
-Checked_law = (input : List ℕ) → length input < 2 ^ 32 → (out : List ℕ) × IsOutput Check input out
+abbrev pub CheckedLaw : Type 0
+CheckedLaw = (input : List ℕ) → length input < 2 ^ 32 → (out : List ℕ) × IsOutput Check input out
 
 -- And each is listed.
-abbrev pub Listed_law : Type 0
-Listed_law = (input : List ℕ) → length input < 2 ^ 32 → (out : List ℕ) × IsOutput Listing input out
+abbrev pub ListedLaw : Type 0
+ListedLaw = (input : List ℕ) → length input < 2 ^ 32 → (out : List ℕ) × IsOutput Listing input out
 
 -- An input that is not accepted is refused by a line in each mode that reads.
-abbrev pub Refused_law : Type 0
-Refused_law = (mode : Mode) (input : List ℕ) → ReadsInput mode → length input < 2 ^ 32
+abbrev pub RefusedLaw : Type 0
+RefusedLaw = (mode : Mode) (input : List ℕ) → ReadsInput mode → length input < 2 ^ 32
     → ¬ IsAccepted input
     → (out : List ℕ) × IsRefusal mode input out
 
--- An input whose program has code that means what it means has its output for `run`, at each fuel.
-abbrev pub Replied_law : Type 0
-Replied_law = (input : List ℕ) (p : Program) (fuel : ℕ) → IsProgram input p.typed → IsCompiled p
-    → (out : List ℕ) × IsOutput (Run fuel) input out
+-- An accepted input has its output for `run`, at each fuel.
+abbrev pub RepliedLaw : Type 0
+RepliedLaw = (input : List ℕ) (fuel : ℕ) → IsAccepted input → (out : List ℕ) × IsOutput (Run fuel) input out
+
+-- And so it has for `dump` and for `many`.
+abbrev pub DumpedLaw : Type 0
+DumpedLaw = (input : List ℕ) (fuel : ℕ) → IsAccepted input → (out : List ℕ) × IsOutput (Dump fuel) input out
+
+abbrev pub ToldLaw : Type 0
+ToldLaw = (input : List ℕ) (fuel : ℕ) → IsAccepted input → (out : List ℕ) × IsOutput (Many fuel) input out
+
+-- The bytes are the dump of a record. The run from scratch of its call on its inputs, by the meaning
+-- of the source, ends within as many steps as its items have, and the recorded memory is the memory of
+-- that run, up to the numbers of core blocks.
+pub record Verified (program : Typed) (bytes : List ℕ) : Type 0 where
+  pub kept : Record
+  pub dump : IsDump bytes kept
+  pub trace : Trace
+  pub items : kept.forest ≡ flat trace
+  pub run : Finished
+  pub ends :
+      fresh program kept.function kept.args kept.inputs (steps_in kept.forest) ≡ Some run
+  pub same :
+      Same (core_numbers (blocks_of trace)) kept.memory.inputs
+      (block_of (core_numbers (blocks_of trace)) kept.memory.made) run.memory
+
+-- So it is where `verify` writes yes for an accepted source part.
+abbrev pub VerifiedLaw : Type 0
+VerifiedLaw = (input : List ℕ) (p : Program) → IsProgram input p.typed → IsCompiled p
+    → (answer : IsAnswer Verify input (verdict_text Yes)) → Verified p.typed (bytes_behind answer.0)

@@ -4,7 +4,7 @@ use Rattle.std.specs.declared.alloc.Global.{Global}
 use Rattle.ceal_cli.specs.Fuel.{DEFAULT_FUEL, SpellsFuel}
 use Rattle.ceal_cli.specs.Workloads.{NamesWorkload}
 use Rattle.ceal_cli.specs.declared.words.Mode.{Mode}
-use Rattle.ceal_cli.specs.declared.words.Mode.TheVariants.{Check, List as Listing, Run, Gen}
+use Rattle.ceal_cli.specs.declared.words.Mode.TheVariants.{Check, List as Listing, Run, Gen, Dump, Verify, Many}
 use Rattle.ceal_gen.specs.declared.kind.Workload.{Workload}
 use Rattle.ceal_session.specs.Following.{IsAllowed}
 
@@ -35,13 +35,19 @@ HaveOption fuel word words =
     × (((words ≡ option ++ rest) × AreMarked (word ∷ []) rest)
     ⊎ ((words ≡ word ∷ option ++ rest) × AreMarked [] rest))
 
+-- The word, with the option or without it; the fuel is that of the option, or the one that is taken without it.
+abbrev pub NamesFuel : ℕ → Text → List Text → Type 0
+NamesFuel fuel word words =
+    (AreMarked (word ∷ []) words × (fuel ≡ DEFAULT_FUEL)) ⊎ HaveOption fuel word words
+
 -- What the words ask for.
 abbrev pub Asks : List Text → Mode → Type 0
 Asks words Check = AreMarked (codes "check" ∷ []) words
 Asks words Listing = AreMarked (codes "list" ∷ []) words
-Asks words (Run fuel) =
-    (AreMarked (codes "run" ∷ []) words × (fuel ≡ DEFAULT_FUEL))
-    ⊎ HaveOption fuel (codes "run") words
+Asks words Verify = AreMarked (codes "verify" ∷ []) words
+Asks words (Run fuel) = NamesFuel fuel (codes "run") words
+Asks words (Dump fuel) = NamesFuel fuel (codes "dump") words
+Asks words (Many fuel) = NamesFuel fuel (codes "many") words
 Asks words (Gen kind seed size) =
     (plain : List Text) × NamesWorkload plain kind seed size × AreMarked plain words
 
@@ -53,6 +59,9 @@ abbrev pub ReadsInput : Mode → Type 0
 ReadsInput Check = Unit {0}
 ReadsInput Listing = Unit {0}
 ReadsInput (Run fuel) = Unit {0}
+ReadsInput (Dump fuel) = Unit {0}
+ReadsInput Verify = Unit {0}
+ReadsInput (Many fuel) = Unit {0}
 ReadsInput (Gen kind seed size) = ⊥
 
 -- a run may take as many steps as a session allows
@@ -60,6 +69,9 @@ abbrev pub KeepsLimits : Mode → Type 0
 KeepsLimits Check = Unit {0}
 KeepsLimits Listing = Unit {0}
 KeepsLimits (Run fuel) = IsAllowed fuel
+KeepsLimits (Dump fuel) = IsAllowed fuel
+KeepsLimits Verify = Unit {0}
+KeepsLimits (Many fuel) = IsAllowed fuel
 KeepsLimits (Gen kind seed size) = Unit {0}
 
 -- The words ask for an answer to the input.

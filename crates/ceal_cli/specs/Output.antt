@@ -1,5 +1,5 @@
 -- What the program writes for its input.
-use Rattle.std.specs.Prelude.{◌≡◌, ◌⊎◌, ℕ, Option, None, List, [], ◌∷◌, ◌++◌, codes}
+use Rattle.std.specs.Prelude.{◌≡◌, ◌⊎◌, ℕ, None, List, [], ◌∷◌, ◌++◌, codes}
 use Rattle.ceal_base.specs.declared.fault.Fault.{Fault}
 use Rattle.ceal_base.specs.declared.typed.Typed.{Typed}
 use Rattle.ceal_code.specs.Listing.{listing_text}
@@ -13,11 +13,14 @@ use Rattle.ceal_session.specs.Replies.{Answers, Works, taken, AreReplies, AreWor
 use Rattle.ceal_session.specs.Runs.{begun}
 use Rattle.ceal_session.specs.State.{State}
 use Rattle.ceal_session.specs.Works.{completes}
+use Rattle.ceal_cli.specs.ManySessions.{AreManyReplies}
+use Rattle.ceal_cli.specs.Dumps.{IsDumped}
 use Rattle.ceal_cli.specs.Fuel.{DEFAULT_FUEL}
 use Rattle.ceal_cli.specs.Lines.{script_of, script_lines}
 use Rattle.ceal_cli.specs.Modes.{ReadsInput}
+use Rattle.ceal_cli.specs.Verdicts.{IsVerdictLine}
 use Rattle.ceal_cli.specs.declared.words.Mode.{Mode}
-use Rattle.ceal_cli.specs.declared.words.Mode.TheVariants.{Check, List as Listing, Run, Gen}
+use Rattle.ceal_cli.specs.declared.words.Mode.TheVariants.{Check, List as Listing, Run, Gen, Dump, Verify, Many}
 use Rattle.ceal_gen.specs.Text.{workload_text}
 use Rattle.ceal_gen.specs.declared.kind.Workload.{Workload}
 
@@ -62,6 +65,10 @@ first_state p fuel = begun p.program fuel
 abbrev pub lines_behind : {input : List ℕ} → Programmed input → List (List ℕ)
 lines_behind {input} p = script_lines (script_of input p.part)
 
+-- what is behind the mark, whatever it is
+abbrev pub bytes_behind : {input : List ℕ} → Programmed input → List ℕ
+bytes_behind {input} p = script_of input p.part
+
 abbrev pub accepted_text : List ℕ
 accepted_text = codes "accepted\n"
 
@@ -89,13 +96,20 @@ Begins P out = (out ≡ []) ⊎ (whole : List ℕ) × P whole × IsPrefix out wh
 abbrev pub IsGenerated : Workload → ℕ → ℕ → List ℕ → Type 0
 IsGenerated kind seed size out = IsOutputFromRun (workload_text kind seed size) out
 
--- What is written for an accepted input: `accepted`, the text of its trace code, or the replies to
--- the lines of its script, from a state without inputs. For a workload the input is of no account.
+-- What is written for an accepted input: `accepted`, the text of its trace code, or, from a state
+-- without inputs, the replies to the lines of its script, the dump behind them, or the replies of many
+-- sessions; or what the checker says of the dump behind the mark. For a workload the input is of no
+-- account.
 abbrev pub IsAnswer : Mode → List ℕ → List ℕ → Type 0
 IsAnswer Check input out = IsAccepted input × (out ≡ accepted_text)
 IsAnswer Listing input out = IsListing input out
 IsAnswer (Run fuel) input out =
     (p : Programmed input) × IsReplied p.code (first_state p fuel) (lines_behind p) out
+IsAnswer (Dump fuel) input out =
+    (p : Programmed input) × IsDumped p.code (first_state p fuel) (lines_behind p) out
+IsAnswer Verify input out = (p : Programmed input) × IsVerdictLine p.code (bytes_behind p) out
+IsAnswer (Many fuel) input out =
+    (p : Programmed input) × AreManyReplies p.code (first_state p fuel) (lines_behind p) out
 IsAnswer (Gen kind seed size) input out = IsGenerated kind seed size out
 
 -- What a mode that reads writes for an input that is not accepted: the line of its first fault.

@@ -9,8 +9,11 @@ ghost use Rattle.ceal_io.specs.Streams.{Rose};
 ghost use Rattle.ceal_cli.specs.Growth.{WritesOutput, WritesPrefix};
 ghost use Rattle.ceal_cli.specs.Modes.{KeepsLimits, ReadsInput};
 
+use crate::dump::dump;
 use crate::lines::script;
+use crate::many::many;
 use crate::replies::reply_all;
+use crate::verify::verify;
 use crate::words::Mode;
 use ceal_base::fault::{Fault, FrontError};
 use ceal_base::no_memory::NoMemory;
@@ -126,7 +129,10 @@ fn answer<K: Sink>(
     match mode {
         Mode::Check => accept(input, &program.typed, sink),
         Mode::List => list(alloc, input, &program, sink),
+        Mode::Verify => verify(alloc, input, &program, sink),
         Mode::Run(fuel) => run(alloc, fuel, input, program, sink),
+        Mode::Dump(fuel) => dump(alloc, fuel, input, program, sink),
+        Mode::Many(fuel) => many(alloc, fuel, input, program, sink),
         Mode::Gen { .. } => unreachable!(),
     }
 }

@@ -19,8 +19,8 @@ fn is_run_line(line: &[u8]) -> bool
     line.starts_with(b"run ")
 }
 
-// Carries out a line whose reply is not written.
-fn carry_out(session: &mut Session, line: &[u8]) -> Result<(), Stopped>
+/// Carries out a line whose reply is not written.
+pub fn carry_out(session: &mut Session, line: &[u8]) -> Result<(), Stopped>
     ensures answered { OnOk result ((text : List ℕ)
         × Serves session.old line.now text session.new) }
     ensures memory { ¬ IsErrOf result Stopped.Failed }

@@ -23,8 +23,8 @@ use ceal_session::laws::{kept_line, some_reply};
 use ceal_session::session::Session;
 use std::alloc::Global;
 
-// The program of a text that is accepted.
-fn program(alloc: Global, text: &[u8]) -> Result<Program, NoMemory>
+/// The program of a text that is accepted.
+pub fn program(alloc: Global, text: &[u8]) -> Result<Program, NoMemory>
     requires small { length text.now < 2 ^ 32 }
     requires accepted { IsAccepted text.now }
     ensures program { IfOk result (λ program. IsProgram text.now program.typed) }

@@ -1,39 +1,77 @@
 // The laws of outputs and of the generated workloads, each the contract of a function that does nothing.
 
-ghost use Rattle.ceal_cli.specs.Laws.{Accepted_law, Short_law, One_output_law, Checked_law, Listed_law, Refused_law, Replied_law};
+ghost use Rattle.ceal_many.specs.Laws.{IsDetermined, OwnRepliesLaw, RefusedLaw as Others_refused_law, AloneLaw};
+ghost use Rattle.ceal_cli.specs.Situations.{Replies};
+ghost use Rattle.ceal_cli.specs.Laws.{AcceptedLaw, ShortLaw, OneOutputLaw, CheckedLaw, ListedLaw, RefusedLaw, RepliedLaw, DumpedLaw, ToldLaw, VerifiedLaw};
+
+use crate::members::Member;
 
 /// A workload of `ceal_gen` is an accepted input, whatever its kind, seed and size: it has no fault of characters,
 /// grammar, names, types or usage, and keeps the limits. The lexer counts bytes in 32 bits, so a text of `2 ^ 32` bytes
 /// or more is no input.
 pub fn accepted_law()
-    ensures law { Accepted_law }
+    ensures law { AcceptedLaw }
 {}
 
 /// A workload with up to `2 ^ 24` cells or operators is shorter than that.
 pub fn short_law()
-    ensures law { Short_law }
+    ensures law { ShortLaw }
 {}
 
 /// An input has one output at most, whatever the words ask for.
 pub fn one_output()
-    ensures law { One_output_law }
+    ensures law { OneOutputLaw }
 {
     ceal_lex::split::one_split();
     ceal_compile::compile::one_answer();
     ceal_compile::laws::one_code();
     ceal_session::laws::one_reply();
     ceal_session::laws::one_script();
+    ceal_record::laws::one_record_law();
+    ceal_dump::laws::one_record_law();
+    ceal_traceck::laws::one_verdict_law();
+    ceal_many::laws::one_reply::<Member>();
 }
 
-/// An input has an output for `check`, one for `list`, and for `run` one where it is not accepted or its program is
-/// compiled. The lexer counts bytes in 32 bits, so a text of `2 ^ 32` bytes or more is no input.
+/// An input has an output for `check` and for `list`, and for `run`, `dump` and `many`: the line of its fault where it is
+/// not accepted, and else what its script comes to. The lexer counts bytes in 32 bits, so a text of `2 ^ 32` bytes or more
+/// is no input.
 pub fn some_output()
-    ensures check { Checked_law }
-    ensures list { Listed_law }
-    ensures refusal { Refused_law }
-    ensures replies { Replied_law }
+    ensures check { CheckedLaw }
+    ensures list { ListedLaw }
+    ensures refusal { RefusedLaw }
+    ensures replies { RepliedLaw }
+    ensures dumps { DumpedLaw }
+    ensures told { ToldLaw }
 {
     ceal_session::laws::some_reply();
+    ceal_session::laws::one_reply();
+    ceal_record::laws::some_record_law();
+    ceal_many::laws::some_reply::<Member>();
     ceal_compile::laws::some_answer();
     ceal_compile::laws::some_code();
+    ceal_compile::laws::accepted_is_compiled();
+}
+
+/// Where `verify` writes yes, the call that the dump records ends within its steps, run from scratch by the meaning of the
+/// source, in the dumped memory up to the numbers of core blocks. Nothing is asked of who made the dump.
+pub fn verified()
+    ensures law { VerifiedLaw }
+{
+    ceal_compile::compile::one_answer();
+    ceal_compile::laws::one_code();
+    ceal_traceck::laws::sound_law();
+}
+
+/// With `many`, the replies to the lines for one of the first 64 names are those that its session alone gives to them, so
+/// they depend on these lines alone. The lines for any other name are refused.
+pub fn own_replies()
+    ensures own { OwnRepliesLaw Replies }
+    ensures refused { Others_refused_law Replies }
+    ensures once { IsDetermined Replies }
+    ensures alone { AloneLaw Replies }
+{
+    ceal_many::laws::own_replies::<Member>();
+    ceal_many::laws::one_reply::<Member>();
+    ceal_session::laws::one_reply();
 }

@@ -1,20 +1,26 @@
 //! The top call of the program: all that `ceal` does with its words, its input and its output.
 //!
 //! An input is a source part, a line `%%` and the lines of a script. `ceal check` says whether the source part is
-//! accepted, `ceal list` writes its trace code, and `ceal run` replies to the script. `ceal gen` reads no input: it
-//! replies to the script of a workload, an input that a kind, a seed and a size stand for.
+//! accepted, `ceal list` writes its trace code, and `ceal run` replies to the script. `ceal dump` writes the record of
+//! the run behind the script, `ceal verify` checks such a dump, and `ceal many` replies to a script whose lines name the
+//! session that they are for. `ceal gen` reads no input: it replies to the script of a workload, an input that a kind, a
+//! seed and a size stand for.
 #![tactic(auto)]
 
 mod answer;
 mod command_line;
+mod dump;
 mod from_run;
 mod fuel;
 mod generate;
 pub mod laws;
 mod lines;
+mod many;
+mod members;
 mod numerals;
 mod replies;
 mod top;
+mod verify;
 mod words;
 
 pub use top::{INPUT_LIMIT, Status, ceal_main, status_line, status_number};

@@ -218,7 +218,9 @@ pub fn status_line(status: Status) -> &'static str
 {
     match status {
         Status::Done | Status::Refused => "",
-        Status::Usage => "usage: ceal run [--fuel N] | check | list | gen KIND SEED SIZE\n",
+        Status::Usage => {
+            "usage: ceal run [--fuel N] | check | list | gen KIND SEED SIZE | dump [--fuel N] | verify | many [--fuel N]\n"
+        }
         Status::TooLong => "ceal: input longer than 4194304 bytes\n",
         Status::Memory => "ceal: out of memory\n",
         Status::ReadFault => "ceal: reading failed\n",

@@ -28,6 +28,12 @@ pub enum Mode {
         seed: u32,
         size: u32,
     },
+    /// the dump of the run's record behind the script, where a run may take so many steps
+    Dump(u32),
+    /// what the checker says of the dump behind the mark
+    Verify,
+    /// the replies to a script of many sessions, where a run may take so many steps
+    Many(u32),
 }
 
 /// What the seed and the size of a workload are at most.
@@ -69,7 +75,10 @@ fn chosen(words: &[&str], option: Option<&str>) -> Option<Mode>
     match (words, option) {
         (["check"], None) => Some(Mode::Check),
         (["list"], None) => Some(Mode::List),
+        (["verify"], None) => Some(Mode::Verify),
         (["run"], option) => Some(Mode::Run(fuel(option)?)),
+        (["dump"], option) => Some(Mode::Dump(fuel(option)?)),
+        (["many"], option) => Some(Mode::Many(fuel(option)?)),
         (["gen", kind, seed, size], None) => workload(kind, seed, size),
         _ => None,
     }

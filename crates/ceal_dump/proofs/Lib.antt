@@ -1,4 +1,6 @@
+-- what crates above cite
 pub mod Steps
+-- the rest
 pub mod Numbers
 pub mod ReadBack
 pub mod Records

@@ -4,7 +4,8 @@ use Rattle.std.proofs.lemmas.Bool.Decides.{nat_tests}
 use Rattle.ceal_base.specs.Block.{Block}
 use Rattle.ceal_base.specs.declared.forest.Item.{Item}
 use Rattle.ceal_base.specs.declared.word.Word.{Word}
-use Rattle.ceal_dump.specs.Reading.{first_byte, is_digit, with_digit, number_from, number_at, small_at, int_at, block_at, place_at, pointer_at, is_pointer, word_at, words_from, words_at, line_at, blocks_from, item_at, items_from}
+use Rattle.ceal_base.specs.Digits.{is_digit}
+use Rattle.ceal_dump.specs.Reading.{first_byte, with_digit, number_from, number_at, small_at, int_at, block_at, place_at, pointer_at, is_pointer, word_at, words_from, words_at, line_at, blocks_from, item_at, items_from}
 
 -- a text of parts
 pub joined : (out a b n m : List ℕ) → n ≡ out ++ a → m ≡ n ++ b → m ≡ out ++ (a ++ b)
@@ -51,7 +52,7 @@ pub word-shorter : (bs : List ℕ) → length (word_at bs).1 ≤ length bs
 unfolding word_at
 word-shorter bs = if-shorter (length bs) (first_byte bs == 110) _ _ (drop-shorter 4 bs) (if-shorter (length bs) (is_pointer (first_byte bs)) _ _ (pointer-shorter bs) (int-shorter bs))
 
--- behind a space
+-- after a space
 behind-space : (bs : List ℕ) → (first_byte bs == 32) ≡ true → length (drop 1 bs) + 1 ≡ length bs
 behind-space [] e = absurd (grind (arith, nat_tests, e))
 behind-space (b ∷ bs) e = omega (arith, length-drop 1 (b ∷ bs))
@@ -107,7 +108,7 @@ module _ (all bs : List ℕ) (words : List Word)
       let n : length words + k ≡ length all = omega (arith, l) in
       ap (λ q. q.1) (sym (words-stop k bs e)) ∙ (rest k ∙ ap (λ n. (words_from n all).1) n)
 
--- one block more, of so many
+-- one block more
 pub blocks-step : (n : ℕ) (bs : List ℕ) → 0 < n → (length bs == 0) ≡ false → blocks_from n bs ≡ ((line_at bs).0 ∷ (blocks_from (n - 1) (line_at bs).1).0, (blocks_from (n - 1) (line_at bs).1).1)
 unfolding blocks_from
 blocks-step zero bs h e = absurd (omega (arith, h))

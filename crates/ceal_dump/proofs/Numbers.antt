@@ -4,7 +4,8 @@ use Rattle.std.specs.Prelude.{nat_lt}
 use Rattle.std.specs.Fmt.{decimal, signed_decimal}
 use Rattle.std.proofs.lemmas.Bool.Decides.{nat_tests}
 use Rattle.std.proofs.lemmas.Fmt.{decimal_by_steps}
-use Rattle.ceal_dump.specs.Reading.{first_byte, is_digit, with_digit, number_from, number_at, small, small_at, int_at}
+use Rattle.ceal_base.specs.Digits.{is_digit}
+use Rattle.ceal_dump.specs.Reading.{first_byte, with_digit, number_from, number_at, small, small_at, int_at}
 
 -- the bytes do not go on with a digit
 abbrev pub Ends : List ℕ → Type 0

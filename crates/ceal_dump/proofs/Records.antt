@@ -10,8 +10,8 @@ use Rattle.ceal_base.specs.declared.word.Word.{Word}
 use Rattle.ceal_base.specs.declared.word.Word.TheVariants.{Num}
 use Rattle.ceal_dump.proofs.Numbers.{small-back, small-range}
 use Rattle.ceal_dump.proofs.ReadBack.{words-stop, words-back, inputs-back, trace-back, memory-back}
-use Rattle.ceal_dump.specs.Answers.{One_record_law}
-use Rattle.ceal_dump.specs.DumpText.{words_text, block_lines, item_lines, inputs_text, call_text, trace_text, memory_text, dump_text, Has_dump, Small, Small_block, Small_place, Small_word, Small_words, Small_shape, Small_blocks, Small_key, Small_item, Small_items, In_range, Is_dump}
+use Rattle.ceal_dump.specs.Answers.{OneRecordLaw}
+use Rattle.ceal_dump.specs.DumpText.{words_text, block_lines, item_lines, inputs_text, call_text, trace_text, memory_text, dump_text, HasDump, Small, SmallBlock, SmallPlace, SmallWord, SmallWords, SmallShape, SmallBlocks, SmallKey, SmallItem, SmallItems, InRange, IsDump}
 use Rattle.ceal_dump.specs.Reading.{first_byte, number_at, positive, negative, int_at, small_at, block_of, block_at, place_at, pointer_at, is_pointer, word_at, words_from, words_at, shape_at, line_at, blocks_from, key_at, alloc_at, write_at, read_at, item_at, items_from, inputs_at, trace_at, memory_at, call_record, record_at}
 
 inputs-onto : (bs : List Block) (more : List ℕ) → inputs_text bs ++ more ≡ codes "ceal-trace 1\ninputs " ++ (decimal (length bs) ++ (10 ∷ (block_lines bs ++ more)))
@@ -64,7 +64,7 @@ module _ (r : Record) where
       ∙ (ap (λ x. i ++ (c ++ x)) (trace-onto r.forest (codes "memory " ++ the_memory))
       ∙ (ap (λ x. i ++ x) (call-onto r.function r.args (codes "trace " ++ the_trace)) ∙ inputs-onto r.inputs (codes "run " ++ the_call))))))
 
-  call-back : Has_dump r → In_range r → call_record r.inputs the_call ≡ r
+  call-back : HasDump r → InRange r → call_record r.inputs the_call ≡ r
   call-back h k =
       rw (
         small-back r.function (words_text r.args ++ (codes "\ntrace " ++ the_trace)) k.function (words-stop r.args (codes "\ntrace " ++ the_trace) (record { ends = refl; dot = refl })).ends,
@@ -73,128 +73,128 @@ module _ (r : Record) where
         memory-back r.memory.inputs r.memory.made (codes "end\n") h.memory h.made k.memory k.made,
       ) refl
 
-  pub record-back : Has_dump r → In_range r → record_at (dump_text r) ≡ r
+  pub record-back : HasDump r → InRange r → record_at (dump_text r) ≡ r
   unfolding record_at
   record-back h k = rw (dump-onto, inputs-back r.inputs (codes "run " ++ the_call) h.inputs k.inputs) (call-back h k)
 
-pub one-record : One_record_law
+pub one-record : OneRecordLaw
 one-record bytes r s h k = sym (record-back r h.has h.range) ∙ (ap record_at (sym h.text ∙ k.text) ∙ record-back s k.has k.range)
 
 -- the bytes of a record are read as it
-pub record-read : (bytes : List ℕ) (r : Record) → Is_dump bytes r → record_at bytes ≡ r
+pub record-read : (bytes : List ℕ) (r : Record) → IsDump bytes r → record_at bytes ≡ r
 record-read bytes r h = ap record_at h.text ∙ record-back r h.has h.range
 
 if-range : {A : Type 0} (P : A → Type 0) (t : Bool) (a b : A × List ℕ) → P a.0 → P b.0 → P (if t then a else b).0
 if-range P true a b h k = h
 if-range P false a b h k = k
 
-block_of-range : (t : Bool) (n : ℕ) → Small n → (b : ℕ) → (b == 105) ≡ t → Small_block (block_of b n)
+block_of-range : (t : Bool) (n : ℕ) → Small n → (b : ℕ) → (b == 105) ≡ t → SmallBlock (block_of b n)
 block_of-range true n h b e = rw e h
 block_of-range false n h b e = rw e h
 
-block-range : (bs : List ℕ) → Small_block (block_at bs).0
+block-range : (bs : List ℕ) → SmallBlock (block_at bs).0
 unfolding block_at
 block-range bs = block_of-range (first_byte bs == 105) (small_at (drop 1 bs)).0 (small-range (drop 1 bs)) (first_byte bs) refl
 
-place-range : (bs : List ℕ) → Small_place (place_at bs).0
+place-range : (bs : List ℕ) → SmallPlace (place_at bs).0
 unfolding place_at
 place-range bs = (block-range bs, small-range (drop 1 (block_at bs).1))
 
-pointer-range : (bs : List ℕ) → Small_word (pointer_at bs).0
+pointer-range : (bs : List ℕ) → SmallWord (pointer_at bs).0
 unfolding pointer_at
-pointer-range bs = if-range Small_word (first_byte (block_at bs).1 == 46) _ _ (place-range bs) (block-range bs)
+pointer-range bs = if-range SmallWord (first_byte (block_at bs).1 == 46) _ _ (place-range bs) (block-range bs)
 
-positive-range : (n : ℕ) (t : Bool) → nat_lt n (2 ^ 63) ≡ t → Small_word (Num (positive n))
+positive-range : (n : ℕ) (t : Bool) → nat_lt n (2 ^ 63) ≡ t → SmallWord (Num (positive n))
 positive-range n true e = rw e (grind (arith, nat_tests, e))
 positive-range n false e = rw e (omega arith)
 
-negative-range : (n : ℕ) → Small_word (Num (negative n))
+negative-range : (n : ℕ) → SmallWord (Num (negative n))
 negative-range zero = omega arith
 negative-range (suc n) = go (nat_lt n (2 ^ 63)) refl
   where
-    go : (t : Bool) → nat_lt n (2 ^ 63) ≡ t → Small_word (Num (negative (suc n)))
+    go : (t : Bool) → nat_lt n (2 ^ 63) ≡ t → SmallWord (Num (negative (suc n)))
     go true e = rw e (grind (arith, nat_tests, e))
     go false e = rw e (omega arith)
 
-int-range : (bs : List ℕ) → Small_word (Num (int_at bs).0)
+int-range : (bs : List ℕ) → SmallWord (Num (int_at bs).0)
 unfolding int_at
 int-range bs =
-    if-range (λ z. Small_word (Num z)) (first_byte bs == 45) _ _ (negative-range (number_at (drop 1 bs)).0) (positive-range (number_at bs).0 (nat_lt (number_at bs).0 (2 ^ 63)) refl)
+    if-range (λ z. SmallWord (Num z)) (first_byte bs == 45) _ _ (negative-range (number_at (drop 1 bs)).0) (positive-range (number_at bs).0 (nat_lt (number_at bs).0 (2 ^ 63)) refl)
 
-word-range : (bs : List ℕ) → Small_word (word_at bs).0
+word-range : (bs : List ℕ) → SmallWord (word_at bs).0
 unfolding word_at
-word-range bs = if-range Small_word (first_byte bs == 110) _ _ tt (if-range Small_word (is_pointer (first_byte bs)) _ _ (pointer-range bs) (int-range bs))
+word-range bs = if-range SmallWord (first_byte bs == 110) _ _ tt (if-range SmallWord (is_pointer (first_byte bs)) _ _ (pointer-range bs) (int-range bs))
 
-words-range : (k : ℕ) (bs : List ℕ) → Small_words (words_from k bs).0
+words-range : (k : ℕ) (bs : List ℕ) → SmallWords (words_from k bs).0
 unfolding words_from
 words-range zero bs = tt
-words-range (suc k) bs = if-range Small_words (first_byte bs == 32) _ _ (word-range (drop 1 bs), words-range k (word_at (drop 1 bs)).1) tt
+words-range (suc k) bs = if-range SmallWords (first_byte bs == 32) _ _ (word-range (drop 1 bs), words-range k (word_at (drop 1 bs)).1) tt
 
-args-range : (bs : List ℕ) → Small_words (words_at bs).0
+args-range : (bs : List ℕ) → SmallWords (words_at bs).0
 unfolding words_at
 args-range bs = words-range (length bs) bs
 
-shape-range : (bs : List ℕ) → Small_shape (shape_at bs).0
+shape-range : (bs : List ℕ) → SmallShape (shape_at bs).0
 unfolding shape_at
-shape-range bs = if-range Small_shape (first_byte bs == 115) _ _ (small-range (drop 1 bs)) (if-range Small_shape (first_byte bs == 112) _ _ (small-range (drop 1 bs)) tt)
+shape-range bs = if-range SmallShape (first_byte bs == 115) _ _ (small-range (drop 1 bs)) (if-range SmallShape (first_byte bs == 112) _ _ (small-range (drop 1 bs)) tt)
 
-line-range : (bs : List ℕ) → Small_shape (line_at bs).0.shape × Small_words (line_at bs).0.words
+line-range : (bs : List ℕ) → SmallShape (line_at bs).0.shape × SmallWords (line_at bs).0.words
 unfolding line_at
 line-range bs = (shape-range bs, args-range (shape_at bs).1)
 
-blocks-range : (n : ℕ) (bs : List ℕ) → Small_blocks (blocks_from n bs).0
+blocks-range : (n : ℕ) (bs : List ℕ) → SmallBlocks (blocks_from n bs).0
 unfolding blocks_from
 blocks-range zero bs = tt
-blocks-range (suc n) bs = if-range Small_blocks (length bs == 0) _ _ tt (line-range bs, blocks-range n (line_at bs).1)
+blocks-range (suc n) bs = if-range SmallBlocks (length bs == 0) _ _ tt (line-range bs, blocks-range n (line_at bs).1)
 
-key-range : (bs : List ℕ) → Small_key (key_at bs).0
+key-range : (bs : List ℕ) → SmallKey (key_at bs).0
 unfolding key_at
 key-range bs =
-    if-range Small_key (first_byte bs == 102) _ _ (small-range (drop 1 bs), args-range (small_at (drop 1 bs)).1) (if-range Small_key (first_byte bs == 112) _ _ (small-range (drop 1 bs)) tt)
+    if-range SmallKey (first_byte bs == 102) _ _ (small-range (drop 1 bs), args-range (small_at (drop 1 bs)).1) (if-range SmallKey (first_byte bs == 112) _ _ (small-range (drop 1 bs)) tt)
 
-alloc-range : (bs : List ℕ) → Small_item (alloc_at bs).0
+alloc-range : (bs : List ℕ) → SmallItem (alloc_at bs).0
 unfolding alloc_at
 alloc-range bs = (block-range bs, key-range (drop 1 (block_at bs).1))
 
-write-range : (bs : List ℕ) → Small_item (write_at bs).0
+write-range : (bs : List ℕ) → SmallItem (write_at bs).0
 unfolding write_at
 write-range bs = (place-range bs, word-range (drop 1 (place_at bs).1))
 
-read-range : (bs : List ℕ) → Small_item (read_at bs).0
+read-range : (bs : List ℕ) → SmallItem (read_at bs).0
 unfolding read_at
 read-range bs =
     let x = drop 2 (word_at (drop 1 (place_at bs).1)).1 in
     let y = drop 2 (small_at x).1 in
     (place-range bs, word-range (drop 1 (place_at bs).1), small-range x, small-range y, args-range (small_at y).1)
 
-item-range : (bs : List ℕ) → Small_item (item_at bs).0
+item-range : (bs : List ℕ) → SmallItem (item_at bs).0
 unfolding item_at
 item-range bs =
-    if-range Small_item (first_byte bs == 115) _ _ tt
-    (if-range Small_item (first_byte bs == 97) _ _ (alloc-range (drop 2 bs))
-    (if-range Small_item (first_byte bs == 119) _ _ (write-range (drop 2 bs)) (if-range Small_item (first_byte bs == 114) _ _ (read-range (drop 2 bs)) tt)))
+    if-range SmallItem (first_byte bs == 115) _ _ tt
+    (if-range SmallItem (first_byte bs == 97) _ _ (alloc-range (drop 2 bs))
+    (if-range SmallItem (first_byte bs == 119) _ _ (write-range (drop 2 bs)) (if-range SmallItem (first_byte bs == 114) _ _ (read-range (drop 2 bs)) tt)))
 
-items-range : (n : ℕ) (bs : List ℕ) → Small_items (items_from n bs).0
+items-range : (n : ℕ) (bs : List ℕ) → SmallItems (items_from n bs).0
 unfolding items_from
 items-range zero bs = tt
-items-range (suc n) bs = if-range Small_items (length bs == 0) _ _ tt (item-range bs, items-range n (item_at bs).1)
+items-range (suc n) bs = if-range SmallItems (length bs == 0) _ _ tt (item-range bs, items-range n (item_at bs).1)
 
-inputs-range : (bs : List ℕ) → Small_blocks (inputs_at bs).0
+inputs-range : (bs : List ℕ) → SmallBlocks (inputs_at bs).0
 unfolding inputs_at
 inputs-range bs = blocks-range (small_at bs).0 (drop 1 (small_at bs).1)
 
-trace-range : (bs : List ℕ) → Small_items (trace_at bs).0
+trace-range : (bs : List ℕ) → SmallItems (trace_at bs).0
 unfolding trace_at
 trace-range bs = items-range (small_at bs).0 (drop 1 (small_at bs).1)
 
-memory-range : (bs : List ℕ) → Small_blocks (memory_at bs).inputs × Small_blocks (memory_at bs).made
+memory-range : (bs : List ℕ) → SmallBlocks (memory_at bs).inputs × SmallBlocks (memory_at bs).made
 unfolding memory_at
 memory-range bs =
     let b = small_at (drop 1 (small_at bs).1) in
     let inputs = blocks_from (small_at bs).0 (drop 1 b.1) in
     (blocks-range (small_at bs).0 (drop 1 b.1), blocks-range b.0 inputs.1)
 
-pub record-range : (bs : List ℕ) → In_range (record_at bs)
+pub record-range : (bs : List ℕ) → InRange (record_at bs)
 unfolding record_at
 record-range bs =
     let x = drop 4 (inputs_at (drop 20 bs)).1 in

@@ -6,8 +6,9 @@ use Rattle.ceal_base.specs.Block.{Block}
 use Rattle.ceal_base.specs.declared.forest.Item.{Item}
 use Rattle.ceal_base.specs.declared.forest.Item.TheVariants.{Step, Alloc, Write, Read, End}
 use Rattle.ceal_base.specs.declared.word.Word.{Word}
+use Rattle.ceal_base.specs.Digits.{is_digit}
 use Rattle.ceal_dump.specs.DumpText.{word_text, words_text, block_line, block_lines, item_line, item_lines, closed, is_core, all_core}
-use Rattle.ceal_dump.specs.Reading.{is_digit, with_digit, number_from}
+use Rattle.ceal_dump.specs.Reading.{with_digit, number_from}
 
 -- texts
 text-more : (out line rest text next all : List ℕ) → next ≡ out ++ line → text ≡ line ++ rest → out ++ text ≡ all → next ++ rest ≡ all

@@ -20,9 +20,11 @@ abbrev pub block_text : BlockId → List ℕ
 block_text (Input n) = codes "i" ++ decimal n
 block_text (Core n) = codes "c" ++ decimal n
 
+-- a place: its block, a dot and its field
 abbrev pub place_text : Place → List ℕ
 place_text p = block_text p.block ++ codes "." ++ decimal p.field
 
+-- a word
 abbrev pub word_text : Word → List ℕ
 word_text (Num n) = signed_decimal n
 word_text Null = codes "null"
@@ -34,6 +36,7 @@ unfoldable pub words_text : List Word → List ℕ
 words_text [] = []
 words_text (word ∷ words) = codes " " ++ word_text word ++ words_text words
 
+-- a shape: `s` with the number of a struct, `i`, or `p` with the number of a struct
 abbrev pub shape_text : Shape → List ℕ
 shape_text (Struct n) = codes "s" ++ decimal n
 shape_text ModInt = codes "i"
@@ -43,10 +46,12 @@ shape_text (ModPtr n) = codes "p" ++ decimal n
 abbrev pub block_line : Block → List ℕ
 block_line b = shape_text b.shape ++ words_text b.words ++ codes "\n"
 
+-- the lines of blocks
 unfoldable pub block_lines : List Block → List ℕ
 block_lines [] = []
 block_lines (b ∷ bs) = block_line b ++ block_lines bs
 
+-- a key of an allocation
 abbrev pub key_text : Key → List ℕ
 key_text (Init f args) = codes "f" ++ decimal f ++ words_text args
 key_text IntKey = codes "i"
@@ -61,6 +66,7 @@ item_line (Read p value u v args) =
     codes "r " ++ place_text p ++ codes " " ++ word_text value ++ codes " u" ++ decimal u.0 ++ codes " v" ++ decimal v ++ words_text args ++ codes "\n"
 item_line End = codes "e\n"
 
+-- the lines of items
 unfoldable pub item_lines : List Item → List ℕ
 item_lines [] = []
 item_lines (i ∷ is) = item_line i ++ item_lines is
@@ -82,10 +88,11 @@ abbrev pub memory_text : List Block → List Block → List ℕ
 memory_text inputs made =
     codes "memory " ++ decimal (length inputs) ++ codes " " ++ decimal (length made) ++ codes "\n" ++ block_lines inputs ++ block_lines made
 
+-- the whole text: inputs, call, trace and memory
 unfoldable pub dump_text : Record → List ℕ
 dump_text r = inputs_text r.inputs ++ call_text r.function r.args ++ trace_text r.forest ++ memory_text r.memory.inputs r.memory.made ++ codes "end\n"
 
--- each `End` closes the last open read, of so many, and none is open at the end
+-- each `End` closes the last of the open reads, and none is open at the end
 unfoldable pub closed : ℕ → List Item → Bool
 closed zero [] = true
 closed (suc n) [] = false
@@ -96,6 +103,7 @@ closed n (Read p value u v args ∷ is) = closed (suc n) is
 closed zero (End ∷ is) = false
 closed (suc n) (End ∷ is) = closed n is
 
+-- whether the block is one that the core made
 abbrev pub is_core : BlockId → Bool
 is_core (Core n) = true
 is_core (Input i) = false
@@ -110,7 +118,7 @@ all_core (Read p value u v args ∷ is) = all_core is
 all_core (End ∷ is) = all_core is
 
 -- The record has a dump: its counts have room in 32 bits, each allocation has a core block, and each read its end.
-pub record Has_dump (r : Record) : Type 0 where
+pub record HasDump (r : Record) : Type 0 where
   pub inputs : length r.inputs < 2 ^ 32
   pub items : length r.forest < 2 ^ 32
   pub memory : length r.memory.inputs < 2 ^ 32
@@ -118,64 +126,81 @@ pub record Has_dump (r : Record) : Type 0 where
   pub core : all_core r.forest ≡ true
   pub ends : closed 0 r.forest ≡ true
 
+-- its counts alone
+pub record HasRoom (r : Record) : Type 0 where
+  pub inputs : length r.inputs < 2 ^ 32
+  pub items : length r.forest < 2 ^ 32
+  pub memory : length r.memory.inputs < 2 ^ 32
+  pub made : length r.memory.made < 2 ^ 32
+
 -- Numbers of blocks, fields, functions, structs, units and variables have room in 32 bits, and the others in the range of an
 -- `int`. They have in every record that a program holds.
 abbrev pub Small : ℕ → Type 0
 Small n = n < 2 ^ 32
 
-abbrev pub Small_block : BlockId → Type 0
-Small_block (Input n) = Small n
-Small_block (Core n) = Small n
+-- the number of the block is in range
+abbrev pub SmallBlock : BlockId → Type 0
+SmallBlock (Input n) = Small n
+SmallBlock (Core n) = Small n
 
-abbrev pub Small_place : Place → Type 0
-Small_place p = Small_block p.block × Small p.field
+-- the numbers of the place are in range
+abbrev pub SmallPlace : Place → Type 0
+SmallPlace p = SmallBlock p.block × Small p.field
 
-abbrev pub Small_word : Word → Type 0
-Small_word (Num (pos n)) = n < 2 ^ 63
-Small_word (Num (negsuc n)) = n < 2 ^ 63
-Small_word Null = Unit {0}
-Small_word (BlockWord b) = Small_block b
-Small_word (At p) = Small_place p
+-- the numbers of the word are in range
+abbrev pub SmallWord : Word → Type 0
+SmallWord (Num (pos n)) = n < 2 ^ 63
+SmallWord (Num (negsuc n)) = n < 2 ^ 63
+SmallWord Null = Unit {0}
+SmallWord (BlockWord b) = SmallBlock b
+SmallWord (At p) = SmallPlace p
 
-abbrev pub Small_words : List Word → Type 0
-Small_words [] = Unit {0}
-Small_words (word ∷ words) = Small_word word × Small_words words
+-- those of each word are
+abbrev pub SmallWords : List Word → Type 0
+SmallWords [] = Unit {0}
+SmallWords (word ∷ words) = SmallWord word × SmallWords words
 
-abbrev pub Small_shape : Shape → Type 0
-Small_shape (Struct n) = Small n
-Small_shape ModInt = Unit {0}
-Small_shape (ModPtr n) = Small n
+-- the number of the shape is in range
+abbrev pub SmallShape : Shape → Type 0
+SmallShape (Struct n) = Small n
+SmallShape ModInt = Unit {0}
+SmallShape (ModPtr n) = Small n
 
-abbrev pub Small_blocks : List Block → Type 0
-Small_blocks [] = Unit {0}
-Small_blocks (b ∷ bs) = (Small_shape b.shape × Small_words b.words) × Small_blocks bs
+-- the numbers of each block are in range
+abbrev pub SmallBlocks : List Block → Type 0
+SmallBlocks [] = Unit {0}
+SmallBlocks (b ∷ bs) = (SmallShape b.shape × SmallWords b.words) × SmallBlocks bs
 
-abbrev pub Small_key : Key → Type 0
-Small_key (Init f args) = Small f × Small_words args
-Small_key IntKey = Unit {0}
-Small_key (PtrKey n) = Small n
+-- the numbers of the key are in range
+abbrev pub SmallKey : Key → Type 0
+SmallKey (Init f args) = Small f × SmallWords args
+SmallKey IntKey = Unit {0}
+SmallKey (PtrKey n) = Small n
 
-abbrev pub Small_item : Item → Type 0
-Small_item Step = Unit {0}
-Small_item (Alloc b key) = Small_block b × Small_key key
-Small_item (Write p value) = Small_place p × Small_word value
-Small_item (Read p value u v args) = Small_place p × Small_word value × Small u.0 × Small v × Small_words args
-Small_item End = Unit {0}
+-- the numbers of the item are in range
+abbrev pub SmallItem : Item → Type 0
+SmallItem Step = Unit {0}
+SmallItem (Alloc b key) = SmallBlock b × SmallKey key
+SmallItem (Write p value) = SmallPlace p × SmallWord value
+SmallItem (Read p value u v args) = SmallPlace p × SmallWord value × Small u.0 × Small v × SmallWords args
+SmallItem End = Unit {0}
 
-abbrev pub Small_items : List Item → Type 0
-Small_items [] = Unit {0}
-Small_items (i ∷ is) = Small_item i × Small_items is
+-- those of each item are
+abbrev pub SmallItems : List Item → Type 0
+SmallItems [] = Unit {0}
+SmallItems (i ∷ is) = SmallItem i × SmallItems is
 
-pub record In_range (r : Record) : Type 0 where
-  pub inputs : Small_blocks r.inputs
+-- All numbers of the record are in range.
+pub record InRange (r : Record) : Type 0 where
+  pub inputs : SmallBlocks r.inputs
   pub function : Small r.function
-  pub args : Small_words r.args
-  pub items : Small_items r.forest
-  pub memory : Small_blocks r.memory.inputs
-  pub made : Small_blocks r.memory.made
+  pub args : SmallWords r.args
+  pub items : SmallItems r.forest
+  pub memory : SmallBlocks r.memory.inputs
+  pub made : SmallBlocks r.memory.made
 
 -- The bytes are the dump of the record.
-pub record Is_dump (bytes : List ℕ) (r : Record) : Type 0 where
-  pub has : Has_dump r
-  pub range : In_range r
+pub record IsDump (bytes : List ℕ) (r : Record) : Type 0 where
+  pub has : HasDump r
+  pub range : InRange r
   pub text : bytes ≡ dump_text r

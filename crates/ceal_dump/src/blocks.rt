@@ -39,7 +39,7 @@ fn line(alloc: Global, reader: &mut Reader<'_>) -> Result<BlockWords, NoMemory>
     Ok(BlockWords::new(shape, words))
 }
 
-/// The lines of so many blocks, where the bytes do not end before.
+/// The lines of `count` blocks, where the bytes do not end before.
 pub fn blocks(
     alloc: Global,
     reader: &mut Reader<'_>,

@@ -2,7 +2,7 @@
 
 ghost use Rattle.std.specs.Prelude.{◌≡◌, ◌<◌, ◌^◌, ◌↔◌, IsTrue};
 ghost use Rattle.ceal_dump.specs.DumpText as dump;
-ghost use Rattle.ceal_dump.specs.DumpText.{closed, all_core, Has_dump};
+ghost use Rattle.ceal_dump.specs.DumpText.{closed, all_core, HasDump, HasRoom};
 
 use ceal_base::forest::Item;
 use ceal_base::recorded::Record;
@@ -65,10 +65,20 @@ fn is_count(n: usize) -> bool
     n < 1 << 32
 }
 
+/// Whether the counts of the record have room in 32 bits.
+pub fn has_room(kept: &Record) -> bool
+    ensures value { IsTrue result ↔ HasRoom kept.now }
+{
+    is_count(kept.inputs.items().len())
+        && is_count(kept.forest.items().len())
+        && is_count(kept.memory.inputs.items().len())
+        && is_count(kept.memory.items().len())
+}
+
 /// Whether the record has a dump: its counts have room in 32 bits, each allocation is of a core block, and each read has its
 /// end.
 pub fn has_dump(kept: &Record) -> bool
-    ensures value { IsTrue result ↔ Has_dump kept.now }
+    ensures value { IsTrue result ↔ HasDump kept.now }
 {
     is_count(kept.inputs.items().len())
         && is_count(kept.forest.items().len())

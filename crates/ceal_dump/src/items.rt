@@ -28,7 +28,7 @@ fn key(alloc: Global, reader: &mut Reader<'_>) -> Result<Key, NoMemory>
     Ok(Key::ModInt)
 }
 
-/// What stands behind `a `.
+/// What follows `a `.
 #[tactic(auto, unfolding(crate::specs::Reading::alloc_at))]
 fn allocation(alloc: Global, reader: &mut Reader<'_>) -> Result<Item, NoMemory>
     ensures value { IfOk result (λ item. item ≡ (alloc_at reader.old).0) }
@@ -41,7 +41,7 @@ fn allocation(alloc: Global, reader: &mut Reader<'_>) -> Result<Item, NoMemory>
     Ok(Item::Alloc { block, key })
 }
 
-/// What stands behind `w `.
+/// What follows `w `.
 #[tactic(auto, unfolding(crate::specs::Reading::write_at))]
 fn write(reader: &mut Reader<'_>) -> Item
     ensures value { result ≡ (write_at reader.old).0 }
@@ -54,7 +54,7 @@ fn write(reader: &mut Reader<'_>) -> Item
     Item::Write { place, value }
 }
 
-/// What stands behind `r `.
+/// What follows `r `.
 #[tactic(auto, unfolding(crate::specs::Reading::read_at))]
 fn read(alloc: Global, reader: &mut Reader<'_>) -> Result<Item, NoMemory>
     ensures value { IfOk result (λ item. item ≡ (read_at reader.old).0) }
@@ -101,7 +101,7 @@ fn item(alloc: Global, reader: &mut Reader<'_>) -> Result<Item, NoMemory>
     Ok(Item::End)
 }
 
-/// The lines of so many items, where the bytes do not end before.
+/// The lines of `count` items, where the bytes do not end before.
 pub fn items(alloc: Global, reader: &mut Reader<'_>, count: u32) -> Result<Vec<Item>, NoMemory>
     ensures value { IfOk result (λ items. items.items ≡ (items_from count reader.old).0) }
     ensures rest { OnOk result (reader.new ≡ (items_from count reader.old).1) }

@@ -6,7 +6,7 @@
 #![tactic(auto)]
 
 mod blocks;
-mod has_dump;
+pub mod has_dump;
 mod items;
 pub mod laws;
 pub mod read;

@@ -1,8 +1,8 @@
 // A record read from its dump text.
 
 ghost use Rattle.std.specs.Prelude.{◌≡◌, ◌↔◌, IsTrue, IfOk, OnOk};
-ghost use Rattle.ceal_dump.specs.Answers.{Is_read};
-ghost use Rattle.ceal_dump.specs.DumpText.{dump_text, Has_dump};
+ghost use Rattle.ceal_dump.specs.Answers.{IsRead};
+ghost use Rattle.ceal_dump.specs.DumpText.{dump_text, HasDump};
 ghost use Rattle.ceal_dump.specs.Reading.{inputs_at, trace_at, memory_at, record_at};
 
 use crate::blocks::blocks;
@@ -91,7 +91,7 @@ fn read_record(alloc: Global, bytes: &[u8]) -> Result<Record, NoMemory>
 /// Whether the record has a dump, and the bytes are its text.
 fn is_dump(alloc: Global, kept: &Record, bytes: &[u8]) -> Result<bool, NoMemory>
     ensures { IfOk result
-        (λ told. IsTrue told ↔ (Has_dump kept.now × (bytes.now ≡ dump_text kept.now))) }
+        (λ told. IsTrue told ↔ (HasDump kept.now × (bytes.now ≡ dump_text kept.now))) }
 {
     if !has_dump(kept) {
         return Ok(false);
@@ -102,7 +102,7 @@ fn is_dump(alloc: Global, kept: &Record, bytes: &[u8]) -> Result<bool, NoMemory>
 
 /// The record whose dump text the bytes are. They are unreadable exactly where they are that of no record.
 pub fn read_dump(alloc: Global, bytes: &[u8]) -> Result<Record, DumpError>
-    ensures read { Is_read bytes.now result }
+    ensures read { IsRead bytes.now result }
 {
     let Ok(kept) = read_record(alloc, bytes) else {
         return Err(DumpError::Memory);

@@ -4,6 +4,7 @@ ghost use Rattle.std.specs.Prelude.{◌≡◌, ◌==◌, length, drop};
 ghost use Rattle.ceal_dump.specs.Reading as reading;
 ghost use Rattle.ceal_dump.specs.Reading.{first_byte, number_from, number_at, small, small_at, positive, negative, int_at};
 
+use ceal_base::digits::is_digit;
 use std::marker::Model;
 
 /// From here on a number is not looked at further: with another digit it fits 64 bits, and no number of a dump is so large.
@@ -23,12 +24,6 @@ impl<'a> Model for Reader<'a> {
     ghost view = { λ r. r.rest.now };
 }
 
-fn is_digit(byte: u8) -> bool
-    ensures { result ≡ reading.is_digit byte }
-{
-    matches!(byte, b'0'..=b'9')
-}
-
 /// A number with a digit behind it.
 fn with_digit(n: u64, byte: u8) -> u64
     ensures { result ≡ reading.with_digit n byte }
@@ -40,7 +35,7 @@ fn with_digit(n: u64, byte: u8) -> u64
     }
 }
 
-/// The number of the digits at the front, and what stands behind them.
+/// The number of the digits at the front, and what follows them.
 fn digits(bytes: &[u8]) -> (u64, &[u8])
     ensures number { result.0 ≡ (number_from 0 bytes.now).0 }
     ensures rest { result.1.now ≡ (number_from 0 bytes.now).1 }
@@ -112,7 +107,7 @@ impl<'a> Reader<'a> {
         }
     }
 
-    /// Goes past so many bytes.
+    /// Goes past the next `count` bytes.
     pub fn skip(&mut self, count: usize)
         ensures rest { self.new ≡ drop count self.old }
     {

@@ -2,7 +2,7 @@
 
 ghost use Rattle.std.specs.Prelude.{◌≡◌, ◌++◌, IfOk, OnOk};
 ghost use Rattle.ceal_dump.specs.DumpText as dump;
-ghost use Rattle.ceal_dump.specs.DumpText.{inputs_text, call_text, trace_text, memory_text, Has_dump};
+ghost use Rattle.ceal_dump.specs.DumpText.{inputs_text, call_text, trace_text, memory_text, HasDump};
 
 use crate::text::{put_blocks, put_items, put_words};
 use ceal_base::forest::Item;
@@ -77,7 +77,7 @@ pub(crate) fn record_text(alloc: Global, kept: &Record) -> Result<Text, NoMemory
 
 /// The dump text of a record that has a dump.
 pub fn dump_text(alloc: Global, kept: &Record) -> Result<Text, NoMemory>
-    requires has { Has_dump kept.now }
+    requires has { HasDump kept.now }
     ensures text { IfOk result (λ text. text ≡ dump.dump_text kept.now) }
 {
     record_text(alloc, kept)

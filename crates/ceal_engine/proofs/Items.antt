@@ -1,11 +1,11 @@
 -- Flat items and the blocks of their trace.
-use Rattle.std.proofs.Common.{◌≡◌, ◌⊎◌, inl, inr, ℕ, zero, suc, ◌+◌, ◌≤◌, List, [], ◌∷◌, ◌++◌, append_assoc, append-nil, length, refl, sym, ap, ◌∙◌, arith}
-use Rattle.ceal_base.specs.Trace.{Trace, Nothing, Stepped, Allocated, Wrote, Was_read, flat, blocks_of, steps_in}
+use Rattle.std.proofs.Common.{◌≡◌, ℕ, ◌+◌, List, [], ◌∷◌, ◌++◌, append_assoc, append-nil, length, refl, sym, ap, ◌∙◌, arith}
+use Rattle.ceal_base.specs.Trace.{Trace, Nothing, Stepped, Allocated, Wrote, WasRead, flat, blocks_of, steps_in}
 use Rattle.ceal_base.specs.declared.forest.Item.{Item}
 use Rattle.ceal_base.specs.declared.forest.Item.TheVariants.{Step, Alloc, Write, Read, End}
 use Rattle.ceal_base.specs.declared.word.BlockId.{BlockId}
 use Rattle.ceal_code.specs.Replay.{core_numbers, count}
-use Rattle.ceal_engine.specs.Items.{blocks_in, All_below}
+use Rattle.ceal_engine.specs.Items.{blocks_in, AllBelow}
 use Rattle.ceal_theory.proofs.DistinctBlocks.{times-append}
 
 blocks-then : (l : Trace) (is : List Item) → blocks_in (flat l ++ is) ≡ blocks_of l ++ blocks_in is
@@ -13,7 +13,7 @@ blocks-then Nothing is = refl
 blocks-then (Stepped rest) is = blocks-then rest is
 blocks-then (Allocated b key rest) is = ap (λ bs. b ∷ bs) (blocks-then rest is)
 blocks-then (Wrote p value rest) is = blocks-then rest is
-blocks-then (Was_read p value u v args inside rest) is =
+blocks-then (WasRead p value u v args inside rest) is =
     rw (append_assoc (flat inside) (End ∷ flat rest) is)
     (blocks-then inside (End ∷ (flat rest ++ is)) ∙ (ap (λ bs. blocks_of inside ++ bs) (blocks-then rest is) ∙ sym (append_assoc (blocks_of inside) (blocks_of rest) (blocks_in is))))
 
@@ -46,22 +46,7 @@ pub times-item : (b : ℕ) (i : Item) (is : List Item) → count b (core_numbers
 times-item b i is = ap (λ bs. count b (core_numbers bs)) (blocks-item i is) ∙ times-append b (blocks_in (i ∷ [])) (blocks_in is)
 
 -- none is below any number
-pub none-below : (bound : ℕ) → All_below bound []
+pub none-below : (bound : ℕ) → AllBelow bound []
 none-below bound b h = refl
 
 pub ruleset below_steps = (none-below)
-
-pub none-left : (is : List Item) → length is ≡ 0 → is ≡ []
-none-left [] h = refl
-none-left (i ∷ is) h = absurd (omega (arith, h))
-
--- a block of the items is the first one's, or one of the others
-pub split-item : (b : ℕ) (i : Item) (is : List Item) → 1 ≤ count b (core_numbers (blocks_in (i ∷ is))) → (1 ≤ count b (core_numbers (blocks_in (i ∷ [])))) ⊎ (1 ≤ count b (core_numbers (blocks_in is)))
-split-item b i is h = go (count b (core_numbers (blocks_in (i ∷ [])))) refl
-  where
-    go : (k : ℕ) → count b (core_numbers (blocks_in (i ∷ []))) ≡ k → (1 ≤ count b (core_numbers (blocks_in (i ∷ [])))) ⊎ (1 ≤ count b (core_numbers (blocks_in is)))
-    go zero e = inr (omega (arith, h, e, times-item b i is))
-    go (suc k) e = inl (omega (arith, e))
-
-pub with-last : {A : Type 0} (xs : List A) (x : A) (ys zs : List A) → xs ++ x ∷ ys ≡ zs → (xs ++ x ∷ []) ++ ys ≡ zs
-with-last xs x ys zs e = append_assoc xs (x ∷ []) ys ∙ e

@@ -3,7 +3,7 @@ use Rattle.std.proofs.Common.{◌≡◌, ℕ, ◌+◌, ◌<◌, ◌≤◌, ◌^�
 use Rattle.std.specs.Option.{IsSomeAnd}
 use Rattle.std.specs.Prelude.{IfSome}
 use Rattle.std.specs.Option.{option_map}
-use Rattle.ceal_adjust.specs.Answers.{IsRepair, Is_answer}
+use Rattle.ceal_adjust.specs.Answers.{IsRepair, IsAnswer}
 use Rattle.ceal_adjust.specs.declared.adjust.Adjusted.{Adjusted}
 use Rattle.ceal_adjust.specs.declared.adjust.Adjusted.TheVariants.{Done, OutOfFuel}
 use Rattle.ceal_base.proofs.TraceLemmas.{trace-flat, steps-flat}
@@ -32,8 +32,8 @@ use Rattle.ceal_engine.proofs.MoreMemory.{input-none, input-some, core-none, cor
 use Rattle.ceal_engine.proofs.Present.{trace-kept}
 use Rattle.ceal_engine.proofs.Renaming.{new-flat, new-replays, new-honest, new-repaired, left-trace, left-work}
 use Rattle.ceal_engine.specs.Completed.{finished, IsFirstRun, IsRepairedRun, IsDraft, IsSettled, IsOldRun, IsDraftOf, IsRepairOf}
-use Rattle.ceal_engine.specs.Engine.{In_limits, alone, fits_in, with_base, edited, fresh_call, has_run, at_number, stands_for}
-use Rattle.ceal_engine.specs.Items.{blocks_in, All_below}
+use Rattle.ceal_engine.specs.Engine.{alone, fits_in, with_base, edited, fresh_call, has_run, at_number, stands_for}
+use Rattle.ceal_engine.specs.Items.{blocks_in, AllBelow}
 use Rattle.ceal_engine.specs.Keeping.{Kept, forest_in, state_of, with_later, IsStored, IsMade, IsRunOf, IsKept, Keeps, Sound}
 use Rattle.ceal_engine.specs.Numbers.{renamed, AreNew}
 use Rattle.ceal_engine.specs.Repaired.{IsFirst, IsRepaired, IsUnchanged}
@@ -47,8 +47,8 @@ use Rattle.ceal_theory.proofs.MoreInputs.{inputs-law}
 use Rattle.ceal_theory.proofs.Named.{selves, self-tied, selves-one, trace-self}
 use Rattle.ceal_theory.specs.Adjust.{Above}
 use Rattle.ceal_theory.specs.Computed.{Repaired, adjusted, first_of}
-use Rattle.ceal_theory.specs.Laws.{Edited, First_trace, First_outcome}
-use Rattle.ceal_theory.specs.MoreInputs.{Same_bases}
+use Rattle.ceal_theory.specs.Laws.{Edited, FirstTrace, FirstOutcome}
+use Rattle.ceal_theory.specs.MoreInputs.{SameBases}
 use Rattle.ceal_theory.specs.Segments.{items_by}
 
 module _ (code : Code) (fuel : ℕ) (inputs : List Block) (call : Call) (fits : Fits code inputs call.function call.args) where
@@ -120,7 +120,7 @@ module _ (code : Code) (fuel : ℕ) (inputs : List Block) (call : Call) (fits : 
       a : Repaired
       a = record { items = r.items; work = work }
 
-      of : First_trace code inputs call.function call.args (record { items = r.items; work = work }) r.finished → IsFirstRun code fuel inputs (Some call) (record { run = run; work = work })
+      of : FirstTrace code inputs call.function call.args (record { items = r.items; work = work }) r.finished → IsFirstRun code fuel inputs (Some call) (record { run = run; work = work })
       of t = record {
         kept = made-kept forest run made r.items r.flat_form t.replays t.honest (few-steps r.items t.replays t.honest r.finished r.ends);
         first = subst (λ o. IsSomeAnd o (IsFirst (finished code fuel inputs (Some call) (record { run = run; work = work })))) (sym (trace-is forest run made r.items r.flat_form t.replays t.honest)) (record {
@@ -135,14 +135,14 @@ module _ (code : Code) (fuel : ℕ) (inputs : List Block) (call : Call) (fits : 
         });
       }
 
-      is-some : First_outcome code inputs call.function call.args (Some (record { items = r.items; work = work })) (Some r.finished) → IsFirstRun code fuel inputs (Some call) (record { run = run; work = work })
-      is-some (First_outcome.some t) = of t
+      is-some : FirstOutcome code inputs call.function call.args (Some (record { items = r.items; work = work })) (Some r.finished) → IsFirstRun code fuel inputs (Some call) (record { run = run; work = work })
+      is-some (FirstOutcome.some t) = of t
 
-      go : First_outcome code inputs call.function call.args (first_of code inputs fuel call.function call.args) (fresh code call.function call.args inputs fuel) → IsFirstRun code fuel inputs (Some call) (record { run = run; work = work })
+      go : FirstOutcome code inputs call.function call.args (first_of code inputs fuel call.function call.args) (fresh code call.function call.args inputs fuel) → IsFirstRun code fuel inputs (Some call) (record { run = run; work = work })
       go o =
           is-some
-          (subst (λ q. First_outcome code inputs call.function call.args (Some (record { items = r.items; work = work })) q) r.ends
-          (subst (λ q. First_outcome code inputs call.function call.args q (fresh code call.function call.args inputs fuel)) r.same o))
+          (subst (λ q. FirstOutcome code inputs call.function call.args (Some (record { items = r.items; work = work })) q) r.ends
+          (subst (λ q. FirstOutcome code inputs call.function call.args q (fresh code call.function call.args inputs fuel)) r.same o))
 
   -- the repair of a kept trace is the run's, its new blocks renamed
   pub repaired-run : (old : Run) (l : Trace) (of : IsRunOf code fuel inputs call old l) (forest : List Item) (work : ℕ)
@@ -164,8 +164,8 @@ module _ (code : Code) (fuel : ℕ) (inputs : List Block) (call : Call) (fits : 
       are-new : AreNew (core_numbers (blocks_of l)) (old.counts.bound + length d.names.numbers.items) d.names.numbers.items
       are-new = subst (λ bs. AreNew (core_numbers bs) (old.counts.bound + length d.names.numbers.items) d.names.numbers.items) (ap blocks_in of.flat_form ∙ blocks-flat l) draft.new
 
-      low : All_below (old.counts.bound + length d.names.numbers.items) (core_numbers (blocks_of r.items))
-      low = subst (λ bs. All_below (old.counts.bound + length d.names.numbers.items) (core_numbers bs)) (ap blocks_in r.flat_form ∙ blocks-flat r.items) draft.all
+      low : AllBelow (old.counts.bound + length d.names.numbers.items) (core_numbers (blocks_of r.items))
+      low = subst (λ bs. AllBelow (old.counts.bound + length d.names.numbers.items) (core_numbers bs)) (ap blocks_in r.flat_form ∙ blocks-flat r.items) draft.all
 
       new : Trace
       new = Rattle.ceal_engine.proofs.Renaming.new-trace code inputs call fits l of.replays fuel old.counts.bound of.above d.names.numbers.items are-new a r.same low
@@ -198,7 +198,7 @@ module _ (code : Code) (fuel : ℕ) (inputs : List Block) (call : Call) (fits : 
   there : adjusted code inputs run.counts.bound fuel l ≡ Some (record { items = l; work = 0 })
   there = Rattle.ceal_theory.proofs.Main.unchanged-law code inputs l honest run.counts.bound fuel
 
-  low-old : All_below (run.counts.bound + 0) (core_numbers (blocks_of l))
+  low-old : AllBelow (run.counts.bound + 0) (core_numbers (blocks_of l))
   low-old b h = of.above b (omega (arith, h))
 
   pub still-repaired : (phase : Phase) (kept : Option Run) → IsRepaired (state_of code fuel inputs (Some call) phase kept 0) l l
@@ -220,7 +220,7 @@ module _ (code : Code) (fuel : ℕ) (inputs : List Block) (kept : Kept) (phase :
         go [] = refl
         go (x ∷ xs) = omega (arith, go xs)
 
-    same-bases : Same_bases code inputs (inputs ++ b ∷ [])
+    same-bases : SameBases code inputs (inputs ++ b ∷ [])
     unfolding bases
     same-bases i field h = ap (λ o. content_in code.structs o field) (sym (Rattle.ceal_code.proofs.Memory.get-before inputs (b ∷ []) i h))
 
@@ -309,33 +309,6 @@ module _ (code : Code) (fuel : ℕ) (inputs : List Block) (kept : Kept) (phase :
 
 -- The states on the way.
 module _ (code : Code) (fuel : ℕ) (inputs : List Block) where
-  -- where nothing was run yet there is no run
-  pub sound-dropped : (kept : Kept) (phase : Phase) (run : Option Run) → Sound code fuel inputs kept phase run → (phase ≡ New → ⊥) → Sound code fuel inputs kept Dropped None
-  sound-dropped kept phase run s h = record {
-    is_valid = s.is_valid;
-    limits = s.limits;
-    fit = s.fit;
-    count = s.count;
-    calls = s.calls;
-    uncalled = λ e. absurd (grind (arith, e));
-    new = λ e. absurd (h (s.new e));
-    room = s.room;
-    keeps = refl;
-  }
-
-  pub sound-called : (kept now : Kept) (run : Option Run) (call : Call) → Sound code fuel inputs kept New run → now.call ≡ Some call → kept.room ≤ now.room → Fits code inputs call.function call.args → Sound code fuel inputs now Dropped None
-  sound-called kept now run call s e r h = record {
-    is_valid = s.is_valid;
-    limits = s.limits;
-    fit = s.fit;
-    count = s.count;
-    calls = subst (λ o. IfSome o (λ call. Fits code inputs call.function call.args)) (sym e) h;
-    uncalled = λ k. absurd (grind (arith, k));
-    new = λ k. none-some call (sym k ∙ e);
-    room = λ f. omega (arith, s.room f, r);
-    keeps = refl;
-  }
-
   called : (call : Option Call) (run : Run) → Keeps code fuel inputs IsFinished call (Some run) → call ≡ None → ⊥
   called None run k e = k
   called (Some call) run k e = none-some call (sym e)
@@ -353,43 +326,26 @@ module _ (code : Code) (fuel : ℕ) (inputs : List Block) where
     keeps = k;
   }
 
-  pub old-run : (phase : Phase) (call : Option Call) (run : Run) → Keeps code fuel inputs phase call (Some run) → IsOldRun code fuel inputs call run
-  old-run phase None run k = elim k [ ]
-  old-run phase (Some call) run k = (k.trace, k.of)
-
-  pub no-run : (phase : Phase) (call : Option Call) → Keeps code fuel inputs phase call None → has_run phase ≡ true → ⊥
-  no-run phase call k h = absurd (grind (arith, k, h))
-
-  pub draft-low : (call : Option Call) (old : Run) → IsOldRun code fuel inputs call old → All_below old.counts.bound (core_numbers (blocks_in old.forest))
+  pub draft-low : (call : Option Call) (old : Run) → IsOldRun code fuel inputs call old → AllBelow old.counts.bound (core_numbers (blocks_in old.forest))
   draft-low None old o = elim o [ ]
   draft-low (Some call) old o = λ b h. ap (λ bs. count b (core_numbers bs)) (ap blocks_in o.1.flat_form ∙ blocks-flat o.0) ∙ o.1.above b h
 
-  -- an old run is one that can be repaired
-  pub old-edited : (call : Option Call) (old : Run) → IfSome call (λ call. Fits code inputs call.function call.args) → IsOldRun code fuel inputs call old
-      → (before : List Block) × (f : ℕ) × (args : List Word) × (l : Trace) × (old.forest ≡ flat l) × Edited code before inputs f args l old.counts.bound
-  old-edited None old h o = elim o [ ]
-  old-edited (Some call) old h o = (inputs, call.function, call.args, o.0, o.1.flat_form, record { call = h; fit = h.blocks; extended = extended-refl code inputs; trace = o.1.replays; above = o.1.above })
-
-  pub old-room : (call : Option Call) (old : Run) → In_limits fuel → IsOldRun code fuel inputs call old → old.counts.bound + fuel < 2 ^ 32
-  old-room None old h o = elim o [ ]
-  old-room (Some call) old h o = omega (arith, h.1, o.1.room)
-
   abbrev Answers : Run → Adjusted → Type 0
   Answers old answer = (before : List Block) (f : ℕ) (args : List Word) (l : Trace) → old.forest ≡ flat l → Edited code before inputs f args l old.counts.bound
-      → Is_answer (adjusted code inputs old.counts.bound fuel l) (fresh code f args inputs fuel) answer
+      → IsAnswer (adjusted code inputs old.counts.bound fuel l) (fresh code f args inputs fuel) answer
 
   pub drafted-out : (call : Option Call) (old : Run) → IfSome call (λ call. Fits code inputs call.function call.args) → IsOldRun code fuel inputs call old → (answer : Adjusted) → Answers old answer → answer ≡ OutOfFuel
       → fresh_call code inputs fuel call ≡ None
   drafted-out None old h o answer a e = elim o [ ]
   drafted-out (Some call) old h o answer a e =
-      subst (λ x. Is_answer (adjusted code inputs old.counts.bound fuel o.0) (fresh code call.function call.args inputs fuel) x) e
+      subst (λ x. IsAnswer (adjusted code inputs old.counts.bound fuel o.0) (fresh code call.function call.args inputs fuel) x) e
       (a inputs call.function call.args o.0 o.1.flat_form (record { call = h; fit = h.blocks; extended = extended-refl code inputs; trace = o.1.replays; above = o.1.above }))
 
   pub drafted-done : (call : Option Call) (old : Run) → IfSome call (λ call. Fits code inputs call.function call.args) → IsOldRun code fuel inputs call old → (answer : Adjusted) → Answers old answer
       → (forest : List Item) (work : ℕ) → answer ≡ Done forest work → (d : Draft) → IsDraft old.forest old.counts.bound forest work d → IsDraftOf code fuel inputs call old d
   drafted-done None old h o answer a forest work e d is = elim o [ ]
   drafted-done (Some call) old h o answer a forest work e d is = λ l of.
-      let r = subst (λ x. Is_answer (adjusted code inputs old.counts.bound fuel l) (fresh code call.function call.args inputs fuel) x) e
+      let r = subst (λ x. IsAnswer (adjusted code inputs old.counts.bound fuel l) (fresh code call.function call.args inputs fuel) x) e
       (a inputs call.function call.args l of.flat_form (record { call = h; fit = h.blocks; extended = extended-refl code inputs; trace = of.replays; above = of.above })) in (
         subst (λ x. IsRepair x d.work (adjusted code inputs old.counts.bound fuel l) (fresh code call.function call.args inputs fuel)) (sym is.forest)
             (subst (λ x. IsRepair forest x (adjusted code inputs old.counts.bound fuel l) (fresh code call.function call.args inputs fuel)) (sym is.work) r),
@@ -398,7 +354,7 @@ module _ (code : Code) (fuel : ℕ) (inputs : List Block) where
           work = refl;
           next = is.next;
           new = is.new;
-          all = subst (λ x. All_below (old.counts.bound + length d.names.numbers.items) (core_numbers (blocks_in x))) (sym is.forest) is.all;
+          all = subst (λ x. AllBelow (old.counts.bound + length d.names.numbers.items) (core_numbers (blocks_in x))) (sym is.forest) is.all;
         },
       )
 
@@ -409,13 +365,6 @@ module _ (code : Code) (fuel : ℕ) (inputs : List Block) where
 
   -- what becomes of a kept run
   module _ (phase : Phase) (call : Option Call) (old : Run) (k : Keeps code fuel inputs phase call (Some old)) (c : Completed) (r : IsRepairOf code fuel inputs call old c) where
-    pub repaired-kept : Keeps code fuel inputs IsFinished call (Some c.run)
-    repaired-kept = go call k r
-      where
-        go : (call : Option Call) → Keeps code fuel inputs phase call (Some old) → IsRepairOf code fuel inputs call old c → Keeps code fuel inputs IsFinished call (Some c.run)
-        go None k r = elim k [ ]
-        go (Some call) k r = (r k.trace k.of).kept
-
     pub repaired-clause : (l : Trace) → trace_of old.forest ≡ Some l → IsSomeAnd (trace_of c.run.forest) (IsRepaired (finished code fuel inputs call c) l)
     repaired-clause l = go call k r
       where
@@ -442,12 +391,6 @@ module _ (code : Code) (fuel : ℕ) (inputs : List Block) where
       (subst (λ l. IsRepaired (state_of code fuel inputs (Some call) phase (Some run) 0) l k.trace) (some-same k.trace l (sym (trace-kept code fuel inputs call run k.trace k.of) ∙ e))
       (still-repaired code fuel inputs call h run k.trace k.of (k.present refl).honest phase (Some run)))
 
-  -- in Dropped there is no trace
-  pub dropped-none : (call : Option Call) (run : Option Run) → Keeps code fuel inputs Dropped call run → stands_for (forest_in run) ≡ None
-  dropped-none call None k = refl
-  dropped-none None (Some run) k = elim k [ ]
-  dropped-none (Some call) (Some run) k = absurd (grind (arith, k.there))
-
   -- the call from its parts
   pub the-call : (call : Option Call) (f : ℕ) (args : List Word) → option_map (λ call. call.function) call ≡ Some f → IfSome call (λ call. call.args ≡ args) → call ≡ Some (record { function = f; args = args })
   the-call None f args e h = none-some f e
@@ -456,15 +399,10 @@ module _ (code : Code) (fuel : ℕ) (inputs : List Block) where
   pub first-fits : (call : Option Call) (f : ℕ) (args : List Word) → call ≡ Some (record { function = f; args = args }) → IfSome call (λ call. Fits code inputs call.function call.args) → Fits code inputs f args
   first-fits call f args e h = subst (λ o. IfSome o (λ call. Fits code inputs call.function call.args)) e h
 
-  pub first-out : (call : Option Call) (f : ℕ) (args : List Word) → call ≡ Some (record { function = f; args = args }) → (answer : Adjusted)
-      → Is_answer (first_of code inputs fuel f args) (fresh code f args inputs fuel) answer → answer ≡ OutOfFuel → fresh_call code inputs fuel call ≡ None
-  first-out call f args e answer a k =
-      ap (fresh_call code inputs fuel) e ∙ subst (λ x. Is_answer (first_of code inputs fuel f args) (fresh code f args inputs fuel) x) k a
-
   pub first-done : (call : Option Call) (f : ℕ) (args : List Word) → call ≡ Some (record { function = f; args = args }) → IfSome call (λ call. Fits code inputs call.function call.args) → (answer : Adjusted)
-      → Is_answer (first_of code inputs fuel f args) (fresh code f args inputs fuel) answer → (forest : List Item) (work : ℕ) → answer ≡ Done forest work → (run : Run) → IsMade code inputs forest run
+      → IsAnswer (first_of code inputs fuel f args) (fresh code f args inputs fuel) answer → (forest : List Item) (work : ℕ) → answer ≡ Done forest work → (run : Run) → IsMade code inputs forest run
       → IsFirstRun code fuel inputs call (record { run = run; work = work })
   first-done call f args e h answer a forest work k run made =
       subst (λ o. IsFirstRun code fuel inputs o (record { run = run; work = work })) (sym e)
       (first-run code fuel inputs (record { function = f; args = args }) (first-fits call f args e h) forest work run
-      (subst (λ x. Is_answer (first_of code inputs fuel f args) (fresh code f args inputs fuel) x) k a) made)
+      (subst (λ x. IsAnswer (first_of code inputs fuel f args) (fresh code f args inputs fuel) x) k a) made)

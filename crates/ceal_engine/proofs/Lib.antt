@@ -4,7 +4,6 @@ pub mod Words
 pub mod Numbers
 pub mod Inputs
 pub mod MoreMemory
-pub mod Calls
 pub mod Present
 pub mod Renaming
 pub mod Keeping

@@ -4,7 +4,7 @@ use Rattle.std.specs.Option.{option_map}
 use Rattle.ceal_base.specs.Block.{Block}
 use Rattle.ceal_base.specs.Operators.{same_block, same_place}
 use Rattle.ceal_base.specs.Shapes.{kinds_of_shape}
-use Rattle.ceal_base.specs.Trace.{Trace, Nothing, Stepped, Allocated, Wrote, Was_read, blocks_of}
+use Rattle.ceal_base.specs.Trace.{Trace, Nothing, Stepped, Allocated, Wrote, WasRead, blocks_of}
 use Rattle.ceal_base.specs.declared.forest.Key.{Key}
 use Rattle.ceal_base.specs.declared.kind.FieldKind.{FieldKind}
 use Rattle.ceal_base.specs.declared.word.BlockId.{BlockId}
@@ -19,7 +19,7 @@ use Rattle.ceal_code.proofs.Same.{none-some, nat-same, place-same}
 use Rattle.ceal_code.specs.After.{store_after, memory_after}
 use Rattle.ceal_code.specs.Fitting.{Fits}
 use Rattle.ceal_code.specs.Program.{Code}
-use Rattle.ceal_code.specs.Replay.{Store, In, here, Known_block, Mentions, Replays, plain_block, input_plain, plain_after, plain_of, content_in, bases, cell_default, shape_of, cleared, stored, with_contents, filled, block_after}
+use Rattle.ceal_code.specs.Replay.{Store, In, here, KnownBlock, Mentions, Replays, plain_block, input_plain, plain_after, plain_of, content_in, bases, cell_default, shape_of, cleared, stored, with_contents, filled, block_after}
 use Rattle.ceal_code.specs.Step.{started}
 use Rattle.ceal_code.specs.Value.{Plain, is_cell, field_kind}
 use Rattle.ceal_engine.proofs.Inputs.{extended-longer}
@@ -55,18 +55,18 @@ store-at code Nothing s t p e = e
 store-at code (Stepped rest) s t p e = store-at code rest s t p e
 store-at code (Allocated b key rest) s t p e = store-at code rest (cleared code s b key) (cleared code t b key) p (cleared-at code s t p b key e)
 store-at code (Wrote q v rest) s t p e = store-at code rest (stored s q v) (stored t q v) p (stored-at code s t p q v e)
-store-at code (Was_read q v u x args inside rest) s t p e = store-at code rest (store_after code s inside) (store_after code t inside) p (store-at code inside s t p e)
+store-at code (WasRead q v u x args inside rest) s t p e = store-at code rest (store_after code s inside) (store_after code t inside) p (store-at code inside s t p e)
 
 -- a trace leaves the inputs that came after it
 module _ (code : Code) (n i f : ℕ) (late : n ≤ i) where
   abbrev place : Place
   place = record { block = Input i; field = f }
 
-  stored-late : (bs : List ℕ) (s : Store) (p : Place) (v : Word) → Known_block n bs p.block → stored s p v place ≡ s place
+  stored-late : (bs : List ℕ) (s : Store) (p : Place) (v : Word) → KnownBlock n bs p.block → stored s p v place ≡ s place
   unfolding stored
   stored-late bs s p v k = go (same_place place p) refl
     where
-      early : (b : BlockId) → Known_block n bs b → Input i ≡ b → ⊥
+      early : (b : BlockId) → KnownBlock n bs b → Input i ≡ b → ⊥
       early (Input j) k e = absurd (grind (arith, e, k, late))
       early (Core c) k e = absurd (grind (arith, e))
 

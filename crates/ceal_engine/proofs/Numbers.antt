@@ -4,7 +4,6 @@ use Rattle.ceal_code.proofs.Memory.{get-within, got}
 use Rattle.ceal_code.proofs.Pairs.{one_if}
 use Rattle.ceal_code.proofs.Same.{some-same, nat-same, nat-refl}
 use Rattle.ceal_code.specs.Replay.{In, here, there, count}
-use Rattle.ceal_engine.specs.Items.{All_below}
 use Rattle.ceal_engine.specs.Numbers.{renamed, AreFree, AreNew}
 use Rattle.ceal_theory.specs.Named.{naming}
 
@@ -29,13 +28,10 @@ one-if-same b n h = go (n == b) refl h
     go true e h = sym (nat-same n b e)
     go false e h = absurd (omega (arith, h))
 
-pub none-free : (taken : List Bool) (bound : ℕ) → AreFree taken bound []
-none-free taken bound = record { distinct = λ b. omega arith; below = λ b h. absurd (omega (arith, h)); free = λ b h e. absurd (omega (arith, h)) }
-
 pub free-later : (taken : List Bool) (n m : ℕ) (ns : List ℕ) → n ≤ m → AreFree taken n ns → AreFree taken m ns
 free-later taken n m ns h a = record { distinct = a.distinct; below = λ b k. omega (arith, h, a.below b k); free = a.free }
 
--- a number that is not marked, behind all others
+-- a number that is not marked, after all others
 pub free-more : (taken : List Bool) (n : ℕ) (ns : List ℕ) → (slice_get taken n ≡ Some true → ⊥) → AreFree taken n ns → AreFree taken (n + 1) (ns ++ n ∷ [])
 free-more taken n ns h a = record {
   distinct = λ b. go b (n == b) refl;
@@ -69,16 +65,6 @@ in-count b [] i = elim i [ ]
 in-count b (c ∷ bs) here = omega (arith, one-at b b refl)
 in-count b (c ∷ bs) (there i) = omega (arith, in-count b bs i)
 
--- where all marked numbers are those of the old blocks, free numbers are new
-pub free-new : (old : List ℕ) (taken : List Bool) (next bound : ℕ) (ns : List ℕ) → All_below next old
-    → ((b : ℕ) → b < next → 1 ≤ count b old → slice_get taken b ≡ Some true) → AreFree taken bound ns → AreNew old bound ns
-free-new old taken next bound ns above marked a = record { distinct = a.distinct; below = a.below; new = λ b h. go b h (nat_le next b) refl (count b old) refl }
-  where
-    go : (b : ℕ) → 1 ≤ count b ns → (t : Bool) → nat_le next b ≡ t → (k : ℕ) → count b old ≡ k → k ≡ 0
-    go b h true e k i = sym i ∙ above b (grind (arith, e))
-    go b h false e zero i = refl
-    go b h false e (suc k) i = absurd (a.free b h (marked b (grind (arith, e)) (omega (arith, i))))
-
 pub new-in : (old : List ℕ) (bound : ℕ) (ns : List ℕ) → AreNew old bound ns → (b : ℕ) → In b ns → (b < bound) × (count b old ≡ 0)
 new-in old bound ns a b i = (a.below b (in-count b ns i), a.new b (in-count b ns i))
 
@@ -100,7 +86,7 @@ pub push-count : (ns : List ℕ) (n : ℕ) → length (ns ++ n ∷ []) ≡ lengt
 push-count [] n = refl
 push-count (m ∷ ns) n = omega (arith, push-count ns n)
 
--- a number behind the marks is not marked
+-- a number after the marks is not marked
 pub number-more : (taken : List Bool) (bound k : ℕ) (ns : List ℕ) → length taken ≡ bound → AreFree taken (bound + k) ns → AreFree taken (bound + (k + 1)) (ns ++ (bound + k) ∷ [])
 number-more taken bound k ns e a =
     free-later taken (bound + k + 1) (bound + (k + 1)) (ns ++ (bound + k) ∷ []) (omega arith)

@@ -26,7 +26,7 @@ use Rattle.ceal_code.specs.Program.{Code}
 use Rattle.ceal_code.specs.Replay.{count, core_numbers, bases, plain_of, block_after, inputs_after}
 use Rattle.ceal_code.specs.Valid.{valid}
 use Rattle.ceal_engine.proofs.MoreMemory.{core-none}
-use Rattle.ceal_engine.specs.Engine.{NUMBERS, EngineState, Replays_call, IsPresent, IsTraced, IsEngine, has_run, core, stands_for}
+use Rattle.ceal_engine.specs.Engine.{NUMBERS, EngineState, ReplaysCall, IsPresent, IsTraced, IsEngine, has_run, core, stands_for}
 use Rattle.ceal_engine.specs.Keeping.{Kept, forest_in, state_of, IsRunOf, IsUpToDate, IsKept, Keeps, Sound}
 use Rattle.ceal_engine.specs.declared.phase.Phase.{Phase}
 use Rattle.ceal_engine.specs.declared.phase.Phase.TheVariants.{Finished as IsFinished, Dropped}
@@ -141,11 +141,11 @@ module _ (code : Code) (fuel : ℕ) (inputs : List Block) (kept : Kept) (phase :
       subst (λ o. IfSome o (IsTraced (state_of code fuel inputs (Some call) phase (Some run) work))) (sym (trace-kept code fuel inputs call run h.trace h.of))
       (is-traced code s.is_valid fuel inputs call fits run h.trace h.of (h.present e) phase work)
 
-  replays : (call : Option Call) (run : Option Run) → Keeps code fuel inputs phase call run → IfSome (stands_for (forest_in run)) (Replays_call (state_of code fuel inputs call phase run work))
+  replays : (call : Option Call) (run : Option Run) → Keeps code fuel inputs phase call run → IfSome (stands_for (forest_in run)) (ReplaysCall (state_of code fuel inputs call phase run work))
   replays call None h = tt
   replays None (Some run) h = elim h [ ]
   replays (Some call) (Some run) h =
-      subst (λ o. IfSome o (Replays_call (state_of code fuel inputs (Some call) phase (Some run) work))) (sym (trace-kept code fuel inputs call run h.trace h.of)) h.of.replays
+      subst (λ o. IfSome o (ReplaysCall (state_of code fuel inputs (Some call) phase (Some run) work))) (sym (trace-kept code fuel inputs call run h.trace h.of)) h.of.replays
 
   none-left : (call : Option Call) (run : Option Run) → Keeps code fuel inputs phase call run → phase ≡ Dropped → (n : ℕ) → core (state_of code fuel inputs call phase run work).memory n ≡ None
   none-left call None h e n = refl

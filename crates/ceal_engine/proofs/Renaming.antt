@@ -12,7 +12,7 @@ use Rattle.ceal_code.specs.Program.{Code}
 use Rattle.ceal_code.specs.Replay.{In, here, there, Mentions, count, core_numbers, Replays, IsHonest}
 use Rattle.ceal_engine.proofs.Inputs.{extended-refl}
 use Rattle.ceal_engine.proofs.Numbers.{new-in, renamed-is}
-use Rattle.ceal_engine.specs.Items.{All_below}
+use Rattle.ceal_engine.specs.Items.{AllBelow}
 use Rattle.ceal_engine.specs.Keeping.{state_of}
 use Rattle.ceal_engine.specs.Numbers.{renamed, AreNew}
 use Rattle.ceal_engine.specs.Repaired.{IsRepairFrom, IsRepaired}
@@ -23,10 +23,10 @@ use Rattle.ceal_theory.proofs.Functions.{adjusted-sound}
 use Rattle.ceal_theory.proofs.Main.{repair-law, unchanged-law}
 use Rattle.ceal_theory.proofs.Named.{trace-by, selves, self-tied, tied-same, trace-self, renaming-law, named-law, handed-law}
 use Rattle.ceal_theory.proofs.Segments.{renamed-items-law}
-use Rattle.ceal_theory.specs.Adjust.{Above, Adjusts, Adjusts_as}
+use Rattle.ceal_theory.specs.Adjust.{Above, Adjusts, AdjustsAs}
 use Rattle.ceal_theory.specs.Computed.{Repaired, adjusted}
 use Rattle.ceal_theory.specs.Laws.{Edited, Updated}
-use Rattle.ceal_theory.specs.Named.{naming, trace_by, Apart, Named, Named_repair, Renamed_by, then_from}
+use Rattle.ceal_theory.specs.Named.{naming, trace_by, Apart, Named, NamedRepair, RenamedBy, then_from}
 use Rattle.ceal_theory.specs.Repair.{Single}
 use Rattle.ceal_theory.specs.Segments.{items_by}
 
@@ -69,7 +69,7 @@ known-uses {bs = bs} (Mentions.read {ds = ds} {inside = inside} {rest = rest} k 
 
 module _ (code : Code) (inputs : List Block) (call : Call) (fits : Fits code inputs call.function call.args) (l : Trace) (r : Replays code inputs call.function call.args l) (fuel next : ℕ) (above : Above next l)
     (ns : List ℕ) (new : AreNew (core_numbers (blocks_of l)) (next + length ns) ns)
-    (a : Repaired) (is : adjusted code inputs next fuel l ≡ Some a) (low : All_below (next + length ns) (core_numbers (blocks_of a.items))) where
+    (a : Repaired) (is : adjusted code inputs next fuel l ≡ Some a) (low : AllBelow (next + length ns) (core_numbers (blocks_of a.items))) where
   abbrev pub edited : (k : ℕ) → Above k l → Edited code inputs inputs call.function call.args l k
   edited k h = record { call = fits; fit = fits.blocks; extended = extended-refl code inputs; trace = r; above = h }
 
@@ -84,10 +84,10 @@ module _ (code : Code) (inputs : List Block) (call : Call) (fits : Fits code inp
   abbrev pub apart : Apart (then_from ns (next + length ns)) l
   apart = handed.2 l (λ b h. above b (omega (arith, h))) (λ b i. (new-in (core_numbers (blocks_of l)) (next + length ns) ns new b i).1)
 
-  abbrev pub at : (k : ℕ) → Above k l → Named_repair code inputs call.function call.args l k (then_from ns (next + length ns)) fuel
+  abbrev pub at : (k : ℕ) → Above k l → NamedRepair code inputs call.function call.args l k (then_from ns (next + length ns)) fuel
   at k h = named-law code inputs inputs call.function call.args l k (edited k h) (then_from ns (next + length ns)) handed.0 apart fuel
 
-  abbrev pub there-is : (m : Trace) × Adjusts_as code inputs (then_from ns (next + length ns)) 0 l m a.work × Named code inputs call.function call.args l next (then_from ns (next + length ns)) a.items m
+  abbrev pub there-is : (m : Trace) × AdjustsAs code inputs (then_from ns (next + length ns)) 0 l m a.work × Named code inputs call.function call.args l next (then_from ns (next + length ns)) a.items m
   there-is = (at next above).there a is
 
   sound : Adjusts code inputs next l a.items a.work × a.work ≤ fuel
@@ -128,7 +128,7 @@ module _ (code : Code) (inputs : List Block) (call : Call) (fits : Fits code inp
       go false i true j e = absurd (other (c - next) b (grind (arith, i)) u (sym e))
       go false i false j e = e
 
-  by-names : Renamed_by code inputs call.function call.args (naming next (then_from ns (next + length ns))) a.items
+  by-names : RenamedBy code inputs call.function call.args (naming next (then_from ns (next + length ns))) a.items
   by-names = renaming-law code inputs call.function call.args fits a.items updated.replays (naming next (then_from ns (next + length ns))) injective
 
   within : (b : ℕ) → 1 ≤ uses b a.items → b < next + length ns

@@ -33,13 +33,13 @@ take-end (v ∷ ws) zero e = none-some v (sym e)
 take-end (v ∷ ws) (suc n) e = ap (λ xs. v ∷ xs) (take-end ws n e)
 
 -- the words of a block up to a field
-abbrev pub Up_to : Option Block → ℕ → List Word → Type 0
-Up_to o n words = (b : Block) → o ≡ Some b → words ≡ take n b.words
+abbrev pub UpTo : Option Block → ℕ → List Word → Type 0
+UpTo o n words = (b : Block) → o ≡ Some b → words ≡ take n b.words
 
-pub words-more : (o : Option Block) (n : ℕ) (words : List Word) (w : Word) → Up_to o n words → Some w ≡ block_word o n → Up_to o (n + 1) (words ++ w ∷ [])
+pub words-more : (o : Option Block) (n : ℕ) (words : List Word) (w : Word) → UpTo o n words → Some w ≡ block_word o n → UpTo o (n + 1) (words ++ w ∷ [])
 words-more o n words w h e b k = rw (h b k) (take-more b.words n w (sym (e ∙ ap (λ o. block_word o n) k)))
 
-pub words-end : (o : Option Block) (n : ℕ) (words : List Word) → Up_to o n words → None ≡ block_word o n → (b : Block) → o ≡ Some b → words ≡ b.words
+pub words-end : (o : Option Block) (n : ℕ) (words : List Word) → UpTo o n words → None ≡ block_word o n → (b : Block) → o ≡ Some b → words ≡ b.words
 words-end o n words h e b k = h b k ∙ take-end b.words n (sym (e ∙ ap (λ o. block_word o n) k))
 
 -- a block from its shape and its words

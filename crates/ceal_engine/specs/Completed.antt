@@ -10,7 +10,7 @@ use Rattle.ceal_code.specs.Fresh.{fresh}
 use Rattle.ceal_code.specs.Program.{Code}
 use Rattle.ceal_code.specs.Replay.{IsHonest, core_numbers}
 use Rattle.ceal_engine.specs.Engine.{EngineState}
-use Rattle.ceal_engine.specs.Items.{blocks_in, All_below}
+use Rattle.ceal_engine.specs.Items.{blocks_in, AllBelow}
 use Rattle.ceal_engine.specs.Keeping.{Keeps, state_of, IsMade, IsRunOf}
 use Rattle.ceal_engine.specs.Numbers.{renamed, AreNew}
 use Rattle.ceal_engine.specs.Repaired.{IsFirst, IsRepaired, IsUnchanged}
@@ -25,10 +25,12 @@ use Rattle.ceal_theory.specs.Segments.{items_by}
 abbrev pub finished : Code → ℕ → List Block → Option Call → Completed → EngineState
 finished code fuel inputs call c = state_of code fuel inputs call IsFinished (Some c.run) c.work
 
+-- what a first run that has ended leaves: its parts agree, and its items are the first trace
 pub record IsFirstRun (code : Code) (fuel : ℕ) (inputs : List Block) (call : Option Call) (c : Completed) : Type 0 where
   pub kept : Keeps code fuel inputs IsFinished call (Some c.run)
   pub first : IsSomeAnd (trace_of c.run.forest) (IsFirst (finished code fuel inputs call c))
 
+-- what a propagation that has ended leaves: its parts agree, its items are the repair, and an honest trace stays as it was
 pub record IsRepairedRun (code : Code) (fuel : ℕ) (inputs : List Block) (call : Option Call) (l : Trace) (c : Completed) : Type 0 where
   pub kept : Keeps code fuel inputs IsFinished call (Some c.run)
   pub repaired : IsSomeAnd (trace_of c.run.forest) (IsRepaired (finished code fuel inputs call c) l)
@@ -40,7 +42,7 @@ pub record IsDraft (old : List Item) (from : ℕ) (items : List Item) (steps : �
   pub work : d.work ≡ steps
   pub next : d.names.next ≡ from
   pub new : AreNew (core_numbers (blocks_in old)) (from + length d.names.numbers.items) d.names.numbers.items
-  pub all : All_below (from + length d.names.numbers.items) (core_numbers (blocks_in items))
+  pub all : AllBelow (from + length d.names.numbers.items) (core_numbers (blocks_in items))
 
 -- the run of a draft whose new blocks have their numbers
 pub record IsSettled (code : Code) (inputs : List Block) (d : Draft) (c : Completed) : Type 0 where

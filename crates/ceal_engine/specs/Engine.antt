@@ -32,8 +32,9 @@ use Rattle.ceal_theory.specs.Adjust.{Above}
 abbrev pub LARGEST_FUEL : ℕ
 LARGEST_FUEL = 4194304
 
-abbrev pub In_limits : ℕ → Type 0
-In_limits fuel = (1 ≤ fuel) × (fuel ≤ LARGEST_FUEL)
+-- one step at least, and no more than the largest fuel
+abbrev pub InLimits : ℕ → Type 0
+InLimits fuel = (1 ≤ fuel) × (fuel ≤ LARGEST_FUEL)
 
 -- the numbers of core blocks are below this one
 abbrev pub NUMBERS : ℕ
@@ -44,6 +45,7 @@ pub record Store : Type 0 where
   pub inputs : List Block
   pub cores : List (Option Block)
 
+-- the block at a number: none where the number is not there, or has no block
 abbrev pub at_number : Option (Option Block) → Option Block
 at_number None = None
 at_number (Some block) = block
@@ -52,6 +54,7 @@ at_number (Some block) = block
 abbrev pub core : Store → ℕ → Option Block
 core m n = at_number (slice_get m.cores n)
 
+-- the block of a store with this name
 abbrev pub stored_at : Store → BlockId → Option Block
 stored_at m (Input n) = slice_get m.inputs n
 stored_at m (Core n) = core m n
@@ -70,6 +73,7 @@ pub record EngineState : Type 0 where
   pub live : ℕ
   pub work : ℕ
 
+-- the trace that the items stand for, if there are items
 abbrev pub stands_for : Option (List Item) → Option Trace
 stands_for None = None
 stands_for (Some items) = trace_of items
@@ -87,6 +91,7 @@ abbrev pub block_of : List Block → Store → BlockId → Option Block
 block_of inputs m (Input n) = slice_get inputs n
 block_of inputs m (Core n) = core m n
 
+-- the block of an engine with this name
 abbrev pub block_in : EngineState → BlockId → Option Block
 block_in e block = block_of e.inputs e.memory block
 
@@ -95,6 +100,7 @@ abbrev pub fresh_call : Code → List Block → ℕ → Option Call → Option F
 fresh_call code inputs fuel None = None
 fresh_call code inputs fuel (Some call) = fresh code call.function call.args inputs fuel
 
+-- what the run of the engine's call from scratch on its present inputs comes to
 abbrev pub fresh_of : EngineState → Option Finished
 fresh_of e = fresh_call e.code e.inputs e.fuel e.call
 
@@ -115,8 +121,8 @@ pub record IsPresent (e : EngineState) : Type 0 where
   pub is : IsRun e run
 
 -- the trace is one of the call on the present inputs
-abbrev pub Replays_call : EngineState → Trace → Type 0
-Replays_call e l = IfSome e.call (λ call. Replays e.code e.inputs call.function call.args l)
+abbrev pub ReplaysCall : EngineState → Trace → Type 0
+ReplaysCall e l = IfSome e.call (λ call. Replays e.code e.inputs call.function call.args l)
 
 -- What the engine has of its run is what the trace gives, which is honest on the present inputs.
 pub record IsTraced (e : EngineState) (l : Trace) : Type 0 where
@@ -136,7 +142,7 @@ has_run Dropped = false
 -- What is true of every engine.
 pub record IsEngine (e : EngineState) : Type 0 where
   pub valid : valid e.code ≡ true
-  pub fuel : In_limits e.fuel
+  pub fuel : InLimits e.fuel
   -- the inputs fit, and so does the call
   pub inputs : inputs_fit e.code.structs e.inputs ≡ true
   pub call : IfSome e.call (λ call. Fits e.code e.inputs call.function call.args)
@@ -146,7 +152,7 @@ pub record IsEngine (e : EngineState) : Type 0 where
   -- the trace is there where there is a run, and is one of the call
   pub kept : is_some (trace e) ≡ has_run e.phase
   pub flat_form : e.forest ≡ option_map flat (trace e)
-  pub replays : IfSome (trace e) (Replays_call e)
+  pub replays : IfSome (trace e) (ReplaysCall e)
   pub numbers : IfSome (trace e) (Above NUMBERS)
   pub traced : e.phase ≡ IsFinished → IfSome (trace e) (IsTraced e)
   pub present : e.phase ≡ IsFinished → IsPresent e
@@ -160,6 +166,7 @@ edited IsFinished = Pending
 edited Pending = Pending
 edited Dropped = Dropped
 
+-- whether a word fits a field of this kind; none fits a field that is not there
 abbrev pub fits_in : List StructInfo → Blocks → Option FieldKind → Word → Bool
 fits_in structs m None word = false
 fits_in structs m (Some kind) word = fits_field structs m kind word
@@ -173,6 +180,7 @@ takes e p word =
 abbrev pub with_base : List Block → Place → Word → List Block
 with_base inputs p word = (written_at (alone inputs) p.block p.field word).inputs
 
+-- whether there is such a field, and it is a plain one
 abbrev pub is_plain : Option FieldKind → Bool
 is_plain (Some (Plain kind)) = true
 is_plain _ = false
@@ -188,6 +196,7 @@ IfOutOfFuel (Ok x) P = ⊤
 IfOutOfFuel (Err Memory) P = ⊤
 IfOutOfFuel (Err OutOfFuel) P = P
 
+-- what holds where there was no memory
 abbrev pub IfNoMemory : {A : Type 0} → Result A RunError → Type 0 → Type 0
 IfNoMemory (Ok x) P = ⊤
 IfNoMemory (Err Memory) P = P

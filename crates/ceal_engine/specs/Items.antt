@@ -15,5 +15,5 @@ blocks_in (Read place value unit var args ∷ is) = blocks_in is
 blocks_in (End ∷ is) = blocks_in is
 
 -- no number from the bound on is among these
-abbrev pub All_below : ℕ → List ℕ → Type 0
-All_below bound bs = (b : ℕ) → bound ≤ b → count b bs ≡ 0
+abbrev pub AllBelow : ℕ → List ℕ → Type 0
+AllBelow bound bs = (b : ℕ) → bound ≤ b → count b bs ≡ 0

@@ -18,19 +18,20 @@ use Rattle.ceal_code.specs.Replay.{Replays, IsHonest, core_numbers}
 use Rattle.ceal_code.specs.Valid.{valid}
 use Rattle.ceal_code.specs.declared.function.FunctionCode.{FunctionCode}
 use Rattle.ceal_code.specs.declared.function.FunctionCode.TheVariants.{Core as CoreFunction, Init as InitFunction}
-use Rattle.ceal_engine.specs.Engine.{NUMBERS, In_limits, Store, EngineState, has_run, at_number}
-use Rattle.ceal_engine.specs.Items.{blocks_in, All_below}
+use Rattle.ceal_engine.specs.Engine.{NUMBERS, InLimits, Store, EngineState, has_run, at_number}
+use Rattle.ceal_engine.specs.Items.{blocks_in, AllBelow}
 use Rattle.ceal_engine.specs.declared.memory.Stored.{Stored}
 use Rattle.ceal_engine.specs.declared.phase.Phase.{Phase}
 use Rattle.ceal_engine.specs.declared.phase.Phase.TheVariants.{New, Finished as IsFinished}
 use Rattle.ceal_engine.specs.declared.run.Run.{Run}
 use Rattle.ceal_theory.specs.Adjust.{Above}
 
--- a call, and room for so many arguments
+-- a call, and room for the given number of arguments
 pub record Kept : Type 0 where
   pub call : Option Call
   pub room : ℕ
 
+-- a call as the engine keeps it: what it is, and the room of its arguments
 abbrev pub kept_of : Option ℕ → Vec Word → Kept
 kept_of function args = record {
   call = option_map (λ f. record { function = f; args = args.items }) function;
@@ -38,9 +39,9 @@ kept_of function args = record {
 }
 
 -- where nothing was called there are no arguments
-abbrev pub Empty_without : Option ℕ → Vec Word → Type 0
-Empty_without None args = args.items ≡ []
-Empty_without (Some f) args = args.items ≡ args.items
+abbrev pub EmptyWithout : Option ℕ → Vec Word → Type 0
+EmptyWithout None args = args.items ≡ []
+EmptyWithout (Some f) args = args.items ≡ args.items
 
 -- how many arguments a function takes that may be called
 abbrev pub argument_count : Option FunctionCode → ℕ
@@ -48,6 +49,7 @@ argument_count None = 0
 argument_count (Some (CoreFunction name entry params)) = length params
 argument_count (Some (InitFunction name s params body)) = 0
 
+-- the items of a run
 abbrev pub forest_in : Option Run → Option (List Item)
 forest_in None = None
 forest_in (Some run) = Some run.forest
@@ -56,18 +58,22 @@ forest_in (Some run) = Some run.forest
 abbrev pub with_later : List Block → List Block → List Block
 with_later ran inputs = ran ++ drop (length ran) inputs
 
+-- the memory after a run, with the present inputs; without a run these alone
 abbrev pub store_in : Option Run → List Block → Store
 store_in None inputs = record { inputs = inputs; cores = [] }
 store_in (Some run) inputs = record { inputs = with_later run.stored.inputs.items inputs; cores = run.stored.cores.items }
 
+-- the steps that a run counts
 abbrev pub steps_kept : Option Run → ℕ
 steps_kept None = 0
 steps_kept (Some run) = run.counts.steps
 
+-- the core blocks that a run counts
 abbrev pub live_kept : Option Run → ℕ
 live_kept None = 0
 live_kept (Some run) = run.counts.live
 
+-- what contracts see of an engine of these parts
 abbrev pub state_of : Code → ℕ → List Block → Option Call → Phase → Option Run → ℕ → EngineState
 state_of code fuel inputs call phase run work = record {
   code = code;
@@ -95,7 +101,7 @@ pub record IsMade (code : Code) (inputs : List Block) (items : List Item) (run :
   pub forest : run.forest ≡ items
   pub steps : run.counts.steps ≡ steps_in items
   pub live : run.counts.live ≡ length (blocks_in items)
-  pub above : All_below run.counts.bound (core_numbers (blocks_in items))
+  pub above : AllBelow run.counts.bound (core_numbers (blocks_in items))
   pub room : run.counts.bound ≤ NUMBERS
   pub stored : (l : Trace) → items ≡ flat l → IsStored code inputs l run.counts.bound run.stored
 
@@ -123,6 +129,7 @@ pub record IsKept (code : Code) (fuel : ℕ) (inputs : List Block) (phase : Phas
   pub of : IsRunOf code fuel inputs call run trace
   pub present : phase ≡ IsFinished → IsUpToDate code inputs run trace
 
+-- A run is kept where the phase says so: it is one of the call.
 abbrev pub Keeps : Code → ℕ → List Block → Phase → Option Call → Option Run → Type 0
 Keeps code fuel inputs phase call None = has_run phase ≡ false
 Keeps code fuel inputs phase None (Some run) = ⊥
@@ -131,7 +138,7 @@ Keeps code fuel inputs phase (Some call) (Some run) = IsKept code fuel inputs ph
 -- what is true of every engine inside
 pub record Sound (code : Code) (fuel : ℕ) (inputs : List Block) (call : Kept) (phase : Phase) (run : Option Run) : Type 0 where
   pub is_valid : valid code ≡ true
-  pub limits : In_limits fuel
+  pub limits : InLimits fuel
   pub fit : inputs_fit code.structs inputs ≡ true
   pub count : length inputs < 2 ^ 32
   pub calls : IfSome call.call (λ call. Fits code inputs call.function call.args)

@@ -1,6 +1,8 @@
+-- what the crate promises
 pub mod Engine
 pub mod Repaired
-pub mod Items
-pub mod Numbers
 pub mod Keeping
 pub mod Completed
+-- what its own functions say of each other
+pub mod Items
+pub mod Numbers

@@ -3,7 +3,7 @@ use Rattle.std.specs.Prelude.{◌≡◌, ℕ, Option, Some, None, List}
 use Rattle.ceal_base.specs.Block.{Block}
 use Rattle.ceal_base.specs.Trace.{Trace, steps_of}
 use Rattle.ceal_base.specs.declared.call.Call.{Call}
-use Rattle.ceal_code.specs.Alike.{Pairs, One_to_one, Trace_alike}
+use Rattle.ceal_code.specs.Alike.{Pairs, OneToOne, TraceAlike}
 use Rattle.ceal_code.specs.Program.{Code}
 use Rattle.ceal_engine.specs.Engine.{EngineState, trace}
 use Rattle.ceal_theory.specs.Adjust.{Above}
@@ -14,14 +14,15 @@ use Rattle.ceal_theory.specs.Repair.{Single}
 -- the second trace is the first one with its core blocks renamed one to one
 pub record IsRenamed (l m : Trace) : Type 0 where
   pub pairs : Pairs
-  pub one : One_to_one pairs
-  pub alike : Trace_alike pairs l m
+  pub one : OneToOne pairs
+  pub alike : TraceAlike pairs l m
 
 -- the first trace of the call on the present inputs
 abbrev pub first_call : Code → List Block → ℕ → Option Call → Option Repaired
 first_call code inputs fuel None = None
 first_call code inputs fuel (Some call) = first_of code inputs fuel call.function call.args
 
+-- the first trace of the engine's call on its present inputs
 abbrev pub first_trace : EngineState → Option Repaired
 first_trace e = first_call e.code e.inputs e.fuel e.call
 

@@ -3,7 +3,7 @@
 ghost use Rattle.std.specs.Prelude.{◌≡◌, ◌+◌, ◌≤◌, ◌∷◌, [], ℕ, length, IfOk, OnOk};
 ghost use Rattle.ceal_base.specs.Trace.{steps_in};
 ghost use Rattle.ceal_code.specs.Replay.{core_numbers, count};
-ghost use Rattle.ceal_engine.specs.Items.{blocks_in, All_below};
+ghost use Rattle.ceal_engine.specs.Items.{blocks_in, AllBelow};
 
 use ceal_base::forest::Item;
 use ceal_base::no_memory::NoMemory;
@@ -17,7 +17,7 @@ pub struct Counts {
     pub bound: u32,
 }
 
-/// The next number; for so many steps or blocks there is no memory.
+/// The next number. An overflow is told as `NoMemory`: that many steps or blocks cannot be in memory.
 fn one_more(n: u32) -> Result<u32, NoMemory>
     ensures { IfOk result (λ m. m ≡ n + 1) }
 {
@@ -30,7 +30,7 @@ fn one_more(n: u32) -> Result<u32, NoMemory>
 /// A number above a core block's, and above those below the bound.
 fn raised(bound: u32, block: BlockId) -> Result<u32, NoMemory>
     ensures raises { IfOk result (λ b. bound ≤ b) }
-    ensures above { IfOk result (λ b. All_below b (core_numbers (block ∷ []))) }
+    ensures above { IfOk result (λ b. AllBelow b (core_numbers (block ∷ []))) }
 {
     match block {
         BlockId::Input(_) => Ok(bound),
@@ -49,7 +49,7 @@ impl Counts {
             (self.new.live ≡ self.old.live + length (blocks_in (item.now ∷ []))) }
         ensures raises { OnOk result (self.old.bound ≤ self.new.bound) }
         ensures above { OnOk result
-            (All_below self.new.bound (core_numbers (blocks_in (item.now ∷ [])))) }
+            (AllBelow self.new.bound (core_numbers (blocks_in (item.now ∷ [])))) }
     {
         match item {
             Item::Step => {
@@ -71,7 +71,7 @@ impl Counts {
     pub fn of(items: &[Item]) -> Result<Counts, NoMemory>
         ensures steps { IfOk result (λ c. c.steps ≡ steps_in items.now) }
         ensures live { IfOk result (λ c. c.live ≡ length (blocks_in items.now)) }
-        ensures above { IfOk result (λ c. All_below c.bound (core_numbers (blocks_in items.now))) }
+        ensures above { IfOk result (λ c. AllBelow c.bound (core_numbers (blocks_in items.now))) }
     {
         let mut counts = Counts {
             steps: 0,

@@ -3,7 +3,7 @@
 ghost use Rattle.std.specs.Prelude.{◌≡◌, ◌<◌, ◌^◌, length, IfOk};
 ghost use Rattle.ceal_code.specs.Replay.{core_numbers};
 ghost use Rattle.ceal_engine.specs.Completed.{IsDraft, IsSettled};
-ghost use Rattle.ceal_engine.specs.Items.{blocks_in, All_below};
+ghost use Rattle.ceal_engine.specs.Items.{blocks_in, AllBelow};
 
 use crate::counts::Counts;
 use crate::rename::Names;
@@ -31,7 +31,7 @@ impl Draft {
         forest: Forest,
         work: u32,
     ) -> Result<Draft, NoMemory>
-        requires above { All_below next (core_numbers (blocks_in old.now)) }
+        requires above { AllBelow next (core_numbers (blocks_in old.now)) }
         ensures { IfOk result (λ draft. IsDraft old.now next forest work draft) }
     {
         let counts = Counts::of(forest.items())?;

@@ -1,6 +1,6 @@
 // The engine.
 
-ghost use Rattle.std.specs.Prelude.{◌≡◌, ◌∷◌, [], ◌++◌, ◌<◌, ◌+◌, ◌^◌, true, Some, None, IfOk, IfSome, IsSome, IsOk, OnOk, OnErr, List, length, slice_get};
+ghost use Rattle.std.specs.Prelude.{◌≡◌, ◌∷◌, [], ◌++◌, ◌<◌, ◌+◌, ◌^◌, true, Some, None, IfOk, IfSome, IsSome, IsOk, OnOk, OnErr, MatchOption, List, length, slice_get};
 ghost use Rattle.std.specs.Option.{option_map, IsSomeAnd};
 ghost use Rattle.ceal_base.specs.Access.{word_in};
 ghost use Rattle.ceal_base.specs.Block.{Block};
@@ -11,7 +11,7 @@ ghost use Rattle.ceal_code.specs.Fitting.{Fits};
 ghost use Rattle.ceal_code.specs.Replay.{IsHonest};
 ghost use Rattle.ceal_code.specs.Valid.{valid};
 ghost use Rattle.ceal_code.specs.Value.{is_cell};
-ghost use Rattle.ceal_engine.specs.Engine.{In_limits, alone, block_in, block_of, core, stored_at, trace, edited, takes, with_base, is_plain, fresh_of, IsPresent, IsEngine, Shows, IfOutOfFuel};
+ghost use Rattle.ceal_engine.specs.Engine.{InLimits, alone, block_in, block_of, core, stored_at, trace, edited, takes, with_base, is_plain, fresh_of, IsPresent, IsEngine, Shows, IfOutOfFuel};
 ghost use Rattle.ceal_engine.specs.Completed.{finished, IsDraftOf, IsFirstRun, IsOldRun, IsRepairOf};
 ghost use Rattle.ceal_engine.specs.Keeping.{Keeps, store_in};
 ghost use Rattle.ceal_engine.specs.Repaired.{IsFirst, IsRepaired, IsUnchanged};
@@ -89,7 +89,7 @@ impl Engine {
     /// An engine without inputs. A run may take `fuel` steps. It takes the room for the arguments of a call.
     pub fn new(alloc: Global, code: Code, fuel: u32) -> Result<Engine, NoMemory>
         requires valid { valid code ≡ true }
-        requires fuel { In_limits fuel }
+        requires fuel { InLimits fuel }
         ensures code { IfOk result (λ e. e.code ≡ code) }
         ensures fuel { IfOk result (λ e. e.fuel ≡ fuel) }
         ensures inputs { IfOk result (λ e. e.inputs ≡ []) }
@@ -415,6 +415,17 @@ impl Engine {
         match &self.run {
             Some(run) => run.forest.copy(),
             None => Err(NoMemory),
+        }
+    }
+
+    /// The function and the arguments of the call, if there is one.
+    pub fn call(&self) -> Option<(u32, &[Word])>
+        ensures value { MatchOption result (self.now.call ≡ None) (λ call. self.now.call
+            ≡ Some (record { function = call.0; args = call.1.now })) }
+    {
+        match self.call.function() {
+            None => None,
+            Some(function) => Some((function, self.call.args())),
         }
     }
 

@@ -18,17 +18,17 @@ pub struct KeptCall {
 }
 
 impl Model for KeptCall {
-    ghost use Rattle.ceal_engine.specs.Keeping.{Kept, kept_of, Empty_without};
+    ghost use Rattle.ceal_engine.specs.Keeping.{Kept, kept_of, EmptyWithout};
 
     ghost Value = { Kept };
 
     ghost view = { λ k. kept_of k.function k.args };
 
-    ghost invariant = { λ k. Empty_without k.function k.args };
+    ghost invariant = { λ k. EmptyWithout k.function k.args };
 }
 
 impl KeptCall {
-    /// No call, and room for so many arguments.
+    /// No call, and room for `room` arguments.
     pub fn new(alloc: Global, room: usize) -> Result<KeptCall, NoMemory>
         ensures call { IfOk result (λ k. k.call ≡ None) }
         ensures room { IfOk result (λ k. room ≤ k.room) }

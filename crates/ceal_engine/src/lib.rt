@@ -1,4 +1,5 @@
-//! The engine: runs trace code on inputs, and brings the run up to date after edits of the inputs.
+//! The engine: runs trace code on inputs, and brings the run up to date after edits of the inputs, by change propagation
+//! (Acar, *Self-Adjusting Computation*, 2005).
 //!
 //! `specs/Engine` says what an engine has: the trace of its last run, and what a finished run came to, which is the run
 //! from scratch on its present inputs up to the numbers of its core blocks. `specs/Repaired` says what becomes of the

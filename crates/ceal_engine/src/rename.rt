@@ -2,7 +2,7 @@
 
 ghost use Rattle.std.specs.Prelude.{◌≡◌, ◌<◌, ◌≤◌, ◌+◌, ◌^◌, ◌∷◌, [], ℕ, Bool, true, Some, List, length, slice_get, IfOk, OnOk};
 ghost use Rattle.ceal_code.specs.Replay.{core_numbers, count};
-ghost use Rattle.ceal_engine.specs.Items.{blocks_in, All_below};
+ghost use Rattle.ceal_engine.specs.Items.{blocks_in, AllBelow};
 ghost use Rattle.ceal_engine.specs.Numbers.{renamed, AreFree, AreNew};
 ghost use Rattle.ceal_theory.specs.Named.{id_by, key_by, place_by, word_by, words_by};
 ghost use Rattle.ceal_theory.specs.Segments.{item_by, items_by};
@@ -69,7 +69,7 @@ fn taken_numbers(alloc: Global, items: &[Item], bound: u32) -> Result<Vec<bool>,
     Ok(taken)
 }
 
-/// Adds a number, if it is not marked and there are not so many yet.
+/// Adds a number, if it is not marked and there are fewer than `wanted` yet.
 #[tactic(auto, using(crate::proofs::Numbers::number_steps))]
 fn add_if_free(numbers: &mut Vec<u32>, taken: &[bool], n: u32, wanted: u32) -> Result<(), NoMemory>
     requires there { n < length taken.now }
@@ -87,7 +87,7 @@ fn add_if_free(numbers: &mut Vec<u32>, taken: &[bool], n: u32, wanted: u32) -> R
     Ok(())
 }
 
-/// The least numbers below the bound that are not marked, so many of them at most.
+/// The least numbers below the bound that are not marked, at most `wanted` of them.
 fn free_numbers(
     alloc: Global,
     taken: &[bool],
@@ -105,7 +105,7 @@ fn free_numbers(
     Ok(numbers)
 }
 
-/// Adds numbers from the bound on, until there are so many.
+/// Adds numbers from the bound on, until there are `wanted`.
 fn add_numbers(numbers: &mut Vec<u32>, bound: u32, wanted: u32) -> Result<(), NoMemory>
     requires few { length numbers.old.items ≤ wanted }
     requires room { bound + wanted < 2 ^ 32 }
@@ -122,9 +122,9 @@ fn add_numbers(numbers: &mut Vec<u32>, bound: u32, wanted: u32) -> Result<(), No
 }
 
 impl Names {
-    /// The least numbers that no block of the items has, so many of them; those blocks have numbers below `next`.
+    /// The least `wanted` numbers that no block of the items has; those blocks have numbers below `next`.
     pub fn new(alloc: Global, items: &[Item], next: u32, wanted: u32) -> Result<Names, NoMemory>
-        requires above { All_below next (core_numbers (blocks_in items.now)) }
+        requires above { AllBelow next (core_numbers (blocks_in items.now)) }
         requires room { next + wanted < 2 ^ 32 }
         ensures next { IfOk result (λ names. names.next ≡ next) }
         ensures count { IfOk result (λ names. length names.numbers.items ≡ wanted) }

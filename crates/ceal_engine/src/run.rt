@@ -26,7 +26,7 @@ pub struct Completed {
     pub work: u32,
 }
 
-/// So many numbers for core blocks there are: twice as many as a run may take steps. A trace has no more blocks than
+/// How many numbers for core blocks there are: twice as many as a run may take steps. A trace has no more blocks than
 /// steps, and new ones get the least numbers that the old trace has not, so that no number comes to it; a trace with
 /// such a number would be told as want of memory.
 const NUMBERS: u32 = 8_388_608;

@@ -5,7 +5,7 @@ use Rattle.std.specs.List.{list_any, AllByRecursion}
 use Rattle.std.proofs.lemmas.List.{length-map}
 use Rattle.std.proofs.lemmas.List.Folds.{list_any-append}
 use Rattle.ceal_many.specs.Alone.{own_line, own_lines, own_text, own_texts, AnswersAlone, with_name, names_with, names_after}
-use Rattle.ceal_many.specs.Laws.{names_of, HasSession, HasNoSession, IsDetermined, Own_replies_law, Refused_law, Names_law, Alone_law}
+use Rattle.ceal_many.specs.Laws.{names_of, HasSession, HasNoSession, IsDetermined, OwnRepliesLaw, RefusedLaw, NamesLaw, AloneLaw}
 use Rattle.ceal_many.specs.Lines.{Said, Blank, For, Unreadable, said}
 use Rattle.ceal_many.specs.Prefixes.{full_text, prefixed}
 use Rattle.ceal_many.specs.Replies.{Writes, AnswersUnless, AnswersSaid, AreReplies}
@@ -207,16 +207,16 @@ module _ {S : Type 0} (answers : S → List ℕ → List ℕ → S → Type 0) (
         alone-one det lines h.1 h.2 k.2 h.4 (subst (λ (m : S). AnswersAlone answers name m lines k.2) state k.4) in
         h.5 ∙ ap₂ ◌∷◌ text rest ∙ sym k.5
 
-pub own-law : {S : Type 0} (answers : S → List ℕ → List ℕ → S → Type 0) → Own_replies_law answers
+pub own-law : {S : Type 0} (answers : S → List ℕ → List ℕ → S → Type 0) → OwnRepliesLaw answers
 own-law answers opening ss next lines texts name h k = own answers opening name lines ss next texts h k
 
-pub refused-law : {S : Type 0} (answers : S → List ℕ → List ℕ → S → Type 0) → Refused_law answers
+pub refused-law : {S : Type 0} (answers : S → List ℕ → List ℕ → S → Type 0) → RefusedLaw answers
 refused-law answers opening ss next lines texts name h k = refused answers opening name lines ss next texts h k
 
-pub names-law : {S : Type 0} (answers : S → List ℕ → List ℕ → S → Type 0) → Names_law answers
+pub names-law : {S : Type 0} (answers : S → List ℕ → List ℕ → S → Type 0) → NamesLaw answers
 names-law answers opening ss next lines texts h = names answers opening lines ss next texts h
 
-pub alone-law : {S : Type 0} (answers : S → List ℕ → List ℕ → S → Type 0) → Alone_law answers
+pub alone-law : {S : Type 0} (answers : S → List ℕ → List ℕ → S → Type 0) → AloneLaw answers
 unfolding state_of
 alone-law answers opening next after lines others texts told name det h k has-h has-k same =
     alone-one answers opening name det (own_lines name others) opening (own_texts name lines texts) (own_texts name others told)

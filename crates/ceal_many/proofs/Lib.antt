@@ -1,3 +1,6 @@
+-- what crates above cite
+pub mod Callers
+-- the rest
 mod PrefixSteps
 mod SessionLaws
 mod AloneLaws
@@ -5,5 +8,4 @@ mod SomeLaws
 mod Answering
 mod Finding
 mod Replying
-pub mod Callers
 mod Samples

@@ -2,7 +2,7 @@
 use Rattle.std.proofs.Common.{ℕ, Bool, true, false, Some, List, [], ◌∷◌, refl, sym, subst}
 use Rattle.std.specs.Prelude.{unwrap_or, bytes_eq, if◌then◌else◌}
 use Rattle.ceal_many.specs.Kept.{AllMeet}
-use Rattle.ceal_many.specs.Laws.{Keeps, Kept_law, GoesOn, Some_reply_law}
+use Rattle.ceal_many.specs.Laws.{Keeps, KeptLaw, GoesOn, SomeReplyLaw}
 use Rattle.ceal_many.specs.Lines.{Said, Blank, For, Unreadable, said}
 use Rattle.ceal_many.specs.Prefixes.{full_text, unreadable_text, prefixed}
 use Rattle.ceal_many.specs.Replies.{AnswersUnless, AnswersSaid, AreReplies}
@@ -66,8 +66,8 @@ module _ {S : Type 0} (needs : S → Type 0) where
         let b = some-lines goes lines a.1 a.3 in
         (a.0 ∷ b.0, b.1, (a.0, a.1, b.0, a.2, b.2, refl))
 
-pub kept-law : {S : Type 0} (needs : S → Type 0) (answers : Answering S) → Kept_law needs answers
+pub kept-law : {S : Type 0} (needs : S → Type 0) (answers : Answering S) → KeptLaw needs answers
 kept-law needs answers opening ss next line text keeps h m a = kept-said needs answers opening h keeps (said line) text ss next m a
 
-pub some-law : {S : Type 0} (needs : S → Type 0) (answers : Answering S) → Some_reply_law needs answers
+pub some-law : {S : Type 0} (needs : S → Type 0) (answers : Answering S) → SomeReplyLaw needs answers
 some-law needs answers opening ss lines goes h m = some-lines needs answers opening h goes lines ss m

@@ -6,7 +6,7 @@ use Rattle.ceal_many.specs.Replies.{Writes}
 use Rattle.ceal_many.specs.Sessions.{MOST}
 use Rattle.ceal_many.specs.Standing.{Answering}
 
--- the lines that follow, behind this one where it is for the session of the name
+-- the lines that follow, after this one where it is for the session of the name
 abbrev pub own_line : List ℕ → Said → List (List ℕ) → List (List ℕ)
 own_line name Blank lines = lines
 own_line name Unreadable lines = lines
@@ -17,6 +17,7 @@ unfoldable pub own_lines : List ℕ → List (List ℕ) → List (List ℕ)
 own_lines name [] = []
 own_lines name (line ∷ lines) = own_line name (said line) (own_lines name lines)
 
+-- the texts of the lines for a name, with this one where its line is for it
 abbrev pub own_text : List ℕ → Said → List ℕ → List (List ℕ) → List (List ℕ)
 own_text name Blank text texts = texts
 own_text name Unreadable text texts = texts
@@ -39,6 +40,7 @@ AnswersAlone {S} answers name s (line ∷ lines) texts =
 abbrev pub with_name : List (List ℕ) → List ℕ → List (List ℕ)
 with_name names name = if list_any (bytes_eq name) names || nat_le MOST (length names) then names else names ++ name ∷ []
 
+-- the names with that of a line
 abbrev pub names_with : List (List ℕ) → Said → List (List ℕ)
 names_with names Blank = names
 names_with names Unreadable = names

@@ -1,3 +1,4 @@
+-- what the crate promises
 pub mod Standing
 pub mod Lines
 pub mod Prefixes

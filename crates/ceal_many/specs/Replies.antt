@@ -23,6 +23,7 @@ pub record Stays {S : Type 0} (ss : List (Named S)) (told text : List ℕ) (next
   pub written : text ≡ told
   pub same : next ≡ ss
 
+-- a new session is begun for the name, unless there are too many
 abbrev pub AnswersUnless : {S : Type 0} → Bool → Answering S → S → List ℕ → List (Named S) → List ℕ → List ℕ → List (Named S) → Type 0
 AnswersUnless true answers opening name ss line text next = Stays ss full_text text next
 AnswersUnless false answers opening name ss line text next = AnswersAs answers opening name ss line text next
@@ -31,6 +32,7 @@ AnswersUnless false answers opening name ss line text next = AnswersAs answers o
 abbrev pub AnswersFor : {S : Type 0} → Answering S → S → List ℕ → List (Named S) → List ℕ → List ℕ → List (Named S) → Type 0
 AnswersFor answers opening name ss line text next = AnswersUnless (is_refused name ss) answers opening name ss line text next
 
+-- how a line is answered, by what it says
 abbrev pub AnswersSaid : {S : Type 0} → Answering S → S → List (Named S) → Said → List ℕ → List (Named S) → Type 0
 AnswersSaid answers opening ss Blank text next = Stays ss [] text next
 AnswersSaid answers opening ss Unreadable text next = Stays ss unreadable_text text next
@@ -49,9 +51,11 @@ abbrev pub LeavesAs : {S : Type 0} → Option S → Answering S → Leaving S �
 LeavesAs None answers leaves name ss line next = next ≡ ss
 LeavesAs {S} (Some s) answers leaves name ss line next = (n : S) × LeavesOne answers leaves s line n × (next ≡ with_state name n ss)
 
+-- which sessions a line for a name leaves
 abbrev pub LeavesFor : {S : Type 0} → Answering S → Leaving S → List ℕ → List (Named S) → List ℕ → List (Named S) → Type 0
 LeavesFor answers leaves name ss line next = LeavesAs (state_of name ss) answers leaves name ss line next
 
+-- which sessions a line leaves, by what it says
 abbrev pub LeavesSaid : {S : Type 0} → Answering S → Leaving S → List (Named S) → Said → List (Named S) → Type 0
 LeavesSaid answers leaves ss Blank next = next ≡ ss
 LeavesSaid answers leaves ss Unreadable next = next ≡ ss

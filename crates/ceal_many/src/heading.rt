@@ -14,7 +14,7 @@ pub fn is_blank(line: &[u8]) -> bool
     text.is_empty() || is_comment(text)
 }
 
-/// What stands behind the first space or tab, if there is one.
+/// What follows the first space or tab, if there is one.
 fn behind_word(text: &[u8]) -> &[u8]
     ensures { result.now ≡ lines.behind_word text.now }
 {
@@ -26,7 +26,7 @@ fn behind_word(text: &[u8]) -> &[u8]
     }
 }
 
-/// A name, and the line behind it.
+/// A name, and the line after it.
 fn named(text: &[u8]) -> Option<(&[u8], &[u8])>
     ensures { MatchOption result (lines.named text.now ≡ Unreadable)
         (λ found. lines.named text.now ≡ For found.0.now found.1.now) }

@@ -194,7 +194,3 @@ module _ (s : State) where
   pub called-first : (o : Option ℕ) (senses : List Sense) (call : Call) → called s o senses ≡ Ok call → IsFirst s call
   called-first None senses call h = absurd (grind (arith, h))
   called-first (Some n) senses call h = function-first n (slice_get s.program.functions n) senses call refl h
-
-  pub accepted-first : (o : Option ℕ) (senses : List Sense) (r : Result Call Refusal) → r ≡ called s o senses → IfOk r (λ call. IsFirst s call)
-  accepted-first o senses (Ok call) e = called-first o senses call (sym e)
-  accepted-first o senses (Err r) e = tt

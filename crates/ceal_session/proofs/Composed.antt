@@ -6,9 +6,9 @@ use Rattle.ceal_base.specs.declared.word.BlockId.{BlockId}
 use Rattle.ceal_base.specs.declared.word.Place.{Place}
 use Rattle.ceal_base.specs.declared.word.Word.{Word}
 use Rattle.ceal_code.proofs.Same.{nat-refl, nat-same}
-use Rattle.ceal_code.specs.Alike.{Pair, Pairs, Tied, Id_alike, Place_alike, Word_alike, Words_alike, Key_alike, Trace_alike, One_to_one}
+use Rattle.ceal_code.specs.Alike.{Pair, Pairs, Tied, IdAlike, PlaceAlike, WordAlike, WordsAlike, KeyAlike, TraceAlike, OneToOne}
 use Rattle.ceal_theory.specs.Computed.{Repaired}
-use Rattle.ceal_theory.specs.Laws.{Renamed_repair}
+use Rattle.ceal_theory.specs.Laws.{RenamedRepair}
 
 -- the pairs of b with what c stands for
 abbrev pub through : ℕ → ℕ → Pairs → Pairs
@@ -94,7 +94,7 @@ between (p ∷ ps) qs b d t = elim (tied-parts b d (through p.left p.right qs) (
   | inr r ↦ let h = between ps qs b d r in record { middle = h.middle; one = Tied.there h.one; other = h.other }
 ]
 
-pub one-composed : (ps qs : Pairs) → One_to_one ps → One_to_one qs → One_to_one (composed ps qs)
+pub one-composed : (ps qs : Pairs) → OneToOne ps → OneToOne qs → OneToOne (composed ps qs)
 one-composed ps qs one two = record {
   left = λ b c d s t.
       let x = between ps qs b c s in
@@ -107,37 +107,37 @@ one-composed ps qs one two = record {
 }
 
 module _ (ps qs : Pairs) where
-  id-composed : {a b c : BlockId} → Id_alike ps a b → Id_alike qs b c → Id_alike (composed ps qs) a c
-  id-composed Id_alike.input Id_alike.input = Id_alike.input
-  id-composed (Id_alike.core {b = a} {c = b} t) (Id_alike.core {c = c} u) = Id_alike.core (tied-composed ps qs a b c t u)
+  id-composed : {a b c : BlockId} → IdAlike ps a b → IdAlike qs b c → IdAlike (composed ps qs) a c
+  id-composed IdAlike.input IdAlike.input = IdAlike.input
+  id-composed (IdAlike.core {b = a} {c = b} t) (IdAlike.core {c = c} u) = IdAlike.core (tied-composed ps qs a b c t u)
 
-  place-composed : {p q r : Place} → Place_alike ps p q → Place_alike qs q r → Place_alike (composed ps qs) p r
+  place-composed : {p q r : Place} → PlaceAlike ps p q → PlaceAlike qs q r → PlaceAlike (composed ps qs) p r
   place-composed h k = record { block = id-composed h.block k.block; field = h.field ∙ k.field }
 
-  word-composed : {u v w : Word} → Word_alike ps u v → Word_alike qs v w → Word_alike (composed ps qs) u w
-  word-composed Word_alike.num Word_alike.num = Word_alike.num
-  word-composed Word_alike.null Word_alike.null = Word_alike.null
-  word-composed (Word_alike.block h) (Word_alike.block k) = Word_alike.block (id-composed h k)
-  word-composed (Word_alike.at h) (Word_alike.at k) = Word_alike.at (place-composed h k)
+  word-composed : {u v w : Word} → WordAlike ps u v → WordAlike qs v w → WordAlike (composed ps qs) u w
+  word-composed WordAlike.num WordAlike.num = WordAlike.num
+  word-composed WordAlike.null WordAlike.null = WordAlike.null
+  word-composed (WordAlike.block h) (WordAlike.block k) = WordAlike.block (id-composed h k)
+  word-composed (WordAlike.at h) (WordAlike.at k) = WordAlike.at (place-composed h k)
 
-  words-composed : {us vs ws : List Word} → Words_alike ps us vs → Words_alike qs vs ws → Words_alike (composed ps qs) us ws
-  words-composed Words_alike.none Words_alike.none = Words_alike.none
-  words-composed (Words_alike.more h hs) (Words_alike.more k ks) = Words_alike.more (word-composed h k) (words-composed hs ks)
+  words-composed : {us vs ws : List Word} → WordsAlike ps us vs → WordsAlike qs vs ws → WordsAlike (composed ps qs) us ws
+  words-composed WordsAlike.none WordsAlike.none = WordsAlike.none
+  words-composed (WordsAlike.more h hs) (WordsAlike.more k ks) = WordsAlike.more (word-composed h k) (words-composed hs ks)
 
-  key-composed : {j k l : Key} → Key_alike ps j k → Key_alike qs k l → Key_alike (composed ps qs) j l
-  key-composed (Key_alike.init h) (Key_alike.init k) = Key_alike.init (words-composed h k)
-  key-composed Key_alike.int Key_alike.int = Key_alike.int
-  key-composed Key_alike.pointer Key_alike.pointer = Key_alike.pointer
+  key-composed : {j k l : Key} → KeyAlike ps j k → KeyAlike qs k l → KeyAlike (composed ps qs) j l
+  key-composed (KeyAlike.init h) (KeyAlike.init k) = KeyAlike.init (words-composed h k)
+  key-composed KeyAlike.int KeyAlike.int = KeyAlike.int
+  key-composed KeyAlike.pointer KeyAlike.pointer = KeyAlike.pointer
 
-  pub trace-composed : {k l m : Trace} → Trace_alike ps k l → Trace_alike qs l m → Trace_alike (composed ps qs) k m
-  trace-composed Trace_alike.nothing Trace_alike.nothing = Trace_alike.nothing
-  trace-composed (Trace_alike.stepped h) (Trace_alike.stepped k) = Trace_alike.stepped (trace-composed h k)
-  trace-composed (Trace_alike.allocated b k h) (Trace_alike.allocated b' k' h') = Trace_alike.allocated (id-composed b b') (key-composed k k') (trace-composed h h')
-  trace-composed (Trace_alike.wrote p w h) (Trace_alike.wrote p' w' h') = Trace_alike.wrote (place-composed p p') (word-composed w w') (trace-composed h h')
-  trace-composed (Trace_alike.was_read p w vs i h) (Trace_alike.was_read p' w' vs' i' h') =
-      Trace_alike.was_read (place-composed p p') (word-composed w w') (words-composed vs vs') (trace-composed i i') (trace-composed h h')
+  pub trace-composed : {k l m : Trace} → TraceAlike ps k l → TraceAlike qs l m → TraceAlike (composed ps qs) k m
+  trace-composed TraceAlike.nothing TraceAlike.nothing = TraceAlike.nothing
+  trace-composed (TraceAlike.stepped h) (TraceAlike.stepped k) = TraceAlike.stepped (trace-composed h k)
+  trace-composed (TraceAlike.allocated b k h) (TraceAlike.allocated b' k' h') = TraceAlike.allocated (id-composed b b') (key-composed k k') (trace-composed h h')
+  trace-composed (TraceAlike.wrote p w h) (TraceAlike.wrote p' w' h') = TraceAlike.wrote (place-composed p p') (word-composed w w') (trace-composed h h')
+  trace-composed (TraceAlike.was_read p w vs i h) (TraceAlike.was_read p' w' vs' i' h') =
+      TraceAlike.was_read (place-composed p p') (word-composed w w') (words-composed vs vs') (trace-composed i i') (trace-composed h h')
 
 -- so it is with what repairs come to
-pub renamed-composed : {a b c : Option Repaired} → Renamed_repair a b → Renamed_repair b c → Renamed_repair a c
-renamed-composed Renamed_repair.none Renamed_repair.none = Renamed_repair.none
-renamed-composed (Renamed_repair.some ps one h e) (Renamed_repair.some qs two k f) = Renamed_repair.some (composed ps qs) (one-composed ps qs one two) (trace-composed ps qs h k) (e ∙ f)
+pub renamed-composed : {a b c : Option Repaired} → RenamedRepair a b → RenamedRepair b c → RenamedRepair a c
+renamed-composed RenamedRepair.none RenamedRepair.none = RenamedRepair.none
+renamed-composed (RenamedRepair.some ps one h e) (RenamedRepair.some qs two k f) = RenamedRepair.some (composed ps qs) (one-composed ps qs one two) (trace-composed ps qs h k) (e ∙ f)

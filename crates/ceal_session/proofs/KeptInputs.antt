@@ -19,9 +19,9 @@ use Rattle.ceal_code.proofs.Memory.{altered, get-set_other, written-here, writte
 use Rattle.ceal_code.proofs.Same.{nat-same, none-some, some-same, block-same}
 use Rattle.ceal_code.specs.Fitting.{Fits}
 use Rattle.ceal_code.specs.Fresh.{fresh}
-use Rattle.ceal_code.specs.Laws.{Progress_law}
+use Rattle.ceal_code.specs.Laws.{ProgressLaw}
 use Rattle.ceal_code.specs.Program.{Code}
-use Rattle.ceal_code.specs.Running.{Steps, Reaches, Modifiable, Command_there, Stack_there, Not_stuck}
+use Rattle.ceal_code.specs.Running.{Steps, Reaches, Modifiable, CommandThere, StackThere, NotStuck}
 use Rattle.ceal_code.specs.Step.{Stack, Empty, Run, Act, Over, Quiet, Makes, Writes, Reads, command_at, place_of, writes_at, reads_at, settled, act, acted, started, next}
 use Rattle.ceal_code.specs.Valid.{valid}
 use Rattle.ceal_code.specs.Value.{Variables, is_cell, expr_value}
@@ -58,7 +58,7 @@ module _ (code : Code) where
   no-write None u v args below after p value e = absurd (grind (arith, e))
   no-write (Some q) u v args below after p value e = absurd (grind (arith, e))
 
-  command-cell : (m : Blocks) (u i : ℕ) (env : Variables) (below after : Stack) (p : Place) (value : Word) (c : Cmd) → Command_there code m u env c
+  command-cell : (m : Blocks) (u i : ℕ) (env : Variables) (below after : Stack) (p : Place) (value : Word) (c : Cmd) → CommandThere code m u env c
       → act code (block_at m) c u i env below ≡ Writes p value after → is_cell (kind_at code.structs m p) ≡ true
   command-cell m u i env below after p value (Write q e) h a = place-cell m p value _ after _ (expr_value code.structs (block_at m) env q) h.2 a
   command-cell m u i env below after p value (Read v q w args) h a = absurd (no-write _ w _ _ below after p value a)
@@ -71,7 +71,7 @@ module _ (code : Code) where
   command-cell m u i env below after p value (Tail w args) h a = absurd (grind (arith, a))
   command-cell m u i env below after p value (Call g args w rest) h a = absurd (grind (arith, a))
 
-  stack-cell : (m : Blocks) (st after : Stack) (p : Place) (value : Word) → Stack_there code m st → acted code (block_at m) st ≡ Writes p value after
+  stack-cell : (m : Blocks) (st after : Stack) (p : Place) (value : Word) → StackThere code m st → acted code (block_at m) st ≡ Writes p value after
       → is_cell (kind_at code.structs m p) ≡ true
   stack-cell m Empty after p value h e = absurd (grind (arith, e))
   stack-cell m (Run u i env below) after p value h e = command-cell m u i env below after p value (command_at code u i) h.2 e
@@ -121,8 +121,8 @@ module _ (structs : List StructInfo) where
         go None i = absurd (grind (arith, subst (λ o. is_cell (kind_in structs o p.field) ≡ true) i cell))
         go (Some t) i = written-like n a t i (k n a e)
 
-module _ (code : Code) (inputs : List Block) (law : Progress_law) (ok : valid code ≡ true) (f : ℕ) (args : List Word) (fits : Fits code inputs f args) where
-  kept-step : {m m' : Blocks} {st st' : Stack} → Not_stuck code m st → Steps code m st m' st' → Kept code.structs inputs m.inputs → Kept code.structs inputs m'.inputs
+module _ (code : Code) (inputs : List Block) (law : ProgressLaw) (ok : valid code ≡ true) (f : ℕ) (args : List Word) (fits : Fits code inputs f args) where
+  kept-step : {m m' : Blocks} {st st' : Stack} → NotStuck code m st → Steps code m st m' st' → Kept code.structs inputs m.inputs → Kept code.structs inputs m'.inputs
   unfolding next
   kept-step h (Steps.quiet e) k = k
   kept-step h (Steps.makes e) k = k

@@ -4,17 +4,17 @@ use Rattle.ceal_base.specs.Finished.{Finished}
 use Rattle.ceal_base.specs.declared.call.Call.{Call}
 use Rattle.ceal_code.proofs.Same.{none-some}
 use Rattle.ceal_code.specs.Fitting.{Fits}
-use Rattle.ceal_code.specs.Laws.{Progress_law}
+use Rattle.ceal_code.specs.Laws.{ProgressLaw}
 use Rattle.ceal_code.specs.Program.{Code}
 use Rattle.ceal_code.specs.Replay.{Replays}
 use Rattle.ceal_script.specs.declared.command.Command.{Command}
 use Rattle.ceal_session.proofs.Answering.{can-tell-line}
 use Rattle.ceal_session.proofs.Composed.{renamed-composed}
-use Rattle.ceal_session.proofs.SomeReply.{Accepted, Repair_laws, Line_law, Whole_law, Text_law, accepted-in, behind, fits-call}
+use Rattle.ceal_session.proofs.SomeReply.{Accepted, RepairLaws, LineLaw, WholeLaw, TextLaw, accepted-in, behind, fits-call}
 use Rattle.ceal_session.proofs.Tracing.{is-above, on-itself, above}
 use Rattle.ceal_session.specs.Asking.{CanTell, IsReady}
 use Rattle.ceal_session.specs.Following.{Goes, Repairs}
-use Rattle.ceal_session.specs.Laws.{Kept, Kept_law, One_command_law}
+use Rattle.ceal_session.specs.Laws.{Kept, KeptLaw, OneCommandLaw}
 use Rattle.ceal_session.specs.Runs.{present_run, run_of}
 use Rattle.ceal_session.specs.Standing.{IsTraceOf, IsWorkOf, Stands}
 use Rattle.ceal_session.specs.State.{State, Situation, last}
@@ -27,7 +27,7 @@ use Rattle.ceal_session.specs.declared.reply.Query.TheVariants.{Get, Show, Block
 use Rattle.ceal_session.specs.declared.reply.Reply.{Reply}
 use Rattle.ceal_session.specs.declared.reply.Reply.TheVariants.{Nothing, Ok as Done, OutOfFuel, Refused, Told}
 use Rattle.ceal_theory.specs.Computed.{Repaired}
-use Rattle.ceal_theory.specs.Laws.{Renamed_repair, Renamed_repair_law}
+use Rattle.ceal_theory.specs.Laws.{RenamedRepair, RenamedRepairLaw}
 
 -- the number is looked into by the question for it alone
 told-other : (s : State) (v w : ℕ) → v ≡ w → (q : Query) (o : Option Finished) (text : List ℕ) → TellsOf s v q o text → TellsOf s w q o text
@@ -47,19 +47,19 @@ ready-trace code s (Some call) None i t r = absurd (let k = r.run in grind (arit
 ready-trace code s (Some call) (Some l) i t r = (l, refl)
 
 -- both traces have one work number
-same-work : {a b : Option Repaired} → Renamed_repair a b → (work : ℕ) → IsWorkOf a work → (l : Repaired) → a ≡ Some l → latest_work b ≡ work
-same-work Renamed_repair.none work i l e = none-some l e
-same-work (Renamed_repair.some ps one alike w) work i l e = sym (i ∙ w)
+same-work : {a b : Option Repaired} → RenamedRepair a b → (work : ℕ) → IsWorkOf a work → (l : Repaired) → a ≡ Some l → latest_work b ≡ work
+same-work RenamedRepair.none work i l e = none-some l e
+same-work (RenamedRepair.some ps one alike w) work i l e = sym (i ∙ w)
 
-module _ (renamed : Renamed_repair_law) (code : Code) (s : State) where
+module _ (renamed : RenamedRepairLaw) (code : Code) (s : State) where
   -- the repairs of alike traces are alike
-  alike-behind : (call : Call) → Fits code s.inputs call.function call.args → {a b : Option Repaired} → Renamed_repair a b
+  alike-behind : (call : Call) → Fits code s.inputs call.function call.args → {a b : Option Repaired} → RenamedRepair a b
       → ((l : Repaired) → a ≡ Some l → Replays code s.inputs call.function call.args l.items) → (c : Option Repaired)
-      → Renamed_repair (trace_behind code s (Ok call) b) c → Renamed_repair (trace_behind code s (Ok call) a) c
-  alike-behind call fits Renamed_repair.none h c k = k
-  alike-behind call fits (Renamed_repair.some {a = a} {b = b} ps one alike work) h c k = go (is_some (run_of s call)) k
+      → RenamedRepair (trace_behind code s (Ok call) b) c → RenamedRepair (trace_behind code s (Ok call) a) c
+  alike-behind call fits RenamedRepair.none h c k = k
+  alike-behind call fits (RenamedRepair.some {a = a} {b = b} ps one alike work) h c k = go (is_some (run_of s call)) k
     where
-      go : (e : Bool) → Renamed_repair (if e then traced code s call (Some b) else None) c → Renamed_repair (if e then traced code s call (Some a) else None) c
+      go : (e : Bool) → RenamedRepair (if e then traced code s call (Some b) else None) c → RenamedRepair (if e then traced code s call (Some a) else None) c
       go false j = j
       go true j =
           renamed-composed
@@ -73,11 +73,11 @@ module _ (renamed : Renamed_repair_law) (code : Code) (s : State) where
   replays-call call o last (inl none) t l e = none-some l (sym (subst (λ o. IsTraceOf code s o last) none t) ∙ e)
   replays-call call o last (inr same) t l e = (subst (λ l. IsTraceOf code s (Some call) l) e (subst (λ o. IsTraceOf code s o last) same t)).1
 
-module _ (progress : Progress_law) (line_law : Line_law) (whole_law : Whole_law) (text_law : Text_law) (laws : Repair_laws) (renamed : Renamed_repair_law) (command_law : One_command_law) where
-  module _ (m n : Situation) (before : Option Repaired) (work : ℕ) (st : Stands m.code m.state before) (alike : Renamed_repair before (last m)) where
+module _ (progress : ProgressLaw) (line_law : LineLaw) (whole_law : WholeLaw) (text_law : TextLaw) (laws : RepairLaws) (renamed : RenamedRepairLaw) (command_law : OneCommandLaw) where
+  module _ (m n : Situation) (before : Option Repaired) (work : ℕ) (st : Stands m.code m.state before) (alike : RenamedRepair before (last m)) where
     goes-alike : (called : Result Call Refusal) → ((call : Call) → called ≡ Ok call → Accepted m.state call) → Goes m called n
-        → (n.code ≡ m.code) × Renamed_repair (trace_behind m.code m.state called before) (last n)
-    goes-alike (Err r) h g = (g.code, subst (Renamed_repair before) (sym g.trace) alike)
+        → (n.code ≡ m.code) × RenamedRepair (trace_behind m.code m.state called before) (last n)
+    goes-alike (Err r) h g = (g.code, subst (RenamedRepair before) (sym g.trace) alike)
     goes-alike (Ok call) h g =
         let a = h call refl in (
           g.code,
@@ -85,7 +85,7 @@ module _ (progress : Progress_law) (line_law : Line_law) (whole_law : Whole_law)
               (replays-call renamed m.code m.state call m.state.call before a.only st.traced) (last n) g.trace,
         )
 
-pub kept-law : Progress_law → Line_law → Whole_law → Text_law → Repair_laws → Renamed_repair_law → One_command_law → Kept_law
+pub kept-law : ProgressLaw → LineLaw → WholeLaw → TextLaw → RepairLaws → RenamedRepairLaw → OneCommandLaw → KeptLaw
 kept-law progress line_law whole_law text_law laws renamed command_law m n before work line text st i alike answers repairs =
     let same = command_law line repairs.command answers.command repairs.reads answers.reads in
     let goes = subst (λ c. Goes m (call_in m.state c) n) same repairs.goes in

@@ -1,8 +1,10 @@
+-- what crates above cite
+pub mod Compiled
+-- the rest
 pub mod FitsSteps
 pub mod SenseSteps
 pub mod ReplySteps
 pub mod KeptInputs
-pub mod Compiled
 pub mod SourceRun
 pub mod Store
 pub mod Seen
@@ -14,3 +16,4 @@ pub mod Extending
 pub mod Tracing
 pub mod SomeReply
 pub mod KeptLine
+pub mod Recording

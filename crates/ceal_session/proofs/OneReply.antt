@@ -7,7 +7,7 @@ use Rattle.ceal_base.specs.declared.word.BlockId.{BlockId}
 use Rattle.ceal_base.specs.declared.word.BlockId.TheVariants.{Input}
 use Rattle.ceal_script.specs.Lines.{IsLineOf}
 use Rattle.ceal_script.specs.declared.command.Command.{Command}
-use Rattle.ceal_session.specs.Laws.{One_command_law, One_reply_law, One_state_law, One_script_law, One_works_law}
+use Rattle.ceal_session.specs.Laws.{OneCommandLaw, OneReplyLaw, OneStateLaw, OneScriptLaw, OneWorksLaw}
 use Rattle.ceal_session.specs.Replies.{Reads, Works, taken, AreReplies, AreWorks}
 use Rattle.ceal_session.specs.Runs.{present_run}
 use Rattle.ceal_session.specs.State.{State}
@@ -22,20 +22,20 @@ use Rattle.ceal_show.specs.Graph.{IsGraphText}
 use Rattle.ceal_show.specs.Shown.{Shown}
 
 -- the laws that a line is one command's at most, and that a memory has one text from a block
-abbrev pub Command_law : Type 0
-Command_law = (line : List ℕ) (c d : Command) → IsLineOf c line → IsLineOf d line → c ≡ d
+abbrev pub CommandLaw : Type 0
+CommandLaw = (line : List ℕ) (c d : Command) → IsLineOf c line → IsLineOf d line → c ≡ d
 
-abbrev pub Graph_law : Type 0
-Graph_law = (structs : List StructInfo) (memory : Shown) (name : ℕ → List ℕ) (root : BlockId) (text other : List ℕ)
+abbrev pub GraphLaw : Type 0
+GraphLaw = (structs : List StructInfo) (memory : Shown) (name : ℕ → List ℕ) (root : BlockId) (text other : List ℕ)
     → IsGraphText structs memory name root text → IsGraphText structs memory name root other → text ≡ other
 
-pub same-command : Command_law → One_command_law
+pub same-command : CommandLaw → OneCommandLaw
 same-command law line None None h k = refl
 same-command law line None (Some d) h k = absurd (h d k)
 same-command law line (Some c) None h k = absurd (k c h)
 same-command law line (Some c) (Some d) h k = ap Some (law line c d h k)
 
-module _ (law : Graph_law) (s : State) (w : ℕ) where
+module _ (law : GraphLaw) (s : State) (w : ℕ) where
   same-told : (q : Query) (f : Finished) (a b : List ℕ) → Tells s w q f a → Tells s w q f b → a ≡ b
   same-told (Get p) f a b h k = h ∙ sym k
   same-told (Show n) f a b h k = law s.program.structs (block_at f.memory) (input_name s) (Input n) a b h k
@@ -54,15 +54,15 @@ module _ (law : Graph_law) (s : State) (w : ℕ) where
   same-text (Refused r) a b h k = h ∙ sym k
   same-text (Told q) a b h k = same-told-of q (present_run s) a b h k
 
-pub one-reply : Command_law → Graph_law → One_reply_law
+pub one-reply : CommandLaw → GraphLaw → OneReplyLaw
 one-reply command graph s w line a b m n h k =
     let same = same-command command line h.command k.command h.reads k.reads in
     same-text graph s w (answered_line s k.command).reply a b (subst (λ c. IsText s w (answered_line s c).reply a) same h.reply) k.reply
 
-pub one-state : One_command_law → One_state_law
+pub one-state : OneCommandLaw → OneStateLaw
 one-state command s v w line a b m n h k = h.state ∙ ap (λ c. (answered_line s c).state) (command line h.command k.command h.reads k.reads) ∙ sym k.state
 
-pub one-script : One_command_law → One_reply_law → One_state_law → One_script_law
+pub one-script : OneCommandLaw → OneReplyLaw → OneStateLaw → OneScriptLaw
 unfolding AreReplies
 one-script command reply state s works [] a b h k = h ∙ sym k
 one-script command reply state s works (line ∷ lines) a b h k =
@@ -74,7 +74,7 @@ one-script command reply state s works (line ∷ lines) a b h k =
     (subst (λ t. AreReplies t (taken (completes s k.3.command) works.latest works.coming) lines h.2) next later) k.4 in
     h.5 ∙ ap₂ ◌++◌ first rest ∙ sym k.5
 
-pub one-works : One_command_law → One_works_law
+pub one-works : OneCommandLaw → OneWorksLaw
 unfolding AreWorks
 one-works command code s last [] v w h k = h ∙ sym k
 one-works command code s last (line ∷ lines) v w h k =

@@ -22,7 +22,7 @@ use Rattle.ceal_code.proofs.Ends.{fresh-count}
 use Rattle.ceal_code.proofs.Memory.{got}
 use Rattle.ceal_code.proofs.Same.{none-some, some-same}
 use Rattle.ceal_code.specs.Fitting.{Fits}
-use Rattle.ceal_code.specs.Laws.{Progress_law}
+use Rattle.ceal_code.specs.Laws.{ProgressLaw}
 use Rattle.ceal_code.specs.Value.{is_cell}
 use Rattle.ceal_engine.specs.Engine.{EngineState, IsRun, IsPresent, IsEngine, Shows, block_in, stored_at, fresh_call, is_plain}
 use Rattle.ceal_base.specs.declared.call.Call.{Call}
@@ -53,13 +53,13 @@ seen-finished e b h = go (is_finished e.phase) refl h
     go false i k = absurd (grind (arith, k))
 
 -- the same shape, and the same plain words
-pub record Shown_as (structs : List StructInfo) (block : Block) (o : Option Block) : Type 0 where
+pub record ShownAs (structs : List StructInfo) (block : Block) (o : Option Block) : Type 0 where
   pub found : Block
   pub there : o ≡ Some found
   pub shape : found.shape ≡ block.shape
   pub plain : (f : ℕ) → is_plain (slice_get (kinds_of_shape structs found.shape) f) ≡ true → slice_get block.words f ≡ slice_get found.words f
 
-module _ (e : EngineState) (k : IsEngine e) (law : Progress_law) (fin : e.phase ≡ IsFinished) where
+module _ (e : EngineState) (k : IsEngine e) (law : ProgressLaw) (fin : e.phase ≡ IsFinished) where
   abbrev run : Finished
   run = (k.present fin).run
 
@@ -77,7 +77,7 @@ module _ (e : EngineState) (k : IsEngine e) (law : Progress_law) (fin : e.phase 
       go None h = none-some run h
       go (Some call) h = fresh-count e.code e.inputs call.function call.args e.fuel run h
 
-  input-shown : (n : ℕ) (block : Block) → slice_get e.memory.inputs n ≡ Some block → Shown_as e.code.structs block (slice_get e.inputs n)
+  input-shown : (n : ℕ) (block : Block) → slice_get e.memory.inputs n ≡ Some block → ShownAs e.code.structs block (slice_get e.inputs n)
   input-shown n block i =
       let is = (k.present fin).is in
       let r : slice_get run.memory.inputs n ≡ Some (renamed_block is.numbers block) = sym (input-renamed e run is n) ∙ ap (option_map (renamed_block is.numbers)) i in
@@ -93,27 +93,27 @@ module _ (e : EngineState) (k : IsEngine e) (law : Progress_law) (fin : e.phase 
             (input-fits e.code.structs e.inputs k.inputs n g.0 g.1) (sym (ap (λ b. slice_get b.words f) same) ∙ l.plain f h);
       }
 
-  pub shown-as : (b : BlockId) (block : Block) → stored_at e.memory b ≡ Some block → Shown_as e.code.structs block (block_in e b)
+  pub shown-as : (b : BlockId) (block : Block) → stored_at e.memory b ≡ Some block → ShownAs e.code.structs block (block_in e b)
   shown-as (Input n) block i = input-shown n block i
   shown-as (Core n) block i = record { found = block; there = i; shape = refl; plain = λ f h. refl }
 
 -- a block that is seen, in the memory and among the inputs
-pub record Seen_block (e : EngineState) (b : BlockId) : Type 0 where
+pub record SeenBlock (e : EngineState) (b : BlockId) : Type 0 where
   pub fin : e.phase ≡ IsFinished
   pub block : Block
   pub stored : stored_at e.memory b ≡ Some block
   pub seen_as : seen e b ≡ Some block
-  pub shown : Shown_as e.code.structs block (block_in e b)
+  pub shown : ShownAs e.code.structs block (block_in e b)
 
 pub shows-finished : (e : EngineState) → e.phase ≡ IsFinished → (b : BlockId) → Shows e b
 shows-finished e h (Input n) = tt
 shows-finished e h (Core n) = h
 
-module _ (e : EngineState) (k : IsEngine e) (law : Progress_law) where
-  pub seen-block : (b : BlockId) → IsSome (seen e b) → Seen_block e b
+module _ (e : EngineState) (k : IsEngine e) (law : ProgressLaw) where
+  pub seen-block : (b : BlockId) → IsSome (seen e b) → SeenBlock e b
   seen-block b h = go (seen e b) refl h
     where
-      go : (o : Option Block) → seen e b ≡ o → IsSome o → Seen_block e b
+      go : (o : Option Block) → seen e b ≡ o → IsSome o → SeenBlock e b
       go None i some = absurd (grind (arith, some))
       go (Some block) i some =
           let fin = seen-finished e b h in
@@ -129,7 +129,7 @@ module _ (e : EngineState) (k : IsEngine e) (law : Progress_law) where
 
   -- the word of a seen field
   module _ (b : BlockId) (field : ℕ) (h : IsSome (word_at (seen e) b field)) where
-    abbrev sb : Seen_block e b
+    abbrev sb : SeenBlock e b
     sb = seen-block b (word-seen b field h)
 
     is-word : (o : Option Word) → IsSome o → o ≡ Some (unwrap_or o Null)

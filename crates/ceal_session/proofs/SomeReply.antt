@@ -20,12 +20,12 @@ use Rattle.ceal_base.specs.declared.word.Word.{Word}
 use Rattle.ceal_base.specs.declared.word.Word.TheVariants.{Num, Null, Block as BlockWord, At}
 use Rattle.ceal_code.proofs.Ends.{fresh-ends, fresh-count}
 use Rattle.ceal_code.proofs.InputFits.{edit-fits, fits_in, kept-longer, longer-fits}
-use Rattle.ceal_code.proofs.Kept.{Shapes_kept, words-kept}
+use Rattle.ceal_code.proofs.Kept.{ShapesKept, words-kept}
 use Rattle.ceal_code.proofs.Memory.{got}
 use Rattle.ceal_code.proofs.Same.{both, both-true, none-some}
 use Rattle.ceal_code.specs.Fitting.{Fits}
 use Rattle.ceal_code.specs.Fresh.{fresh as code_fresh}
-use Rattle.ceal_code.specs.Laws.{Progress_law}
+use Rattle.ceal_code.specs.Laws.{ProgressLaw}
 use Rattle.ceal_code.specs.Program.{Code}
 use Rattle.ceal_code.specs.Value.{is_cell}
 use Rattle.ceal_script.specs.Lines.{IsLineOf}
@@ -36,7 +36,7 @@ use Rattle.ceal_session.proofs.Compiled.{call-fits, same-structs}
 use Rattle.ceal_session.proofs.Extending.{extended-longer, extended-edited}
 use Rattle.ceal_session.proofs.Tracing.{Found, first-found, repair-found}
 use Rattle.ceal_session.specs.Asking.{CanTell, IsCellOf, IsCellSense}
-use Rattle.ceal_session.specs.Laws.{Behind, Answered, Begun_law, Some_reply_law, Some_script_law}
+use Rattle.ceal_session.specs.Laws.{Behind, Answered, BegunLaw, SomeReplyLaw, SomeScriptLaw, DroppedLaw}
 use Rattle.ceal_session.specs.Refusals.{refusal_text}
 use Rattle.ceal_session.specs.Replies.{Works, taken, AreReplies, AreWorks}
 use Rattle.ceal_session.specs.Runs.{memory_of, present_run, run_of, with_run}
@@ -48,8 +48,8 @@ use Rattle.ceal_session.specs.Texts.{input_name, value_text, TellsOf, IsText}
 use Rattle.ceal_session.specs.Works.{call_in, ends, completes, traced, trace_behind, number_of}
 use Rattle.ceal_theory.specs.Adjust.{Extended}
 use Rattle.ceal_theory.specs.Computed.{Repaired}
-use Rattle.ceal_theory.specs.Laws.{First_law, End_law, Function_law, Repair_law}
-use Rattle.ceal_theory.specs.MoreInputs.{More_inputs_law}
+use Rattle.ceal_theory.specs.Laws.{FirstLaw, EndLaw, FunctionLaw, RepairLaw}
+use Rattle.ceal_theory.specs.MoreInputs.{MoreInputsLaw}
 use Rattle.ceal_session.specs.declared.refusal.Refusal.{Refusal}
 use Rattle.ceal_session.specs.declared.refusal.Refusal.TheVariants.{C1, C2, C3, C4}
 use Rattle.ceal_session.specs.declared.reply.Query.{Query}
@@ -63,21 +63,21 @@ use Rattle.ceal_show.specs.Shown.{IsWhole}
 use Rattle.std.specs.Fmt.{decimal}
 
 -- the laws that a line is a command's or none's, that a memory whose words fit is whole, and that a whole memory has texts
-abbrev pub Line_law : Type 0
-Line_law = (line : List ℕ) → ((c : Command) × IsLineOf c line) ⊎ ((c : Command) → IsLineOf c line → ⊥)
+abbrev pub LineLaw : Type 0
+LineLaw = (line : List ℕ) → ((c : Command) × IsLineOf c line) ⊎ ((c : Command) → IsLineOf c line → ⊥)
 
-abbrev pub Whole_law : Type 0
-Whole_law = (structs : List StructInfo) (m : Blocks) → IsTrue (memory_fits structs m) → IsWhole structs (block_at m)
+abbrev pub WholeLaw : Type 0
+WholeLaw = (structs : List StructInfo) (m : Blocks) → IsTrue (memory_fits structs m) → IsWhole structs (block_at m)
 
-abbrev pub Text_law : Type 0
-Text_law = (structs : List StructInfo) (m : Blocks) (name : ℕ → List ℕ) (root : BlockId) → IsWhole structs (block_at m) → IsSome (block_at m root)
+abbrev pub TextLaw : Type 0
+TextLaw = (structs : List StructInfo) (m : Blocks) (name : ℕ → List ℕ) (root : BlockId) → IsWhole structs (block_at m) → IsSome (block_at m root)
     → (text : List ℕ) × IsGraphText structs (block_at m) name root text
 
-pub begun-stands : Begun_law
+pub begun-stands : BegunLaw
 begun-stands p fuel compiled = record { compiled = compiled; named = refl; fits = refl; called = tt; traced = refl }
 
 -- a call that fits still fits where the inputs keep their shapes
-call-kept : (s : State) (inputs : List Block) → Shapes_kept (memory_of s) (record { inputs = inputs; made = [] }) → (o : Option TypedFunction) (args : List Word)
+call-kept : (s : State) (inputs : List Block) → ShapesKept (memory_of s) (record { inputs = inputs; made = [] }) → (o : Option TypedFunction) (args : List Word)
     → is_call_of s o args ≡ true → is_call_of (record s { inputs = inputs }) o args ≡ true
 call-kept s inputs kept None args h = h
 call-kept s inputs kept (Some f) args h =
@@ -86,7 +86,7 @@ call-kept s inputs kept (Some f) args h =
     both-true (is_none f.initialiser) (words_fit s.program.structs m (take f.params f.kinds) args) k.0
     (words-kept s.program.structs (memory_of s) m kept (take f.params f.kinds) args k.1)
 
-all-called : (s : State) (inputs : List Block) → Shapes_kept (memory_of s) (record { inputs = inputs; made = [] }) → (o : Option Call)
+all-called : (s : State) (inputs : List Block) → ShapesKept (memory_of s) (record { inputs = inputs; made = [] }) → (o : Option Call)
     → IfSome o (IsCall s) → IfSome o (IsCall (record s { inputs = inputs }))
 all-called s inputs kept None h = tt
 all-called s inputs kept (Some call) h = call-kept s inputs kept (slice_get s.program.functions call.function) call.args h
@@ -100,12 +100,12 @@ core-call s (Some f) args h = by_initialiser f.initialiser refl (both (is_none f
     by_initialiser (Some s) e k = absurd (grind (arith, k))
 
 -- what is known of repairs
-pub record Repair_laws : Type 0 where
-  pub first : First_law
-  pub ends : End_law
-  pub functions : Function_law
-  pub repairs : Repair_law
-  pub more : More_inputs_law
+pub record RepairLaws : Type 0 where
+  pub first : FirstLaw
+  pub ends : EndLaw
+  pub functions : FunctionLaw
+  pub repairs : RepairLaw
+  pub more : MoreInputsLaw
 
 -- there is a text of the step's reply, and the state and the trace behind it stand
 pub record Good (code : Code) (s : State) (work : ℕ) (step : Step) (after : Option Repaired) : Type 0 where
@@ -118,7 +118,7 @@ pub record Accepted (s : State) (call : Call) : Type 0 where
   pub is : IsCall s call
   pub only : (s.call ≡ None) ⊎ (s.call ≡ Some call)
 
-module _ (progress : Progress_law) (line_law : Line_law) (whole_law : Whole_law) (text_law : Text_law) (laws : Repair_laws) (code : Code) where
+module _ (progress : ProgressLaw) (line_law : LineLaw) (whole_law : WholeLaw) (text_law : TextLaw) (laws : RepairLaws) (code : Code) where
   module _ (s : State) (last : Option Repaired) (work : ℕ) (st : Stands code s last) where
     refused : (r : Refusal) → Good code s work (refuses s r) last
     refused r = record { text = refusal_text r; is = refl; stands = st }
@@ -263,6 +263,10 @@ module _ (progress : Progress_law) (line_law : Line_law) (whole_law : Whole_law)
     accepted-in None call e = absurd (grind (arith, e))
     accepted-in (Some command) call e = accepted command call e
 
+    -- what is left of it after out of fuel
+    pub dropped : (command : Command) (call : Call) → call_of s command ≡ Ok call → Stands code (with_run s call true) None
+    dropped command call e = with-call call true None (accepted command call e).is refl
+
     -- a question
     graph : (n : ℕ) → n < length s.inputs → (call : Call) → IsCall s call → (f : Finished) → run_of s call ≡ Some f
         → (text : List ℕ) × IsGraphText s.program.structs (block_at f.memory) (input_name s) (Input n) text
@@ -367,10 +371,13 @@ module _ (progress : Progress_law) (line_law : Line_law) (whole_law : Whole_law)
     }
   ]
 
-pub some-reply : Progress_law → Line_law → Whole_law → Text_law → Repair_laws → Some_reply_law
+pub some-reply : ProgressLaw → LineLaw → WholeLaw → TextLaw → RepairLaws → SomeReplyLaw
 some-reply progress line_law whole_law text_law laws code s last work line st i = reply_to progress line_law whole_law text_law laws code s last work line st i
 
-pub some-script : Some_reply_law → Some_script_law
+pub dropped-law : ProgressLaw → LineLaw → WholeLaw → TextLaw → RepairLaws → DroppedLaw
+dropped-law progress line_law whole_law text_law laws code s last command call st e = dropped progress line_law whole_law text_law laws code s last 0 st command call e
+
+pub some-script : SomeReplyLaw → SomeScriptLaw
 unfolding AreReplies AreWorks
 some-script reply code s last work [] st i = record { works = []; repair = refl; text = []; replies = refl }
 some-script reply code s last work (line ∷ lines) st i =

@@ -26,7 +26,7 @@ use Rattle.ceal_session.specs.Following.{Goes, Retraces, dropped, IsLeftBy}
 use Rattle.ceal_session.specs.State.{State, Situation, last, repaired_of}
 use Rattle.ceal_session.specs.Works.{traced, trace_behind}
 use Rattle.ceal_theory.specs.Computed.{Repaired, adjusted, first_of}
-use Rattle.ceal_theory.specs.Laws.{First_law, Renamed_repair}
+use Rattle.ceal_theory.specs.Laws.{FirstLaw, RenamedRepair}
 use Rattle.ceal_session.specs.Steps.{Step, runs, called_again}
 use Rattle.ceal_session.specs.declared.reply.Reply.{Reply}
 use Rattle.ceal_session.specs.declared.reply.Reply.TheVariants.{Ok as Done, OutOfFuel}
@@ -88,22 +88,22 @@ module _ (p : Typed) (names : List (List ℕ)) (e : EngineState) (pending : Bool
         go Pending i = absurd (grind (arith, h.edited i, r.edited))
         go Dropped i = absurd (grind (arith, r.run, i))
 
-    pub record Has_run : Type 0 where
+    pub record HasRun : Type 0 where
       pub run : Finished
       pub fresh : present_run (state_of p names e pending) ≡ Some run
       pub is : IsRun e run
 
-    pub has-run : IsReady (state_of p names e pending) → Has_run
+    pub has-run : IsReady (state_of p names e pending) → HasRun
     has-run r = let g = k.present (ready-finished r) in record { run = g.run; fresh = source-fresh ∙ g.fresh; is = g.is }
 
   -- the same inputs, where the call may be another
-  pub record Goes_to (e' : EngineState) (call : Call) : Type 0 where
+  pub record GoesTo (e' : EngineState) (call : Call) : Type 0 where
     pub code : e'.code ≡ e.code
     pub fuel : e'.fuel ≡ e.fuel
     pub inputs : e'.inputs ≡ e.inputs
     pub called : e'.call ≡ Some call
 
-  module _ (e' : EngineState) (call : Call) (fits : Fits e.code e.inputs call.function call.args) (g : Goes_to e' call) where
+  module _ (e' : EngineState) (call : Call) (fits : Fits e.code e.inputs call.function call.args) (g : GoesTo e' call) where
     same-fresh : run_of (state_of p names e pending) call ≡ fresh_of e'
     same-fresh = code-run (Some call) fits ∙ sym (rw (g.code, g.fuel, g.inputs, g.called) refl)
 
@@ -119,9 +119,9 @@ module _ (p : Typed) (names : List (List ℕ)) (e : EngineState) (pending : Bool
     after-drop b i f t = rw (g.code, g.fuel, g.inputs, g.called, i, f, t) refl
 
     -- the trace where the run ends
-    module _ (law : First_law) (f : Finished) (fresh : fresh_of e' ≡ Some f) where
+    module _ (law : FirstLaw) (f : Finished) (fresh : fresh_of e' ≡ Some f) where
       abbrev pub after-trace : Option Trace → Type 0
-      after-trace o = Renamed_repair (traced e.code (state_of p names e pending) call (worked e o)) (worked e' (trace e'))
+      after-trace o = RenamedRepair (traced e.code (state_of p names e pending) call (worked e o)) (worked e' (trace e'))
 
       first-run : (o : Option Trace) → trace e' ≡ o → IsSomeAnd o (IsFirst e') → after-trace None
       first-run None there h = absurd h
@@ -132,14 +132,14 @@ module _ (p : Typed) (names : List (List ℕ)) (e : EngineState) (pending : Bool
           let t = first-trace e.code e.inputs call.function call.args fits law e.fuel f ends in
           let same : t.0 ≡ a = some-same t.0 a (sym t.1 ∙ is) in
           let counted : a.work ≡ e'.work = ap (λ b. b.work) (sym same) ∙ t.2.work ∙ sym t.2.steps ∙ ap (λ b. steps_of b.items) same ∙ sym h.work in
-          rw (is, there) (Renamed_repair.some h.renamed.pairs h.renamed.one h.renamed.alike counted)
+          rw (is, there) (RenamedRepair.some h.renamed.pairs h.renamed.one h.renamed.alike counted)
 
       next-run : (old : Trace) → (o : Option Trace) → trace e' ≡ o → IsSomeAnd o (IsRepaired e' old) → after-trace (Some old)
       next-run old None there h = absurd h
       next-run old (Some l) there h =
           let r = h.from (above old) (is-above old) in
           let is : adjusted e.code e.inputs (above old) e.fuel old ≡ Some r.repair = rw (g.code, g.inputs, g.fuel) at r.is in
-          rw (is, there) (Renamed_repair.some r.renamed.pairs r.renamed.one r.renamed.alike (sym r.work))
+          rw (is, there) (RenamedRepair.some r.renamed.pairs r.renamed.one r.renamed.alike (sym r.work))
 
       pub came-to : Ran e e' → after-trace (trace e)
       came-to ran = go (trace e) refl
@@ -148,16 +148,16 @@ module _ (p : Typed) (names : List (List ℕ)) (e : EngineState) (pending : Bool
           go None i = first-run (trace e') refl (ran.first i)
           go (Some old) i = next-run old (trace e') refl (ran.repaired old i)
 
-    retraced : First_law → Ran e e' → (b : Bool) → IsPresent e' → Goes (situation_of p names e pending) (Ok call) (situation_of p names e' b)
+    retraced : FirstLaw → Ran e e' → (b : Bool) → IsPresent e' → Goes (situation_of p names e pending) (Ok call) (situation_of p names e' b)
     retraced law ran b r =
         let s : run_of (state_of p names e pending) call ≡ Some r.run = same-fresh ∙ r.fresh in
-        let t : Renamed_repair (traced e.code (state_of p names e pending) call (last_of e)) (last_of e') = rw (last-is e, last-is e') (came-to law r.run r.fresh ran) in
+        let t : RenamedRepair (traced e.code (state_of p names e pending) call (last_of e)) (last_of e') = rw (last-is e, last-is e') (came-to law r.run r.fresh ran) in
         record { code = g.code; trace = rw s t }
 
     out-traced : (b : Bool) → e'.forest ≡ None → fresh_of e' ≡ None → Goes (situation_of p names e pending) (Ok call) (situation_of p names e' b)
     out-traced b t r =
         let s : run_of (state_of p names e pending) call ≡ None = same-fresh ∙ r in
-        record { code = g.code; trace = rw (s, t) Renamed_repair.none }
+        record { code = g.code; trace = rw (s, t) RenamedRepair.none }
 
 -- what is known behind a run, by how it came out: P of the reply, T where there is one, and Q where there was no memory
 pub record Settled {A : Type 0} (outcome : Result A RunError) (P : Reply → Type 0) (T Q : Type 0) : Type 0 where
@@ -174,7 +174,7 @@ no-trace e k d = go (trace e) k.kept k.flat_form
     go None i f = f
     go (Some l) i f = absurd (grind (arith, i, d))
 
-module _ (p : Typed) (names : List (List ℕ)) (e : EngineState) (pending : Bool) (h : Holds p names e pending) (k : IsEngine e) (e' : EngineState) (k' : IsEngine e') (law : First_law)
+module _ (p : Typed) (names : List (List ℕ)) (e : EngineState) (pending : Bool) (h : Holds p names e pending) (k : IsEngine e) (e' : EngineState) (k' : IsEngine e') (law : FirstLaw)
     (code : e'.code ≡ e.code) (fuel : e'.fuel ≡ e.fuel) (inputs : e'.inputs ≡ e.inputs) where
   abbrev before : Situation
   before = situation_of p names e pending
@@ -190,7 +190,7 @@ module _ (p : Typed) (names : List (List ℕ)) (e : EngineState) (pending : Bool
       → OnOk outcome (e'.phase ≡ IsFinished) → OnOk outcome (IsPresent e') → OnOk outcome (Ran e e') → IfOutOfFuel outcome (fresh_of e' ≡ None) → OnErr outcome (e'.phase ≡ Dropped)
       → Settled outcome (Answer c) (Goes before (Ok c) after) (IsLeftBy before (Ok c) after)
   came-out (Ok x) c fits called phase present ran out drop =
-      let to : Goes_to p names e pending h e' c = record { code = code; fuel = fuel; inputs = inputs; called = called } in
+      let to : GoesTo p names e pending h e' c = record { code = code; fuel = fuel; inputs = inputs; called = called } in
       record {
         ok = ended p names e pending h e' c fits to false refl phase present;
         out = tt;
@@ -199,7 +199,7 @@ module _ (p : Typed) (names : List (List ℕ)) (e : EngineState) (pending : Bool
         memory = tt;
       }
   came-out (Err OutOfFuelError) c fits called phase present ran out drop =
-      let to : Goes_to p names e pending h e' c = record { code = code; fuel = fuel; inputs = inputs; called = called } in
+      let to : GoesTo p names e pending h e' c = record { code = code; fuel = fuel; inputs = inputs; called = called } in
       record {
         ok = tt;
         out = gave_up p names e pending h e' c fits to false refl drop out;
@@ -208,7 +208,7 @@ module _ (p : Typed) (names : List (List ℕ)) (e : EngineState) (pending : Bool
         memory = tt;
       }
   came-out (Err MemoryError) c fits called phase present ran out drop =
-      let to : Goes_to p names e pending h e' c = record { code = code; fuel = fuel; inputs = inputs; called = called } in
+      let to : GoesTo p names e pending h e' c = record { code = code; fuel = fuel; inputs = inputs; called = called } in
       record {
         ok = tt;
         out = tt;

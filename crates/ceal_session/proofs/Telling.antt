@@ -15,13 +15,13 @@ use Rattle.ceal_base.specs.declared.word.Place.{Place}
 use Rattle.ceal_base.specs.declared.word.Word.{Word}
 use Rattle.ceal_base.specs.declared.word.Word.TheVariants.{Num, Null, Block as BlockWord, At}
 use Rattle.ceal_code.proofs.Memory.{got}
-use Rattle.ceal_code.specs.Laws.{Progress_law}
+use Rattle.ceal_code.specs.Laws.{ProgressLaw}
 use Rattle.ceal_code.specs.Value.{is_cell}
 use Rattle.ceal_engine.specs.Engine.{EngineState, IsRun, IsEngine, has_run, stored_at, trace}
 use Rattle.ceal_engine.specs.declared.phase.Phase.TheVariants.{Finished as IsFinished}
 use Rattle.ceal_session.proofs.Compiled.{same-structs}
 use Rattle.ceal_session.proofs.Seen.{seen-is, seen-same, input-count}
-use Rattle.ceal_session.proofs.SourceRun.{Has_run, has-run, last-is, ready-finished, source-fresh, worked}
+use Rattle.ceal_session.proofs.SourceRun.{HasRun, has-run, last-is, ready-finished, source-fresh, worked}
 use Rattle.ceal_session.proofs.Store.{content-renamed, renaming, there-back, whole-store}
 use Rattle.ceal_session.specs.Asking.{IsReady, IsCellOf, steps_in, blocks_in, content_text}
 use Rattle.ceal_session.specs.Keeping.{state_of, situation_of, Holds}
@@ -38,12 +38,12 @@ use Rattle.ceal_show.specs.Renaming.{IsRenaming}
 use Rattle.ceal_show.specs.Shown.{Shown, IsWhole}
 
 -- the law that a memory whose words fit is whole
-abbrev pub Fitting_law : Type 0
-Fitting_law = (structs : List StructInfo) (m : Blocks) → IsTrue (memory_fits structs m) → IsWhole structs (block_at m)
+abbrev pub FittingLaw : Type 0
+FittingLaw = (structs : List StructInfo) (m : Blocks) → IsTrue (memory_fits structs m) → IsWhole structs (block_at m)
 
 -- the law that a graph text says nothing of the numbers of core blocks
-abbrev pub Text_law : Type 0
-Text_law = (structs : List StructInfo) (name : ℕ → List ℕ) (rename : BlockId → BlockId) (from to : Shown) (root : BlockId) (text : List ℕ)
+abbrev pub TextLaw : Type 0
+TextLaw = (structs : List StructInfo) (name : ℕ → List ℕ) (rename : BlockId → BlockId) (from to : Shown) (root : BlockId) (text : List ℕ)
     → IsRenaming rename from to → IsWhole structs from → IsSome (from root)
     → IsGraphText structs from name root text → IsGraphText structs to name (rename root) text
 
@@ -62,14 +62,14 @@ same-value s bs Null = refl
 same-value s bs (BlockWord b) = same-name s bs b
 same-value s bs (At p) = same-name s bs p.block
 
-pub whole-engine : (e : EngineState) → IsEngine e → e.phase ≡ IsFinished → Fitting_law → IsWhole e.code.structs (stored_at e.memory)
+pub whole-engine : (e : EngineState) → IsEngine e → e.phase ≡ IsFinished → FittingLaw → IsWhole e.code.structs (stored_at e.memory)
 whole-engine e k fin fitting = let g = k.present fin in whole-store e g.run g.is e.code.structs (fitting e.code.structs g.run.memory g.is.fits)
 
 module _ (p : Typed) (names : List (List ℕ)) (e : EngineState) (pending : Bool) (h : Holds p names e pending) (k : IsEngine e) (ready : IsReady (state_of p names e pending)) where
   abbrev state : State
   state = state_of p names e pending
 
-  abbrev has : Has_run p names e pending h k
+  abbrev has : HasRun p names e pending h k
   has = has-run p names e pending h k ready
 
   pub told-blocks : (n : ℕ) → n ≡ e.live → blocks_in (present_run state) ≡ Some n
@@ -105,17 +105,17 @@ module _ (p : Typed) (names : List (List ℕ)) (e : EngineState) (pending : Bool
   finished : e.phase ≡ IsFinished
   finished = ready-finished p names e pending h k ready
 
-  pub whole-seen : Fitting_law → IsWhole e.code.structs (seen e)
+  pub whole-seen : FittingLaw → IsWhole e.code.structs (seen e)
   whole-seen fitting = subst (IsWhole e.code.structs) (sym (seen-same e finished)) (whole-engine e k finished fitting)
 
-  pub root-seen : Progress_law → (n : ℕ) → n < length e.inputs → IsSome (seen e (Input n))
+  pub root-seen : ProgressLaw → (n : ℕ) → n < length e.inputs → IsSome (seen e (Input n))
   root-seen law n l =
       let g = k.present finished in
       let c : length g.run.memory.inputs ≡ length e.inputs = input-count e k law finished in
       let b = got g.run.memory.inputs n (subst (λ k. n < k) (sym c) l) in
       subst IsSome (sym (seen-is e (Input n) finished)) (there-back e g.run g.is (Input n) (ap is_some b.1))
 
-  pub told-graph : Progress_law → Fitting_law → Text_law → (n : ℕ) → n < length e.inputs → (work : ℕ) (text : List ℕ)
+  pub told-graph : ProgressLaw → FittingLaw → TextLaw → (n : ℕ) → n < length e.inputs → (work : ℕ) (text : List ℕ)
       → IsGraphText e.code.structs (seen e) (label names) (Input n) text → TellsOf state work (Show n) (present_run state) text
   told-graph law fitting same n l work text t =
       let g = has in

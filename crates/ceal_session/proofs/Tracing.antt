@@ -14,7 +14,7 @@ use Rattle.ceal_session.proofs.Extending.{extended-same}
 use Rattle.ceal_session.specs.Works.{number_above}
 use Rattle.ceal_theory.specs.Adjust.{Above}
 use Rattle.ceal_theory.specs.Computed.{Repaired, adjusted, first_of}
-use Rattle.ceal_theory.specs.Laws.{Edited, First_law, First_outcome, First_trace, End_law, Repair_law, Function_law}
+use Rattle.ceal_theory.specs.Laws.{Edited, FirstLaw, FirstOutcome, FirstTrace, EndLaw, RepairLaw, FunctionLaw}
 
 -- no number from the first above all of them on is one of them
 none-above : (b : ℕ) (bs : List ℕ) → number_above bs ≤ b → count b bs ≡ 0
@@ -43,19 +43,19 @@ module _ (code : Code) (inputs : List Block) (f : ℕ) (args : List Word) (fits 
     pub replays : Replays code inputs f args repaired.items
 
   -- the first trace of a run that ends
-  of-outcome : {o : Option Repaired} {p : Option Finished} → First_outcome code inputs f args o p → (r : Finished) → p ≡ Some r
-      → (a : Repaired) × (o ≡ Some a) × First_trace code inputs f args a r
-  of-outcome First_outcome.none r e = none-some r e
-  of-outcome (First_outcome.some {a = a} {r = q} t) r e = (a, refl, subst (First_trace code inputs f args a) (some-same q r e) t)
+  of-outcome : {o : Option Repaired} {p : Option Finished} → FirstOutcome code inputs f args o p → (r : Finished) → p ≡ Some r
+      → (a : Repaired) × (o ≡ Some a) × FirstTrace code inputs f args a r
+  of-outcome FirstOutcome.none r e = none-some r e
+  of-outcome (FirstOutcome.some {a = a} {r = q} t) r e = (a, refl, subst (FirstTrace code inputs f args a) (some-same q r e) t)
 
-  pub first-trace : First_law → (n : ℕ) (r : Finished) → fresh code f args inputs n ≡ Some r → (a : Repaired) × (first_of code inputs n f args ≡ Some a) × First_trace code inputs f args a r
+  pub first-trace : FirstLaw → (n : ℕ) (r : Finished) → fresh code f args inputs n ≡ Some r → (a : Repaired) × (first_of code inputs n f args ≡ Some a) × FirstTrace code inputs f args a r
   first-trace law n r e = of-outcome (law code inputs f args fits n) r e
 
-  pub first-found : First_law → (n : ℕ) (r : Finished) → fresh code f args inputs n ≡ Some r → Found (first_of code inputs n f args)
+  pub first-found : FirstLaw → (n : ℕ) (r : Finished) → fresh code f args inputs n ≡ Some r → Found (first_of code inputs n f args)
   first-found law n r e = let g = first-trace law n r e in record { repaired = g.0; is = g.1; replays = g.2.replays }
 
   -- the repair of a trace of the call, where the run ends
-  pub repair-found : End_law → Function_law → Repair_law → (n : ℕ) (r : Finished) → fresh code f args inputs n ≡ Some r → (l : Trace) → Replays code inputs f args l
+  pub repair-found : EndLaw → FunctionLaw → RepairLaw → (n : ℕ) (r : Finished) → fresh code f args inputs n ≡ Some r → (l : Trace) → Replays code inputs f args l
       → Found (adjusted code inputs (above l) n l)
   repair-found ends functions repairs n r e l replays =
       let edited = on-itself l replays in

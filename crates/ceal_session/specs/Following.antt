@@ -2,10 +2,10 @@
 use Rattle.std.specs.Prelude.{◌≡◌, ◌⊎◌, ℕ, true, Option, Some, None, Result, Ok, Err, List}
 use Rattle.ceal_base.specs.declared.call.Call.{Call}
 use Rattle.ceal_compile.specs.declared.program.Program.{Program}
-use Rattle.ceal_engine.specs.Engine.{In_limits}
+use Rattle.ceal_engine.specs.Engine.{InLimits}
 use Rattle.ceal_script.specs.Lines.{IsLineOf}
 use Rattle.ceal_script.specs.declared.command.Command.{Command}
-use Rattle.ceal_theory.specs.Laws.{Renamed_repair}
+use Rattle.ceal_theory.specs.Laws.{RenamedRepair}
 use Rattle.ceal_session.specs.Replies.{Reads}
 use Rattle.ceal_session.specs.Runs.{begun, with_run}
 use Rattle.ceal_session.specs.State.{Situation, last}
@@ -15,7 +15,7 @@ use Rattle.ceal_session.specs.declared.refusal.Refusal.{Refusal}
 
 -- the steps that a run of a session may be allowed
 abbrev pub IsAllowed : ℕ → Type 0
-IsAllowed fuel = In_limits fuel
+IsAllowed fuel = InLimits fuel
 
 -- a session that begins
 abbrev pub opened : Program → ℕ → Situation
@@ -29,7 +29,7 @@ pub record Keeps (m n : Situation) : Type 0 where
 -- the code stays, and the trace is that of the definition up to the numbers of core blocks
 pub record Retraces (m : Situation) (call : Call) (n : Situation) : Type 0 where
   pub code : n.code ≡ m.code
-  pub trace : Renamed_repair (trace_behind m.code m.state (Ok call) (last m)) (last n)
+  pub trace : RenamedRepair (trace_behind m.code m.state (Ok call) (last m)) (last n)
 
 -- which of the two it is
 abbrev pub Goes : Situation → Result Call Refusal → Situation → Type 0

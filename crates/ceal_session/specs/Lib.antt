@@ -1,3 +1,4 @@
+-- what the crate promises
 pub mod State
 pub mod Refusals
 pub mod Runs
@@ -9,6 +10,8 @@ pub mod Replies
 pub mod Following
 pub mod Keeping
 pub mod Asking
-pub mod Shown
+pub mod Recording
 pub mod Standing
 pub mod Laws
+-- what its own functions say of each other
+pub mod Shown

@@ -1,12 +1,12 @@
 // The laws of replies, each the contract of a function that does nothing.
 
-ghost use Rattle.ceal_session.specs.Laws.{One_command_law, One_reply_law, One_state_law, One_script_law, One_works_law, Begun_law, Some_reply_law, Some_script_law, Kept_law};
+ghost use Rattle.ceal_session.specs.Laws.{OneCommandLaw, OneReplyLaw, OneStateLaw, OneScriptLaw, OneWorksLaw, BegunLaw, SomeReplyLaw, SomeScriptLaw, DroppedLaw, KeptLaw};
 
 /// A law: a state and a line have one reply at most, and one state after it, which says nothing of the work number.
 pub fn one_reply()
-    ensures command { One_command_law }
-    ensures reply { One_reply_law }
-    ensures state { One_state_law }
+    ensures command { OneCommandLaw }
+    ensures reply { OneReplyLaw }
+    ensures state { OneStateLaw }
 {
     ceal_script::line::one_command();
     ceal_show::laws::one_text();
@@ -14,17 +14,19 @@ pub fn one_reply()
 
 /// A law: a state and lines have one text of replies at most, and one list of work numbers.
 pub fn one_script()
-    ensures law { One_script_law }
-    ensures works { One_works_law }
+    ensures law { OneScriptLaw }
+    ensures works { OneWorksLaw }
 {
     one_reply();
 }
 
-/// A law: in a session each line has a reply, and so do lines one after another, with their work numbers.
+/// A law: in a session each line has a reply, and so do lines one after another, with their work numbers. A session that
+/// was left by want of memory goes on too.
 pub fn some_reply()
-    ensures begun { Begun_law }
-    ensures reply { Some_reply_law }
-    ensures script { Some_script_law }
+    ensures begun { BegunLaw }
+    ensures reply { SomeReplyLaw }
+    ensures script { SomeScriptLaw }
+    ensures dropped { DroppedLaw }
 {
     ceal_code::laws::progress_law();
     ceal_script::line::command_or_none();
@@ -40,7 +42,7 @@ pub fn some_reply()
 /// A law: a session whose trace is that of the definition up to the numbers of core blocks is so behind each line, and
 /// answers the line as the definition says.
 pub fn kept_line()
-    ensures law { Kept_law }
+    ensures law { KeptLaw }
 {
     ceal_code::laws::progress_law();
     ceal_script::line::command_or_none();

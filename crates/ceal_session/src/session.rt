@@ -1,9 +1,10 @@
 // A session.
 
-ghost use Rattle.std.specs.Prelude.{◌≡◌, codes, IfOk, OnOk, OnErr};
+ghost use Rattle.std.specs.Prelude.{◌≡◌, codes, IfOk, OnOk, OnErr, MatchOption};
 ghost use Rattle.ceal_compile.specs.Compiled.{IsCompiled};
-ghost use Rattle.ceal_session.specs.Asking.{CanTell};
+ghost use Rattle.ceal_session.specs.Asking.{CanTell, IsReady};
 ghost use Rattle.ceal_session.specs.Following.{IsAllowed, opened, Goes, Repairs, IsLeft, IsLeftBy};
+ghost use Rattle.ceal_session.specs.Recording.{IsRecorded};
 ghost use Rattle.ceal_session.specs.Replies.{Answers};
 ghost use Rattle.ceal_session.specs.Steps.{IsQuiet, answered, call_of};
 ghost use Rattle.ceal_session.specs.Texts.{IsText};
@@ -16,6 +17,7 @@ use crate::reply::Reply;
 use crate::state::State;
 use crate::texts::answer;
 use ceal_base::no_memory::NoMemory;
+use ceal_base::recorded::Record;
 use ceal_base::text::Text;
 use ceal_compile::program::Program;
 use ceal_script::command::Command;
@@ -135,5 +137,15 @@ impl Session {
         ensures left { OnErr result (IsLeft self.old line.now self.new) }
     {
         answer_line(self.alloc, &mut self.state, line)
+    }
+
+    /// The record of the run of the accepted call on the inputs of this moment: its trace, whose blocks have the numbers 0,
+    /// 1 and so on in the order of their allocations, and the memory after it. There is none exactly where a line `steps`
+    /// would be refused.
+    pub fn recorded(&self) -> Result<Option<Record>, NoMemory>
+        ensures { IfOk result
+            (λ found. MatchOption found (¬ IsReady self.now.state) (λ r. IsRecorded self.now r)) }
+    {
+        self.state.recorded(self.alloc)
     }
 }

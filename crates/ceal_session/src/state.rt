@@ -1,11 +1,12 @@
 // The state between two lines.
 
-ghost use Rattle.std.specs.Prelude.{◌≡◌, ◌<◌, ◌∷◌, [], true, false, Some, Ok as OkOf, length, is_some, bytes_eq, IfOk, IfSome, OnOk, OnErr};
+ghost use Rattle.std.specs.Prelude.{◌≡◌, ◌<◌, ◌∷◌, [], true, false, Some, Ok as OkOf, length, is_some, bytes_eq, IfOk, IfSome, OnOk, OnErr, MatchOption};
 ghost use Rattle.std.specs.List.{list_any};
 ghost use Rattle.ceal_base.specs.Fitting.{block_fits, kind_at};
 ghost use Rattle.ceal_compile.specs.Compiled.{IsCompiled};
 ghost use Rattle.ceal_session.specs.Asking.{IsReady, IsCellOf, steps_in, blocks_in, content_text};
 ghost use Rattle.ceal_session.specs.Following.{IsAllowed, opened, Keeps, Goes, IsLeftBy};
+ghost use Rattle.ceal_session.specs.Recording.{IsRecorded};
 ghost use Rattle.ceal_session.specs.Runs.{memory_of, present_run};
 ghost use Rattle.ceal_session.specs.Senses.{input_named};
 ghost use Rattle.ceal_session.specs.Steps.{IsFirst, with_input, with_base, block_of, fits_cell, has_no_run, runs, called_again};
@@ -22,6 +23,7 @@ use ceal_base::call::Call;
 use ceal_base::kind::Shape;
 use ceal_base::memory::Inputs;
 use ceal_base::no_memory::NoMemory;
+use ceal_base::recorded::Record;
 use ceal_base::text::Text;
 use ceal_base::typed::{StructInfo, Typed, TypedFunction};
 use ceal_base::word::{Place, Word};
@@ -30,6 +32,7 @@ use ceal_compile::program::Program;
 use ceal_engine::engine::Engine;
 use ceal_engine::phase::Phase;
 use ceal_engine::run_error::RunError;
+use ceal_record::record::record;
 use ceal_show::laws::{fitting_is_whole, same_text};
 use ceal_theory::laws::first_law;
 use ceal_types::names::Names;
@@ -272,6 +275,31 @@ impl State {
         // for the proof: it is an engine, by the clause `whole`
         let _phase = self.engine.phase();
         self.engine.work()
+    }
+
+    /// The record of the run. There is none where there is no run, the last one was out of fuel, or an edit came after it.
+    pub fn recorded(&self, alloc: Global) -> Result<Option<Record>, NoMemory>
+        ensures { IfOk result
+            (λ found. MatchOption found (¬ IsReady self.now.state) (λ r. IsRecorded self.now r)) }
+    {
+        // for the proof: it is an engine, by the clause `whole`
+        let _phase = self.engine.phase();
+        if self.has_no_run() {
+            return Ok(None);
+        }
+        if self.is_pending() {
+            return Ok(None);
+        }
+        let forest = self.engine.forest()?;
+        match self.engine.call() {
+            None => unreachable!(),
+            Some((function, args)) => {
+                let code = self.engine.code();
+                let inputs = self.engine.input_blocks();
+                let record = record(alloc, code, inputs, function, args, forest.items())?;
+                Ok(Some(record))
+            }
+        }
     }
 
     /// The graph from an input at the end of the run.

@@ -1,7 +1,7 @@
 -- Flat items beside the steps of the code are those of a trace that the stack yields.
 use Rattle.std.proofs.Common.{◌≡◌, Some, List, [], ◌∷◌, ◌++◌, refl, sym, ap, ◌∙◌, subst, append_assoc, append-nil}
 use Rattle.std.specs.Prelude.{⊤}
-use Rattle.ceal_base.specs.Trace.{Trace, Nothing, Stepped, Allocated, Wrote, Was_read, flat}
+use Rattle.ceal_base.specs.Trace.{Trace, Nothing, Stepped, Allocated, Wrote, WasRead, flat}
 use Rattle.ceal_base.specs.declared.forest.Item.{Item}
 use Rattle.ceal_base.specs.declared.forest.Item.TheVariants.{Step, Alloc, Write, Read, End}
 use Rattle.ceal_base.specs.declared.word.BlockId.TheVariants.{Input, Core}
@@ -13,14 +13,14 @@ use Rattle.ceal_code.specs.Value.{Plain, set}
 use Rattle.ceal_traceck.specs.Walk.{Accepts}
 
 -- each block that the items allocate has what its key gives
-abbrev pub Made_items : Code → Plain → List Item → Type 0
-Made_items code x [] = ⊤
-Made_items code x (Step ∷ is) = Made_items code x is
-Made_items code x (Alloc (Core b) key ∷ is) = (x (Core b) ≡ Some (made code x key)) × Made_items code x is
-Made_items code x (Alloc (Input i) key ∷ is) = ⊥
-Made_items code x (Write p value ∷ is) = Made_items code x is
-Made_items code x (Read p value u v args ∷ is) = Made_items code x is
-Made_items code x (End ∷ is) = Made_items code x is
+abbrev pub MadeItems : Code → Plain → List Item → Type 0
+MadeItems code x [] = ⊤
+MadeItems code x (Step ∷ is) = MadeItems code x is
+MadeItems code x (Alloc (Core b) key ∷ is) = (x (Core b) ≡ Some (made code x key)) × MadeItems code x is
+MadeItems code x (Alloc (Input i) key ∷ is) = ⊥
+MadeItems code x (Write p value ∷ is) = MadeItems code x is
+MadeItems code x (Read p value u v args ∷ is) = MadeItems code x is
+MadeItems code x (End ∷ is) = MadeItems code x is
 
 module _ (code : Code) (x : Plain) where
   -- what a stack yields is accepted, where what follows it is
@@ -49,7 +49,7 @@ module _ (code : Code) (x : Plain) where
   lift (st ∷ below) a b f front e y is (l, rest, k, h, p) =
       (f l, rest, ap (λ is. front ++ is) k ∙ (sym (append_assoc front (flat l) (End ∷ rest)) ∙ ap (λ is. is ++ End ∷ rest) (sym (e l))), y l h, p)
 
-  pub accepts-parsed : {a : Act} {below : List Stack} {is : List Item} → Accepts code x a below is → Made_items code x is → Parsed below a is
+  pub accepts-parsed : {a : Act} {below : List Stack} {is : List Item} → Accepts code x a below is → MadeItems code x is → Parsed below a is
   accepts-parsed Accepts.ends g = (Nothing, refl, λ st e. Yields.over e)
   accepts-parsed (Accepts.closes {is = is} h) g = (Nothing, is, refl, λ st e. Yields.over e, accepts-parsed h g)
   accepts-parsed (Accepts.quiet {st = st} {below = below} {is = is} h) g =
@@ -68,12 +68,12 @@ module _ (code : Code) (x : Plain) where
           let front : List Item = Step ∷ Read p value u v args ∷ (flat l ++ End ∷ []) in
           let same : front ++ rest ≡ Step ∷ Read p value u v args ∷ is = ap (λ is. Step ∷ Read p value u v args ∷ is) (append_assoc (flat l) (End ∷ []) rest ∙ sym k) in
           subst (λ is. Parsed below (Reads p u v args st) is) same
-          (lift below (next code x st) (Reads p u v args st) (λ m. Stepped (Was_read p value u v args l m)) front
+          (lift below (next code x st) (Reads p u v args st) (λ m. Stepped (WasRead p value u v args l m)) front
           (λ m. ap (λ is. Step ∷ Read p value u v args ∷ is) (sym (append_assoc (flat l) (End ∷ []) (flat m))))
           (λ m z s e. Yields.reads e (y (entered code u.0 (given code u.0 v args value) Empty) refl) (z st refl)) rest q)
 
   -- items that are accepted with nothing that waits are those of a trace that the stack yields
-  pub accepted : (st : Stack) (is : List Item) → Accepts code x (next code x st) [] is → Made_items code x is → (l : Trace) × (is ≡ flat l) × Yields code x st l
+  pub accepted : (st : Stack) (is : List Item) → Accepts code x (next code x st) [] is → MadeItems code x is → (l : Trace) × (is ≡ flat l) × Yields code x st l
   accepted st is h g = let q = accepts-parsed h g in (q.0, q.1, q.2 st refl)
 
   pub yielded : (st : Stack) (l : Trace) → Yields code x st l → Accepts code x (next code x st) [] (flat l)

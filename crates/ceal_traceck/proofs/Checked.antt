@@ -19,7 +19,7 @@ use Rattle.ceal_traceck.proofs.HonestItems.{honest-trace, trace-honest}
 use Rattle.ceal_traceck.proofs.ItemSteps.{named-none, honest-none}
 use Rattle.ceal_traceck.proofs.Known.{begin-knows, learns, named-mentions, mentions-named}
 use Rattle.ceal_traceck.specs.Items.{all_named, all_honest}
-use Rattle.ceal_traceck.specs.Verdicts.{Call_fits, Replayed, Is_honest}
+use Rattle.ceal_traceck.specs.Verdicts.{CallFits, Replayed, IsHonestRecord}
 use Rattle.ceal_traceck.specs.Walk.{Accepts}
 
 -- items are those of one trace at most
@@ -28,13 +28,13 @@ same-trace is l m e k = some-same l m (sym (trace-flat l) ∙ (ap trace_of (sym 
 
 module _ (code : Code) (r : Record) where
   -- a trace that replays is one whose items are named
-  pub replayed-named : Call_fits code r → (l : Trace) → Replayed code r l → all_named code (input_plain code r.inputs) r.forest ≡ true
+  pub replayed-named : CallFits code r → (l : Trace) → Replayed code r l → all_named code (input_plain code r.inputs) r.forest ≡ true
   replayed-named fits l h =
       let once : (b : ℕ) → count b (core_numbers (blocks_of l)) + count b [] ≤ 1 = λ b. omega (arith, h.replays.distinct b) in
       let q = mentions-named (length r.inputs) code h.replays.mentions [] (input_plain code r.inputs) (begin-knows code r.inputs fits.blocks) once in
       ap (all_named code (input_plain code r.inputs)) (h.items ∙ sym (append-nil (flat l))) ∙ (q.0.same ∙ named-none code _)
 
-  pub not-named : Call_fits code r → all_named code (input_plain code r.inputs) r.forest ≡ false → (l : Trace) → Replayed code r l → ⊥
+  pub not-named : CallFits code r → all_named code (input_plain code r.inputs) r.forest ≡ false → (l : Trace) → Replayed code r l → ⊥
   not-named fits h l k = cc (replayed-named fits l k, h)
 
   -- and which the code accepts
@@ -45,7 +45,7 @@ module _ (code : Code) (r : Record) where
       rw (e, h.items) (yielded code (plain_of code r.inputs l) (started code r.function r.args) l h.replays.yields)
 
   -- where both hold, there is a trace that replays
-  pub accepted-replayed : Call_fits code r → all_named code (input_plain code r.inputs) r.forest ≡ true
+  pub accepted-replayed : CallFits code r → all_named code (input_plain code r.inputs) r.forest ≡ true
       → Accepts code (plain_flat code (input_plain code r.inputs) r.forest) (next code (plain_flat code (input_plain code r.inputs) r.forest) (started code r.function r.args)) [] r.forest
       → (l : Trace) × Replayed code r l
   accepted-replayed fits h k =
@@ -71,15 +71,15 @@ module _ (code : Code) (r : Record) where
 
   module _ (l : Trace) (items : r.forest ≡ flat l) where
     -- the items are honest where their trace is
-    pub honest-of : all_honest code (bases code r.inputs) r.forest ≡ true → Is_honest code r l
+    pub honest-of : all_honest code (bases code r.inputs) r.forest ≡ true → IsHonestRecord code r l
     honest-of h =
         let h' : all_honest code (bases code r.inputs) (flat l ++ []) ≡ true = ap (all_honest code (bases code r.inputs)) (append-nil (flat l) ∙ sym items) ∙ h in
         record { after = store_after code (bases code r.inputs) l; walk = (honest-trace code l (bases code r.inputs) [] h').0 }
 
-    pub of-honest : Is_honest code r l → all_honest code (bases code r.inputs) r.forest ≡ true
+    pub of-honest : IsHonestRecord code r l → all_honest code (bases code r.inputs) r.forest ≡ true
     of-honest h = ap (all_honest code (bases code r.inputs)) (items ∙ sym (append-nil (flat l))) ∙ (trace-honest code h.walk [] ∙ honest-none code h.after)
 
-    pub not-honest : all_honest code (bases code r.inputs) r.forest ≡ false → Is_honest code r l → ⊥
+    pub not-honest : all_honest code (bases code r.inputs) r.forest ≡ false → IsHonestRecord code r l → ⊥
     not-honest h k = cc (of-honest k, h)
 
     pub plain-is : plain_flat code (input_plain code r.inputs) r.forest ≡ plain_of code r.inputs l

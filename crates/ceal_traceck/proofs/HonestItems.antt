@@ -1,7 +1,7 @@
 -- Flat items whose reads record the contents of their moments are those of an honest trace.
 use Rattle.std.proofs.Common.{◌≡◌, true, List, ◌∷◌, ◌++◌, refl, ◌∙◌, append_assoc}
 use Rattle.ceal_base.specs.Operators.{same_word}
-use Rattle.ceal_base.specs.Trace.{Trace, Nothing, Stepped, Allocated, Wrote, Was_read, flat}
+use Rattle.ceal_base.specs.Trace.{Trace, Nothing, Stepped, Allocated, Wrote, WasRead, flat}
 use Rattle.ceal_base.specs.declared.forest.Item.{Item}
 use Rattle.ceal_base.specs.declared.forest.Item.TheVariants.{Read, End}
 use Rattle.ceal_code.proofs.Same.{both, word-same, word-refl}
@@ -17,7 +17,7 @@ module _ (code : Code) where
   honest-trace (Stepped l) s is h = let q = honest-trace l s is h in (Honest.step q.0, q.1)
   honest-trace (Allocated b key l) s is h = let q = honest-trace l (cleared code s b key) is h in (Honest.alloc q.0, q.1)
   honest-trace (Wrote p value l) s is h = let q = honest-trace l (stored s p value) is h in (Honest.write q.0, q.1)
-  honest-trace (Was_read p value u v args inside l) s is h =
+  honest-trace (WasRead p value u v args inside l) s is h =
       let h' : all_honest code s (Read p value u v args ∷ (flat inside ++ End ∷ (flat l ++ is))) ≡ true = rw (append_assoc (flat inside) (End ∷ flat l) is) at h in
       let g = both (same_word (s p) value) (all_honest code s (flat inside ++ End ∷ (flat l ++ is))) h' in
       let q1 = honest-trace inside s (End ∷ (flat l ++ is)) g.1 in

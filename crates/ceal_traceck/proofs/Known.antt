@@ -6,7 +6,7 @@ use Rattle.ceal_base.specs.Block.{Block}
 use Rattle.ceal_base.specs.Fitting.{inputs_fit}
 use Rattle.ceal_base.specs.Operators.{same_block}
 use Rattle.ceal_base.specs.Shapes.{kinds_of_shape}
-use Rattle.ceal_base.specs.Trace.{Trace, Nothing, Stepped, Allocated, Wrote, Was_read, flat, blocks_of}
+use Rattle.ceal_base.specs.Trace.{Trace, Nothing, Stepped, Allocated, Wrote, WasRead, flat, blocks_of}
 use Rattle.ceal_base.specs.declared.forest.Item.{Item}
 use Rattle.ceal_base.specs.declared.forest.Item.TheVariants.{Step, Alloc, Write, Read, End}
 use Rattle.ceal_base.specs.declared.forest.Key.{Key}
@@ -26,10 +26,10 @@ use Rattle.ceal_code.proofs.Same.{both, both-true, nat-same, block-same, block-r
 use Rattle.ceal_code.specs.Init.{made}
 use Rattle.ceal_code.specs.Known.{Held, Holds, Agree}
 use Rattle.ceal_code.specs.Program.{Code}
-use Rattle.ceal_code.specs.Replay.{In, here, there, Known_block, Known_word, Known_words, Known_key, Mentions, count, core_numbers, learnt, plain_words, plain_block, input_plain, plain_after}
+use Rattle.ceal_code.specs.Replay.{In, here, there, KnownBlock, KnownWord, KnownWords, KnownKey, Mentions, count, core_numbers, learnt, plain_words, plain_block, input_plain, plain_after}
 use Rattle.ceal_code.specs.Tables.{plain_flat}
 use Rattle.ceal_code.specs.Value.{Plain}
-use Rattle.ceal_traceck.proofs.Accepted.{Made_items}
+use Rattle.ceal_traceck.proofs.Accepted.{MadeItems}
 use Rattle.ceal_traceck.specs.Items.{word_known, words_known, key_known, is_new, all_named}
 
 -- what x knows y knows
@@ -38,10 +38,6 @@ Extends x y = (b : BlockId) (block : Block) → x b ≡ Some block → y b ≡ S
 
 some-there : {A : Type 0} (o : Option A) (a : A) → o ≡ Some a → is_some o ≡ true
 some-there o a e = rw e refl
-
-there-some : {A : Type 0} (o : Option A) → is_some o ≡ true → (a : A) × (o ≡ Some a)
-there-some None h = absurd (grind (arith, h))
-there-some (Some a) h = (a, refl)
 
 not-there : {A : Type 0} (o : Option A) → not (is_some o) ≡ true → o ≡ None
 not-there None h = refl
@@ -71,38 +67,38 @@ module _ (n : ℕ) (code : Code) where
   -- the plain words have the known blocks, which mention known blocks alone, and no others
   pub record Knows (bs : List ℕ) (x : Plain) : Type 0 where
     pub holds : Holds n bs x
-    pub only : (b : BlockId) → is_some (x b) ≡ true → Known_block n bs b
+    pub only : (b : BlockId) → is_some (x b) ≡ true → KnownBlock n bs b
 
   module _ (bs : List ℕ) (x : Plain) (k : Knows bs x) where
-    block-there : (b : BlockId) → Known_block n bs b → is_some (x b) ≡ true
+    block-there : (b : BlockId) → KnownBlock n bs b → is_some (x b) ≡ true
     block-there b h = let g = k.holds b h in some-there (x b) g.block g.there
 
-    word-of : (w : Word) → word_known x w ≡ true → Known_word n bs w
+    word-of : (w : Word) → word_known x w ≡ true → KnownWord n bs w
     word-of (Num m) h = tt
     word-of Null h = tt
     word-of (BlockWord b) h = k.only b h
     word-of (At p) h = k.only p.block h
 
-    of-word : (w : Word) → Known_word n bs w → word_known x w ≡ true
+    of-word : (w : Word) → KnownWord n bs w → word_known x w ≡ true
     of-word (Num m) h = refl
     of-word Null h = refl
     of-word (BlockWord b) h = block-there b h
     of-word (At p) h = block-there p.block h
 
-    words-of : (ws : List Word) → words_known x ws ≡ true → Known_words n bs ws
+    words-of : (ws : List Word) → words_known x ws ≡ true → KnownWords n bs ws
     words-of [] h = tt
     words-of (w ∷ ws) h = let g = both (word_known x w) (words_known x ws) h in (word-of w g.0, words-of ws g.1)
 
-    of-words : (ws : List Word) → Known_words n bs ws → words_known x ws ≡ true
+    of-words : (ws : List Word) → KnownWords n bs ws → words_known x ws ≡ true
     of-words [] h = refl
     of-words (w ∷ ws) h = both-true (word_known x w) (words_known x ws) (of-word w h.0) (of-words ws h.1)
 
-    key-of : (key : Key) → key_known x key ≡ true → Known_key n bs key
+    key-of : (key : Key) → key_known x key ≡ true → KnownKey n bs key
     key-of (Init f args) h = words-of args h
     key-of IntKey h = tt
     key-of (PtrKey s) h = tt
 
-    of-key : (key : Key) → Known_key n bs key → key_known x key ≡ true
+    of-key : (key : Key) → KnownKey n bs key → key_known x key ≡ true
     of-key (Init f args) h = of-words args h
     of-key IntKey h = refl
     of-key (PtrKey s) h = refl
@@ -166,7 +162,7 @@ count-cores b bs cs = ap (count b) (cores-append bs cs) ∙ count-append b (core
 
 module _ (n : ℕ) (code : Code) where
   -- with a block more
-  knows-more : (bs : List ℕ) (x : Plain) (b : ℕ) (key : Key) → Knows n code bs x → Known_key n bs key → x (Core b) ≡ None → Knows n code (b ∷ bs) (learnt x (Core b) (made code x key))
+  knows-more : (bs : List ℕ) (x : Plain) (b : ℕ) (key : Key) → Knows n code bs x → KnownKey n bs key → x (Core b) ≡ None → Knows n code (b ∷ bs) (learnt x (Core b) (made code x key))
   knows-more bs x b key k known none = record { holds = holds; only = only }
     where
       new : Block
@@ -181,18 +177,18 @@ module _ (n : ℕ) (code : Code) where
       }
       holds (Core c) (there i) = held-more n bs b x (learnt x (Core b) (made code x key)) (learnt-extends x b (made code x key) none) (Core c) (k.holds (Core c) i)
 
-      only-if : (c : BlockId) → (c ≡ Core b) ⊎ (is_some (x c) ≡ true) → Known_block n (b ∷ bs) c
-      only-if c (inl e) = subst (Known_block n (b ∷ bs)) (sym e) here
+      only-if : (c : BlockId) → (c ≡ Core b) ⊎ (is_some (x c) ≡ true) → KnownBlock n (b ∷ bs) c
+      only-if c (inl e) = subst (KnownBlock n (b ∷ bs)) (sym e) here
       only-if (Input i) (inr h) = k.only (Input i) h
       only-if (Core c) (inr h) = there (k.only (Core c) h)
 
-      only : (c : BlockId) → is_some (learnt x (Core b) (made code x key) c) ≡ true → Known_block n (b ∷ bs) c
+      only : (c : BlockId) → is_some (learnt x (Core b) (made code x key) c) ≡ true → KnownBlock n (b ∷ bs) c
       only c h = only-if c (learnt-only x b c (made code x key) h)
 
   -- what the plain words are after such items
   pub record Learns (x : Plain) (is : List Item) : Type 0 where
     pub from : Extends x (plain_flat code x is)
-    pub made' : Made_items code (plain_flat code x is) is
+    pub made' : MadeItems code (plain_flat code x is) is
 
   pub learns : (is : List Item) (bs : List ℕ) (x : Plain) → Knows n code bs x → all_named code x is ≡ true → Learns x is
   unfolding all_named plain_flat
@@ -263,7 +259,7 @@ module _ (n : ℕ) (code : Code) where
       let f = both (is_some (x p.block)) (word_known x value) g.0 in
       let q = named-mentions l is bs x k once g.1 in
       record { known = q.known; mentions = Mentions.write (k.only p.block f.0) (word-of n code bs x k value f.1) q.mentions; knows = q.knows; counts = q.counts; once = q.once; rest = q.rest }
-  named-mentions (Was_read p value u v args inside l) is bs x k once h =
+  named-mentions (WasRead p value u v args inside l) is bs x k once h =
       let h' : all_named code x (Read p value u v args ∷ (flat inside ++ End ∷ (flat l ++ is))) ≡ true = rw (append_assoc (flat inside) (End ∷ flat l) is) at h in
       let g = both (is_some (x p.block) && (word_known x value && words_known x args)) (all_named code x (flat inside ++ End ∷ (flat l ++ is))) h' in
       let f = both (is_some (x p.block)) (word_known x value && words_known x args) g.0 in
@@ -307,7 +303,7 @@ module _ (n : ℕ) (code : Code) where
         λ d. omega (arith, q1.1 d, q2.1 d, count-cores d (blocks_of inside) (blocks_of l)),
       )
 
-plain-known : (n : ℕ) (bs : List ℕ) (kinds : List FieldKind) (ws : List Word) → Known_words n bs ws → Known_words n bs (plain_words kinds ws)
+plain-known : (n : ℕ) (bs : List ℕ) (kinds : List FieldKind) (ws : List Word) → KnownWords n bs ws → KnownWords n bs (plain_words kinds ws)
 plain-known n bs [] ws h = h
 plain-known n bs (kind ∷ kinds) [] h = h
 plain-known n bs (PlainField kind ∷ kinds) (w ∷ ws) h = (h.0, plain-known n bs kinds ws h.1)
@@ -328,7 +324,7 @@ begin-knows code inputs fit = record { holds = holds; only = only }
         }
     holds (Core c) h = elim h [ ]
 
-    only : (b : BlockId) → is_some (input_plain code inputs b) ≡ true → Known_block (length inputs) [] b
+    only : (b : BlockId) → is_some (input_plain code inputs b) ≡ true → KnownBlock (length inputs) [] b
     only (Input i) h = go (slice_get inputs i) refl h
       where
         go : (o : Option Block) → slice_get inputs i ≡ o → is_some (option_map (plain_block code.structs) o) ≡ true → i < length inputs

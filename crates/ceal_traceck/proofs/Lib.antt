@@ -1,9 +1,11 @@
+-- what crates above cite
+pub mod Remembering
+-- the rest
 pub mod ItemSteps
 pub mod WalkSteps
 pub mod MemorySteps
 pub mod Accepted
 pub mod Known
 pub mod HonestItems
-pub mod Remembering
 pub mod Checked
 pub mod Sound

@@ -15,7 +15,7 @@ use Rattle.ceal_code.specs.PlainWords.{block_shape, block_word}
 use Rattle.ceal_code.specs.Program.{Code}
 use Rattle.ceal_code.specs.Replay.{Store, filled, block_after}
 use Rattle.ceal_code.specs.Value.{Plain}
-use Rattle.ceal_traceck.specs.Items.{allocated, Are_made}
+use Rattle.ceal_traceck.specs.Items.{allocated, AreMade}
 
 -- what is told not to hold does not
 pub told-no : {P : Type 0} → (P → ⊥) → (IsTrue false → P) × (P → IsTrue false)
@@ -160,37 +160,37 @@ module _ {A : Type 0} (m : ℕ → Option A) (blocks : List A) (n : ℕ) (rest :
 
 -- core blocks, item by item
 module _ (m : BlockId → Option Block) where
-  pub skip-step : (i : Item) (is : List Item) (blocks : List Block) → i ≡ Step → Are_made m (i ∷ is) blocks ↔ Are_made m is blocks
-  unfolding Are_made
+  pub skip-step : (i : Item) (is : List Item) (blocks : List Block) → i ≡ Step → AreMade m (i ∷ is) blocks ↔ AreMade m is blocks
+  unfolding AreMade
   skip-step i is blocks e = rw e (λ h. h, λ h. h)
 
-  pub skip-write : (i : Item) (is : List Item) (blocks : List Block) (p : _) (w : Word) → i ≡ Write p w → Are_made m (i ∷ is) blocks ↔ Are_made m is blocks
-  unfolding Are_made
+  pub skip-write : (i : Item) (is : List Item) (blocks : List Block) (p : _) (w : Word) → i ≡ Write p w → AreMade m (i ∷ is) blocks ↔ AreMade m is blocks
+  unfolding AreMade
   skip-write i is blocks p w e = rw e (λ h. h, λ h. h)
 
-  pub skip-read : (i : Item) (is : List Item) (blocks : List Block) (p : _) (w : Word) (u : _) (v : ℕ) (args : List Word) → i ≡ Read p w u v args → Are_made m (i ∷ is) blocks ↔ Are_made m is blocks
-  unfolding Are_made
+  pub skip-read : (i : Item) (is : List Item) (blocks : List Block) (p : _) (w : Word) (u : _) (v : ℕ) (args : List Word) → i ≡ Read p w u v args → AreMade m (i ∷ is) blocks ↔ AreMade m is blocks
+  unfolding AreMade
   skip-read i is blocks p w u v args e = rw e (λ h. h, λ h. h)
 
-  pub skip-end : (i : Item) (is : List Item) (blocks : List Block) → i ≡ End → Are_made m (i ∷ is) blocks ↔ Are_made m is blocks
-  unfolding Are_made
+  pub skip-end : (i : Item) (is : List Item) (blocks : List Block) → i ≡ End → AreMade m (i ∷ is) blocks ↔ AreMade m is blocks
+  unfolding AreMade
   skip-end i is blocks e = rw e (λ h. h, λ h. h)
 
-  pub alloc-wrong : (i : Item) (id : BlockId) (key : Key) (blocks : List Block) → i ≡ Alloc id key → ((b : Block) (bs : List Block) → blocks ≡ b ∷ bs → m id ≡ Some b → ⊥) → (is : List Item) → Are_made m (i ∷ is) blocks → ⊥
-  unfolding Are_made
+  pub alloc-wrong : (i : Item) (id : BlockId) (key : Key) (blocks : List Block) → i ≡ Alloc id key → ((b : Block) (bs : List Block) → blocks ≡ b ∷ bs → m id ≡ Some b → ⊥) → (is : List Item) → AreMade m (i ∷ is) blocks → ⊥
+  unfolding AreMade
   alloc-wrong i id key blocks e absent is h = go blocks refl (rw e at h)
     where
       go : (bs : List Block) → blocks ≡ bs → map Some bs ≡ m id ∷ map m (allocated is) → ⊥
       go [] k h = cc
       go (b ∷ bs) k h = let found : m id ≡ Some b = cc in absent b bs k found
 
-  pub alloc-more : (i : Item) (id : BlockId) (key : Key) (b : Block) (blocks more : List Block) → i ≡ Alloc id key → blocks ≡ b ∷ more → m id ≡ Some b → (is : List Item) → Are_made m (i ∷ is) blocks ↔ Are_made m is more
-  unfolding Are_made
+  pub alloc-more : (i : Item) (id : BlockId) (key : Key) (b : Block) (blocks more : List Block) → i ≡ Alloc id key → blocks ≡ b ∷ more → m id ≡ Some b → (is : List Item) → AreMade m (i ∷ is) blocks ↔ AreMade m is more
+  unfolding AreMade
   alloc-more i id key b blocks more e k found is =
       rw (e, k) (λ h. (let rest : map Some more ≡ map m (allocated is) = cc in rest), λ h. ap₂ ◌∷◌ (sym found) h)
 
-  pub none-made : (is : List Item) (blocks : List Block) → length is ≡ 0 → (length blocks ≡ 0) ↔ Are_made m is blocks
-  unfolding Are_made
+  pub none-made : (is : List Item) (blocks : List Block) → length is ≡ 0 → (length blocks ≡ 0) ↔ AreMade m is blocks
+  unfolding AreMade
   none-made [] [] e = (λ h. refl, λ h. refl)
   none-made [] (b ∷ bs) e = (λ h. absurd (omega (arith, h)), λ h. cc)
   none-made (i ∷ is) blocks e = absurd (omega (arith, e))

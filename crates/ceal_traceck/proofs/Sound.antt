@@ -16,8 +16,8 @@ use Rattle.ceal_code.specs.After.{store_after, memory_after}
 use Rattle.ceal_code.specs.Program.{Code}
 use Rattle.ceal_code.specs.Replay.{Distinct, count, core_numbers, bases, plain_of, block_after, inputs_after}
 use Rattle.ceal_traceck.proofs.Checked.{same-trace}
-use Rattle.ceal_traceck.specs.Laws.{Sound_law, One_verdict_law}
-use Rattle.ceal_traceck.specs.Verdicts.{Replayed, Is_honest, Remembered, Means}
+use Rattle.ceal_traceck.specs.Laws.{SoundLaw, OneVerdictLaw}
+use Rattle.ceal_traceck.specs.Verdicts.{Replayed, IsHonestRecord, Remembered, Means}
 use Rattle.ceal_traceck.specs.declared.verdict.Verdict.{Verdict}
 use Rattle.ceal_traceck.specs.declared.verdict.Verdict.TheVariants.{Yes, NoFit, NotReplay, NotHonest, MemoryDiffers}
 
@@ -58,7 +58,7 @@ made-at m (Core b ∷ bs) [] e n i h = cc
 made-at m (Core b ∷ bs) (c ∷ made) e n zero h = cc
 made-at m (Core b ∷ bs) (c ∷ made) e n (suc i) h = let k : map Some made ≡ map m bs = cc in made-at m bs made k (omega (arith, n)) i (omega (arith, h))
 
-pub sound-law : Sound_law
+pub sound-law : SoundLaw
 sound-law code r (fits, (l, replayed, honest, remembered)) =
     let numbers = core_numbers (blocks_of l) in
     let d = trace-law code r.inputs r.function r.args fits l replayed.replays honest in
@@ -85,8 +85,8 @@ sound-law code r (fits, (l, replayed, honest, remembered)) =
     }
 
 module _ (code : Code) (r : Record) where
-  same-honest : (l m : Trace) → Replayed code r l → Replayed code r m → Is_honest code r l → Is_honest code r m
-  same-honest l m h k = subst (λ l. Is_honest code r l) (same-trace r.forest l m h.items k.items)
+  same-honest : (l m : Trace) → Replayed code r l → Replayed code r m → IsHonestRecord code r l → IsHonestRecord code r m
+  same-honest l m h k = subst (λ l. IsHonestRecord code r l) (same-trace r.forest l m h.items k.items)
 
   same-remembered : (l m : Trace) → Replayed code r l → Replayed code r m → Remembered code r l → Remembered code r m
   same-remembered l m h k = subst (λ l. Remembered code r l) (same-trace r.forest l m h.items k.items)
@@ -127,5 +127,5 @@ module _ (code : Code) (r : Record) where
   one-verdict MemoryDiffers NotHonest h k = absurd (memory-honest h k)
   one-verdict MemoryDiffers MemoryDiffers h k = refl
 
-pub one-verdict-law : One_verdict_law
+pub one-verdict-law : OneVerdictLaw
 one-verdict-law code r = one-verdict code r

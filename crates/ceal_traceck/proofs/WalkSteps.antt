@@ -72,24 +72,12 @@ module _ (code : Code) (x : Plain) where
         λ h. Accepts.closes h,
       )
 
-  pub quiet-wrong : (st : Stack) (below : List Stack) (is : List Item) (after : Type 0) → ((js : List Item) → is ≡ Step ∷ js → ⊥) → Turned (Some false) (Accepts code x (Quiet st) below is) after
-  quiet-wrong st below is after absent = told-false (Accepts code x (Quiet st) below is) after (λ h. let q = begins h in absent q.0 q.1)
-
   pub quiet-more : (st : Stack) (below : List Stack) (is js : List Item) → is ≡ Step ∷ js → Turned None (Accepts code x (Quiet st) below is) (Accepts code x (next code x st) below js)
   quiet-more st below is js k =
       rw k (
         λ h. let q = begins h in let same : js ≡ q.0 = cc (q.1) in rw same q.2,
         λ h. Accepts.quiet h,
       )
-
-  pub makes-first : (key : Key) (v u i : ℕ) (env : Variables) (st : Stack) (below : List Stack) (is : List Item) (after : Type 0) → ((js : List Item) → is ≡ Step ∷ js → ⊥) → Turned (Some false) (Accepts code x (Makes key v u i env st) below is) after
-  makes-first key v u i env st below is after absent =
-      told-false (Accepts code x (Makes key v u i env st) below is) after (λ h. let q = begins h in absent (Alloc (Core q.0) key ∷ q.1) q.2)
-
-  pub makes-wrong : (key : Key) (v u i : ℕ) (env : Variables) (st : Stack) (below : List Stack) (is js : List Item) (after : Type 0) → is ≡ Step ∷ js → ((b : ℕ) (ks : List Item) → js ≡ Alloc (Core b) key ∷ ks → ⊥)
-      → Turned (Some false) (Accepts code x (Makes key v u i env st) below is) after
-  makes-wrong key v u i env st below is js after e absent =
-      told-false (Accepts code x (Makes key v u i env st) below is) after (λ h. let q = begins h in let same : js ≡ Alloc (Core q.0) key ∷ q.1 = cc (e, q.2) in absent q.0 q.1 same)
 
   pub makes-more : (key : Key) (v u i : ℕ) (env : Variables) (st st' : Stack) (below : List Stack) (is js ks : List Item) (b : ℕ) → is ≡ Step ∷ js → js ≡ Alloc (Core b) key ∷ ks → st' ≡ Run u i (set env v (pointer key (Core b))) st
       → Turned None (Accepts code x (Makes key v u i env st) below is) (Accepts code x (next code x st') below ks)
@@ -101,27 +89,12 @@ module _ (code : Code) (x : Plain) where
         λ h. Accepts.makes h,
       )
 
-  pub writes-first : (p : Place) (w : Word) (st : Stack) (below : List Stack) (is : List Item) (after : Type 0) → ((js : List Item) → is ≡ Step ∷ js → ⊥) → Turned (Some false) (Accepts code x (Writes p w st) below is) after
-  writes-first p w st below is after absent = told-false (Accepts code x (Writes p w st) below is) after (λ h. let q = begins h in absent (Write p w ∷ q.0) q.1)
-
-  pub writes-wrong : (p : Place) (w : Word) (st : Stack) (below : List Stack) (is js : List Item) (after : Type 0) → is ≡ Step ∷ js → ((ks : List Item) → js ≡ Write p w ∷ ks → ⊥) → Turned (Some false) (Accepts code x (Writes p w st) below is) after
-  writes-wrong p w st below is js after e absent =
-      told-false (Accepts code x (Writes p w st) below is) after (λ h. let q = begins h in let same : js ≡ Write p w ∷ q.0 = cc (e, q.1) in absent q.0 same)
-
   pub writes-more : (p : Place) (w : Word) (st : Stack) (below : List Stack) (is js ks : List Item) → is ≡ Step ∷ js → js ≡ Write p w ∷ ks → Turned None (Accepts code x (Writes p w st) below is) (Accepts code x (next code x st) below ks)
   writes-more p w st below is js ks e f =
       rw (e, f) (
         λ h. let q = begins h in let same : ks ≡ q.0 = cc (q.1) in rw same q.2,
         λ h. Accepts.writes h,
       )
-
-  pub reads-first : (p : Place) (u : UnitId) (v : ℕ) (args : List Word) (st : Stack) (below : List Stack) (is : List Item) (after : Type 0) → ((js : List Item) → is ≡ Step ∷ js → ⊥) → Turned (Some false) (Accepts code x (Reads p u v args st) below is) after
-  reads-first p u v args st below is after absent = told-false (Accepts code x (Reads p u v args st) below is) after (λ h. let q = begins h in absent (Read p q.0 u v args ∷ q.1) q.2)
-
-  pub reads-wrong : (p : Place) (u : UnitId) (v : ℕ) (args : List Word) (st : Stack) (below : List Stack) (is js : List Item) (after : Type 0) → is ≡ Step ∷ js → ((w : Word) (ks : List Item) → js ≡ Read p w u v args ∷ ks → ⊥)
-      → Turned (Some false) (Accepts code x (Reads p u v args st) below is) after
-  reads-wrong p u v args st below is js after e absent =
-      told-false (Accepts code x (Reads p u v args st) below is) after (λ h. let q = begins h in let same : js ≡ Read p q.0 u v args ∷ q.1 = cc (e, q.2) in absent q.0 q.1 same)
 
   pub reads-more : (p : Place) (u : UnitId) (v : ℕ) (args : List Word) (w : Word) (st st' bottom : Stack) (below all : List Stack) (is js ks : List Item) → is ≡ Step ∷ js → js ≡ Read p w u v args ∷ ks
       → st' ≡ entered code u.0 (given code u.0 v args w) bottom → bottom ≡ Empty → all ≡ st ∷ below

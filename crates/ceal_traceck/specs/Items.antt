@@ -22,10 +22,12 @@ word_known x Null = true
 word_known x (BlockWord b) = is_some (x b)
 word_known x (At p) = is_some (x p.block)
 
+-- whether each block that the words name is known
 abbrev pub words_known : Plain → List Word → Bool
 words_known x [] = true
 words_known x (word ∷ words) = word_known x word && words_known x words
 
+-- whether each block that the key names is known
 abbrev pub key_known : Plain → Key → Bool
 key_known x (Init f args) = words_known x args
 key_known x IntKey = true
@@ -72,5 +74,5 @@ allocated (Read p value u v args ∷ is) = allocated is
 allocated (End ∷ is) = allocated is
 
 -- the blocks are those that the items allocate, in order
-unfoldable pub Are_made : (BlockId → Option Block) → List Item → List Block → Type 0
-Are_made m items blocks = map Some blocks ≡ map m (allocated items)
+unfoldable pub AreMade : (BlockId → Option Block) → List Item → List Block → Type 0
+AreMade m items blocks = map Some blocks ≡ map m (allocated items)

@@ -26,9 +26,10 @@ pub record Sound (code : Code) (r : Record) : Type 0 where
       → fresh code r.function r.args r.inputs fuel ≡ Some (record { memory = memory; steps = steps_in r.forest; blocks = length r.memory.made })
   pub short : (fuel : ℕ) → fuel < steps_in r.forest → fresh code r.function r.args r.inputs fuel ≡ None
 
-abbrev pub Sound_law : Type 0
-Sound_law = (code : Code) (r : Record) → Means code r Yes → Sound code r
+-- Where the checker says yes, the record is that of a run.
+abbrev pub SoundLaw : Type 0
+SoundLaw = (code : Code) (r : Record) → Means code r Yes → Sound code r
 
 -- a record has one verdict at most
-abbrev pub One_verdict_law : Type 0
-One_verdict_law = (code : Code) (r : Record) (v w : Verdict) → Means code r v → Means code r w → v ≡ w
+abbrev pub OneVerdictLaw : Type 0
+OneVerdictLaw = (code : Code) (r : Record) (v w : Verdict) → Means code r v → Means code r w → v ≡ w

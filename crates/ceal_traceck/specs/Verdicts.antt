@@ -10,8 +10,8 @@ use Rattle.ceal_traceck.specs.declared.verdict.Verdict.{Verdict}
 use Rattle.ceal_traceck.specs.declared.verdict.Verdict.TheVariants.{Yes, NoFit, NotReplay, NotHonest, MemoryDiffers}
 
 -- the recorded call may be run on the recorded inputs
-abbrev pub Call_fits : Code → Record → Type 0
-Call_fits code r = Fits code r.inputs r.function r.args
+abbrev pub CallFits : Code → Record → Type 0
+CallFits code r = Fits code r.inputs r.function r.args
 
 -- the recorded items are those of this trace, which replays the call
 pub record Replayed (code : Code) (r : Record) (l : Trace) : Type 0 where
@@ -19,8 +19,8 @@ pub record Replayed (code : Code) (r : Record) (l : Trace) : Type 0 where
   pub replays : Replays code r.inputs r.function r.args l
 
 -- each read of the trace records the content that its place has at that moment, from the recorded inputs on
-abbrev pub Is_honest : Code → Record → Trace → Type 0
-Is_honest code r l = IsHonest code r.inputs l
+abbrev pub IsHonestRecord : Code → Record → Trace → Type 0
+IsHonestRecord code r l = IsHonest code r.inputs l
 
 -- the recorded memory is the one after the trace: the inputs, and the core blocks in the order of their allocations
 pub record Remembered (code : Code) (r : Record) (l : Trace) : Type 0 where
@@ -29,8 +29,8 @@ pub record Remembered (code : Code) (r : Record) (l : Trace) : Type 0 where
 
 -- a verdict says that what it names is wrong, and that nothing is wrong that is asked before it
 abbrev pub Means : Code → Record → Verdict → Type 0
-Means code r Yes = Call_fits code r × ((l : Trace) × Replayed code r l × Is_honest code r l × Remembered code r l)
-Means code r NoFit = Call_fits code r → ⊥
-Means code r NotReplay = Call_fits code r × ((l : Trace) → Replayed code r l → ⊥)
-Means code r NotHonest = Call_fits code r × ((l : Trace) × Replayed code r l × (Is_honest code r l → ⊥))
-Means code r MemoryDiffers = Call_fits code r × ((l : Trace) × Replayed code r l × Is_honest code r l × (Remembered code r l → ⊥))
+Means code r Yes = CallFits code r × ((l : Trace) × Replayed code r l × IsHonestRecord code r l × Remembered code r l)
+Means code r NoFit = CallFits code r → ⊥
+Means code r NotReplay = CallFits code r × ((l : Trace) → Replayed code r l → ⊥)
+Means code r NotHonest = CallFits code r × ((l : Trace) × Replayed code r l × (IsHonestRecord code r l → ⊥))
+Means code r MemoryDiffers = CallFits code r × ((l : Trace) × Replayed code r l × IsHonestRecord code r l × (Remembered code r l → ⊥))

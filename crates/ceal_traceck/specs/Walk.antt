@@ -39,6 +39,7 @@ waiting stacks = map stack_in (reverse stacks)
 abbrev pub code_of : Walk → Code
 code_of w = code_in w.memory.now
 
+-- the plain words that the walk knows
 abbrev pub plain_of : Walk → Plain
 plain_of w = plain_in w.memory.now
 
@@ -47,8 +48,8 @@ abbrev pub Goes : Walk → Act → Type 0
 Goes w a = Accepts (code_of w) (plain_of w) a (waiting w.below.items) w.items.now
 
 -- or what it does next
-abbrev pub Is_right : Walk → Type 0
-Is_right w = Goes w (next (code_of w) (plain_of w) (stack_in w.stack))
+abbrev pub IsRight : Walk → Type 0
+IsRight w = Goes w (next (code_of w) (plain_of w) (stack_in w.stack))
 
 -- A turn has told whether the one fact holds, or it has left another fact in its place.
 abbrev pub Turned : Option Bool → Type 0 → Type 0 → Type 0

@@ -2,7 +2,7 @@
 
 ghost use Rattle.std.specs.Prelude.{◌≡◌, true, IfOk};
 ghost use Rattle.ceal_code.specs.Valid.{valid};
-ghost use Rattle.ceal_traceck.specs.Verdicts.{Call_fits, Means};
+ghost use Rattle.ceal_traceck.specs.Verdicts.{CallFits, Means};
 
 use crate::call::call_fits;
 use crate::honesty::store_honest;
@@ -18,7 +18,7 @@ use std::alloc::Global;
 
 /// What is wrong with a record whose call fits, if anything is.
 fn check_items(alloc: Global, code: &Code, kept: &Record) -> Result<Verdict, NoMemory>
-    requires { Call_fits code.now kept.now }
+    requires { CallFits code.now kept.now }
     ensures { IfOk result (λ v. Means code.now kept.now v) }
 {
     let items = kept.forest.items();

@@ -6,7 +6,7 @@ ghost use Rattle.ceal_base.specs.declared.forest.Item.{Item as AnyItem};
 ghost use Rattle.ceal_base.specs.declared.word.BlockId.TheVariants.{Input as InputBlock};
 ghost use Rattle.ceal_code.specs.PlainWords.{block_shape, block_word};
 ghost use Rattle.ceal_code.specs.Tables.{plain_in, memory_in};
-ghost use Rattle.ceal_traceck.specs.Items.{Are_made};
+ghost use Rattle.ceal_traceck.specs.Items.{AreMade};
 
 use ceal_base::forest::Item;
 use ceal_base::kind::Shape;
@@ -16,7 +16,7 @@ use ceal_base::word::{BlockId, Word};
 use ceal_code::plain_words::PlainWords;
 use ceal_code::trace_memory::TraceMemory;
 
-/// The next number; where it has no room in 32 bits, there is no memory for so many fields or blocks.
+/// The next number; An overflow of 32 bits is told as `NoMemory`: that many fields or blocks cannot be in memory.
 fn one_more(n: u32) -> Result<u32, NoMemory>
     ensures { IfOk result (λ m. m ≡ n + 1) }
 {
@@ -94,7 +94,7 @@ fn are_inputs(memory: &TraceMemory<'_>, blocks: &[BlockWords]) -> Result<bool, N
     Ok(true)
 }
 
-/// The blocks behind the one that the memory has of this number, if that is the first of them.
+/// The blocks after the one that the memory has of this number, if that is the first of them.
 fn behind<'b>(
     memory: &TraceMemory<'_>,
     id: BlockId,
@@ -125,10 +125,10 @@ fn left_over<'b>(
     blocks: &'b [BlockWords],
 ) -> Result<Option<&'b [BlockWords]>, NoMemory>
     ensures none { IfOk result (λ found. IfNone found ((is : List AnyItem) →
-        Are_made (memory_in memory.now) (item.now ∷ is) blocks.now → ⊥)) }
+        AreMade (memory_in memory.now) (item.now ∷ is) blocks.now → ⊥)) }
     ensures some { IfOk result (λ found. IfSome found (λ more. (is : List AnyItem) →
-        Are_made (memory_in memory.now) (item.now ∷ is) blocks.now
-        ↔ Are_made (memory_in memory.now) is more.now)) }
+        AreMade (memory_in memory.now) (item.now ∷ is) blocks.now
+        ↔ AreMade (memory_in memory.now) is more.now)) }
 {
     match item {
         Item::Alloc { block, .. } => behind(memory, *block, blocks),
@@ -146,7 +146,7 @@ fn are_made(
     blocks: &[BlockWords],
 ) -> Result<bool, NoMemory>
     ensures { IfOk result
-        (λ same. IsTrue same ↔ Are_made (memory_in memory.now) items.now blocks.now) }
+        (λ same. IsTrue same ↔ AreMade (memory_in memory.now) items.now blocks.now) }
 {
     let mut items = items;
     let mut blocks = blocks;
@@ -160,7 +160,7 @@ fn are_made(
     Ok(blocks.is_empty())
 }
 
-/// Whether the recorded memory is the one after the items: it has so many inputs, each is that of the memory, and its core
+/// Whether the recorded memory is the one after the items: it has as many inputs, each is that of the memory, and its core
 /// blocks are those that the items allocate, in their order.
 pub fn is_remembered(
     memory: &TraceMemory<'_>,
@@ -172,7 +172,7 @@ pub fn is_remembered(
         ((length recorded.now.inputs ≡ inputs)
         × ((i : ℕ) → i < length recorded.now.inputs →
         memory_in memory.now (InputBlock i) ≡ slice_get recorded.now.inputs i)
-        × Are_made (memory_in memory.now) items.now recorded.now.made)) }
+        × AreMade (memory_in memory.now) items.now recorded.now.made)) }
 {
     let blocks = recorded.inputs.items();
     if blocks.len() != inputs {

@@ -9,7 +9,7 @@ ghost use Rattle.ceal_code.specs.Init.{arguments};
 ghost use Rattle.ceal_code.specs.Stacks.{stack_in, act_in};
 ghost use Rattle.ceal_code.specs.Step.{Over, Makes, Writes, Reads, next, started};
 ghost use Rattle.ceal_code.specs.Tables.{code_in, plain_in};
-ghost use Rattle.ceal_traceck.specs.Walk.{Accepts, Goes, Is_right, Turned};
+ghost use Rattle.ceal_traceck.specs.Walk.{Accepts, Goes, IsRight, Turned};
 
 use ceal_base::forest::{Item, Key};
 use ceal_base::no_memory::NoMemory;
@@ -31,7 +31,7 @@ struct Walk<'a> {
     below: Vec<Stack>,
 }
 
-/// What stands behind a step.
+/// What follows a step.
 fn after_step(items: &[Item]) -> Option<&[Item]>
     ensures none { IfNone result ((is : List AnyItem) → items.now ≡ StepItem ∷ is → ⊥) }
     ensures some { IfSome result (λ more. items.now ≡ StepItem ∷ more.now) }
@@ -48,7 +48,7 @@ fn after_step(items: &[Item]) -> Option<&[Item]>
     }
 }
 
-/// What stands behind the end of a read.
+/// What follows the end of a read.
 fn after_end(items: &[Item]) -> Option<&[Item]>
     ensures none { IfNone result ((is : List AnyItem) → items.now ≡ EndItem ∷ is → ⊥) }
     ensures some { IfSome result (λ more. items.now ≡ EndItem ∷ more.now) }
@@ -65,7 +65,7 @@ fn after_end(items: &[Item]) -> Option<&[Item]>
     }
 }
 
-/// The number of the core block that is allocated with this key, and what stands behind the allocation.
+/// The number of the core block that is allocated with this key, and what follows the allocation.
 fn after_alloc<'a>(items: &'a [Item], wanted: &Key) -> Option<(u32, &'a [Item])>
     ensures none { IfNone result ((b : ℕ) (is : List AnyItem) →
         items.now ≡ AllocItem (CoreBlock b) wanted.now ∷ is → ⊥) }
@@ -93,7 +93,7 @@ fn after_alloc<'a>(items: &'a [Item], wanted: &Key) -> Option<(u32, &'a [Item])>
     }
 }
 
-/// What stands behind this write.
+/// What follows this write.
 fn after_write(items: &[Item], at: Place, word: Word) -> Option<&[Item]>
     ensures none { IfNone result
         ((is : List AnyItem) → items.now ≡ WriteItem at word ∷ is → ⊥) }
@@ -117,7 +117,7 @@ fn after_write(items: &[Item], at: Place, word: Word) -> Option<&[Item]>
     }
 }
 
-/// The content that is read by this closure, and what stands behind the beginning of the read.
+/// The content that is read by this closure, and what follows the beginning of the read.
 fn after_read<'a>(items: &'a [Item], closure: &Closure) -> Option<(Word, &'a [Item])>
     ensures none { IfNone result ((v : AnyWord) (is : List AnyItem) → items.now ≡ ReadItem
         closure.now.place v closure.now.unit closure.now.var closure.now.args ∷ is → ⊥) }
@@ -156,7 +156,7 @@ impl<'a> Walk<'a> {
     /// The running stack is over: the read that it is inside of ends, or there is nothing more.
     fn close(&mut self) -> Option<bool>
         ensures memory { self.new.memory ≡ self.old.memory }
-        ensures turn { Turned result (Goes self.old Over) (Is_right self.new) }
+        ensures turn { Turned result (Goes self.old Over) (IsRight self.new) }
         ensures fewer { MatchOption result
             (length self.new.items.now < length self.old.items.now) (λ told. ⊤) }
     {
@@ -177,8 +177,9 @@ impl<'a> Walk<'a> {
     fn make(&mut self, key: Key, var: u32, unit: Activation) -> Result<Option<bool>, NoMemory>
         ensures memory { OnOk result (self.new.memory ≡ self.old.memory) }
         ensures turn { IfOk result (λ told. Turned told (Goes self.old
-            (Makes key var unit.unit unit.index (arguments unit.env.items) (stack_in self.old.stack)))
-            (Is_right self.new)) }
+            (Makes key var unit.unit unit.index (arguments unit.env.items)
+            (stack_in self.old.stack)))
+            (IsRight self.new)) }
         ensures fewer { IfOk result (λ told. MatchOption told
             (length self.new.items.now < length self.old.items.now) (λ told. ⊤)) }
     {
@@ -199,7 +200,7 @@ impl<'a> Walk<'a> {
     fn write(&mut self, place: Place, value: Word) -> Option<bool>
         ensures memory { self.new.memory ≡ self.old.memory }
         ensures turn { Turned result (Goes self.old
-            (Writes place value (stack_in self.old.stack))) (Is_right self.new) }
+            (Writes place value (stack_in self.old.stack))) (IsRight self.new) }
         ensures fewer { MatchOption result
             (length self.new.items.now < length self.old.items.now) (λ told. ⊤) }
     {
@@ -218,7 +219,7 @@ impl<'a> Walk<'a> {
         ensures memory { OnOk result (self.new.memory ≡ self.old.memory) }
         ensures turn { IfOk result (λ told. Turned told (Goes self.old (Reads
             closure.place closure.unit closure.var closure.args (stack_in self.old.stack)))
-            (Is_right self.new)) }
+            (IsRight self.new)) }
         ensures fewer { IfOk result (λ told. MatchOption told
             (length self.new.items.now < length self.old.items.now) (λ told. ⊤)) }
     {
@@ -240,7 +241,7 @@ impl<'a> Walk<'a> {
     fn step(&mut self) -> Option<bool>
         ensures memory { self.new.memory ≡ self.old.memory }
         ensures turn { Turned result (Goes self.old (act_in Act.Quiet (stack_in self.old.stack)))
-            (Is_right self.new) }
+            (IsRight self.new) }
         ensures fewer { MatchOption result
             (length self.new.items.now < length self.old.items.now) (λ told. ⊤) }
     {
@@ -255,7 +256,7 @@ impl<'a> Walk<'a> {
     fn perform(&mut self, act: Act) -> Result<Option<bool>, NoMemory>
         ensures memory { OnOk result (self.new.memory ≡ self.old.memory) }
         ensures turn { IfOk result (λ told. Turned told
-            (Goes self.old (act_in act (stack_in self.old.stack))) (Is_right self.new)) }
+            (Goes self.old (act_in act (stack_in self.old.stack))) (IsRight self.new)) }
         ensures fewer { IfOk result (λ told. MatchOption told
             (length self.new.items.now < length self.old.items.now) (λ told. ⊤)) }
     {
@@ -271,7 +272,7 @@ impl<'a> Walk<'a> {
     /// One step of the code, or the end of a read: it answers whether the items are right, where that is told now.
     fn turn(&mut self) -> Result<Option<bool>, NoMemory>
         ensures memory { OnOk result (self.new.memory ≡ self.old.memory) }
-        ensures turn { IfOk result (λ told. Turned told (Is_right self.old) (Is_right self.new)) }
+        ensures turn { IfOk result (λ told. Turned told (IsRight self.old) (IsRight self.new)) }
         ensures fewer { IfOk result (λ told. MatchOption told
             (length self.new.items.now < length self.old.items.now) (λ told. ⊤)) }
     {
@@ -281,7 +282,7 @@ impl<'a> Walk<'a> {
 
     /// Turns until it is told whether the items are right.
     fn is_right(self) -> Result<bool, NoMemory>
-        ensures { IfOk result (λ right. IsTrue right ↔ Is_right self.entry) }
+        ensures { IfOk result (λ right. IsTrue right ↔ IsRight self.entry) }
     {
         let mut walk = self;
         loop {

@@ -4,15 +4,16 @@ use Rattle.std.specs.Prelude.{bytes_eq, nat_eq, nat_le, is_none, is_some, unwrap
 use Rattle.std.specs.Option.{option_map}
 use Rattle.std.specs.List.{list_all, prefix_len}
 use Rattle.std.specs.Ordering.{int_eq}
+use Rattle.ceal_base.specs.Digits.{number_of, is_digit}
 use Rattle.ceal_lex.specs.declared.token.Reserved.{Reserved}
 use Rattle.ceal_lex.specs.declared.token.Reserved.TheVariants as words
 use Rattle.ceal_lex.specs.declared.token.Sign.{Sign}
 use Rattle.ceal_lex.specs.declared.token.Sign.TheVariants as signs
 use Rattle.ceal_lex.specs.declared.token.TokenKind.{TokenKind}
 use Rattle.ceal_lex.specs.declared.token.TokenKind.TheVariants as kinds
-use Rattle.ceal_lex.specs.Characters.{SLASH, STAR, is_digit, is_letter, is_space, is_word_byte}
+use Rattle.ceal_lex.specs.Characters.{SLASH, STAR, is_letter, is_space, is_word_byte}
 use Rattle.ceal_lex.specs.Pieces.{Piece, space, line_comment, block_comment, token, spelled}
-use Rattle.ceal_lex.specs.Spelling.{LARGEST, number_of, reserved_text, sign_text}
+use Rattle.ceal_lex.specs.Spelling.{LARGEST, reserved_text, sign_text}
 
 abbrev pub all_words : List Reserved
 all_words =

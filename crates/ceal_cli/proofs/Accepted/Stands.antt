@@ -8,15 +8,16 @@ use Rattle.std.proofs.lemmas.Bool.{and_parts, cases_lt, false≢true, leb-true, 
 use Rattle.std.proofs.lemmas.Bool.Decides.{nat_tests, Decides-int_eq}
 use Rattle.std.proofs.lemmas.List.{length-append}
 use Rattle.std.proofs.lemmas.Slice.Eq.{bytes_eq-Decides}
+use Rattle.ceal_base.specs.Digits.{number_of, is_digit}
 use Rattle.ceal_lex.specs.declared.token.Reserved.{Reserved}
 use Rattle.ceal_lex.specs.declared.token.Reserved.TheVariants as words
 use Rattle.ceal_lex.specs.declared.token.Sign.{Sign}
 use Rattle.ceal_lex.specs.declared.token.Sign.TheVariants as signs
 use Rattle.ceal_lex.specs.declared.token.TokenKind.{TokenKind}
 use Rattle.ceal_lex.specs.declared.token.TokenKind.TheVariants as kinds
-use Rattle.ceal_lex.specs.Characters.{is_digit, is_letter, is_word_byte}
+use Rattle.ceal_lex.specs.Characters.{is_letter, is_word_byte}
 use Rattle.ceal_lex.specs.Pieces.{BeginsComment, IsLongest, Piece, Stand, Stands, block_comment, line_comment, space, spelled, token}
-use Rattle.ceal_lex.specs.Spelling.{AreDigits, IsLexeme, IsWord, LARGEST, Spells, number_of, reserved_text, sign_text}
+use Rattle.ceal_lex.specs.Spelling.{AreDigits, IsLexeme, IsWord, LARGEST, Spells, reserved_text, sign_text}
 use Rattle.ceal_cli.proofs.Accepted.Pieces.{all_may_stand, are_digits, begins_comment, found, is_apart, is_spelled, is_word, may_stand, reserved, sign}
 
 -- What spells a token.

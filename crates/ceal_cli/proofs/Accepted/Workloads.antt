@@ -14,12 +14,12 @@ use Rattle.ceal_base.specs.declared.fault.Fault.{Fault}
 use Rattle.ceal_base.specs.declared.syntax.Entry.{Entry}
 use Rattle.ceal_base.specs.declared.syntax.Tree.{Tree}
 use Rattle.ceal_base.specs.declared.typed.Typed.{Typed}
+use Rattle.ceal_base.specs.Digits.{continued}
 use Rattle.ceal_lex.specs.Pieces.{Piece, spelled}
 use Rattle.ceal_lex.specs.declared.token.Token.{Token}
 use Rattle.ceal_grammar.specs.declared.state.State.{State}
 use Rattle.ceal_types.specs.declared.program.Program.{Program}
 use Rattle.ceal_flow.specs.Program.{Graph}
-use Rattle.ceal_lex.specs.Spelling.{continued}
 use Rattle.ceal_lex.specs.Tokens.{tokens_from}
 use Rattle.ceal_grammar.specs.Judged.{judged}
 use Rattle.ceal_grammar.specs.Machine.{reduced, same_sign, same_word, wrapped}
@@ -35,7 +35,7 @@ use Rattle.ceal_cli.proofs.Accepted.Lengths.{list_short, tree_short}
 use Rattle.ceal_cli.proofs.Accepted.Parts.{input, is_clear}
 use Rattle.ceal_cli.proofs.Accepted.Pieces.{all_may_stand, found, scanned}
 use Rattle.ceal_cli.proofs.Accepted.Source.{IsFine, accepted_input}
-use Rattle.ceal_cli.specs.Laws.{Accepted_law, Short_law}
+use Rattle.ceal_cli.specs.Laws.{AcceptedLaw, ShortLaw}
 
 -- The phases, each with all that unfolds where it computes.
 unfoldable characters : ℕ → List ℕ → List Piece
@@ -87,10 +87,10 @@ tree_parts seed size = refl
 abbrev Acceptable : List ℕ → Type 0
 Acceptable text = length text < 2 ^ 32 → IsAccepted text
 
-pub accepted-law : Accepted_law
+pub accepted-law : AcceptedLaw
 accepted-law OfList seed size = subst Acceptable (sym (list_parts seed size)) (accepted_input map_program (list_script seed size) fine.0)
 accepted-law OfTree seed size = subst Acceptable (sym (tree_parts seed size)) (accepted_input eval_program (tree_script seed size) fine.1)
 
-pub short-law : Short_law
+pub short-law : ShortLaw
 short-law OfList seed size h = list_short seed size h
 short-law OfTree seed size h = tree_short seed size h

@@ -1,4 +1,4 @@
-use Rattle.std.proofs.Common.{◌∙◌, ap, arith, length, length-append, ◌∷◌, rules}
+use Rattle.std.proofs.Common.{◌∙◌, arith}
 use Rattle.std.specs.Option.{option_copied}
 use Rattle.ceal_cli.proofs.Growing.{at_start, one_more, some_of_it, all_written, all_begun}
 use Rattle.ceal_cli.proofs.ScriptLines.{lines_cut, copied_some, no_lines}

@@ -2,7 +2,7 @@ use Rattle.std.proofs.Common.{◌≡◌, ◌++◌}
 use Rattle.ceal_dump.specs.Reading.{blocks_from}
 use Rattle.ceal_dump.proofs.blocks.blocks.Given as goal
 
--- what is read from here on belongs behind what was read so far
+-- what is read from here on belongs after what was read so far
 abbrev pub invariant-loop-left : goal.invariant-loop-left
 invariant-loop-left l = record {
   same : l.blocks.items ++ (blocks_from l.left l.reader).0 ≡ (blocks_from l.count l.fn.reader).0;

@@ -2,7 +2,7 @@ use Rattle.std.proofs.Common.{◌≡◌, ℕ, ◌+◌, ◌≤◌, ◌++◌, leng
 use Rattle.ceal_dump.specs.Reading.{words_from}
 use Rattle.ceal_dump.proofs.words.words.Given as goal
 
--- what is read from here on belongs behind what was read so far; each word took a byte at least
+-- what is read from here on belongs after what was read so far; each word took a byte at least
 abbrev pub invariant-loop-reader : goal.invariant-loop-reader
 invariant-loop-reader l = record {
   few : length l.words.items + length l.reader ≤ length l.fn.reader;

@@ -1,10 +1,10 @@
 use Rattle.ceal_session.proofs.KeptLine.{kept-law}
-use Rattle.ceal_session.proofs.SomeReply.{Repair_laws}
+use Rattle.ceal_session.proofs.SomeReply.{RepairLaws}
 use Rattle.ceal_session.proofs.laws.kept_line.Goals as goal
 
 pub returns : goal.returns
 returns c =
-    let repairs : Repair_laws = record {
+    let repairs : RepairLaws = record {
       first = c.first_law.ensures.law;
       ends = c.end_law.ensures.law;
       functions = c.function_law.ensures.law;

@@ -1,0 +1,10 @@
+use Rattle.ceal_cli.proofs.OneRecord.{determined}
+use Rattle.ceal_cli.proofs.laws.own_replies.Goals as goal
+
+pub returns : goal.returns
+returns c = record {
+  own = c.own_replies.ensures.own;
+  refused = c.own_replies.ensures.refused;
+  once = determined c.one_reply-2.ensures.command c.one_reply-2.ensures.reply;
+  alone = c.one_reply.ensures.alone;
+}

@@ -1,0 +1,5 @@
+use Rattle.ceal_cli.proofs.Verified.{verified-law}
+use Rattle.ceal_cli.proofs.laws.verified.Goals as goal
+
+pub returns : goal.returns
+returns c = record { law = verified-law c.one_answer.ensures.law c.one_code.ensures.law c.sound_law.ensures.law }

@@ -1,0 +1,13 @@
+use Rattle.std.proofs.Common.{◌∙◌}
+use Rattle.ceal_cli.proofs.OutputLaws.{many_told, many_part}
+use Rattle.ceal_cli.proofs.many.many.Goals as goal
+
+pub returns-in-Ok-clause-all : goal.returns-in-Ok-clause-all
+returns-in-Ok-clause-all g c =
+    many_told _ _ c.args.input.now c.split.result c.split.ensures.parts c.args.program c.requires.program c.requires.compiled c.args.fuel c.reply_all.result
+    (rw (← c.script.ensures, ← (c.in-Ok.ensures.maker ∙ c.new.ensures)) c.reply_all.ensures.all)
+
+pub returns-in-Ok-clause-part : goal.returns-in-Ok-clause-part
+returns-in-Ok-clause-part g c =
+    many_part _ _ c.args.input.now c.split.result c.split.ensures.parts c.args.program c.requires.program c.requires.compiled c.args.fuel
+    (rw (← c.script.ensures, ← (c.in-Ok.ensures.maker ∙ c.new.ensures)) c.reply_all.ensures.part)

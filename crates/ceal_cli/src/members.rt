@@ -1,0 +1,103 @@
+// The sessions of one input, and what makes them.
+
+ghost use Rattle.std.specs.Prelude.{◌≡◌};
+ghost use Rattle.ceal_session.specs.Following.{opened};
+ghost use Rattle.ceal_cli.specs.Members.{Opens};
+
+use crate::generate::program;
+use ceal_base::no_memory::NoMemory;
+use ceal_base::text::Text;
+use ceal_compile::compile::one_answer;
+use ceal_compile::laws::one_code;
+use ceal_compile::program::Program;
+use ceal_many::{Answerer, Maker};
+use ceal_session::laws::{kept_line, some_reply};
+use ceal_session::session::Session;
+use std::alloc::Global;
+use std::marker::Model;
+
+/// A session among others.
+#[derive(Drop)]
+pub struct Member {
+    pub session: Session,
+}
+
+impl Answerer for Member {
+    ghost use Rattle.ceal_cli.specs.Members.{IsIn, IsSound};
+    ghost use Rattle.ceal_cli.specs.Situations.{Replies};
+    ghost use Rattle.ceal_session.specs.Following.{IsLeft};
+
+    type State = Session;
+
+    ghost stands = { λ member m. IsIn member.session m };
+
+    ghost needs = { IsSound };
+
+    ghost answers = { Replies };
+
+    ghost leaves = { IsLeft };
+
+    fn command(&mut self, line: &[u8]) -> Result<Text, NoMemory> {
+        kept_line();
+        some_reply();
+        self.session.command(line)
+    }
+}
+
+/// What makes the sessions of an input, which is compiled again for each. Contracts see the situation in which each of them
+/// begins.
+#[derive(Drop)]
+pub struct Members<'a> {
+    alloc: Global,
+    input: &'a [u8],
+    program: Program,
+    fuel: u32,
+}
+
+impl<'a> Model for Members<'a> {
+    ghost use Rattle.ceal_base.specs.contracts.typed.TypedStmt as statement;
+    ghost use Rattle.ceal_code.specs.contracts.expr.CodeExpr as expr;
+    ghost use Rattle.ceal_code.specs.contracts.function.InitStmt as initialising;
+    ghost use Rattle.ceal_cli.specs.Members.{Opens};
+    ghost use Rattle.ceal_session.specs.Following.{opened};
+    ghost use Rattle.ceal_session.specs.State.{Situation};
+    ghost use Rattle.std.specs.Coded.{codes};
+
+    ghost Value = { Situation };
+
+    ghost coded = { Prim.hlevel (codes, statement.the_row.coded, expr.the_row.coded, initialising.the_row.coded) };
+
+    ghost view = { λ o. opened o.program o.fuel };
+
+    ghost invariant = { λ o. Opens o.input.now o.program o.fuel };
+}
+
+impl<'a> Members<'a> {
+    /// What makes the sessions of this input, whose program this is.
+    pub fn new(alloc: Global, input: &'a [u8], program: Program, fuel: u32) -> Members<'a>
+        requires { Opens input.now program fuel }
+        ensures { result ≡ opened program fuel }
+    {
+        Members {
+            alloc,
+            input,
+            program,
+            fuel,
+        }
+    }
+}
+
+impl<'a> Maker for Members<'a> {
+    type Made = Member;
+
+    ghost opening = { λ m. m };
+
+    fn make(&self) -> Result<Member, NoMemory> {
+        one_answer();
+        one_code();
+        some_reply();
+        let program = program(self.alloc, self.input)?;
+        let session = Session::new(self.alloc, program, self.fuel)?;
+        Ok(Member { session })
+    }
+}

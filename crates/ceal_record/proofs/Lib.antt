@@ -1,0 +1,7 @@
+-- what crates above cite
+pub mod Left
+-- the rest
+pub mod Places
+pub mod Words
+pub mod InOrder
+pub mod SomeRecord

@@ -1,0 +1,5 @@
+-- what the crate promises
+pub mod Recorded
+pub mod Laws
+-- what its own functions say of each other
+pub mod Numbers
