@@ -18,7 +18,7 @@ use Rattle.ceal_theory.proofs.Honesty.{fix-work}
 use Rattle.ceal_theory.proofs.Inputs.{fits-more}
 use Rattle.ceal_theory.proofs.Turns.{at, turn-kept, turn-ahead, finishes-fix, finishes-anew}
 use Rattle.ceal_theory.specs.Adjust.{Adjusts, Firsts}
-use Rattle.ceal_adjust.specs.Answers.{Comes, Completes, Exceeds, Answered, IsRepair, Is_answer}
+use Rattle.ceal_adjust.specs.Answers.{Comes, Completes, Exceeds, Answered, IsRepair, IsAnswer}
 use Rattle.ceal_theory.specs.Computed.{adjusted, first_of}
 use Rattle.ceal_theory.specs.Laws.{Edited}
 use Rattle.ceal_theory.specs.Repair.{State, own, begins}
@@ -31,18 +31,6 @@ pub turned : (code now : Code) (m : Machine) (t : Turn) → now ≡ code → tur
 turned code now m t e h = subst (λ k. turn k own m ≡ t) e h
 
 module _ (code : Code) (fuel : ℕ) where
-  -- at the beginning
-  pub comes-first : (m : Machine) → Comes code fuel m m [] 0
-  comes-first m = record {
-    back = λ s' rest h. h;
-    ahead = λ s' items h. record { rest = items; same = refl; finishes = h };
-    counted = refl;
-    within = omega arith;
-  }
-
-  pub comes-begin : (m : Machine) (out : List Item) → out ≡ [] → Comes code fuel m m out 0
-  comes-begin m out e = rw e (comes-first m)
-
   -- after one turn more
   pub comes-more : (start m m' : Machine) (out written : List Item) (steps more : ℕ) → Comes code fuel start m out steps
       → turn code own m ≡ Went written m' → more ≡ steps_in written → steps + more ≤ fuel → Comes code fuel start m' (out ++ written) (steps + more)
@@ -140,11 +128,11 @@ module _ (code : Code) (old new : List Block) (f : ℕ) (args : List Word) (l : 
           absurd (omega (arith, over, ap steps_in (append-nil (flat a.0.items)) ∙ steps-flat a.0.items, a.2, s.2))
 
 module _ (code : Code) (inputs : List Block) (f : ℕ) (args : List Word) (fits : Fits code inputs f args) (fuel : ℕ) where
-  pub first-answer : (a : Adjusted) → Answered code fuel (begin code inputs f args) a → Is_answer (first_of code inputs fuel f args) (fresh code f args inputs fuel) a
+  pub first-answer : (a : Adjusted) → Answered code fuel (begin code inputs f args) a → IsAnswer (first_of code inputs fuel f args) (fresh code f args inputs fuel) a
   first-answer (Done forest work) c = first-done code inputs f args fits fuel forest work c
   first-answer OutOfFuel h = first-out code inputs f args fits fuel h
 
 module _ (code : Code) (old new : List Block) (f : ℕ) (args : List Word) (l : Trace) (number : ℕ) (e : Edited code old new f args l number) (fuel : ℕ) where
-  pub adjust-answer : (a : Adjusted) → Answered code fuel (begin-fix code new l number) a → Is_answer (adjusted code new number fuel l) (fresh code f args new fuel) a
+  pub adjust-answer : (a : Adjusted) → Answered code fuel (begin-fix code new l number) a → IsAnswer (adjusted code new number fuel l) (fresh code f args new fuel) a
   adjust-answer (Done forest work) c = adjust-done code old new f args l number e fuel forest work c
   adjust-answer OutOfFuel h = adjust-out code old new f args l number e fuel h

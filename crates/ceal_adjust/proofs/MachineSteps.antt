@@ -1,5 +1,5 @@
 -- Steps of the machine as the code keeps it.
-use Rattle.std.proofs.Common.{◌≡◌, ℕ, Bool, false, Some, None, List, [], ◌∷◌, ◌++◌, ◌+◌, drop, reverse, refl, ap, sym, ◌∙◌, Result, Ok, Err, IfOk}
+use Rattle.std.proofs.Common.{◌≡◌, ℕ, Bool, false, Some, List, [], ◌∷◌, ◌++◌, ◌+◌, drop, reverse, refl, ap, sym, ◌∙◌, Result, Ok, Err, IfOk}
 use Rattle.std.proofs.lemmas.List.{reverse-append}
 use Rattle.ceal_base.specs.Operators.{same_word}
 use Rattle.ceal_base.specs.declared.forest.Item.{Item}
@@ -21,7 +21,7 @@ use Rattle.ceal_theory.specs.Turns.{Frames, Machine, Turn, Went, opened, making,
 use Rattle.ceal_adjust.specs.Closures.{find_closure}
 use Rattle.ceal_adjust.specs.Machines.{code_of, state_in, frames_in, after, left_over, machine_of, machine_in}
 use Rattle.ceal_adjust.specs.declared.frame.Frame.{Frame}
-use Rattle.ceal_adjust.specs.declared.frame.Frame.TheVariants.{Mend, Run as RunFrame}
+use Rattle.ceal_adjust.specs.declared.frame.Frame.TheVariants.{Mend}
 use Rattle.ceal_adjust.specs.declared.frame.Mode.TheVariants.{Fixing as IsFixing, Running as IsRunning}
 use Rattle.ceal_adjust.specs.declared.frame.Mode.{Mode as CodeMode}
 use Rattle.ceal_adjust.specs.declared.repair.Repair.{Repair}
@@ -63,16 +63,6 @@ pub read-taken : (code : Code) (s t : State) (fs gs : List Frame) (is : List Ite
     ≡ reading code s (frames_in (reverse fs) (beyond n (levels is))) c.place c.unit c.var c.args (stack_in below) (loose n (levels is)) (taken_read (find_closure c n is))
 read-taken code s t fs gs is n c below f same now m a b e g h k =
     rw (k, e, h, a, b, g, frames-push fs (Mend below f.levels), found-beyond-read c.place c.unit c.var c.args is n f e) refl
-
--- a read is not taken
-pub read-new : (code : Code) (s t : State) (fs gs : List Frame) (is : List Item) (n : ℕ) (c : Closure) (below stack under : CodeStack) (now : Word)
-    → now ≡ s.store c.place → t ≡ works s → find_closure c n is ≡ None → gs ≡ fs ++ RunFrame below ∷ []
-    → stack_in stack ≡ entered code c.unit.0 (given code c.unit.0 c.var c.args now) (stack_in under) → stack_in under ≡ Empty
-    → Went (Step ∷ Read c.place now c.unit c.var c.args ∷ []) (machine_of IsRunning t stack n gs is)
-    ≡ reading code s (frames_in (reverse fs) (beyond n (levels is))) c.place c.unit c.var c.args (stack_in below) (loose n (levels is)) (taken_read (find_closure c n is))
-unfolding machine_of
-read-new code s t fs gs is n c below stack under now a b e g l m =
-    rw (e, resumed-in code stack under c now l m, a, b, g, frames-push fs (RunFrame below)) refl
 
 -- what is taken is what is found
 pub acts-makes : (code : Code) (s : State) (fs : Frames) (is : List Item) (n : ℕ) (key : Key) (v u i : ℕ) (env : Variables) (below : Stack) (t : Turn) (a : Act)

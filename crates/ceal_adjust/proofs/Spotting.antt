@@ -104,7 +104,7 @@ module _ (is : List Item) where
           walk d j (omega (arith, e)) (shorter j late o) (λ k m i a c. s k m i a (omega (arith, c))) before bal
           ∙ (ap (λ xs. F before xs) it.2 ∙ (sym (s j before it.0 late (omega arith) it.1 some) ∙ ap (λ n. F n (drop (suc j) is)) (sym next)))
 
-    -- the items after so many levels
+    -- the items after the levels
     skipped-none : (l : ℕ) → skipped l [] ≡ []
     unfolding skipped
     skipped-none zero = refl
@@ -265,7 +265,7 @@ module _ (is : List Item) where
             last = inr (omega (arith, deep, sum));
           }
 
-    -- the items of so many levels, and those that are found among them
+    -- the items of the levels, and those that are found among them
     module _ {X : Type 0} (F : ℕ → List Item → Option X) (m : Mark)
         (step : (l : ℕ) (i : Item) (later : List Item) (d : ℕ) → 0 < l → has (mark_of i d) m ≡ false → F (after_item i l) later ≡ F l (i ∷ later))
         (none : (xs : List Item) → F 0 xs ≡ None) (empty : (l : ℕ) → F l [] ≡ None) where

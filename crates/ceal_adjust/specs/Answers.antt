@@ -10,7 +10,7 @@ use Rattle.ceal_theory.specs.Turns.{Machine, Finishes, Goes}
 use Rattle.ceal_adjust.specs.declared.adjust.Adjusted.{Adjusted}
 use Rattle.ceal_adjust.specs.declared.adjust.Adjusted.TheVariants.{Done, OutOfFuel}
 
--- The machine that began has come to this one, and has written these items with so many steps among them. Whatever the
+-- The machine that began has come to this one, and has written these items, with this number of steps among them. Whatever the
 -- one finishes with, the other does.
 pub record Comes (code : Code) (fuel : ℕ) (start m : Machine) (out : List Item) (steps : ℕ) : Type 0 where
   pub back : (s' : State) (rest : List Item) → Finishes code own m s' rest → Finishes code own start s' (out ++ rest)
@@ -29,6 +29,7 @@ pub record Completes (code : Code) (fuel : ℕ) (start : Machine) (forest : List
 abbrev pub Exceeds : Code → ℕ → Machine → Type 0
 Exceeds code fuel start = (s' : State) (items : List Item) → Finishes code own start s' items → fuel < steps_in items
 
+-- what an answer says of the machine that began
 abbrev pub Answered : Code → ℕ → Machine → Adjusted → Type 0
 Answered code fuel start (Done forest work) = Completes code fuel start forest work
 Answered code fuel start OutOfFuel = Exceeds code fuel start
@@ -42,6 +43,6 @@ pub record IsRepair (forest : List Item) (work : ℕ) (defined : Option Repaired
   pub ends : run ≡ Some finished
 
 -- the answer is that of the definition, and it is out of fuel exactly where the run from scratch is
-abbrev pub Is_answer : Option Repaired → Option Finished → Adjusted → Type 0
-Is_answer defined run (Done forest work) = IsRepair forest work defined run
-Is_answer defined run OutOfFuel = run ≡ None
+abbrev pub IsAnswer : Option Repaired → Option Finished → Adjusted → Type 0
+IsAnswer defined run (Done forest work) = IsRepair forest work defined run
+IsAnswer defined run OutOfFuel = run ≡ None

@@ -10,6 +10,6 @@ use Rattle.ceal_adjust.specs.declared.mark.Mark.TheVariants.{Taken}
 abbrev pub mark_of_read : Closure → Mark
 mark_of_read c = Taken c.place c.unit c.var c.args
 
--- the earliest read of the closure in so many levels
+-- the earliest read of the closure in the levels
 abbrev pub find_closure : Closure → ℕ → List Item → Option FoundRead
 find_closure c n is = find_read c.place c.unit c.var c.args n is

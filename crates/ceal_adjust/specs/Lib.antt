@@ -1,6 +1,8 @@
+-- what the crate promises
+pub mod Answers
+-- what its own functions say of each other
 pub mod Marks
 pub mod Places
 pub mod Spots
 pub mod Closures
 pub mod Machines
-pub mod Answers

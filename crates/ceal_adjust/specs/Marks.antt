@@ -7,7 +7,7 @@ use Rattle.ceal_adjust.specs.contracts.mark.MarkPartialEq.TheImpl.{ghosts}
 use Rattle.ceal_adjust.specs.declared.mark.Mark.{Mark}
 use Rattle.ceal_adjust.specs.declared.mark.Mark.TheVariants.{Made, Taken, Closed}
 
--- the mark of an item before which so many reads are open
+-- the mark of an item, where `levels` reads are open before it
 abbrev pub mark_of : Item → ℕ → Option Mark
 mark_of Step n = None
 mark_of (Alloc block key) n = Some (Made key)
@@ -15,6 +15,7 @@ mark_of (Write place value) n = None
 mark_of (Read place value unit var args) n = Some (Taken place unit var args)
 mark_of End n = Some (Closed (pred n))
 
+-- how many reads are open after an item, if there is one
 abbrev pub depth_after : Option Item → ℕ → ℕ
 depth_after None n = n
 depth_after (Some i) n = after_item i n
@@ -25,6 +26,7 @@ unfoldable pub depth : List Item → ℕ → ℕ
 depth is zero = length is
 depth is (suc k) = depth_after (slice_get is k) (depth is k)
 
+-- the mark of an item, if there is one
 abbrev pub mark_in : Option Item → ℕ → Option Mark
 mark_in None n = None
 mark_in (Some i) n = mark_of i n
@@ -33,6 +35,7 @@ mark_in (Some i) n = mark_of i n
 unfoldable pub same_mark : Mark → Mark → Bool
 same_mark x m = ghosts.eq x m
 
+-- whether the mark is this one
 abbrev pub has : Option Mark → Mark → Bool
 has None m = false
 has (Some x) m = same_mark x m

@@ -1,4 +1,4 @@
--- What is found in so many levels of old items, by their marks and depths.
+-- What is found in some levels of old items, by their marks and depths.
 use Rattle.std.specs.Prelude.{◌≡◌, ℕ, ◌+◌, ◌≤◌, ◌<◌, ◌⊎◌, true, false, List, length}
 use Rattle.ceal_base.specs.declared.forest.Item.{Item}
 use Rattle.ceal_adjust.specs.Marks.{marked, depth}
@@ -15,7 +15,7 @@ pub record Next (is : List Item) (m : Mark) (from at : ℕ) : Type 0 where
   pub marked : marked is m at ≡ true
   pub first : Free is m from at
 
--- of so many levels one is left at each place up to the other
+-- at each place up to the other at least one of the levels is left
 pub record Open (is : List Item) (from levels to : ℕ) : Type 0 where
   pub later : from ≤ to
   pub within : to ≤ length is
@@ -30,7 +30,7 @@ pub record Ends (is : List Item) (from levels to : ℕ) : Type 0 where
 abbrev pub Absent : List Item → Mark → ℕ → ℕ → Type 0
 Absent is m from levels = from ≤ length is → (to : ℕ) × Ends is from levels to × Free is m from to
 
--- the first item with the mark in the levels is there, with so many levels left
+-- the first item with the mark in the levels is there, with this number of levels left
 pub record Found (is : List Item) (m : Mark) (from levels at left : ℕ) : Type 0 where
   pub next : Next is m from at
   pub before : Open is from levels (at + 1)

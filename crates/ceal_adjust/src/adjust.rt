@@ -7,7 +7,7 @@ ghost use Rattle.ceal_base.specs.declared.word.Word.{Word as WordOf};
 ghost use Rattle.ceal_code.specs.Fitting.{Fits};
 ghost use Rattle.ceal_code.specs.Fresh.{fresh};
 ghost use Rattle.ceal_code.specs.Valid.{valid};
-ghost use Rattle.ceal_adjust.specs.Answers.{Is_answer};
+ghost use Rattle.ceal_adjust.specs.Answers.{IsAnswer};
 ghost use Rattle.ceal_theory.specs.Computed.{adjusted, first_of};
 ghost use Rattle.ceal_theory.specs.Laws.{Edited};
 
@@ -46,7 +46,7 @@ pub fn first_forest(
     requires valid { valid code.now ≡ true }
     requires fits { Fits code.now inputs.now function args.now }
     ensures answer { IfOk result
-        (λ a. Is_answer (first_of code.now inputs.now fuel function args.now)
+        (λ a. IsAnswer (first_of code.now inputs.now fuel function args.now)
         (fresh code.now function args.now inputs.now fuel) a) }
 {
     let memory = TraceMemory::new(alloc, code, inputs);
@@ -77,7 +77,7 @@ pub fn adjust(
     ensures answer { IfOk result
         (λ a. (old : List Block) (f : ℕ) (args : List WordOf) (l : Trace) → forest.now ≡ flat l
         → Edited code.now old inputs.now f args l next
-        → Is_answer (adjusted code.now inputs.now next fuel l)
+        → IsAnswer (adjusted code.now inputs.now next fuel l)
         (fresh code.now f args inputs.now fuel) a) }
 {
     let mut memory = TraceMemory::new(alloc, code, inputs);

@@ -1,4 +1,5 @@
-//! The first trace of a call and the repair of a trace in code, equal to the definitions of `ceal_theory`.
+//! The first trace of a call and the repair of a trace in code, equal to the definitions of `ceal_theory`: memoised change
+//! propagation (Acar, *Self-Adjusting Computation*, 2005), over a whole trace at each edit.
 //!
 //! `adjust` has the two calls, `first_forest` and `adjust`. Both turn one machine, a `repair` (`complete`): it walks the
 //! old flat items once, with a cursor that only moves on, and runs units anew by the stepper of `ceal_code`, over the

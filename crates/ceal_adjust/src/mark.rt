@@ -21,11 +21,11 @@ pub enum Mark {
         var: u32,
         args: Words,
     },
-    /// an End after which so many reads are open
+    /// an End, with the number of reads that are open after it
     Closed(usize),
 }
 
-/// The mark of an item before which so many reads are open.
+/// The mark of an item, where `depth` reads are open before it.
 pub fn mark_for(item: &Item, depth: usize) -> Result<Option<Mark>, NoMemory>
     ensures { IfOk result (λ m. m ≡ mark_of item.now depth) }
 {
@@ -55,7 +55,7 @@ pub fn mark_for(item: &Item, depth: usize) -> Result<Option<Mark>, NoMemory>
     }
 }
 
-/// No forest that fits into memory has so many levels that the next number is not there.
+/// No forest that fits into memory has 2^32 levels, so the next number is there.
 fn one_more(levels: usize) -> Result<usize, NoMemory>
     ensures { IfOk result (λ n. n ≡ levels + 1) }
 {
@@ -71,7 +71,7 @@ fn one_less(levels: usize) -> usize
     levels.saturating_sub(1)
 }
 
-/// How many levels an item leaves of so many.
+/// How many levels are open after an item, where `levels` are open before it.
 pub fn levels_after(item: &Item, levels: usize) -> Result<usize, NoMemory>
     ensures { IfOk result (λ n. n ≡ after_item item.now levels) }
 {

@@ -154,7 +154,7 @@ impl<'a> Old<'a> {
         self.next(&mark, from)
     }
 
-    /// The place after the End that closes the last of so many levels, or the end of the items, where there is none.
+    /// The place after the End that closes the last of the levels, or the end of the items, where there is none.
     fn end(&self, from: usize, levels: usize) -> usize
         requires { from ≤ length self.now }
         ensures { Ends self.now from levels result }
@@ -171,7 +171,7 @@ impl<'a> Old<'a> {
         }
     }
 
-    /// Where the items after so many levels begin.
+    /// Where the items after the levels begin.
     pub fn skip(&self, from: usize, levels: usize) -> usize
         ensures rest { drop result self.now ≡ skipped levels (drop from self.now) }
     {
@@ -181,7 +181,7 @@ impl<'a> Old<'a> {
         self.end(from, levels)
     }
 
-    /// The first item with the mark in so many levels from a place on.
+    /// The first item with the mark in the levels from a place on.
     pub fn find(&self, mark: &Mark, from: usize, levels: usize) -> Result<Option<Spot>, NoMemory>
         ensures found { IfOk result
             (λ o. MatchOption o (Absent self.now mark.now from levels)

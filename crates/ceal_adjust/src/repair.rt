@@ -54,7 +54,7 @@ fn wrote(stepped: bool, item: Item) -> Turn
     }
 }
 
-/// The next number; where it has no room in 32 bits, there is no memory for so many steps or blocks.
+/// The next number. An overflow of 32 bits is told as `NoMemory`: that many steps or blocks cannot be in memory.
 fn one_more(n: u32) -> Result<u32, NoMemory>
     ensures { IfOk result (λ m. m ≡ n + 1) }
 {

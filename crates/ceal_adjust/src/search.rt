@@ -78,7 +78,7 @@ fn seek_block(old: &Old, rest: usize, levels: usize, key: &Key) -> Result<Option
     Ok(spot)
 }
 
-/// The earliest allocation with this key in so many levels from a place on.
+/// The earliest allocation with this key in the levels from a place on.
 pub fn find_block(
     old: &Old,
     rest: usize,
@@ -137,7 +137,8 @@ fn seek_value(
     levels: usize,
     closure: &Closure,
 ) -> Result<Option<Spot>, NoMemory>
-    ensures found { IfOk result (λ o. MatchOption o (Absent old.now (mark_of_read closure.now) rest levels)
+    ensures found { IfOk result
+        (λ o. MatchOption o (Absent old.now (mark_of_read closure.now) rest levels)
         (λ s. Found old.now (mark_of_read closure.now) rest levels s.at s.levels)) }
     ensures small { IfOk result (λ o. MatchOption o ⊤ (λ s. s.at + 1 < 2 ^ 64)) }
 {
@@ -150,7 +151,7 @@ fn seek_value(
     old.find(&mark, rest, levels)
 }
 
-/// The earliest read of the closure in so many levels from a place on.
+/// The earliest read of the closure in the levels from a place on.
 pub fn find_value(
     old: &Old,
     rest: usize,

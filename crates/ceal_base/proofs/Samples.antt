@@ -4,7 +4,7 @@ use Rattle.std.specs.List.{IsDistinct}
 use Rattle.ceal_base.specs.Block.{Block}
 use Rattle.ceal_base.specs.Operators.{binary_value}
 use Rattle.ceal_base.specs.Same.{Same, renamed_block}
-use Rattle.ceal_base.specs.Trace.{trace_of, Nothing, Stepped, Was_read, Wrote}
+use Rattle.ceal_base.specs.Trace.{trace_of, Nothing, Stepped, WasRead, Wrote}
 use Rattle.ceal_base.specs.declared.forest.Item.TheVariants.{Step, Write, Read, End}
 use Rattle.ceal_base.specs.declared.operators.Binary.TheVariants.{Add, Div, Rem, Pick}
 use Rattle.ceal_base.specs.declared.word.BlockId.TheVariants.{Input, Core}
@@ -18,7 +18,7 @@ abbrev a : Place
 a = record { block = Input 0; field = 0 }
 
 reads : trace_of (Step ∷ Read a (Num (pos 4)) (record { 0 = 1 }) 2 [] ∷ Step ∷ Write a (Num (pos 5)) ∷ End ∷ [])
-    ≡ Some (Stepped (Was_read a (Num (pos 4)) (record { 0 = 1 }) 2 [] (Stepped (Wrote a (Num (pos 5)) Nothing)) Nothing))
+    ≡ Some (Stepped (WasRead a (Num (pos 4)) (record { 0 = 1 }) 2 [] (Stepped (Wrote a (Num (pos 5)) Nothing)) Nothing))
 reads = refl
 
 unclosed : trace_of (Step ∷ Read a (Num (pos 4)) (record { 0 = 1 }) 2 [] ∷ Step ∷ []) ≡ None

@@ -29,9 +29,11 @@ abbrev pub changed : List Block → Option Block → ℕ → ℕ → Word → Li
 changed blocks None at field word = blocks
 changed blocks (Some block) at field word = slice_set blocks at (record block { words = slice_set block.words field word })
 
+-- blocks with another word at a field of one
 abbrev pub with_word : List Block → ℕ → ℕ → Word → List Block
 with_word blocks at field word = changed blocks (slice_get blocks at) at field word
 
+-- a memory with another word at a field of one block
 abbrev pub written_at : Blocks → BlockId → ℕ → Word → Blocks
 written_at m (Input n) field word = record m { inputs = with_word m.inputs n field word }
 written_at m (Core n) field word = record m { made = with_word m.made n field word }

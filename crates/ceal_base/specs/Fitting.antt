@@ -18,6 +18,7 @@ abbrev pub kind_in : List StructInfo → Option Block → ℕ → Option FieldKi
 kind_in structs None field = None
 kind_in structs (Some block) field = slice_get (kinds_of_shape structs block.shape) field
 
+-- the kind of the field at a place
 abbrev pub kind_at : List StructInfo → Blocks → Place → Option FieldKind
 kind_at structs m p = kind_in structs (block_at m p.block) p.field
 

@@ -1,4 +1,6 @@
+-- what the crate promises
 pub mod formers
+pub mod Digits
 pub mod Operators
 pub mod Block
 pub mod Shapes

@@ -13,16 +13,19 @@ abbrev pub index_of : List ℕ → ℕ → ℕ
 index_of [] n = 0
 index_of (b ∷ bs) n = if b == n then 0 else index_of bs n + 1
 
+-- the name of a block by its place in the list
 abbrev pub renamed_id : List ℕ → BlockId → BlockId
 renamed_id bs (Input n) = Input n
 renamed_id bs (Core n) = Core (index_of bs n)
 
+-- a word with its block renamed so
 abbrev pub renamed_word : List ℕ → Word → Word
 renamed_word bs (Num n) = Num n
 renamed_word bs Null = Null
 renamed_word bs (BlockWord b) = BlockWord (renamed_id bs b)
 renamed_word bs (At p) = At (record p { block = renamed_id bs p.block })
 
+-- a block with its words renamed so
 abbrev pub renamed_block : List ℕ → Block → Block
 renamed_block bs b = record b { words = map (renamed_word bs) b.words }
 

@@ -25,6 +25,7 @@ default_of_field (Plain kind) = default_of_kind kind
 default_of_field CellInt = Num (pos 0)
 default_of_field (CellPtr s) = Null
 
+-- the kind of a field
 abbrev pub kind_of_field : FieldInfo → FieldKind
 kind_of_field f = f.kind
 
@@ -33,6 +34,7 @@ abbrev pub field_kinds : Option StructInfo → List FieldKind
 field_kinds None = []
 field_kinds (Some s) = map kind_of_field s.fields
 
+-- how many fields the row has that begins at a field
 abbrev pub row_of_field : FieldInfo → ℕ
 row_of_field f = f.row
 

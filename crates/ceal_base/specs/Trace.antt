@@ -14,7 +14,7 @@ pub data Trace : Type 0 where
   Stepped : (rest : Trace) → Trace
   Allocated : (block : BlockId) (key : Key) (rest : Trace) → Trace
   Wrote : (place : Place) (value : Word) (rest : Trace) → Trace
-  Was_read : (place : Place) (value : Word) (unit : UnitId) (var : ℕ) (args : List Word) (inside rest : Trace) → Trace
+  WasRead : (place : Place) (value : Word) (unit : UnitId) (var : ℕ) (args : List Word) (inside rest : Trace) → Trace
 
 -- the items one after another, those inside a read before the `End` that closes it
 abbrev pub flat : Trace → List Item
@@ -22,7 +22,7 @@ flat Nothing = []
 flat (Stepped rest) = Step ∷ flat rest
 flat (Allocated block key rest) = Alloc block key ∷ flat rest
 flat (Wrote place value rest) = Write place value ∷ flat rest
-flat (Was_read place value unit var args inside rest) =
+flat (WasRead place value unit var args inside rest) =
     Read place value unit var args ∷ (flat inside ++ End ∷ flat rest)
 
 -- how many steps there are at all depths
@@ -31,7 +31,7 @@ steps_of Nothing = 0
 steps_of (Stepped rest) = 1 + steps_of rest
 steps_of (Allocated block key rest) = steps_of rest
 steps_of (Wrote place value rest) = steps_of rest
-steps_of (Was_read place value unit var args inside rest) = steps_of inside + steps_of rest
+steps_of (WasRead place value unit var args inside rest) = steps_of inside + steps_of rest
 
 -- the blocks of the allocations, in order, at all depths
 abbrev pub blocks_of : Trace → List BlockId
@@ -39,7 +39,7 @@ blocks_of Nothing = []
 blocks_of (Stepped rest) = blocks_of rest
 blocks_of (Allocated block key rest) = block ∷ blocks_of rest
 blocks_of (Wrote place value rest) = blocks_of rest
-blocks_of (Was_read place value unit var args inside rest) = blocks_of inside ++ blocks_of rest
+blocks_of (WasRead place value unit var args inside rest) = blocks_of inside ++ blocks_of rest
 
 -- one item in front of the first of the traces
 abbrev pub with_item : Item → Option (List Trace) → Option (List Trace)
@@ -49,7 +49,7 @@ with_item Step (Some (t ∷ ts)) = Some (Stepped t ∷ ts)
 with_item (Alloc block key) (Some (t ∷ ts)) = Some (Allocated block key t ∷ ts)
 with_item (Write place value) (Some (t ∷ ts)) = Some (Wrote place value t ∷ ts)
 with_item (Read place value unit var args) (Some (inside ∷ rest ∷ ts)) =
-    Some (Was_read place value unit var args inside rest ∷ ts)
+    Some (WasRead place value unit var args inside rest ∷ ts)
 with_item _ _ = None
 
 -- the traces that items stand for: that of their own level, and then those around it, the inner ones first
@@ -57,6 +57,7 @@ abbrev pub traces : List Item → Option (List Trace)
 traces [] = Some (Nothing ∷ [])
 traces (i ∷ is) = with_item i (traces is)
 
+-- the only trace of the list
 abbrev pub only : Option (List Trace) → Option Trace
 only (Some (t ∷ [])) = Some t
 only _ = None
@@ -71,7 +72,7 @@ followed Nothing t = t
 followed (Stepped rest) t = Stepped (followed rest t)
 followed (Allocated block key rest) t = Allocated block key (followed rest t)
 followed (Wrote place value rest) t = Wrote place value (followed rest t)
-followed (Was_read place value unit var args inside rest) t = Was_read place value unit var args inside (followed rest t)
+followed (WasRead place value unit var args inside rest) t = WasRead place value unit var args inside (followed rest t)
 
 -- how many steps are among the items
 abbrev pub steps_in : List Item → ℕ

@@ -22,6 +22,7 @@ unfoldable mutual
   WithoutOwn (Field' _ a s field) = OperandWithoutOwn a
   WithoutOwn (Address' _ a s field) = OperandWithoutOwn a
 
+  -- an operand that does not mention `self`
   pub OperandWithoutOwn : {n : _} → Row_of-TypedExpr n → Type 0
   OperandWithoutOwn end_of-TypedExpr = Unit {0}
   OperandWithoutOwn (more_of-TypedExpr span kind form rest) = WithoutOwn form
@@ -30,6 +31,7 @@ unfoldable mutual
 abbrev pub IsCore : Option TypedFunction → Type 0
 IsCore f = IsSomeAnd f (λ g. IsNone g.initialiser)
 
+-- there is such a function, and it is an initialiser
 abbrev pub IsInitialiser : Option TypedFunction → Type 0
 IsInitialiser f = IsSomeAnd f (λ g. IsSome g.initialiser)
 
@@ -56,6 +58,7 @@ unfoldable mutual
   CoreUsage fs looped (Break at) = looped ≡ true
   CoreUsage fs looped (Continue at) = looped ≡ true
 
+  -- the rules for the statements of a row in a core function
   pub RowCoreUsage : List TypedFunction → Bool → {n : _} → Row_of-TypedStmt n → Type 0
   RowCoreUsage fs looped end_of-TypedStmt = Unit {0}
   RowCoreUsage fs looped (more_of-TypedStmt s rest) = CoreUsage fs looped s × RowCoreUsage fs looped rest
@@ -74,12 +77,15 @@ unfoldable mutual
   InitUsage (Break at) = ⊥
   InitUsage (Continue at) = ⊥
 
+  -- the rules for the statements of a row in an initialiser
   pub RowInitUsage : {n : _} → Row_of-TypedStmt n → Type 0
   RowInitUsage end_of-TypedStmt = Unit {0}
   RowInitUsage (more_of-TypedStmt s rest) = InitUsage s × RowInitUsage rest
 
+-- the rules for a function
 abbrev pub FunctionUsage : List TypedFunction → TypedFunction → Type 0
 FunctionUsage fs f = elim f.initialiser [ None ↦ All (CoreUsage fs false) f.body | Some s ↦ All InitUsage f.body ]
 
+-- The program keeps the rules of usage.
 abbrev pub KeepsUsage : Typed → Type 0
 KeepsUsage program = All (FunctionUsage program.functions) program.functions

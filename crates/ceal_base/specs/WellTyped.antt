@@ -29,9 +29,11 @@ KindKnown structs (Ptr s) = s < length structs
 KindKnown structs ModInt = Unit {0}
 KindKnown structs (ModPtr s) = s < length structs
 
+-- the struct that a field may point to is there
 abbrev pub FieldKnown : List StructInfo → FieldInfo → Type 0
 FieldKnown structs f = elim f.kind [ Plain kind ↦ KindKnown structs kind | CellInt ↦ Unit {0} | CellPtr s ↦ s < length structs ]
 
+-- the kind has null
 abbrev pub IsPointer : Kind → Type 0
 IsPointer Int = ⊥
 IsPointer (Ptr s) = Unit {0}
@@ -79,6 +81,7 @@ address_kind (Some CellInt) = Some ModInt
 address_kind (Some (CellPtr s)) = Some (ModPtr s)
 address_kind _ = None
 
+-- the kind of a struct's field
 abbrev pub field_kind : List StructInfo → ℕ → ℕ → Option FieldKind
 field_kind structs s field = slice_get (field_kinds (slice_get structs s)) field
 
@@ -99,6 +102,7 @@ abbrev pub FormStartsRow : List StructInfo → ℕ → TypedForm → Type 0
 FormStartsRow structs row (Address' _ a s field) = (0 < row) × (row_at structs s field ≡ Some row)
 FormStartsRow structs row _ = ⊥
 
+-- the operand is the first modifiable of a row
 abbrev pub StartsRow : List StructInfo → ℕ → {n : _} → Row_of-TypedExpr n → Type 0
 StartsRow structs row end_of-TypedExpr = ⊥
 StartsRow structs row (more_of-TypedExpr span kind form rest) = FormStartsRow structs row form
@@ -124,10 +128,12 @@ unfoldable mutual
   FormTyped c seen kind (Address' _ a s field) =
       OperandTyped c seen a × (operand_kind a ≡ Some (Ptr s)) × IsSome kind × (address_kind (field_kind c.structs s field) ≡ kind)
 
+  -- an operand has its kind
   pub OperandTyped : Context → List ℕ → {n : _} → Row_of-TypedExpr n → Type 0
   OperandTyped c seen end_of-TypedExpr = Unit {0}
   OperandTyped c seen (more_of-TypedExpr span kind form rest) = FormTyped c seen kind form
 
+-- an expression has its kind, where these variables are in scope
 abbrev pub ExprTyped : Context → List ℕ → TypedExpr → Type 0
 ExprTyped c seen e = FormTyped c seen e.kind e.form
 
@@ -142,6 +148,7 @@ ArgsSuit (kind ∷ kinds) (e ∷ es) = Suits kind e.kind × ArgsSuit kinds es
 ArgsSuit [] (e ∷ es) = ⊥
 ArgsSuit (kind ∷ kinds) [] = ⊥
 
+-- the kinds of the parameters
 abbrev pub param_kinds : TypedFunction → List Kind
 param_kinds f = take f.params f.kinds
 
@@ -172,10 +179,12 @@ unfoldable mutual
   declarations (While' at test _ body) = row_declarations body
   declarations _ = 0
 
+  -- how many variables the statements of a row declare
   pub row_declarations : {n : _} → Row_of-TypedStmt n → ℕ
   row_declarations end_of-TypedStmt = 0
   row_declarations (more_of-TypedStmt s rest) = declarations s + row_declarations rest
 
+-- how many variables the statements of a list declare
 unfoldable pub all_declarations : List TypedStmt → ℕ
 all_declarations [] = 0
 all_declarations (s ∷ rest) = declarations s + all_declarations rest
@@ -202,6 +211,7 @@ unfoldable mutual
   StmtTyped c seen next (Break at) = Unit {0}
   StmtTyped c seen next (Continue at) = Unit {0}
 
+  -- the statements of a row are well typed one after another
   pub RowTyped : Context → List ℕ → ℕ → {n : _} → Row_of-TypedStmt n → Type 0
   RowTyped c seen next end_of-TypedStmt = Unit {0}
   RowTyped c seen next (more_of-TypedStmt s rest) =
@@ -217,6 +227,7 @@ abbrev pub numbers_below : ℕ → List ℕ
 numbers_below zero = []
 numbers_below (suc n) = n ∷ numbers_below n
 
+-- what the statements of a function are typed in
 abbrev pub context_of : List StructInfo → List TypedFunction → TypedFunction → Context
 context_of structs functions f = record { structs = structs; functions = functions; own = f.initialiser; kinds = f.kinds }
 
@@ -229,26 +240,31 @@ pub record FunctionTyped (structs : List StructInfo) (functions : List TypedFunc
   pub numbered : f.params + all_declarations f.body ≡ length f.kinds
   pub body : StmtsTyped (context_of structs functions f) (numbers_below f.params) f.params f.body
 
+-- the name of a struct
 abbrev pub struct_name : StructInfo → List ℕ
 struct_name s = s.name
 
+-- the name of a function
 abbrev pub function_name : TypedFunction → List ℕ
 function_name f = f.name.text
 
+-- the name of a field
 abbrev pub name_of_field : FieldInfo → List ℕ
 name_of_field f = f.name
 
+-- the field is a modifiable
 abbrev pub IsCell : FieldKind → Type 0
 IsCell (Plain kind) = ⊥
 IsCell CellInt = Unit {0}
 IsCell (CellPtr s) = Unit {0}
 
--- behind the first modifiable of a row come the others, of the same kind
+-- after the first modifiable of a row come the others, of the same kind
 abbrev pub RowWhole : ℕ → FieldKind → List FieldInfo → Type 0
 RowWhole zero kind rest = Unit {0}
 RowWhole (suc n) kind rest =
     IsCell kind × (n ≤ length rest) × All (λ f. (f.kind ≡ kind) × (f.row ≡ 0)) (take n rest)
 
+-- each row has all its fields
 unfoldable pub RowsWhole : List FieldInfo → Type 0
 RowsWhole [] = Unit {0}
 RowsWhole (f ∷ rest) = RowWhole f.row f.kind rest × RowsWhole rest
@@ -260,6 +276,7 @@ pub record StructTyped (structs : List StructInfo) (s : StructInfo) : Type 0 whe
   pub fields : All (FieldKnown structs) s.fields
   pub rows : RowsWhole s.fields
 
+-- A program is well typed: its names are distinct, and its structs and functions are well typed.
 pub record WellTyped (program : Typed) : Type 0 where
   pub struct_names : IsDistinct bytes_eq (map struct_name program.structs)
   pub function_names : IsDistinct bytes_eq (map function_name program.functions)

@@ -34,7 +34,7 @@ pub enum Binary {
     Differ,
     And,
     Or,
-    /// the element of a row of so many modifiables, by the place of its first one and an index; null of an index below 0
+    /// the element of a row of this many modifiables, by the place of its first one and an index; null for an index below 0
     /// or past the row
     Pick(u32),
 }
@@ -64,7 +64,7 @@ pub fn apply_unary(op: Unary, a: Word) -> Word
     }
 }
 
-/// The place so many modifiables behind the first one of a row.
+/// The place of a row's element: `index` modifiables after the first one.
 fn row_element(row: u32, first: Place, index: i64) -> Word
     ensures value { result ≡ element row first index }
 {

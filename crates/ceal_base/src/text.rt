@@ -82,6 +82,14 @@ impl Text {
         Ok(())
     }
 
+    /// Puts the text at the end.
+    pub fn append_str(&mut self, text: &str) -> Result<(), NoMemory>
+        ensures ok { OnOk result (self.new ≡ self.old ++ text.now) }
+        ensures err { OnErr result (self.new ≡ self.old) }
+    {
+        self.append(text.as_bytes())
+    }
+
     /// Puts the number at the end, in decimal.
     pub fn append_number(&mut self, n: usize) -> Result<(), NoMemory>
         ensures ok { OnOk result (self.new ≡ self.old ++ decimal n) }

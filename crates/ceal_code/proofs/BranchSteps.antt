@@ -1,5 +1,5 @@
 -- The listing of a body, branch by branch.
-use Rattle.std.proofs.Common.{◌≡◌, ℕ, zero, suc, ◌+◌, ◌-◌, ◌<◌, ◌≤◌, List, [], ◌∷◌, ◌++◌, refl, length, arith, slice_get, ap, append_assoc, append-nil, ◌∙◌, sym}
+use Rattle.std.proofs.Common.{◌≡◌, ℕ, zero, suc, ◌+◌, ◌-◌, ◌<◌, List, [], ◌∷◌, ◌++◌, refl, arith, slice_get, ap, append_assoc, append-nil, ◌∙◌, sym}
 use Rattle.ceal_code.proofs.PathSteps.{weight-positive, weight-step}
 use Rattle.ceal_code.specs.Branches.{branch_text, branches_text, branch_weights}
 use Rattle.ceal_code.specs.Listing.{commands, commands_at}

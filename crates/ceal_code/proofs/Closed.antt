@@ -23,7 +23,7 @@ use Rattle.ceal_base.specs.declared.typed.StructInfo.{StructInfo}
 use Rattle.ceal_base.specs.declared.word.BlockId.{BlockId}
 use Rattle.ceal_base.specs.declared.word.Word.{Word}
 use Rattle.ceal_base.specs.declared.word.Word.TheVariants.{Num, Null, Block as BlockWord, At}
-use Rattle.ceal_code.proofs.Picks.{If_pick, Picks_row, Picks, Picks_operand, Picks_all, Picks_command, Picks_code}
+use Rattle.ceal_code.proofs.Picks.{IfPick, PicksRow, Picks, PicksOperand, PicksAll, PicksCommand, PicksCode}
 use Rattle.ceal_code.proofs.Same.{some-same, none-some}
 use Rattle.ceal_code.specs.Program.{Code}
 use Rattle.ceal_code.specs.Step.{Stack, Empty, Run, Act, Over, Quiet, Makes, Writes, Reads, unit_at, command_at, entry_of, variable_default, kind_default, bound, entered, chosen, first_word, later_words, woven, given, key_of, place_of, writes_at, reads_at, act, landed, settled_at, settled, acted, next, kinds_of}
@@ -38,21 +38,21 @@ abbrev pub Each : (Word → Type 0) → List Word → Type 0
 Each W [] = ⊤
 Each W (w ∷ ws) = W w × Each W ws
 
-abbrev pub Of_stack : (Word → Type 0) → Stack → Type 0
-Of_stack W Empty = ⊤
-Of_stack W (Run u i env below) = ((v : ℕ) → W (env v)) × Of_stack W below
+abbrev pub OfStack : (Word → Type 0) → Stack → Type 0
+OfStack W Empty = ⊤
+OfStack W (Run u i env below) = ((v : ℕ) → W (env v)) × OfStack W below
 
-abbrev pub Of_key : (Word → Type 0) → Key → Type 0
-Of_key W (Init f args) = Each W args
-Of_key W IntKey = ⊤
-Of_key W (PtrKey s) = ⊤
+abbrev pub OfKey : (Word → Type 0) → Key → Type 0
+OfKey W (Init f args) = Each W args
+OfKey W IntKey = ⊤
+OfKey W (PtrKey s) = ⊤
 
-abbrev pub Of_act : (Word → Type 0) → Act → Type 0
-Of_act W Over = ⊤
-Of_act W (Quiet after) = Of_stack W after
-Of_act W (Makes key v u i env below) = Of_key W key × ((v : ℕ) → W (env v)) × Of_stack W below
-Of_act W (Writes p value after) = W (At p) × W value × Of_stack W after
-Of_act W (Reads p u v args below) = W (At p) × Each W args × Of_stack W below
+abbrev pub OfAct : (Word → Type 0) → Act → Type 0
+OfAct W Over = ⊤
+OfAct W (Quiet after) = OfStack W after
+OfAct W (Makes key v u i env below) = OfKey W key × ((v : ℕ) → W (env v)) × OfStack W below
+OfAct W (Writes p value after) = W (At p) × W value × OfStack W after
+OfAct W (Reads p u v args below) = W (At p) × Each W args × OfStack W below
 
 pub each-at : (W : Word → Type 0) (ws : List Word) (n : ℕ) (w : Word) → Each W ws → slice_get ws n ≡ Some w → W w
 each-at W [] n w h e = none-some w e
@@ -136,11 +136,11 @@ module _ (W : Word → Type 0) (num : (n : ℤ) → W (Num n)) (null : W Null) w
       woven-if (p.0 == v) w (woven ps v w args) (first_word args) (woven ps v w (later_words args)) h (woven-of ps v w args h k) (first-of args k)
       (woven-of ps v w (later_words args) h (later-of args k))
 
-  pub entered-of : (code : Code) (u : ℕ) (ws : List Word) (below : Stack) → Each W ws → Of_stack W below → Of_stack W (entered code u ws below)
+  pub entered-of : (code : Code) (u : ℕ) (ws : List Word) (below : Stack) → Each W ws → OfStack W below → OfStack W (entered code u ws below)
   entered-of code u ws below h k = (bound-of (unit_at code u).params ws h, k)
 
   -- a unit that goes on after a read
-  pub given-of : (code : Code) (u v : ℕ) (args : List Word) (w : Word) (below : Stack) → Each W args → W w → Of_stack W below → Of_stack W (entered code u (given code u v args w) below)
+  pub given-of : (code : Code) (u v : ℕ) (args : List Word) (w : Word) (below : Stack) → Each W args → W w → OfStack W below → OfStack W (entered code u (given code u v args w) below)
   given-of code u v args w below h k l = entered-of code u (given code u v args w) below (woven-of (unit_at code u).params v w args k h) l
 
   pub plain_word-of : (k : Option FieldKind) (ws : List Word) (field : ℕ) → Each W ws → W (plain_word k ws field)
@@ -157,7 +157,7 @@ module _ (W : Word → Type 0) (num : (n : ℤ) → W (Num n)) (null : W Null) w
   unary-of Neg w = num _
   unary-of Not w = truth-of _
 
-  pub binary-of : (op : Binary) (v w : Word) → If_pick op (λ row. W (picked row v w)) → W (binary_value op v w)
+  pub binary-of : (op : Binary) (v w : Word) → IfPick op (λ row. W (picked row v w)) → W (binary_value op v w)
   binary-of Add v w h = num _
   binary-of Sub v w h = num _
   binary-of Mul v w h = num _
@@ -191,8 +191,8 @@ module _ (S : ℕ → CodeExpr → Type 0) (W : Word → Type 0) (structs : List
   address-of (At p) s field h = null-if _
 
   module _ (env : Variables) (all : (v : ℕ) → W (env v)) where
-    element-of : (op : Binary) {n : _} (row : Row_of-CodeExpr n) (i : Word) → If_pick op (λ length. Picks_row S length row) → W (operand_value structs x env row)
-        → If_pick op (λ length. W (picked length (operand_value structs x env row) i))
+    element-of : (op : Binary) {n : _} (row : Row_of-CodeExpr n) (i : Word) → IfPick op (λ length. PicksRow S length row) → W (operand_value structs x env row)
+        → IfPick op (λ length. W (picked length (operand_value structs x env row) i))
     unfolding operand_value
     element-of (Pick length) end_of-CodeExpr i h k = closed.null
     element-of (Pick length) (more_of-CodeExpr e rest) i h k = closed.element env length e i h k
@@ -224,12 +224,12 @@ module _ (S : ℕ → CodeExpr → Type 0) (W : Word → Type 0) (structs : List
       value-of (Field' _ a s field) h = field-of (operand_value structs x env a) s field (operand-of a h)
       value-of (Address' _ a s field) h = address-of (operand_value structs x env a) s field (operand-of a h)
 
-      operand-of : {n : _} (row : Row_of-CodeExpr n) → Picks_operand S row → W (operand_value structs x env row)
+      operand-of : {n : _} (row : Row_of-CodeExpr n) → PicksOperand S row → W (operand_value structs x env row)
       operand-of end_of-CodeExpr h = closed.null
       operand-of (more_of-CodeExpr e rest) h = value-of e h
 
-    pub values-of : (es : List CodeExpr) → Picks_all S es → Each W (values structs x env es)
-    unfolding values Picks_all
+    pub values-of : (es : List CodeExpr) → PicksAll S es → Each W (values structs x env es)
+    unfolding values PicksAll
     values-of [] h = tt
     values-of (e ∷ es) h = (value-of e h.0, values-of es h.1)
 
@@ -260,51 +260,51 @@ module _ (S : ℕ → CodeExpr → Type 0) (W : Word → Type 0) (structs : List
         value-equal (Address' _ a s field) h =
             address-equal (operand_value structs x env a) s field (operand-of a h) ∙ ap (λ w. address_value structs y w s field) (operand-equal a h)
 
-        operand-equal : {n : _} (row : Row_of-CodeExpr n) → Picks_operand S row → operand_value structs x env row ≡ operand_value structs y env row
+        operand-equal : {n : _} (row : Row_of-CodeExpr n) → PicksOperand S row → operand_value structs x env row ≡ operand_value structs y env row
         operand-equal end_of-CodeExpr h = refl
         operand-equal (more_of-CodeExpr e rest) h = value-equal e h
 
-      pub values-equal : (es : List CodeExpr) → Picks_all S es → values structs x env es ≡ values structs y env es
-      unfolding values Picks_all
+      pub values-equal : (es : List CodeExpr) → PicksAll S es → values structs x env es ≡ values structs y env es
+      unfolding values PicksAll
       values-equal [] h = refl
       values-equal (e ∷ es) h = ap₂ ◌∷◌ (value-equal e h.0) (values-equal es h.1)
 
-module _ (S : ℕ → CodeExpr → Type 0) (W : Word → Type 0) (code : Code) (x : Plain) (closed : Closed code.structs x S W) (picks : Picks_code S code) where
-  at-of : (w value : Word) (after : Stack) → W w → W value → Of_stack W after → Of_act W (writes_at (place_of w) value after)
+module _ (S : ℕ → CodeExpr → Type 0) (W : Word → Type 0) (code : Code) (x : Plain) (closed : Closed code.structs x S W) (picks : PicksCode S code) where
+  at-of : (w value : Word) (after : Stack) → W w → W value → OfStack W after → OfAct W (writes_at (place_of w) value after)
   at-of (Num n) value after h k l = l
   at-of Null value after h k l = l
   at-of (BlockWord b) value after h k l = l
   at-of (At p) value after h k l = (h, k, l)
 
-  null-of : (u : UnitId) (v : ℕ) (args : List Word) (below : Stack) → Each W args → Of_stack W below
-      → Of_stack W (entered code u.0 (given code u.0 v args (variable_default code u.0 v)) below)
+  null-of : (u : UnitId) (v : ℕ) (args : List Word) (below : Stack) → Each W args → OfStack W below
+      → OfStack W (entered code u.0 (given code u.0 v args (variable_default code u.0 v)) below)
   null-of u v args below k l =
       given-of W closed.num closed.null code u.0 v args (variable_default code u.0 v) below k
       (kind_default-of W closed.num closed.null (slice_get (kinds_of code (unit_at code u.0).function) v)) l
 
-  reads-of : (w : Word) (u : UnitId) (v : ℕ) (args : List Word) (below : Stack) → W w → Each W args → Of_stack W below
-      → Of_act W (reads_at code (place_of w) u v args below)
+  reads-of : (w : Word) (u : UnitId) (v : ℕ) (args : List Word) (below : Stack) → W w → Each W args → OfStack W below
+      → OfAct W (reads_at code (place_of w) u v args below)
   reads-of (Num n) u v args below h k l = null-of u v args below k l
   reads-of Null u v args below h k l = null-of u v args below k l
   reads-of (BlockWord b) u v args below h k l = null-of u v args below k l
   reads-of (At p) u v args below h k l = (h, k, l)
 
-  key-of : (shape : Shape) → Of_key W (key_of shape)
+  key-of : (shape : Shape) → OfKey W (key_of shape)
   key-of ModInt = tt
   key-of (ModPtr s) = tt
   key-of (Struct s) = tt
 
-  module _ (u i : ℕ) (env : Variables) (below : Stack) (h : (v : ℕ) → W (env v)) (k : Of_stack W below) where
+  module _ (u i : ℕ) (env : Variables) (below : Stack) (h : (v : ℕ) → W (env v)) (k : OfStack W below) where
     val : (e : CodeExpr) → Picks S e → W (expr_value code.structs x env e)
     val = value-of S W code.structs x closed env h
 
-    vals : (es : List CodeExpr) → Picks_all S es → Each W (values code.structs x env es)
+    vals : (es : List CodeExpr) → PicksAll S es → Each W (values code.structs x env es)
     vals = values-of S W code.structs x closed env h
 
-    into : (u : ℕ) (es : List CodeExpr) (st : Stack) → Picks_all S es → Of_stack W st → Of_stack W (entered code u (values code.structs x env es) st)
+    into : (u : ℕ) (es : List CodeExpr) (st : Stack) → PicksAll S es → OfStack W st → OfStack W (entered code u (values code.structs x env es) st)
     into u es st p l = entered-of W closed.num closed.null code u (values code.structs x env es) st (vals es p) l
 
-    act-of : (c : Cmd) → Picks_command S c → Of_act W (act code x c u i env below)
+    act-of : (c : Cmd) → PicksCommand S c → OfAct W (act code x c u i env below)
     act-of (Move v e) p = (set-of W closed.num closed.null env v.0 (expr_value code.structs x env e) h (val e p), k)
     act-of Tick p = (h, k)
     act-of (Alloc v f args) p = (vals args p, h, k)
@@ -316,7 +316,7 @@ module _ (S : ℕ → CodeExpr → Type 0) (W : Word → Type 0) (code : Code) (
     act-of (Read v q w args) p = reads-of (expr_value code.structs x env q) w v.0 (values code.structs x env args) below (val q p.0) (vals args p.1) k
     act-of (Call f args w rest) p = into (entry_of code f) args (entered code w.0 (values code.structs x env rest) below) p.0 (into w.0 rest below p.1 k)
 
-    landed-of : (c : Cmd) (arrived rest : Stack) → Of_stack W arrived → Of_stack W rest → Of_stack W (landed c arrived rest)
+    landed-of : (c : Cmd) (arrived rest : Stack) → OfStack W arrived → OfStack W rest → OfStack W (landed c arrived rest)
     landed-of Done arrived rest p q = q
     landed-of (Tail w args) arrived rest p q = q
     landed-of (Move v e) arrived rest p q = p
@@ -328,7 +328,7 @@ module _ (S : ℕ → CodeExpr → Type 0) (W : Word → Type 0) (code : Code) (
     landed-of (Read v a w args) arrived rest p q = p
     landed-of (Call f args w others) arrived rest p q = p
 
-    at_settled-of : (c : Cmd) → Picks_command S c → (rest : Stack) → Of_stack W rest → Of_stack W (settled_at code x c u i env below rest)
+    at_settled-of : (c : Cmd) → PicksCommand S c → (rest : Stack) → OfStack W rest → OfStack W (settled_at code x c u i env below rest)
     at_settled-of Done p rest q = q
     at_settled-of (Tail w args) p rest q =
         landed-of (command_at code w.0 0) (entered code w.0 (values code.structs x env args) below) rest (into w.0 args below p k) q
@@ -341,18 +341,18 @@ module _ (S : ℕ → CodeExpr → Type 0) (W : Word → Type 0) (code : Code) (
     at_settled-of (Read v a w args) p rest q = (h, k)
     at_settled-of (Call f args w others) p rest q = (h, k)
 
-  pub settled-of : (st : Stack) → Of_stack W st → Of_stack W (settled code x st)
+  pub settled-of : (st : Stack) → OfStack W st → OfStack W (settled code x st)
   unfolding settled
   settled-of Empty h = h
   settled-of (Run u i env below) h =
       at_settled-of u i env below h.0 h.1 (command_at code u i) (picks.commands u i) (settled code x below) (settled-of below h.1)
 
-  acted-of : (st : Stack) → Of_stack W st → Of_act W (acted code x st)
+  acted-of : (st : Stack) → OfStack W st → OfAct W (acted code x st)
   acted-of Empty h = tt
   acted-of (Run u i env below) h = act-of u i env below h.0 h.1 (command_at code u i) (picks.commands u i)
 
   -- what the next step gives has the property that the stack has
-  pub next-of : (st : Stack) → Of_stack W st → Of_act W (next code x st)
+  pub next-of : (st : Stack) → OfStack W st → OfAct W (next code x st)
   unfolding next
   next-of st h = acted-of (settled code x st) (settled-of st h)
 
@@ -361,10 +361,10 @@ module _ (S : ℕ → CodeExpr → Type 0) (W : Word → Type 0) (code : Code) (
       same : (e : CodeExpr) → Picks S e → expr_value code.structs x env e ≡ expr_value code.structs y env e
       same = value-equal S W code.structs x closed env h y equal
 
-      sames : (es : List CodeExpr) → Picks_all S es → values code.structs x env es ≡ values code.structs y env es
+      sames : (es : List CodeExpr) → PicksAll S es → values code.structs x env es ≡ values code.structs y env es
       sames = values-equal S W code.structs x closed env h y equal
 
-      act-equal : (c : Cmd) → Picks_command S c → act code x c u i env below ≡ act code y c u i env below
+      act-equal : (c : Cmd) → PicksCommand S c → act code x c u i env below ≡ act code y c u i env below
       act-equal (Move v e) h = ap (λ w. Quiet (Run u (i + 1) (set env v.0 w) below)) (same e h)
       act-equal Tick h = refl
       act-equal (Alloc v f args) h = ap (λ ws. Makes (Init f ws) v.0 u (i + 1) env below) (sames args h)
@@ -376,7 +376,7 @@ module _ (S : ℕ → CodeExpr → Type 0) (W : Word → Type 0) (code : Code) (
       act-equal (Read v p w args) h = ap₂ (λ z ws. reads_at code (place_of z) w v.0 ws below) (same p h.0) (sames args h.1)
       act-equal (Call f args w rest) h = ap₂ (λ vs ws. Quiet (entered code (entry_of code f) vs (entered code w.0 ws below))) (sames args h.0) (sames rest h.1)
 
-      at_settled-equal : (c : Cmd) → Picks_command S c → (rest : Stack) → settled_at code x c u i env below rest ≡ settled_at code y c u i env below rest
+      at_settled-equal : (c : Cmd) → PicksCommand S c → (rest : Stack) → settled_at code x c u i env below rest ≡ settled_at code y c u i env below rest
       at_settled-equal Done h rest = refl
       at_settled-equal (Tail w args) h rest = ap (λ ws. landed (command_at code w.0 0) (entered code w.0 ws below) rest) (sames args h)
       at_settled-equal (Move v e) h rest = refl
@@ -388,18 +388,18 @@ module _ (S : ℕ → CodeExpr → Type 0) (W : Word → Type 0) (code : Code) (
       at_settled-equal (Read v a w args) h rest = refl
       at_settled-equal (Call f args w others) h rest = refl
 
-    settled-equal : (st : Stack) → Of_stack W st → settled code x st ≡ settled code y st
+    settled-equal : (st : Stack) → OfStack W st → settled code x st ≡ settled code y st
     unfolding settled
     settled-equal Empty h = refl
     settled-equal (Run u i env below) h =
         at_settled-equal u i env below h.0 (command_at code u i) (picks.commands u i) (settled code x below)
         ∙ ap (settled_at code y (command_at code u i) u i env below) (settled-equal below h.1)
 
-    acted-equal : (st : Stack) → Of_stack W st → acted code x st ≡ acted code y st
+    acted-equal : (st : Stack) → OfStack W st → acted code x st ≡ acted code y st
     acted-equal Empty h = refl
     acted-equal (Run u i env below) h = act-equal u i env below h.0 (command_at code u i) (picks.commands u i)
 
     -- and both plain words have the same next step
-    pub next-equal : (st : Stack) → Of_stack W st → next code x st ≡ next code y st
+    pub next-equal : (st : Stack) → OfStack W st → next code x st ≡ next code y st
     unfolding next
     next-equal st h = acted-equal (settled code x st) (settled-of st h) ∙ ap (acted code y) (settled-equal st h)

@@ -10,8 +10,8 @@ use Rattle.ceal_base.specs.declared.kind.Shape.TheVariants.{Struct}
 use Rattle.ceal_base.specs.declared.typed.StructInfo.{StructInfo}
 use Rattle.ceal_base.specs.declared.word.Word.{Word}
 use Rattle.ceal_base.specs.declared.word.Word.TheVariants.{Null}
-use Rattle.ceal_code.proofs.Closed.{Each, Of_key, Closed, Equal, default-of, get-of, value-of, value-equal}
-use Rattle.ceal_code.proofs.Picks.{Picks_stmt, Picks_stmts, Picks_body, Picks_function, Picks_code}
+use Rattle.ceal_code.proofs.Closed.{Each, OfKey, Closed, Equal, default-of, get-of, value-of, value-equal}
+use Rattle.ceal_code.proofs.Picks.{PicksStmt, PicksStmts, PicksBody, PicksFunction, PicksCode}
 use Rattle.ceal_code.specs.Init.{set_plain, set_by, set_by_row, set_by_all, arguments, made_by, made}
 use Rattle.ceal_code.specs.Program.{Code}
 use Rattle.ceal_code.specs.Value.{Plain, Variables, field_kind, expr_value}
@@ -49,46 +49,46 @@ module _ (S : ℕ → CodeExpr → Type 0) (W : Word → Type 0) (structs : List
 
   module _ (env : Variables) (all : (v : ℕ) → W (env v)) (s : ℕ) where
     mutual
-      unfolding set_by Picks_stmt
+      unfolding set_by PicksStmt
 
-      set_by-of : (ws : List Word) (stmt : InitStmt) → Picks_stmt S stmt → Each W ws → Each W (set_by structs x env s ws stmt)
+      set_by-of : (ws : List Word) (stmt : InitStmt) → PicksStmt S stmt → Each W ws → Each W (set_by structs x env s ws stmt)
       set_by-of ws (Set field e) p h =
           set_plain-of W (field_kind structs (Struct s) field) ws field (expr_value structs x env e) h (value-of S W structs x closed env all e p)
       set_by-of ws (If' test _ first _ second) p h =
           if-of W (holds (expr_value structs x env test)) (set_by_row structs x env s ws first) (set_by_row structs x env s ws second) (row-of ws first p.1 h) (row-of ws second p.2 h)
 
-      row-of : (ws : List Word) {n : _} (row : Row_of-InitStmt n) → Picks_stmts S row → Each W ws → Each W (set_by_row structs x env s ws row)
+      row-of : (ws : List Word) {n : _} (row : Row_of-InitStmt n) → PicksStmts S row → Each W ws → Each W (set_by_row structs x env s ws row)
       row-of ws end_of-InitStmt p h = h
       row-of ws (more_of-InitStmt stmt rest) p h = row-of (set_by structs x env s ws stmt) rest p.1 (set_by-of ws stmt p.0 h)
 
-    all-of : (ws : List Word) (stmts : List InitStmt) → Picks_body S stmts → Each W ws → Each W (set_by_all structs x env s ws stmts)
-    unfolding set_by_all Picks_body
+    all-of : (ws : List Word) (stmts : List InitStmt) → PicksBody S stmts → Each W ws → Each W (set_by_all structs x env s ws stmts)
+    unfolding set_by_all PicksBody
     all-of ws [] p h = h
     all-of ws (stmt ∷ rest) p h = all-of (set_by structs x env s ws stmt) rest p.1 (set_by-of ws stmt p.0 h)
 
     module _ (y : Plain) (equal : Equal structs x y W) where
       mutual
-        unfolding set_by Picks_stmt
+        unfolding set_by PicksStmt
 
-        set_by-equal : (ws : List Word) (stmt : InitStmt) → Picks_stmt S stmt → set_by structs x env s ws stmt ≡ set_by structs y env s ws stmt
+        set_by-equal : (ws : List Word) (stmt : InitStmt) → PicksStmt S stmt → set_by structs x env s ws stmt ≡ set_by structs y env s ws stmt
         set_by-equal ws (Set field e) p = ap (set_plain (field_kind structs (Struct s) field) ws field) (value-equal S W structs x closed env all y equal e p)
         set_by-equal ws (If' test _ first _ second) p =
             ap (λ w. if holds w then set_by_row structs x env s ws first else set_by_row structs x env s ws second) (value-equal S W structs x closed env all y equal test p.0)
             ∙ ap₂ (λ a b. if holds (expr_value structs y env test) then a else b) (row-equal ws first p.1) (row-equal ws second p.2)
 
-        row-equal : (ws : List Word) {n : _} (row : Row_of-InitStmt n) → Picks_stmts S row → set_by_row structs x env s ws row ≡ set_by_row structs y env s ws row
+        row-equal : (ws : List Word) {n : _} (row : Row_of-InitStmt n) → PicksStmts S row → set_by_row structs x env s ws row ≡ set_by_row structs y env s ws row
         row-equal ws end_of-InitStmt p = refl
         row-equal ws (more_of-InitStmt stmt rest) p =
             ap (λ vs. set_by_row structs x env s vs rest) (set_by-equal ws stmt p.0) ∙ row-equal (set_by structs y env s ws stmt) rest p.1
 
-      all-equal : (ws : List Word) (stmts : List InitStmt) → Picks_body S stmts → set_by_all structs x env s ws stmts ≡ set_by_all structs y env s ws stmts
-      unfolding set_by_all Picks_body
+      all-equal : (ws : List Word) (stmts : List InitStmt) → PicksBody S stmts → set_by_all structs x env s ws stmts ≡ set_by_all structs y env s ws stmts
+      unfolding set_by_all PicksBody
       all-equal ws [] p = refl
       all-equal ws (stmt ∷ rest) p =
           ap (λ vs. set_by_all structs x env s vs rest) (set_by-equal ws stmt p.0) ∙ all-equal (set_by structs y env s ws stmt) rest p.1
 
-module _ (S : ℕ → CodeExpr → Type 0) (W : Word → Type 0) (code : Code) (x : Plain) (closed : Closed code.structs x S W) (picks : Picks_code S code) where
-  made_by-of : (args : List Word) (f : Option FunctionCode) → Picks_function S f → Each W args → Each W (made_by code.structs x args f).words
+module _ (S : ℕ → CodeExpr → Type 0) (W : Word → Type 0) (code : Code) (x : Plain) (closed : Closed code.structs x S W) (picks : PicksCode S code) where
+  made_by-of : (args : List Word) (f : Option FunctionCode) → PicksFunction S f → Each W args → Each W (made_by code.structs x args f).words
   made_by-of args (Some (InitFunction name s params body)) p h =
       all-of S W code.structs x closed (arguments args) (arguments-of S W code.structs x closed args h) s (default_block code.structs (Struct s)).words body p
       (defaults-of S W code.structs x closed (kinds_of_shape code.structs (Struct s)))
@@ -96,14 +96,14 @@ module _ (S : ℕ → CodeExpr → Type 0) (W : Word → Type 0) (code : Code) (
   made_by-of args None p h = (closed.num (pos 0), tt)
 
   -- the words of a new block have the property that its key has
-  pub made-of : (key : Key) → Of_key W key → Each W (made code x key).words
+  pub made-of : (key : Key) → OfKey W key → Each W (made code x key).words
   unfolding made
   made-of (Init f args) h = made_by-of args (slice_get code.functions f) (picks.functions f) h
   made-of IntKey h = (closed.num (pos 0), tt)
   made-of (PtrKey s) h = (closed.null, tt)
 
   module _ (y : Plain) (equal : Equal code.structs x y W) where
-    made_by-equal : (args : List Word) (f : Option FunctionCode) → Picks_function S f → Each W args → made_by code.structs x args f ≡ made_by code.structs y args f
+    made_by-equal : (args : List Word) (f : Option FunctionCode) → PicksFunction S f → Each W args → made_by code.structs x args f ≡ made_by code.structs y args f
     made_by-equal args (Some (InitFunction name s params body)) p h =
         ap (λ ws. record { shape = Struct s; words = ws })
         (all-equal S W code.structs x closed (arguments args) (arguments-of S W code.structs x closed args h) s y equal (default_block code.structs (Struct s)).words body p)
@@ -111,7 +111,7 @@ module _ (S : ℕ → CodeExpr → Type 0) (W : Word → Type 0) (code : Code) (
     made_by-equal args None p h = refl
 
     -- and both plain words make the same block
-    pub made-equal : (key : Key) → Of_key W key → made code x key ≡ made code y key
+    pub made-equal : (key : Key) → OfKey W key → made code x key ≡ made code y key
     unfolding made
     made-equal (Init f args) h = made_by-equal args (slice_get code.functions f) (picks.functions f) h
     made-equal IntKey h = refl

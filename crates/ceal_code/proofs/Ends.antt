@@ -1,22 +1,22 @@
 -- Where a run from scratch ends: at a state that it came to, and with the inputs in number that it began with.
 use Rattle.std.proofs.Common.{◌≡◌, ℕ, zero, suc, ◌+◌, Option, Some, None, List, [], ◌∷◌, length, refl, ap, ◌∙◌, subst, slice_get, slice_set}
-use Rattle.ceal_base.specs.Block.{Block, Blocks, block_at, changed, with_word, written_at}
+use Rattle.ceal_base.specs.Block.{Block, Blocks, block_at, changed, written_at}
 use Rattle.ceal_base.specs.Finished.{Finished}
 use Rattle.ceal_base.specs.declared.word.BlockId.{BlockId}
 use Rattle.ceal_base.specs.declared.word.BlockId.TheVariants.{Input, Core}
 use Rattle.ceal_base.specs.declared.word.Word.{Word}
 use Rattle.ceal_code.proofs.Same.{some-same, none-some}
 use Rattle.ceal_code.specs.Fresh.{ran, only_over, run, fresh}
-use Rattle.ceal_code.specs.Laws.{Ended, Ended_law, Inputs_law}
+use Rattle.ceal_code.specs.Laws.{Ended, EndedLaw, InputsLaw}
 use Rattle.ceal_code.specs.Program.{Code}
 use Rattle.ceal_code.specs.Running.{Steps, Reaches}
 use Rattle.ceal_code.specs.Step.{Stack, Act, Over, Quiet, Makes, Writes, Reads, started, next}
 
 module _ (code : Code) (m0 : Blocks) (st0 : Stack) where
-  abbrev At_end : Finished → Type 0
-  At_end r = (stack : Stack) × Reaches code m0 st0 r.memory stack
+  abbrev AtEnd : Finished → Type 0
+  AtEnd r = (stack : Stack) × Reaches code m0 st0 r.memory stack
 
-  over-ends : (steps : ℕ) (m : Blocks) (st : Stack) (a : Act) (r : Finished) → Reaches code m0 st0 m st → only_over steps m a ≡ Some r → At_end r
+  over-ends : (steps : ℕ) (m : Blocks) (st : Stack) (a : Act) (r : Finished) → Reaches code m0 st0 m st → only_over steps m a ≡ Some r → AtEnd r
   over-ends steps m st Over r h e =
       let i : m ≡ r.memory = ap (λ r. r.memory) (some-same (record { memory = m; steps = steps; blocks = length m.made }) r e) in
       (st, subst (λ m. Reaches code m0 st0 m st) i h)
@@ -25,12 +25,12 @@ module _ (code : Code) (m0 : Blocks) (st0 : Stack) where
   over-ends steps m st (Writes p value after) r h e = none-some r e
   over-ends steps m st (Reads p u v args under) r h e = none-some r e
 
-  run-ends : (fuel steps : ℕ) (m : Blocks) (st : Stack) (r : Finished) → Reaches code m0 st0 m st → run code fuel steps m st ≡ Some r → At_end r
+  run-ends : (fuel steps : ℕ) (m : Blocks) (st : Stack) (r : Finished) → Reaches code m0 st0 m st → run code fuel steps m st ≡ Some r → AtEnd r
   unfolding run
   run-ends zero steps m st r h e = over-ends steps m st (next code (block_at m) st) r h e
   run-ends (suc fuel) steps m st r h e = go (run-ends fuel) (next code (block_at m) st) refl e
     where
-      go : ((steps : ℕ) (m : Blocks) (st : Stack) (r : Finished) → Reaches code m0 st0 m st → run code fuel steps m st ≡ Some r → At_end r) → (a : Act) → next code (block_at m) st ≡ a → ran code (run code fuel (steps + 1)) steps m a ≡ Some r → At_end r
+      go : ((steps : ℕ) (m : Blocks) (st : Stack) (r : Finished) → Reaches code m0 st0 m st → run code fuel steps m st ≡ Some r → AtEnd r) → (a : Act) → next code (block_at m) st ≡ a → ran code (run code fuel (steps + 1)) steps m a ≡ Some r → AtEnd r
       go ih Over i e = over-ends steps m st Over r h e
       go ih (Quiet after) i e = ih (steps + 1) m after r (Reaches.step h (Steps.quiet i)) e
       go ih (Makes key v u j env under) i e = ih (steps + 1) _ _ r (Reaches.step h (Steps.makes i)) e
@@ -72,8 +72,8 @@ module _ (code : Code) (inputs : List Block) (f : ℕ) (args : List Word) (fuel 
   pub fresh-count : length r.memory.inputs ≡ length inputs
   fresh-count = inputs-reached code fresh-ends.reaches
 
-pub ended-law : Ended_law
+pub ended-law : EndedLaw
 ended-law = fresh-ends
 
-pub inputs-law : Inputs_law
+pub inputs-law : InputsLaw
 inputs-law = fresh-count

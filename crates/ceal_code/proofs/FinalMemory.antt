@@ -16,7 +16,7 @@ use Rattle.ceal_code.proofs.Determined.{numbered}
 use Rattle.ceal_code.proofs.Memory.{contents}
 use Rattle.ceal_code.proofs.Pairs.{one-at, tied-case}
 use Rattle.ceal_code.proofs.Same.{nat-same, some-same, none-some}
-use Rattle.ceal_code.specs.Alike.{Pairs, Tied, Id_alike, Word_alike, Fields_alike, Block_alike, Maybe_alike, Plain_alike, Store_alike, Within, One_to_one}
+use Rattle.ceal_code.specs.Alike.{Pairs, Tied, IdAlike, WordAlike, FieldsAlike, BlockAlike, MaybeAlike, PlainAlike, StoreAlike, Within, OneToOne}
 use Rattle.ceal_code.specs.Program.{Code}
 use Rattle.ceal_code.specs.Replay.{Store, count, Distinct, with_contents, filled, block_after}
 use Rattle.ceal_code.specs.Value.{Plain, field_kind, is_cell}
@@ -58,7 +58,7 @@ numbered-right n (e ∷ bs) b c d s t =
     go (inr s) (inl t) k = absurd (omega (arith, t.1, numbered-low (n + 1) bs b d s))
     go (inr s) (inr t) k = k s t
 
-pub numbered-one : (bs : List ℕ) → Distinct bs → One_to_one (numbered 0 bs)
+pub numbered-one : (bs : List ℕ) → Distinct bs → OneToOne (numbered 0 bs)
 numbered-one bs h = record { left = numbered-left 0 bs h; right = numbered-right 0 bs }
 
 pub numbered-at : (n : ℕ) (bs : List ℕ) (i : ℕ) → i < length bs → Tied (slice_index bs i) (n + i) (numbered n bs)
@@ -103,61 +103,61 @@ get-map f (x ∷ xs) zero = refl
 get-map f (x ∷ xs) (suc i) = get-map f xs i
 
 module _ (bs : List ℕ) (distinct : Distinct bs) where
-  id-named : {b c : BlockId} → Id_alike (numbered 0 bs) b c → renamed_id bs b ≡ c
-  id-named Id_alike.input = refl
-  id-named (Id_alike.core {b = b} {c = c} t) = let e : index_of bs b ≡ c = omega (arith, index-at 0 bs distinct b c t) in ap Core e
+  id-named : {b c : BlockId} → IdAlike (numbered 0 bs) b c → renamed_id bs b ≡ c
+  id-named IdAlike.input = refl
+  id-named (IdAlike.core {b = b} {c = c} t) = let e : index_of bs b ≡ c = omega (arith, index-at 0 bs distinct b c t) in ap Core e
 
-  word-named : {v w : Word} → Word_alike (numbered 0 bs) v w → renamed_word bs v ≡ w
-  word-named Word_alike.num = refl
-  word-named Word_alike.null = refl
-  word-named (Word_alike.block h) = ap BlockWord (id-named h)
-  word-named (Word_alike.at {p = p} {q = q} h) = ap₂ (λ b f. At (record { block = b; field = f })) (id-named h.block) h.field
+  word-named : {v w : Word} → WordAlike (numbered 0 bs) v w → renamed_word bs v ≡ w
+  word-named WordAlike.num = refl
+  word-named WordAlike.null = refl
+  word-named (WordAlike.block h) = ap BlockWord (id-named h)
+  word-named (WordAlike.at {p = p} {q = q} h) = ap₂ (λ b f. At (record { block = b; field = f })) (id-named h.block) h.field
 
   -- the store has words like those of the modifiables, the first of which has this number
-  abbrev Has_contents : Store → BlockId → ℕ → List FieldKind → List Word → Type 0
-  Has_contents s b n kinds ws =
-      (j : ℕ) (w : Word) → is_cell (slice_get kinds j) ≡ true → slice_get ws j ≡ Some w → Word_alike (numbered 0 bs) (s (record { block = b; field = n + j })) w
+  abbrev HasContents : Store → BlockId → ℕ → List FieldKind → List Word → Type 0
+  HasContents s b n kinds ws =
+      (j : ℕ) (w : Word) → is_cell (slice_get kinds j) ≡ true → slice_get ws j ≡ Some w → WordAlike (numbered 0 bs) (s (record { block = b; field = n + j })) w
 
-  first : (s : Store) (b : BlockId) (n : ℕ) (kind : FieldKind) (kinds : List FieldKind) (w : Word) (ws : List Word) → is_cell (Some kind) ≡ true → Has_contents s b n (kind ∷ kinds) (w ∷ ws)
-      → Word_alike (numbered 0 bs) (s (record { block = b; field = n })) w
+  first : (s : Store) (b : BlockId) (n : ℕ) (kind : FieldKind) (kinds : List FieldKind) (w : Word) (ws : List Word) → is_cell (Some kind) ≡ true → HasContents s b n (kind ∷ kinds) (w ∷ ws)
+      → WordAlike (numbered 0 bs) (s (record { block = b; field = n })) w
   first s b n kind kinds w ws c h = let i : n + 0 ≡ n = omega arith in rw i at (h 0 w c refl)
 
-  later : (s : Store) (b : BlockId) (n : ℕ) (kind : FieldKind) (kinds : List FieldKind) (w : Word) (ws : List Word) → Has_contents s b n (kind ∷ kinds) (w ∷ ws) → Has_contents s b (n + 1) kinds ws
+  later : (s : Store) (b : BlockId) (n : ℕ) (kind : FieldKind) (kinds : List FieldKind) (w : Word) (ws : List Word) → HasContents s b n (kind ∷ kinds) (w ∷ ws) → HasContents s b (n + 1) kinds ws
   later s b n kind kinds w ws h j z c e = let i : n + suc j ≡ n + 1 + j = omega arith in rw i at (h (suc j) z c e)
 
   -- the words of a block with its modifiables' contents
-  words-named : (s : Store) (b : BlockId) (n : ℕ) {kinds : List FieldKind} {vs ws : List Word} → Fields_alike (numbered 0 bs) kinds vs ws → Has_contents s b n kinds ws
+  words-named : (s : Store) (b : BlockId) (n : ℕ) {kinds : List FieldKind} {vs ws : List Word} → FieldsAlike (numbered 0 bs) kinds vs ws → HasContents s b n kinds ws
       → map (renamed_word bs) (with_contents s b n kinds vs) ≡ ws
-  words-named s b n Fields_alike.none h = refl
-  words-named s b n (Fields_alike.plain {kind = kind} {kinds = kinds} {w = w} {ws = ws} l k) h =
+  words-named s b n FieldsAlike.none h = refl
+  words-named s b n (FieldsAlike.plain {kind = kind} {kinds = kinds} {w = w} {ws = ws} l k) h =
       ap₂ ◌∷◌ (word-named l) (words-named s b (n + 1) k (later s b n (PlainField kind) kinds w ws h))
-  words-named s b n (Fields_alike.int_cell {kinds = kinds} {w = w} {ws = ws} k) h =
+  words-named s b n (FieldsAlike.int_cell {kinds = kinds} {w = w} {ws = ws} k) h =
       ap₂ ◌∷◌ (word-named (first s b n CellInt kinds w ws refl h)) (words-named s b (n + 1) k (later s b n CellInt kinds w ws h))
-  words-named s b n (Fields_alike.pointer_cell {s = y} {kinds = kinds} {w = w} {ws = ws} k) h =
+  words-named s b n (FieldsAlike.pointer_cell {s = y} {kinds = kinds} {w = w} {ws = ws} k) h =
       ap₂ ◌∷◌ (word-named (first s b n (CellPtr y) kinds w ws refl h)) (words-named s b (n + 1) k (later s b n (CellPtr y) kinds w ws h))
 
-  module _ (code : Code) (x : Plain) (s : Store) (m : Blocks) (ps : Pairs) (within : Within ps (numbered 0 bs)) (plain : Plain_alike code.structs ps x (block_at m)) (store : Store_alike ps s (contents code m)) where
+  module _ (code : Code) (x : Plain) (s : Store) (m : Blocks) (ps : Pairs) (within : Within ps (numbered 0 bs)) (plain : PlainAlike code.structs ps x (block_at m)) (store : StoreAlike ps s (contents code m)) where
     content-named : (c : BlockId) (w : Block) → block_at m c ≡ Some w → (j : ℕ) (z : Word) → is_cell (field_kind code.structs w.shape j) ≡ true → slice_get w.words j ≡ Some z
         → contents code m (record { block = c; field = j }) ≡ z
     unfolding contents
     content-named c w e j z k h = rw (e, k, h)
 
-    fields-named : (b c : BlockId) (v w : Block) → Id_alike ps b c → block_at m c ≡ Some w → Block_alike code.structs ps v w → renamed_block bs (filled code s b v) ≡ w
+    fields-named : (b c : BlockId) (v w : Block) → IdAlike ps b c → block_at m c ≡ Some w → BlockAlike code.structs ps v w → renamed_block bs (filled code s b v) ≡ w
     fields-named b c v w i e h =
         ap₂ (λ shape words. record { shape = shape; words = words }) h.shape
         (words-named s b 0 (fields-wider ps (numbered 0 bs) within h.fields)
         (λ j z k g. cell j z (subst (λ shape. is_cell (field_kind code.structs shape j) ≡ true) h.shape k) g))
       where
-        cell : (j : ℕ) (z : Word) → is_cell (field_kind code.structs w.shape j) ≡ true → slice_get w.words j ≡ Some z → Word_alike (numbered 0 bs) (s (record { block = b; field = 0 + j })) z
+        cell : (j : ℕ) (z : Word) → is_cell (field_kind code.structs w.shape j) ≡ true → slice_get w.words j ≡ Some z → WordAlike (numbered 0 bs) (s (record { block = b; field = 0 + j })) z
         cell j z k g =
             let n : 0 + j ≡ j = omega arith in
             rw (n, ← content-named c w e j z k g) (word-wider ps (numbered 0 bs) within (store (record { block = b; field = j }) (record { block = c; field = j }) (record { block = i; field = refl })))
 
     -- a block of the memory
-    pub block-named : (b c : BlockId) → Id_alike ps b c → option_map (renamed_block bs) (block_after code x s b) ≡ block_at m c
+    pub block-named : (b c : BlockId) → IdAlike ps b c → option_map (renamed_block bs) (block_after code x s b) ≡ block_at m c
     unfolding block_after
     block-named b c i = go (x b) (block_at m c) refl (plain b c i)
       where
-        go : (o o' : Option Block) → block_at m c ≡ o' → Maybe_alike code.structs ps o o' → option_map (renamed_block bs) (option_map (filled code s b) o) ≡ o'
-        go None o' e Maybe_alike.none = refl
-        go (Some v) o' e (Maybe_alike.some {c = w} h) = ap Some (fields-named b c v w i e h)
+        go : (o o' : Option Block) → block_at m c ≡ o' → MaybeAlike code.structs ps o o' → option_map (renamed_block bs) (option_map (filled code s b) o) ≡ o'
+        go None o' e MaybeAlike.none = refl
+        go (Some v) o' e (MaybeAlike.some {c = w} h) = ap Some (fields-named b c v w i e h)

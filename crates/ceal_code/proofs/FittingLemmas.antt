@@ -16,31 +16,27 @@ use Rattle.ceal_base.specs.declared.word.Word.{Word}
 use Rattle.ceal_base.specs.declared.word.Word.TheVariants.{Num, Null, Block as BlockWord, At}
 use Rattle.ceal_code.proofs.Closed.{Each}
 use Rattle.ceal_code.proofs.Memory.{get-within}
-use Rattle.ceal_code.proofs.Placed.{Placed, Well_placed}
+use Rattle.ceal_code.proofs.Placed.{Placed, WellPlaced}
 use Rattle.ceal_code.proofs.Same.{both, some-same, none-some}
-use Rattle.ceal_code.specs.Alike.{Pairs, Id_alike, Word_alike, Words_alike, Fields_alike}
+use Rattle.ceal_code.specs.Alike.{Pairs, IdAlike, WordAlike, FieldsAlike}
 use Rattle.ceal_code.specs.Fitting.{args_fit, Fits}
 use Rattle.ceal_code.specs.Program.{Code}
-use Rattle.ceal_code.specs.Replay.{Known_block, Known_word, Known_words, plain_words}
+use Rattle.ceal_code.specs.Replay.{KnownBlock, KnownWord, KnownWords, plain_words}
 use Rattle.ceal_code.specs.Value.{is_cell}
 use Rattle.ceal_code.specs.declared.function.FunctionCode.{FunctionCode}
 use Rattle.ceal_code.specs.declared.function.FunctionCode.TheVariants.{Core as CoreFunction, Init as InitFunction}
 
 -- words that name inputs alone are like themselves
 module _ (n : ℕ) (ps : Pairs) where
-  pub id-self : (b : BlockId) → Known_block n [] b → Id_alike ps b b
-  id-self (Input i) h = Id_alike.input
+  pub id-self : (b : BlockId) → KnownBlock n [] b → IdAlike ps b b
+  id-self (Input i) h = IdAlike.input
   id-self (Core c) h = elim h [ ]
 
-  pub word-self : (w : Word) → Known_word n [] w → Word_alike ps w w
-  word-self (Num k) h = Word_alike.num
-  word-self Null h = Word_alike.null
-  word-self (BlockWord b) h = Word_alike.block (id-self b h)
-  word-self (At p) h = Word_alike.at (record { block = id-self p.block h; field = refl })
-
-  pub words-self : (ws : List Word) → Known_words n [] ws → Words_alike ps ws ws
-  words-self [] h = Words_alike.none
-  words-self (w ∷ ws) h = Words_alike.more (word-self w h.0) (words-self ws h.1)
+  pub word-self : (w : Word) → KnownWord n [] w → WordAlike ps w w
+  word-self (Num k) h = WordAlike.num
+  word-self Null h = WordAlike.null
+  word-self (BlockWord b) h = WordAlike.block (id-self b h)
+  word-self (At p) h = WordAlike.at (record { block = id-self p.block h; field = refl })
 
 pub int-is_cell : (k : Option FieldKind) → is_int_cell k ≡ true → is_cell k ≡ true
 int-is_cell (Some CellInt) h = refl
@@ -60,9 +56,9 @@ module _ (structs : List StructInfo) (inputs : List Block) where
 
   -- the word names inputs, and places of their modifiables
   abbrev pub Fine : Word → Type 0
-  Fine w = Known_word (length inputs) [] w × Placed structs (record { inputs = inputs; made = [] }) w
+  Fine w = KnownWord (length inputs) [] w × Placed structs (record { inputs = inputs; made = [] }) w
 
-  known-there : (b : BlockId) (o : Option Block) → block_at begun b ≡ o → is_some o ≡ true → Known_block (length inputs) [] b
+  known-there : (b : BlockId) (o : Option Block) → block_at begun b ≡ o → is_some o ≡ true → KnownBlock (length inputs) [] b
   known-there b None e h = absurd (grind (arith, h))
   known-there (Input i) (Some block) e h = get-within inputs i block e
   known-there (Core c) (Some block) e h = none-some block e
@@ -117,29 +113,29 @@ module _ (structs : List StructInfo) (inputs : List Block) where
       let k = both (fits_field structs begun kind w) (fields_fit structs begun kinds ws) h in (field-fine kind w k.0, fields-fine kinds ws k.1)
 
   -- its plain words are like them
-  fields-self : (ps : Pairs) (kinds : List FieldKind) (ws : List Word) → fields_fit structs begun kinds ws ≡ true → Fields_alike ps kinds (plain_words kinds ws) ws
-  fields-self ps [] [] h = Fields_alike.none
+  fields-self : (ps : Pairs) (kinds : List FieldKind) (ws : List Word) → fields_fit structs begun kinds ws ≡ true → FieldsAlike ps kinds (plain_words kinds ws) ws
+  fields-self ps [] [] h = FieldsAlike.none
   fields-self ps [] (w ∷ ws) h = absurd (grind (arith, h))
   fields-self ps (kind ∷ kinds) [] h = absurd (grind (arith, h))
   fields-self ps (PlainField kind ∷ kinds) (w ∷ ws) h =
       let k = both (fits_kind structs begun kind w) (fields_fit structs begun kinds ws) h in
-      Fields_alike.plain (word-self (length inputs) ps w (fits-fine kind w k.0).0) (fields-self ps kinds ws k.1)
+      FieldsAlike.plain (word-self (length inputs) ps w (fits-fine kind w k.0).0) (fields-self ps kinds ws k.1)
   fields-self ps (CellInt ∷ kinds) (w ∷ ws) h =
-      let k = both (fits_field structs begun CellInt w) (fields_fit structs begun kinds ws) h in Fields_alike.int_cell (fields-self ps kinds ws k.1)
+      let k = both (fits_field structs begun CellInt w) (fields_fit structs begun kinds ws) h in FieldsAlike.int_cell (fields-self ps kinds ws k.1)
   fields-self ps (CellPtr s ∷ kinds) (w ∷ ws) h =
-      let k = both (fits_field structs begun (CellPtr s) w) (fields_fit structs begun kinds ws) h in Fields_alike.pointer_cell (fields-self ps kinds ws k.1)
+      let k = both (fits_field structs begun (CellPtr s) w) (fields_fit structs begun kinds ws) h in FieldsAlike.pointer_cell (fields-self ps kinds ws k.1)
 
-  fields-plain : (ps : Pairs) (kinds : List FieldKind) (ws : List Word) → fields_fit structs begun kinds ws ≡ true → Fields_alike ps kinds (plain_words kinds ws) (plain_words kinds ws)
-  fields-plain ps [] [] h = Fields_alike.none
+  fields-plain : (ps : Pairs) (kinds : List FieldKind) (ws : List Word) → fields_fit structs begun kinds ws ≡ true → FieldsAlike ps kinds (plain_words kinds ws) (plain_words kinds ws)
+  fields-plain ps [] [] h = FieldsAlike.none
   fields-plain ps [] (w ∷ ws) h = absurd (grind (arith, h))
   fields-plain ps (kind ∷ kinds) [] h = absurd (grind (arith, h))
   fields-plain ps (PlainField kind ∷ kinds) (w ∷ ws) h =
       let k = both (fits_kind structs begun kind w) (fields_fit structs begun kinds ws) h in
-      Fields_alike.plain (word-self (length inputs) ps w (fits-fine kind w k.0).0) (fields-plain ps kinds ws k.1)
+      FieldsAlike.plain (word-self (length inputs) ps w (fits-fine kind w k.0).0) (fields-plain ps kinds ws k.1)
   fields-plain ps (CellInt ∷ kinds) (w ∷ ws) h =
-      let k = both (fits_field structs begun CellInt w) (fields_fit structs begun kinds ws) h in Fields_alike.int_cell (fields-plain ps kinds ws k.1)
+      let k = both (fits_field structs begun CellInt w) (fields_fit structs begun kinds ws) h in FieldsAlike.int_cell (fields-plain ps kinds ws k.1)
   fields-plain ps (CellPtr s ∷ kinds) (w ∷ ws) h =
-      let k = both (fits_field structs begun (CellPtr s) w) (fields_fit structs begun kinds ws) h in Fields_alike.pointer_cell (fields-plain ps kinds ws k.1)
+      let k = both (fits_field structs begun (CellPtr s) w) (fields_fit structs begun kinds ws) h in FieldsAlike.pointer_cell (fields-plain ps kinds ws k.1)
 
   fields-full : (kinds : List FieldKind) (ws : List Word) → fields_fit structs begun kinds ws ≡ true → length ws ≡ length kinds
   fields-full [] [] h = refl
@@ -157,7 +153,7 @@ module _ (structs : List StructInfo) (inputs : List Block) where
   pub input-fits : inputs_fit structs inputs ≡ true → (i : ℕ) (block : Block) → slice_get inputs i ≡ Some block → block_fits structs begun block ≡ true
   input-fits h = let k = both (list_all (block_fits structs begun) inputs) (list_all (block_fits structs begun) []) h in all-at (block_fits structs begun) inputs k.0
 
-  known-each : (ws : List Word) → Each Fine ws → Known_words (length inputs) [] ws
+  known-each : (ws : List Word) → Each Fine ws → KnownWords (length inputs) [] ws
   known-each [] h = tt
   known-each (w ∷ ws) h = (h.0.0, known-each ws h.1)
 
@@ -166,21 +162,21 @@ module _ (structs : List StructInfo) (inputs : List Block) where
   placed-each (w ∷ ws) h = (h.0.1, placed-each ws h.1)
 
   module _ (fit : inputs_fit structs inputs ≡ true) where
-    pub input-known : (i : ℕ) (block : Block) → slice_get inputs i ≡ Some block → Known_words (length inputs) [] block.words
+    pub input-known : (i : ℕ) (block : Block) → slice_get inputs i ≡ Some block → KnownWords (length inputs) [] block.words
     input-known i block e = known-each block.words (fields-fine (kinds_of_shape structs block.shape) block.words (input-fits fit i block e))
 
-    pub input-self : (ps : Pairs) (i : ℕ) (block : Block) → slice_get inputs i ≡ Some block → Fields_alike ps (kinds_of_shape structs block.shape) (plain_words (kinds_of_shape structs block.shape) block.words) block.words
+    pub input-self : (ps : Pairs) (i : ℕ) (block : Block) → slice_get inputs i ≡ Some block → FieldsAlike ps (kinds_of_shape structs block.shape) (plain_words (kinds_of_shape structs block.shape) block.words) block.words
     input-self ps i block e = fields-self ps (kinds_of_shape structs block.shape) block.words (input-fits fit i block e)
 
     pub plain-self : (ps : Pairs) (i : ℕ) (block : Block) → slice_get inputs i ≡ Some block
-        → Fields_alike ps (kinds_of_shape structs block.shape) (plain_words (kinds_of_shape structs block.shape) block.words) (plain_words (kinds_of_shape structs block.shape) block.words)
+        → FieldsAlike ps (kinds_of_shape structs block.shape) (plain_words (kinds_of_shape structs block.shape) block.words) (plain_words (kinds_of_shape structs block.shape) block.words)
     plain-self ps i block e = fields-plain ps (kinds_of_shape structs block.shape) block.words (input-fits fit i block e)
 
     -- and has one word for each field
     pub input-full : (i : ℕ) (block : Block) → slice_get inputs i ≡ Some block → length block.words ≡ length (kinds_of_shape structs block.shape)
     input-full i block e = fields-full (kinds_of_shape structs block.shape) block.words (input-fits fit i block e)
 
-    pub begun-placed : Well_placed structs (record { inputs = inputs; made = [] })
+    pub begun-placed : WellPlaced structs (record { inputs = inputs; made = [] })
     begun-placed (Input i) block e = placed-each block.words (fields-fine (kinds_of_shape structs block.shape) block.words (input-fits fit i block e))
     begun-placed (Core c) block e = none-some block e
 
@@ -190,7 +186,7 @@ module _ (code : Code) (inputs : List Block) where
   args-in (Some (InitFunction name s params body)) args h = absurd (grind (arith, h))
   args-in None args h = absurd (grind (arith, h))
 
-  pub args-known : (f : ℕ) (args : List Word) → Fits code inputs f args → Known_words (length inputs) [] args
+  pub args-known : (f : ℕ) (args : List Word) → Fits code inputs f args → KnownWords (length inputs) [] args
   args-known f args h = known-each code.structs inputs args (args-in (slice_get code.functions f) args h.words)
 
   pub args-placed : (f : ℕ) (args : List Word) → Fits code inputs f args → Each (Placed code.structs (record { inputs = inputs; made = [] })) args

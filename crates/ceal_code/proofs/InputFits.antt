@@ -1,5 +1,5 @@
 -- Inputs that fit still fit with one input more, and with another base.
-use Rattle.std.proofs.Common.{◌≡◌, ◌∙◌, ℕ, zero, suc, ◌&&◌, Bool, true, false, Option, Some, None, List, [], ◌∷◌, ◌++◌, length, refl, sym, ap, subst, slice_get, slice_set, arith}
+use Rattle.std.proofs.Common.{◌≡◌, ◌∙◌, ℕ, zero, suc, Bool, true, false, Option, Some, None, List, [], ◌∷◌, ◌++◌, length, refl, sym, ap, subst, slice_get, slice_set, arith}
 use Rattle.std.specs.List.{list_all}
 use Rattle.ceal_base.specs.Block.{Block, alone, block_at, changed, written_at}
 use Rattle.ceal_base.specs.Fitting.{kind_in, kind_at, fits_field, block_fits, inputs_fit}
@@ -10,7 +10,7 @@ use Rattle.ceal_base.specs.declared.word.BlockId.{BlockId}
 use Rattle.ceal_base.specs.declared.word.BlockId.TheVariants.{Input, Core}
 use Rattle.ceal_base.specs.declared.word.Place.{Place}
 use Rattle.ceal_base.specs.declared.word.Word.{Word}
-use Rattle.ceal_code.proofs.Kept.{Shapes_kept, fields-kept, kept-written}
+use Rattle.ceal_code.proofs.Kept.{ShapesKept, fields-kept, kept-written}
 use Rattle.ceal_code.proofs.Memory.{altered, get-before, get-within}
 use Rattle.ceal_code.proofs.Same.{both, both-true, none-some}
 use Rattle.ceal_code.proofs.TypedInit.{fields-set}
@@ -44,11 +44,11 @@ module _ (structs : List StructInfo) where
   fit-all : (inputs : List Block) → inputs_fit structs inputs ≡ true → list_all (fit inputs) inputs ≡ true
   fit-all inputs h = (both (list_all (fit inputs) inputs) true h).0
 
-  fit-kept : (xs ys : List Block) → Shapes_kept (alone xs) (alone ys) → (b : Block) → fit xs b ≡ true → fit ys b ≡ true
+  fit-kept : (xs ys : List Block) → ShapesKept (alone xs) (alone ys) → (b : Block) → fit xs b ≡ true → fit ys b ≡ true
   fit-kept xs ys kept b h = fields-kept structs (alone xs) (alone ys) kept (kinds_of_shape structs b.shape) b.words h
 
   -- one input more
-  pub kept-longer : (inputs : List Block) (b : Block) → Shapes_kept (alone inputs) (alone (inputs ++ b ∷ []))
+  pub kept-longer : (inputs : List Block) (b : Block) → ShapesKept (alone inputs) (alone (inputs ++ b ∷ []))
   kept-longer inputs b (Input i) block e = (block, get-before inputs (b ∷ []) i (get-within inputs i block e) ∙ e, refl)
   kept-longer inputs b (Core c) block e = none-some block e
 
@@ -69,7 +69,7 @@ module _ (structs : List StructInfo) where
   fits_in inputs (Some kind) w = fits_field structs (alone inputs) kind w
 
   module _ (inputs : List Block) (n f : ℕ) (w : Word) (block : Block) (there : slice_get inputs n ≡ Some block) where
-    kept-set : Shapes_kept (alone inputs) (alone (slice_set inputs n (altered block f w)))
+    kept-set : ShapesKept (alone inputs) (alone (slice_set inputs n (altered block f w)))
     kept-set = rw there at (kept-written (alone inputs) (Input n) f w block there)
 
     set-fits : (kind : FieldKind) → slice_get (kinds_of_shape structs block.shape) f ≡ Some kind → fits_field structs (alone inputs) kind w ≡ true
@@ -84,7 +84,7 @@ module _ (structs : List StructInfo) where
   -- the inputs after an edit fit, and keep their shapes
   pub record Rebased (inputs : List Block) (p : Place) (w : Word) : Type 0 where
     pub fits : inputs_fit structs (rebased inputs p w) ≡ true
-    pub kept : Shapes_kept (alone inputs) (alone (rebased inputs p w))
+    pub kept : ShapesKept (alone inputs) (alone (rebased inputs p w))
     pub count : length (rebased inputs p w) ≡ length inputs
 
   base-is : (inputs : List Block) (n f : ℕ) (w : Word) (block : Block) → slice_get inputs n ≡ Some block
@@ -106,7 +106,7 @@ module _ (structs : List StructInfo) where
           let is = sym (base-is inputs n p.field w block e) in
           record {
             fits = subst (λ ys. inputs_fit structs ys ≡ true) is (set-fits inputs n p.field w block e kind i g h);
-            kept = subst (λ ys. Shapes_kept (alone inputs) (alone ys)) is (kept-set inputs n p.field w block e);
+            kept = subst (λ ys. ShapesKept (alone inputs) (alone ys)) is (kept-set inputs n p.field w block e);
             count = subst (λ ys. length ys ≡ length inputs) is (length-set inputs n (altered block p.field w));
           }
 

@@ -19,10 +19,10 @@ use Rattle.ceal_code.proofs.Memory.{altered, written-here, written-other, get-be
 use Rattle.ceal_code.proofs.Same.{both, block-same, some-same, none-some, both-true}
 
 -- each block is there, of the same shape
-abbrev pub Shapes_kept : Blocks → Blocks → Type 0
-Shapes_kept m m' = (b : BlockId) (block : Block) → block_at m b ≡ Some block → (c : Block) × (block_at m' b ≡ Some c) × (c.shape ≡ block.shape)
+abbrev pub ShapesKept : Blocks → Blocks → Type 0
+ShapesKept m m' = (b : BlockId) (block : Block) → block_at m b ≡ Some block → (c : Block) × (block_at m' b ≡ Some c) × (c.shape ≡ block.shape)
 
-module _ (structs : List StructInfo) (m m' : Blocks) (kept : Shapes_kept m m') where
+module _ (structs : List StructInfo) (m m' : Blocks) (kept : ShapesKept m m') where
   pub kind-kept : (b : BlockId) (f : ℕ) (k : FieldKind) (o : Option Block) → block_at m b ≡ o → kind_in structs o f ≡ Some k → kind_in structs (block_at m' b) f ≡ Some k
   kind-kept b f k None e h = none-some k h
   kind-kept b f k (Some block) e h = let c = kept b block e in rw (c.1, c.2) h
@@ -85,11 +85,8 @@ module _ (structs : List StructInfo) (m m' : Blocks) (kept : Shapes_kept m m') w
       let k = both (fits_field structs m kind w) (fields_fit structs m kinds ws) h in
       both-true (fits_field structs m' kind w) (fields_fit structs m' kinds ws) (field-kept kind w k.0) (fields-kept kinds ws k.1)
 
-pub kept-same : (m : Blocks) → Shapes_kept m m
-kept-same m b block e = (block, e, refl)
-
 -- a write keeps the shapes
-pub kept-written : (m : Blocks) (b : BlockId) (f : ℕ) (w : Word) (block : Block) → block_at m b ≡ Some block → Shapes_kept m (written_at m b f w)
+pub kept-written : (m : Blocks) (b : BlockId) (f : ℕ) (w : Word) (block : Block) → block_at m b ≡ Some block → ShapesKept m (written_at m b f w)
 kept-written m b f w block there c other e = go (same_block c b) refl
   where
     go : (t : Bool) → same_block c b ≡ t → (d : Block) × (block_at (written_at m b f w) c ≡ Some d) × (d.shape ≡ other.shape)
@@ -101,6 +98,6 @@ kept-written m b f w block there c other e = go (same_block c b) refl
     go false s = (other, written-other m b c f w block there s ∙ e, refl)
 
 -- so does a new block
-pub kept-grown : (m : Blocks) (new : Block) → Shapes_kept m (with_block m new)
+pub kept-grown : (m : Blocks) (new : Block) → ShapesKept m (with_block m new)
 kept-grown m new (Input i) block e = (block, e, refl)
 kept-grown m new (Core c) block e = (block, get-before m.made (new ∷ []) c (get-within m.made c block e) ∙ e, refl)

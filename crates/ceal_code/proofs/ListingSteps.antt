@@ -1,5 +1,5 @@
 -- The listing of functions, units and statements, one by one.
-use Rattle.std.proofs.Common.{◌≡◌, ℕ, zero, suc, ◌+◌, ◌<◌, List, [], ◌∷◌, ◌++◌, refl, length, arith, slice_get, take, get_or, ap, ap₂, append_assoc, append-nil, ◌∙◌, sym, codes}
+use Rattle.std.proofs.Common.{◌≡◌, ℕ, ◌+◌, ◌<◌, List, [], ◌∷◌, ◌++◌, refl, length, arith, slice_get, take, get_or, ap, ap₂, append_assoc, append-nil, ◌∙◌, sym, codes}
 use Rattle.std.proofs.lemmas.List.{take_more}
 use Rattle.ceal_base.specs.declared.typed.StructInfo.{StructInfo}
 use Rattle.ceal_code.specs.Listing.{added, grouped, unit_text_at, units_text, stmt_text, row_text, else_row, stmts_text, else_text, function_text, functions_text, line, field_name, expr_text}

@@ -108,21 +108,21 @@ unfoldable pub contents : Code → Blocks → Store
 contents code m = λ p. content_in code.structs (block_at m p.block) p.field
 
 -- the place is that of a modifiable with a content
-pub record Cell_there (structs : List StructInfo) (m : Blocks) (p : Place) : Type 0 where
+pub record CellThere (structs : List StructInfo) (m : Blocks) (p : Place) : Type 0 where
   pub block : Block
   pub there : block_at m p.block ≡ Some block
   pub cell : is_cell (field_kind structs block.shape p.field) ≡ true
   pub word : Word
   pub holds : slice_get block.words p.field ≡ Some word
 
-pub content-there : (code : Code) (m : Blocks) (p : Place) (c : Cell_there code.structs m p) → contents code m p ≡ c.word
+pub content-there : (code : Code) (m : Blocks) (p : Place) (c : CellThere code.structs m p) → contents code m p ≡ c.word
 unfolding contents
 content-there code m p c = rw (c.there, c.cell, c.holds)
 
-pub content-read : (code : Code) (m : Blocks) (q : Place) (d : Word) → Cell_there code.structs m q → content_of m (At q) d ≡ contents code m q
+pub content-read : (code : Code) (m : Blocks) (q : Place) (d : Word) → CellThere code.structs m q → content_of m (At q) d ≡ contents code m q
 content-read code m q d cell = rw (content-there code m q cell, cell.there, cell.holds)
 
-module _ (code : Code) (m : Blocks) (p : Place) (c : Cell_there code.structs m p) (w : Word) where
+module _ (code : Code) (m : Blocks) (p : Place) (c : CellThere code.structs m p) (w : Word) where
   field-if : (t : Bool) (f : ℕ) → (f == p.field) ≡ t
       → content_in code.structs (Some (altered c.block p.field w)) f ≡ (if t then w else content_in code.structs (Some c.block) f)
   field-if true f e = let e' : f ≡ p.field = nat-same f p.field e in rw (e', c.cell, get-set_here c.block.words p.field w c.word c.holds)
@@ -141,14 +141,14 @@ module _ (code : Code) (m : Blocks) (p : Place) (c : Cell_there code.structs m p
   written-contents q = at-if (same_block q.block p.block) q.block q.field refl
 
 -- each modifiable of these fields is at its default
-abbrev pub At_defaults : List FieldKind → List Word → Type 0
-At_defaults [] words = ⊤
-At_defaults (kind ∷ kinds) [] = ⊤
-At_defaults (PlainField k ∷ kinds) (word ∷ words) = At_defaults kinds words
-At_defaults (CellInt ∷ kinds) (word ∷ words) = (word ≡ Num (pos 0)) × At_defaults kinds words
-At_defaults (CellPtr s ∷ kinds) (word ∷ words) = (word ≡ Null) × At_defaults kinds words
+abbrev pub AtDefaults : List FieldKind → List Word → Type 0
+AtDefaults [] words = ⊤
+AtDefaults (kind ∷ kinds) [] = ⊤
+AtDefaults (PlainField k ∷ kinds) (word ∷ words) = AtDefaults kinds words
+AtDefaults (CellInt ∷ kinds) (word ∷ words) = (word ≡ Num (pos 0)) × AtDefaults kinds words
+AtDefaults (CellPtr s ∷ kinds) (word ∷ words) = (word ≡ Null) × AtDefaults kinds words
 
-new-defaults : (kinds : List FieldKind) → At_defaults kinds (map default_of_field kinds)
+new-defaults : (kinds : List FieldKind) → AtDefaults kinds (map default_of_field kinds)
 new-defaults [] = tt
 new-defaults (PlainField k ∷ kinds) = new-defaults kinds
 new-defaults (CellInt ∷ kinds) = (refl, new-defaults kinds)
@@ -166,7 +166,7 @@ set-empty (Some (PlainField kind)) n z = refl
 set-empty (Some CellInt) n z = refl
 set-empty (Some (CellPtr s)) n z = refl
 
-defaults-set : (kinds : List FieldKind) (ws : List Word) (n : ℕ) (z : Word) → At_defaults kinds ws → At_defaults kinds (set_plain (slice_get kinds n) ws n z)
+defaults-set : (kinds : List FieldKind) (ws : List Word) (n : ℕ) (z : Word) → AtDefaults kinds ws → AtDefaults kinds (set_plain (slice_get kinds n) ws n z)
 defaults-set [] ws n z h = tt
 defaults-set (kind ∷ kinds) [] n z h = rw (set-empty (slice_get (kind ∷ kinds) n) n z) tt
 defaults-set (PlainField k ∷ kinds) (w ∷ ws) zero z h = h
@@ -177,24 +177,24 @@ defaults-set (CellPtr s ∷ kinds) (w ∷ ws) zero z h = h
 defaults-set (CellPtr s ∷ kinds) (w ∷ ws) (suc n) z h = rw (set-next (slice_get kinds n) w ws n z) (h.0, defaults-set kinds ws n z h.1)
 
 module _ (structs : List StructInfo) (x : Plain) (env : Variables) (s : ℕ) where
-  defaults-if : (b : Bool) (kinds : List FieldKind) (vs ws : List Word) → At_defaults kinds vs → At_defaults kinds ws → At_defaults kinds (if b then vs else ws)
+  defaults-if : (b : Bool) (kinds : List FieldKind) (vs ws : List Word) → AtDefaults kinds vs → AtDefaults kinds ws → AtDefaults kinds (if b then vs else ws)
   defaults-if true kinds vs ws h k = h
   defaults-if false kinds vs ws h k = k
 
   mutual
     unfolding set_by
 
-    set_by-defaults : (ws : List Word) (stmt : InitStmt) → At_defaults (kinds_of_shape structs (Struct s)) ws → At_defaults (kinds_of_shape structs (Struct s)) (set_by structs x env s ws stmt)
+    set_by-defaults : (ws : List Word) (stmt : InitStmt) → AtDefaults (kinds_of_shape structs (Struct s)) ws → AtDefaults (kinds_of_shape structs (Struct s)) (set_by structs x env s ws stmt)
     set_by-defaults ws (Set field e) h = defaults-set (kinds_of_shape structs (Struct s)) ws field (expr_value structs x env e) h
     set_by-defaults ws (IfStmt' test _ first _ second) h =
         defaults-if (holds (expr_value structs x env test)) (kinds_of_shape structs (Struct s)) (set_by_row structs x env s ws first) (set_by_row structs x env s ws second)
         (row-defaults ws first h) (row-defaults ws second h)
 
-    row-defaults : (ws : List Word) {n : _} (row : Row_of-InitStmt n) → At_defaults (kinds_of_shape structs (Struct s)) ws → At_defaults (kinds_of_shape structs (Struct s)) (set_by_row structs x env s ws row)
+    row-defaults : (ws : List Word) {n : _} (row : Row_of-InitStmt n) → AtDefaults (kinds_of_shape structs (Struct s)) ws → AtDefaults (kinds_of_shape structs (Struct s)) (set_by_row structs x env s ws row)
     row-defaults ws end_of-InitStmt h = h
     row-defaults ws (more_of-InitStmt stmt rest) h = row-defaults (set_by structs x env s ws stmt) rest (set_by-defaults ws stmt h)
 
-  all-defaults : (ws : List Word) (stmts : List InitStmt) → At_defaults (kinds_of_shape structs (Struct s)) ws → At_defaults (kinds_of_shape structs (Struct s)) (set_by_all structs x env s ws stmts)
+  all-defaults : (ws : List Word) (stmts : List InitStmt) → AtDefaults (kinds_of_shape structs (Struct s)) ws → AtDefaults (kinds_of_shape structs (Struct s)) (set_by_all structs x env s ws stmts)
   unfolding set_by_all
   all-defaults ws [] h = h
   all-defaults ws (stmt ∷ rest) h = all-defaults (set_by structs x env s ws stmt) rest (set_by-defaults ws stmt h)
@@ -212,14 +212,14 @@ module _ (code : Code) (x : Plain) where
   made-shape IntKey = refl
   made-shape (PtrKey s) = refl
 
-  made_by-defaults : (args : List Word) (f : Option FunctionCode) → At_defaults (kinds_of_shape code.structs (made_by code.structs x args f).shape) (made_by code.structs x args f).words
+  made_by-defaults : (args : List Word) (f : Option FunctionCode) → AtDefaults (kinds_of_shape code.structs (made_by code.structs x args f).shape) (made_by code.structs x args f).words
   made_by-defaults args (Some (InitFunction name s params body)) =
       all-defaults code.structs x (arguments args) s (default_block code.structs (Struct s)).words body (new-defaults (kinds_of_shape code.structs (Struct s)))
   made_by-defaults args (Some (CoreFunction name entry params)) = (refl, tt)
   made_by-defaults args None = (refl, tt)
 
   -- and its modifiables
-  pub made-defaults : (key : Key) → At_defaults (kinds_of_shape code.structs (made code x key).shape) (made code x key).words
+  pub made-defaults : (key : Key) → AtDefaults (kinds_of_shape code.structs (made code x key).shape) (made code x key).words
   unfolding made
   made-defaults (Init f args) = made_by-defaults args (slice_get code.functions f)
   made-defaults IntKey = (refl, tt)
@@ -271,7 +271,7 @@ module _ (code : Code) (x : Plain) where
   made-full IntKey = refl
   made-full (PtrKey s) = refl
 
-default-content : (kinds : List FieldKind) (ws : List Word) (n : ℕ) → At_defaults kinds ws
+default-content : (kinds : List FieldKind) (ws : List Word) (n : ℕ) → AtDefaults kinds ws
     → (if is_cell (slice_get kinds n) then unwrap_or (slice_get ws n) (field_default (slice_get kinds n)) else Num (pos 0)) ≡ cell_default (slice_get kinds n)
 default-content [] ws n h = refl
 default-content (kind ∷ kinds) [] n h = refl

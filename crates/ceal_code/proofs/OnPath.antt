@@ -1,5 +1,5 @@
 -- In valid code each command of a unit's body lies on a path from the first, and is right there.
-use Rattle.std.proofs.Common.{◌≡◌, ℕ, zero, suc, ◌+◌, ◌<◌, nat_lt, ◌&&◌, not, Bool, true, false, if◌then◌else◌, Option, Some, None, List, [], ◌∷◌, ◌++◌, length, replicate, Contains, ◌⊎◌, inl, inr, refl, sym, ap, ◌∙◌, subst, slice_get, slice_set, unwrap_or, arith}
+use Rattle.std.proofs.Common.{◌≡◌, ℕ, zero, suc, ◌+◌, ◌<◌, nat_lt, not, Bool, true, false, if◌then◌else◌, Option, Some, None, List, [], ◌∷◌, length, replicate, Contains, ◌⊎◌, inl, inr, refl, sym, ap, ◌∙◌, subst, slice_get, slice_set, unwrap_or, arith}
 use Rattle.std.proofs.lemmas.List.{length-set, length-replicate}
 use Rattle.std.proofs.lemmas.List.Elements.{Contains-append_left, Contains-append_right, Contains-append_cases, Contains-push, Contains-push_cases}
 use Rattle.ceal_code.proofs.Memory.{get-within}
@@ -141,54 +141,54 @@ on-path body f t (suc n) (suc j) l m =
 
 module _ (code : Code) (f : ℕ) (body : List Cmd) where
   -- a path from the index is right
-  record Path_at (i : ℕ) : Type 0 where
+  record PathAt (i : ℕ) : Type 0 where
     fuel : ℕ
     known : List Bool
     stepped : Bool
     ok : paths_ok code f body fuel i known stepped ≡ true
 
-  record Command_at (i : ℕ) (c : Cmd) : Type 0 where
+  record CommandAt (i : ℕ) (c : Cmd) : Type 0 where
     fuel : ℕ
     known : List Bool
     stepped : Bool
     ok : command_ok code f known stepped c ≡ true
     on : onward (paths_ok code f body fuel) c i known ≡ true
 
-  command-of : (i : ℕ) (c : Cmd) → slice_get body i ≡ Some c → Path_at i → Command_at i c
+  command-of : (i : ℕ) (c : Cmd) → slice_get body i ≡ Some c → PathAt i → CommandAt i c
   unfolding paths_ok
   command-of i c e p = go p.fuel p.ok
     where
-      found : (n : ℕ) (o : Option Cmd) → slice_get body i ≡ o → path_ok code f (paths_ok code f body n) o i p.known p.stepped ≡ true → Command_at i c
+      found : (n : ℕ) (o : Option Cmd) → slice_get body i ≡ o → path_ok code f (paths_ok code f body n) o i p.known p.stepped ≡ true → CommandAt i c
       found n None g h = none-some c (sym g ∙ e)
       found n (Some d) g h =
           let k = both (command_ok code f p.known p.stepped d) (onward (paths_ok code f body n) d i p.known) h in
-          subst (Command_at i) (some-same d c (sym g ∙ e)) (record { fuel = n; known = p.known; stepped = p.stepped; ok = k.0; on = k.1 })
+          subst (CommandAt i) (some-same d c (sym g ∙ e)) (record { fuel = n; known = p.known; stepped = p.stepped; ok = k.0; on = k.1 })
 
-      go : (n : ℕ) → paths_ok code f body n i p.known p.stepped ≡ true → Command_at i c
+      go : (n : ℕ) → paths_ok code f body n i p.known p.stepped ≡ true → CommandAt i c
       go zero h = absurd (grind (arith, h))
       go (suc n) h = found n (slice_get body i) refl h
 
-  goes-on : (c : Cmd) (i j fuel : ℕ) (known : List Bool) → onward (paths_ok code f body fuel) c i known ≡ true → Contains (followers c i) j → Path_at j
+  goes-on : (c : Cmd) (i j fuel : ℕ) (known : List Bool) → onward (paths_ok code f body fuel) c i known ≡ true → Contains (followers c i) j → PathAt j
   goes-on (Move v e) i j fuel known h k =
-      subst Path_at (contains-one (i + 1) j k) (record { fuel = fuel; known = slice_set known v.0 true; stepped = true; ok = h })
-  goes-on Tick i j fuel known h k = subst Path_at (contains-one (i + 1) j k) (record { fuel = fuel; known = known; stepped = true; ok = h })
+      subst PathAt (contains-one (i + 1) j k) (record { fuel = fuel; known = slice_set known v.0 true; stepped = true; ok = h })
+  goes-on Tick i j fuel known h k = subst PathAt (contains-one (i + 1) j k) (record { fuel = fuel; known = known; stepped = true; ok = h })
   goes-on (Alloc v g args) i j fuel known h k =
-      subst Path_at (contains-one (i + 1) j k) (record { fuel = fuel; known = slice_set known v.0 true; stepped = true; ok = h })
+      subst PathAt (contains-one (i + 1) j k) (record { fuel = fuel; known = slice_set known v.0 true; stepped = true; ok = h })
   goes-on (Modref v shape) i j fuel known h k =
-      subst Path_at (contains-one (i + 1) j k) (record { fuel = fuel; known = slice_set known v.0 true; stepped = true; ok = h })
-  goes-on (Write p e) i j fuel known h k = subst Path_at (contains-one (i + 1) j k) (record { fuel = fuel; known = known; stepped = true; ok = h })
+      subst PathAt (contains-one (i + 1) j k) (record { fuel = fuel; known = slice_set known v.0 true; stepped = true; ok = h })
+  goes-on (Write p e) i j fuel known h k = subst PathAt (contains-one (i + 1) j k) (record { fuel = fuel; known = known; stepped = true; ok = h })
   goes-on (If test first second) i j fuel known h k =
       let both' = both (paths_ok code f body fuel first known true) (paths_ok code f body fuel second known true) h in
       elim (contains-two first second j k) [
-        | inl e ↦ subst Path_at e (record { fuel = fuel; known = known; stepped = true; ok = both'.0 })
-        | inr e ↦ subst Path_at e (record { fuel = fuel; known = known; stepped = true; ok = both'.1 })
+        | inl e ↦ subst PathAt e (record { fuel = fuel; known = known; stepped = true; ok = both'.0 })
+        | inr e ↦ subst PathAt e (record { fuel = fuel; known = known; stepped = true; ok = both'.1 })
       ]
   goes-on Done i j fuel known h k = absurd (contains-none j k)
   goes-on (Tail w args) i j fuel known h k = absurd (contains-none j k)
   goes-on (Read v p w args) i j fuel known h k = absurd (contains-none j k)
   goes-on (Call g args w rest) i j fuel known h k = absurd (contains-none j k)
 
-  path-at : Path_at 0 → (j : ℕ) → IsOnPath body j → Path_at j
+  path-at : PathAt 0 → (j : ℕ) → IsOnPath body j → PathAt j
   path-at start j IsOnPath.first = start
   path-at start j (IsOnPath.next {i = i} {c = c} h e k) =
       let at = command-of i c e (path-at start i h) in goes-on c i j at.fuel at.known at.on k
@@ -201,6 +201,6 @@ on-right-path code ok u unit there i c e =
     let shape = unit-tree code unit right in
     let within = get-within unit.body i c e in
     let path = on-path unit.body shape.0 shape.1 (suc i) i (omega arith) within in
-    let start : Path_at code unit.function unit.body 0 = record { fuel = length unit.body; known = _; stepped = false; ok = unit-path code unit right } in
+    let start : PathAt code unit.function unit.body 0 = record { fuel = length unit.body; known = _; stepped = false; ok = unit-path code unit right } in
     let at = command-of code unit.function unit.body i c e (path-at code unit.function unit.body start i path) in
     (path, record { known = at.known; stepped = at.stepped; ok = at.ok })

@@ -1,13 +1,13 @@
 -- Pairs of core blocks.
 use Rattle.std.proofs.Common.{◌≡◌, ℕ, ◌+◌, ◌≤◌, ◌==◌, if◌then◌else◌, List, [], ◌∷◌, ◌⊎◌, inl, inr, refl, sym, ◌∙◌, arith}
 use Rattle.ceal_code.proofs.Same.{nat-refl}
-use Rattle.ceal_code.specs.Alike.{Pair, Pairs, Tied, Within, One_to_one, zipped}
+use Rattle.ceal_code.specs.Alike.{Pair, Pairs, Tied, Within, OneToOne, zipped}
 use Rattle.ceal_code.specs.Replay.{count, Distinct}
 
 pub within-trans : (ps qs rs : Pairs) → Within ps qs → Within qs rs → Within ps rs
 within-trans ps qs rs h k b c t = k b c (h b c t)
 
-pub one-within : (ps qs : Pairs) → Within ps qs → One_to_one qs → One_to_one ps
+pub one-within : (ps qs : Pairs) → Within ps qs → OneToOne qs → OneToOne ps
 one-within ps qs h o = record {
   left = λ b c d s t. o.left b c d (h b c s) (h b d t);
   right = λ b c d s t. o.right b c d (h b d s) (h c d t);
@@ -77,7 +77,7 @@ one-right (p ∷ ps) h b c d s t = go (tied-case b d p ps s) (tied-case c d p ps
     go (inr s) (inr t) k = k s t
 
 -- pairs without doubles are one to one
-pub pairs-one : (ps : Pairs) → Distinct (lefts ps) → Distinct (rights ps) → One_to_one ps
+pub pairs-one : (ps : Pairs) → Distinct (lefts ps) → Distinct (rights ps) → OneToOne ps
 pairs-one ps h k = record { left = one-left ps h; right = one-right ps k }
 
 count-lefts : (b : ℕ) (bs cs : List ℕ) → count b (lefts (zipped bs cs)) ≤ count b bs
@@ -91,5 +91,5 @@ count-rights c (d ∷ bs) [] = omega arith
 count-rights c (d ∷ bs) (e ∷ cs) = omega (arith, count-rights c bs cs)
 
 -- so are lists without doubles, side by side
-pub zip-one : (bs cs : List ℕ) → Distinct bs → Distinct cs → One_to_one (zipped bs cs)
+pub zip-one : (bs cs : List ℕ) → Distinct bs → Distinct cs → OneToOne (zipped bs cs)
 zip-one bs cs h k = pairs-one (zipped bs cs) (λ b. omega (arith, h b, count-lefts b bs cs)) (λ c. omega (arith, k c, count-rights c bs cs))

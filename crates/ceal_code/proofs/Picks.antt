@@ -17,68 +17,68 @@ abbrev pub Any : ℕ → CodeExpr → Type 0
 Any row a = ⊤
 
 -- where the operator picks from a row of some length
-abbrev pub If_pick : Binary → (ℕ → Type 0) → Type 0
-If_pick (Pick row) T = T row
-If_pick op T = ⊤
+abbrev pub IfPick : Binary → (ℕ → Type 0) → Type 0
+IfPick (Pick row) T = T row
+IfPick op T = ⊤
 
-abbrev pub Picks_row : (ℕ → CodeExpr → Type 0) → ℕ → {n : _} → Row_of-CodeExpr n → Type 0
-Picks_row S row end_of-CodeExpr = ⊤
-Picks_row S row (more_of-CodeExpr e rest) = S row e
+abbrev pub PicksRow : (ℕ → CodeExpr → Type 0) → ℕ → {n : _} → Row_of-CodeExpr n → Type 0
+PicksRow S row end_of-CodeExpr = ⊤
+PicksRow S row (more_of-CodeExpr e rest) = S row e
 
 unfoldable mutual
   pub Picks : (ℕ → CodeExpr → Type 0) → CodeExpr → Type 0
   Picks S (NumExpr n) = ⊤
   Picks S NullExpr = ⊤
   Picks S (Var v) = ⊤
-  Picks S (Unary' op _ a) = Picks_operand S a
-  Picks S (Binary' op _ a _ b) = If_pick op (λ row. Picks_row S row a) × Picks_operand S a × Picks_operand S b
-  Picks S (Field' _ a s field) = Picks_operand S a
-  Picks S (Address' _ a s field) = Picks_operand S a
+  Picks S (Unary' op _ a) = PicksOperand S a
+  Picks S (Binary' op _ a _ b) = IfPick op (λ row. PicksRow S row a) × PicksOperand S a × PicksOperand S b
+  Picks S (Field' _ a s field) = PicksOperand S a
+  Picks S (Address' _ a s field) = PicksOperand S a
 
-  pub Picks_operand : (ℕ → CodeExpr → Type 0) → {n : _} → Row_of-CodeExpr n → Type 0
-  Picks_operand S end_of-CodeExpr = ⊤
-  Picks_operand S (more_of-CodeExpr e rest) = Picks S e
+  pub PicksOperand : (ℕ → CodeExpr → Type 0) → {n : _} → Row_of-CodeExpr n → Type 0
+  PicksOperand S end_of-CodeExpr = ⊤
+  PicksOperand S (more_of-CodeExpr e rest) = Picks S e
 
-unfoldable pub Picks_all : (ℕ → CodeExpr → Type 0) → List CodeExpr → Type 0
-Picks_all S [] = ⊤
-Picks_all S (e ∷ es) = Picks S e × Picks_all S es
+unfoldable pub PicksAll : (ℕ → CodeExpr → Type 0) → List CodeExpr → Type 0
+PicksAll S [] = ⊤
+PicksAll S (e ∷ es) = Picks S e × PicksAll S es
 
-abbrev pub Picks_command : (ℕ → CodeExpr → Type 0) → Cmd → Type 0
-Picks_command S (Move v e) = Picks S e
-Picks_command S Tick = ⊤
-Picks_command S (Alloc v f args) = Picks_all S args
-Picks_command S (Modref v shape) = ⊤
-Picks_command S (Write p e) = Picks S p × Picks S e
-Picks_command S (If test first second) = Picks S test
-Picks_command S Done = ⊤
-Picks_command S (Tail w args) = Picks_all S args
-Picks_command S (Read v p w args) = Picks S p × Picks_all S args
-Picks_command S (Call f args w rest) = Picks_all S args × Picks_all S rest
+abbrev pub PicksCommand : (ℕ → CodeExpr → Type 0) → Cmd → Type 0
+PicksCommand S (Move v e) = Picks S e
+PicksCommand S Tick = ⊤
+PicksCommand S (Alloc v f args) = PicksAll S args
+PicksCommand S (Modref v shape) = ⊤
+PicksCommand S (Write p e) = Picks S p × Picks S e
+PicksCommand S (If test first second) = Picks S test
+PicksCommand S Done = ⊤
+PicksCommand S (Tail w args) = PicksAll S args
+PicksCommand S (Read v p w args) = Picks S p × PicksAll S args
+PicksCommand S (Call f args w rest) = PicksAll S args × PicksAll S rest
 
 unfoldable mutual
-  pub Picks_stmt : (ℕ → CodeExpr → Type 0) → InitStmt → Type 0
-  Picks_stmt S (Set field e) = Picks S e
-  Picks_stmt S (IfStmt' test _ first _ second) = Picks S test × Picks_stmts S first × Picks_stmts S second
+  pub PicksStmt : (ℕ → CodeExpr → Type 0) → InitStmt → Type 0
+  PicksStmt S (Set field e) = Picks S e
+  PicksStmt S (IfStmt' test _ first _ second) = Picks S test × PicksStmts S first × PicksStmts S second
 
-  pub Picks_stmts : (ℕ → CodeExpr → Type 0) → {n : _} → Row_of-InitStmt n → Type 0
-  Picks_stmts S end_of-InitStmt = ⊤
-  Picks_stmts S (more_of-InitStmt stmt rest) = Picks_stmt S stmt × Picks_stmts S rest
+  pub PicksStmts : (ℕ → CodeExpr → Type 0) → {n : _} → Row_of-InitStmt n → Type 0
+  PicksStmts S end_of-InitStmt = ⊤
+  PicksStmts S (more_of-InitStmt stmt rest) = PicksStmt S stmt × PicksStmts S rest
 
-unfoldable pub Picks_body : (ℕ → CodeExpr → Type 0) → List InitStmt → Type 0
-Picks_body S [] = ⊤
-Picks_body S (stmt ∷ rest) = Picks_stmt S stmt × Picks_body S rest
+unfoldable pub PicksBody : (ℕ → CodeExpr → Type 0) → List InitStmt → Type 0
+PicksBody S [] = ⊤
+PicksBody S (stmt ∷ rest) = PicksStmt S stmt × PicksBody S rest
 
-abbrev pub Picks_function : (ℕ → CodeExpr → Type 0) → Option FunctionCode → Type 0
-Picks_function S None = ⊤
-Picks_function S (Some (CoreFunction name entry params)) = ⊤
-Picks_function S (Some (InitFunction name s params body)) = Picks_body S body
+abbrev pub PicksFunction : (ℕ → CodeExpr → Type 0) → Option FunctionCode → Type 0
+PicksFunction S None = ⊤
+PicksFunction S (Some (CoreFunction name entry params)) = ⊤
+PicksFunction S (Some (InitFunction name s params body)) = PicksBody S body
 
 -- so it is in each command and in each initialiser of the code
-pub record Picks_code (S : ℕ → CodeExpr → Type 0) (code : Code) : Type 0 where
-  pub commands : (u i : ℕ) → Picks_command S (command_at code u i)
-  pub functions : (f : ℕ) → Picks_function S (slice_get code.functions f)
+pub record PicksCode (S : ℕ → CodeExpr → Type 0) (code : Code) : Type 0 where
+  pub commands : (u i : ℕ) → PicksCommand S (command_at code u i)
+  pub functions : (f : ℕ) → PicksFunction S (slice_get code.functions f)
 
-any-op : (op : Binary) {n : _} (row : Row_of-CodeExpr n) → If_pick op (λ length. Picks_row Any length row)
+any-op : (op : Binary) {n : _} (row : Row_of-CodeExpr n) → IfPick op (λ length. PicksRow Any length row)
 any-op (Pick length) end_of-CodeExpr = tt
 any-op (Pick length) (more_of-CodeExpr e rest) = tt
 any-op Add row = tt
@@ -107,16 +107,16 @@ mutual
   any-picks (Field' _ a s field) = any-operand a
   any-picks (Address' _ a s field) = any-operand a
 
-  any-operand : {n : _} (row : Row_of-CodeExpr n) → Picks_operand Any row
+  any-operand : {n : _} (row : Row_of-CodeExpr n) → PicksOperand Any row
   any-operand end_of-CodeExpr = tt
   any-operand (more_of-CodeExpr e rest) = any-picks e
 
-any-all : (es : List CodeExpr) → Picks_all Any es
-unfolding Picks_all
+any-all : (es : List CodeExpr) → PicksAll Any es
+unfolding PicksAll
 any-all [] = tt
 any-all (e ∷ es) = (any-picks e, any-all es)
 
-any-command : (c : Cmd) → Picks_command Any c
+any-command : (c : Cmd) → PicksCommand Any c
 any-command (Move v e) = any-picks e
 any-command Tick = tt
 any-command (Alloc v f args) = any-all args
@@ -129,26 +129,26 @@ any-command (Read v p w args) = (any-picks p, any-all args)
 any-command (Call f args w rest) = (any-all args, any-all rest)
 
 mutual
-  unfolding Picks_stmt
+  unfolding PicksStmt
 
-  any-stmt : (stmt : InitStmt) → Picks_stmt Any stmt
+  any-stmt : (stmt : InitStmt) → PicksStmt Any stmt
   any-stmt (Set field e) = any-picks e
   any-stmt (IfStmt' test _ first _ second) = (any-picks test, any-stmts first, any-stmts second)
 
-  any-stmts : {n : _} (row : Row_of-InitStmt n) → Picks_stmts Any row
+  any-stmts : {n : _} (row : Row_of-InitStmt n) → PicksStmts Any row
   any-stmts end_of-InitStmt = tt
   any-stmts (more_of-InitStmt stmt rest) = (any-stmt stmt, any-stmts rest)
 
-any-body : (stmts : List InitStmt) → Picks_body Any stmts
-unfolding Picks_body
+any-body : (stmts : List InitStmt) → PicksBody Any stmts
+unfolding PicksBody
 any-body [] = tt
 any-body (stmt ∷ rest) = (any-stmt stmt, any-body rest)
 
-any-function : (f : Option FunctionCode) → Picks_function Any f
+any-function : (f : Option FunctionCode) → PicksFunction Any f
 any-function None = tt
 any-function (Some (CoreFunction name entry params)) = tt
 any-function (Some (InitFunction name s params body)) = any-body body
 
 -- every code has the property that each row has
-pub any-code : (code : Code) → Picks_code Any code
+pub any-code : (code : Code) → PicksCode Any code
 any-code code = record { commands = λ u i. any-command (command_at code u i); functions = λ f. any-function (slice_get code.functions f) }

@@ -1,6 +1,5 @@
 -- Valid code picks from whole rows alone.
-use Rattle.std.proofs.Common.{◌≡◌, ℕ, ◌&&◌, ◌==◌, nat_lt, Bool, true, false, Option, Some, None, List, [], ◌∷◌, length, replicate, refl, slice_get, unwrap_or, arith}
-use Rattle.std.specs.Prelude.{⊤}
+use Rattle.std.proofs.Common.{◌≡◌, ℕ, ◌&&◌, ◌==◌, nat_lt, Bool, true, Option, Some, None, List, [], ◌∷◌, length, replicate, refl, slice_get, unwrap_or, arith}
 use Rattle.ceal_base.specs.declared.kind.Kind.{Kind}
 use Rattle.ceal_base.specs.declared.kind.Kind.TheVariants.{Int, Ptr}
 use Rattle.ceal_base.specs.declared.kind.FieldKind.{FieldKind}
@@ -10,14 +9,13 @@ use Rattle.ceal_base.specs.declared.operators.Binary.{Binary}
 use Rattle.ceal_base.specs.declared.operators.Binary.TheVariants.{Add, Sub, Mul, Div, Rem, Less, LessEq, More, MoreEq, Same, Differ, And, Or, Pick}
 use Rattle.ceal_base.specs.declared.typed.StructInfo.{StructInfo}
 use Rattle.ceal_code.proofs.OnPath.{on-right-path}
-use Rattle.ceal_code.proofs.Picks.{If_pick, Picks_row, Picks, Picks_operand, Picks_all, Picks_command, Picks_stmt, Picks_stmts, Picks_body, Picks_function, Picks_code}
+use Rattle.ceal_code.proofs.Picks.{IfPick, PicksRow, Picks, PicksOperand, PicksAll, PicksCommand, PicksStmt, PicksStmts, PicksBody, PicksFunction, PicksCode}
 use Rattle.ceal_code.proofs.Same.{both}
 use Rattle.ceal_code.proofs.Typed.{Typed, fits-typed, typed-int, binary-typed, points-typed, points-operand, write-types, place-typed}
 use Rattle.ceal_code.proofs.TypedInit.{function-valid}
-use Rattle.ceal_code.specs.OnPath.{IsRight}
 use Rattle.ceal_code.specs.Program.{Unit as CodeUnit, Code}
-use Rattle.ceal_code.specs.Step.{unit_at, command_at, kinds_of}
-use Rattle.ceal_code.specs.Valid.{Typing, fits, fits_maybe, binary_type, starts_row, operand_suits, points_to, plain_type, cell_type, type_of, operand_type, all_fit, params_fit, others, unit_fits, read_fits, entry_fits, call_fits, alloc_fits, place_fits, write_fits, command_ok, set_ok, stmt_ok, row_ok, stmts_ok, is_empty, kinds_ok, function_ok, valid}
+use Rattle.ceal_code.specs.Step.{kinds_of}
+use Rattle.ceal_code.specs.Valid.{Typing, fits, fits_maybe, binary_type, starts_row, operand_suits, points_to, plain_type, cell_type, type_of, operand_type, all_fit, params_fit, others, unit_fits, read_fits, entry_fits, call_fits, alloc_fits, place_fits, command_ok, set_ok, stmt_ok, row_ok, stmts_ok, is_empty, kinds_ok, valid}
 use Rattle.ceal_code.specs.Value.{field_kind}
 use Rattle.ceal_code.specs.declared.command.Cmd.{Cmd}
 use Rattle.ceal_code.specs.declared.command.Cmd.TheVariants.{Move, Tick, Alloc, Modref, Write, If, Done, Tail, Read, Call}
@@ -33,7 +31,7 @@ abbrev pub Starts : List StructInfo → ℕ → CodeExpr → Type 0
 Starts structs row a = starts_row structs row a ≡ true
 
 module _ (structs : List StructInfo) where
-  suits-pick : (op : Binary) {n : _} (a : Row_of-CodeExpr n) → operand_suits structs op a ≡ true → If_pick op (λ row. Picks_row (Starts structs) row a)
+  suits-pick : (op : Binary) {n : _} (a : Row_of-CodeExpr n) → operand_suits structs op a ≡ true → IfPick op (λ row. PicksRow (Starts structs) row a)
   suits-pick (Pick row) end_of-CodeExpr h = tt
   suits-pick (Pick row) (more_of-CodeExpr e rest) h = h
   suits-pick Add a h = tt
@@ -70,7 +68,7 @@ module _ (structs : List StructInfo) where
           let k = points-typed (points_to s (operand_type structs kinds known a)) (cell_type (field_kind structs (Struct s) f)) h in
           operand-picks a (points-operand s (operand_type structs kinds known a) k.0)
 
-      operand-picks : {n : _} (row : Row_of-CodeExpr n) → Typed (operand_type structs kinds known row) → Picks_operand (Starts structs) row
+      operand-picks : {n : _} (row : Row_of-CodeExpr n) → Typed (operand_type structs kinds known row) → PicksOperand (Starts structs) row
       operand-picks end_of-CodeExpr h = tt
       operand-picks (more_of-CodeExpr e rest) h = typed-picks e h
 
@@ -81,16 +79,16 @@ module _ (structs : List StructInfo) where
     maybe-picks None e h = absurd (grind (arith, h))
     maybe-picks (Some kind) e h = fits-picks kind e h
 
-    all-picks : (asked : List Kind) (es : List CodeExpr) → all_fit structs kinds known asked es ≡ true → Picks_all (Starts structs) es
-    unfolding all_fit Picks_all
+    all-picks : (asked : List Kind) (es : List CodeExpr) → all_fit structs kinds known asked es ≡ true → PicksAll (Starts structs) es
+    unfolding all_fit PicksAll
     all-picks [] [] h = tt
     all-picks [] (e ∷ es) h = absurd (grind (arith, h))
     all-picks (k ∷ asked) [] h = absurd (grind (arith, h))
     all-picks (k ∷ asked) (e ∷ es) h =
         let p = both (fits k (type_of structs kinds known e)) (all_fit structs kinds known asked es) h in (fits-picks k e p.0, all-picks asked es p.1)
 
-    params-picks : (theirs : List Kind) (ps : List VarId) (es : List CodeExpr) → params_fit structs kinds known theirs ps es ≡ true → Picks_all (Starts structs) es
-    unfolding params_fit Picks_all
+    params-picks : (theirs : List Kind) (ps : List VarId) (es : List CodeExpr) → params_fit structs kinds known theirs ps es ≡ true → PicksAll (Starts structs) es
+    unfolding params_fit PicksAll
     params-picks theirs [] [] h = tt
     params-picks theirs [] (e ∷ es) h = absurd (grind (arith, h))
     params-picks theirs (q ∷ ps) [] h = absurd (grind (arith, h))
@@ -106,56 +104,56 @@ module _ (structs : List StructInfo) where
 
     module _ (s : ℕ) where
       mutual
-        unfolding stmt_ok Picks_stmt
+        unfolding stmt_ok PicksStmt
 
-        stmt-picks : (stmt : InitStmt) → stmt_ok structs kinds known s stmt ≡ true → Picks_stmt (Starts structs) stmt
+        stmt-picks : (stmt : InitStmt) → stmt_ok structs kinds known s stmt ≡ true → PicksStmt (Starts structs) stmt
         stmt-picks (Set field e) h = typed-picks e (set-typed (field_kind structs (Struct s) field) (type_of structs kinds known e) h)
         stmt-picks (IfStmt' test _ first _ second) h =
             let p = both (fits Int (type_of structs kinds known test)) (row_ok structs kinds known s first && row_ok structs kinds known s second) h in
             let q = both (row_ok structs kinds known s first) (row_ok structs kinds known s second) p.1 in
             (fits-picks Int test p.0, row-picks first q.0, row-picks second q.1)
 
-        row-picks : {n : _} (row : Row_of-InitStmt n) → row_ok structs kinds known s row ≡ true → Picks_stmts (Starts structs) row
+        row-picks : {n : _} (row : Row_of-InitStmt n) → row_ok structs kinds known s row ≡ true → PicksStmts (Starts structs) row
         row-picks end_of-InitStmt h = tt
         row-picks (more_of-InitStmt stmt rest) h =
             let p = both (stmt_ok structs kinds known s stmt) (row_ok structs kinds known s rest) h in (stmt-picks stmt p.0, row-picks rest p.1)
 
-      body-picks : (stmts : List InitStmt) → stmts_ok structs kinds known s stmts ≡ true → Picks_body (Starts structs) stmts
-      unfolding stmts_ok Picks_body
+      body-picks : (stmts : List InitStmt) → stmts_ok structs kinds known s stmts ≡ true → PicksBody (Starts structs) stmts
+      unfolding stmts_ok PicksBody
       body-picks [] h = tt
       body-picks (stmt ∷ rest) h =
           let p = both (stmt_ok structs kinds known s stmt) (stmts_ok structs kinds known s rest) h in (stmt-picks stmt p.0, body-picks rest p.1)
 
 module _ (code : Code) (f : ℕ) (known : List Bool) where
-  unit-picks : (o : Option CodeUnit) (es : List CodeExpr) → unit_fits code f known o es ≡ true → Picks_all (Starts code.structs) es
+  unit-picks : (o : Option CodeUnit) (es : List CodeExpr) → unit_fits code f known o es ≡ true → PicksAll (Starts code.structs) es
   unit-picks None es h = absurd (grind (arith, h))
   unit-picks (Some unit) es h =
       let p = both (unit.function == f) (params_fit code.structs (kinds_of code f) known (kinds_of code f) unit.params es) h in
       params-picks code.structs (kinds_of code f) known (kinds_of code f) unit.params es p.1
 
-  read-picks : (v : ℕ) (o : Option CodeUnit) (es : List CodeExpr) → read_fits code f known v o es ≡ true → Picks_all (Starts code.structs) es
+  read-picks : (v : ℕ) (o : Option CodeUnit) (es : List CodeExpr) → read_fits code f known v o es ≡ true → PicksAll (Starts code.structs) es
   read-picks v None es h = absurd (grind (arith, h))
   read-picks v (Some unit) es h =
       let p = both (unit.function == f) (params_fit code.structs (kinds_of code f) known (kinds_of code f) (others v unit.params) es) h in
       params-picks code.structs (kinds_of code f) known (kinds_of code f) (others v unit.params) es p.1
 
-  entry-picks : (g : ℕ) (o : Option CodeUnit) (es : List CodeExpr) → entry_fits code f known g o es ≡ true → Picks_all (Starts code.structs) es
+  entry-picks : (g : ℕ) (o : Option CodeUnit) (es : List CodeExpr) → entry_fits code f known g o es ≡ true → PicksAll (Starts code.structs) es
   entry-picks g None es h = absurd (grind (arith, h))
   entry-picks g (Some unit) es h = params-picks code.structs (kinds_of code f) known (kinds_of code g) unit.params es h
 
-  call-picks : (g : ℕ) (o : Option FunctionCode) (es : List CodeExpr) → call_fits code f known g o es ≡ true → Picks_all (Starts code.structs) es
+  call-picks : (g : ℕ) (o : Option FunctionCode) (es : List CodeExpr) → call_fits code f known g o es ≡ true → PicksAll (Starts code.structs) es
   call-picks g None es h = absurd (grind (arith, h))
   call-picks g (Some (InitFunction name s params body)) es h = absurd (grind (arith, h))
   call-picks g (Some (CoreFunction name entry params)) es h = entry-picks g (slice_get code.units entry.0) es h
 
-  alloc-picks : (kind : Option Kind) (o : Option FunctionCode) (es : List CodeExpr) → alloc_fits code f known kind o es ≡ true → Picks_all (Starts code.structs) es
+  alloc-picks : (kind : Option Kind) (o : Option FunctionCode) (es : List CodeExpr) → alloc_fits code f known kind o es ≡ true → PicksAll (Starts code.structs) es
   alloc-picks kind None es h = absurd (grind (arith, h))
   alloc-picks kind (Some (CoreFunction name entry params)) es h = absurd (grind (arith, h))
   alloc-picks kind (Some (InitFunction name s params body)) es h =
       let p = both (fits_maybe kind (Some (Of (Ptr s)))) (all_fit code.structs (kinds_of code f) known params es) h in
       all-picks code.structs (kinds_of code f) known params es p.1
 
-  command-picks : (stepped : Bool) (c : Cmd) → command_ok code f known stepped c ≡ true → Picks_command (Starts code.structs) c
+  command-picks : (stepped : Bool) (c : Cmd) → command_ok code f known stepped c ≡ true → PicksCommand (Starts code.structs) c
   command-picks stepped (Move v e) h = maybe-picks code.structs (kinds_of code f) known (slice_get (kinds_of code f) v.0) e h
   command-picks stepped Tick h = tt
   command-picks stepped (Alloc v g args) h = alloc-picks (slice_get (kinds_of code f) v.0) (slice_get code.functions g) args h
@@ -178,17 +176,17 @@ module _ (code : Code) (f : ℕ) (known : List Bool) where
 
 module _ (code : Code) (ok : valid code ≡ true) where
   command-in : (u : ℕ) (unit : CodeUnit) → slice_get code.units u ≡ Some unit → (i : ℕ) (o : Option Cmd) → slice_get unit.body i ≡ o
-      → Picks_command (Starts code.structs) (unwrap_or o Done)
+      → PicksCommand (Starts code.structs) (unwrap_or o Done)
   command-in u unit e i None k = tt
   command-in u unit e i (Some c) k =
       let r = (on-right-path code ok u unit e i c k).1 in command-picks code unit.function r.known r.stepped c r.ok
 
   unit-in : (u i : ℕ) (o : Option CodeUnit) → slice_get code.units u ≡ o
-      → Picks_command (Starts code.structs) (unwrap_or (slice_get (unwrap_or o (record { function = 0; params = []; body = [] })).body i) Done)
+      → PicksCommand (Starts code.structs) (unwrap_or (slice_get (unwrap_or o (record { function = 0; params = []; body = [] })).body i) Done)
   unit-in u i None e = tt
   unit-in u i (Some unit) e = command-in u unit e i (slice_get unit.body i) refl
 
-  function-in : (f : ℕ) (o : Option FunctionCode) → slice_get code.functions f ≡ o → Picks_function (Starts code.structs) o
+  function-in : (f : ℕ) (o : Option FunctionCode) → slice_get code.functions f ≡ o → PicksFunction (Starts code.structs) o
   function-in f None e = tt
   function-in f (Some (CoreFunction name entry params)) e = tt
   function-in f (Some (InitFunction name s params body)) e =
@@ -198,7 +196,7 @@ module _ (code : Code) (ok : valid code ≡ true) where
       body-picks code.structs params (replicate (length params) true) s body q.1
 
   -- each row that valid code picks from is one of a struct, or null
-  pub picks-valid : Picks_code (Starts code.structs) code
+  pub picks-valid : PicksCode (Starts code.structs) code
   picks-valid = record {
     commands = λ u i. unit-in u i (slice_get code.units u) refl;
     functions = λ f. function-in f (slice_get code.functions f) refl;

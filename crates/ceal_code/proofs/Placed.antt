@@ -17,11 +17,11 @@ use Rattle.ceal_base.specs.declared.word.BlockId.TheVariants.{Input, Core}
 use Rattle.ceal_base.specs.declared.word.Place.{Place}
 use Rattle.ceal_base.specs.declared.word.Word.{Word}
 use Rattle.ceal_base.specs.declared.word.Word.TheVariants.{Num, Null, Block as BlockWord, At}
-use Rattle.ceal_code.proofs.Closed.{Each, each-at, Of_stack, Of_key, Closed, field_in-of, field_default-of}
+use Rattle.ceal_code.proofs.Closed.{Each, each-at, OfStack, OfKey, Closed, field_in-of, field_default-of}
 use Rattle.ceal_code.proofs.ClosedInit.{put-of, made-of}
-use Rattle.ceal_code.proofs.Memory.{contents, Cell_there, content-there, get-push_other, altered, written-here, written-other, grown-here, made-shape}
+use Rattle.ceal_code.proofs.Memory.{contents, CellThere, content-there, get-push_other, altered, written-here, written-other, grown-here, made-shape}
 use Rattle.ceal_code.proofs.PicksValid.{Starts, picks-valid}
-use Rattle.ceal_code.proofs.Rows.{Rows_hold}
+use Rattle.ceal_code.proofs.Rows.{RowsHold}
 use Rattle.ceal_code.proofs.TypedInit.{rows-valid}
 use Rattle.ceal_code.proofs.Same.{both, block-same, some-same, struct-shape}
 use Rattle.ceal_code.specs.Init.{made, pointer}
@@ -40,8 +40,8 @@ Placed structs m Null = ⊤
 Placed structs m (BlockWord b) = ⊤
 
 -- so is each that a block of the memory names
-abbrev pub Well_placed : List StructInfo → Blocks → Type 0
-Well_placed structs m = (b : BlockId) (block : Block) → block_at m b ≡ Some block → Each (Placed structs m) block.words
+abbrev pub WellPlaced : List StructInfo → Blocks → Type 0
+WellPlaced structs m = (b : BlockId) (block : Block) → block_at m b ≡ Some block → Each (Placed structs m) block.words
 
 -- what is a modifiable stays one
 abbrev pub Keeps : List StructInfo → Blocks → Blocks → Type 0
@@ -58,11 +58,11 @@ module _ (structs : List StructInfo) (m m' : Blocks) (keeps : Keeps structs m m'
   each-keeps [] h = h
   each-keeps (w ∷ ws) h = (placed-keeps w h.0, each-keeps ws h.1)
 
-  pub stack-keeps : (st : Stack) → Of_stack (Placed structs m) st → Of_stack (Placed structs m') st
+  pub stack-keeps : (st : Stack) → OfStack (Placed structs m) st → OfStack (Placed structs m') st
   stack-keeps Empty h = h
   stack-keeps (Run u i env below) h = ((λ v. placed-keeps (env v) (h.0 v)), stack-keeps below h.1)
 
-module _ (structs : List StructInfo) (m : Blocks) (well : Well_placed structs m) where
+module _ (structs : List StructInfo) (m : Blocks) (well : WellPlaced structs m) where
   field-placed : (b : BlockId) (s f : ℕ) (o : Option Block) → block_at m b ≡ o → Placed structs m (field_in (field_kind structs (Struct s) f) (of_struct s o) f)
   field-placed b s f None e = field_default-of (Placed structs m) (λ n. tt) tt (field_kind structs (Struct s) f)
   field-placed b s f (Some block) e = field_in-of (Placed structs m) (λ n. tt) tt (field_kind structs (Struct s) f) (is_struct s block.shape) block f (well b block e)
@@ -84,7 +84,7 @@ module _ (structs : List StructInfo) (m : Blocks) (well : Well_placed structs m)
       let shape : block.shape ≡ Struct s = struct-shape s block.shape (some-if block (is_struct s block.shape) k.1) in
       subst (λ shape. is_cell (slice_get (kinds_of_shape structs shape) f) ≡ true) (sym shape) k.0
 
-  module _ (rows : Rows_hold structs) (s f row : ℕ) (starts : is_row_of row (row_at structs s f) ≡ true) where
+  module _ (rows : RowsHold structs) (s f row : ℕ) (starts : is_row_of row (row_at structs s f) ≡ true) where
     below-row : (n : ℕ) (c : Bool) → (nat_lt n row && c) ≡ true → n < row
     below-row n c h = let p = both (nat_lt n row) c h in grind (arith, p.0)
 
@@ -118,7 +118,7 @@ module _ (structs : List StructInfo) (m : Blocks) (well : Well_placed structs m)
     pick-placed (BlockWord b) i = pick-if b i (is_cell (field_kind structs (Struct s) f) && is_some (of_struct s (block_at m b))) refl
     pick-placed (At p) i = pick-null i _
 
-  picked-placed : Rows_hold structs → (env : Variables) (row : ℕ) (a : CodeExpr) (i : Word) → Starts structs row a → Placed structs m (picked row (expr_value structs (block_at m) env a) i)
+  picked-placed : RowsHold structs → (env : Variables) (row : ℕ) (a : CodeExpr) (i : Word) → Starts structs row a → Placed structs m (picked row (expr_value structs (block_at m) env a) i)
   unfolding expr_value
   picked-placed rows env row NullExpr i h = tt
   picked-placed rows env row (Address' _ a s f) i h = pick-placed rows s f row h (operand_value structs (block_at m) env a) i
@@ -128,7 +128,7 @@ module _ (structs : List StructInfo) (m : Blocks) (well : Well_placed structs m)
   picked-placed rows env row (Binary' op _ a _ b) i h = absurd (grind (arith, h))
   picked-placed rows env row (Field' _ a s f) i h = absurd (grind (arith, h))
 
-  pub placed-closed : Rows_hold structs → Closed structs (block_at m) (Starts structs) (Placed structs m)
+  pub placed-closed : RowsHold structs → Closed structs (block_at m) (Starts structs) (Placed structs m)
   placed-closed rows = record {
     num = λ n. tt;
     null = tt;
@@ -153,14 +153,14 @@ module _ (structs : List StructInfo) (m : Blocks) (well : Well_placed structs m)
         subst (λ after. Each (Placed structs m) after.words) is (put-of (Placed structs m) block.words f w (well b block there) h)
     altered-placed false c e h after g = well c after (sym (written-other m b c f w block there e) ∙ g)
 
-    pub written-well : Placed structs m w → Well_placed structs (written_at m b f w)
+    pub written-well : Placed structs m w → WellPlaced structs (written_at m b f w)
     written-well h c after g = each-keeps structs m (written_at m b f w) written-keeps after.words (altered-placed (same_block c b) c refl h after g)
 
-pub content-placed : (code : Code) (m : Blocks) (q : Place) → Well_placed code.structs m → (cell : Cell_there code.structs m q) → Placed code.structs m (contents code m q)
+pub content-placed : (code : Code) (m : Blocks) (q : Place) → WellPlaced code.structs m → (cell : CellThere code.structs m q) → Placed code.structs m (contents code m q)
 content-placed code m q well cell =
     rw (content-there code m q cell) (each-at (Placed code.structs m) cell.block.words q.field cell.word (well q.block cell.block cell.there) cell.holds)
 
-module _ (code : Code) (m : Blocks) (well : Well_placed code.structs m) (key : Key) where
+module _ (code : Code) (m : Blocks) (well : WellPlaced code.structs m) (key : Key) where
   none-past : (xs : List Block) → slice_get xs (length xs) ≡ None
   none-past [] = refl
   none-past (x ∷ xs) = none-past xs
@@ -177,7 +177,7 @@ module _ (code : Code) (m : Blocks) (well : Well_placed code.structs m) (key : K
   pub grown-keeps : Keeps code.structs m (with_block m (made code (block_at m) key))
   grown-keeps p h = grown-kind (same_block p.block (Core (length m.made))) p.block refl p.field h
 
-  grown-if : valid code ≡ true → (t : Bool) (c : BlockId) → same_block c (Core (length m.made)) ≡ t → Of_key (Placed code.structs m) key → (block : Block)
+  grown-if : valid code ≡ true → (t : Bool) (c : BlockId) → same_block c (Core (length m.made)) ≡ t → OfKey (Placed code.structs m) key → (block : Block)
       → block_at (with_block m (made code (block_at m) key)) c ≡ Some block → Each (Placed code.structs m) block.words
   grown-if ok true c e h block g =
       let e' : block_at (with_block m (made code (block_at m) key)) (Core (length m.made)) ≡ Some block = rw (block-same c (Core (length m.made)) e) at g in
@@ -186,7 +186,7 @@ module _ (code : Code) (m : Blocks) (well : Well_placed code.structs m) (key : K
   grown-if ok false (Input i) e h block g = well (Input i) block g
   grown-if ok false (Core c) e h block g = well (Core c) block (sym (get-push_other m.made (made code (block_at m) key) c e) ∙ g)
 
-  pub grown-well : valid code ≡ true → Of_key (Placed code.structs m) key → Well_placed code.structs (with_block m (made code (block_at m) key))
+  pub grown-well : valid code ≡ true → OfKey (Placed code.structs m) key → WellPlaced code.structs (with_block m (made code (block_at m) key))
   grown-well ok h c block g =
       each-keeps code.structs m (with_block m (made code (block_at m) key)) grown-keeps block.words (grown-if ok (same_block c (Core (length m.made))) c refl h block g)
 

@@ -19,12 +19,12 @@ use Rattle.ceal_code.proofs.FinalMemory.{numbered-at, numbered-one, is-distinct,
 use Rattle.ceal_code.proofs.FittingLemmas.{word-self, input-known, input-self, plain-self, begun-placed, args-known, args-placed}
 use Rattle.ceal_code.proofs.Memory.{contents}
 use Rattle.ceal_code.proofs.Placed.{Placed}
-use Rattle.ceal_code.specs.Alike.{Pairs, Id_alike, Word_alike, Words_alike, Stack_alike, Maybe_alike, Plain_alike, Store_alike}
+use Rattle.ceal_code.specs.Alike.{Pairs, IdAlike, WordAlike, WordsAlike, StackAlike, MaybeAlike, PlainAlike, StoreAlike}
 use Rattle.ceal_code.specs.Determined.{Determined}
 use Rattle.ceal_code.specs.Fitting.{Fits}
 use Rattle.ceal_code.specs.Fresh.{run, fresh}
 use Rattle.ceal_code.specs.Program.{Code}
-use Rattle.ceal_code.specs.Replay.{Yields, Store, Known_words, core_numbers, learnt, plain_words, plain_block, input_plain, plain_after, plain_of, content_in, input_block, bases, Replays, IsHonest, with_contents, filled, block_after, inputs_after}
+use Rattle.ceal_code.specs.Replay.{Yields, Store, KnownWords, core_numbers, learnt, plain_words, plain_block, input_plain, plain_after, plain_of, content_in, input_block, bases, Replays, IsHonest, with_contents, filled, block_after, inputs_after}
 use Rattle.ceal_code.specs.Init.{made}
 use Rattle.ceal_code.specs.Step.{Stack, Empty, chosen, started, unit_at, entry_of, settled, next}
 use Rattle.ceal_code.specs.Value.{Plain, field_kind, is_cell, field_default}
@@ -57,68 +57,68 @@ all-core (Yields.reads {inside = i} {rest = l} e r1 r2) =
 
 module _ (code : Code) (inputs : List Block) where
   -- the plain words of an input are like themselves
-  pub begin-self : (ps : Pairs) (fit : inputs_fit code.structs inputs ≡ true) (i : ℕ) → Maybe_alike code.structs ps (input_plain code inputs (Input i)) (input_plain code inputs (Input i))
+  pub begin-self : (ps : Pairs) (fit : inputs_fit code.structs inputs ≡ true) (i : ℕ) → MaybeAlike code.structs ps (input_plain code inputs (Input i)) (input_plain code inputs (Input i))
   unfolding input_plain
   begin-self ps fit i = go (slice_get inputs i) refl
     where
-      go : (o : Option Block) → slice_get inputs i ≡ o → Maybe_alike code.structs ps (option_map (plain_block code.structs) o) (option_map (plain_block code.structs) o)
-      go None e = Maybe_alike.none
-      go (Some block) e = Maybe_alike.some (record { shape = refl; fields = plain-self code.structs inputs fit ps i block e })
+      go : (o : Option Block) → slice_get inputs i ≡ o → MaybeAlike code.structs ps (option_map (plain_block code.structs) o) (option_map (plain_block code.structs) o)
+      go None e = MaybeAlike.none
+      go (Some block) e = MaybeAlike.some (record { shape = refl; fields = plain-self code.structs inputs fit ps i block e })
 
-  begin-plain : (ps : Pairs) (fit : inputs_fit code.structs inputs ≡ true) (i : ℕ) → Maybe_alike code.structs ps (input_plain code inputs (Input i)) (slice_get inputs i)
+  begin-plain : (ps : Pairs) (fit : inputs_fit code.structs inputs ≡ true) (i : ℕ) → MaybeAlike code.structs ps (input_plain code inputs (Input i)) (slice_get inputs i)
   unfolding input_plain
   begin-plain ps fit i = go (slice_get inputs i) refl
     where
-      go : (o : Option Block) → slice_get inputs i ≡ o → Maybe_alike code.structs ps (option_map (plain_block code.structs) o) o
-      go None e = Maybe_alike.none
-      go (Some block) e = Maybe_alike.some (record { shape = refl; fields = input-self code.structs inputs fit ps i block e })
+      go : (o : Option Block) → slice_get inputs i ≡ o → MaybeAlike code.structs ps (option_map (plain_block code.structs) o) o
+      go None e = MaybeAlike.none
+      go (Some block) e = MaybeAlike.some (record { shape = refl; fields = input-self code.structs inputs fit ps i block e })
 
-  content-self : (ps : Pairs) (fit : inputs_fit code.structs inputs ≡ true) (i f : ℕ) (o : Option Block) → slice_get inputs i ≡ o → Word_alike ps (content_in code.structs o f) (content_in code.structs o f)
-  content-self ps fit i f None e = Word_alike.num
+  content-self : (ps : Pairs) (fit : inputs_fit code.structs inputs ≡ true) (i f : ℕ) (o : Option Block) → slice_get inputs i ≡ o → WordAlike ps (content_in code.structs o f) (content_in code.structs o f)
+  content-self ps fit i f None e = WordAlike.num
   content-self ps fit i f (Some block) e = go (is_cell (field_kind code.structs block.shape f))
     where
-      known : (ws : List Word) → Known_words (length inputs) [] ws → Each (λ w. Word_alike ps w w) ws
+      known : (ws : List Word) → KnownWords (length inputs) [] ws → Each (λ w. WordAlike ps w w) ws
       known [] h = tt
       known (w ∷ ws) h = (word-self (length inputs) ps w h.0, known ws h.1)
 
-      go : (t : Bool) → Word_alike ps (if t then unwrap_or (slice_get block.words f) (field_default (field_kind code.structs block.shape f)) else Num (pos 0))
+      go : (t : Bool) → WordAlike ps (if t then unwrap_or (slice_get block.words f) (field_default (field_kind code.structs block.shape f)) else Num (pos 0))
           (if t then unwrap_or (slice_get block.words f) (field_default (field_kind code.structs block.shape f)) else Num (pos 0))
-      go true = get-of (λ w. Word_alike ps w w) (λ n. Word_alike.num) Word_alike.null block.words f (field_default (field_kind code.structs block.shape f)) (known block.words (input-known code.structs inputs fit i block e))
+      go true = get-of (λ w. WordAlike ps w w) (λ n. WordAlike.num) WordAlike.null block.words f (field_default (field_kind code.structs block.shape f)) (known block.words (input-known code.structs inputs fit i block e))
           (field_default-self ps (field_kind code.structs block.shape f))
-      go false = Word_alike.num
+      go false = WordAlike.num
 
   -- the bases are the contents of the inputs
-  begin-store : (ps : Pairs) (fit : inputs_fit code.structs inputs ≡ true) → Store_alike ps (bases code inputs) (contents code (record { inputs = inputs; made = [] }))
+  begin-store : (ps : Pairs) (fit : inputs_fit code.structs inputs ≡ true) → StoreAlike ps (bases code inputs) (contents code (record { inputs = inputs; made = [] }))
   unfolding bases contents
   begin-store ps fit p q h = go p.block q.block h.block (rw h.field refl)
     where
-      go : (b c : BlockId) → Id_alike ps b c → p.field ≡ q.field
-          → Word_alike ps (content_in code.structs (input_block inputs b) p.field) (content_in code.structs (block_at (record { inputs = inputs; made = [] }) c) q.field)
-      go b c (Id_alike.input {i = i}) e = rw e (content-self ps fit i q.field (slice_get inputs i) refl)
-      go b c (Id_alike.core t) e = Word_alike.num
+      go : (b c : BlockId) → IdAlike ps b c → p.field ≡ q.field
+          → WordAlike ps (content_in code.structs (input_block inputs b) p.field) (content_in code.structs (block_at (record { inputs = inputs; made = [] }) c) q.field)
+      go b c (IdAlike.input {i = i}) e = rw e (content-self ps fit i q.field (slice_get inputs i) refl)
+      go b c (IdAlike.core t) e = WordAlike.num
 
-  pub bases-self : (ps : Pairs) (fit : inputs_fit code.structs inputs ≡ true) → Store_alike ps (bases code inputs) (bases code inputs)
+  pub bases-self : (ps : Pairs) (fit : inputs_fit code.structs inputs ≡ true) → StoreAlike ps (bases code inputs) (bases code inputs)
   unfolding bases
   bases-self ps fit p q h = go p.block q.block h.block (rw h.field refl)
     where
-      go : (b c : BlockId) → Id_alike ps b c → p.field ≡ q.field → Word_alike ps (content_in code.structs (input_block inputs b) p.field) (content_in code.structs (input_block inputs c) q.field)
-      go b c (Id_alike.input {i = i}) e = rw e (content-self ps fit i q.field (slice_get inputs i) refl)
-      go b c (Id_alike.core t) e = Word_alike.num
+      go : (b c : BlockId) → IdAlike ps b c → p.field ≡ q.field → WordAlike ps (content_in code.structs (input_block inputs b) p.field) (content_in code.structs (input_block inputs c) q.field)
+      go b c (IdAlike.input {i = i}) e = rw e (content-self ps fit i q.field (slice_get inputs i) refl)
+      go b c (IdAlike.core t) e = WordAlike.num
 
-words-alike : (ps : Pairs) (ws : List Word) → Each (λ w. Word_alike ps w w) ws → Words_alike ps ws ws
-words-alike ps [] h = Words_alike.none
-words-alike ps (w ∷ ws) h = Words_alike.more h.0 (words-alike ps ws h.1)
+words-alike : (ps : Pairs) (ws : List Word) → Each (λ w. WordAlike ps w w) ws → WordsAlike ps ws ws
+words-alike ps [] h = WordsAlike.none
+words-alike ps (w ∷ ws) h = WordsAlike.more h.0 (words-alike ps ws h.1)
 
-selves : (n : ℕ) (ps : Pairs) (ws : List Word) → Known_words n [] ws → Each (λ w. Word_alike ps w w) ws
+selves : (n : ℕ) (ps : Pairs) (ws : List Word) → KnownWords n [] ws → Each (λ w. WordAlike ps w w) ws
 selves n ps [] h = tt
 selves n ps (w ∷ ws) h = (word-self n ps w h.0, selves n ps ws h.1)
 
 -- a call on inputs is like itself
-pub started-alike : (code : Code) (n : ℕ) (ps : Pairs) (f : ℕ) (args : List Word) → Known_words n [] args → Stack_alike ps (started code f args) (started code f args)
+pub started-alike : (code : Code) (n : ℕ) (ps : Pairs) (f : ℕ) (args : List Word) → KnownWords n [] args → StackAlike ps (started code f args) (started code f args)
 started-alike code n ps f args h =
     entered-alike ps code (entry_of code f)
     (words-alike ps (chosen (unit_at code (entry_of code f)).params args)
-    (chosen-of (λ w. Word_alike ps w w) (λ n. Word_alike.num) Word_alike.null (unit_at code (entry_of code f)).params args (selves n ps args h))) Stack_alike.empty
+    (chosen-of (λ w. WordAlike ps w w) (λ n. WordAlike.num) WordAlike.null (unit_at code (entry_of code f)).params args (selves n ps args h))) StackAlike.empty
 
 -- the contents stand in for what the plain words have
 with_contents-plain : (s : Store) (b : BlockId) (n : ℕ) (kinds : List FieldKind) (ws : List Word) → with_contents s b n kinds (plain_words kinds ws) ≡ with_contents s b n kinds ws
@@ -156,9 +156,9 @@ module _ (code : Code) (inputs : List Block) (f : ℕ) (args : List Word) (fits 
     bound = λ b c t. elim t [ ];
   }
     where
-      plain : Plain_alike code.structs [] (plain_of code inputs l) (block_at (record { inputs = inputs; made = [] }))
-      plain b c (Id_alike.input {i = i}) = rw (input-is i) (begin-plain code inputs [] fits.blocks i)
-      plain b c (Id_alike.core t) = elim t [ ]
+      plain : PlainAlike code.structs [] (plain_of code inputs l) (block_at (record { inputs = inputs; made = [] }))
+      plain b c (IdAlike.input {i = i}) = rw (input-is i) (begin-plain code inputs [] fits.blocks i)
+      plain b c (IdAlike.core t) = elim t [ ]
 
   -- the run that stands for the trace
   the-run : Runs code (plain_of code inputs l) (numbered 0 (core_numbers (blocks_of l))) (numbered-one (core_numbers (blocks_of l)) r.distinct) [] (record { inputs = inputs; made = [] }) (started code f args) l h.after
@@ -169,7 +169,7 @@ module _ (code : Code) (inputs : List Block) (f : ℕ) (args : List Word) (fits 
       (chosen-of (Placed code.structs (record { inputs = inputs; made = [] })) (λ n. tt) tt (unit_at code (entry_of code f)).params args (args-placed code inputs f args fits)) tt)
       h.walk [] (rw (append-nil (core_numbers (blocks_of l))) (λ b c t. t))
 
-  named : (b c : BlockId) → Id_alike the-run.after b c → option_map (renamed_block (core_numbers (blocks_of l))) (block_after code (plain_of code inputs l) h.after b) ≡ block_at the-run.memory c
+  named : (b c : BlockId) → IdAlike the-run.after b c → option_map (renamed_block (core_numbers (blocks_of l))) (block_after code (plain_of code inputs l) h.after b) ≡ block_at the-run.memory c
   named =
       block-named (core_numbers (blocks_of l)) r.distinct code (plain_of code inputs l) h.after the-run.memory the-run.after the-run.stands.within the-run.stands.plain the-run.stands.store
 
@@ -181,14 +181,14 @@ module _ (code : Code) (inputs : List Block) (f : ℕ) (args : List Word) (fits 
   input-named : (i : ℕ) → slice_get (map (renamed_block (core_numbers (blocks_of l))) (inputs_after code h.after 0 inputs)) i ≡ slice_get the-run.memory.inputs i
   input-named i =
       get-map (renamed_block (core_numbers (blocks_of l))) (inputs_after code h.after 0 inputs) i
-      ∙ (ap (option_map (renamed_block (core_numbers (blocks_of l)))) (get-after code h.after 0 inputs i ∙ input-filled i (slice_get inputs i) refl) ∙ named (Input i) (Input i) Id_alike.input)
+      ∙ (ap (option_map (renamed_block (core_numbers (blocks_of l)))) (get-after code h.after 0 inputs i ∙ input-filled i (slice_get inputs i) refl) ∙ named (Input i) (Input i) IdAlike.input)
 
   core-named : (i : ℕ) → i < length (core_numbers (blocks_of l))
       → option_map (renamed_block (core_numbers (blocks_of l))) (block_after code (plain_of code inputs l) h.after (Core (slice_index (core_numbers (blocks_of l)) i))) ≡ slice_get the-run.memory.made i
   core-named i k =
       let n : 0 + i ≡ i = omega arith in
       named (Core (slice_index (core_numbers (blocks_of l)) i)) (Core i)
-      (Id_alike.core (the-run.inward (slice_index (core_numbers (blocks_of l)) i) i (rw n at (numbered-at 0 (core_numbers (blocks_of l)) i k))))
+      (IdAlike.core (the-run.inward (slice_index (core_numbers (blocks_of l)) i) i (rw n at (numbered-at 0 (core_numbers (blocks_of l)) i k))))
 
   count : length the-run.memory.made ≡ length (core_numbers (blocks_of l))
   count = omega (arith, the-run.count)

@@ -1,5 +1,5 @@
 -- The elements of a whole row have one kind.
-use Rattle.std.proofs.Common.{◌≡◌, ℕ, zero, suc, ◌+◌, ◌<◌, ◌==◌, ◌&&◌, nat_lt, nat_le, Bool, true, false, Option, Some, None, List, [], ◌∷◌, length, map, refl, ap, ◌∙◌, subst, sym, slice_get, arith}
+use Rattle.std.proofs.Common.{◌≡◌, ℕ, zero, suc, ◌+◌, ◌<◌, ◌==◌, ◌&&◌, nat_lt, nat_le, true, Option, Some, None, List, [], ◌∷◌, length, map, refl, ap, subst, sym, slice_get, arith}
 use Rattle.ceal_base.specs.Shapes.{kind_of_field, field_kinds, row_of_field, field_rows, row_at}
 use Rattle.ceal_base.specs.declared.kind.FieldKind.{FieldKind}
 use Rattle.ceal_base.specs.declared.kind.FieldKind.TheVariants.{Plain as PlainField, CellInt, CellPtr}
@@ -73,10 +73,10 @@ structs-in structs (g ∷ rest) h (suc s) info e =
     structs-in structs rest p.1 s info e
 
 -- each element of a row has the kind of the first one
-abbrev pub Rows_hold : List StructInfo → Type 0
-Rows_hold structs = (s f row : ℕ) → is_row_of row (row_at structs s f) ≡ true → (i : ℕ) → i < row → field_kind structs (Struct s) (f + i) ≡ field_kind structs (Struct s) f
+abbrev pub RowsHold : List StructInfo → Type 0
+RowsHold structs = (s f row : ℕ) → is_row_of row (row_at structs s f) ≡ true → (i : ℕ) → i < row → field_kind structs (Struct s) (f + i) ≡ field_kind structs (Struct s) f
 
-pub rows-hold : (structs : List StructInfo) → structs_ok structs structs ≡ true → Rows_hold structs
+pub rows-hold : (structs : List StructInfo) → structs_ok structs structs ≡ true → RowsHold structs
 rows-hold structs h s f row k i l = go (slice_get structs s) refl k
   where
     go : (o : Option StructInfo) → slice_get structs s ≡ o → is_row_of row (slice_get (field_rows o) f) ≡ true → slice_get (field_kinds o) (f + i) ≡ slice_get (field_kinds o) f

@@ -2,7 +2,7 @@
 use Rattle.std.proofs.Common.{◌≡◌, ℕ, pos, true, false, Some, None, List, [], ◌∷◌, refl}
 use Rattle.std.specs.Prelude.{codes}
 use Rattle.ceal_base.specs.Block.{Block}
-use Rattle.ceal_base.specs.Trace.{Trace, Nothing, Stepped, Wrote, Was_read}
+use Rattle.ceal_base.specs.Trace.{Trace, Nothing, Stepped, Wrote, WasRead}
 use Rattle.ceal_base.specs.declared.kind.FieldKind.TheVariants.{Plain as PlainField, CellInt, CellPtr}
 use Rattle.ceal_base.specs.declared.kind.Kind.TheVariants.{Int, Ptr, ModInt as ModIntKind}
 use Rattle.ceal_base.specs.declared.kind.Shape.TheVariants.{ModInt}
@@ -64,7 +64,7 @@ inc-short = refl
 
 -- what a run on 4 leaves
 abbrev items : Trace
-items = Stepped (Was_read (place 0) (Num (pos 4)) (record { 0 = 1 }) 2 (At (place 1) ∷ []) (Stepped (Wrote (place 1) (Num (pos 5)) Nothing)) Nothing)
+items = Stepped (WasRead (place 0) (Num (pos 4)) (record { 0 = 1 }) 2 (At (place 1) ∷ []) (Stepped (Wrote (place 1) (Num (pos 5)) Nothing)) Nothing)
 
 inc-yields : Yields inc (plain_of inc (inputs 4) items) (started inc 0 args) items
 unfolding next settled chosen bound woven set unset expr_value values hidden-the_row-CodeExpr-0 shape-the_row-CodeExpr-0 denote.Hole.Carrier.hidden

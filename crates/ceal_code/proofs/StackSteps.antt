@@ -24,7 +24,7 @@ stack-nil = refl
 
 pub ruleset stack_steps = (stack-push, stack-nil)
 
--- nulls behind the words of variables
+-- nulls after the words of variables
 padded : (words : List Word) (n u : ℕ) → get_or (words ++ replicate n Null) u Null ≡ get_or words u Null
 padded [] zero u = refl
 padded [] (suc n) zero = refl

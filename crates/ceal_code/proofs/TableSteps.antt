@@ -1,13 +1,12 @@
 -- The tables of a trace's memory, call by call.
-use Rattle.std.proofs.Common.{◌≡◌, ℕ, zero, suc, ◌+◌, ◌-◌, ◌<◌, ◌==◌, ◌&&◌, Bool, true, false, cond, if◌then◌else◌, Option, Some, None, List, [], ◌∷◌, ◌++◌, length, replicate, get_or, set as put_at, append_assoc, append-nil, slice_get, refl, sym, ap, ◌∙◌, unwrap_or, arith}
+use Rattle.std.proofs.Common.{◌≡◌, ℕ, zero, suc, ◌+◌, ◌-◌, ◌==◌, ◌&&◌, Bool, true, false, cond, if◌then◌else◌, Option, Some, None, List, [], ◌∷◌, ◌++◌, length, append_assoc, append-nil, slice_get, refl, sym, ap, ◌∙◌, unwrap_or, arith}
 use Rattle.std.specs.HashMap.{get}
 use Rattle.std.specs.Option.{option_map}
 use Rattle.std.proofs.Math.Path.{fun_ext}
-use Rattle.std.proofs.lemmas.List.{get_or-set_same, get_or-set_other}
 use Rattle.ceal_base.specs.Block.{Block}
 use Rattle.ceal_base.specs.Operators.{same_block}
 use Rattle.ceal_base.specs.Shapes.{kinds_of_shape}
-use Rattle.ceal_base.specs.Trace.{Trace, Nothing, Stepped, Allocated, Wrote, Was_read, flat}
+use Rattle.ceal_base.specs.Trace.{Trace, Nothing, Stepped, Allocated, Wrote, WasRead, flat}
 use Rattle.ceal_base.specs.contracts.word.BlockIdPartialEq.TheImpl.{ghosts}
 use Rattle.ceal_base.specs.declared.forest.Item.{Item}
 use Rattle.ceal_base.specs.declared.forest.Item.TheVariants.{End}
@@ -18,7 +17,7 @@ use Rattle.ceal_base.specs.declared.word.BlockId.{BlockId}
 use Rattle.ceal_base.specs.declared.word.BlockId.TheVariants.{Input, Core}
 use Rattle.ceal_base.specs.declared.word.Place.{Place}
 use Rattle.ceal_base.specs.declared.word.Word.{Word}
-use Rattle.ceal_code.proofs.Same.{nat-same, block-same, block-refl}
+use Rattle.ceal_code.proofs.Same.{block-same, block-refl}
 use Rattle.ceal_code.specs.After.{store_after}
 use Rattle.ceal_code.specs.Init.{made}
 use Rattle.ceal_code.specs.PlainWords.{block_shape, block_word}
@@ -32,12 +31,6 @@ use Rattle.ceal_code.specs.declared.trace_memory.TraceMemory.{TraceMemory}
 same-option : (o : Option Word) → o ≡ option_map (λ w. w) o
 same-option None = refl
 same-option (Some w) = refl
-
-no-word : (kinds : List FieldKind) (f : ℕ) → slice_get (plain_words kinds []) f ≡ None
-no-word [] zero = refl
-no-word [] (suc f) = refl
-no-word (k ∷ ks) zero = refl
-no-word (k ∷ ks) (suc f) = refl
 
 -- the plain word of a field is that of its word
 pub plain-at : (kinds : List FieldKind) (words : List Word) (f : ℕ)
@@ -111,38 +104,6 @@ block-flip-by a b false e = go (same_block b a) refl
 pub block-flip : (a b : BlockId) → same_block b a ≡ same_block a b
 block-flip a b = block-flip-by a b (same_block a b) refl
 
--- places without a word behind the others
-padded : (words : List (Option Word)) (n u : ℕ) → get_or (words ++ replicate n None) u None ≡ get_or words u None
-padded [] zero u = refl
-padded [] (suc n) zero = refl
-padded [] (suc n) (suc u) = padded [] n u
-padded (w ∷ words) n zero = refl
-padded (w ∷ words) n (suc u) = padded words n u
-
-put-at : (words more : List (Option Word)) (v u : ℕ) (word other : Word) → v < length more → ((i : ℕ) → get_or more i None ≡ get_or words i None)
-    → (b : Bool) → (u == v) ≡ b → unwrap_or (get_or (put_at more v (Some word)) u None) other ≡ (if b then word else unwrap_or (get_or words u None) other)
-put-at words more v u word other h same true e = rw (nat-same u v e, get_or-set_same more v (Some word) None h) refl
-put-at words more v u word other h same false e =
-    ap (λ o. unwrap_or o other) (get_or-set_other more v u (Some word) None (λ k. grind (arith, k, e)) ∙ same u)
-
--- a field is written, with room made for it
-pub fields-set : (fields next : Fields) (more : List (Option Word)) (field : ℕ) (value : Word)
-    → more ≡ fields.words.items ++ replicate (field + 1 - length fields.words.items) None → field < length more
-    → next.shape ≡ fields.shape → next.words.items ≡ put_at more field (Some value)
-    → (code : Code) (s : Store) (p : Place) → word_in code s (Some next) p ≡ (if p.field == field then value else word_in code s (Some fields) p)
-fields-set fields next more field value e h k l code s p =
-    rw (k, l) (put-at fields.words.items more field p.field value (unwritten code s fields.shape p) h
-    (λ i. rw e (padded fields.words.items (field + 1 - length fields.words.items) i)) (p.field == field) refl)
-
--- what stays
-pub store-same : (m n : TraceMemory) → code_in n ≡ code_in m → inputs_in n ≡ inputs_in m → n.contents ≡ m.contents → store_in n ≡ store_in m
-unfolding store_in
-store-same m n e k h = rw (e, k, h) refl
-
-pub plain-same : (m n : TraceMemory) → code_in n ≡ code_in m → inputs_in n ≡ inputs_in m → n.made ≡ m.made → plain_in n ≡ plain_in m
-unfolding plain_in
-plain-same m n e k h = rw (e, k, h) refl
-
 -- at the beginning
 pub plain-new : (m : TraceMemory) → m.made.entries ≡ [] → plain_in m ≡ input_plain (code_in m) (inputs_in m)
 unfolding plain_in
@@ -181,10 +142,6 @@ contents-clear old next fields id shape key e i fresh update k = fun_ext (λ q.
         ≡ (if b then cell_default (field_kind (code_in old).structs (shape_of (code_in old) key) q.field) else word_in (code_in old) (bases (code_in old) (inputs_in old)) (get ghosts.eq old.contents q.block) q)
     go q true = fresh (code_in old) (bases (code_in old) (inputs_in old)) q ∙ rw k refl
     go q false = refl
-
-if-and : (a b : Bool) (x y : Word) → (if a then (if b then x else y) else y) ≡ (if a && b then x else y)
-if-and true b x y = refl
-if-and false b x y = refl
 
 -- what was written of a block, where nothing is told as nothing written
 opened : (code : Code) (s : Store) (o : Option Fields) (fields blank : Fields) (p : Place) → fields ≡ unwrap_or o blank
@@ -254,7 +211,7 @@ plain-then code x Nothing is = refl
 plain-then code x (Stepped rest) is = plain-then code x rest is
 plain-then code x (Allocated b key rest) is = plain-then code (learnt x b (made code x key)) rest is
 plain-then code x (Wrote p value rest) is = plain-then code x rest is
-plain-then code x (Was_read p value u v args inside rest) is =
+plain-then code x (WasRead p value u v args inside rest) is =
     rw (append_assoc (flat inside) (End ∷ flat rest) is) (plain-then code x inside (End ∷ (flat rest ++ is)) ∙ plain-then code (plain_after code x inside) rest is)
 
 -- those of a trace are those of its flat items
@@ -268,7 +225,7 @@ store-then code s Nothing is = refl
 store-then code s (Stepped rest) is = store-then code s rest is
 store-then code s (Allocated b key rest) is = store-then code (cleared code s b key) rest is
 store-then code s (Wrote p value rest) is = store-then code (stored s p value) rest is
-store-then code s (Was_read p value u v args inside rest) is =
+store-then code s (WasRead p value u v args inside rest) is =
     rw (append_assoc (flat inside) (End ∷ flat rest) is) (store-then code s inside (End ∷ (flat rest ++ is)) ∙ store-then code (store_after code s inside) rest is)
 
 pub store-of-flat : (code : Code) (s : Store) (l : Trace) → store_flat code s (flat l) ≡ store_after code s l

@@ -1,5 +1,5 @@
 -- The text of code, piece by piece.
-use Rattle.std.proofs.Common.{◌≡◌, if◌then◌else◌, ℕ, zero, suc, ℤ, ◌+◌, List, [], ◌∷◌, ◌++◌, refl, length, arith, codes, ap, append_assoc, append-nil, ◌∙◌, sym}
+use Rattle.std.proofs.Common.{◌≡◌, if◌then◌else◌, ℕ, zero, suc, ℤ, ◌+◌, List, [], ◌∷◌, ◌++◌, refl, length, arith, codes, ap, append_assoc, append-nil, ◌∙◌}
 use Rattle.std.specs.Fmt.{signed_decimal}
 use Rattle.ceal_base.specs.declared.operators.Binary.{Binary as BinaryOp}
 use Rattle.ceal_base.specs.declared.operators.Unary.{Unary as UnaryOp}

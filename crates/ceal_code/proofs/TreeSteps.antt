@@ -16,10 +16,6 @@ pub reached-none : (marks : List Bool) → reached marks [] ≡ Some marks
 unfolding reached
 reached-none marks = refl
 
-pub reached-cons : (marks : List Bool) (j : ℕ) (js : List ℕ) → reached marks (j ∷ js) ≡ (if unwrap_or (slice_get marks j) true then None else reached (slice_set marks j true) js)
-unfolding reached
-reached-cons marks j js = refl
-
 abbrev and_reached : Option (List Bool) → List ℕ → Option (List Bool)
 and_reached None js = None
 and_reached (Some marks) js = reached marks js

@@ -19,9 +19,9 @@ use Rattle.ceal_base.specs.declared.typed.StructInfo.{StructInfo}
 use Rattle.ceal_base.specs.declared.word.BlockId.{BlockId}
 use Rattle.ceal_base.specs.declared.word.Word.{Word}
 use Rattle.ceal_base.specs.declared.word.Word.TheVariants.{Num, Null, Block as BlockWord, At}
-use Rattle.ceal_code.proofs.Rows.{Rows_hold, kind-same}
+use Rattle.ceal_code.proofs.Rows.{RowsHold, kind-same}
 use Rattle.ceal_code.proofs.Same.{both, nat-refl, struct-shape}
-use Rattle.ceal_code.specs.Running.{Points, Word_there, Expr_there, Operand_there}
+use Rattle.ceal_code.specs.Running.{Points, WordThere, ExprThere, OperandThere}
 use Rattle.ceal_code.specs.Valid.{Typing, is_pointer, is_place, fits, fits_maybe, one_type, place_fits, write_fits, int_if, element_type, binary_type, is_row_of, starts_row, operand_suits, variable_type, points_to, plain_type, cell_type, type_of, operand_type}
 use Rattle.ceal_code.specs.Value.{Variables, field_kind, is_cell, field_default, plain_word, field_in, field_value, address_value, expr_value, operand_value}
 use Rattle.ceal_code.specs.declared.typing.ExprType.{ExprType}
@@ -29,23 +29,23 @@ use Rattle.ceal_code.specs.declared.typing.ExprType.TheVariants.{Of, AnyPointer,
 use Rattle.ceal_code.specs.declared.expr.CodeExpr.{CodeExpr, Num as NumExpr, Null as NullExpr, Var, Unary', Binary', Field', Address', Row_of-CodeExpr, end_of-CodeExpr, more_of-CodeExpr}
 
 -- the word is one that an expression of this type gives
-abbrev pub Has_type : List StructInfo → Blocks → Typing → Word → Type 0
-Has_type structs m None w = ⊤
-Has_type structs m (Some AnyPointer) w = w ≡ Null
-Has_type structs m (Some AnyPlace) w = w ≡ Null
-Has_type structs m (Some (Of kind)) w = fits_kind structs m kind w ≡ true
+abbrev pub HasType : List StructInfo → Blocks → Typing → Word → Type 0
+HasType structs m None w = ⊤
+HasType structs m (Some AnyPointer) w = w ≡ Null
+HasType structs m (Some AnyPlace) w = w ≡ Null
+HasType structs m (Some (Of kind)) w = fits_kind structs m kind w ≡ true
 
 abbrev pub Typed : Typing → Type 0
 Typed None = ⊥
 Typed (Some t) = ⊤
 
 -- a variable that is known has a word that fits its kind
-abbrev pub Env_typed : List StructInfo → Blocks → List Kind → List Bool → Variables → Type 0
-Env_typed structs m kinds known env = (v : ℕ) (kind : Kind) → slice_get kinds v ≡ Some kind → unwrap_or (slice_get known v) false ≡ true → fits_kind structs m kind (env v) ≡ true
+abbrev pub EnvTyped : List StructInfo → Blocks → List Kind → List Bool → Variables → Type 0
+EnvTyped structs m kinds known env = (v : ℕ) (kind : Kind) → slice_get kinds v ≡ Some kind → unwrap_or (slice_get known v) false ≡ true → fits_kind structs m kind (env v) ≡ true
 
 -- each block has one word for each field, which fits it
-abbrev pub Memory_typed : List StructInfo → Blocks → Type 0
-Memory_typed structs m = (b : BlockId) (block : Block) → block_at m b ≡ Some block → fields_fit structs m (kinds_of_shape structs block.shape) block.words ≡ true
+abbrev pub MemoryTyped : List StructInfo → Blocks → Type 0
+MemoryTyped structs m = (b : BlockId) (block : Block) → block_at m b ≡ Some block → fields_fit structs m (kinds_of_shape structs block.shape) block.words ≡ true
 
 pub fits-typed : (kind : Kind) (t : Typing) → fits kind t ≡ true → Typed t
 fits-typed kind None h = absurd (grind (arith, h))
@@ -136,7 +136,7 @@ module _ (structs : List StructInfo) (m : Blocks) where
   null-place (ModPtr s) h = refl
 
   -- a word of a type that may stand where a kind is asked fits it
-  pub fits-word : (kind : Kind) (t : Typing) (w : Word) → fits kind t ≡ true → Has_type structs m t w → fits_kind structs m kind w ≡ true
+  pub fits-word : (kind : Kind) (t : Typing) (w : Word) → fits kind t ≡ true → HasType structs m t w → fits_kind structs m kind w ≡ true
   fits-word kind None w h k = absurd (grind (arith, h))
   fits-word kind (Some AnyPointer) w h k = rw k (null-fits kind h)
   fits-word kind (Some AnyPlace) w h k = rw k (null-place kind h)
@@ -156,11 +156,11 @@ module _ (structs : List StructInfo) (m : Blocks) where
   unary-int Neg w = refl
   unary-int Not w = truth-int _
 
-  int-type : (b : Bool) (w : Word) → fits_kind structs m Int w ≡ true → Has_type structs m (int_if b) w
+  int-type : (b : Bool) (w : Word) → fits_kind structs m Int w ≡ true → HasType structs m (int_if b) w
   int-type true w h = h
   int-type false w h = tt
 
-  points-word : (s : ℕ) (t : Typing) (w : Word) → points_to s t ≡ true → Has_type structs m t w → fits_kind structs m (Ptr s) w ≡ true
+  points-word : (s : ℕ) (t : Typing) (w : Word) → points_to s t ≡ true → HasType structs m t w → fits_kind structs m (Ptr s) w ≡ true
   points-word s None w h k = absurd (grind (arith, h))
   points-word s (Some AnyPointer) w h k = absurd (grind (arith, h))
   points-word s (Some AnyPlace) w h k = absurd (grind (arith, h))
@@ -174,7 +174,7 @@ module _ (structs : List StructInfo) (m : Blocks) where
   pointer-points s (At p) h = absurd (grind (arith, h))
 
   -- a plain field of a block that fits
-  field-fits : (kinds : List FieldKind) (ws : List Word) (n : ℕ) → fields_fit structs m kinds ws ≡ true → Has_type structs m (plain_type (slice_get kinds n)) (plain_word (slice_get kinds n) ws n)
+  field-fits : (kinds : List FieldKind) (ws : List Word) (n : ℕ) → fields_fit structs m kinds ws ≡ true → HasType structs m (plain_type (slice_get kinds n)) (plain_word (slice_get kinds n) ws n)
   field-fits [] ws n h = tt
   field-fits (kind ∷ kinds) [] n h = absurd (grind (arith, h))
   field-fits (PlainField kind ∷ kinds) (w ∷ ws) zero h = let k = both (fits_kind structs m kind w) (fields_fit structs m kinds ws) h in k.0
@@ -183,31 +183,31 @@ module _ (structs : List StructInfo) (m : Blocks) where
   field-fits (kind ∷ kinds) (w ∷ ws) (suc n) h =
       let k = both (fits_field structs m kind w) (fields_fit structs m kinds ws) h in later (slice_get kinds n) (field-fits kinds ws n k.1)
     where
-      later : (k : Option FieldKind) → Has_type structs m (plain_type k) (plain_word k ws n) → Has_type structs m (plain_type k) (plain_word k (w ∷ ws) (suc n))
+      later : (k : Option FieldKind) → HasType structs m (plain_type k) (plain_word k ws n) → HasType structs m (plain_type k) (plain_word k (w ∷ ws) (suc n))
       later None h = tt
       later (Some (PlainField kind)) h = h
       later (Some CellInt) h = tt
       later (Some (CellPtr s)) h = tt
 
-  default-type : (k : Option FieldKind) → Has_type structs m (plain_type k) (field_default k)
+  default-type : (k : Option FieldKind) → HasType structs m (plain_type k) (field_default k)
   default-type None = tt
   default-type (Some (PlainField kind)) = default-fits kind
   default-type (Some CellInt) = tt
   default-type (Some (CellPtr s)) = tt
 
-  module _ (rows : Rows_hold structs) (typed : Memory_typed structs m) where
+  module _ (rows : RowsHold structs) (typed : MemoryTyped structs m) where
     in-struct : (s f : ℕ) (block : Block) → fields_fit structs m (kinds_of_shape structs block.shape) block.words ≡ true → (t : Bool) → is_struct s block.shape ≡ t
-        → Has_type structs m (plain_type (field_kind structs (Struct s) f)) (field_in (field_kind structs (Struct s) f) (if t then Some block else None) f)
+        → HasType structs m (plain_type (field_kind structs (Struct s) f)) (field_in (field_kind structs (Struct s) f) (if t then Some block else None) f)
     in-struct s f block h false e = default-type (field_kind structs (Struct s) f)
     in-struct s f block h true e =
-        subst (λ shape. Has_type structs m (plain_type (slice_get (kinds_of_shape structs shape) f)) (plain_word (slice_get (kinds_of_shape structs shape) f) block.words f))
+        subst (λ shape. HasType structs m (plain_type (slice_get (kinds_of_shape structs shape) f)) (plain_word (slice_get (kinds_of_shape structs shape) f) block.words f))
         (struct-shape s block.shape e) (field-fits (kinds_of_shape structs block.shape) block.words f h)
 
-    in-block : (s f : ℕ) (b : BlockId) (o : Option Block) → block_at m b ≡ o → Has_type structs m (plain_type (field_kind structs (Struct s) f)) (field_in (field_kind structs (Struct s) f) (of_struct s o) f)
+    in-block : (s f : ℕ) (b : BlockId) (o : Option Block) → block_at m b ≡ o → HasType structs m (plain_type (field_kind structs (Struct s) f)) (field_in (field_kind structs (Struct s) f) (of_struct s o) f)
     in-block s f b None e = default-type (field_kind structs (Struct s) f)
     in-block s f b (Some block) e = in-struct s f block (typed b block e) (is_struct s block.shape) refl
 
-    field-type : (w : Word) (s f : ℕ) → Has_type structs m (plain_type (field_kind structs (Struct s) f)) (field_value structs (block_at m) w s f)
+    field-type : (w : Word) (s f : ℕ) → HasType structs m (plain_type (field_kind structs (Struct s) f)) (field_value structs (block_at m) w s f)
     field-type (Num n) s f = default-type (field_kind structs (Struct s) f)
     field-type Null s f = default-type (field_kind structs (Struct s) f)
     field-type (BlockWord b) s f = in-block s f b (block_at m b) refl
@@ -223,7 +223,7 @@ module _ (structs : List StructInfo) (m : Blocks) where
 
     -- the address of a modifiable of a block, where `t` says that it is there
     cell-if : (s f : ℕ) (b : BlockId) (k : Option FieldKind) → field_kind structs (Struct s) f ≡ k → (t : Bool) → is_some (of_struct s (block_at m b)) ≡ t
-        → Has_type structs m (cell_type k) (if is_cell k && t then At (record { block = b; field = f }) else Null)
+        → HasType structs m (cell_type k) (if is_cell k && t then At (record { block = b; field = f }) else Null)
     cell-if s f b None e t g = tt
     cell-if s f b (Some (PlainField kind)) e t g = tt
     cell-if s f b (Some CellInt) e true g =
@@ -233,7 +233,7 @@ module _ (structs : List StructInfo) (m : Blocks) where
         let i : kind_at structs m (record { block = b; field = f }) ≡ Some (CellPtr z) = kind-there s f b (block_at m b) refl g ∙ e in rw i (nat-refl z)
     cell-if s f b (Some (CellPtr z)) e false g = refl
 
-    null-cell : (k : Option FieldKind) (t u : Bool) → Has_type structs m (cell_type k) (if t && u then Null else Null)
+    null-cell : (k : Option FieldKind) (t u : Bool) → HasType structs m (cell_type k) (if t && u then Null else Null)
     null-cell None t u = tt
     null-cell (Some (PlainField kind)) t u = tt
     null-cell (Some CellInt) true true = refl
@@ -243,13 +243,13 @@ module _ (structs : List StructInfo) (m : Blocks) where
     null-cell (Some (CellPtr s)) true false = refl
     null-cell (Some (CellPtr s)) false u = refl
 
-    address-type : (w : Word) (s f : ℕ) → Has_type structs m (cell_type (field_kind structs (Struct s) f)) (address_value structs (block_at m) w s f)
+    address-type : (w : Word) (s f : ℕ) → HasType structs m (cell_type (field_kind structs (Struct s) f)) (address_value structs (block_at m) w s f)
     address-type (Num n) s f = null-cell (field_kind structs (Struct s) f) (is_cell (field_kind structs (Struct s) f)) false
     address-type Null s f = null-cell (field_kind structs (Struct s) f) (is_cell (field_kind structs (Struct s) f)) false
     address-type (BlockWord b) s f = cell-if s f b (field_kind structs (Struct s) f) refl (is_some (of_struct s (block_at m b))) refl
     address-type (At p) s f = null-cell (field_kind structs (Struct s) f) (is_cell (field_kind structs (Struct s) f)) false
 
-    null-type : (k : Option FieldKind) → Has_type structs m (cell_type k) Null
+    null-type : (k : Option FieldKind) → HasType structs m (cell_type k) Null
     null-type None = tt
     null-type (Some (PlainField kind)) = tt
     null-type (Some CellInt) = refl
@@ -261,7 +261,7 @@ module _ (structs : List StructInfo) (m : Blocks) where
       element-kind n l = kind-there s (f + n) b (block_at m b) refl there ∙ rows s f row starts n l
 
       element-if : (k : Option FieldKind) → field_kind structs (Struct s) f ≡ k → (n : ℕ) (c : Bool) → (c ≡ true → n < row)
-          → Has_type structs m (cell_type k) (if c then At (record { block = b; field = f + n }) else Null)
+          → HasType structs m (cell_type k) (if c then At (record { block = b; field = f + n }) else Null)
       element-if k e n false l = null-type k
       element-if None e n true l = tt
       element-if (Some (PlainField kind)) e n true l = tt
@@ -273,7 +273,7 @@ module _ (structs : List StructInfo) (m : Blocks) where
       below-row : (n : ℕ) (c : Bool) → (nat_lt n row && c) ≡ true → n < row
       below-row n c h = let p = both (nat_lt n row) c h in grind (arith, p.0)
 
-      element-type : (k : Option FieldKind) → field_kind structs (Struct s) f ≡ k → (i : Word) → Has_type structs m (cell_type k) (picked row (At (record { block = b; field = f })) i)
+      element-type : (k : Option FieldKind) → field_kind structs (Struct s) f ≡ k → (i : Word) → HasType structs m (cell_type k) (picked row (At (record { block = b; field = f })) i)
       element-type k e (Num (pos n)) = element-if k e n (nat_lt n row && nat_lt (f + n) (2 ^ 32)) (below-row n (nat_lt (f + n) (2 ^ 32)))
       element-type k e (Num (negsuc n)) = null-type k
       element-type k e Null = null-type k
@@ -282,40 +282,40 @@ module _ (structs : List StructInfo) (m : Blocks) where
 
     module _ (s f row : ℕ) (starts : is_row_of row (row_at structs s f) ≡ true) (i : Word) where
       pick-if : (b : BlockId) (k : Option FieldKind) → field_kind structs (Struct s) f ≡ k → (t u : Bool) → is_some (of_struct s (block_at m b)) ≡ u
-          → Has_type structs m (cell_type k) (picked row (if t && u then At (record { block = b; field = f }) else Null) i)
+          → HasType structs m (cell_type k) (picked row (if t && u then At (record { block = b; field = f }) else Null) i)
       pick-if b k e true true g = element-type s f row b g starts k e i
       pick-if b k e true false g = null-type k
       pick-if b k e false u g = null-type k
 
-      pick-null : (k : Option FieldKind) (t u : Bool) → Has_type structs m (cell_type k) (picked row (if t && u then Null else Null) i)
+      pick-null : (k : Option FieldKind) (t u : Bool) → HasType structs m (cell_type k) (picked row (if t && u then Null else Null) i)
       pick-null k true true = null-type k
       pick-null k true false = null-type k
       pick-null k false u = null-type k
 
       -- what is picked from the row that an address begins
-      pick-type : (w : Word) → Has_type structs m (cell_type (field_kind structs (Struct s) f)) (picked row (address_value structs (block_at m) w s f) i)
+      pick-type : (w : Word) → HasType structs m (cell_type (field_kind structs (Struct s) f)) (picked row (address_value structs (block_at m) w s f) i)
       pick-type (Num n) = pick-null (field_kind structs (Struct s) f) (is_cell (field_kind structs (Struct s) f)) false
       pick-type Null = pick-null (field_kind structs (Struct s) f) (is_cell (field_kind structs (Struct s) f)) false
       pick-type (BlockWord b) = pick-if b (field_kind structs (Struct s) f) refl (is_cell (field_kind structs (Struct s) f)) (is_some (of_struct s (block_at m b))) refl
       pick-type (At p) = pick-null (field_kind structs (Struct s) f) (is_cell (field_kind structs (Struct s) f)) false
 
-    element-cell : (k : Option FieldKind) (b : Bool) (w : Word) → Has_type structs m (cell_type k) w → Has_type structs m (element_type (if b then cell_type k else None)) w
+    element-cell : (k : Option FieldKind) (b : Bool) (w : Word) → HasType structs m (cell_type k) w → HasType structs m (element_type (if b then cell_type k else None)) w
     element-cell k false w h = tt
     element-cell None true w h = tt
     element-cell (Some (PlainField kind)) true w h = tt
     element-cell (Some CellInt) true w h = h
     element-cell (Some (CellPtr s)) true w h = h
 
-    points-if : (b : Bool) (t : Typing) (w : Word) → (b ≡ true → Has_type structs m t w) → Has_type structs m (if b then t else None) w
+    points-if : (b : Bool) (t : Typing) (w : Word) → (b ≡ true → HasType structs m t w) → HasType structs m (if b then t else None) w
     points-if true t w h = h refl
     points-if false t w h = tt
 
-    known-if : (kind : Kind) (b : Bool) (w : Word) → (b ≡ true → fits_kind structs m kind w ≡ true) → Has_type structs m (if b then Some (Of kind) else None) w
+    known-if : (kind : Kind) (b : Bool) (w : Word) → (b ≡ true → fits_kind structs m kind w ≡ true) → HasType structs m (if b then Some (Of kind) else None) w
     known-if kind true w h = h refl
     known-if kind false w h = tt
 
-    module _ (kinds : List Kind) (known : List Bool) (env : Variables) (envs : Env_typed structs m kinds known env) where
-      variable-if : (v : ℕ) (o : Option Kind) → slice_get kinds v ≡ o → Has_type structs m (variable_type o (unwrap_or (slice_get known v) false)) (env v)
+    module _ (kinds : List Kind) (known : List Bool) (env : Variables) (envs : EnvTyped structs m kinds known env) where
+      variable-if : (v : ℕ) (o : Option Kind) → slice_get kinds v ≡ o → HasType structs m (variable_type o (unwrap_or (slice_get known v) false)) (env v)
       variable-if v None e = tt
       variable-if v (Some kind) e = known-if kind (unwrap_or (slice_get known v) false) (env v) (λ k. envs v kind e k)
 
@@ -323,7 +323,7 @@ module _ (structs : List StructInfo) (m : Blocks) where
         unfolding type_of expr_value
 
         picked-type : (row : ℕ) (e : CodeExpr) (i : Word) → starts_row structs row e ≡ true
-            → Has_type structs m (element_type (type_of structs kinds known e)) (picked row (expr_value structs (block_at m) env e) i)
+            → HasType structs m (element_type (type_of structs kinds known e)) (picked row (expr_value structs (block_at m) env e) i)
         picked-type row NullExpr i h = refl
         picked-type row (Address' _ a s f) i h =
             element-cell (field_kind structs (Struct s) f) (points_to s (operand_type structs kinds known a)) (picked row (address_value structs (block_at m) (operand_value structs (block_at m) env a) s f) i)
@@ -335,7 +335,7 @@ module _ (structs : List StructInfo) (m : Blocks) where
         picked-type row (Field' _ a s f) i h = absurd (grind (arith, h))
 
         binary-type : (op : Binary) {n : _} (a : Row_of-CodeExpr n) (t : Typing) (i : Word) → operand_suits structs op a ≡ true
-            → Has_type structs m (binary_type op (operand_type structs kinds known a) t) (binary_value op (operand_value structs (block_at m) env a) i)
+            → HasType structs m (binary_type op (operand_type structs kinds known a) t) (binary_value op (operand_value structs (block_at m) env a) i)
         binary-type Add a t i h = int-type (fits Int (operand_type structs kinds known a) && fits Int t) (binary_value Add (operand_value structs (block_at m) env a) i) refl
         binary-type Sub a t i h = int-type (fits Int (operand_type structs kinds known a) && fits Int t) (binary_value Sub (operand_value structs (block_at m) env a) i) refl
         binary-type Mul a t i h = int-type (fits Int (operand_type structs kinds known a) && fits Int t) (binary_value Mul (operand_value structs (block_at m) env a) i) refl
@@ -353,7 +353,7 @@ module _ (structs : List StructInfo) (m : Blocks) where
         binary-type (Pick row) (more_of-CodeExpr e rest) t i h =
             points-if (fits Int t) (element_type (type_of structs kinds known e)) (picked row (expr_value structs (block_at m) env e) i) (λ k. picked-type row e i h)
 
-        pub value-type : (e : CodeExpr) → Has_type structs m (type_of structs kinds known e) (expr_value structs (block_at m) env e)
+        pub value-type : (e : CodeExpr) → HasType structs m (type_of structs kinds known e) (expr_value structs (block_at m) env e)
         value-type (NumExpr n) = refl
         value-type NullExpr = refl
         value-type (Var v) = variable-if v.0 (slice_get kinds v.0) refl
@@ -368,7 +368,7 @@ module _ (structs : List StructInfo) (m : Blocks) where
             points-if (points_to s (operand_type structs kinds known a)) (cell_type (field_kind structs (Struct s) f)) (address_value structs (block_at m) (operand_value structs (block_at m) env a) s f)
             (λ k. address-type (operand_value structs (block_at m) env a) s f)
 
-        pub operand-type : {n : _} (row : Row_of-CodeExpr n) → Has_type structs m (operand_type structs kinds known row) (operand_value structs (block_at m) env row)
+        pub operand-type : {n : _} (row : Row_of-CodeExpr n) → HasType structs m (operand_type structs kinds known row) (operand_value structs (block_at m) env row)
         operand-type end_of-CodeExpr = tt
         operand-type (more_of-CodeExpr e rest) = value-type e
 
@@ -385,7 +385,7 @@ module _ (structs : List StructInfo) (m : Blocks) where
       cell-there None h = absurd h
       cell-there (Some k) h = refl
 
-      variable-there : (v : ℕ) (o : Option Kind) (b : Bool) → slice_get kinds v ≡ o → unwrap_or (slice_get known v) false ≡ b → Typed (variable_type o b) → Word_there structs m o (env v)
+      variable-there : (v : ℕ) (o : Option Kind) (b : Bool) → slice_get kinds v ≡ o → unwrap_or (slice_get known v) false ≡ b → Typed (variable_type o b) → WordThere structs m o (env v)
       variable-there v None b e k h = absurd h
       variable-there v (Some kind) true e k h = envs v kind e k
       variable-there v (Some kind) false e k h = absurd h
@@ -394,7 +394,7 @@ module _ (structs : List StructInfo) (m : Blocks) where
         unfolding type_of
 
         -- what a well typed expression names is there
-        pub expr-there : (e : CodeExpr) → Typed (type_of structs kinds known e) → Expr_there structs m kinds env e
+        pub expr-there : (e : CodeExpr) → Typed (type_of structs kinds known e) → ExprThere structs m kinds env e
         expr-there (NumExpr n) h = tt
         expr-there NullExpr h = tt
         expr-there (Var v) h = variable-there v.0 (slice_get kinds v.0) (unwrap_or (slice_get known v.0) false) refl refl h
@@ -415,7 +415,7 @@ module _ (structs : List StructInfo) (m : Blocks) where
               pointer-points s (operand_value structs (block_at m) env a) (points-word s (operand_type structs kinds known a) (operand_value structs (block_at m) env a) k.0 (operand-type a)),
             )
 
-        operand-there : {n : _} (row : Row_of-CodeExpr n) → Typed (operand_type structs kinds known row) → Operand_there structs m kinds env row
+        operand-there : {n : _} (row : Row_of-CodeExpr n) → Typed (operand_type structs kinds known row) → OperandThere structs m kinds env row
         operand-there end_of-CodeExpr h = tt
         operand-there (more_of-CodeExpr e rest) h = expr-there e h
 
@@ -423,5 +423,5 @@ module _ (structs : List StructInfo) (m : Blocks) where
       pub value-fits : (kind : Kind) (e : CodeExpr) → fits kind (type_of structs kinds known e) ≡ true → fits_kind structs m kind (expr_value structs (block_at m) env e) ≡ true
       value-fits kind e h = fits-word kind (type_of structs kinds known e) (expr_value structs (block_at m) env e) h (value-type e)
 
-      pub asked-there : (kind : Kind) (e : CodeExpr) → fits kind (type_of structs kinds known e) ≡ true → Expr_there structs m kinds env e
+      pub asked-there : (kind : Kind) (e : CodeExpr) → fits kind (type_of structs kinds known e) ≡ true → ExprThere structs m kinds env e
       asked-there kind e h = expr-there e (fits-typed kind (type_of structs kinds known e) h)

@@ -15,12 +15,12 @@ use Rattle.ceal_base.specs.declared.kind.Shape.TheVariants.{Struct}
 use Rattle.ceal_base.specs.declared.typed.StructInfo.{StructInfo}
 use Rattle.ceal_base.specs.declared.word.Word.{Word}
 use Rattle.ceal_base.specs.declared.word.Word.TheVariants.{Null}
-use Rattle.ceal_code.proofs.Rows.{Rows_hold, rows-hold}
+use Rattle.ceal_code.proofs.Rows.{RowsHold, rows-hold}
 use Rattle.ceal_code.proofs.Same.{both, some-same, none-some, both-true}
-use Rattle.ceal_code.proofs.Typed.{Typed, Env_typed, Memory_typed, fits-typed, default-fits, expr-there, asked-there, value-fits}
+use Rattle.ceal_code.proofs.Typed.{Typed, EnvTyped, MemoryTyped, fits-typed, default-fits, expr-there, asked-there, value-fits}
 use Rattle.ceal_code.specs.Init.{set_plain, set_by, set_by_row, set_by_all, arguments, made_by, made}
 use Rattle.ceal_code.specs.Program.{Unit as CodeUnit, Code}
-use Rattle.ceal_code.specs.Running.{Plain_field, Stmt_there, Row_there, Stmts_there, Initialiser}
+use Rattle.ceal_code.specs.Running.{IsPlainField, StmtThere, RowThere, StmtsThere, Initialiser}
 use Rattle.ceal_code.specs.Valid.{Typing, is_empty, kinds_ok, fits, type_of, all_fit, set_ok, stmt_ok, row_ok, stmts_ok, structs_ok, unit_ok, units_ok, function_ok, functions_ok, valid}
 use Rattle.ceal_code.specs.Value.{Variables, field_kind, expr_value, values}
 use Rattle.ceal_code.specs.declared.expr.CodeExpr.{CodeExpr}
@@ -35,13 +35,13 @@ units-in code (w ∷ units) h zero unit e = let k = both (unit_ok code w) (units
 units-in code (w ∷ units) h (suc u) unit e = let k = both (unit_ok code w) (units_ok code units) h in units-in code units k.1 u unit e
 
 -- a function of the code, with the kinds of its variables
-pub record Function_at (code : Code) (kinds : List (List Kind)) (f g : ℕ) (function : FunctionCode) : Type 0 where
+pub record FunctionAt (code : Code) (kinds : List (List Kind)) (f g : ℕ) (function : FunctionCode) : Type 0 where
   pub kinds' : List Kind
   pub there : slice_get kinds g ≡ Some kinds'
   pub ok : function_ok code f function kinds' ≡ true
 
 functions-in : (code : Code) (f k : ℕ) (functions : List FunctionCode) (kinds : List (List Kind)) → functions_ok code f functions kinds ≡ true → (g : ℕ) (function : FunctionCode) → slice_get functions g ≡ Some function → k ≡ f + g
-    → Function_at code kinds k g function
+    → FunctionAt code kinds k g function
 unfolding functions_ok
 functions-in code f k [] [] h g function e i = none-some function e
 functions-in code f k [] (ks ∷ kinds) h g function e i = none-some function e
@@ -69,7 +69,7 @@ module _ (code : Code) (ok : valid code ≡ true) where
       (both (functions_ok code 0 code.functions code.kinds) (units_ok code code.units) k.1).0
 
   -- and of its structs
-  pub rows-valid : Rows_hold code.structs
+  pub rows-valid : RowsHold code.structs
   unfolding valid
   rows-valid =
       let k = both (structs_ok code.structs code.structs) (functions_ok code 0 code.functions code.kinds && units_ok code code.units) ok in
@@ -78,7 +78,7 @@ module _ (code : Code) (ok : valid code ≡ true) where
   pub unit-valid : (u : ℕ) (unit : CodeUnit) → slice_get code.units u ≡ Some unit → unit_ok code unit ≡ true
   unit-valid = units-in code code.units units-valid
 
-  pub function-valid : (g : ℕ) (function : FunctionCode) → slice_get code.functions g ≡ Some function → Function_at code code.kinds g g function
+  pub function-valid : (g : ℕ) (function : FunctionCode) → slice_get code.functions g ≡ Some function → FunctionAt code code.kinds g g function
   function-valid g function e = functions-in code 0 g code.functions code.kinds functions-valid g function e (omega arith)
 
 module _ (structs : List StructInfo) (m : Blocks) where
@@ -116,12 +116,12 @@ module _ (structs : List StructInfo) (m : Blocks) where
   words-count (k ∷ kinds) [] h = absurd (grind (arith, h))
   words-count (k ∷ kinds) (w ∷ ws) h = let p = both (fits_kind structs m k w) (words_fit structs m kinds ws) h in ap suc (words-count kinds ws p.1)
 
-  arguments-typed : (params : List Kind) (known : List Bool) (args : List Word) → words_fit structs m params args ≡ true → Env_typed structs m params known (arguments args)
+  arguments-typed : (params : List Kind) (known : List Bool) (args : List Word) → words_fit structs m params args ≡ true → EnvTyped structs m params known (arguments args)
   unfolding arguments
   arguments-typed params known args h v kind e k = word-at params args h v kind e
 
-  module _ (rows : Rows_hold structs) (typed : Memory_typed structs m) where
-    pub all-values : (kinds : List Kind) (known : List Bool) (env : Variables) → Env_typed structs m kinds known env → (params : List Kind) (es : List CodeExpr) → all_fit structs kinds known params es ≡ true
+  module _ (rows : RowsHold structs) (typed : MemoryTyped structs m) where
+    pub all-values : (kinds : List Kind) (known : List Bool) (env : Variables) → EnvTyped structs m kinds known env → (params : List Kind) (es : List CodeExpr) → all_fit structs kinds known params es ≡ true
         → words_fit structs m params (values structs (block_at m) env es) ≡ true
     unfolding all_fit values
     all-values kinds known env envs [] [] h = h
@@ -132,7 +132,7 @@ module _ (structs : List StructInfo) (m : Blocks) where
         both-true (fits_kind structs m k (expr_value structs (block_at m) env e)) (words_fit structs m params (values structs (block_at m) env es)) (value-fits structs m rows typed kinds known env envs k e p.0)
         (all-values kinds known env envs params es p.1)
 
-    module _ (params : List Kind) (known : List Bool) (env : Variables) (envs : Env_typed structs m params known env) (s : ℕ) where
+    module _ (params : List Kind) (known : List Bool) (env : Variables) (envs : EnvTyped structs m params known env) (s : ℕ) where
       set-typed : (field : ℕ) (e : CodeExpr) (k : Option FieldKind) → field_kind structs (Struct s) field ≡ k → set_ok k (type_of structs params known e) ≡ true → (ws : List Word) → fields_fit structs m (kinds_of_shape structs (Struct s)) ws ≡ true
           → fields_fit structs m (kinds_of_shape structs (Struct s)) (set_plain k ws field (expr_value structs (block_at m) env e)) ≡ true
       set-typed field e None i h ws g = absurd (grind (arith, h))
@@ -171,7 +171,7 @@ module _ (structs : List StructInfo) (m : Blocks) where
           let p = both (stmt_ok structs params known s stmt) (stmts_ok structs params known s rest) h in all-set rest (set_by structs (block_at m) env s ws stmt) p.1 (set_by-fits stmt ws p.0 g)
 
       -- what the statements of a right body name is there
-      field-there : (k : Option FieldKind) (t : Typing) → set_ok k t ≡ true → Plain_field k × Typed t
+      field-there : (k : Option FieldKind) (t : Typing) → set_ok k t ≡ true → IsPlainField k × Typed t
       field-there None t h = absurd (grind (arith, h))
       field-there (Some CellInt) t h = absurd (grind (arith, h))
       field-there (Some (CellPtr z)) t h = absurd (grind (arith, h))
@@ -180,7 +180,7 @@ module _ (structs : List StructInfo) (m : Blocks) where
       mutual
         unfolding stmt_ok
 
-        stmt-there : (stmt : InitStmt) → stmt_ok structs params known s stmt ≡ true → Stmt_there structs m params env s stmt
+        stmt-there : (stmt : InitStmt) → stmt_ok structs params known s stmt ≡ true → StmtThere structs m params env s stmt
         stmt-there (Set field e) h =
             let p = field-there (field_kind structs (Struct s) field) (type_of structs params known e) h in (p.0, expr-there structs m rows typed params known env envs e p.1)
         stmt-there (IfStmt' test _ first _ second) h =
@@ -188,29 +188,29 @@ module _ (structs : List StructInfo) (m : Blocks) where
             let q = both (row_ok structs params known s first) (row_ok structs params known s second) p.1 in
             (asked-there structs m rows typed params known env envs Int test p.0, row-there first q.0, row-there second q.1)
 
-        row-there : {n : _} (row : Row_of-InitStmt n) → row_ok structs params known s row ≡ true → Row_there structs m params env s row
+        row-there : {n : _} (row : Row_of-InitStmt n) → row_ok structs params known s row ≡ true → RowThere structs m params env s row
         row-there end_of-InitStmt h = tt
         row-there (more_of-InitStmt stmt rest) h =
             let p = both (stmt_ok structs params known s stmt) (row_ok structs params known s rest) h in (stmt-there stmt p.0, row-there rest p.1)
 
-      stmts-there : (stmts : List InitStmt) → stmts_ok structs params known s stmts ≡ true → Stmts_there structs m params env s stmts
+      stmts-there : (stmts : List InitStmt) → stmts_ok structs params known s stmts ≡ true → StmtsThere structs m params env s stmts
       unfolding stmts_ok
       stmts-there [] h = tt
       stmts-there (stmt ∷ rest) h =
           let p = both (stmt_ok structs params known s stmt) (stmts_ok structs params known s rest) h in (stmt-there stmt p.0, stmts-there rest p.1)
 
-abbrev pub Init_typed : Code → Blocks → List Word → Option FunctionCode → Type 0
-Init_typed code m args (Some (InitFunction name s params body)) = words_fit code.structs m params args ≡ true
-Init_typed code m args (Some (CoreFunction name entry params)) = ⊥
-Init_typed code m args None = ⊥
+abbrev pub InitTyped : Code → Blocks → List Word → Option FunctionCode → Type 0
+InitTyped code m args (Some (InitFunction name s params body)) = words_fit code.structs m params args ≡ true
+InitTyped code m args (Some (CoreFunction name entry params)) = ⊥
+InitTyped code m args None = ⊥
 
 -- the key is that of an initialiser, on words that fit its parameters, or of a modifiable
-abbrev pub Key_typed : Code → Blocks → Key → Type 0
-Key_typed code m (Init f args) = Init_typed code m args (slice_get code.functions f)
-Key_typed code m IntKey = ⊤
-Key_typed code m (PtrKey s) = ⊤
+abbrev pub KeyTyped : Code → Blocks → Key → Type 0
+KeyTyped code m (Init f args) = InitTyped code m args (slice_get code.functions f)
+KeyTyped code m IntKey = ⊤
+KeyTyped code m (PtrKey s) = ⊤
 
-module _ (code : Code) (ok : valid code ≡ true) (m : Blocks) (typed : Memory_typed code.structs m) where
+module _ (code : Code) (ok : valid code ≡ true) (m : Blocks) (typed : MemoryTyped code.structs m) where
   init-ok : (f : ℕ) (name : List ℕ) (s : ℕ) (params : List Kind) (body : List InitStmt) (ks : List Kind) → function_ok code f (InitFunction name s params body) ks ≡ true
       → (s < length code.structs) × (stmts_ok code.structs params (replicate (length params) true) s body ≡ true)
   init-ok f name s params body ks h =
@@ -219,7 +219,7 @@ module _ (code : Code) (ok : valid code ≡ true) (m : Blocks) (typed : Memory_t
       (grind (arith, q.0), q.1)
 
   -- an initialiser on words that fit its parameters: all that it names is there
-  pub initialiser-there : (f : ℕ) (args : List Word) (function : Option FunctionCode) → slice_get code.functions f ≡ function → Init_typed code m args function → Initialiser code.structs m function args
+  pub initialiser-there : (f : ℕ) (args : List Word) (function : Option FunctionCode) → slice_get code.functions f ≡ function → InitTyped code m args function → Initialiser code.structs m function args
   initialiser-there f args None e h = h
   initialiser-there f args (Some (CoreFunction name entry params)) e h = h
   initialiser-there f args (Some (InitFunction name s params body)) e h =
@@ -231,7 +231,7 @@ module _ (code : Code) (ok : valid code ≡ true) (m : Blocks) (typed : Memory_t
         stmts-there code.structs m (rows-valid code ok) typed params known (arguments args) (arguments-typed code.structs m params known args h) s body p.1,
       )
 
-  made_by-fits : (f : ℕ) (args : List Word) (function : Option FunctionCode) → slice_get code.functions f ≡ function → Init_typed code m args function
+  made_by-fits : (f : ℕ) (args : List Word) (function : Option FunctionCode) → slice_get code.functions f ≡ function → InitTyped code m args function
       → fields_fit code.structs m (kinds_of_shape code.structs (made_by code.structs (block_at m) args function).shape) (made_by code.structs (block_at m) args function).words ≡ true
   made_by-fits f args None e h = absurd h
   made_by-fits f args (Some (CoreFunction name entry params)) e h = absurd h
@@ -242,7 +242,7 @@ module _ (code : Code) (ok : valid code ≡ true) (m : Blocks) (typed : Memory_t
       (default_block code.structs (Struct s)).words p.1 (defaults-fit code.structs m (kinds_of_shape code.structs (Struct s)))
 
   -- a new block fits
-  pub made-fits : (key : Key) → Key_typed code m key → fields_fit code.structs m (kinds_of_shape code.structs (made code (block_at m) key).shape) (made code (block_at m) key).words ≡ true
+  pub made-fits : (key : Key) → KeyTyped code m key → fields_fit code.structs m (kinds_of_shape code.structs (made code (block_at m) key).shape) (made code (block_at m) key).words ≡ true
   unfolding made
   made-fits (Init f args) h = made_by-fits f args (slice_get code.functions f) refl h
   made-fits IntKey h = refl

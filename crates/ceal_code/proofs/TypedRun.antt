@@ -26,16 +26,16 @@ use Rattle.ceal_code.proofs.Kept.{fields-kept, kept-written, kept-grown}
 use Rattle.ceal_code.proofs.Memory.{altered, written-here, written-other, get-push_other, grown-here, made-shape}
 use Rattle.ceal_code.proofs.Same.{both, nat-same, nat-refl, some-same, none-some, block-same, both-true}
 use Rattle.ceal_code.proofs.Rows.{kind-same}
-use Rattle.ceal_code.proofs.Typed.{Memory_typed}
-use Rattle.ceal_code.proofs.TypedActs.{Step_command}
+use Rattle.ceal_code.proofs.Typed.{MemoryTyped}
+use Rattle.ceal_code.proofs.TypedActs.{StepCommand}
 use Rattle.ceal_code.proofs.TypedCommands.{act-typed, stack-there, tail-typed}
-use Rattle.ceal_code.proofs.TypedInit.{Key_typed, Init_typed, function-valid, fields-set, word-at, made-fits}
-use Rattle.ceal_code.proofs.TypedStack.{pointer_kind, Params_typed, Frame_typed, Stack_typed, at-command, stack-kept, Takes, Gives, Act_typed, enter}
+use Rattle.ceal_code.proofs.TypedInit.{KeyTyped, InitTyped, function-valid, fields-set, word-at, made-fits}
+use Rattle.ceal_code.proofs.TypedStack.{pointer_kind, ParamsTyped, FrameTyped, StackTyped, at-command, stack-kept, Takes, Gives, ActTyped, enter}
 use Rattle.ceal_code.specs.Fitting.{args_fit, Fits}
 use Rattle.ceal_code.specs.Init.{made, pointer}
 use Rattle.ceal_code.specs.Program.{Unit as CodeUnit, Code}
 use Rattle.ceal_code.specs.Replay.{shape_of}
-use Rattle.ceal_code.specs.Running.{Steps, Reaches, Goes_on, Not_stuck}
+use Rattle.ceal_code.specs.Running.{Steps, Reaches, GoesOn, NotStuck}
 use Rattle.ceal_code.specs.Step.{Stack, Empty, Run, Act, Over, Quiet, Makes, Writes, Reads, unit_at, command_at, entry_of, kinds_of, variable_default, entered, chosen, started, given, place_of, writes_at, reads_at, act, landed, settled_at, settled, acted, next}
 use Rattle.ceal_code.specs.Valid.{is_prefix, kinds_ok, same_kind, below as all_below, entry_ok, valid}
 use Rattle.ceal_code.specs.Value.{Plain, Variables, set, expr_value, values}
@@ -48,32 +48,32 @@ use Rattle.ceal_code.specs.declared.function.FunctionCode.TheVariants.{Core as C
 -- the stack stands at a command that takes a step, or nothing is left
 abbrev Ready : Code → Stack → Type 0
 Ready code Empty = ⊤
-Ready code (Run u i env below) = Step_command (command_at code u i)
+Ready code (Run u i env below) = StepCommand (command_at code u i)
 
 module _ (code : Code) (x : Plain) where
   landed-ready : (w : ℕ) (ws : List Word) (below rest : Stack) → Ready code rest → (c : Cmd) → command_at code w 0 ≡ c → Ready code (landed c (entered code w ws below) rest)
   landed-ready w ws below rest r Done e = r
   landed-ready w ws below rest r (Tail v args) e = r
-  landed-ready w ws below rest r (Move v a) e = subst Step_command (sym e) tt
-  landed-ready w ws below rest r Tick e = subst Step_command (sym e) tt
-  landed-ready w ws below rest r (Alloc v g args) e = subst Step_command (sym e) tt
-  landed-ready w ws below rest r (Modref v shape) e = subst Step_command (sym e) tt
-  landed-ready w ws below rest r (Write p a) e = subst Step_command (sym e) tt
-  landed-ready w ws below rest r (If test first second) e = subst Step_command (sym e) tt
-  landed-ready w ws below rest r (Read v p z args) e = subst Step_command (sym e) tt
-  landed-ready w ws below rest r (Call g args z more) e = subst Step_command (sym e) tt
+  landed-ready w ws below rest r (Move v a) e = subst StepCommand (sym e) tt
+  landed-ready w ws below rest r Tick e = subst StepCommand (sym e) tt
+  landed-ready w ws below rest r (Alloc v g args) e = subst StepCommand (sym e) tt
+  landed-ready w ws below rest r (Modref v shape) e = subst StepCommand (sym e) tt
+  landed-ready w ws below rest r (Write p a) e = subst StepCommand (sym e) tt
+  landed-ready w ws below rest r (If test first second) e = subst StepCommand (sym e) tt
+  landed-ready w ws below rest r (Read v p z args) e = subst StepCommand (sym e) tt
+  landed-ready w ws below rest r (Call g args z more) e = subst StepCommand (sym e) tt
 
   settled_at-ready : (u i : ℕ) (env : Variables) (below rest : Stack) → Ready code rest → (c : Cmd) → command_at code u i ≡ c → Ready code (settled_at code x c u i env below rest)
   settled_at-ready u i env below rest r Done e = r
   settled_at-ready u i env below rest r (Tail w args) e = landed-ready w.0 (values code.structs x env args) below rest r (command_at code w.0 0) refl
-  settled_at-ready u i env below rest r (Move v a) e = subst Step_command (sym e) tt
-  settled_at-ready u i env below rest r Tick e = subst Step_command (sym e) tt
-  settled_at-ready u i env below rest r (Alloc v g args) e = subst Step_command (sym e) tt
-  settled_at-ready u i env below rest r (Modref v shape) e = subst Step_command (sym e) tt
-  settled_at-ready u i env below rest r (Write p a) e = subst Step_command (sym e) tt
-  settled_at-ready u i env below rest r (If test first second) e = subst Step_command (sym e) tt
-  settled_at-ready u i env below rest r (Read v p z args) e = subst Step_command (sym e) tt
-  settled_at-ready u i env below rest r (Call g args z more) e = subst Step_command (sym e) tt
+  settled_at-ready u i env below rest r (Move v a) e = subst StepCommand (sym e) tt
+  settled_at-ready u i env below rest r Tick e = subst StepCommand (sym e) tt
+  settled_at-ready u i env below rest r (Alloc v g args) e = subst StepCommand (sym e) tt
+  settled_at-ready u i env below rest r (Modref v shape) e = subst StepCommand (sym e) tt
+  settled_at-ready u i env below rest r (Write p a) e = subst StepCommand (sym e) tt
+  settled_at-ready u i env below rest r (If test first second) e = subst StepCommand (sym e) tt
+  settled_at-ready u i env below rest r (Read v p z args) e = subst StepCommand (sym e) tt
+  settled_at-ready u i env below rest r (Call g args z more) e = subst StepCommand (sym e) tt
 
   settled-ready : (st : Stack) → Ready code (settled code x st)
   unfolding settled
@@ -85,22 +85,22 @@ module _ (code : Code) (x : Plain) where
   next-acted st s e = ap (acted code x) e
 
 -- a step, and not the end
-abbrev Is_step : Act → Type 0
-Is_step Over = ⊥
-Is_step (Quiet after) = ⊤
-Is_step (Makes key v u i env below) = ⊤
-Is_step (Writes p value after) = ⊤
-Is_step (Reads p u v args below) = ⊤
+abbrev IsStep : Act → Type 0
+IsStep Over = ⊥
+IsStep (Quiet after) = ⊤
+IsStep (Makes key v u i env below) = ⊤
+IsStep (Writes p value after) = ⊤
+IsStep (Reads p u v args below) = ⊤
 
-write-step : (o : Option Place) (value : Word) (after : Stack) → Is_step (writes_at o value after)
+write-step : (o : Option Place) (value : Word) (after : Stack) → IsStep (writes_at o value after)
 write-step None value after = tt
 write-step (Some p) value after = tt
 
-read-step : (code : Code) (o : Option Place) (u : UnitId) (v : ℕ) (args : List Word) (below : Stack) → Is_step (reads_at code o u v args below)
+read-step : (code : Code) (o : Option Place) (u : UnitId) (v : ℕ) (args : List Word) (below : Stack) → IsStep (reads_at code o u v args below)
 read-step code None u v args below = tt
 read-step code (Some p) u v args below = tt
 
-act-step : (code : Code) (x : Plain) (u i : ℕ) (env : Variables) (below : Stack) (c : Cmd) → Step_command c → Is_step (act code x c u i env below)
+act-step : (code : Code) (x : Plain) (u i : ℕ) (env : Variables) (below : Stack) (c : Cmd) → StepCommand c → IsStep (act code x c u i env below)
 act-step code x u i env below Done s = s
 act-step code x u i env below (Tail w args) s = s
 act-step code x u i env below (Move v a) s = tt
@@ -113,7 +113,7 @@ act-step code x u i env below (Read v p w args) s = read-step code (place_of (ex
 act-step code x u i env below (Call g args w more) s = tt
 
 -- a step is one to a next state
-step-there : (code : Code) (m : Blocks) (st : Stack) (a : Act) → next code (block_at m) st ≡ a → Is_step a → (m' : Blocks) × (st' : Stack) × Steps code m st m' st'
+step-there : (code : Code) (m : Blocks) (st : Stack) (a : Act) → next code (block_at m) st ≡ a → IsStep a → (m' : Blocks) × (st' : Stack) × Steps code m st m' st'
 step-there code m st Over e s = absurd s
 step-there code m st (Quiet after) e s = (m, after, Steps.quiet e)
 step-there code m st (Makes key v u i env below) e s =
@@ -127,12 +127,12 @@ all-of : (test : Block → Bool) (blocks : List Block) → ((i : ℕ) (block : B
 all-of test [] h = refl
 all-of test (b ∷ blocks) h = both-true (test b) (list_all test blocks) (h 0 b refl) (all-of test blocks (λ i block e. h (suc i) block e))
 
-typed-fits : (structs : List StructInfo) (m : Blocks) → Memory_typed structs m → memory_fits structs m ≡ true
+typed-fits : (structs : List StructInfo) (m : Blocks) → MemoryTyped structs m → memory_fits structs m ≡ true
 typed-fits structs m typed =
     both-true (list_all (block_fits structs m) m.inputs) (list_all (block_fits structs m) m.made) (all-of (block_fits structs m) m.inputs (λ i block e. typed (Input i) block e))
     (all-of (block_fits structs m) m.made (λ i block e. typed (Core i) block e))
 
-inputs-typed : (structs : List StructInfo) (inputs : List Block) → inputs_fit structs inputs ≡ true → Memory_typed structs (record { inputs = inputs; made = [] })
+inputs-typed : (structs : List StructInfo) (inputs : List Block) → inputs_fit structs inputs ≡ true → MemoryTyped structs (record { inputs = inputs; made = [] })
 inputs-typed structs inputs h (Input i) block e = input-fits structs inputs h i block e
 inputs-typed structs inputs h (Core i) block e = none-some block e
 
@@ -144,7 +144,7 @@ module _ (structs : List StructInfo) (m : Blocks) where
       let p = both (fits_field structs m k w) (fields_fit structs m kinds ws) h in (w, refl, subst (λ k. fits_field structs m k w ≡ true) (some-same k kind e) p.0)
   field-word (k ∷ kinds) (w ∷ ws) (suc n) kind h e = let p = both (fits_field structs m k w) (fields_fit structs m kinds ws) h in field-word kinds ws n kind p.1 e
 
-module _ (code : Code) (m : Blocks) (typed : Memory_typed code.structs m) where
+module _ (code : Code) (m : Blocks) (typed : MemoryTyped code.structs m) where
   -- the content of a place that a unit takes
   content-taken : (p : Place) (d : Word) (F : Word → Type 0) → Gives code m p F → F (content_of m (At p) d)
   content-taken p d F g = go (block_at m p.block) refl g.there
@@ -154,7 +154,7 @@ module _ (code : Code) (m : Blocks) (typed : Memory_typed code.structs m) where
       go (Some block) e k = let w = field-word code.structs m (kinds_of_shape code.structs block.shape) block.words p.field g.kind (typed p.block block e) k in rw w.1 (g.goes w.0 w.2)
 
   -- a write into a place that takes the word
-  written-typed : (p : Place) (w : Word) → Takes code m p w → Memory_typed code.structs (written_at m p.block p.field w)
+  written-typed : (p : Place) (w : Word) → Takes code m p w → MemoryTyped code.structs (written_at m p.block p.field w)
   written-typed p w t = go (block_at m p.block) refl t.there
     where
       each : (block : Block) → block_at m p.block ≡ Some block → slice_get (kinds_of_shape code.structs block.shape) p.field ≡ Some t.kind → (b : BlockId) (other : Block) → block_at (written_at m p.block p.field w) b ≡ Some other
@@ -169,12 +169,12 @@ module _ (code : Code) (m : Blocks) (typed : Memory_typed code.structs m) where
           fields-kept code.structs m (written_at m p.block p.field w) (kept-written m p.block p.field w block e) (kinds_of_shape code.structs other.shape) other.words
           (typed b other (sym (written-other m p.block b p.field w block e s) ∙ i))
 
-      go : (o : Option Block) → block_at m p.block ≡ o → kind_in code.structs o p.field ≡ Some t.kind → Memory_typed code.structs (written_at m p.block p.field w)
+      go : (o : Option Block) → block_at m p.block ≡ o → kind_in code.structs o p.field ≡ Some t.kind → MemoryTyped code.structs (written_at m p.block p.field w)
       go None e k = none-some t.kind k
       go (Some block) e k = λ b other i. each block e k b other i (same_block b p.block) refl
 
   -- a new block
-  grown-typed : (new : Block) → fields_fit code.structs m (kinds_of_shape code.structs new.shape) new.words ≡ true → Memory_typed code.structs (with_block m new)
+  grown-typed : (new : Block) → fields_fit code.structs m (kinds_of_shape code.structs new.shape) new.words ≡ true → MemoryTyped code.structs (with_block m new)
   grown-typed new h b block e = fields-kept code.structs m (with_block m new) (kept-grown m new) (kinds_of_shape code.structs block.shape) block.words (go b e)
     where
       newest : (c : ℕ) → slice_get (m.made ++ new ∷ []) c ≡ Some block → (t : Bool) → (c == length m.made) ≡ t → fields_fit code.structs m (kinds_of_shape code.structs block.shape) block.words ≡ true
@@ -188,7 +188,7 @@ module _ (code : Code) (m : Blocks) (typed : Memory_typed code.structs m) where
       go (Core c) e = newest c e (c == length m.made) refl
 
   -- the pointer to a new block fits
-  pointer-fits : (key : Key) → Key_typed code m key → fits_kind code.structs (with_block m (made code (block_at m) key)) (pointer_kind (shape_of code key)) (pointer key (Core (length m.made))) ≡ true
+  pointer-fits : (key : Key) → KeyTyped code m key → fits_kind code.structs (with_block m (made code (block_at m) key)) (pointer_kind (shape_of code key)) (pointer key (Core (length m.made))) ≡ true
   pointer-fits IntKey h = rw (grown-here m (made code (block_at m) IntKey), made-shape code (block_at m) IntKey)
   pointer-fits (PtrKey s) h = rw (grown-here m (made code (block_at m) (PtrKey s)), made-shape code (block_at m) (PtrKey s), nat-refl s)
   pointer-fits (Init f args) h = go (slice_get code.functions f) refl h
@@ -196,15 +196,15 @@ module _ (code : Code) (m : Blocks) (typed : Memory_typed code.structs m) where
       new-struct : (s : ℕ) → shape_of code (Init f args) ≡ Struct s → fits_kind code.structs (with_block m (made code (block_at m) (Init f args))) (Ptr s) (BlockWord (Core (length m.made))) ≡ true
       new-struct s e = rw (grown-here m (made code (block_at m) (Init f args)), made-shape code (block_at m) (Init f args) ∙ e, nat-refl s)
 
-      go : (o : Option FunctionCode) → slice_get code.functions f ≡ o → Init_typed code m args o
+      go : (o : Option FunctionCode) → slice_get code.functions f ≡ o → InitTyped code m args o
           → fits_kind code.structs (with_block m (made code (block_at m) (Init f args))) (pointer_kind (shape_of code (Init f args))) (BlockWord (Core (length m.made))) ≡ true
       go None e h = absurd h
       go (Some (CoreFunction name entry params)) e h = absurd h
       go (Some (InitFunction name s params body)) e h = let i : shape_of code (Init f args) ≡ Struct s = rw e in rw i (new-struct s i)
 
 module _ (code : Code) (ok : valid code ≡ true) where
-  module _ (m : Blocks) (typed : Memory_typed code.structs m) where
-    landed-typed : (c : Cmd) (arrived rest : Stack) → Stack_typed code m arrived → Stack_typed code m rest → Stack_typed code m (landed c arrived rest)
+  module _ (m : Blocks) (typed : MemoryTyped code.structs m) where
+    landed-typed : (c : Cmd) (arrived rest : Stack) → StackTyped code m arrived → StackTyped code m rest → StackTyped code m (landed c arrived rest)
     landed-typed Done arrived rest h k = k
     landed-typed (Tail v args) arrived rest h k = k
     landed-typed (Move v a) arrived rest h k = h
@@ -216,8 +216,8 @@ module _ (code : Code) (ok : valid code ≡ true) where
     landed-typed (Read v p z args) arrived rest h k = h
     landed-typed (Call g args z more) arrived rest h k = h
 
-    settled_at-typed : (u i : ℕ) (env : Variables) (below rest : Stack) → Frame_typed code m u i env → Stack_typed code m below → Stack_typed code m rest → (c : Cmd) → command_at code u i ≡ c
-        → Stack_typed code m (settled_at code (block_at m) c u i env below rest)
+    settled_at-typed : (u i : ℕ) (env : Variables) (below rest : Stack) → FrameTyped code m u i env → StackTyped code m below → StackTyped code m rest → (c : Cmd) → command_at code u i ≡ c
+        → StackTyped code m (settled_at code (block_at m) c u i env below rest)
     settled_at-typed u i env below rest f h k Done e = k
     settled_at-typed u i env below rest f h k (Tail w args) e =
         landed-typed (command_at code w.0 0) (entered code w.0 (values code.structs (block_at m) env args) below) rest
@@ -231,26 +231,26 @@ module _ (code : Code) (ok : valid code ≡ true) where
     settled_at-typed u i env below rest f h k (Read v p z args) e = (f, h)
     settled_at-typed u i env below rest f h k (Call g args z more) e = (f, h)
 
-    settled-typed : (st : Stack) → Stack_typed code m st → Stack_typed code m (settled code (block_at m) st)
+    settled-typed : (st : Stack) → StackTyped code m st → StackTyped code m (settled code (block_at m) st)
     unfolding settled
     settled-typed Empty h = tt
     settled-typed (Run u i env below) h = settled_at-typed u i env below (settled code (block_at m) below) h.0 h.1 (settled-typed below h.1) (command_at code u i) refl
 
-    acted-typed : (s : Stack) → Stack_typed code m s → Ready code s → Act_typed code m (acted code (block_at m) s)
+    acted-typed : (s : Stack) → StackTyped code m s → Ready code s → ActTyped code m (acted code (block_at m) s)
     acted-typed Empty h r = tt
     acted-typed (Run u i env below) h r = act-typed code ok m typed u i env below h.1 (command_at code u i) (at-command code m u i env h.0 (command_at code u i) refl) r
 
-    next-typed : (st : Stack) → Stack_typed code m st → Act_typed code m (next code (block_at m) st)
+    next-typed : (st : Stack) → StackTyped code m st → ActTyped code m (next code (block_at m) st)
     unfolding next
     next-typed st h = acted-typed (settled code (block_at m) st) (settled-typed st h) (settled-ready code (block_at m) st)
 
-    goes : (st s : Stack) → settled code (block_at m) st ≡ s → Stack_typed code m s → Ready code s → Goes_on code m st s
+    goes : (st s : Stack) → settled code (block_at m) st ≡ s → StackTyped code m s → Ready code s → GoesOn code m st s
     goes st Empty e h r = tt
     goes st (Run u i env below) e h r =
         step-there code m st (act code (block_at m) (command_at code u i) u i env below) (next-acted code (block_at m) st (Run u i env below) e) (act-step code (block_at m) u i env below (command_at code u i) r)
 
     -- a typed state is not stuck
-    not-stuck : (st : Stack) → Stack_typed code m st → Not_stuck code m st
+    not-stuck : (st : Stack) → StackTyped code m st → NotStuck code m st
     not-stuck st h = record {
       memory = typed-fits code.structs m typed;
       stack = stack-there code ok m typed st h;
@@ -259,38 +259,38 @@ module _ (code : Code) (ok : valid code ≡ true) where
     }
 
   -- a typed state
-  abbrev State_typed : Blocks → Stack → Type 0
-  State_typed m st = Memory_typed code.structs m × Stack_typed code m st
+  abbrev StateTyped : Blocks → Stack → Type 0
+  StateTyped m st = MemoryTyped code.structs m × StackTyped code m st
 
-  after-makes : (m : Blocks) (key : Key) (v u i : ℕ) (env : Variables) (below : Stack) → Memory_typed code.structs m → Act_typed code m (Makes key v u i env below)
-      → State_typed (with_block m (made code (block_at m) key)) (Run u i (set env v (pointer key (Core (length m.made)))) below)
+  after-makes : (m : Blocks) (key : Key) (v u i : ℕ) (env : Variables) (below : Stack) → MemoryTyped code.structs m → ActTyped code m (Makes key v u i env below)
+      → StateTyped (with_block m (made code (block_at m) key)) (Run u i (set env v (pointer key (Core (length m.made)))) below)
   after-makes m key v u i env below t h = (
     grown-typed code m t (made code (block_at m) key) (made-fits code ok m t key h.0),
     h.1 (with_block m (made code (block_at m) key)) (pointer key (Core (length m.made))) (kept-grown m (made code (block_at m) key)) (pointer-fits code m t key h.0),
   )
 
-  after-writes : (m : Blocks) (p : Place) (value : Word) (after : Stack) → Memory_typed code.structs m → Act_typed code m (Writes p value after) → State_typed (written_at m p.block p.field value) after
+  after-writes : (m : Blocks) (p : Place) (value : Word) (after : Stack) → MemoryTyped code.structs m → ActTyped code m (Writes p value after) → StateTyped (written_at m p.block p.field value) after
   after-writes m p value after t h = (written-typed code m t p value h.0, kept h.0)
     where
-      kept : Takes code m p value → Stack_typed code (written_at m p.block p.field value) after
+      kept : Takes code m p value → StackTyped code (written_at m p.block p.field value) after
       kept k = go (block_at m p.block) refl k.there
         where
-          go : (o : Option Block) → block_at m p.block ≡ o → kind_in code.structs o p.field ≡ Some k.kind → Stack_typed code (written_at m p.block p.field value) after
+          go : (o : Option Block) → block_at m p.block ≡ o → kind_in code.structs o p.field ≡ Some k.kind → StackTyped code (written_at m p.block p.field value) after
           go None e i = none-some k.kind i
           go (Some block) e i = stack-kept code m (written_at m p.block p.field value) (kept-written m p.block p.field value block e) after h.1
 
   -- a step from a typed state leads to one
-  step-typed : (m : Blocks) (st : Stack) (m' : Blocks) (st' : Stack) → State_typed m st → Steps code m st m' st' → State_typed m' st'
-  step-typed m st m' st' h (Steps.quiet {after = after} e) = (h.0, subst (Act_typed code m) e (next-typed m h.0 st h.1))
+  step-typed : (m : Blocks) (st : Stack) (m' : Blocks) (st' : Stack) → StateTyped m st → Steps code m st m' st' → StateTyped m' st'
+  step-typed m st m' st' h (Steps.quiet {after = after} e) = (h.0, subst (ActTyped code m) e (next-typed m h.0 st h.1))
   step-typed m st m' st' h (Steps.makes {below = below} {key = key} {v = v} {u = u} {i = i} {env = env} e) =
-      after-makes m key v u i env below h.0 (subst (Act_typed code m) e (next-typed m h.0 st h.1))
-  step-typed m st m' st' h (Steps.writes {after = after} {p = p} {value = value} e) = after-writes m p value after h.0 (subst (Act_typed code m) e (next-typed m h.0 st h.1))
+      after-makes m key v u i env below h.0 (subst (ActTyped code m) e (next-typed m h.0 st h.1))
+  step-typed m st m' st' h (Steps.writes {after = after} {p = p} {value = value} e) = after-writes m p value after h.0 (subst (ActTyped code m) e (next-typed m h.0 st h.1))
   step-typed m st m' st' h (Steps.reads {below = below} {p = p} {u = u} {v = v} {args = args} e) = (
     h.0,
-    content-taken code m h.0 p (variable_default code u.0 v) (λ w. Stack_typed code m (entered code u.0 (given code u.0 v args w) below)) (subst (Act_typed code m) e (next-typed m h.0 st h.1)),
+    content-taken code m h.0 p (variable_default code u.0 v) (λ w. StackTyped code m (entered code u.0 (given code u.0 v args w) below)) (subst (ActTyped code m) e (next-typed m h.0 st h.1)),
   )
 
-  reaches-typed : (m : Blocks) (st : Stack) (m' : Blocks) (st' : Stack) → State_typed m st → Reaches code m st m' st' → State_typed m' st'
+  reaches-typed : (m : Blocks) (st : Stack) (m' : Blocks) (st' : Stack) → StateTyped m st → Reaches code m st m' st' → StateTyped m' st'
   reaches-typed m st m' st' h Reaches.begin = h
   reaches-typed m st m' st' h (Reaches.step {m' = n} {st' = s} r k) = step-typed n s m' st' (reaches-typed m st n s h r) k
 
@@ -306,7 +306,7 @@ module _ (code : Code) (ok : valid code ≡ true) where
     begun = record { inputs = inputs; made = [] }
 
     chosen-typed : (params kinds : List Kind) (args : List Word) → is_prefix params kinds ≡ true → words_fit code.structs begun params args ≡ true → (ps : List VarId) → all_below (length params) ps ≡ true
-        → Params_typed code begun kinds ps (chosen ps args)
+        → ParamsTyped code begun kinds ps (chosen ps args)
     unfolding chosen all_below
     chosen-typed params kinds args h k [] l = tt
     chosen-typed params kinds args h k (p ∷ ps) l =
@@ -316,18 +316,18 @@ module _ (code : Code) (ok : valid code ≡ true) where
         )
 
     entry-typed : (f w : ℕ) (params kinds : List Kind) (args : List Word) → slice_get code.kinds f ≡ Some kinds → is_prefix params kinds ≡ true → words_fit code.structs begun params args ≡ true → (o : Option CodeUnit) → slice_get code.units w ≡ o
-        → entry_ok f (length params) o ≡ true → Stack_typed code begun (entered code w (chosen (unit_at code w).params args) Empty)
+        → entry_ok f (length params) o ≡ true → StackTyped code begun (entered code w (chosen (unit_at code w).params args) Empty)
     entry-typed f w params kinds args there h k None e l = absurd (grind (arith, l))
     entry-typed f w params kinds args there h k (Some unit) e l =
         let p = both (unit.function == f) (all_below (length params) unit.params) l in
         let i : unit.function ≡ f = nat-same unit.function f p.0 in
         let ks : kinds_of code unit.function ≡ kinds = rw (i, there) in
         let same : unit.params ≡ (unit_at code w).params = rw e in
-        subst (λ ps. Stack_typed code begun (entered code w (chosen ps args) Empty)) same
+        subst (λ ps. StackTyped code begun (entered code w (chosen ps args) Empty)) same
         (enter code ok begun w unit (chosen unit.params args) Empty e
-        (subst (λ kinds. Params_typed code begun kinds unit.params (chosen unit.params args)) (sym ks) (chosen-typed params kinds args h k unit.params p.1)) tt)
+        (subst (λ kinds. ParamsTyped code begun kinds unit.params (chosen unit.params args)) (sym ks) (chosen-typed params kinds args h k unit.params p.1)) tt)
 
-    started-typed : (f : ℕ) (args : List Word) (o : Option FunctionCode) → slice_get code.functions f ≡ o → args_fit code.structs begun o args ≡ true → Stack_typed code begun (started code f args)
+    started-typed : (f : ℕ) (args : List Word) (o : Option FunctionCode) → slice_get code.functions f ≡ o → args_fit code.structs begun o args ≡ true → StackTyped code begun (started code f args)
     started-typed f args None e h = absurd (grind (arith, h))
     started-typed f args (Some (InitFunction name s params body)) e h = absurd (grind (arith, h))
     started-typed f args (Some (CoreFunction name entry params)) e h =
@@ -335,11 +335,11 @@ module _ (code : Code) (ok : valid code ≡ true) where
         let p = both (is_prefix params v.kinds' && kinds_ok code.structs v.kinds') (entry_ok f (length params) (slice_get code.units entry.0)) v.ok in
         let q = both (is_prefix params v.kinds') (kinds_ok code.structs v.kinds') p.0 in
         let is : entry_of code f ≡ entry.0 = rw e in
-        subst (λ w. Stack_typed code begun (entered code w (chosen (unit_at code w).params args) Empty)) (sym is)
+        subst (λ w. StackTyped code begun (entered code w (chosen (unit_at code w).params args) Empty)) (sym is)
         (entry-typed f entry.0 params v.kinds' args v.there q.0 h (slice_get code.units entry.0) refl p.1)
 
   -- valid code is never stuck
-  pub progress : (inputs : List Block) (f : ℕ) (args : List Word) → Fits code inputs f args → (m : Blocks) (st : Stack) → Reaches code (record { inputs = inputs; made = [] }) (started code f args) m st → Not_stuck code m st
+  pub progress : (inputs : List Block) (f : ℕ) (args : List Word) → Fits code inputs f args → (m : Blocks) (st : Stack) → Reaches code (record { inputs = inputs; made = [] }) (started code f args) m st → NotStuck code m st
   progress inputs f args h m st r =
       let t = inputs-typed code.structs inputs h.blocks in
       let s = started-typed inputs f args (slice_get code.functions f) refl h.words in

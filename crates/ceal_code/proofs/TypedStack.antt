@@ -11,13 +11,13 @@ use Rattle.ceal_base.specs.declared.kind.Shape.{Shape}
 use Rattle.ceal_base.specs.declared.kind.Shape.TheVariants.{Struct, ModInt as OneInt, ModPtr as OnePtr}
 use Rattle.ceal_base.specs.declared.word.Place.{Place}
 use Rattle.ceal_base.specs.declared.word.Word.{Word}
-use Rattle.ceal_code.proofs.Kept.{Shapes_kept, fits-kept}
+use Rattle.ceal_code.proofs.Kept.{ShapesKept, fits-kept}
 use Rattle.ceal_code.proofs.Same.{both, nat-same}
-use Rattle.ceal_code.proofs.Typed.{Env_typed}
-use Rattle.ceal_code.proofs.TypedInit.{Key_typed, unit-valid}
+use Rattle.ceal_code.proofs.Typed.{EnvTyped}
+use Rattle.ceal_code.proofs.TypedInit.{KeyTyped, unit-valid}
 use Rattle.ceal_code.specs.Program.{Unit as CodeUnit, Code}
 use Rattle.ceal_code.specs.Replay.{shape_of}
-use Rattle.ceal_code.specs.Running.{No_tail}
+use Rattle.ceal_code.specs.Running.{NoTail}
 use Rattle.ceal_code.specs.Step.{Stack, Empty, Run, Act, Over, Quiet, Makes, Writes, Reads, unit_at, command_at, kinds_of, bound, entered, given}
 use Rattle.ceal_code.specs.Valid.{command_ok, onward, path_ok, paths_ok, all_forward, is_tree, with_params, is_core, below as all_below, body_ok, unit_ok, valid}
 use Rattle.ceal_code.specs.Value.{Variables, set, is_cell}
@@ -68,10 +68,10 @@ pointer_kind (OnePtr s) = ModPtr s
 
 module _ (code : Code) (m : Blocks) where
   -- one word for each parameter, which fits its kind
-  abbrev pub Params_typed : List Kind → List VarId → List Word → Type 0
-  Params_typed kinds [] words = ⊤
-  Params_typed kinds (p ∷ ps) [] = ⊥
-  Params_typed kinds (p ∷ ps) (w ∷ ws) = ((kind : Kind) → slice_get kinds p.0 ≡ Some kind → fits_kind code.structs m kind w ≡ true) × Params_typed kinds ps ws
+  abbrev pub ParamsTyped : List Kind → List VarId → List Word → Type 0
+  ParamsTyped kinds [] words = ⊤
+  ParamsTyped kinds (p ∷ ps) [] = ⊥
+  ParamsTyped kinds (p ∷ ps) (w ∷ ws) = ((kind : Kind) → slice_get kinds p.0 ≡ Some kind → fits_kind code.structs m kind w ≡ true) × ParamsTyped kinds ps ws
 
   set-fits : (kinds : List Kind) (env : Variables) (n v : ℕ) (w : Word) (kind : Kind) → slice_get kinds v ≡ Some kind → ((kind : Kind) → slice_get kinds n ≡ Some kind → fits_kind code.structs m kind w ≡ true)
       → ((v ≡ n → ⊥) → fits_kind code.structs m kind (env v) ≡ true) → fits_kind code.structs m kind (set env n w v) ≡ true
@@ -82,15 +82,15 @@ module _ (code : Code) (m : Blocks) where
       go true i = let j : v ≡ n = nat-same v n i in h kind (rw j at e)
       go false i = g (λ j. grind (arith, i, j))
 
-  pub set-typed : (kinds : List Kind) (known : List Bool) (env : Variables) (n : ℕ) (w : Word) → Env_typed code.structs m kinds known env → ((kind : Kind) → slice_get kinds n ≡ Some kind → fits_kind code.structs m kind w ≡ true)
-      → Env_typed code.structs m kinds (slice_set known n true) (set env n w)
+  pub set-typed : (kinds : List Kind) (known : List Bool) (env : Variables) (n : ℕ) (w : Word) → EnvTyped code.structs m kinds known env → ((kind : Kind) → slice_get kinds n ≡ Some kind → fits_kind code.structs m kind w ≡ true)
+      → EnvTyped code.structs m kinds (slice_set known n true) (set env n w)
   set-typed kinds known env n w envs h v kind e k = set-fits kinds env n v w kind e h (λ apart. go apart (known-set known n v k))
     where
       go : (v ≡ n → ⊥) → (v ≡ n) ⊎ (unwrap_or (slice_get known v) false ≡ true) → fits_kind code.structs m kind (env v) ≡ true
       go apart (inl i) = absurd (apart i)
       go apart (inr i) = envs v kind e i
 
-  bound-fits : (kinds : List Kind) (ps : List VarId) (ws : List Word) → Params_typed kinds ps ws → (v : ℕ) (kind : Kind) → slice_get kinds v ≡ Some kind → Among v ps → fits_kind code.structs m kind (bound ps ws v) ≡ true
+  bound-fits : (kinds : List Kind) (ps : List VarId) (ws : List Word) → ParamsTyped kinds ps ws → (v : ℕ) (kind : Kind) → slice_get kinds v ≡ Some kind → Among v ps → fits_kind code.structs m kind (bound ps ws v) ≡ true
   unfolding bound
   bound-fits kinds [] ws h v kind e a = absurd a
   bound-fits kinds (p ∷ ps) [] h v kind e a = absurd h
@@ -100,7 +100,7 @@ module _ (code : Code) (m : Blocks) where
       go again apart (inl i) = absurd (apart i)
       go again apart (inr a) = again a
 
-  bound-typed : (kinds : List Kind) (n : ℕ) (ps : List VarId) (ws : List Word) → Params_typed kinds ps ws → Env_typed code.structs m kinds (with_params (replicate n false) ps) (bound ps ws)
+  bound-typed : (kinds : List Kind) (n : ℕ) (ps : List VarId) (ws : List Word) → ParamsTyped kinds ps ws → EnvTyped code.structs m kinds (with_params (replicate n false) ps) (bound ps ws)
   bound-typed kinds n ps ws h v kind e k = go (known-params (replicate n false) ps v k)
     where
       go : Among v ps ⊎ (unwrap_or (slice_get (replicate n false) v) false ≡ true) → fits_kind code.structs m kind (bound ps ws v) ≡ true
@@ -108,21 +108,21 @@ module _ (code : Code) (m : Blocks) where
       go (inr i) = absurd (none-known n v i)
 
   -- a frame: its unit is there, the path from its index is right, and the variables that are known there fit
-  pub record Frame_typed (u i : ℕ) (env : Variables) : Type 0 where
+  pub record FrameTyped (u i : ℕ) (env : Variables) : Type 0 where
     pub unit : CodeUnit
     pub there : slice_get code.units u ≡ Some unit
     pub known : List Bool
     pub stepped : Bool
     pub fuel : ℕ
     pub path : paths_ok code unit.function unit.body fuel i known stepped ≡ true
-    pub envs : Env_typed code.structs m (kinds_of code unit.function) known env
+    pub envs : EnvTyped code.structs m (kinds_of code unit.function) known env
 
-  abbrev pub Stack_typed : Stack → Type 0
-  Stack_typed Empty = ⊤
-  Stack_typed (Run u i env below) = Frame_typed u i env × Stack_typed below
+  abbrev pub StackTyped : Stack → Type 0
+  StackTyped Empty = ⊤
+  StackTyped (Run u i env below) = FrameTyped u i env × StackTyped below
 
   -- a frame at its command
-  pub record At_command (u i : ℕ) (env : Variables) (c : Cmd) : Type 0 where
+  pub record AtCommand (u i : ℕ) (env : Variables) (c : Cmd) : Type 0 where
     pub unit : CodeUnit
     pub there : slice_get code.units u ≡ Some unit
     pub at : slice_get unit.body i ≡ Some c
@@ -131,25 +131,25 @@ module _ (code : Code) (m : Blocks) where
     pub fuel : ℕ
     pub ok : command_ok code unit.function known stepped c ≡ true
     pub onward' : onward (paths_ok code unit.function unit.body fuel) c i known ≡ true
-    pub envs : Env_typed code.structs m (kinds_of code unit.function) known env
+    pub envs : EnvTyped code.structs m (kinds_of code unit.function) known env
 
-  pub at-command : (u i : ℕ) (env : Variables) → Frame_typed u i env → (c : Cmd) → command_at code u i ≡ c → At_command u i env c
+  pub at-command : (u i : ℕ) (env : Variables) → FrameTyped u i env → (c : Cmd) → command_at code u i ≡ c → AtCommand u i env c
   unfolding paths_ok
   at-command u i env f c e = go f.fuel f.path
     where
-      found : (o : Option Cmd) (n : ℕ) → slice_get f.unit.body i ≡ o → path_ok code f.unit.function (paths_ok code f.unit.function f.unit.body n) o i f.known f.stepped ≡ true → At_command u i env c
+      found : (o : Option Cmd) (n : ℕ) → slice_get f.unit.body i ≡ o → path_ok code f.unit.function (paths_ok code f.unit.function f.unit.body n) o i f.known f.stepped ≡ true → AtCommand u i env c
       found None n g h = absurd (grind (arith, h))
       found (Some d) n g h =
           let k = both (command_ok code f.unit.function f.known f.stepped d) (onward (paths_ok code f.unit.function f.unit.body n) d i f.known) h in
           let is : d ≡ c = sym (rw (f.there, g)) ∙ e in
-          subst (At_command u i env) is (record { unit = f.unit; there = f.there; at = g; known = f.known; stepped = f.stepped; fuel = n; ok = k.0; onward' = k.1; envs = f.envs })
+          subst (AtCommand u i env) is (record { unit = f.unit; there = f.there; at = g; known = f.known; stepped = f.stepped; fuel = n; ok = k.0; onward' = k.1; envs = f.envs })
 
-      go : (n : ℕ) → paths_ok code f.unit.function f.unit.body n i f.known f.stepped ≡ true → At_command u i env c
+      go : (n : ℕ) → paths_ok code f.unit.function f.unit.body n i f.known f.stepped ≡ true → AtCommand u i env c
       go zero h = absurd (grind (arith, h))
       go (suc n) h = found (slice_get f.unit.body i) n refl h
 
-module _ (code : Code) (m m' : Blocks) (kept : Shapes_kept m m') where
-  frame-kept : (u i : ℕ) (env : Variables) → Frame_typed code m u i env → Frame_typed code m' u i env
+module _ (code : Code) (m m' : Blocks) (kept : ShapesKept m m') where
+  frame-kept : (u i : ℕ) (env : Variables) → FrameTyped code m u i env → FrameTyped code m' u i env
   frame-kept u i env f = record {
     unit = f.unit;
     there = f.there;
@@ -160,7 +160,7 @@ module _ (code : Code) (m m' : Blocks) (kept : Shapes_kept m m') where
     envs = λ v kind e k. fits-kept code.structs m m' kept kind (env v) (f.envs v kind e k);
   }
 
-  pub stack-kept : (st : Stack) → Stack_typed code m st → Stack_typed code m' st
+  pub stack-kept : (st : Stack) → StackTyped code m st → StackTyped code m' st
   stack-kept Empty h = h
   stack-kept (Run u i env st) h = (frame-kept u i env h.0, stack-kept st h.1)
 
@@ -179,13 +179,13 @@ module _ (code : Code) (m : Blocks) where
     pub cell : is_cell (Some kind) ≡ true
     pub goes : (w : Word) → fits_field code.structs m kind w ≡ true → F w
 
-  abbrev pub Act_typed : Act → Type 0
-  Act_typed Over = ⊤
-  Act_typed (Quiet after) = Stack_typed code m after
-  Act_typed (Makes key v u i env st) =
-      Key_typed code m key × ((m' : Blocks) (w : Word) → Shapes_kept m m' → fits_kind code.structs m' (pointer_kind (shape_of code key)) w ≡ true → Stack_typed code m' (Run u i (set env v w) st))
-  Act_typed (Writes p value after) = Takes p value × Stack_typed code m after
-  Act_typed (Reads p u v args st) = Gives p (λ w. Stack_typed code m (entered code u.0 (given code u.0 v args w) st))
+  abbrev pub ActTyped : Act → Type 0
+  ActTyped Over = ⊤
+  ActTyped (Quiet after) = StackTyped code m after
+  ActTyped (Makes key v u i env st) =
+      KeyTyped code m key × ((m' : Blocks) (w : Word) → ShapesKept m m' → fits_kind code.structs m' (pointer_kind (shape_of code key)) w ≡ true → StackTyped code m' (Run u i (set env v w) st))
+  ActTyped (Writes p value after) = Takes p value × StackTyped code m after
+  ActTyped (Reads p u v args st) = Gives p (λ w. StackTyped code m (entered code u.0 (given code u.0 v args w) st))
 
 abbrev begun : Code → CodeUnit → List Bool
 begun code unit = with_params (replicate (length (kinds_of code unit.function)) false) unit.params
@@ -209,10 +209,10 @@ module _ (code : Code) (unit : CodeUnit) (h : unit_ok code unit ≡ true) where
 
 module _ (code : Code) (ok : valid code ≡ true) (m : Blocks) where
   -- a unit at its beginning, on words that fit its parameters
-  pub enter : (u : ℕ) (unit : CodeUnit) (ws : List Word) (st : Stack) → slice_get code.units u ≡ Some unit → Params_typed code m (kinds_of code unit.function) unit.params ws → Stack_typed code m st → Stack_typed code m (entered code u ws st)
+  pub enter : (u : ℕ) (unit : CodeUnit) (ws : List Word) (st : Stack) → slice_get code.units u ≡ Some unit → ParamsTyped code m (kinds_of code unit.function) unit.params ws → StackTyped code m st → StackTyped code m (entered code u ws st)
   enter u unit ws st e h k = (frame, k)
     where
-      frame : Frame_typed code m u 0 (bound (unit_at code u).params ws)
+      frame : FrameTyped code m u 0 (bound (unit_at code u).params ws)
       frame = rw e (record {
         unit = unit;
         there = e;
@@ -225,7 +225,7 @@ module _ (code : Code) (ok : valid code ≡ true) (m : Blocks) where
 
 module _ (code : Code) (ok : valid code ≡ true) where
   -- no unit begins with a tail
-  first-command : (f : ℕ) (known : List Bool) (c : Cmd) → command_ok code f known false c ≡ true → No_tail c
+  first-command : (f : ℕ) (known : List Bool) (c : Cmd) → command_ok code f known false c ≡ true → NoTail c
   first-command f known (Tail w args) h = absurd (grind (arith, h))
   first-command f known (Move v e) h = tt
   first-command f known Tick h = tt
@@ -237,18 +237,18 @@ module _ (code : Code) (ok : valid code ≡ true) where
   first-command f known (Read v p w args) h = tt
   first-command f known (Call g args w rest) h = tt
 
-  first-there : (unit : CodeUnit) (n : ℕ) (known : List Bool) → paths_ok code unit.function unit.body n 0 known false ≡ true → No_tail (unwrap_or (slice_get unit.body 0) Done)
+  first-there : (unit : CodeUnit) (n : ℕ) (known : List Bool) → paths_ok code unit.function unit.body n 0 known false ≡ true → NoTail (unwrap_or (slice_get unit.body 0) Done)
   unfolding paths_ok
   first-there unit zero known h = absurd (grind (arith, h))
   first-there unit (suc n) known h = go (slice_get unit.body 0) h
     where
-      go : (o : Option Cmd) → path_ok code unit.function (paths_ok code unit.function unit.body n) o 0 known false ≡ true → No_tail (unwrap_or o Done)
+      go : (o : Option Cmd) → path_ok code unit.function (paths_ok code unit.function unit.body n) o 0 known false ≡ true → NoTail (unwrap_or o Done)
       go None h = tt
       go (Some c) h = first-command unit.function known c (both (command_ok code unit.function known false c) (onward (paths_ok code unit.function unit.body n) c 0 known) h).0
 
-  pub no-tail : (w : ℕ) → w < length code.units → No_tail (command_at code w 0)
+  pub no-tail : (w : ℕ) → w < length code.units → NoTail (command_at code w 0)
   no-tail w l = go (slice_get code.units w) refl
     where
-      go : (o : Option CodeUnit) → slice_get code.units w ≡ o → No_tail (command_at code w 0)
+      go : (o : Option CodeUnit) → slice_get code.units w ≡ o → NoTail (command_at code w 0)
       go None e = rw e tt
       go (Some unit) e = rw e (first-there unit (length unit.body) (begun code unit) (unit-path code unit (unit-valid code ok w unit e)))

@@ -3,7 +3,7 @@
 use Rattle.std.specs.Prelude.{◌≡◌, ℕ, ℤ, Option, Some, None, List, [], ◌∷◌}
 use Rattle.ceal_base.specs.Block.{Block}
 use Rattle.ceal_base.specs.Shapes.{kinds_of_shape}
-use Rattle.ceal_base.specs.Trace.{Trace, Nothing, Stepped, Allocated, Wrote, Was_read}
+use Rattle.ceal_base.specs.Trace.{Trace, Nothing, Stepped, Allocated, Wrote, WasRead}
 use Rattle.ceal_base.specs.declared.forest.Key.{Key}
 use Rattle.ceal_base.specs.declared.forest.Key.TheVariants.{Init, ModInt as IntKey, ModPtr as PtrKey}
 use Rattle.ceal_base.specs.declared.forest.UnitId.{UnitId}
@@ -25,6 +25,7 @@ pub record Pair : Type 0 where
   pub left : ℕ
   pub right : ℕ
 
+-- a renaming of core blocks: pairs of the numbers of the same block in the two runs
 abbrev pub Pairs : Type 0
 Pairs = List Pair
 
@@ -34,89 +35,101 @@ pub data Tied (b c : ℕ) : Pairs → Type 0 where
   there : {p : Pair} {ps : Pairs} → Tied b c ps → Tied b c (p ∷ ps)
 
 -- an input stands for itself
-pub data Id_alike (ps : Pairs) : BlockId → BlockId → Type 0 where
-  input : {i : ℕ} → Id_alike ps (Input i) (Input i)
-  core : {b c : ℕ} → Tied b c ps → Id_alike ps (Core b) (Core c)
+pub data IdAlike (ps : Pairs) : BlockId → BlockId → Type 0 where
+  input : {i : ℕ} → IdAlike ps (Input i) (Input i)
+  core : {b c : ℕ} → Tied b c ps → IdAlike ps (Core b) (Core c)
 
-pub record Place_alike (ps : Pairs) (p q : Place) : Type 0 where
-  pub block : Id_alike ps p.block q.block
+-- places of the same field of the same block
+pub record PlaceAlike (ps : Pairs) (p q : Place) : Type 0 where
+  pub block : IdAlike ps p.block q.block
   pub field : p.field ≡ q.field
 
-pub data Word_alike (ps : Pairs) : Word → Word → Type 0 where
-  num : {n : ℤ} → Word_alike ps (Num n) (Num n)
-  null : Word_alike ps Null Null
-  block : {b c : BlockId} → Id_alike ps b c → Word_alike ps (BlockWord b) (BlockWord c)
-  at : {p q : Place} → Place_alike ps p q → Word_alike ps (At p) (At q)
+-- words that are the same up to the renaming
+pub data WordAlike (ps : Pairs) : Word → Word → Type 0 where
+  num : {n : ℤ} → WordAlike ps (Num n) (Num n)
+  null : WordAlike ps Null Null
+  block : {b c : BlockId} → IdAlike ps b c → WordAlike ps (BlockWord b) (BlockWord c)
+  at : {p q : Place} → PlaceAlike ps p q → WordAlike ps (At p) (At q)
 
-pub data Words_alike (ps : Pairs) : List Word → List Word → Type 0 where
-  none : Words_alike ps [] []
-  more : {v w : Word} {vs ws : List Word} → Word_alike ps v w → Words_alike ps vs ws → Words_alike ps (v ∷ vs) (w ∷ ws)
+-- lists of such words
+pub data WordsAlike (ps : Pairs) : List Word → List Word → Type 0 where
+  none : WordsAlike ps [] []
+  more : {v w : Word} {vs ws : List Word} → WordAlike ps v w → WordsAlike ps vs ws → WordsAlike ps (v ∷ vs) (w ∷ ws)
 
-pub data Key_alike (ps : Pairs) : Key → Key → Type 0 where
-  init : {f : ℕ} {vs ws : List Word} → Words_alike ps vs ws → Key_alike ps (Init f vs) (Init f ws)
-  int : Key_alike ps IntKey IntKey
-  pointer : {s : ℕ} → Key_alike ps (PtrKey s) (PtrKey s)
+-- keys of allocations that are the same up to the renaming
+pub data KeyAlike (ps : Pairs) : Key → Key → Type 0 where
+  init : {f : ℕ} {vs ws : List Word} → WordsAlike ps vs ws → KeyAlike ps (Init f vs) (Init f ws)
+  int : KeyAlike ps IntKey IntKey
+  pointer : {s : ℕ} → KeyAlike ps (PtrKey s) (PtrKey s)
 
-abbrev pub Variables_alike : Pairs → Variables → Variables → Type 0
-Variables_alike ps env env' = (v : ℕ) → Word_alike ps (env v) (env' v)
+-- variables that hold such words
+abbrev pub VariablesAlike : Pairs → Variables → Variables → Type 0
+VariablesAlike ps env env' = (v : ℕ) → WordAlike ps (env v) (env' v)
 
-pub data Stack_alike (ps : Pairs) : Stack → Stack → Type 0 where
-  empty : Stack_alike ps Empty Empty
-  run : {u i : ℕ} {env env' : Variables} {st st' : Stack} → Variables_alike ps env env' → Stack_alike ps st st'
-      → Stack_alike ps (Run u i env st) (Run u i env' st')
+-- stacks with such variables
+pub data StackAlike (ps : Pairs) : Stack → Stack → Type 0 where
+  empty : StackAlike ps Empty Empty
+  run : {u i : ℕ} {env env' : Variables} {st st' : Stack} → VariablesAlike ps env env' → StackAlike ps st st'
+      → StackAlike ps (Run u i env st) (Run u i env' st')
 
-pub data Act_alike (ps : Pairs) : Act → Act → Type 0 where
-  over : Act_alike ps Over Over
-  quiet : {st st' : Stack} → Stack_alike ps st st' → Act_alike ps (Quiet st) (Quiet st')
+-- next steps that are the same up to the renaming
+pub data ActAlike (ps : Pairs) : Act → Act → Type 0 where
+  over : ActAlike ps Over Over
+  quiet : {st st' : Stack} → StackAlike ps st st' → ActAlike ps (Quiet st) (Quiet st')
   makes : {k k' : Key} {v u i : ℕ} {env env' : Variables} {st st' : Stack}
-      → Key_alike ps k k' → Variables_alike ps env env' → Stack_alike ps st st'
-      → Act_alike ps (Makes k v u i env st) (Makes k' v u i env' st')
+      → KeyAlike ps k k' → VariablesAlike ps env env' → StackAlike ps st st'
+      → ActAlike ps (Makes k v u i env st) (Makes k' v u i env' st')
   writes : {p q : Place} {v w : Word} {st st' : Stack}
-      → Place_alike ps p q → Word_alike ps v w → Stack_alike ps st st' → Act_alike ps (Writes p v st) (Writes q w st')
+      → PlaceAlike ps p q → WordAlike ps v w → StackAlike ps st st' → ActAlike ps (Writes p v st) (Writes q w st')
   reads : {p q : Place} {u : UnitId} {v : ℕ} {vs ws : List Word} {st st' : Stack}
-      → Place_alike ps p q → Words_alike ps vs ws → Stack_alike ps st st' → Act_alike ps (Reads p u v vs st) (Reads q u v ws st')
+      → PlaceAlike ps p q → WordsAlike ps vs ws → StackAlike ps st st' → ActAlike ps (Reads p u v vs st) (Reads q u v ws st')
 
 -- one word for each field, and those of plain fields are alike
-pub data Fields_alike (ps : Pairs) : List FieldKind → List Word → List Word → Type 0 where
-  none : Fields_alike ps [] [] []
+pub data FieldsAlike (ps : Pairs) : List FieldKind → List Word → List Word → Type 0 where
+  none : FieldsAlike ps [] [] []
   plain : {kind : Kind} {kinds : List FieldKind} {v w : Word} {vs ws : List Word}
-      → Word_alike ps v w → Fields_alike ps kinds vs ws → Fields_alike ps (PlainField kind ∷ kinds) (v ∷ vs) (w ∷ ws)
+      → WordAlike ps v w → FieldsAlike ps kinds vs ws → FieldsAlike ps (PlainField kind ∷ kinds) (v ∷ vs) (w ∷ ws)
   int_cell : {kinds : List FieldKind} {v w : Word} {vs ws : List Word}
-      → Fields_alike ps kinds vs ws → Fields_alike ps (CellInt ∷ kinds) (v ∷ vs) (w ∷ ws)
+      → FieldsAlike ps kinds vs ws → FieldsAlike ps (CellInt ∷ kinds) (v ∷ vs) (w ∷ ws)
   pointer_cell : {s : ℕ} {kinds : List FieldKind} {v w : Word} {vs ws : List Word}
-      → Fields_alike ps kinds vs ws → Fields_alike ps (CellPtr s ∷ kinds) (v ∷ vs) (w ∷ ws)
+      → FieldsAlike ps kinds vs ws → FieldsAlike ps (CellPtr s ∷ kinds) (v ∷ vs) (w ∷ ws)
 
 -- blocks of one shape, whose plain fields are alike
-pub record Block_alike (structs : List StructInfo) (ps : Pairs) (b c : Block) : Type 0 where
+pub record BlockAlike (structs : List StructInfo) (ps : Pairs) (b c : Block) : Type 0 where
   pub shape : b.shape ≡ c.shape
-  pub fields : Fields_alike ps (kinds_of_shape structs b.shape) b.words c.words
+  pub fields : FieldsAlike ps (kinds_of_shape structs b.shape) b.words c.words
 
-pub data Maybe_alike (structs : List StructInfo) (ps : Pairs) : Option Block → Option Block → Type 0 where
-  none : Maybe_alike structs ps None None
-  some : {b c : Block} → Block_alike structs ps b c → Maybe_alike structs ps (Some b) (Some c)
+-- blocks that are both there, and the same up to the renaming, or both not there
+pub data MaybeAlike (structs : List StructInfo) (ps : Pairs) : Option Block → Option Block → Type 0 where
+  none : MaybeAlike structs ps None None
+  some : {b c : Block} → BlockAlike structs ps b c → MaybeAlike structs ps (Some b) (Some c)
 
-abbrev pub Plain_alike : List StructInfo → Pairs → Plain → Plain → Type 0
-Plain_alike structs ps x y = (b c : BlockId) → Id_alike ps b c → Maybe_alike structs ps (x b) (y c)
+-- plain words that are the same up to the renaming
+abbrev pub PlainAlike : List StructInfo → Pairs → Plain → Plain → Type 0
+PlainAlike structs ps x y = (b c : BlockId) → IdAlike ps b c → MaybeAlike structs ps (x b) (y c)
 
-abbrev pub Store_alike : Pairs → Store → Store → Type 0
-Store_alike ps s t = (p q : Place) → Place_alike ps p q → Word_alike ps (s p) (t q)
+-- contents of modifiables that are the same up to the renaming
+abbrev pub StoreAlike : Pairs → Store → Store → Type 0
+StoreAlike ps s t = (p q : Place) → PlaceAlike ps p q → WordAlike ps (s p) (t q)
 
-pub data Trace_alike (ps : Pairs) : Trace → Trace → Type 0 where
-  nothing : Trace_alike ps Nothing Nothing
-  stepped : {l m : Trace} → Trace_alike ps l m → Trace_alike ps (Stepped l) (Stepped m)
+-- traces that are the same up to the renaming
+pub data TraceAlike (ps : Pairs) : Trace → Trace → Type 0 where
+  nothing : TraceAlike ps Nothing Nothing
+  stepped : {l m : Trace} → TraceAlike ps l m → TraceAlike ps (Stepped l) (Stepped m)
   allocated : {b c : BlockId} {k k' : Key} {l m : Trace}
-      → Id_alike ps b c → Key_alike ps k k' → Trace_alike ps l m → Trace_alike ps (Allocated b k l) (Allocated c k' m)
+      → IdAlike ps b c → KeyAlike ps k k' → TraceAlike ps l m → TraceAlike ps (Allocated b k l) (Allocated c k' m)
   wrote : {p q : Place} {v w : Word} {l m : Trace}
-      → Place_alike ps p q → Word_alike ps v w → Trace_alike ps l m → Trace_alike ps (Wrote p v l) (Wrote q w m)
+      → PlaceAlike ps p q → WordAlike ps v w → TraceAlike ps l m → TraceAlike ps (Wrote p v l) (Wrote q w m)
   was_read : {p q : Place} {v w : Word} {u : UnitId} {x : ℕ} {vs ws : List Word} {i j l m : Trace}
-      → Place_alike ps p q → Word_alike ps v w → Words_alike ps vs ws → Trace_alike ps i j → Trace_alike ps l m
-      → Trace_alike ps (Was_read p v u x vs i l) (Was_read q w u x ws j m)
+      → PlaceAlike ps p q → WordAlike ps v w → WordsAlike ps vs ws → TraceAlike ps i j → TraceAlike ps l m
+      → TraceAlike ps (WasRead p v u x vs i l) (WasRead q w u x ws j m)
 
+-- the second renaming has what the first has
 abbrev pub Within : Pairs → Pairs → Type 0
 Within ps qs = (b c : ℕ) → Tied b c ps → Tied b c qs
 
 -- no number stands in two pairs on one side
-pub record One_to_one (ps : Pairs) : Type 0 where
+pub record OneToOne (ps : Pairs) : Type 0 where
   pub left : (b c d : ℕ) → Tied b c ps → Tied b d ps → c ≡ d
   pub right : (b c d : ℕ) → Tied b d ps → Tied c d ps → b ≡ c
 

@@ -17,6 +17,7 @@ unfoldable pub branches_text : Code → List Cmd → List Branch → List ℕ
 branches_text code body [] = []
 branches_text code body (b ∷ bs) = branches_text code body bs ++ branch_text code body b
 
+-- how many commands there may be on the paths of all branches
 unfoldable pub branch_weights : List Branch → ℕ
 branch_weights [] = 0
 branch_weights (b ∷ bs) = weight b.left + branch_weights bs

@@ -15,6 +15,7 @@ args_fit structs m (Some (CoreFunction name entry params)) args = words_fit stru
 args_fit structs m (Some (InitFunction name s params body)) args = false
 args_fit structs m None args = false
 
+-- the code is valid, and the inputs and the arguments of the call fit it
 pub record Fits (code : Code) (inputs : List Block) (f : ℕ) (args : List Word) : Type 0 where
   pub is_valid : valid code ≡ true
   pub blocks : inputs_fit code.structs inputs ≡ true

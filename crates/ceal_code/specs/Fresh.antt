@@ -21,11 +21,12 @@ ran code again steps m (Writes p value after) = again (written_at m p.block p.fi
 ran code again steps m (Reads p u v args below) =
     again m (entered code u.0 (given code u.0 v args (content_of m (At p) (variable_default code u.0 v))) below)
 
+-- what a run without fuel comes to: nothing, unless it is over
 abbrev pub only_over : ℕ → Blocks → Act → Option Finished
 only_over steps m Over = Some (record { memory = m; steps = steps; blocks = length m.made })
 only_over steps m _ = None
 
--- with at most so many further steps, after so many
+-- with this many further steps at most, after the steps so far
 unfoldable pub run : Code → ℕ → ℕ → Blocks → Stack → Option Finished
 run code zero steps m st = only_over steps m (next code (block_at m) st)
 run code (suc fuel) steps m st = ran code (run code fuel (steps + 1)) steps m (next code (block_at m) st)

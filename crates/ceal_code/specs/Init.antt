@@ -30,6 +30,7 @@ unfoldable mutual
   set_by structs x env s words (If' test _ first _ second) =
       if holds (expr_value structs x env test) then set_by_row structs x env s words first else set_by_row structs x env s words second
 
+  -- the words of a block after the statements of a row
   pub set_by_row : List StructInfo → Plain → Variables → ℕ → List Word → {n : _} → Row_of-InitStmt n → List Word
   set_by_row structs x env s words end_of-InitStmt = words
   set_by_row structs x env s words (more_of-InitStmt stmt rest) = set_by_row structs x env s (set_by structs x env s words stmt) rest
@@ -43,6 +44,7 @@ set_by_all structs x env s words (stmt ∷ rest) = set_by_all structs x env s (s
 unfoldable pub arguments : List Word → Variables
 arguments args = λ v. unwrap_or (slice_get args v) Null
 
+-- the block that an initialiser makes with these arguments
 abbrev pub initialised : List StructInfo → Plain → ℕ → List Word → List InitStmt → Block
 initialised structs x s args body = record {
   shape = Struct s;

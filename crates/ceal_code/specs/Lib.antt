@@ -1,3 +1,4 @@
+-- what the crate promises
 pub mod Program
 pub mod Value
 pub mod Init
@@ -6,9 +7,7 @@ pub mod Fresh
 pub mod Replay
 pub mod Valid
 pub mod OnPath
-pub mod Parts
 pub mod Listing
-pub mod Branches
 pub mod Known
 pub mod Alike
 pub mod Fitting
@@ -20,3 +19,6 @@ pub mod PlainWords
 pub mod Stacks
 pub mod Tables
 pub mod After
+-- what its own functions say of each other
+pub mod Parts
+pub mod Branches

@@ -12,6 +12,7 @@ use Rattle.ceal_base.specs.declared.operators.Unary.TheVariants.{Neg, Not}
 use Rattle.ceal_base.specs.declared.typed.FieldInfo.{FieldInfo}
 use Rattle.ceal_base.specs.declared.typed.StructInfo.{StructInfo}
 use Rattle.ceal_code.specs.Program.{Unit, Code}
+use Rattle.ceal_code.specs.Valid.{followers}
 use Rattle.ceal_code.specs.declared.command.Cmd.{Cmd}
 use Rattle.ceal_code.specs.declared.command.Cmd.TheVariants.{Move, Tick, Alloc, Modref, Write, If, Done, Tail, Read, Call}
 use Rattle.ceal_code.specs.declared.expr.CodeExpr.{CodeExpr, Num, Null, Var, Unary', Binary', Field', Address'}
@@ -26,26 +27,32 @@ abbrev pub name_of_field : Option FieldInfo → List ℕ
 name_of_field None = []
 name_of_field (Some field) = field.name
 
+-- the name of a struct's field, if both are there
 abbrev pub field_name_in : Option StructInfo → ℕ → List ℕ
 field_name_in None field = []
 field_name_in (Some s) field = name_of_field (slice_get s.fields field)
 
+-- the name of a field of the struct with this number
 abbrev pub field_name : List StructInfo → ℕ → ℕ → List ℕ
 field_name structs s field = field_name_in (slice_get structs s) field
 
+-- the name of a struct, if it is there
 abbrev pub name_of_struct : Option StructInfo → List ℕ
 name_of_struct None = []
 name_of_struct (Some s) = s.name
 
+-- the name of a function, if it is there
 abbrev pub name_of_function : Option FunctionCode → List ℕ
 name_of_function None = []
 name_of_function (Some (CoreFunction name entry params)) = name
 name_of_function (Some (InitFunction name s params body)) = name
 
+-- the sign of an operator on one word
 abbrev pub unary_sign : Unary → List ℕ
 unary_sign Neg = codes "-"
 unary_sign Not = codes "!"
 
+-- the sign of an operator on two words, with its spaces
 abbrev pub binary_sign : Binary → List ℕ
 binary_sign Add = codes " + "
 binary_sign Sub = codes " - "
@@ -62,6 +69,7 @@ binary_sign And = codes " && "
 binary_sign Or = codes " || "
 binary_sign (Pick row) = codes "["
 
+-- whether the operator is that of an element of a row
 abbrev pub is_pick : Binary → Bool
 is_pick (Pick row) = true
 is_pick op = false
@@ -70,13 +78,16 @@ is_pick op = false
 abbrev pub without_index : List ℕ → List ℕ
 without_index text = if ends_with ◌==◌ text (codes "[0]") then take (length text - 3) text else text
 
+-- the text of a variable
 abbrev pub var_text : VarId → List ℕ
 var_text v = codes "v" ++ decimal v.0
 
+-- the text of a unit's number
 abbrev pub unit_text : UnitId → List ℕ
 unit_text u = codes "u" ++ decimal u.0
 
 unfoldable mutual
+  -- the text of an expression
   pub expr_text : List StructInfo → CodeExpr → List ℕ
   expr_text structs (Num n) = signed_decimal n
   expr_text structs Null = codes "null"
@@ -88,6 +99,7 @@ unfoldable mutual
   expr_text structs (Field' _ a s field) = operand_text structs a ++ codes "->" ++ field_name structs s field
   expr_text structs (Address' _ a s field) = codes "&" ++ operand_text structs a ++ codes "->" ++ field_name structs s field
 
+  -- the text of an operand
   pub operand_text : List StructInfo → {n : _} → Row_of-CodeExpr n → List ℕ
   operand_text structs end_of-CodeExpr = []
   operand_text structs (more_of-CodeExpr e rest) = expr_text structs e
@@ -97,24 +109,30 @@ unfoldable pub more_exprs : List StructInfo → List CodeExpr → List ℕ
 more_exprs structs [] = []
 more_exprs structs (e ∷ es) = codes ", " ++ expr_text structs e ++ more_exprs structs es
 
+-- the texts of expressions with commas between
 abbrev pub exprs_inside : List StructInfo → List CodeExpr → List ℕ
 exprs_inside structs [] = []
 exprs_inside structs (e ∷ es) = expr_text structs e ++ more_exprs structs es
 
+-- the same in parentheses
 abbrev pub exprs_text : List StructInfo → List CodeExpr → List ℕ
 exprs_text structs es = codes "(" ++ exprs_inside structs es ++ codes ")"
 
+-- the texts of variables with a comma before each
 unfoldable pub more_vars : List VarId → List ℕ
 more_vars [] = []
 more_vars (v ∷ vs) = codes ", " ++ var_text v ++ more_vars vs
 
+-- the texts of variables with commas between
 abbrev pub vars_inside : List VarId → List ℕ
 vars_inside [] = []
 vars_inside (v ∷ vs) = var_text v ++ more_vars vs
 
+-- the same in parentheses
 abbrev pub vars_text : List VarId → List ℕ
 vars_text vs = codes "(" ++ vars_inside vs ++ codes ")"
 
+-- the text of what an allocation makes
 abbrev pub shape_text : List StructInfo → Shape → List ℕ
 shape_text structs ModInt = codes "int"
 shape_text structs (ModPtr s) = name_of_struct (slice_get structs s)
@@ -142,31 +160,31 @@ unfoldable pub indent : ℕ → List ℕ
 indent zero = []
 indent (suc n) = codes "  " ++ indent n
 
+-- a line at a depth
 abbrev pub line : ℕ → List ℕ → List ℕ
 line depth text = indent depth ++ text ++ codes "\n"
 
+-- what stands at these indices: at two of them, the parts of an `if`
+abbrev pub at_each : (ℕ → ℕ → List ℕ) → List ℕ → ℕ → List ℕ
+at_each on [] depth = []
+at_each on (i ∷ []) depth = on i depth
+at_each on (i ∷ j ∷ rest) depth = on i (depth + 1) ++ line depth (codes "else") ++ on j (depth + 1)
+
 -- what follows a command
 abbrev pub follows : (ℕ → ℕ → List ℕ) → Cmd → ℕ → ℕ → List ℕ
-follows on (Move v e) i depth = on (i + 1) depth
-follows on Tick i depth = on (i + 1) depth
-follows on (Alloc v f args) i depth = on (i + 1) depth
-follows on (Modref v shape) i depth = on (i + 1) depth
-follows on (Write p e) i depth = on (i + 1) depth
-follows on (If test first second) i depth = on first (depth + 1) ++ line depth (codes "else") ++ on second (depth + 1)
-follows on Done i depth = []
-follows on (Tail w args) i depth = []
-follows on (Read v p w args) i depth = []
-follows on (Call f args w rest) i depth = []
+follows on c i depth = at_each on (followers c i) depth
 
+-- the lines of a command, if it is there, and of what follows it
 abbrev pub commands_at : Code → (ℕ → ℕ → List ℕ) → Option Cmd → ℕ → ℕ → List ℕ
 commands_at code on None i depth = []
 commands_at code on (Some c) i depth = line depth (command_text code c) ++ follows on c i depth
 
--- the lines of the commands on the paths from an index on, of at most so many commands
+-- the lines of the commands on the paths from an index on, of at most `n` commands
 unfoldable pub commands : Code → List Cmd → ℕ → ℕ → ℕ → List ℕ
 commands code body zero i depth = []
 commands code body (suc fuel) i depth = commands_at code (commands code body fuel) (slice_get body i) i depth
 
+-- the lines of a unit
 abbrev pub unit_lines : Code → ℕ → Unit → List ℕ
 unit_lines code n unit =
     codes "u" ++ decimal n ++ vars_text unit.params ++ codes "\n" ++ commands code unit.body (length unit.body) 0 1
@@ -176,6 +194,7 @@ abbrev pub added_to : List (List ℕ) → Option (List ℕ) → ℕ → ℕ → 
 added_to groups None f n = groups
 added_to groups (Some group) f n = slice_set groups f (group ++ n ∷ [])
 
+-- the groups of units with unit n added to that of function f
 abbrev pub added : List (List ℕ) → ℕ → ℕ → List (List ℕ)
 added groups f n = added_to groups (slice_get groups f) f n
 
@@ -184,6 +203,7 @@ unfoldable pub grouped : List (List ℕ) → ℕ → List Unit → List (List �
 grouped groups n [] = groups
 grouped groups n (unit ∷ units) = grouped (added groups unit.function n) (n + 1) units
 
+-- the lines of a unit, if it is there
 abbrev pub unit_text_at : Code → ℕ → Option Unit → List ℕ
 unit_text_at code n None = []
 unit_text_at code n (Some unit) = unit_lines code n unit
@@ -207,14 +227,17 @@ unfoldable mutual
   else_row structs s depth (more_of-InitStmt stmt rest) =
       line depth (codes "else") ++ (stmt_text structs s (depth + 1) stmt ++ row_text structs s (depth + 1) rest)
 
+  -- the lines of the statements of a row
   pub row_text : List StructInfo → ℕ → ℕ → {n : _} → Row_of-InitStmt n → List ℕ
   row_text structs s depth end_of-InitStmt = []
   row_text structs s depth (more_of-InitStmt stmt rest) = stmt_text structs s depth stmt ++ row_text structs s depth rest
 
+-- the lines of the statements of a list
 unfoldable pub stmts_text : List StructInfo → ℕ → ℕ → List InitStmt → List ℕ
 stmts_text structs s depth [] = []
 stmts_text structs s depth (stmt ∷ rest) = stmt_text structs s depth stmt ++ stmts_text structs s depth rest
 
+-- the lines of an `else` part; none where it is empty
 abbrev pub else_text : List StructInfo → ℕ → ℕ → List InitStmt → List ℕ
 else_text structs s depth [] = []
 else_text structs s depth (stmt ∷ rest) = line depth (codes "else") ++ stmts_text structs s (depth + 1) (stmt ∷ rest)
@@ -226,6 +249,7 @@ function_text code (CoreFunction name entry params) units =
 function_text code (InitFunction name s params body) units =
     codes "init " ++ name ++ codes "\n" ++ stmts_text code.structs s 1 body
 
+-- the lines of functions, each with its units
 unfoldable pub functions_text : Code → List FunctionCode → List (List ℕ) → List ℕ
 functions_text code (function ∷ functions) (units ∷ groups) = function_text code function units ++ functions_text code functions groups
 functions_text code [] groups = []

@@ -4,7 +4,7 @@ use Rattle.std.specs.Option.{option_map}
 use Rattle.ceal_base.specs.Block.{Block}
 use Rattle.ceal_base.specs.Operators.{same_block, same_place}
 use Rattle.ceal_base.specs.Shapes.{default_of_field, kinds_of_shape}
-use Rattle.ceal_base.specs.Trace.{Trace, Nothing, Stepped, Allocated, Wrote, Was_read, blocks_of}
+use Rattle.ceal_base.specs.Trace.{Trace, Nothing, Stepped, Allocated, Wrote, WasRead, blocks_of}
 use Rattle.ceal_base.specs.declared.forest.Key.{Key}
 use Rattle.ceal_base.specs.declared.forest.Key.TheVariants.{Init, ModInt as IntKey, ModPtr as PtrKey}
 use Rattle.ceal_base.specs.declared.forest.UnitId.{UnitId}
@@ -42,7 +42,7 @@ pub data Yields (code : Code) (x : Plain) : Stack → Trace → Type 0 where
       → next code x st ≡ Reads p u v args below
       → Yields code x (entered code u.0 (given code u.0 v args value) Empty) inside
       → Yields code x below rest
-      → Yields code x st (Stepped (Was_read p value u v args inside rest))
+      → Yields code x st (Stepped (WasRead p value u v args inside rest))
 
 -- with these words of one more block
 unfoldable pub learnt : Plain → BlockId → Block → Plain
@@ -55,9 +55,11 @@ plain_words (kind ∷ kinds) [] = []
 plain_words (kind ∷ kinds) (word ∷ words) =
     (if is_cell (Some kind) then default_of_field kind else word) ∷ plain_words kinds words
 
+-- a block with its plain words alone
 abbrev pub plain_block : List StructInfo → Block → Block
 plain_block structs block = record block { words = plain_words (kinds_of_shape structs block.shape) block.words }
 
+-- the plain words of the inputs; no core block is there yet
 unfoldable pub input_plain : Code → List Block → Plain
 input_plain code inputs (Input i) = option_map (plain_block code.structs) (slice_get inputs i)
 input_plain code inputs (Core c) = None
@@ -68,7 +70,7 @@ plain_after code x Nothing = x
 plain_after code x (Stepped rest) = plain_after code x rest
 plain_after code x (Allocated b key rest) = plain_after code (learnt x b (made code x key)) rest
 plain_after code x (Wrote p value rest) = plain_after code x rest
-plain_after code x (Was_read p value u v args inside rest) = plain_after code (plain_after code x inside) rest
+plain_after code x (WasRead p value u v args inside rest) = plain_after code (plain_after code x inside) rest
 
 -- the plain words of a trace on these inputs
 unfoldable pub plain_of : Code → List Block → Trace → Plain
@@ -89,6 +91,7 @@ content_in structs (Some block) field =
     if is_cell (field_kind structs block.shape field)
     then unwrap_or (slice_get block.words field) (field_default (field_kind structs block.shape field)) else Num (pos 0)
 
+-- the input block with this name
 abbrev pub input_block : List Block → BlockId → Option Block
 input_block inputs (Input i) = slice_get inputs i
 input_block inputs (Core c) = None
@@ -97,6 +100,7 @@ input_block inputs (Core c) = None
 unfoldable pub bases : Code → List Block → Store
 bases code inputs = λ p. content_in code.structs (input_block inputs p.block) p.field
 
+-- what an initialiser makes
 abbrev pub shape_in : Option FunctionCode → Shape
 shape_in (Some (InitFunction name s params body)) = Struct s
 shape_in (Some (CoreFunction name entry params)) = ModInt
@@ -125,33 +129,35 @@ pub data Honest (code : Code) : Store → Trace → Store → Type 0 where
   write : {s s' : Store} {p : Place} {value : Word} {rest : Trace}
       → Honest code (stored s p value) rest s' → Honest code s (Wrote p value rest) s'
   read : {s t s' : Store} {p : Place} {value : Word} {u : UnitId} {v : ℕ} {args : List Word} {inside rest : Trace}
-      → s p ≡ value → Honest code s inside t → Honest code t rest s' → Honest code s (Was_read p value u v args inside rest) s'
+      → s p ≡ value → Honest code s inside t → Honest code t rest s' → Honest code s (WasRead p value u v args inside rest) s'
 
 -- a number is among these
 pub data In (b : ℕ) : List ℕ → Type 0 where
   here : {bs : List ℕ} → In b (b ∷ bs)
   there : {c : ℕ} {bs : List ℕ} → In b bs → In b (c ∷ bs)
 
--- the block is one of so many inputs, or among the core blocks
-abbrev pub Known_block : ℕ → List ℕ → BlockId → Type 0
-Known_block inputs bs (Input i) = i < inputs
-Known_block inputs bs (Core b) = In b bs
+-- the block is one of the inputs, or among the core blocks
+abbrev pub KnownBlock : ℕ → List ℕ → BlockId → Type 0
+KnownBlock inputs bs (Input i) = i < inputs
+KnownBlock inputs bs (Core b) = In b bs
 
 -- each block that the word names is known
-abbrev pub Known_word : ℕ → List ℕ → Word → Type 0
-Known_word inputs bs (Num n) = ⊤
-Known_word inputs bs Null = ⊤
-Known_word inputs bs (BlockWord b) = Known_block inputs bs b
-Known_word inputs bs (At p) = Known_block inputs bs p.block
+abbrev pub KnownWord : ℕ → List ℕ → Word → Type 0
+KnownWord inputs bs (Num n) = ⊤
+KnownWord inputs bs Null = ⊤
+KnownWord inputs bs (BlockWord b) = KnownBlock inputs bs b
+KnownWord inputs bs (At p) = KnownBlock inputs bs p.block
 
-abbrev pub Known_words : ℕ → List ℕ → List Word → Type 0
-Known_words inputs bs [] = ⊤
-Known_words inputs bs (word ∷ words) = Known_word inputs bs word × Known_words inputs bs words
+-- each block that the words name is known
+abbrev pub KnownWords : ℕ → List ℕ → List Word → Type 0
+KnownWords inputs bs [] = ⊤
+KnownWords inputs bs (word ∷ words) = KnownWord inputs bs word × KnownWords inputs bs words
 
-abbrev pub Known_key : ℕ → List ℕ → Key → Type 0
-Known_key inputs bs (Init f args) = Known_words inputs bs args
-Known_key inputs bs IntKey = ⊤
-Known_key inputs bs (PtrKey s) = ⊤
+-- each block that the key names is known
+abbrev pub KnownKey : ℕ → List ℕ → Key → Type 0
+KnownKey inputs bs (Init f args) = KnownWords inputs bs args
+KnownKey inputs bs IntKey = ⊤
+KnownKey inputs bs (PtrKey s) = ⊤
 
 -- Every item mentions inputs, core blocks of the first list, and core blocks that an item before it allocates;
 -- with these the first list becomes the second.
@@ -159,18 +165,20 @@ pub data Mentions (inputs : ℕ) : List ℕ → Trace → List ℕ → Type 0 wh
   end : {bs : List ℕ} → Mentions inputs bs Nothing bs
   step : {bs cs : List ℕ} {rest : Trace} → Mentions inputs bs rest cs → Mentions inputs bs (Stepped rest) cs
   alloc : {bs cs : List ℕ} {b : ℕ} {key : Key} {rest : Trace}
-      → Known_key inputs bs key → Mentions inputs (b ∷ bs) rest cs → Mentions inputs bs (Allocated (Core b) key rest) cs
+      → KnownKey inputs bs key → Mentions inputs (b ∷ bs) rest cs → Mentions inputs bs (Allocated (Core b) key rest) cs
   write : {bs cs : List ℕ} {p : Place} {value : Word} {rest : Trace}
-      → Known_block inputs bs p.block → Known_word inputs bs value → Mentions inputs bs rest cs → Mentions inputs bs (Wrote p value rest) cs
+      → KnownBlock inputs bs p.block → KnownWord inputs bs value → Mentions inputs bs rest cs → Mentions inputs bs (Wrote p value rest) cs
   read : {bs ds cs : List ℕ} {p : Place} {value : Word} {u : UnitId} {v : ℕ} {args : List Word} {inside rest : Trace}
-      → Known_block inputs bs p.block → Known_word inputs bs value → Known_words inputs bs args
+      → KnownBlock inputs bs p.block → KnownWord inputs bs value → KnownWords inputs bs args
       → Mentions inputs bs inside ds → Mentions inputs ds rest cs
-      → Mentions inputs bs (Was_read p value u v args inside rest) cs
+      → Mentions inputs bs (WasRead p value u v args inside rest) cs
 
+-- how many times the block is in the list
 abbrev pub count : ℕ → List ℕ → ℕ
 count b [] = 0
 count b (c ∷ cs) = (if c == b then 1 else 0) + count b cs
 
+-- no block is in the list twice
 abbrev pub Distinct : List ℕ → Type 0
 Distinct bs = (b : ℕ) → count b bs ≤ 1
 
@@ -199,6 +207,7 @@ with_contents s b n (kind ∷ kinds) [] = []
 with_contents s b n (kind ∷ kinds) (word ∷ words) =
     (if is_cell (Some kind) then s (record { block = b; field = n }) else word) ∷ with_contents s b (n + 1) kinds words
 
+-- a block with the contents of its modifiables
 abbrev pub filled : Code → Store → BlockId → Block → Block
 filled code s b block = record block { words = with_contents s b 0 (kinds_of_shape code.structs block.shape) block.words }
 

@@ -27,6 +27,7 @@ unit_at code u = unwrap_or (slice_get code.units u) (record { function = 0; para
 abbrev pub command_at : Code → ℕ → ℕ → Cmd
 command_at code u i = unwrap_or (slice_get (unit_at code u).body i) Done
 
+-- the unit at which a function is entered; no unit, where it is no core function
 abbrev pub entry_in : Code → Option FunctionCode → ℕ
 entry_in code (Some (CoreFunction name entry params)) = entry.0
 entry_in code (Some (InitFunction name s params body)) = length code.units
@@ -36,9 +37,11 @@ entry_in code None = length code.units
 abbrev pub entry_of : Code → ℕ → ℕ
 entry_of code f = entry_in code (slice_get code.functions f)
 
+-- the kinds of the variables of a function
 abbrev pub kinds_of : Code → ℕ → List Kind
 kinds_of code f = unwrap_or (slice_get code.kinds f) []
 
+-- the default of a kind; null, where it is not there
 abbrev pub kind_default : Option Kind → Word
 kind_default (Some kind) = default_of_kind kind
 kind_default None = Null
@@ -71,10 +74,12 @@ chosen (p ∷ ps) args = unwrap_or (slice_get args p.0) Null ∷ chosen ps args
 abbrev pub started : Code → ℕ → List Word → Stack
 started code f args = entered code (entry_of code f) (chosen (unit_at code (entry_of code f)).params args) Empty
 
+-- the first of the words; null, where there is none
 abbrev pub first_word : List Word → Word
 first_word [] = Null
 first_word (word ∷ words) = word
 
+-- the words after the first
 abbrev pub later_words : List Word → List Word
 later_words [] = []
 later_words (word ∷ words) = words
@@ -114,10 +119,12 @@ place_of (Num n) = None
 place_of Null = None
 place_of (BlockWord b) = None
 
+-- a write at a place; where there is none, a step that changes nothing
 abbrev pub writes_at : Option Place → Word → Stack → Act
 writes_at None value after = Quiet after
 writes_at (Some p) value after = Writes p value after
 
+-- a read at a place; where there is none, its unit goes on with the default
 abbrev pub reads_at : Code → Option Place → UnitId → ℕ → List Word → Stack → Act
 reads_at code None u v args below = Quiet (entered code u.0 (given code u.0 v args (variable_default code u.0 v)) below)
 reads_at code (Some p) u v args below = Reads p u v args below
@@ -157,6 +164,7 @@ unfoldable pub settled : Code → Plain → Stack → Stack
 settled code x Empty = Empty
 settled code x (Run u i env below) = settled_at code x (command_at code u i) u i env below (settled code x below)
 
+-- the next step of a stack
 abbrev pub acted : Code → Plain → Stack → Act
 acted code x Empty = Over
 acted code x (Run u i env below) = act code x (command_at code u i) u i env below

@@ -17,6 +17,8 @@ use Rattle.ceal_code.specs.Program.{Unit, Code}
 use Rattle.ceal_code.specs.Step.{kinds_of}
 use Rattle.ceal_code.specs.Value.{field_kind, is_cell}
 use Rattle.ceal_code.specs.declared.command.Cmd.{Cmd}
+use Rattle.ceal_code.specs.declared.command.Followers.{Followers}
+use Rattle.ceal_code.specs.declared.command.Followers.TheVariants.{Nowhere, One, Two}
 use Rattle.ceal_code.specs.declared.command.Cmd.TheVariants.{Move, Tick, Alloc, Modref, Write, If, Done, Tail, Read, Call}
 use Rattle.ceal_code.specs.declared.expr.CodeExpr.{CodeExpr, Num, Null, Var, Unary', Binary', Field', Address'}
 use Rattle.ceal_code.specs.declared.expr.CodeExpr.{Row_of-CodeExpr, end_of-CodeExpr, more_of-CodeExpr}
@@ -32,6 +34,7 @@ use Rattle.ceal_code.specs.declared.typing.ExprType.TheVariants.{Of, AnyPointer,
 abbrev pub Typing : Type 0
 Typing = Option ExprType
 
+-- whether the kind has null
 abbrev pub is_pointer : Kind → Bool
 is_pointer Int = false
 is_pointer (Ptr s) = true
@@ -52,6 +55,7 @@ is_content (Ptr s) = true
 is_content ModInt = false
 is_content (ModPtr s) = false
 
+-- whether two kinds are one
 abbrev pub same_kind : Kind → Kind → Bool
 same_kind Int Int = true
 same_kind (Ptr s) (Ptr t) = s == t
@@ -66,6 +70,7 @@ fits kind (Some AnyPointer) = is_pointer kind
 fits kind (Some AnyPlace) = is_place kind
 fits kind (Some (Of other)) = same_kind kind other
 
+-- whether a type fits a kind that is there
 abbrev pub fits_maybe : Option Kind → Typing → Bool
 fits_maybe None t = false
 fits_maybe (Some kind) t = fits kind t
@@ -81,6 +86,7 @@ one_type (Some AnyPlace) (Some (Of kind)) = is_place kind
 one_type (Some AnyPlace) (Some t) = true
 one_type (Some (Of kind)) t = fits kind t
 
+-- the type of a number, if the condition holds
 abbrev pub int_if : Bool → Typing
 int_if true = Some (Of Int)
 int_if false = None
@@ -92,17 +98,19 @@ element_type (Some AnyPointer) = Some AnyPlace
 element_type (Some AnyPlace) = Some AnyPlace
 element_type (Some (Of kind)) = Some (Of kind)
 
+-- the type of an operator on two words, by theirs
 abbrev pub binary_type : Binary → Typing → Typing → Typing
 binary_type Same s t = int_if (one_type s t)
 binary_type Differ s t = int_if (one_type s t)
 binary_type (Pick row) s t = if fits Int t then element_type s else None
 binary_type op s t = int_if (fits Int s && fits Int t)
 
+-- whether a row of this length begins here
 abbrev pub is_row_of : ℕ → Option ℕ → Bool
 is_row_of row None = false
 is_row_of row (Some n) = nat_lt 0 row && (n == row)
 
--- null, or the address of the first one of so many fields that make one row
+-- null, or the address of the first one of a row of this length
 abbrev pub starts_row : List StructInfo → ℕ → CodeExpr → Bool
 starts_row structs row Null = true
 starts_row structs row (Address' _ a s field) = is_row_of row (row_at structs s field)
@@ -113,6 +121,7 @@ abbrev pub left_suits : List StructInfo → Binary → CodeExpr → Bool
 left_suits structs (Pick row) a = starts_row structs row a
 left_suits structs op a = true
 
+-- whether the first operand suits the operator
 abbrev pub operand_suits : List StructInfo → Binary → {n : _} → Row_of-CodeExpr n → Bool
 operand_suits structs op end_of-CodeExpr = false
 operand_suits structs op (more_of-CodeExpr e rest) = left_suits structs op e
@@ -266,13 +275,13 @@ abbrev pub path_ok : Code → ℕ → (ℕ → List Bool → Bool → Bool) → 
 path_ok code f on None i known stepped = false
 path_ok code f on (Some c) i known stepped = command_ok code f known stepped c && onward on c i known
 
--- each path of a body from an index on, of at most so many commands; in a body that goes forward no path is longer
+-- each path of a body from an index on, of at most `n` commands; in a body that goes forward no path is longer
 -- than the body
 unfoldable pub paths_ok : Code → ℕ → List Cmd → ℕ → ℕ → List Bool → Bool → Bool
 paths_ok code f body zero i known stepped = false
 paths_ok code f body (suc fuel) i known stepped = path_ok code f (paths_ok code f body fuel) (slice_get body i) i known stepped
 
--- where an `If` goes on is behind it
+-- where an `If` goes on is after it
 abbrev pub goes_forward : Cmd → ℕ → Bool
 goes_forward (Move v e) i = true
 goes_forward Tick i = true
@@ -302,6 +311,12 @@ followers Done i = []
 followers (Tail w args) i = []
 followers (Read v p w args) i = []
 followers (Call g args w rest) i = []
+
+-- the same as a list
+abbrev pub indices_in : Followers → List ℕ
+indices_in Nowhere = []
+indices_in (One i) = i ∷ []
+indices_in (Two i j) = i ∷ j ∷ []
 
 unfoldable pub all_followers : List Cmd → ℕ → List ℕ
 all_followers [] i = []
@@ -401,13 +416,13 @@ same_field CellInt CellInt = true
 same_field (CellPtr s) (CellPtr t) = s == t
 same_field _ _ = false
 
--- so many fields come that are of this kind, and at which no row begins
+-- the next fields, this many, are of this kind, and no row begins at one of them
 unfoldable pub row_goes_on : ℕ → FieldKind → List FieldInfo → Bool
 row_goes_on zero kind rest = true
 row_goes_on (suc n) kind [] = false
 row_goes_on (suc n) kind (f ∷ rest) = (same_field kind f.kind && (f.row == 0)) && row_goes_on n kind rest
 
--- behind the first modifiable of a row come the others
+-- after the first modifiable of a row come the others
 abbrev pub row_whole : ℕ → FieldKind → List FieldInfo → Bool
 row_whole zero kind rest = true
 row_whole (suc n) kind rest = is_cell (Some kind) && row_goes_on n kind rest

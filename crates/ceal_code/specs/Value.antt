@@ -41,6 +41,7 @@ is_cell (Some (PlainField kind)) = false
 is_cell (Some CellInt) = true
 is_cell (Some (CellPtr s)) = true
 
+-- the default of a field; null, where it is not there
 abbrev pub field_default : Option FieldKind → Word
 field_default None = Null
 field_default (Some kind) = default_of_field kind
@@ -59,6 +60,7 @@ pointed x s (Num n) = None
 pointed x s Null = None
 pointed x s (At p) = None
 
+-- the plain word at a field of a block; its default, where the block is not there
 abbrev pub field_in : Option FieldKind → Option Block → ℕ → Word
 field_in kind None field = field_default kind
 field_in kind (Some block) field = plain_word kind block.words field
@@ -83,6 +85,7 @@ unfoldable mutual
   expr_value structs x env (Field' _ a s field) = field_value structs x (operand_value structs x env a) s field
   expr_value structs x env (Address' _ a s field) = address_value structs x (operand_value structs x env a) s field
 
+  -- the value of an operand
   pub operand_value : List StructInfo → Plain → Variables → {n : _} → Row_of-CodeExpr n → Word
   operand_value structs x env end_of-CodeExpr = Null
   operand_value structs x env (more_of-CodeExpr e rest) = expr_value structs x env e

@@ -6,29 +6,28 @@ ghost use Rattle.ceal_code.specs.Listing.{command_text, line, follows, commands_
 ghost use Rattle.ceal_code.specs.Parts.{weight};
 
 use crate::code::Code;
-use crate::command::Cmd;
-use crate::text::{
-    put_expr, put_exprs, put_function, put_indent, put_shape, put_str, put_unit, put_var,
-};
+use crate::command::{Cmd, Followers};
+use crate::text::{put_expr, put_exprs, put_function, put_indent, put_shape, put_unit, put_var};
 use ceal_base::no_memory::NoMemory;
+use ceal_base::text::Text;
 use std::alloc::Global;
 
 /// Adds a command's line, without what stands before it and its end.
 #[tactic(auto, using(crate::proofs::TextSteps::joins), unfolding(crate::specs::Listing::command_text))]
-fn put_command(alloc: Global, out: &mut Vec<u8>, code: &Code, command: &Cmd) -> Result<(), NoMemory>
+fn put_command(alloc: Global, out: &mut Text, code: &Code, command: &Cmd) -> Result<(), NoMemory>
     ensures { IfOk result
-        (λ _. out.new.items ≡ out.old.items ++ command_text code.now command.now) }
+        (λ _. out.new ≡ out.old ++ command_text code.now command.now) }
 {
     let structs = code.structs.items();
     match command {
         Cmd::Move { var, value } => {
-            put_var(alloc, out, *var)?;
-            put_str(out, " = ")?;
+            put_var(out, *var)?;
+            out.append_str(" = ")?;
             put_expr(alloc, out, structs, value)?;
             Ok(())
         }
         Cmd::Tick => {
-            put_str(out, "tick")?;
+            out.append_str("tick")?;
             Ok(())
         }
         Cmd::Alloc {
@@ -36,38 +35,38 @@ fn put_command(alloc: Global, out: &mut Vec<u8>, code: &Code, command: &Cmd) -> 
             function,
             args,
         } => {
-            put_var(alloc, out, *var)?;
-            put_str(out, " = alloc ")?;
+            put_var(out, *var)?;
+            out.append_str(" = alloc ")?;
             put_function(out, code, *function)?;
             put_exprs(alloc, out, structs, args.items())?;
             Ok(())
         }
         Cmd::Modref { var, shape } => {
-            put_var(alloc, out, *var)?;
-            put_str(out, " = modref ")?;
+            put_var(out, *var)?;
+            out.append_str(" = modref ")?;
             put_shape(out, structs, *shape)?;
             Ok(())
         }
         Cmd::Write { place, value } => {
-            put_str(out, "write(")?;
+            out.append_str("write(")?;
             put_expr(alloc, out, structs, place)?;
-            put_str(out, ", ")?;
+            out.append_str(", ")?;
             put_expr(alloc, out, structs, value)?;
-            put_str(out, ")")?;
+            out.append_str(")")?;
             Ok(())
         }
         Cmd::If { test, .. } => {
-            put_str(out, "if ")?;
+            out.append_str("if ")?;
             put_expr(alloc, out, structs, test)?;
             Ok(())
         }
         Cmd::Done => {
-            put_str(out, "done")?;
+            out.append_str("done")?;
             Ok(())
         }
         Cmd::Tail { unit, args } => {
-            put_str(out, "tail ")?;
-            put_unit(alloc, out, *unit)?;
+            out.append_str("tail ")?;
+            put_unit(out, *unit)?;
             put_exprs(alloc, out, structs, args.items())?;
             Ok(())
         }
@@ -77,11 +76,11 @@ fn put_command(alloc: Global, out: &mut Vec<u8>, code: &Code, command: &Cmd) -> 
             unit,
             args,
         } => {
-            put_var(alloc, out, *var)?;
-            put_str(out, " = read(")?;
+            put_var(out, *var)?;
+            out.append_str(" = read(")?;
             put_expr(alloc, out, structs, place)?;
-            put_str(out, ") ")?;
-            put_unit(alloc, out, *unit)?;
+            out.append_str(") ")?;
+            put_unit(out, *unit)?;
             put_exprs(alloc, out, structs, args.items())?;
             Ok(())
         }
@@ -91,11 +90,11 @@ fn put_command(alloc: Global, out: &mut Vec<u8>, code: &Code, command: &Cmd) -> 
             unit,
             rest,
         } => {
-            put_str(out, "call ")?;
+            out.append_str("call ")?;
             put_function(out, code, *function)?;
             put_exprs(alloc, out, structs, args.items())?;
-            put_str(out, " ")?;
-            put_unit(alloc, out, *unit)?;
+            out.append_str(" ")?;
+            put_unit(out, *unit)?;
             put_exprs(alloc, out, structs, rest.items())?;
             Ok(())
         }
@@ -106,28 +105,28 @@ fn put_command(alloc: Global, out: &mut Vec<u8>, code: &Code, command: &Cmd) -> 
 #[tactic(auto, using(crate::proofs::TextSteps::joins))]
 fn put_line(
     alloc: Global,
-    out: &mut Vec<u8>,
+    out: &mut Text,
     code: &Code,
     depth: usize,
     command: &Cmd,
 ) -> Result<(), NoMemory>
     ensures { IfOk result
-        (λ _. out.new.items ≡ out.old.items ++ line depth (command_text code.now command.now)) }
+        (λ _. out.new ≡ out.old ++ line depth (command_text code.now command.now)) }
 {
     put_indent(out, depth)?;
     put_command(alloc, out, code, command)?;
-    put_str(out, "\n")?;
+    out.append_str("\n")?;
     Ok(())
 }
 
 /// Adds a line `else`.
 #[tactic(auto, using(crate::proofs::TextSteps::joins))]
-pub fn put_else(out: &mut Vec<u8>, depth: usize) -> Result<(), NoMemory>
-    ensures { IfOk result (λ _. out.new.items ≡ out.old.items ++ line depth (codes "else")) }
+pub fn put_else(out: &mut Text, depth: usize) -> Result<(), NoMemory>
+    ensures { IfOk result (λ _. out.new ≡ out.old ++ line depth (codes "else")) }
 {
     put_indent(out, depth)?;
-    put_str(out, "else")?;
-    put_str(out, "\n")?;
+    out.append_str("else")?;
+    out.append_str("\n")?;
     Ok(())
 }
 
@@ -159,7 +158,8 @@ fn put_branch(
     branch: Branch,
 ) -> Result<(), NoMemory>
     ensures text { IfOk result (λ _. branches_text code.now body.now branches.new.items
-        ≡ branch_text code.now body.now branch ++ branches_text code.now body.now branches.old.items) }
+        ≡ branch_text code.now body.now branch
+        ++ branches_text code.now body.now branches.old.items) }
     ensures heavier { IfOk result
         (λ _. branch_weights branches.new.items
         ≡ weight branch.left + branch_weights branches.old.items) }
@@ -178,7 +178,8 @@ fn put_next(
     left: usize,
 ) -> Result<(), NoMemory>
     ensures text { IfOk result (λ _. branches_text code.now body.now branches.new.items
-        ≡ commands code.now body.now left index depth ++ branches_text code.now body.now branches.old.items) }
+        ≡ commands code.now body.now left index depth
+        ++ branches_text code.now body.now branches.old.items) }
     ensures heavier { IfOk result
         (λ _. branch_weights branches.new.items ≡ weight left + branch_weights branches.old.items) }
 {
@@ -238,37 +239,18 @@ fn put_following(
         ≤ branch_weights branches.old.items + weight left) }
 {
     let left = left - 1;
-    match command {
-        Cmd::Move { .. } => {
-            put_next(code, body, branches, index + 1, depth, left)?;
+    match command.followers(index) {
+        Followers::Nowhere => Ok(()),
+        Followers::One(next) => {
+            put_next(code, body, branches, next, depth, left)?;
             Ok(())
         }
-        Cmd::Tick => {
-            put_next(code, body, branches, index + 1, depth, left)?;
-            Ok(())
-        }
-        Cmd::Alloc { .. } => {
-            put_next(code, body, branches, index + 1, depth, left)?;
-            Ok(())
-        }
-        Cmd::Modref { .. } => {
-            put_next(code, body, branches, index + 1, depth, left)?;
-            Ok(())
-        }
-        Cmd::Write { .. } => {
-            put_next(code, body, branches, index + 1, depth, left)?;
-            Ok(())
-        }
-        Cmd::If { yes, no, .. } => {
+        Followers::Two(yes, no) => {
             let inside = deeper(depth)?;
-            put_no(code, body, branches, *no as usize, depth, left)?;
-            put_next(code, body, branches, *yes as usize, inside, left)?;
+            put_no(code, body, branches, no, depth, left)?;
+            put_next(code, body, branches, yes, inside, left)?;
             Ok(())
         }
-        Cmd::Done => Ok(()),
-        Cmd::Tail { .. } => Ok(()),
-        Cmd::Read { .. } => Ok(()),
-        Cmd::Call { .. } => Ok(()),
     }
 }
 
@@ -276,7 +258,7 @@ fn put_following(
 #[tactic(auto, using(crate::proofs::BranchSteps::at_steps))]
 fn write_command(
     alloc: Global,
-    out: &mut Vec<u8>,
+    out: &mut Text,
     code: &Code,
     body: &[Cmd],
     branches: &mut Vec<Branch>,
@@ -287,8 +269,8 @@ fn write_command(
 ) -> Result<(), NoMemory>
     requires some { 0 < left }
     requires there { index < length body.now }
-    ensures text { IfOk result (λ _. out.new.items ++ branches_text code.now body.now branches.new.items
-        ≡ out.old.items ++ ((line depth (command_text code.now command.now)
+    ensures text { IfOk result (λ _. out.new ++ branches_text code.now body.now branches.new.items
+        ≡ out.old ++ ((line depth (command_text code.now command.now)
         ++ follows (commands code.now body.now (left - 1)) command.now index depth)
         ++ branches_text code.now body.now branches.old.items)) }
     ensures lighter { IfOk result
@@ -304,7 +286,7 @@ fn write_command(
 #[tactic(auto, using(crate::proofs::PathSteps::weight_steps))]
 fn write_at(
     alloc: Global,
-    out: &mut Vec<u8>,
+    out: &mut Text,
     code: &Code,
     body: &[Cmd],
     branches: &mut Vec<Branch>,
@@ -313,8 +295,9 @@ fn write_at(
     left: usize,
 ) -> Result<(), NoMemory>
     requires some { 0 < left }
-    ensures text { IfOk result (λ _. out.new.items ++ branches_text code.now body.now branches.new.items
-        ≡ out.old.items ++ (commands_at code.now (commands code.now body.now (left - 1)) (slice_get body.now index) index depth
+    ensures text { IfOk result (λ _. out.new ++ branches_text code.now body.now branches.new.items
+        ≡ out.old ++ (commands_at code.now (commands code.now body.now (left - 1))
+        (slice_get body.now index) index depth
         ++ branches_text code.now body.now branches.old.items)) }
     ensures lighter { IfOk result
         (λ _. branch_weights branches.new.items + 1
@@ -334,7 +317,7 @@ fn write_at(
 #[tactic(auto, using(crate::proofs::BranchSteps::command_steps))]
 fn write_commands(
     alloc: Global,
-    out: &mut Vec<u8>,
+    out: &mut Text,
     code: &Code,
     body: &[Cmd],
     branches: &mut Vec<Branch>,
@@ -342,8 +325,9 @@ fn write_commands(
     depth: usize,
     left: usize,
 ) -> Result<(), NoMemory>
-    ensures text { IfOk result (λ _. out.new.items ++ branches_text code.now body.now branches.new.items
-        ≡ out.old.items ++ (commands code.now body.now left index depth ++ branches_text code.now body.now branches.old.items)) }
+    ensures text { IfOk result (λ _. out.new ++ branches_text code.now body.now branches.new.items
+        ≡ out.old ++ (commands code.now body.now left index depth
+        ++ branches_text code.now body.now branches.old.items)) }
     ensures lighter { IfOk result
         (λ _. branch_weights branches.new.items + 1
         ≤ branch_weights branches.old.items + weight left) }
@@ -359,14 +343,15 @@ fn write_commands(
 #[tactic(auto, using(crate::proofs::TextSteps::joins))]
 fn write_branch(
     alloc: Global,
-    out: &mut Vec<u8>,
+    out: &mut Text,
     code: &Code,
     body: &[Cmd],
     branches: &mut Vec<Branch>,
     branch: Branch,
 ) -> Result<(), NoMemory>
-    ensures text { IfOk result (λ _. out.new.items ++ branches_text code.now body.now branches.new.items
-        ≡ out.old.items ++ (branch_text code.now body.now branch ++ branches_text code.now body.now branches.old.items)) }
+    ensures text { IfOk result (λ _. out.new ++ branches_text code.now body.now branches.new.items
+        ≡ out.old ++ (branch_text code.now body.now branch
+        ++ branches_text code.now body.now branches.old.items)) }
     ensures lighter { IfOk result
         (λ _. branch_weights branches.new.items + 1
         ≤ branch_weights branches.old.items + weight branch.left) }
@@ -390,9 +375,9 @@ fn write_branch(
 
 /// Adds the lines of a body, indented once.
 #[tactic(auto, using(crate::proofs::BranchSteps::body_steps))]
-pub fn put_body(alloc: Global, out: &mut Vec<u8>, code: &Code, body: &[Cmd]) -> Result<(), NoMemory>
+pub fn put_body(alloc: Global, out: &mut Text, code: &Code, body: &[Cmd]) -> Result<(), NoMemory>
     ensures { IfOk result
-        (λ _. out.new.items ≡ out.old.items ++ commands code.now body.now (length body.now) 0 1) }
+        (λ _. out.new ≡ out.old ++ commands code.now body.now (length body.now) 0 1) }
 {
     let mut branches = Vec::new(alloc);
     branches.push(Branch {

@@ -45,7 +45,12 @@ impl Code {
         kinds: Vec<Kinds>,
     ) -> Code
         ensures value { result
-            ≡ record { structs = structs; functions = functions.items; units = units.items; kinds = kinds.items } }
+            ≡ record {
+              structs = structs;
+              functions = functions.items;
+              units = units.items;
+              kinds = kinds.items;
+            } }
     {
         Code {
             structs,

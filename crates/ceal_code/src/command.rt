@@ -1,5 +1,8 @@
 // The commands of trace code.
 
+ghost use Rattle.std.specs.Prelude.{◌≡◌, ◌<◌, ◌^◌};
+ghost use Rattle.ceal_code.specs.Valid.{followers, indices_in};
+
 use crate::expr::{CodeExpr, CodeExprs, VarId};
 use ceal_base::forest::UnitId;
 use ceal_base::kind::Shape;
@@ -54,4 +57,33 @@ pub enum Cmd {
         unit: UnitId,
         rest: CodeExprs,
     },
+}
+
+/// The indices of a body at which a run may go on after a command.
+#[derive(Clone, Copy)]
+pub enum Followers {
+    Nowhere,
+    One(usize),
+    Two(usize, usize),
+}
+
+impl Cmd {
+    /// Where a run may go on after the command at an index.
+    pub fn followers(&self, index: usize) -> Followers
+        requires room { index < 2 ^ 63 }
+        ensures value { indices_in result ≡ followers self.now index }
+    {
+        match self {
+            Cmd::Move { .. } => Followers::One(index + 1),
+            Cmd::Tick => Followers::One(index + 1),
+            Cmd::Alloc { .. } => Followers::One(index + 1),
+            Cmd::Modref { .. } => Followers::One(index + 1),
+            Cmd::Write { .. } => Followers::One(index + 1),
+            Cmd::If { yes, no, .. } => Followers::Two(*yes as usize, *no as usize),
+            Cmd::Done => Followers::Nowhere,
+            Cmd::Tail { .. } => Followers::Nowhere,
+            Cmd::Read { .. } => Followers::Nowhere,
+            Cmd::Call { .. } => Followers::Nowhere,
+        }
+    }
 }

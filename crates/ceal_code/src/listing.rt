@@ -6,7 +6,7 @@ ghost use Rattle.ceal_code.specs.Listing.{added, grouped, unit_lines, unit_text_
 use crate::branches::{deeper, put_body, put_else};
 use crate::code::Code;
 use crate::function::{FunctionCode, InitStmt};
-use crate::text::{put, put_expr, put_field, put_indent, put_number, put_str, put_unit, put_vars};
+use crate::text::{put_expr, put_field, put_indent, put_unit, put_vars};
 use crate::unit::Unit;
 use ceal_base::items::Items;
 use ceal_base::no_memory::NoMemory;
@@ -18,25 +18,25 @@ use std::alloc::Global;
 #[tactic(auto, using(crate::proofs::TextSteps::joins))]
 fn put_unit_lines(
     alloc: Global,
-    out: &mut Vec<u8>,
+    out: &mut Text,
     code: &Code,
     n: usize,
     unit: &Unit,
 ) -> Result<(), NoMemory>
-    ensures { IfOk result (λ _. out.new.items ≡ out.old.items ++ unit_lines code.now n unit.now) }
+    ensures { IfOk result (λ _. out.new ≡ out.old ++ unit_lines code.now n unit.now) }
 {
-    put_str(out, "u")?;
-    put_number(alloc, out, n)?;
-    put_vars(alloc, out, unit.params())?;
-    put_str(out, "\n")?;
+    out.append_str("u")?;
+    out.append_number(n)?;
+    put_vars(out, unit.params())?;
+    out.append_str("\n")?;
     put_body(alloc, out, code, unit.body())?;
     Ok(())
 }
 
-fn put_unit_at(alloc: Global, out: &mut Vec<u8>, code: &Code, n: usize) -> Result<(), NoMemory>
+fn put_unit_at(alloc: Global, out: &mut Text, code: &Code, n: usize) -> Result<(), NoMemory>
     ensures { IfOk result
-        (λ _. out.new.items
-        ≡ out.old.items ++ unit_text_at code.now n (slice_get code.now.units n)) }
+        (λ _. out.new
+        ≡ out.old ++ unit_text_at code.now n (slice_get code.now.units n)) }
 {
     match code.units().get(n) {
         None => Ok(()),
@@ -49,8 +49,8 @@ fn put_unit_at(alloc: Global, out: &mut Vec<u8>, code: &Code, n: usize) -> Resul
 
 /// Adds the lines of the units of these numbers.
 #[tactic(auto, using(crate::proofs::ListingSteps::units_steps))]
-fn put_units(alloc: Global, out: &mut Vec<u8>, code: &Code, ns: &[usize]) -> Result<(), NoMemory>
-    ensures { IfOk result (λ _. out.new.items ≡ out.old.items ++ units_text code.now ns.now) }
+fn put_units(alloc: Global, out: &mut Text, code: &Code, ns: &[usize]) -> Result<(), NoMemory>
+    ensures { IfOk result (λ _. out.new ≡ out.old ++ units_text code.now ns.now) }
 {
     let mut ns = ns;
     while let Some((n, more)) = ns.split_first() {
@@ -65,30 +65,30 @@ fn put_units(alloc: Global, out: &mut Vec<u8>, code: &Code, ns: &[usize]) -> Res
 #[tactic(auto, using(crate::proofs::ListingSteps::stmt_steps))]
 fn put_stmt(
     alloc: Global,
-    out: &mut Vec<u8>,
+    out: &mut Text,
     structs: &[StructInfo],
     s: u32,
     depth: usize,
     stmt: &InitStmt,
 ) -> Result<(), NoMemory>
     ensures { IfOk result
-        (λ _. out.new.items ≡ out.old.items ++ stmt_text structs.now s depth stmt.now) }
+        (λ _. out.new ≡ out.old ++ stmt_text structs.now s depth stmt.now) }
 {
     match stmt {
         InitStmt::Set { field, value } => {
             put_indent(out, depth)?;
-            put_str(out, "self->")?;
+            out.append_str("self->")?;
             put_field(out, structs, s, *field)?;
-            put_str(out, " = ")?;
+            out.append_str(" = ")?;
             put_expr(alloc, out, structs, value)?;
-            put_str(out, "\n")?;
+            out.append_str("\n")?;
             Ok(())
         }
         InitStmt::If { test, yes, no } => {
             put_indent(out, depth)?;
-            put_str(out, "if ")?;
+            out.append_str("if ")?;
             put_expr(alloc, out, structs, test)?;
-            put_str(out, "\n")?;
+            out.append_str("\n")?;
             let inside = deeper(depth)?;
             put_stmts(alloc, out, structs, s, inside, yes.items())?;
             put_no_part(alloc, out, structs, s, depth, no.items())?;
@@ -101,14 +101,14 @@ fn put_stmt(
 #[tactic(auto, using(crate::proofs::TextSteps::joins))]
 fn put_no_part(
     alloc: Global,
-    out: &mut Vec<u8>,
+    out: &mut Text,
     structs: &[StructInfo],
     s: u32,
     depth: usize,
     stmts: &[InitStmt],
 ) -> Result<(), NoMemory>
     ensures { IfOk result
-        (λ _. out.new.items ≡ out.old.items ++ else_text structs.now s depth stmts.now) }
+        (λ _. out.new ≡ out.old ++ else_text structs.now s depth stmts.now) }
 {
     match stmts {
         [] => Ok(()),
@@ -125,14 +125,14 @@ fn put_no_part(
 #[tactic(auto, using(crate::proofs::ListingSteps::stmts_steps))]
 fn put_stmts(
     alloc: Global,
-    out: &mut Vec<u8>,
+    out: &mut Text,
     structs: &[StructInfo],
     s: u32,
     depth: usize,
     stmts: &[InitStmt],
 ) -> Result<(), NoMemory>
     ensures { IfOk result
-        (λ _. out.new.items ≡ out.old.items ++ stmts_text structs.now s depth stmts.now) }
+        (λ _. out.new ≡ out.old ++ stmts_text structs.now s depth stmts.now) }
 {
     for stmt in stmts {
         put_stmt(alloc, out, structs, s, depth, stmt)?;
@@ -144,21 +144,21 @@ fn put_stmts(
 #[tactic(auto, using(crate::proofs::TextSteps::joins))]
 fn put_function_lines(
     alloc: Global,
-    out: &mut Vec<u8>,
+    out: &mut Text,
     code: &Code,
     function: &FunctionCode,
     units: &[usize],
 ) -> Result<(), NoMemory>
     ensures { IfOk result
-        (λ _. out.new.items ≡ out.old.items ++ function_text code.now function.now units.now) }
+        (λ _. out.new ≡ out.old ++ function_text code.now function.now units.now) }
 {
     match function {
         FunctionCode::Core { name, entry, .. } => {
-            put_str(out, "fn ")?;
-            put(out, name.items())?;
-            put_str(out, " ")?;
-            put_unit(alloc, out, *entry)?;
-            put_str(out, "\n")?;
+            out.append_str("fn ")?;
+            out.append(name.items())?;
+            out.append_str(" ")?;
+            put_unit(out, *entry)?;
+            out.append_str("\n")?;
             put_units(alloc, out, code, units)?;
             Ok(())
         }
@@ -168,9 +168,9 @@ fn put_function_lines(
             body,
             ..
         } => {
-            put_str(out, "init ")?;
-            put(out, name.items())?;
-            put_str(out, "\n")?;
+            out.append_str("init ")?;
+            out.append(name.items())?;
+            out.append_str("\n")?;
             put_stmts(alloc, out, code.structs.items(), *shape, 1, body.items())?;
             Ok(())
         }
@@ -181,13 +181,13 @@ fn put_function_lines(
 #[tactic(auto, using(crate::proofs::ListingSteps::functions_steps))]
 fn put_functions(
     alloc: Global,
-    out: &mut Vec<u8>,
+    out: &mut Text,
     code: &Code,
     functions: &[FunctionCode],
     groups: &[Items<usize>],
 ) -> Result<(), NoMemory>
     ensures { IfOk result
-        (λ _. out.new.items ≡ out.old.items ++ functions_text code.now functions.now groups.now) }
+        (λ _. out.new ≡ out.old ++ functions_text code.now functions.now groups.now) }
 {
     let mut functions = functions;
     let mut groups = groups;
@@ -249,7 +249,7 @@ pub fn listing(alloc: Global, code: &Code) -> Result<Text, NoMemory>
 {
     let functions = code.functions();
     let groups = group_units(alloc, functions.len(), code.units())?;
-    let mut out = Vec::new(alloc);
+    let mut out = Text::empty(alloc);
     put_functions(alloc, &mut out, code, functions, &groups)?;
-    Ok(Text::new(out))
+    Ok(out)
 }

@@ -37,7 +37,7 @@ fn learn(known: &mut Vec<bool>, v: VarId)
     set_flag(known, v.0 as usize);
 }
 
-/// So many flags that are not set.
+/// A list of `n` flags that are not set.
 pub fn no_flags(alloc: Global, n: usize) -> Result<Vec<bool>, NoMemory>
     ensures { IfOk result (λ v. v.items ≡ replicate n false) }
 {
@@ -48,7 +48,7 @@ pub fn no_flags(alloc: Global, n: usize) -> Result<Vec<bool>, NoMemory>
     Ok(flags)
 }
 
-/// Which variables are known at the beginning of a unit of a function with so many variables.
+/// Which variables are known at the beginning of a unit, of all variables of its function.
 #[tactic(auto, using(crate::proofs::PathSteps::known_steps))]
 fn known_params(alloc: Global, n: usize, params: &[VarId]) -> Result<Vec<bool>, NoMemory>
     ensures { IfOk result (λ v. v.items ≡ with_params (replicate n false) params.now) }
@@ -74,7 +74,8 @@ fn put(
     left: usize,
 ) -> Result<(), NoMemory>
     ensures paths { IfOk result (λ _. parts_ok code.now f body.now parts.new.items
-        ≡ (paths_ok code.now f body.now left index known.items true && parts_ok code.now f body.now parts.old.items)) }
+        ≡ (paths_ok code.now f body.now left index known.items true
+        && parts_ok code.now f body.now parts.old.items)) }
     ensures heavier { IfOk result
         (λ _. weights parts.new.items ≡ weight left + weights parts.old.items) }
 {
@@ -100,7 +101,8 @@ fn go_on(
     requires some { 0 < part.left }
     requires there { part.index < length body.now }
     ensures paths { IfOk result (λ _. parts_ok code.now f body.now parts.new.items
-        ≡ (onward (paths_ok code.now f body.now (part.left - 1)) command.now part.index part.known.items
+        ≡ (onward (paths_ok code.now f body.now (part.left - 1)) command.now part.index
+        part.known.items
         && parts_ok code.now f body.now parts.old.items)) }
     ensures lighter { IfOk result
         (λ _. weights parts.new.items + 1 ≤ weights parts.old.items + weight part.left) }
@@ -150,7 +152,8 @@ fn pass(
 ) -> Result<bool, NoMemory>
     requires some { 0 < part.left }
     ensures paths { IfOk result (λ ok. (ok && parts_ok code.now f body.now parts.new.items)
-        ≡ (path_ok code.now f (paths_ok code.now f body.now (part.left - 1)) (slice_get body.now part.index)
+        ≡ (path_ok code.now f (paths_ok code.now f body.now (part.left - 1))
+        (slice_get body.now part.index)
         part.index part.known.items part.stepped
         && parts_ok code.now f body.now parts.old.items)) }
     ensures lighter { IfOk result

@@ -1,6 +1,7 @@
 // Units still to do, and the words that they begin with.
 
 ghost use Rattle.std.specs.Prelude.{◌≡◌, ◌∷◌, [], ◌++◌, ◌-◌, ◌+◌, ◌<◌, ◌==◌, length, replicate, min, slice_get, unwrap_or, Some, if◌then◌else◌, IfOk, OnOk};
+ghost use Rattle.std.specs.declared.alloc.Global.{Global as Allocator};
 ghost use Rattle.ceal_base.specs.declared.word.Word.{Word};
 ghost use Rattle.ceal_code.specs.Init.{arguments};
 ghost use Rattle.ceal_code.specs.Stacks.{over, units_in, stack_in, arrived};
@@ -242,8 +243,10 @@ impl Stack {
         }
     }
 
-    /// What more memory for units is taken from.
-    pub fn allocator(&self) -> Global {
+    /// What more memory for units is taken from: the one allocator that there is.
+    pub fn allocator(&self) -> Global
+        ensures only { (other : Allocator) → result ≡ other }
+    {
         *self.units.allocator()
     }
 

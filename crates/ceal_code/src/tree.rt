@@ -3,12 +3,12 @@
 ghost use Rattle.std.specs.Prelude.{◌≡◌, ◌<◌, ◌^◌, ◌∷◌, ◌&&◌, [], ℕ, Bool, List, true, false, Some, None, if◌then◌else◌, slice_get, unwrap_or, IfOk};
 ghost use Rattle.ceal_code.specs.Valid.{goes_forward, all_forward, reached, followers, all_followers, all_true, all_but_first, is_tree};
 
-use crate::command::Cmd;
+use crate::command::{Cmd, Followers};
 use crate::paths::{no_flags, set_flag};
 use ceal_base::no_memory::NoMemory;
 use std::alloc::Global;
 
-/// Whether an `If` goes on behind itself, whichever way.
+/// Whether an `If` goes on after itself, whichever way.
 fn goes_forward(command: &Cmd, index: usize) -> bool
     ensures { result ≡ goes_forward command.now index }
 {
@@ -81,17 +81,10 @@ fn mark_followers(marks: &mut Vec<bool>, command: &Cmd, index: usize) -> bool
     ensures { reached marks.old.items (followers command.now index)
         ≡ (if result then Some marks.new.items else None) }
 {
-    match command {
-        Cmd::Move { .. } => mark(marks, index + 1),
-        Cmd::Tick => mark(marks, index + 1),
-        Cmd::Alloc { .. } => mark(marks, index + 1),
-        Cmd::Modref { .. } => mark(marks, index + 1),
-        Cmd::Write { .. } => mark(marks, index + 1),
-        Cmd::If { yes, no, .. } => mark_both(marks, *yes as usize, *no as usize),
-        Cmd::Done => true,
-        Cmd::Tail { .. } => true,
-        Cmd::Read { .. } => true,
-        Cmd::Call { .. } => true,
+    match command.followers(index) {
+        Followers::Nowhere => true,
+        Followers::One(next) => mark(marks, next),
+        Followers::Two(yes, no) => mark_both(marks, yes, no),
     }
 }
 

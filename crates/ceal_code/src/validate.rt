@@ -83,7 +83,7 @@ fn are_fields_ok(structs: &[StructInfo], fields: &[FieldInfo]) -> bool
     true
 }
 
-/// Whether so many fields come that are of this kind, and at which no row begins.
+/// Whether the next `n` fields are of this kind, and no row begins at one of them.
 #[tactic(auto, using(crate::proofs::ListSteps::going_steps))]
 fn does_row_go_on(n: u32, kind: FieldKind, rest: &[FieldInfo]) -> bool
     ensures { result ≡ row_goes_on n kind rest.now }

@@ -1,4 +1,4 @@
--- One phase behind another: what the first answers decides what all come to.
+-- One phase after another: what the first answers decides what all come to.
 use Rattle.std.proofs.Common.{◌≡◌, Bool, Result, Ok, Err, List, ℕ, refl, inl, inr}
 use Rattle.ceal_base.specs.Answers.{Gives, Fails}
 use Rattle.ceal_base.specs.declared.fault.Fault.{Fault}
@@ -18,7 +18,7 @@ use Rattle.ceal_compile.specs.Source.{PartComes, Comes}
 abbrev pub Answer : Type 0
 Answer = Result Typed Fault
 
--- behind the tree that was read
+-- after the tree that was read
 pub tree_only : (ts : List Token) (tree : Tree) (answer : Result Typed FrontError)
     → ((t : Tree) → Accepts ts t → Gives {A = Tree} (Ok tree) (Ok t)) → ((f : Fault) → IsFirstFault ts f → Gives {A = Tree} (Ok tree) (Err f))
     → Gives answer (settled tree) → (r : Answer) → TokensCome ts r → Gives answer r
@@ -26,7 +26,7 @@ tree_only ts tree answer all only gives r (inl m) = absurd (cc (only m.fault m.s
 tree_only ts tree answer all only gives r (inr p) =
     let e : p.tree ≡ tree = cc (all p.tree p.accepted) in rw (p.same, e) gives
 
--- behind a fault of the grammar
+-- after a fault of the grammar
 pub tree_fault : (ts : List Token) (e : FrontError)
     → ((t : Tree) → Accepts ts t → Fails {A = Tree} e (Ok t)) → ((f : Fault) → IsFirstFault ts f → Fails {A = Tree} e (Err f))
     → (r : Answer) → TokensCome ts r → Fails e r
@@ -34,7 +34,7 @@ tree_fault ts Memory all only r h = tt
 tree_fault ts (FaultError f) all only r (inl m) = let e : m.fault ≡ f = cc (only m.fault m.stands) in rw (m.same, e) refl
 tree_fault ts (FaultError f) all only r (inr p) = absurd (cc (all p.tree p.accepted))
 
--- behind the tokens that were read
+-- after the tokens that were read
 pub tokens_only : (input : List ℕ) (part : Split) (ts : List Token) (answer : Result Typed FrontError)
     → ((us : List Token) → AreTokens (source_of input part) part.marked us → Gives {A = List Token} (Ok ts) (Ok us))
     → ((f : Fault) → IsFirstMisspelling (source_of input part) f → Gives {A = List Token} (Ok ts) (Err f))
@@ -43,7 +43,7 @@ tokens_only input part ts answer all only come r (inl m) = absurd (cc (only m.fa
 tokens_only input part ts answer all only come r (inr p) =
     let e : p.tokens ≡ ts = cc (all p.tokens p.lexed) in come r (rw (← e) p.come)
 
--- behind a fault of characters
+-- after a fault of characters
 pub tokens_fault : (input : List ℕ) (part : Split) (e : FrontError)
     → ((us : List Token) → AreTokens (source_of input part) part.marked us → Fails {A = List Token} e (Ok us))
     → ((f : Fault) → IsFirstMisspelling (source_of input part) f → Fails {A = List Token} e (Err f))

@@ -1,38 +1,35 @@
 -- The code of a program: there is one, and its functions are those of the program.
-use Rattle.std.proofs.Common.{◌≡◌, ℕ, zero, suc, ◌+◌, ◌&&◌, Bool, true, false, Option, Some, None, List, [], ◌∷◌, map, take, is_none, refl, sym, ap, ◌∙◌, subst, slice_get, arith}
+use Rattle.std.proofs.Common.{◌≡◌, ℕ, zero, suc, ◌+◌, ◌&&◌, Option, Some, None, List, [], ◌∷◌, take, is_none, refl, sym, ap, ◌∙◌, slice_get}
 use Rattle.std.specs.Option.{option_map}
 use Rattle.std.proofs.lemmas.Option.{slice_get-map}
 use Rattle.ceal_base.specs.Block.{Blocks}
 use Rattle.ceal_base.specs.Fitting.{words_fit}
 use Rattle.ceal_base.specs.declared.typed.StructInfo.{StructInfo}
-use Rattle.ceal_base.specs.declared.typed.Typed.{Typed}
 use Rattle.ceal_base.specs.declared.typed.TypedFunction.{TypedFunction}
 use Rattle.ceal_base.specs.declared.word.Word.{Word}
 use Rattle.ceal_code.specs.Fitting.{args_fit}
 use Rattle.ceal_code.specs.Program.{Code}
-use Rattle.ceal_code.specs.declared.function.FunctionCode.{FunctionCode}
-use Rattle.ceal_flow.specs.Laws.{One_law, Some_law}
+use Rattle.ceal_flow.specs.Laws.{OneLaw, SomeLaw}
 use Rattle.ceal_flow.specs.Lowering.{graph_of, function_size, function_in, function_at, functions_from}
 use Rattle.ceal_flow.specs.declared.function.GraphFunction.{GraphFunction}
 use Rattle.ceal_fold.specs.Folding.{folded}
 use Rattle.ceal_norm.specs.Laws.{source_of}
 use Rattle.ceal_norm.specs.Units.{Source, code_of, function_code}
-use Rattle.ceal_compile.specs.Compiled.{IsCodeOf}
-use Rattle.ceal_compile.specs.Laws.{One_code_law, Some_code_law, Structs_law, Calls_law, call_fits}
+use Rattle.ceal_compile.specs.Laws.{OneCodeLaw, SomeCodeLaw, StructsLaw, CallsLaw, call_fits}
 
-pub one_code : One_law → One_code_law
+pub one_code : OneLaw → OneCodeLaw
 one_code lives p c d h k =
     let live : h.units.live ≡ k.units.live = lives (graph_of p).blocks h.units.live k.units.live h.units.exact_live k.units.exact_live in
     let unfolded : h.unfolded ≡ k.unfolded = h.units.same ∙ ap (λ sets. code_of (source_of p sets)) live ∙ sym k.units.same in
     h.same ∙ ap folded unfolded ∙ sym k.same
 
-pub some_code : Some_law → Some_code_law
+pub some_code : SomeLaw → SomeCodeLaw
 some_code lives p =
     let live = lives (graph_of p).blocks in
     let units : Code = code_of (source_of p live.0) in
     (folded units, record { unfolded = units; units = record { live = live.0; exact_live = live.1; same = refl }; same = refl })
 
-pub same_structs : Structs_law
+pub same_structs : StructsLaw
 same_structs p code c = ap (λ k. k.structs) c.same ∙ ap (λ k. k.structs) c.units.same
 
 -- the function of a graph, by that of the program
@@ -59,7 +56,7 @@ module _ (structs : List StructInfo) (m : Blocks) (args : List Word) (source : S
   same_fits None (Some f) h = absurd h
   same_fits (Some g) None h = absurd h
 
-pub same_calls : Calls_law
+pub same_calls : CallsLaw
 same_calls p code c structs m f args =
     let source : Source = source_of p c.units.live in
     let get : slice_get code.functions f ≡ option_map (function_code source) (slice_get (functions_from 0 p.functions) f) =

@@ -1,5 +1,5 @@
 -- What an input comes to.
-use Rattle.std.proofs.Common.{◌≡◌, ◌⊎◌, inl, inr, ◌<◌, ◌^◌, Bool, true, false, Result, Ok, Err, List, [], ◌∷◌, ◌++◌, ℕ, length, refl}
+use Rattle.std.proofs.Common.{◌≡◌, ◌⊎◌, inl, inr, ◌<◌, ◌^◌, Bool, true, false, Err, List, [], ◌∷◌, ◌++◌, ℕ, length, refl}
 use Rattle.ceal_base.specs.declared.fault.Fault.{Fault}
 use Rattle.ceal_base.specs.declared.syntax.Tree.{Tree}
 use Rattle.ceal_lex.specs.declared.parts.Split.{Split}

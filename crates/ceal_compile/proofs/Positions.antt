@@ -18,7 +18,7 @@ one-swap : (t : Bool) (k : ℕ) → 1 + (if t then 1 + k else k) ≡ (if t then 
 one-swap true k = refl
 one-swap false k = refl
 
--- the line behind one byte more
+-- the line after one byte more
 pub line-more : (bs : List ℕ) (i : ℕ) (line : ℕ) → i < length bs → line ≡ line_after (take i bs)
     → (if get_or bs i 0 == 10 then 1 + line else line) ≡ line_after (take (i + 1) bs)
 line-more bs i line h e =
@@ -28,7 +28,7 @@ length-first : (t : Bool) (b : ℕ) (bs : List ℕ) → 1 + length (if t then []
 length-first true b bs = refl
 length-first false b bs = omega arith
 
--- the column behind one byte more
+-- the column after one byte more
 pub column-more : (bs : List ℕ) (i : ℕ) (column : ℕ) → i < length bs → column ≡ column_after (take i bs)
     → (if get_or bs i 0 == 10 then 1 else 1 + column) ≡ column_after (take (i + 1) bs)
 unfolding first_line

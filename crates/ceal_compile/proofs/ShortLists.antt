@@ -11,7 +11,7 @@ use Rattle.ceal_grammar.specs.Trees.{type_form, sized_form, member_trees, other_
 use Rattle.ceal_types.specs.Heads.{row_of}
 use Rattle.ceal_types.specs.Limits.{width, fields_in, IsShort, HasShortLists}
 
--- what stands behind a phrase is within the limits too
+-- what follows a phrase is within the limits too
 after_phrase : (d i n : ℕ) (a : Phrase) (rest : List Mark) → AllWithin (spelled d i n a rest) → AllWithin rest
 unfolding AllWithin spelled
 after_phrase d i n (number v s) rest h = h.1
@@ -118,7 +118,7 @@ unfolding AllWithin
 size_item c single rest few h = few
 size_item c (row l n a r) rest few h = let here = h.1.0 in here.item
 
--- fields are items, behind c others
+-- fields are items, after c others
 members_short : (c : ℕ) (ms : List Member) (rest : List Mark) → MembersProper ms → c ≤ 255 → AllWithin (spelled_members c ms rest)
     → c + fields_in (member_trees ms) ≤ 255
 unfolding MembersProper AllWithin spelled_members member_trees fields_in

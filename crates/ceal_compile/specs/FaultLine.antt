@@ -15,14 +15,15 @@ unfoldable pub first_line : List ℕ → List ℕ
 first_line [] = []
 first_line (b ∷ bs) = if b == 10 then [] else b ∷ first_line bs
 
--- the line of what stands behind these bytes, the first line being 1
+-- the line of what follows these bytes, the first line being 1
 abbrev pub line_after : List ℕ → ℕ
 line_after before = 1 + line_feeds before
 
--- its column, the first byte of a line having 1: one more than the bytes behind the last line feed
+-- its column, the first byte of a line having 1: one more than the bytes after the last line feed
 abbrev pub column_after : List ℕ → ℕ
 column_after before = 1 + length (first_line (reverse before))
 
+-- the code of a fault, as it is printed
 abbrev pub code_text : FaultCode → List ℕ
 code_text S1 = codes "S1"
 code_text S2 = codes "S2"
@@ -45,6 +46,7 @@ code_text U5 = codes "U5"
 code_text U6 = codes "U6"
 code_text L1 = codes "L1"
 
+-- what a code means, as it is printed
 abbrev pub meaning_text : FaultCode → List ℕ
 meaning_text S1 = codes "bad character"
 meaning_text S2 = codes "number too large"

@@ -1,3 +1,4 @@
+-- what the crate promises
 pub mod Phases
 pub mod Source
 pub mod FaultLine

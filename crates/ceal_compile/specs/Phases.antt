@@ -1,4 +1,4 @@
--- What the phases behind the grammar make of a tree, and what all make of tokens.
+-- What the phases after the grammar make of a tree, and what all make of tokens.
 use Rattle.std.specs.Prelude.{◌≡◌, ◌⊎◌, Result, Ok, Err, List}
 use Rattle.ceal_base.specs.declared.fault.Fault.{Fault}
 use Rattle.ceal_base.specs.declared.syntax.Tree.{Tree}

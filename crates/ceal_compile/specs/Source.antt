@@ -22,6 +22,7 @@ pub record IsLexed (input : List ℕ) (part : Split) (r : Result Typed Fault) : 
   pub lexed : AreTokens (source_of input part) part.marked tokens
   pub come : TokensCome tokens r
 
+-- what the source part of an input comes to, from its bytes on
 abbrev pub PartComes : List ℕ → Split → Result Typed Fault → Type 0
 PartComes input part r = IsMisspelled input part r ⊎ IsLexed input part r
 
@@ -39,5 +40,6 @@ IsProgram input program = Comes input (Ok program)
 abbrev pub IsFirstFault : List ℕ → Fault → Type 0
 IsFirstFault input fault = Comes input (Err fault)
 
+-- an input whose source part is a program
 abbrev pub IsAccepted : List ℕ → Type 0
 IsAccepted input = (program : Typed) × IsProgram input program

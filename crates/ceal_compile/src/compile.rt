@@ -1,4 +1,4 @@
-// The phases, one behind the other.
+// The phases, one after the other.
 
 ghost use Rattle.std.specs.Prelude.{◌≡◌, ◌<◌, ◌^◌, Result as ResultOf, Ok as OkOf, Err as ErrOf, List, ℕ, length, IfOk};
 ghost use Rattle.ceal_base.specs.Answers.{Gives, IfFault};
@@ -75,7 +75,7 @@ fn settle(alloc: Global, tree: &Tree) -> Result<Program, FrontError>
     }
 }
 
-/// All that comes behind the tokens.
+/// All that comes after the tokens.
 fn read_tokens(alloc: Global, tokens: &Tokens) -> Result<Program, FrontError>
     requires { IsEnded tokens.now }
     ensures found { IfOk result (λ program. TokensCome tokens.now (OkOf program.typed)) }
@@ -106,8 +106,8 @@ fn read_part(alloc: Global, input: &[u8], part: &Split) -> Result<Program, Front
 }
 
 /// The program of the source part of an input with its trace code, or its first fault: of characters, else of the
-/// grammar, else of names and types, else of usage, else of the limit on blocks. The script behind the source part
-/// counts for nothing.
+/// grammar, else of names and types, else of usage, else of the limit on blocks. The script after the source part
+/// is not looked at.
 pub fn compile(alloc: Global, input: &[u8]) -> Result<Program, FrontError>
     requires { length input.now < 2 ^ 32 }
     ensures found { IfOk result (λ program. IsProgram input.now program.typed) }

@@ -1,7 +1,6 @@
 // The line that tells a fault.
 
 ghost use Rattle.std.specs.Prelude.{◌≡◌, ◌++◌, IfOk};
-ghost use Rattle.std.specs.Fmt.{decimal};
 ghost use Rattle.ceal_compile.specs.FaultLine.{before_fault, code_text, fault_text, meaning_text, fault_line as line_of};
 
 use crate::position::{Position, position_after};
@@ -76,27 +75,19 @@ fn before(input: &[u8], fault: Fault) -> &[u8]
     }
 }
 
-/// Adds a number in decimal.
-fn append_number(alloc: Global, out: &mut Text, number: usize) -> Result<(), NoMemory>
-    ensures { IfOk result (λ _. out.new ≡ out.old ++ decimal number) }
-{
-    let digits = format!(in alloc; "{number}")?;
-    out.append(digits.as_bytes())
-}
-
 /// The line of a fault at this position.
 fn text(alloc: Global, fault_code: FaultCode, position: Position) -> Result<Text, NoMemory>
     ensures { IfOk result (λ text. text ≡ fault_text fault_code position.line position.column) }
 {
     let mut text = Text::from_slice(alloc, b"fault ")?;
-    text.append(code(fault_code).as_bytes())?;
-    text.append(b" at ")?;
-    append_number(alloc, &mut text, position.line)?;
-    text.append(b":")?;
-    append_number(alloc, &mut text, position.column)?;
-    text.append(b": ")?;
-    text.append(meaning(fault_code).as_bytes())?;
-    text.append(b"\n")?;
+    text.append_str(code(fault_code))?;
+    text.append_str(" at ")?;
+    text.append_number(position.line)?;
+    text.append_str(":")?;
+    text.append_number(position.column)?;
+    text.append_str(": ")?;
+    text.append_str(meaning(fault_code))?;
+    text.append_str("\n")?;
     Ok(text)
 }
 

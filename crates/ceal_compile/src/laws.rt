@@ -3,7 +3,7 @@
 ghost use Rattle.std.specs.Prelude.{◌≡◌, ◌<◌, ◌^◌, Result as ResultOf, List, ℕ, length};
 ghost use Rattle.ceal_base.specs.declared.fault.Fault.{Fault as FaultRecord};
 ghost use Rattle.ceal_base.specs.declared.typed.Typed.{Typed as TypedRecord};
-ghost use Rattle.ceal_compile.specs.Laws.{Calls_law, One_code_law, Some_code_law, Structs_law};
+ghost use Rattle.ceal_compile.specs.Laws.{CallsLaw, CompiledLaw, OneCodeLaw, SomeCodeLaw, SomeCompiledLaw, StructsLaw};
 ghost use Rattle.ceal_compile.specs.Source.{Comes};
 
 /// A law: an input comes to a program or to a first fault, where it is no longer than a place in it can be told.
@@ -18,24 +18,39 @@ pub fn some_answer()
 
 /// A law: a program has one code.
 pub fn one_code()
-    ensures law { One_code_law }
+    ensures law { OneCodeLaw }
 {
     ceal_flow::laws::one_law();
 }
 
 /// A law: a program has code.
 pub fn some_code()
-    ensures law { Some_code_law }
+    ensures law { SomeCodeLaw }
 {
     ceal_flow::laws::some_law();
 }
 
 /// A law: code has the structs of its program.
 pub fn structs_law()
-    ensures law { Structs_law }
+    ensures law { StructsLaw }
 {}
 
 /// A law: a call fits the code exactly where it fits the program.
 pub fn calls_law()
-    ensures law { Calls_law }
+    ensures law { CallsLaw }
 {}
+
+/// A law: an accepted input is compiled. Its program and the code of that are a compiled program, and there is one.
+pub fn accepted_is_compiled()
+    ensures compiled { CompiledLaw }
+    ensures some { SomeCompiledLaw }
+{
+    ceal_types::laws::typed_law();
+    ceal_usage::laws::kept_law();
+    ceal_flow::laws::run_law();
+    ceal_flow::laws::some_law();
+    ceal_norm::laws::valid_law();
+    ceal_norm::laws::run_law();
+    ceal_fold::laws::valid_law();
+    ceal_fold::laws::run_law();
+}

@@ -10,7 +10,7 @@ pub struct Position {
     pub column: usize,
 }
 
-/// The position behind one byte more.
+/// The position after one byte more.
 fn behind(position: Position, byte: u8) -> Position
     requires line { position.line + 1 < 2 ^ 64 }
     requires column { position.column + 1 < 2 ^ 64 }
@@ -32,7 +32,7 @@ fn behind(position: Position, byte: u8) -> Position
     }
 }
 
-/// The position of what stands behind the bytes.
+/// The position of what follows the bytes.
 pub fn position_after(before: &[u8]) -> Position
     ensures line { result.line ≡ line_after before.now }
     ensures column { result.column ≡ column_after before.now }

@@ -1,5 +1,5 @@
 -- Sets of numbers as words of bits.
-use Rattle.std.proofs.Common.{◌≡◌, ◌≢◌, ◌⊎◌, inl, inr, ℕ, zero, suc, ◌+◌, ◌*◌, ◌/◌, ◌%◌, ◌^◌, ◌<◌, ◌≤◌, max, Bool, true, false, ◌==◌, ◌||◌, ◌&&◌, not, Option, Some, List, [], ◌∷◌, ◌++◌, length, if◌then◌else◌, refl, ap, sym, ◌∙◌, subst, arith, w64, add-one, ltb, length-append, add-zero, add-suc}
+use Rattle.std.proofs.Common.{◌≡◌, ◌≢◌, ◌⊎◌, inl, inr, ℕ, zero, suc, ◌+◌, ◌*◌, ◌/◌, ◌%◌, ◌^◌, ◌<◌, ◌≤◌, max, Bool, true, false, ◌==◌, ◌||◌, ◌&&◌, not, Option, Some, Result, Ok, Err, OnErr, List, [], ◌∷◌, ◌++◌, length, if◌then◌else◌, refl, ap, sym, ◌∙◌, subst, arith, w64, add-one, ltb, length-append, add-zero, add-suc}
 use Rattle.std.specs.Int.{bit_at, bit_not}
 use Rattle.std.specs.Prelude.{bit_and, bit_or}
 use Rattle.std.proofs.lemmas.Nat.Bits.{bit_at-lt, bit_at-zero, bit_at_or, bit_at_clear_same, bit_at_clear_other, bit_at_set_same, bit_at_set_other, same_from_bits_below}
@@ -11,6 +11,7 @@ use Rattle.std.proofs.lemmas.List.{append-nil}
 use mir.Val.{bits}
 use Rattle.ceal_flow.specs.Bits.{word_at, has_bit, members_below, members}
 use Rattle.ceal_flow.specs.Sets.{is_in, is_that, IsAscending}
+use Rattle.ceal_flow.proofs.OneAnswer.{one-list}
 
 -- what lies past the end is 0
 pub word-past : (words : List ℕ) (k : ℕ) → length words ≤ k → word_at words k ≡ 0
@@ -274,6 +275,20 @@ below-ascends words (suc n) = below-ascends-by (has_bit words n) n (members_belo
 
 pub members-ascend : (words : List ℕ) → IsAscending (members words)
 members-ascend words = below-ascends words (64 * length words)
+
+-- what holds holds after an error
+pub on-err : {T E P : Type 0} (r : Result T E) → P → OnErr r P
+on-err (Ok x) h = tt
+on-err (Err e) h = h
+
+-- words with the same bits are the same set
+pub same-bits : (old new : List ℕ) → ((k : ℕ) → word_at new k ≡ word_at old k) → (v : ℕ) → has_bit new v ≡ has_bit old v
+same-bits old new same v = ap (λ n. bit_at n (v % 64) == 1) (same (v / 64))
+
+pub members-same : (old new : List ℕ) → ((v : ℕ) → has_bit new v ≡ has_bit old v) → members new ≡ members old
+members-same old new same =
+    one-list (members new) (members old) (members-ascend new) (members-ascend old)
+    (λ v h. in-members old v ∙ sym (same v) ∙ sym (in-members new v) ∙ h) (λ v h. in-members new v ∙ same v ∙ sym (in-members old v) ∙ h)
 
 -- how many there are
 count-by : (b : Bool) → ℕ

@@ -1,13 +1,15 @@
+-- what crates above cite
 pub mod ListFacts
 pub mod BlockSteps
-pub mod PlaceSteps
 pub mod FunctionSteps
-pub mod PutSteps
 pub mod Placing
-pub mod Simulation
-pub mod SameRun
 pub mod Reach
 pub mod Reached
+-- the rest
+pub mod PlaceSteps
+pub mod PutSteps
+pub mod Simulation
+pub mod SameRun
 pub mod BitFacts
 pub mod OneAnswer
 pub mod SomeAnswer

@@ -34,7 +34,8 @@ tail-in x xs ys a h v k = elim (in-cases v x ys (h v (in-later v x xs k))) [
   | inr m ↦ m
 ]
 
-one-list : (xs ys : List ℕ) → IsAscending xs → IsAscending ys → ((v : ℕ) → is_in v xs ≡ true → is_in v ys ≡ true) → ((v : ℕ) → is_in v ys ≡ true → is_in v xs ≡ true) → xs ≡ ys
+-- an ascending list is told by what is in it
+pub one-list : (xs ys : List ℕ) → IsAscending xs → IsAscending ys → ((v : ℕ) → is_in v xs ≡ true → is_in v ys ≡ true) → ((v : ℕ) → is_in v ys ≡ true → is_in v xs ≡ true) → xs ≡ ys
 one-list [] [] a b h k = refl
 one-list [] (y ∷ ys) a b h k = let n = k y (in-first y ys) in cc
 one-list (x ∷ xs) [] a b h k = let n = h x (in-first x xs) in cc

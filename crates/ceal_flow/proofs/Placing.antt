@@ -34,7 +34,7 @@ module _ (blocks : List GraphBlock) where
   pub placed-tail : (n : ℕ) (x : GraphBlock) (xs : List GraphBlock) → Placed blocks n (x ∷ xs) → Placed blocks (n + 1) xs
   placed-tail n x xs h = placed-right n (x ∷ []) xs 1 refl h
 
-  -- the first statement, and those behind it
+  -- the first statement, and those after it
   pub placed-first : (s : TypedStmt) (ss : List TypedStmt) (n after : ℕ) (exits : Exits) → Placed blocks n (all_blocks (s ∷ ss) n after exits)
       → Placed blocks n (blocks_of s n (entry ss (n + size s) after exits) exits)
   placed-first s ss n after exits h =

@@ -1,4 +1,4 @@
--- The blocks that are put behind others.
+-- The blocks that are put after others.
 use Rattle.std.proofs.Common.{◌≡◌, ℕ, suc, ◌+◌, ◌<◌, true, false, ◌&&◌, List, [], ◌∷◌, ◌++◌, length, drop, get_or, replicate, if◌then◌else◌, refl, sym, ◌∙◌, arith, append_assoc, length-append, add-one}
 use Rattle.std.proofs.Math.Seq.{drop-cons}
 use Rattle.ceal_base.specs.declared.fault.Span.{Span}
@@ -42,7 +42,7 @@ all_blocks-drop xs i s n after exits is h = rw (drop-cons xs i s h, ← is, add-
 pub all_go_on-drop : (xs : List TypedStmt) (i : ℕ) (s : TypedStmt) → s ≡ get_or xs i s → i < length xs → all_go_on (drop i xs) ≡ (goes_on s && all_go_on (drop (i + 1) xs))
 all_go_on-drop xs i s is h = rw (drop-cons xs i s h, ← is, add-one) (on-cons s (drop (suc i) xs))
 
--- a statement behind which some path goes on leaves the rest
+-- a statement after which some path goes on leaves the rest
 pub put-next : (xs : List TypedStmt) (i : ℕ) (s : TypedStmt) (old new all : List GraphBlock) (next after : ℕ) (exits : Exits) → s ≡ get_or xs i s → i < length xs
     → next ≡ entry (drop (i + 1) xs) (length old + size s) after exits → new ≡ old ++ blocks_of s (length old) next exits → goes_on s ≡ true
     → old ++ all_blocks (drop i xs) (length old) after exits ≡ all
@@ -53,7 +53,7 @@ put-next xs i s old new all next after exits is h next_is new_is on all_is =
     rw ln
     (rw (new_is, next_is, append_assoc) (sym (rw (all_blocks-drop xs i s (length old) after exits is h, on) refl)) ∙ all_is)
 
--- behind any other the rest is left out
+-- after any other the rest is left out
 pub put-last : (xs : List TypedStmt) (i : ℕ) (s : TypedStmt) (old new : List GraphBlock) (all : List GraphBlock) (next after : ℕ) (exits : Exits) → s ≡ get_or xs i s → i < length xs
     → next ≡ entry (drop (i + 1) xs) (length old + size s) after exits → new ≡ old ++ blocks_of s (length old) next exits → goes_on s ≡ false
     → old ++ all_blocks (drop i xs) (length old) after exits ≡ all

@@ -27,7 +27,7 @@ none-kept zero i h = h
 none-kept (suc k) zero h = h
 none-kept (suc k) (suc i) h = none-kept k i h
 
--- an item of a list, or of the list behind it
+-- an item of a list, or of the list after it
 pub parted : {X : Type 0} (P : Option X → Type 0) (xs ys : List X) (i : ℕ) → P (slice_get (xs ++ ys) i)
     → ((i < length xs) × P (slice_get xs i)) ⊎ ((j : ℕ) × (i ≡ length xs + j) × P (slice_get ys j))
 parted P [] ys i h = inr (i, omega arith, h)
@@ -66,7 +66,7 @@ module _ (blocks : List GraphBlock) where
   exit-kept exits c d (inr (inl e)) = subst (λ x. Kept x) e d.behind
   exit-kept exits c d (inr (inr e)) = subst (λ x. Kept x) e d.test
 
-  -- blocks of statements from block `n` on, which are entered at `start`, and behind which a path goes on to `after`, or
+  -- blocks of statements from block `n` on, which are entered at `start`, and after which a path goes on to `after`, or
   -- where none does, one leads out
   pub record Laws (start : ℕ) (xs : List GraphBlock) (n after : ℕ) (exits : Exits) (on : Bool) : Type 0 where
     pub onward : on ≡ true → Leads blocks start after
@@ -118,7 +118,7 @@ module _ (blocks : List GraphBlock) where
     acts = act-acts s after simple;
   }
 
-  -- one part behind another
+  -- one part after another
   module _ (start mid : ℕ) (xs ys : List GraphBlock) (n k after : ℕ) (exits : Exits) (on : Bool) (long : length xs ≡ k)
       (one : Laws start xs n mid exits true) (two : Laws mid ys (n + k) after exits on) where
     seq-inside : (i : ℕ) → IsKept (slice_get (xs ++ ys) i) → Leads blocks start (n + i)
@@ -151,7 +151,7 @@ module _ (blocks : List GraphBlock) where
       acts = seq-acts;
     }
 
-  -- a part that does not go on, and what is left out behind it
+  -- a part that does not go on, and what is left out after it
   module _ (start mid : ℕ) (xs : List GraphBlock) (n k after : ℕ) (exits : Exits) (one : Laws start xs n mid exits false) where
     last-inside : (i : ℕ) → IsKept (slice_get (xs ++ replicate k Unreached) i) → Leads blocks start (n + i)
     last-inside i h = elim (parted IsKept xs (replicate k Unreached) i h) [

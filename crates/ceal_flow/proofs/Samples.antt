@@ -75,7 +75,7 @@ jumping_blocks : (graph_of jumping).blocks
 unfolding blocks_from all_blocks blocks_of sizes size goes_on all_go_on hidden-the_row-TypedStmt-0 shape-the_row-TypedStmt-0 denote.Hole.Carrier.hidden
 jumping_blocks = refl
 
--- x is live behind its use, by the path back to the test and into the body
+-- x is live after its use, by the path back to the test and into the body
 looping_live : Live (graph_of looping).blocks 2 3
 unfolding blocks_from all_blocks blocks_of sizes size goes_on all_go_on form_mentions hidden-the_row-TypedStmt-0 shape-the_row-TypedStmt-0 denote.Hole.Carrier.hidden
 looping_live = (2, jumps_to {c = 1} refl (Contains-push [] 1) (jumps_to {c = 2} refl (0, lit< tt, refl) stays), refl)

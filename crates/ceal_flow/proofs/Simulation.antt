@@ -45,7 +45,7 @@ module _ (fs : List TypedFunction) (blocks : List GraphBlock) (done : ℕ) where
     pub placed : Placed blocks n (blocks_of s n after exits)
 
   -- the items still to do stand at a block, from which jumps lead to these exits: each statement stands where the one
-  -- before it leads, and behind one that does not go on anything may follow
+  -- before it leads, and after one that does not go on anything may follow
   abbrev pub Stands : Exits → List Item → ℕ → Type 0
   Stands exits [] at = at ≡ done
   Stands exits (Do s ∷ rest) at =
@@ -124,7 +124,7 @@ module _ (fs : List TypedFunction) (blocks : List GraphBlock) (done : ℕ) where
     behind-ready exits (Do s ∷ rest) h = behind-ready exits rest h
     behind-ready exits (Again w ∷ rest) h = all-ready h.0 rest exits.behind h.2 h.3
 
-  -- the first statement, what stands behind it where it goes on, and the loops around it
+  -- the first statement, what follows it where it goes on, and the loops around it
   pub record Front (s : TypedStmt) (rest : List Item) (at : ℕ) : Type 0 where
     pub exits : Exits
     pub n : ℕ

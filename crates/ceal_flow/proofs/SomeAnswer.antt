@@ -219,7 +219,7 @@ module _ (blocks : List GraphBlock) (v : ℕ) where
   live-is : (b : ℕ) → (is_live b ≡ true) ↔ Live blocks v b
   live-is b = (full.sound b, λ h. path-marked b h.0 h.1 h.2)
 
--- the numbers from `low` on, so many, that pass a test
+-- the numbers from `low` on that pass a test, of as many as are given
 unfoldable passing : (ℕ → Bool) → ℕ → ℕ → List ℕ
 passing test low zero = []
 passing test low (suc k) = if test low then low ∷ passing test (low + 1) k else passing test (low + 1) k

@@ -17,15 +17,17 @@ unfoldable mutual
   size (Continue at) = 0
   size _ = 1
 
+  -- how many blocks the statements of a row have
   pub row_size : {n : _} → Row_of-TypedStmt n → ℕ
   row_size end_of-TypedStmt = 0
   row_size (more_of-TypedStmt s rest) = size s + row_size rest
 
+-- how many blocks the statements of a list have
 unfoldable pub sizes : List TypedStmt → ℕ
 sizes [] = 0
 sizes (s ∷ rest) = size s + sizes rest
 
--- whether some path goes on behind a statement: not behind a jump, nor behind an `if` of which neither part goes on
+-- whether some path goes on after a statement: not after a jump, nor after an `if` neither part of which goes on
 unfoldable mutual
   pub goes_on : TypedStmt → Bool
   goes_on (If' at test _ first _ second) = row_goes_on first || row_goes_on second
@@ -34,10 +36,12 @@ unfoldable mutual
   goes_on (Continue at) = false
   goes_on _ = true
 
+  -- whether some path goes on after the statements of a row
   pub row_goes_on : {n : _} → Row_of-TypedStmt n → Bool
   row_goes_on end_of-TypedStmt = true
   row_goes_on (more_of-TypedStmt s rest) = goes_on s && row_goes_on rest
 
+-- whether some path goes on after the statements of a list
 unfoldable pub all_go_on : List TypedStmt → Bool
 all_go_on [] = true
 all_go_on (s ∷ rest) = goes_on s && all_go_on rest
@@ -62,6 +66,7 @@ abbrev pub row_entry : {m : _} → Row_of-TypedStmt m → ℕ → ℕ → Exits 
 row_entry end_of-TypedStmt n after exits = after
 row_entry (more_of-TypedStmt s rest) n after exits = target s n exits
 
+-- the block at which statements are entered, the first of them at block `n`
 abbrev pub entry : List TypedStmt → ℕ → ℕ → Exits → ℕ
 entry [] n after exits = after
 entry (s ∷ rest) n after exits = target s n exits
@@ -80,12 +85,14 @@ unfoldable mutual
   blocks_of (Continue at) n after exits = []
   blocks_of s n after exits = Act s after ∷ []
 
+  -- the blocks of the statements of a row, from block `n` on
   pub row_blocks : {m : _} → Row_of-TypedStmt m → ℕ → ℕ → Exits → List GraphBlock
   row_blocks end_of-TypedStmt n after exits = []
   row_blocks (more_of-TypedStmt s rest) n after exits =
       blocks_of s n (row_entry rest (n + size s) after exits) exits
       ++ (if goes_on s then row_blocks rest (n + size s) after exits else replicate (row_size rest) Unreached)
 
+-- the blocks of the statements of a list, from block `n` on
 unfoldable pub all_blocks : List TypedStmt → ℕ → ℕ → Exits → List GraphBlock
 all_blocks [] n after exits = []
 all_blocks (s ∷ rest) n after exits =

@@ -43,6 +43,7 @@ point_in (Some (Core name first params kinds)) args =
     record { block = first; env = args ++ replicate (length kinds - length args) Null } ∷ []
 point_in (Some (Init f)) args = []
 
+-- the points that a run of the function begins with
 abbrev pub entered : Graph → ℕ → List Word → List Point
 entered g function args = point_in (slice_get g.functions function) args
 
@@ -55,6 +56,7 @@ taken g env m (Alloc at shape function name args) =
 taken g env m (ModrefInt at) = new_modifiable m (default_block g.structs OneInt)
 taken g env m (Modref at s) = new_modifiable m (default_block g.structs (OnePtr s))
 
+-- the state after an assignment of what was taken to variable `n`
 abbrev pub given : Taken → ℕ → ℕ → List Word → List Point → State
 given t n next env below = record {
   memory = t.memory;
@@ -95,7 +97,7 @@ stepped g m env below (Some (Test test first second)) = record {
 stepped g m env below (Some (Act s next)) = acted g m next env below s
 stepped g m env below _ = record { memory = m; points = below }
 
--- a run from points of which the first is not over, with fuel for so many more steps, after so many
+-- a run from points of which the first is not over, with fuel for the given number of steps more, after the steps so far
 unfoldable pub run_settled : Graph → ℕ → ℕ → Blocks → List Point → Option Finished
 run_settled g fuel steps m [] = Some (record { memory = m; steps = steps; blocks = length m.made })
 run_settled g zero steps m (p ∷ below) = None

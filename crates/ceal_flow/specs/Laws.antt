@@ -1,7 +1,7 @@
 -- Laws of graphs.
 use Rattle.std.specs.Prelude.{◌≡◌, ◌↔◌, ℕ, Option, Some, None, List, [], ◌∷◌, slice_get, Contains}
 use Rattle.ceal_base.specs.Block.{Block}
-use Rattle.ceal_base.specs.Usage.{IsCore}
+use Rattle.ceal_base.specs.Usage.{IsCore, KeepsUsage}
 use Rattle.ceal_base.specs.declared.typed.Typed.{Typed}
 use Rattle.ceal_base.specs.declared.typed.TypedStmt.{TypedStmt, If', While', Return, Break, Continue}
 use Rattle.ceal_base.specs.declared.word.Word.{Word}
@@ -21,6 +21,10 @@ abbrev pub RunsAs : Graph → Typed → Type 0
 RunsAs g p = (f : ℕ) (args : List Word) (inputs : List Block) (fuel : ℕ)
     → IsCore (slice_get p.functions f) → fresh g f args inputs fuel ≡ source_fresh p f args inputs fuel
 
+-- the graph of a program that keeps the rules of usage runs as the program does
+abbrev pub RunLaw : Type 0
+RunLaw = (p : Typed) → KeepsUsage p → RunsAs (graph_of p) p
+
 -- the block is there, and is not left out
 abbrev pub IsKept : Option GraphBlock → Type 0
 IsKept None = ⊥
@@ -38,8 +42,8 @@ abbrev pub IsReached : Graph → ℕ → Type 0
 IsReached g b = (first : ℕ) × Contains (firsts g.functions) first × Leads g.blocks first b
 
 -- exactly the blocks are kept to which a path leads
-abbrev pub Kept_law : Type 0
-Kept_law = (p : Typed) (b : ℕ) → IsKept (slice_get (graph_of p).blocks b) ↔ IsReached (graph_of p) b
+abbrev pub KeptLaw : Type 0
+KeptLaw = (p : Typed) (b : ℕ) → IsKept (slice_get (graph_of p).blocks b) ↔ IsReached (graph_of p) b
 
 -- a statement that is no condition and no jump
 abbrev pub IsSimple : TypedStmt → Type 0
@@ -51,13 +55,13 @@ IsSimple (Continue at) = ⊥
 IsSimple _ = Unit {0}
 
 -- blocks act by such statements alone
-abbrev pub Act_law : Type 0
-Act_law = (p : Typed) (b : ℕ) (s : TypedStmt) (next : ℕ) → slice_get (graph_of p).blocks b ≡ Some (Act s next) → IsSimple s
+abbrev pub ActLaw : Type 0
+ActLaw = (p : Typed) (b : ℕ) (s : TypedStmt) (next : ℕ) → slice_get (graph_of p).blocks b ≡ Some (Act s next) → IsSimple s
 
 -- a graph has one list of live sets
-abbrev pub One_law : Type 0
-One_law = (blocks : List GraphBlock) (s t : List (List ℕ)) → AreLiveSets blocks s → AreLiveSets blocks t → s ≡ t
+abbrev pub OneLaw : Type 0
+OneLaw = (blocks : List GraphBlock) (s t : List (List ℕ)) → AreLiveSets blocks s → AreLiveSets blocks t → s ≡ t
 
 -- and it has one
-abbrev pub Some_law : Type 0
-Some_law = (blocks : List GraphBlock) → (s : List (List ℕ)) × AreLiveSets blocks s
+abbrev pub SomeLaw : Type 0
+SomeLaw = (blocks : List GraphBlock) → (s : List (List ℕ)) × AreLiveSets blocks s

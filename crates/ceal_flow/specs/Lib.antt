@@ -1,3 +1,4 @@
+-- what the crate promises
 pub mod Program
 pub mod Blocks
 pub mod Lowering

@@ -1,4 +1,5 @@
--- Live variables, by paths: the classical definition of data flow analysis.
+-- Live variables, by paths: the classical definition of data flow analysis (Kildall, POPL 1973; Aho, Lam, Sethi and Ullman,
+-- *Compilers*, 2006, section 9.2).
 use Rattle.std.specs.Prelude.{◌≡◌, ◌↔◌, ℕ, ◌<◌, not, Bool, true, Option, Some, None, List, [], ◌∷◌, ◌++◌, length, slice_get}
 use Rattle.ceal_base.specs.declared.typed.TypedExpr.{TypedExpr}
 use Rattle.ceal_base.specs.declared.typed.TypedForm.TheBlock.{Row_of-TypedExpr, end_of-TypedExpr, more_of-TypedExpr}
@@ -23,17 +24,21 @@ unfoldable mutual
   form_mentions (Field' _ a s field) = operand_mentions a
   form_mentions (Address' _ a s field) = operand_mentions a
 
+  -- the variables that an operand mentions
   pub operand_mentions : {n : _} → Row_of-TypedExpr n → List ℕ
   operand_mentions end_of-TypedExpr = []
   operand_mentions (more_of-TypedExpr span kind form rest) = form_mentions form
 
+-- the variables that an expression mentions
 abbrev pub mentions : TypedExpr → List ℕ
 mentions e = form_mentions e.form
 
+-- the variables that expressions mention
 unfoldable pub all_mentions : List TypedExpr → List ℕ
 all_mentions [] = []
 all_mentions (e ∷ es) = mentions e ++ all_mentions es
 
+-- the variables that a value mentions
 abbrev pub value_mentions : TypedValue → List ℕ
 value_mentions (Plain e) = mentions e
 value_mentions (Read at e) = mentions e
@@ -55,6 +60,7 @@ stmt_uses (Return at) = []
 stmt_uses (Break at) = []
 stmt_uses (Continue at) = []
 
+-- the variables that a block uses
 abbrev pub uses : GraphBlock → List ℕ
 uses Done = []
 uses (Test test first second) = mentions test
@@ -67,6 +73,7 @@ stmt_assigns (Declare at n kind value) = Some n
 stmt_assigns (Assign at n value) = Some n
 stmt_assigns _ = None
 
+-- the variable that a block assigns, if it does
 abbrev pub assigns : GraphBlock → Option ℕ
 assigns (Act s next) = stmt_assigns s
 assigns _ = None
@@ -75,6 +82,7 @@ assigns _ = None
 abbrev pub keeps : ℕ → GraphBlock → Bool
 keeps v block = not (is_that (assigns block) v)
 
+-- the variables that a block uses, if it is there
 abbrev pub uses_at : Option GraphBlock → List ℕ
 uses_at None = []
 uses_at (Some block) = uses block

@@ -20,9 +20,11 @@ abbrev pub size_in : Option ℕ → List TypedStmt → ℕ
 size_in None body = sizes body + 1
 size_in (Some s) body = 0
 
+-- how many blocks a function has
 abbrev pub function_size : TypedFunction → ℕ
 function_size f = size_in f.initialiser f.body
 
+-- how many blocks functions have
 unfoldable pub function_sizes : List TypedFunction → ℕ
 function_sizes [] = 0
 function_sizes (f ∷ fs) = function_size f + function_sizes fs
@@ -39,10 +41,12 @@ first_of body n = entry body n (end_of body n) (no_loop (end_of body n))
 abbrev pub core_at : TypedFunction → ℕ → GraphFunction
 core_at f n = Core f.name.text (first_of f.body n) f.params f.kinds
 
+-- the function of the graph: a core function begins at block `n`, an initialiser has no block
 abbrev pub function_in : Option ℕ → TypedFunction → ℕ → GraphFunction
 function_in None f n = core_at f n
 function_in (Some s) f n = Init f
 
+-- a function of the graph, whose first block is block `n`
 abbrev pub function_at : TypedFunction → ℕ → GraphFunction
 function_at f n = function_in f.initialiser f n
 
@@ -50,10 +54,12 @@ function_at f n = function_in f.initialiser f n
 abbrev pub core_blocks : List TypedStmt → ℕ → List GraphBlock
 core_blocks body n = all_blocks body n (end_of body n) (no_loop (end_of body n)) ++ Done ∷ []
 
+-- the blocks of a core function from block `n` on; an initialiser has none
 abbrev pub blocks_in : Option ℕ → List TypedStmt → ℕ → List GraphBlock
 blocks_in None body n = core_blocks body n
 blocks_in (Some s) body n = []
 
+-- the blocks of a function from block `n` on
 abbrev pub blocks_at : TypedFunction → ℕ → List GraphBlock
 blocks_at f n = blocks_in f.initialiser f.body n
 
@@ -62,6 +68,7 @@ unfoldable pub functions_from : ℕ → List TypedFunction → List GraphFunctio
 functions_from n [] = []
 functions_from n (f ∷ fs) = function_at f n ∷ functions_from (n + function_size f) fs
 
+-- the blocks of functions from block `n` on
 unfoldable pub blocks_from : ℕ → List TypedFunction → List GraphBlock
 blocks_from n [] = []
 blocks_from n (f ∷ fs) = blocks_at f n ++ blocks_from (n + function_size f) fs
@@ -84,21 +91,26 @@ unfoldable mutual
   places (Break at) = []
   places (Continue at) = []
 
+  -- the places of the statements of a row
   pub row_places : {n : _} → Row_of-TypedStmt n → List Span
   row_places end_of-TypedStmt = []
   row_places (more_of-TypedStmt s rest) = places s ++ row_places rest
 
+-- the places of the statements of a list
 unfoldable pub all_places : List TypedStmt → List Span
 all_places [] = []
 all_places (s ∷ rest) = places s ++ all_places rest
 
+-- the places of the blocks of a core function, with that of its closing brace
 abbrev pub places_in : Option ℕ → List TypedStmt → Span → List Span
 places_in None body close = all_places body ++ close ∷ []
 places_in (Some s) body close = []
 
+-- the places of the blocks of a function
 abbrev pub places_of : TypedFunction → List Span
 places_of f = places_in f.initialiser f.body f.close
 
+-- the places of the blocks of functions
 unfoldable pub function_places : List TypedFunction → List Span
 function_places [] = []
 function_places (f ∷ fs) = places_of f ++ function_places fs
@@ -108,5 +120,6 @@ abbrev pub lowered_at : Typed → Option Span → Result Graph Fault
 lowered_at p None = Ok (graph_of p)
 lowered_at p (Some at) = Err (record { code = L1; span = at })
 
+-- the graph of a program, or the fault at the first block that is too many
 abbrev pub lowered : Typed → Result Graph Fault
 lowered p = lowered_at p (slice_get (function_places p.functions) BLOCK_LIMIT)

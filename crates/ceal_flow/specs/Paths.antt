@@ -10,6 +10,7 @@ jumps (Test test first second) = first ∷ second ∷ []
 jumps (Act s next) = next ∷ []
 jumps Unreached = []
 
+-- the targets of the jumps of a block, if it is there
 abbrev pub jumps_at : Option GraphBlock → List ℕ
 jumps_at None = []
 jumps_at (Some block) = jumps block
@@ -24,6 +25,7 @@ pub data Path (blocks : List GraphBlock) (test : GraphBlock → Bool) : ℕ → 
   stays : {b : ℕ} → Path blocks test b b
   jumps_to : {b c d : ℕ} → test_at test (slice_get blocks b) → Contains (jumps_at (slice_get blocks b)) c → Path blocks test c d → Path blocks test b d
 
+-- every block
 abbrev pub any : GraphBlock → Bool
 any block = true
 

@@ -22,9 +22,9 @@ pub fn has(words: &[u64], v: u32) -> bool
     (word >> (v % 64)) & 1 == 1
 }
 
-/// Makes room for so many words.
-fn grow(words: &mut Vec<u64>, count: usize) -> Result<(), NoMemory>
-    ensures same { OnOk result ((k : ℕ) → word_at words.new.items k ≡ word_at words.old.items k) }
+/// Makes the words as many as these, by words of 0 behind them.
+pub fn grow(words: &mut Vec<u64>, count: usize) -> Result<(), NoMemory>
+    ensures same { (k : ℕ) → word_at words.new.items k ≡ word_at words.old.items k }
     ensures longer { OnOk result (count ≤ length words.new.items) }
     ensures few { length words.new.items ≤ max (length words.old.items) count }
 {
@@ -44,28 +44,23 @@ fn set_word(words: &mut Vec<u64>, at: usize, word: u64)
 }
 
 /// Adds these bits to a word, and says whether any was added.
-pub fn put_bits(words: &mut Vec<u64>, at: usize, bits: u64) -> Result<bool, NoMemory>
-    requires within { at < 2 ^ 26 }
-    requires few { length words.old.items ≤ 2 ^ 26 }
-    ensures here { OnOk result
-        (word_at words.new.items at ≡ bit_or (word_at words.old.items at) bits) }
-    ensures others { OnOk result
-        ((k : ℕ) → k ≢ at → word_at words.new.items k ≡ word_at words.old.items k) }
-    ensures same { IfOk result (λ changed. changed ≡ false → words.new.items ≡ words.old.items) }
-    ensures more { IfOk result
-        (λ changed. changed ≡ true
+pub fn put_bits(words: &mut Vec<u64>, at: usize, bits: u64) -> bool
+    requires within { at < length words.old.items }
+    ensures here { word_at words.new.items at ≡ bit_or (word_at words.old.items at) bits }
+    ensures others { (k : ℕ) → k ≢ at → word_at words.new.items k ≡ word_at words.old.items k }
+    ensures same { result ≡ false → words.new.items ≡ words.old.items }
+    ensures more { result ≡ true
         → (j : ℕ) × (j < 64)
-        × (bit_at (word_at words.old.items at) j ≢ bit_at (word_at words.new.items at) j)) }
-    ensures few { length words.new.items ≤ 2 ^ 26 }
+        × (bit_at (word_at words.old.items at) j ≢ bit_at (word_at words.new.items at) j) }
+    ensures length { length words.new.items ≡ length words.old.items }
 {
     let old = word(words.as_slice(), at);
     let joined = old | bits;
     if joined == old {
-        return Ok(false);
+        return false;
     }
-    grow(words, at + 1)?;
     set_word(words, at, joined);
-    Ok(true)
+    true
 }
 
 /// The bits of the word at an index, without that of a number.
@@ -86,30 +81,23 @@ fn bits_but(word: u64, at: usize, except: Option<u32>) -> u64
 }
 
 /// Adds the numbers of the other set but one, and says whether any was added.
-pub fn join_words(
-    words: &mut Vec<u64>,
-    others: &[u64],
-    except: Option<u32>,
-) -> Result<bool, NoMemory>
-    requires few { length words.old.items ≤ 2 ^ 26 }
-    requires few_others { length others.now ≤ 2 ^ 26 }
-    ensures joined { OnOk result
-        ((w : ℕ)
+pub fn join_words(words: &mut Vec<u64>, others: &[u64], except: Option<u32>) -> bool
+    requires within { length others.now ≤ length words.old.items }
+    ensures joined { (w : ℕ)
         → has_bit words.new.items w
-        ≡ (has_bit words.old.items w || (has_bit others.now w && not (is_that except w)))) }
-    ensures same { IfOk result (λ changed. changed ≡ false → words.new.items ≡ words.old.items) }
-    ensures more { IfOk result
-        (λ changed. changed ≡ true
-        → (w : ℕ) × (has_bit words.old.items w ≡ false) × (has_bit words.new.items w ≡ true)) }
-    ensures few { length words.new.items ≤ 2 ^ 26 }
+        ≡ (has_bit words.old.items w || (has_bit others.now w && not (is_that except w))) }
+    ensures same { result ≡ false → words.new.items ≡ words.old.items }
+    ensures more { result ≡ true
+        → (w : ℕ) × (has_bit words.old.items w ≡ false) × (has_bit words.new.items w ≡ true) }
+    ensures length { length words.new.items ≡ length words.old.items }
 {
     let mut changed = false;
     for (i, other) in others.iter().enumerate() {
         let bits = bits_but(*other, i, except);
-        let more = put_bits(words, i, bits)?;
+        let more = put_bits(words, i, bits);
         changed = changed | more;
     }
-    Ok(changed)
+    changed
 }
 
 fn push_if(numbers: &mut Vec<u32>, is_there: bool, v: u32) -> Result<(), NoMemory>

@@ -1,23 +1,28 @@
 // The laws of graphs, each the contract of a function that does nothing.
 
-ghost use Rattle.ceal_flow.specs.Laws.{Act_law, Kept_law, One_law, Some_law};
+ghost use Rattle.ceal_flow.specs.Laws.{ActLaw, KeptLaw, OneLaw, RunLaw, SomeLaw};
 
 /// A block is left out exactly where no path leads to it from the first block of a function.
 pub fn kept_law()
-    ensures law { Kept_law }
+    ensures law { KeptLaw }
 {}
 
 /// The statement of a block is no `if`, no `while` and no jump: no `return`, `break` or `continue`.
 pub fn act_law()
-    ensures law { Act_law }
+    ensures law { ActLaw }
+{}
+
+/// The graph of a program that keeps the rules of usage runs as the program does.
+pub fn run_law()
+    ensures law { RunLaw }
 {}
 
 /// There is one list of the live variables of a graph's blocks.
 pub fn one_law()
-    ensures law { One_law }
+    ensures law { OneLaw }
 {}
 
 /// There is one for each graph.
 pub fn some_law()
-    ensures law { Some_law }
+    ensures law { SomeLaw }
 {}

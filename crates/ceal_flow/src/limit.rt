@@ -7,7 +7,7 @@ ghost use Rattle.ceal_flow.specs.Lowering.{function_size, function_sizes, places
 use ceal_base::fault::Span;
 use ceal_base::typed::{TypedFunction, TypedStmt};
 
-/// A program has at most so many blocks.
+/// How many blocks a program has at most.
 pub const BLOCK_LIMIT: u32 = 65_535;
 
 /// One block more, which has this place.

@@ -1,9 +1,9 @@
 // Sets of variables.
 
-ghost use Rattle.std.specs.Prelude.{◌≡◌, ◌<◌, ◌≤◌, ◌==◌, ◌^◌, ◌||◌, ◌&&◌, not, true, false, ℕ, [], length, IfOk, OnOk};
+ghost use Rattle.std.specs.Prelude.{◌≡◌, ◌<◌, ◌≤◌, ◌==◌, ◌^◌, ◌||◌, ◌&&◌, not, true, false, ℕ, [], length, IfOk, OnOk, OnErr};
 ghost use Rattle.ceal_flow.specs.Sets.{is_in, is_that, IsAscending};
 
-use crate::bits::{has, join_words, numbers, put_bits};
+use crate::bits::{grow, has, join_words, numbers, put_bits};
 use ceal_base::no_memory::NoMemory;
 use std::alloc::Global;
 use std::marker::Model;
@@ -43,10 +43,13 @@ impl LiveSet {
 
     pub fn insert(&mut self, v: u32) -> Result<(), NoMemory>
         ensures ok { OnOk result ((w : ℕ) → is_in w self.new ≡ (v == w || is_in w self.old)) }
+        ensures err { OnErr result (self.new ≡ self.old) }
         ensures ascending { IsAscending self.new }
         ensures few { length self.new ≤ 2 ^ 32 }
     {
-        put_bits(&mut self.words, v as usize / 64, 1 << (v % 64))?;
+        let at = v as usize / 64;
+        grow(&mut self.words, at + 1)?;
+        put_bits(&mut self.words, at, 1 << (v % 64));
         Ok(())
     }
 
@@ -56,13 +59,14 @@ impl LiveSet {
             ((w : ℕ)
             → is_in w self.new
             ≡ (is_in w self.old || (is_in w other.now && not (is_that except w)))) }
+        ensures err { OnErr result (self.new ≡ self.old) }
         ensures same { IfOk result (λ changed. changed ≡ false → self.new ≡ self.old) }
         ensures more { IfOk result (λ changed. changed ≡ true → length self.old < length self.new) }
         ensures ascending { IsAscending self.new }
         ensures few { length self.new ≤ 2 ^ 32 }
     {
-        let changed = join_words(&mut self.words, other.words.as_slice(), except)?;
-        Ok(changed)
+        grow(&mut self.words, other.words.len())?;
+        Ok(join_words(&mut self.words, other.words.as_slice(), except))
     }
 
     /// The variables, ascending.

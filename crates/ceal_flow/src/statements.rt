@@ -21,7 +21,7 @@ pub fn next_number(blocks: &Vec<GraphBlock>) -> u32
     blocks.len() as u32
 }
 
-/// The block of a statement that has one; some path goes on behind it.
+/// The block of a statement that has one; some path goes on after it.
 fn put_act(
     alloc: Global,
     blocks: &mut Vec<GraphBlock>,
@@ -50,7 +50,7 @@ fn put_test(
     Ok(())
 }
 
-/// Leaves out so many blocks.
+/// Leaves out `count` blocks.
 fn leave_out(blocks: &mut Vec<GraphBlock>, count: u32) -> Result<(), NoMemory>
     ensures { OnOk result (blocks.new.items ≡ blocks.old.items ++ replicate count Unreached) }
 {
@@ -60,7 +60,7 @@ fn leave_out(blocks: &mut Vec<GraphBlock>, count: u32) -> Result<(), NoMemory>
     Ok(())
 }
 
-/// Adds the blocks of a statement, which is followed by a jump to `after`, and says whether some path goes on behind it.
+/// Adds the blocks of a statement, which is followed by a jump to `after`, and says whether some path goes on after it.
 #[cycle(put)]
 #[tactic(auto, using(crate::proofs::BlockSteps::put_steps))]
 fn put_stmt(
@@ -106,7 +106,7 @@ fn put_stmt(
     }
 }
 
-/// Adds the blocks of statements, which are followed by a jump to `after`, and says whether some path goes on behind
+/// Adds the blocks of statements, which are followed by a jump to `after`, and says whether some path goes on after
 /// them. What no path leads to is left out.
 #[cycle(put)]
 #[tactic(auto, using(crate::proofs::BlockSteps::put_steps))]

@@ -109,13 +109,13 @@ module _ (structs : List StructInfo) where
         ∙ facts-follow (handed at n (folded_command structs (at n) d)) (n + 1) before i (omega (arith, e)) j lo m a
         ∙ ap (λ k. copies_after k (folded_command structs k c)) (sym (facts-later at n d (before ++ c ∷ after) i (not-first n i s)))
 
-    pub record Replaced_around (at : ℕ → Copies) (n : ℕ) (before : List Cmd) (i : ℕ) : Type 0 where
+    pub record ReplacedAround (at : ℕ → Copies) (n : ℕ) (before : List Cmd) (i : ℕ) : Type 0 where
       pub before' : List Cmd
       pub after' : List Cmd
       pub whole : replaced structs at n (before ++ c ∷ after) ≡ before' ++ folded_command structs (facts at n (before ++ c ∷ after) i) c ∷ after'
       pub long : length before' ≡ length before
 
-    pub replaced-around : (at : ℕ → Copies) (n : ℕ) (before : List Cmd) (i : ℕ) → i ≡ n + length before → Replaced_around at n before i
+    pub replaced-around : (at : ℕ → Copies) (n : ℕ) (before : List Cmd) (i : ℕ) → i ≡ n + length before → ReplacedAround at n before i
     unfolding replaced facts
     replaced-around at n [] i e =
         let z : i ≡ n = omega (arith, e) in
@@ -156,13 +156,13 @@ ticked-tree cs = same-tree (without_unused 0 cs) cs (ticked-length 0 cs) (ticked
 pub folded-length : (structs : List StructInfo) (cs : List Cmd) → length (without_unused 0 (replaced structs at_root 0 cs)) ≡ length cs
 folded-length structs cs = ticked-length 0 (replaced structs at_root 0 cs) ∙ replaced-length structs at_root 0 cs
 
-pub record Ticked_around (c : Cmd) (after : List Cmd) (n : ℕ) (before : List Cmd) (i : ℕ) : Type 0 where
+pub record TickedAround (c : Cmd) (after : List Cmd) (n : ℕ) (before : List Cmd) (i : ℕ) : Type 0 where
   pub before' : List Cmd
   pub after' : List Cmd
   pub whole : without_unused n (before ++ c ∷ after) ≡ before' ++ ticked (used_in (used (i + 1) after') (followers c i)) c ∷ after'
   pub long : length before' ≡ length before
 
-pub ticked-around : (c : Cmd) (after : List Cmd) (n : ℕ) (before : List Cmd) (i : ℕ) → i ≡ n + length before → Ticked_around c after n before i
+pub ticked-around : (c : Cmd) (after : List Cmd) (n : ℕ) (before : List Cmd) (i : ℕ) → i ≡ n + length before → TickedAround c after n before i
 unfolding without_unused
 ticked-around c after n [] i e =
     let z : i ≡ n = omega (arith, e) in
@@ -176,7 +176,7 @@ ticked-around c after n (d ∷ before) i e =
       long = ap suc q.long;
     }
 
--- what is used from an index on, where it stands behind others
+-- what is used from an index on, where it stands after others
 used-first : (n : ℕ) (c : Cmd) (cs : List Cmd) (u : ℕ) → used n (c ∷ cs) n u ≡ used_by (used (n + 1) cs) c n u
 unfolding used
 used-first n c cs u = ap (λ b. if b then used_by (used (n + 1) cs) c n u else used (n + 1) cs n u) (is-first n)

@@ -1,5 +1,5 @@
 -- The folding of each form of expression.
-use Rattle.std.proofs.Common.{◌≡◌, ℕ, ℤ, List, [], ◌∷◌, ◌++◌, refl, length, arith, append_assoc}
+use Rattle.std.proofs.Common.{◌≡◌, ℕ, ℤ, List, [], ◌∷◌, refl, length, arith, append_assoc}
 use Rattle.std.proofs.lemmas.List.{append-nil}
 use Rattle.ceal_base.specs.declared.operators.Binary.{Binary as BinaryOp}
 use Rattle.ceal_base.specs.declared.operators.Unary.{Unary as UnaryOp}

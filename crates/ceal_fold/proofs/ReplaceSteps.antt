@@ -1,5 +1,5 @@
 -- The pass from the root down.
-use Rattle.std.proofs.Common.{◌≡◌, ℕ, zero, suc, ◌+◌, ◌<◌, ◌≤◌, ◌==◌, ◌||◌, Bool, true, false, if◌then◌else◌, Option, List, [], ◌∷◌, ◌++◌, refl, sym, ap, ap₂, ◌∙◌, length, replicate, arith, append_assoc, slice_get, slice_set, unwrap_or}
+use Rattle.std.proofs.Common.{◌≡◌, ℕ, zero, suc, ◌+◌, ◌<◌, ◌≤◌, ◌==◌, ◌||◌, Bool, true, false, if◌then◌else◌, List, [], ◌∷◌, ◌++◌, refl, sym, ap, ap₂, ◌∙◌, length, replicate, arith, append_assoc, slice_set}
 use Rattle.std.proofs.lemmas.List.{append-nil}
 use Rattle.ceal_base.specs.declared.typed.StructInfo.{StructInfo}
 use Rattle.ceal_code.proofs.Same.{nat-same}
@@ -7,7 +7,7 @@ use Rattle.ceal_code.specs.Valid.{followers}
 use Rattle.ceal_code.specs.declared.command.Cmd.{Cmd}
 use Rattle.ceal_fold.proofs.ListSteps.{at-same, at-other}
 use Rattle.ceal_fold.specs.Folding.{Copies, no_copies, copies_after, folded_command, is_among, handed, replaced}
-use Rattle.ceal_fold.specs.States.{last_of, time, copy_at, state_at, copies_at, Until, All_until}
+use Rattle.ceal_fold.specs.States.{last_of, time, copy_at, state_at, copies_at, Until, AllUntil}
 use Rattle.ceal_fold.specs.declared.known.Assigned.{Assigned}
 
 pub set-length : {A : Type 0} (xs : List A) (i : ℕ) (x : A) → length (slice_set xs i x) ≡ length xs
@@ -28,8 +28,8 @@ pub copies-is : (states : List (List (ℕ × Assigned))) (i : ℕ) → copies_at
 unfolding copies_at
 copies-is states i = refl
 
-pub until-at : (n : ℕ) (states : List (List (ℕ × Assigned))) → All_until n states → (j v : ℕ) → time (last_of (state_at states j) v) ≤ n
-unfolding All_until Until
+pub until-at : (n : ℕ) (states : List (List (ℕ × Assigned))) → AllUntil n states → (j v : ℕ) → time (last_of (state_at states j) v) ≤ n
+unfolding AllUntil Until
 until-at n states h j v = h j v
 
 pub until-from : (n : ℕ) (s : List (ℕ × Assigned)) → ((v : ℕ) → time (last_of s v) ≤ n) → Until n s
@@ -40,20 +40,20 @@ pub until-none : (n : ℕ) → Until n []
 unfolding Until last_of
 until-none n v = omega arith
 
-pub until-set : (n : ℕ) (states : List (List (ℕ × Assigned))) (i : ℕ) (s : List (ℕ × Assigned)) → All_until n states → Until n s → All_until n (slice_set states i s)
-unfolding All_until state_at
+pub until-set : (n : ℕ) (states : List (List (ℕ × Assigned))) (i : ℕ) (s : List (ℕ × Assigned)) → AllUntil n states → Until n s → AllUntil n (slice_set states i s)
+unfolding AllUntil state_at
 until-set n [] i s h k j = h j
 until-set n (x ∷ xs) zero s h k zero = k
 until-set n (x ∷ xs) zero s h k (suc j) = h (suc j)
 until-set n (x ∷ xs) (suc i) s h k zero = h zero
 until-set n (x ∷ xs) (suc i) s h k (suc j) = until-set n xs i s (λ j. h (suc j)) k j
 
-pub until-more : (n : ℕ) (states : List (List (ℕ × Assigned))) → All_until n states → All_until (n + 1) states
-unfolding All_until Until
+pub until-more : (n : ℕ) (states : List (List (ℕ × Assigned))) → AllUntil n states → AllUntil (n + 1) states
+unfolding AllUntil Until
 until-more n states h j v = let lo = h j v in omega (arith, lo)
 
-pub until-begun : (n m : ℕ) → All_until n (replicate m [])
-unfolding All_until state_at
+pub until-begun : (n m : ℕ) → AllUntil n (replicate m [])
+unfolding AllUntil state_at
 until-begun n zero j = until-none n
 until-begun n (suc m) zero = until-none n
 until-begun n (suc m) (suc j) = until-begun n m j

@@ -25,7 +25,7 @@ use Rattle.ceal_code.specs.declared.function.FunctionCode.{FunctionCode}
 use Rattle.ceal_code.specs.declared.function.FunctionCode.TheVariants.{Core as CoreFunction, Init as InitFunction}
 use Rattle.ceal_fold.proofs.Bodies.{facts, facts-root}
 use Rattle.ceal_fold.proofs.Forward.{forward-at}
-use Rattle.ceal_fold.proofs.Simulated.{spot, Frame_tied, Cmds_tied, cmd-tied}
+use Rattle.ceal_fold.proofs.Simulated.{spot, FrameTied, CmdsTied, cmd-tied}
 use Rattle.ceal_fold.proofs.Values.{Holds, holds-none}
 use Rattle.ceal_fold.specs.Folding.{at_root, folded_command, ticked, replaced, used_in, without_unused, folded_unit, folded_units, folded}
 
@@ -96,66 +96,66 @@ module _ (code : Code) (ok : valid code ≡ true) where
   made-is x (PtrKey s) = refl
 
   -- the commands at which tied frames stand
-  pub command-tied : (u i : ℕ) (env env' : Variables) → Frame_tied code ok u i env env' → Cmds_tied code ok u i env env' (command_at code u i) (command_at after u i)
+  pub command-tied : (u i : ℕ) (env env' : Variables) → FrameTied code ok u i env env' → CmdsTied code ok u i env env' (command_at code u i) (command_at after u i)
   unfolding paths_ok
-  command-tied u i env env' (Frame_tied.nowhere e) =
+  command-tied u i env env' (FrameTied.nowhere e) =
       let p : unit_at code u ≡ none = ap (λ o. unwrap_or o none) e in
       let a : command_at code u i ≡ Done = ap (λ unit. unwrap_or (slice_get unit.body i) Done) p in
       let b : command_at after u i ≡ Done = ap (λ unit. unwrap_or (slice_get unit.body i) Done) (unit-is u ∙ ap (folded_unit code.structs) p) ∙ ended code.structs i in
-      subst (λ c. Cmds_tied code ok u i env env' c (command_at after u i)) (sym a) (subst (Cmds_tied code ok u i env env' Done) (sym b) Cmds_tied.done)
-  command-tied u i env env' (Frame_tied.inside unit fuel flags stepped is path known same) = go fuel path
+      subst (λ c. CmdsTied code ok u i env env' c (command_at after u i)) (sym a) (subst (CmdsTied code ok u i env env' Done) (sym b) CmdsTied.done)
+  command-tied u i env env' (FrameTied.inside unit fuel flags stepped is path known same) = go fuel path
     where
-      at : (c : Cmd) → slice_get unit.body i ≡ Some c → (n : ℕ) → onward (paths_ok code unit.function unit.body n) c i flags ≡ true → Cmds_tied code ok u i env env' (command_at code u i) (command_at after u i)
+      at : (c : Cmd) → slice_get unit.body i ≡ Some c → (n : ℕ) → onward (paths_ok code unit.function unit.body n) c i flags ≡ true → CmdsTied code ok u i env env' (command_at code u i) (command_at after u i)
       at c e n h =
           let s = spot code.structs unit.body i c (unit-tree code unit (unit-valid code ok u unit is)) e in
           let up = forward-at unit.body 0 i i c (unit-forward code unit (unit-valid code ok u unit is)) e (omega arith) in
           let p : unit_at code u ≡ unit = ap (λ o. unwrap_or o none) is in
           let a : command_at code u i ≡ c = ap (λ unit. unwrap_or (slice_get unit.body i) Done) p ∙ ap (λ o. unwrap_or o Done) e in
           let b : command_at after u i ≡ ticked (used_in s.later (followers c i)) (folded_command code.structs (facts code.structs at_root 0 unit.body i) c) = ap (λ unit. unwrap_or (slice_get unit.body i) Done) (unit-is u ∙ ap (folded_unit code.structs) p) ∙ ap (λ o. unwrap_or o Done) s.there in
-          subst (λ c. Cmds_tied code ok u i env env' c (command_at after u i)) (sym a)
-          (subst (Cmds_tied code ok u i env env' c) (sym b) (cmd-tied code ok u i env env' unit is known same s.later s.ahead c up s.here s.follow n flags h))
+          subst (λ c. CmdsTied code ok u i env env' c (command_at after u i)) (sym a)
+          (subst (CmdsTied code ok u i env env' c) (sym b) (cmd-tied code ok u i env env' unit is known same s.later s.ahead c up s.here s.follow n flags h))
 
-      found : (o : Option Cmd) (n : ℕ) → slice_get unit.body i ≡ o → path_ok code unit.function (paths_ok code unit.function unit.body n) o i flags stepped ≡ true → Cmds_tied code ok u i env env' (command_at code u i) (command_at after u i)
+      found : (o : Option Cmd) (n : ℕ) → slice_get unit.body i ≡ o → path_ok code unit.function (paths_ok code unit.function unit.body n) o i flags stepped ≡ true → CmdsTied code ok u i env env' (command_at code u i) (command_at after u i)
       found None n g h = absurd (grind (arith, h))
       found (Some c) n g h =
           let k = both (command_ok code unit.function flags stepped c) (onward (paths_ok code unit.function unit.body n) c i flags) h in at c g n k.1
 
-      go : (n : ℕ) → paths_ok code unit.function unit.body n i flags stepped ≡ true → Cmds_tied code ok u i env env' (command_at code u i) (command_at after u i)
+      go : (n : ℕ) → paths_ok code unit.function unit.body n i flags stepped ≡ true → CmdsTied code ok u i env env' (command_at code u i) (command_at after u i)
       go zero h = absurd (grind (arith, h))
       go (suc n) h = found (slice_get unit.body i) n refl h
 
   -- a unit at its beginning, on the same words
-  enter-tied : (u : ℕ) (env : Variables) → Frame_tied code ok u 0 env env
+  enter-tied : (u : ℕ) (env : Variables) → FrameTied code ok u 0 env env
   enter-tied u env = go (slice_get code.units u) refl
     where
-      go : (o : Option CodeUnit) → slice_get code.units u ≡ o → Frame_tied code ok u 0 env env
-      go None e = Frame_tied.nowhere e
+      go : (o : Option CodeUnit) → slice_get code.units u ≡ o → FrameTied code ok u 0 env env
+      go None e = FrameTied.nowhere e
       go (Some unit) e =
-          Frame_tied.inside unit (length unit.body) (with_params (replicate (length (kinds_of code unit.function)) false) unit.params) false e (unit-path code unit (unit-valid code ok u unit e))
+          FrameTied.inside unit (length unit.body) (with_params (replicate (length (kinds_of code unit.function)) false) unit.params) false e (unit-path code unit (unit-valid code ok u unit e))
           (subst (λ k. Holds k env) (sym (facts-root code.structs unit.body)) (holds-none env)) (λ v m. refl)
 
   pub data Tied : Stack → Stack → Type 0 where
     empty : Tied Empty Empty
-    frame : {u i : ℕ} {env env' : Variables} {below below' : Stack} → Frame_tied code ok u i env env' → Tied below below' → Tied (Run u i env below) (Run u i env' below')
+    frame : {u i : ℕ} {env env' : Variables} {below below' : Stack} → FrameTied code ok u i env env' → Tied below below' → Tied (Run u i env below) (Run u i env' below')
 
   pub entered-tied : (u : ℕ) (words : List Word) (below below' : Stack) → Tied below below' → Tied (entered code u words below) (entered after u words below')
   entered-tied u words below below' t =
       let e : (unit_at after u).params ≡ (unit_at code u).params = ap (λ unit. unit.params) (unit-is u) in
       rw e (Tied.frame (enter-tied u (bound (unit_at code u).params words)) t)
 
-  pub data Acts_tied : Act → Act → Type 0 where
-    over : Acts_tied Over Over
-    quiet : {st st' : Stack} → Tied st st' → Acts_tied (Quiet st) (Quiet st')
+  pub data ActsTied : Act → Act → Type 0 where
+    over : ActsTied Over Over
+    quiet : {st st' : Stack} → Tied st st' → ActsTied (Quiet st) (Quiet st')
     makes : {key : Key} {v u i : ℕ} {env env' : Variables} {below below' : Stack}
-        → ((w : Word) → Tied (Run u i (set env v w) below) (Run u i (set env' v w) below')) → Acts_tied (Makes key v u i env below) (Makes key v u i env' below')
-    writes : {p : Place} {value : Word} {st st' : Stack} → Tied st st' → Acts_tied (Writes p value st) (Writes p value st')
-    reads : {p : Place} {u : UnitId} {v : ℕ} {args : List Word} {below below' : Stack} → Tied below below' → Acts_tied (Reads p u v args below) (Reads p u v args below')
+        → ((w : Word) → Tied (Run u i (set env v w) below) (Run u i (set env' v w) below')) → ActsTied (Makes key v u i env below) (Makes key v u i env' below')
+    writes : {p : Place} {value : Word} {st st' : Stack} → Tied st st' → ActsTied (Writes p value st) (Writes p value st')
+    reads : {p : Place} {u : UnitId} {v : ℕ} {args : List Word} {below below' : Stack} → Tied below below' → ActsTied (Reads p u v args below) (Reads p u v args below')
 
-  writes-tied : (w value : Word) (st st' : Stack) → Tied st st' → Acts_tied (writes_at (place_of w) value st) (writes_at (place_of w) value st')
-  writes-tied (Num n) value st st' t = Acts_tied.quiet t
-  writes-tied Null value st st' t = Acts_tied.quiet t
-  writes-tied (BlockWord b) value st st' t = Acts_tied.quiet t
-  writes-tied (At p) value st st' t = Acts_tied.writes t
+  writes-tied : (w value : Word) (st st' : Stack) → Tied st st' → ActsTied (writes_at (place_of w) value st) (writes_at (place_of w) value st')
+  writes-tied (Num n) value st st' t = ActsTied.quiet t
+  writes-tied Null value st st' t = ActsTied.quiet t
+  writes-tied (BlockWord b) value st st' t = ActsTied.quiet t
+  writes-tied (At p) value st st' t = ActsTied.writes t
 
   -- a unit goes on with the same word
   pub given-tied : (u v : ℕ) (args : List Word) (w w' : Word) → w' ≡ w → (st st' : Stack) → Tied st st' → Tied (entered code u (given code u v args w) st) (entered after u (given after u v args w') st')
@@ -163,47 +163,47 @@ module _ (code : Code) (ok : valid code ≡ true) where
       subst (λ words. Tied (entered code u (given code u v args w) st) (entered after u words st')) (sym (given-is u v args w' ∙ ap (given code u v args) e))
       (entered-tied u (given code u v args w) st st' t)
 
-  reads-tied : (w : Word) (u : UnitId) (v : ℕ) (args : List Word) (st st' : Stack) → Tied st st' → Acts_tied (reads_at code (place_of w) u v args st) (reads_at after (place_of w) u v args st')
-  reads-tied (Num n) u v args st st' t = Acts_tied.quiet (given-tied u.0 v args (variable_default code u.0 v) (variable_default after u.0 v) (default-is u.0 v) st st' t)
-  reads-tied Null u v args st st' t = Acts_tied.quiet (given-tied u.0 v args (variable_default code u.0 v) (variable_default after u.0 v) (default-is u.0 v) st st' t)
-  reads-tied (BlockWord b) u v args st st' t = Acts_tied.quiet (given-tied u.0 v args (variable_default code u.0 v) (variable_default after u.0 v) (default-is u.0 v) st st' t)
-  reads-tied (At p) u v args st st' t = Acts_tied.reads t
+  reads-tied : (w : Word) (u : UnitId) (v : ℕ) (args : List Word) (st st' : Stack) → Tied st st' → ActsTied (reads_at code (place_of w) u v args st) (reads_at after (place_of w) u v args st')
+  reads-tied (Num n) u v args st st' t = ActsTied.quiet (given-tied u.0 v args (variable_default code u.0 v) (variable_default after u.0 v) (default-is u.0 v) st st' t)
+  reads-tied Null u v args st st' t = ActsTied.quiet (given-tied u.0 v args (variable_default code u.0 v) (variable_default after u.0 v) (default-is u.0 v) st st' t)
+  reads-tied (BlockWord b) u v args st st' t = ActsTied.quiet (given-tied u.0 v args (variable_default code u.0 v) (variable_default after u.0 v) (default-is u.0 v) st st' t)
+  reads-tied (At p) u v args st st' t = ActsTied.reads t
 
   module _ (x : Plain) where
-    act-tied : (u i : ℕ) (env env' : Variables) {c c' : Cmd} (below below' : Stack) → Cmds_tied code ok u i env env' c c' → Tied below below' → Acts_tied (act code x c u i env below) (act after x c' u i env' below')
-    act-tied u i env env' below below' (Cmds_tied.move h) t = Acts_tied.quiet (Tied.frame (h x) t)
-    act-tied u i env env' below below' (Cmds_tied.dropped h) t = Acts_tied.quiet (Tied.frame (h x) t)
-    act-tied u i env env' below below' (Cmds_tied.tick h) t = Acts_tied.quiet (Tied.frame h t)
-    act-tied u i env env' below below' (Cmds_tied.alloc a h) t = rw (a x) (Acts_tied.makes (λ w. Tied.frame (h w) t))
-    act-tied u i env env' below below' (Cmds_tied.modref h) t = Acts_tied.makes (λ w. Tied.frame (h w) t)
-    act-tied u i env env' below below' (Cmds_tied.write {p = p} {e = e} a b h) t =
+    act-tied : (u i : ℕ) (env env' : Variables) {c c' : Cmd} (below below' : Stack) → CmdsTied code ok u i env env' c c' → Tied below below' → ActsTied (act code x c u i env below) (act after x c' u i env' below')
+    act-tied u i env env' below below' (CmdsTied.move h) t = ActsTied.quiet (Tied.frame (h x) t)
+    act-tied u i env env' below below' (CmdsTied.dropped h) t = ActsTied.quiet (Tied.frame (h x) t)
+    act-tied u i env env' below below' (CmdsTied.tick h) t = ActsTied.quiet (Tied.frame h t)
+    act-tied u i env env' below below' (CmdsTied.alloc a h) t = rw (a x) (ActsTied.makes (λ w. Tied.frame (h w) t))
+    act-tied u i env env' below below' (CmdsTied.modref h) t = ActsTied.makes (λ w. Tied.frame (h w) t)
+    act-tied u i env env' below below' (CmdsTied.write {p = p} {e = e} a b h) t =
         rw (a x, b x) (writes-tied (expr_value code.structs x env p) (expr_value code.structs x env e) (Run u (i + 1) env below) (Run u (i + 1) env' below') (Tied.frame h t))
-    act-tied u i env env' below below' (Cmds_tied.test {t = e} {first = first} {second = second} a h k) t = rw (a x) (Acts_tied.quiet (Tied.frame (go (holds (expr_value code.structs x env e))) t))
+    act-tied u i env env' below below' (CmdsTied.test {t = e} {first = first} {second = second} a h k) t = rw (a x) (ActsTied.quiet (Tied.frame (go (holds (expr_value code.structs x env e))) t))
       where
-        go : (b : Bool) → Frame_tied code ok u (if b then first else second) env env'
+        go : (b : Bool) → FrameTied code ok u (if b then first else second) env env'
         go true = h
         go false = k
-    act-tied u i env env' below below' Cmds_tied.done t = Acts_tied.over
-    act-tied u i env env' below below' (Cmds_tied.tail a) t = Acts_tied.over
-    act-tied u i env env' below below' (Cmds_tied.read {v = v} {p = p} {w = w} {args = args} a b) t =
+    act-tied u i env env' below below' CmdsTied.done t = ActsTied.over
+    act-tied u i env env' below below' (CmdsTied.tail a) t = ActsTied.over
+    act-tied u i env env' below below' (CmdsTied.read {v = v} {p = p} {w = w} {args = args} a b) t =
         rw (a x, b x) (reads-tied (expr_value code.structs x env p) w v.0 (values code.structs x env args) below below' t)
-    act-tied u i env env' below below' (Cmds_tied.call {g = g} {args = args} {w = w} {rest = rest} a b) t =
+    act-tied u i env env' below below' (CmdsTied.call {g = g} {args = args} {w = w} {rest = rest} a b) t =
         rw (a x, b x, entry-is g)
-        (Acts_tied.quiet (entered-tied (entry_of code g) (values code.structs x env args) (entered code w.0 (values code.structs x env rest) below) (entered after w.0 (values code.structs x env rest) below')
+        (ActsTied.quiet (entered-tied (entry_of code g) (values code.structs x env args) (entered code w.0 (values code.structs x env rest) below) (entered after w.0 (values code.structs x env rest) below')
         (entered-tied w.0 (values code.structs x env rest) below below' t)))
 
-    landed-tied : (u i : ℕ) (env env' : Variables) {c c' : Cmd} → Cmds_tied code ok u i env env' c c' → (a a' rest rest' : Stack) → Tied a a' → Tied rest rest' → Tied (landed c a rest) (landed c' a' rest')
-    landed-tied u i env env' (Cmds_tied.move h) a a' rest rest' s t = s
-    landed-tied u i env env' (Cmds_tied.dropped h) a a' rest rest' s t = s
-    landed-tied u i env env' (Cmds_tied.tick h) a a' rest rest' s t = s
-    landed-tied u i env env' (Cmds_tied.alloc b h) a a' rest rest' s t = s
-    landed-tied u i env env' (Cmds_tied.modref h) a a' rest rest' s t = s
-    landed-tied u i env env' (Cmds_tied.write b d h) a a' rest rest' s t = s
-    landed-tied u i env env' (Cmds_tied.test b h k) a a' rest rest' s t = s
-    landed-tied u i env env' Cmds_tied.done a a' rest rest' s t = t
-    landed-tied u i env env' (Cmds_tied.tail b) a a' rest rest' s t = t
-    landed-tied u i env env' (Cmds_tied.read b d) a a' rest rest' s t = s
-    landed-tied u i env env' (Cmds_tied.call b d) a a' rest rest' s t = s
+    landed-tied : (u i : ℕ) (env env' : Variables) {c c' : Cmd} → CmdsTied code ok u i env env' c c' → (a a' rest rest' : Stack) → Tied a a' → Tied rest rest' → Tied (landed c a rest) (landed c' a' rest')
+    landed-tied u i env env' (CmdsTied.move h) a a' rest rest' s t = s
+    landed-tied u i env env' (CmdsTied.dropped h) a a' rest rest' s t = s
+    landed-tied u i env env' (CmdsTied.tick h) a a' rest rest' s t = s
+    landed-tied u i env env' (CmdsTied.alloc b h) a a' rest rest' s t = s
+    landed-tied u i env env' (CmdsTied.modref h) a a' rest rest' s t = s
+    landed-tied u i env env' (CmdsTied.write b d h) a a' rest rest' s t = s
+    landed-tied u i env env' (CmdsTied.test b h k) a a' rest rest' s t = s
+    landed-tied u i env env' CmdsTied.done a a' rest rest' s t = t
+    landed-tied u i env env' (CmdsTied.tail b) a a' rest rest' s t = t
+    landed-tied u i env env' (CmdsTied.read b d) a a' rest rest' s t = s
+    landed-tied u i env env' (CmdsTied.call b d) a a' rest rest' s t = s
 
     tail-tied : (w : ℕ) (words : List Word) (below below' rest rest' : Stack) → Tied below below' → Tied rest rest'
         → Tied (landed (command_at code w 0) (entered code w words below) rest) (landed (command_at after w 0) (entered after w words below') rest')
@@ -212,20 +212,20 @@ module _ (code : Code) (ok : valid code ≡ true) where
         landed-tied w 0 env env (command-tied w 0 env env (enter-tied w env)) (entered code w words below) (entered after w words below') rest rest'
         (entered-tied w words below below' t) r
 
-    settled_at-tied : (u i : ℕ) (env env' : Variables) {c c' : Cmd} (below below' rest rest' : Stack) → Cmds_tied code ok u i env env' c c' → Frame_tied code ok u i env env' → Tied below below' → Tied rest rest'
+    settled_at-tied : (u i : ℕ) (env env' : Variables) {c c' : Cmd} (below below' rest rest' : Stack) → CmdsTied code ok u i env env' c c' → FrameTied code ok u i env env' → Tied below below' → Tied rest rest'
         → Tied (settled_at code x c u i env below rest) (settled_at after x c' u i env' below' rest')
-    settled_at-tied u i env env' below below' rest rest' (Cmds_tied.move h) f t r = Tied.frame f t
-    settled_at-tied u i env env' below below' rest rest' (Cmds_tied.dropped h) f t r = Tied.frame f t
-    settled_at-tied u i env env' below below' rest rest' (Cmds_tied.tick h) f t r = Tied.frame f t
-    settled_at-tied u i env env' below below' rest rest' (Cmds_tied.alloc b h) f t r = Tied.frame f t
-    settled_at-tied u i env env' below below' rest rest' (Cmds_tied.modref h) f t r = Tied.frame f t
-    settled_at-tied u i env env' below below' rest rest' (Cmds_tied.write b d h) f t r = Tied.frame f t
-    settled_at-tied u i env env' below below' rest rest' (Cmds_tied.test b h k) f t r = Tied.frame f t
-    settled_at-tied u i env env' below below' rest rest' Cmds_tied.done f t r = r
-    settled_at-tied u i env env' below below' rest rest' (Cmds_tied.tail {w = w} {args = args} b) f t r =
+    settled_at-tied u i env env' below below' rest rest' (CmdsTied.move h) f t r = Tied.frame f t
+    settled_at-tied u i env env' below below' rest rest' (CmdsTied.dropped h) f t r = Tied.frame f t
+    settled_at-tied u i env env' below below' rest rest' (CmdsTied.tick h) f t r = Tied.frame f t
+    settled_at-tied u i env env' below below' rest rest' (CmdsTied.alloc b h) f t r = Tied.frame f t
+    settled_at-tied u i env env' below below' rest rest' (CmdsTied.modref h) f t r = Tied.frame f t
+    settled_at-tied u i env env' below below' rest rest' (CmdsTied.write b d h) f t r = Tied.frame f t
+    settled_at-tied u i env env' below below' rest rest' (CmdsTied.test b h k) f t r = Tied.frame f t
+    settled_at-tied u i env env' below below' rest rest' CmdsTied.done f t r = r
+    settled_at-tied u i env env' below below' rest rest' (CmdsTied.tail {w = w} {args = args} b) f t r =
         rw (b x) (tail-tied w.0 (values code.structs x env args) below below' rest rest' t r)
-    settled_at-tied u i env env' below below' rest rest' (Cmds_tied.read b d) f t r = Tied.frame f t
-    settled_at-tied u i env env' below below' rest rest' (Cmds_tied.call b d) f t r = Tied.frame f t
+    settled_at-tied u i env env' below below' rest rest' (CmdsTied.read b d) f t r = Tied.frame f t
+    settled_at-tied u i env env' below below' rest rest' (CmdsTied.call b d) f t r = Tied.frame f t
 
     settled-tied : {st st' : Stack} → Tied st st' → Tied (settled code x st) (settled after x st')
     unfolding settled
@@ -233,31 +233,31 @@ module _ (code : Code) (ok : valid code ≡ true) where
     settled-tied (Tied.frame {u = u} {i = i} {env = env} {env' = env'} {below = below} {below' = below'} f t) =
         settled_at-tied u i env env' below below' (settled code x below) (settled after x below') (command-tied u i env env' f) f t (settled-tied t)
 
-    acted-tied : {st st' : Stack} → Tied st st' → Acts_tied (acted code x st) (acted after x st')
-    acted-tied Tied.empty = Acts_tied.over
+    acted-tied : {st st' : Stack} → Tied st st' → ActsTied (acted code x st) (acted after x st')
+    acted-tied Tied.empty = ActsTied.over
     acted-tied (Tied.frame {u = u} {i = i} {env = env} {env' = env'} {below = below} {below' = below'} f t) = act-tied u i env env' below below' (command-tied u i env env' f) t
 
-    pub next-tied : (st st' : Stack) → Tied st st' → Acts_tied (next code x st) (next after x st')
+    pub next-tied : (st st' : Stack) → Tied st st' → ActsTied (next code x st) (next after x st')
     unfolding next
     next-tied st st' t = acted-tied (settled-tied t)
 
-  over-same : (steps : ℕ) (m : Blocks) {a a' : Act} → Acts_tied a a' → only_over steps m a' ≡ only_over steps m a
-  over-same steps m Acts_tied.over = refl
-  over-same steps m (Acts_tied.quiet t) = refl
-  over-same steps m (Acts_tied.makes t) = refl
-  over-same steps m (Acts_tied.writes t) = refl
-  over-same steps m (Acts_tied.reads t) = refl
+  over-same : (steps : ℕ) (m : Blocks) {a a' : Act} → ActsTied a a' → only_over steps m a' ≡ only_over steps m a
+  over-same steps m ActsTied.over = refl
+  over-same steps m (ActsTied.quiet t) = refl
+  over-same steps m (ActsTied.makes t) = refl
+  over-same steps m (ActsTied.writes t) = refl
+  over-same steps m (ActsTied.reads t) = refl
 
-  ran-same : (again again' : Blocks → Stack → Option Finished) → ((m : Blocks) (st st' : Stack) → Tied st st' → again' m st' ≡ again m st) → (steps : ℕ) (m : Blocks) {a a' : Act} → Acts_tied a a'
+  ran-same : (again again' : Blocks → Stack → Option Finished) → ((m : Blocks) (st st' : Stack) → Tied st st' → again' m st' ≡ again m st) → (steps : ℕ) (m : Blocks) {a a' : Act} → ActsTied a a'
       → ran after again' steps m a' ≡ ran code again steps m a
-  ran-same again again' h steps m Acts_tied.over = refl
-  ran-same again again' h steps m (Acts_tied.quiet {st = st} {st' = st'} t) = h m st st' t
-  ran-same again again' h steps m (Acts_tied.makes {key = key} {v = v} {u = u} {i = i} {env = env} {env' = env'} {below = below} {below' = below'} t) =
+  ran-same again again' h steps m ActsTied.over = refl
+  ran-same again again' h steps m (ActsTied.quiet {st = st} {st' = st'} t) = h m st st' t
+  ran-same again again' h steps m (ActsTied.makes {key = key} {v = v} {u = u} {i = i} {env = env} {env' = env'} {below = below} {below' = below'} t) =
       let w = pointer key (Core (length m.made)) in
       ap (λ b. again' (with_block m b) (Run u i (set env' v w) below')) (made-is (block_at m) key)
       ∙ h (with_block m (made code (block_at m) key)) (Run u i (set env v w) below) (Run u i (set env' v w) below') (t w)
-  ran-same again again' h steps m (Acts_tied.writes {p = p} {value = value} {st = st} {st' = st'} t) = h (written_at m p.block p.field value) st st' t
-  ran-same again again' h steps m (Acts_tied.reads {p = p} {u = u} {v = v} {args = args} {below = below} {below' = below'} t) =
+  ran-same again again' h steps m (ActsTied.writes {p = p} {value = value} {st = st} {st' = st'} t) = h (written_at m p.block p.field value) st st' t
+  ran-same again again' h steps m (ActsTied.reads {p = p} {u = u} {v = v} {args = args} {below = below} {below' = below'} t) =
       let w = content_of m (At p) (variable_default code u.0 v) in
       let w' = content_of m (At p) (variable_default after u.0 v) in
       h m (entered code u.0 (given code u.0 v args w) below) (entered after u.0 (given after u.0 v args w') below')

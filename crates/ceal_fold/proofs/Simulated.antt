@@ -14,7 +14,7 @@ use Rattle.ceal_code.specs.declared.expr.CodeExpr.{CodeExpr}
 use Rattle.ceal_code.specs.declared.expr.VarId.{VarId}
 use Rattle.ceal_fold.proofs.Bodies.{around, in-middle, facts, facts-follow, replaced-around, folded-followers, ticked-around, used-later, used-here}
 use Rattle.ceal_fold.proofs.Trees.{tree-apart}
-use Rattle.ceal_fold.proofs.Values.{Copy_holds, Holds, value-folded, values-folded, value-mentioned, values-mentioned, set-other, holds-set, move-holds}
+use Rattle.ceal_fold.proofs.Values.{CopyHolds, Holds, value-folded, values-folded, value-mentioned, values-mentioned, set-other, holds-set, move-holds}
 use Rattle.ceal_fold.specs.Folding.{Copies, at_root, copies_after, copy_by, is_among, folded_expr, folded_exprs, folded_command, replaced, mentions, all_mention, uses, assigns, used, used_in, used_by, ticked, without_unused}
 
 -- the body of a folded unit
@@ -90,46 +90,46 @@ lt-true a b h = grind (arith, h)
 
 module _ (code : Code) (ok : valid code ≡ true) where
   -- a frame of the code and one of its folding
-  pub data Frame_tied (u i : ℕ) (env env' : Variables) : Type 0 where
+  pub data FrameTied (u i : ℕ) (env env' : Variables) : Type 0 where
     inside : (unit : CodeUnit) (fuel : ℕ) (known : List Bool) (stepped : Bool) → slice_get code.units u ≡ Some unit
         → paths_ok code unit.function unit.body fuel i known stepped ≡ true
         → Holds (facts code.structs at_root 0 unit.body i) env
         → ((v : ℕ) → used 0 (final code.structs unit.body) i v ≡ true → env' v ≡ env v)
-        → Frame_tied u i env env'
-    nowhere : slice_get code.units u ≡ None → Frame_tied u i env env'
+        → FrameTied u i env env'
+    nowhere : slice_get code.units u ≡ None → FrameTied u i env env'
 
   -- a command of the code and the one that stands for it in the folding
-  pub data Cmds_tied (u i : ℕ) (env env' : Variables) : Cmd → Cmd → Type 0 where
+  pub data CmdsTied (u i : ℕ) (env env' : Variables) : Cmd → Cmd → Type 0 where
     move : {v : VarId} {e e' : CodeExpr}
-        → ((x : Plain) → Frame_tied u (i + 1) (set env v.0 (expr_value code.structs x env e)) (set env' v.0 (expr_value code.structs x env' e')))
-        → Cmds_tied u i env env' (Move v e) (Move v e')
+        → ((x : Plain) → FrameTied u (i + 1) (set env v.0 (expr_value code.structs x env e)) (set env' v.0 (expr_value code.structs x env' e')))
+        → CmdsTied u i env env' (Move v e) (Move v e')
     dropped : {v : VarId} {e : CodeExpr}
-        → ((x : Plain) → Frame_tied u (i + 1) (set env v.0 (expr_value code.structs x env e)) env')
-        → Cmds_tied u i env env' (Move v e) Tick
-    tick : Frame_tied u (i + 1) env env' → Cmds_tied u i env env' Tick Tick
+        → ((x : Plain) → FrameTied u (i + 1) (set env v.0 (expr_value code.structs x env e)) env')
+        → CmdsTied u i env env' (Move v e) Tick
+    tick : FrameTied u (i + 1) env env' → CmdsTied u i env env' Tick Tick
     alloc : {v : VarId} {g : ℕ} {args args' : List CodeExpr}
         → ((x : Plain) → values code.structs x env' args' ≡ values code.structs x env args)
-        → ((w : Word) → Frame_tied u (i + 1) (set env v.0 w) (set env' v.0 w))
-        → Cmds_tied u i env env' (Alloc v g args) (Alloc v g args')
-    modref : {v : VarId} {shape : Shape} → ((w : Word) → Frame_tied u (i + 1) (set env v.0 w) (set env' v.0 w)) → Cmds_tied u i env env' (Modref v shape) (Modref v shape)
+        → ((w : Word) → FrameTied u (i + 1) (set env v.0 w) (set env' v.0 w))
+        → CmdsTied u i env env' (Alloc v g args) (Alloc v g args')
+    modref : {v : VarId} {shape : Shape} → ((w : Word) → FrameTied u (i + 1) (set env v.0 w) (set env' v.0 w)) → CmdsTied u i env env' (Modref v shape) (Modref v shape)
     write : {p p' e e' : CodeExpr}
         → ((x : Plain) → expr_value code.structs x env' p' ≡ expr_value code.structs x env p)
         → ((x : Plain) → expr_value code.structs x env' e' ≡ expr_value code.structs x env e)
-        → Frame_tied u (i + 1) env env' → Cmds_tied u i env env' (Write p e) (Write p' e')
+        → FrameTied u (i + 1) env env' → CmdsTied u i env env' (Write p e) (Write p' e')
     test : {t t' : CodeExpr} {first second : ℕ}
         → ((x : Plain) → expr_value code.structs x env' t' ≡ expr_value code.structs x env t)
-        → Frame_tied u first env env' → Frame_tied u second env env' → Cmds_tied u i env env' (If t first second) (If t' first second)
-    done : Cmds_tied u i env env' Done Done
+        → FrameTied u first env env' → FrameTied u second env env' → CmdsTied u i env env' (If t first second) (If t' first second)
+    done : CmdsTied u i env env' Done Done
     tail : {w : UnitId} {args args' : List CodeExpr}
-        → ((x : Plain) → values code.structs x env' args' ≡ values code.structs x env args) → Cmds_tied u i env env' (Tail w args) (Tail w args')
+        → ((x : Plain) → values code.structs x env' args' ≡ values code.structs x env args) → CmdsTied u i env env' (Tail w args) (Tail w args')
     read : {v : VarId} {p p' : CodeExpr} {w : UnitId} {args args' : List CodeExpr}
         → ((x : Plain) → expr_value code.structs x env' p' ≡ expr_value code.structs x env p)
         → ((x : Plain) → values code.structs x env' args' ≡ values code.structs x env args)
-        → Cmds_tied u i env env' (Read v p w args) (Read v p' w args')
+        → CmdsTied u i env env' (Read v p w args) (Read v p' w args')
     call : {g : ℕ} {args args' : List CodeExpr} {w : UnitId} {rest rest' : List CodeExpr}
         → ((x : Plain) → values code.structs x env' args' ≡ values code.structs x env args)
         → ((x : Plain) → values code.structs x env' rest' ≡ values code.structs x env rest)
-        → Cmds_tied u i env env' (Call g args w rest) (Call g args' w rest')
+        → CmdsTied u i env env' (Call g args w rest) (Call g args' w rest')
 
   module _ (u i : ℕ) (env env' : Variables) (unit : CodeUnit) (is : slice_get code.units u ≡ Some unit)
       (known : Holds (facts code.structs at_root 0 unit.body i) env)
@@ -154,8 +154,8 @@ module _ (code : Code) (ok : valid code ≡ true) where
 
     -- the next frames
     frame-on : (envn envn' : Variables) (j fuel : ℕ) (flags : List Bool) → paths_ok code unit.function unit.body fuel j flags true ≡ true → i < j
-        → Holds (F j) envn → ((v : ℕ) → later j v ≡ true → envn' v ≡ envn v) → Frame_tied u j envn envn'
-    frame-on envn envn' j fuel flags p lo h k = Frame_tied.inside unit fuel flags true is p h (λ v m. k v (sym (ahead j v lo) ∙ m))
+        → Holds (F j) envn → ((v : ℕ) → later j v ≡ true → envn' v ≡ envn v) → FrameTied u j envn envn'
+    frame-on envn envn' j fuel flags p lo h k = FrameTied.inside unit fuel flags true is p h (λ v m. k v (sym (ahead j v lo) ∙ m))
 
     -- after an assignment of the same word, on both sides
     set-tied : (n : ℕ) (w w' : Word) → w' ≡ w → ((v : ℕ) → (n == v) ≡ false → later (i + 1) v ≡ true → env' v ≡ env v) → (v : ℕ) → later (i + 1) v ≡ true → set env' n w' v ≡ set env n w v
@@ -179,7 +179,7 @@ module _ (code : Code) (ok : valid code ≡ true) where
     pub cmd-tied : (c : Cmd) → goes_forward c i ≡ true → ((v : ℕ) → used 0 (final code.structs unit.body) i v ≡ used_by later (ticked (used_in later (followers c i)) (folds c)) i v)
         → ((j : ℕ) → i < j → is_among j (followers c i) ≡ true → F j ≡ copies_after (F i) (folds c))
         → (fuel : ℕ) (flags : List Bool) → onward (paths_ok code unit.function unit.body fuel) c i flags ≡ true
-        → Cmds_tied u i env env' c (ticked (used_in later (followers c i)) (folds c))
+        → CmdsTied u i env env' c (ticked (used_in later (followers c i)) (folds c))
     cmd-tied (Move v e) up here follow fuel flags p = go (used_in later ((i + 1) ∷ []) v.0) refl here
       where
         e' : CodeExpr
@@ -189,14 +189,14 @@ module _ (code : Code) (ok : valid code ≡ true) where
         copied x =
             subst (λ k. Holds k (set env v.0 (expr_value code.structs x env e))) (sym (follow (i + 1) next-up (among-next i)))
             (holds-set (F i) env v.0 (expr_value code.structs x env e) (copy_by v.0 e') known
-            (subst (λ w. Copy_holds (set env v.0 w) w (copy_by v.0 e')) (value-folded code.structs x env (F i) known e) (move-holds code.structs x env v.0 e')))
+            (subst (λ w. CopyHolds (set env v.0 w) w (copy_by v.0 e')) (value-folded code.structs x env (F i) known e) (move-holds code.structs x env v.0 e')))
 
         go : (b : Bool) → used_in later ((i + 1) ∷ []) v.0 ≡ b → ((z : ℕ) → used 0 (final code.structs unit.body) i z ≡ used_by later (if b then Move v e' else Tick) i z)
-            → Cmds_tied u i env env' (Move v e) (if b then Move v e' else Tick)
-        go true f here = Cmds_tied.move (λ x. frame-on (set env v.0 (expr_value code.structs x env e)) (set env' v.0 (expr_value code.structs x env' e')) (i + 1) fuel (slice_set flags v.0 true) p next-up (copied x)
+            → CmdsTied u i env env' (Move v e) (if b then Move v e' else Tick)
+        go true f here = CmdsTied.move (λ x. frame-on (set env v.0 (expr_value code.structs x env e)) (set env' v.0 (expr_value code.structs x env' e')) (i + 1) fuel (slice_set flags v.0 true) p next-up (copied x)
             (set-tied v.0 (expr_value code.structs x env e) (expr_value code.structs x env' e') (expr-tied e (λ z m. used-tied (Move v e) (Move v e') here z m) x)
             (λ z g m. kept-tied (Move v e) (Move v e') here z g (used-follower later ((i + 1) ∷ []) (i + 1) z (among-next i) m))))
-        go false f here = Cmds_tied.dropped (λ x. frame-on (set env v.0 (expr_value code.structs x env e)) env' (i + 1) fuel (slice_set flags v.0 true) p next-up (copied x) (λ z m. unset x z m))
+        go false f here = CmdsTied.dropped (λ x. frame-on (set env v.0 (expr_value code.structs x env e)) env' (i + 1) fuel (slice_set flags v.0 true) p next-up (copied x) (λ z m. unset x z m))
           where
             unset : (x : Plain) (z : ℕ) → later (i + 1) z ≡ true → env' z ≡ set env v.0 (expr_value code.structs x env e) z
             unset x z m = which (z == v.0) refl
@@ -208,22 +208,22 @@ module _ (code : Code) (ok : valid code ≡ true) where
                 which true g = let n : z ≡ v.0 = nat-same z v.0 g in let k : used_in later ((i + 1) ∷ []) v.0 ≡ true = ap (λ z. used_in later ((i + 1) ∷ []) z) (sym n) ∙ used' in absurd (grind (arith, f, k))
                 which false g = kept-tied (Move v e) Tick here z refl used' ∙ sym (set-other env v.0 z (expr_value code.structs x env e) g)
     cmd-tied Tick up here follow fuel flags p =
-        Cmds_tied.tick (frame-on env env' (i + 1) fuel flags p next-up (subst (λ k. Holds k env) (sym (follow (i + 1) next-up (among-next i))) known)
+        CmdsTied.tick (frame-on env env' (i + 1) fuel flags p next-up (subst (λ k. Holds k env) (sym (follow (i + 1) next-up (among-next i))) known)
         (λ z m. kept-tied Tick Tick here z refl (used-follower later ((i + 1) ∷ []) (i + 1) z (among-next i) m)))
     cmd-tied (Alloc v g args) up here follow fuel flags p =
         let d = Alloc v g (folded_exprs code.structs (F i) args) in
-        Cmds_tied.alloc (exprs-tied args (λ z m. used-tied d d here z m))
+        CmdsTied.alloc (exprs-tied args (λ z m. used-tied d d here z m))
         (λ w. frame-on (set env v.0 w) (set env' v.0 w) (i + 1) fuel (slice_set flags v.0 true) p next-up
         (subst (λ k. Holds k (set env v.0 w)) (sym (follow (i + 1) next-up (among-next i))) (holds-set (F i) env v.0 w None known tt))
         (set-tied v.0 w w refl (λ z g m. kept-tied d d here z g (used-follower later ((i + 1) ∷ []) (i + 1) z (among-next i) m))))
     cmd-tied (Modref v shape) up here follow fuel flags p =
-        Cmds_tied.modref (λ w. frame-on (set env v.0 w) (set env' v.0 w) (i + 1) fuel (slice_set flags v.0 true) p next-up
+        CmdsTied.modref (λ w. frame-on (set env v.0 w) (set env' v.0 w) (i + 1) fuel (slice_set flags v.0 true) p next-up
         (subst (λ k. Holds k (set env v.0 w)) (sym (follow (i + 1) next-up (among-next i))) (holds-set (F i) env v.0 w None known tt))
         (set-tied v.0 w w refl (λ z g m. kept-tied (Modref v shape) (Modref v shape) here z g (used-follower later ((i + 1) ∷ []) (i + 1) z (among-next i) m))))
     cmd-tied (Write q e) up here follow fuel flags p =
         let q' = folded_expr code.structs (F i) q in
         let e' = folded_expr code.structs (F i) e in
-        Cmds_tied.write (expr-tied q (λ z m. used-tied (Write q e) (Write q' e') here z (or-left (mentions q' z) (mentions e' z) m)))
+        CmdsTied.write (expr-tied q (λ z m. used-tied (Write q e) (Write q' e') here z (or-left (mentions q' z) (mentions e' z) m)))
         (expr-tied e (λ z m. used-tied (Write q e) (Write q' e') here z (or-right (mentions q' z) (mentions e' z) m)))
         (frame-on env env' (i + 1) fuel flags p next-up (subst (λ k. Holds k env) (sym (follow (i + 1) next-up (among-next i))) known)
         (λ z m. kept-tied (Write q e) (Write q' e') here z refl (used-follower later ((i + 1) ∷ []) (i + 1) z (among-next i) m)))
@@ -234,23 +234,23 @@ module _ (code : Code) (ok : valid code ≡ true) where
         let d = If t' first second in
         let lo = lt-true i first b.0 in
         let hi = lt-true i second b.1 in
-        Cmds_tied.test (expr-tied t (λ z m. used-tied d d here z m))
+        CmdsTied.test (expr-tied t (λ z m. used-tied d d here z m))
         (frame-on env env' first fuel flags c.0 lo (subst (λ k. Holds k env) (sym (follow first lo (among-first first second))) known)
         (λ z m. kept-tied d d here z refl (used-follower later (first ∷ second ∷ []) first z (among-first first second) m)))
         (frame-on env env' second fuel flags c.1 hi (subst (λ k. Holds k env) (sym (follow second hi (among-second first second))) known)
         (λ z m. kept-tied d d here z refl (used-follower later (first ∷ second ∷ []) second z (among-second first second) m)))
-    cmd-tied Done up here follow fuel flags p = Cmds_tied.done
+    cmd-tied Done up here follow fuel flags p = CmdsTied.done
     cmd-tied (Tail w args) up here follow fuel flags p =
-        let d = Tail w (folded_exprs code.structs (F i) args) in Cmds_tied.tail (exprs-tied args (λ z m. used-tied d d here z m))
+        let d = Tail w (folded_exprs code.structs (F i) args) in CmdsTied.tail (exprs-tied args (λ z m. used-tied d d here z m))
     cmd-tied (Read v q w args) up here follow fuel flags p =
         let q' = folded_expr code.structs (F i) q in
         let args' = folded_exprs code.structs (F i) args in
         let d = Read v q' w args' in
-        Cmds_tied.read (expr-tied q (λ z m. used-tied d d here z (or-left (mentions q' z) (all_mention args' z) m)))
+        CmdsTied.read (expr-tied q (λ z m. used-tied d d here z (or-left (mentions q' z) (all_mention args' z) m)))
         (exprs-tied args (λ z m. used-tied d d here z (or-right (mentions q' z) (all_mention args' z) m)))
     cmd-tied (Call g args w rest) up here follow fuel flags p =
         let args' = folded_exprs code.structs (F i) args in
         let rest' = folded_exprs code.structs (F i) rest in
         let d = Call g args' w rest' in
-        Cmds_tied.call (exprs-tied args (λ z m. used-tied d d here z (or-left (all_mention args' z) (all_mention rest' z) m)))
+        CmdsTied.call (exprs-tied args (λ z m. used-tied d d here z (or-left (all_mention args' z) (all_mention rest' z) m)))
         (exprs-tied rest (λ z m. used-tied d d here z (or-right (all_mention args' z) (all_mention rest' z) m)))

@@ -1,7 +1,7 @@
 -- Code and its folding have the same traces.
 use Rattle.std.proofs.Common.{◌≡◌, ◌↔◌, ℕ, true, Some, List, refl, sym, ap, ◌∙◌, subst}
 use Rattle.ceal_base.specs.Block.{Block}
-use Rattle.ceal_base.specs.Trace.{Trace, Nothing, Stepped, Allocated, Wrote, Was_read}
+use Rattle.ceal_base.specs.Trace.{Trace, Nothing, Stepped, Allocated, Wrote, WasRead}
 use Rattle.ceal_base.specs.declared.forest.Key.{Key}
 use Rattle.ceal_base.specs.declared.forest.UnitId.{UnitId}
 use Rattle.ceal_base.specs.declared.word.BlockId.TheVariants.{Core}
@@ -13,54 +13,54 @@ use Rattle.ceal_code.specs.Replay.{Yields, learnt, input_plain, plain_after, pla
 use Rattle.ceal_code.specs.Step.{Stack, Empty, Run, Act, Over, Quiet, Makes, Writes, Reads, entered, given, started, next}
 use Rattle.ceal_code.specs.Valid.{valid}
 use Rattle.ceal_code.specs.Value.{Plain, Variables, set}
-use Rattle.ceal_fold.proofs.Runs.{Tied, Acts_tied, made-is, entered-tied, given-tied, next-tied, started-tied}
+use Rattle.ceal_fold.proofs.Runs.{Tied, ActsTied, made-is, entered-tied, given-tied, next-tied, started-tied}
 use Rattle.ceal_fold.specs.Folding.{folded}
 use Rattle.ceal_fold.specs.Traces.{SameTraces, SameReplays}
 
 -- acts that lead from stacks to stacks so related
-pub data Acts_alike (T : Stack → Stack → Type 0) : Act → Act → Type 0 where
-  over : Acts_alike T Over Over
-  quiet : {st st' : Stack} → T st st' → Acts_alike T (Quiet st) (Quiet st')
+pub data ActsAlike (T : Stack → Stack → Type 0) : Act → Act → Type 0 where
+  over : ActsAlike T Over Over
+  quiet : {st st' : Stack} → T st st' → ActsAlike T (Quiet st) (Quiet st')
   makes : {key : Key} {v u i : ℕ} {env env' : Variables} {below below' : Stack}
-      → ((w : Word) → T (Run u i (set env v w) below) (Run u i (set env' v w) below')) → Acts_alike T (Makes key v u i env below) (Makes key v u i env' below')
-  writes : {p : Place} {value : Word} {st st' : Stack} → T st st' → Acts_alike T (Writes p value st) (Writes p value st')
-  reads : {p : Place} {u : UnitId} {v : ℕ} {args : List Word} {below below' : Stack} → T below below' → Acts_alike T (Reads p u v args below) (Reads p u v args below')
+      → ((w : Word) → T (Run u i (set env v w) below) (Run u i (set env' v w) below')) → ActsAlike T (Makes key v u i env below) (Makes key v u i env' below')
+  writes : {p : Place} {value : Word} {st st' : Stack} → T st st' → ActsAlike T (Writes p value st) (Writes p value st')
+  reads : {p : Place} {u : UnitId} {v : ℕ} {args : List Word} {below below' : Stack} → T below below' → ActsAlike T (Reads p u v args below) (Reads p u v args below')
 
 -- codes whose stacks, so related, have like acts, make the same blocks and go on alike after a read
-pub record Steps_alike (c d : Code) (x : Plain) (T : Stack → Stack → Type 0) : Type 0 where
-  pub acts : (st st' : Stack) → T st st' → Acts_alike T (next c x st) (next d x st')
+pub record StepsAlike (c d : Code) (x : Plain) (T : Stack → Stack → Type 0) : Type 0 where
+  pub acts : (st st' : Stack) → T st st' → ActsAlike T (next c x st) (next d x st')
   pub same : (key : Key) → made c x key ≡ made d x key
   pub enters : (u v : ℕ) (args : List Word) (value : Word) → T (entered c u (given c u v args value) Empty) (entered d u (given d u v args value) Empty)
 
-module _ (c d : Code) (x : Plain) (T : Stack → Stack → Type 0) (alike : Steps_alike c d x T) where
-  from : (st st' : Stack) → T st st' → (a : Act) → next c x st ≡ a → Acts_alike T a (next d x st')
-  from st st' t a e = subst (λ a. Acts_alike T a (next d x st')) e (alike.acts st st' t)
+module _ (c d : Code) (x : Plain) (T : Stack → Stack → Type 0) (alike : StepsAlike c d x T) where
+  from : (st st' : Stack) → T st st' → (a : Act) → next c x st ≡ a → ActsAlike T a (next d x st')
+  from st st' t a e = subst (λ a. ActsAlike T a (next d x st')) e (alike.acts st st' t)
 
-  over-on : {a : Act} → Acts_alike T Over a → (st : Stack) → next d x st ≡ a → Yields d x st Nothing
-  over-on Acts_alike.over st e = Yields.over e
+  over-on : {a : Act} → ActsAlike T Over a → (st : Stack) → next d x st ≡ a → Yields d x st Nothing
+  over-on ActsAlike.over st e = Yields.over e
 
-  quiet-on : {s : Stack} {a : Act} {rest : Trace} → Acts_alike T (Quiet s) a → (st : Stack) → next d x st ≡ a → ((s' : Stack) → T s s' → Yields d x s' rest)
+  quiet-on : {s : Stack} {a : Act} {rest : Trace} → ActsAlike T (Quiet s) a → (st : Stack) → next d x st ≡ a → ((s' : Stack) → T s s' → Yields d x s' rest)
       → Yields d x st (Stepped rest)
-  quiet-on (Acts_alike.quiet {st' = s'} t) st e again = Yields.quiet e (again s' t)
+  quiet-on (ActsAlike.quiet {st' = s'} t) st e again = Yields.quiet e (again s' t)
 
   makes-on : {key : Key} {v u i : ℕ} {env : Variables} {below : Stack} {a : Act} {b : ℕ} {rest : Trace}
-      → Acts_alike T (Makes key v u i env below) a → (st : Stack) → next d x st ≡ a → x (Core b) ≡ Some (made c x key)
+      → ActsAlike T (Makes key v u i env below) a → (st : Stack) → next d x st ≡ a → x (Core b) ≡ Some (made c x key)
       → ((s' : Stack) → T (Run u i (set env v (pointer key (Core b))) below) s' → Yields d x s' rest)
       → Yields d x st (Stepped (Allocated (Core b) key rest))
-  makes-on {b = b} (Acts_alike.makes {key = key} {v = v} {u = u} {i = i} {env' = env'} {below' = below'} t) st e g again =
+  makes-on {b = b} (ActsAlike.makes {key = key} {v = v} {u = u} {i = i} {env' = env'} {below' = below'} t) st e g again =
       let w = pointer key (Core b) in
       Yields.makes e (g ∙ ap Some (alike.same key)) (again (Run u i (set env' v w) below') (t w))
 
-  writes-on : {p : Place} {value : Word} {s : Stack} {a : Act} {rest : Trace} → Acts_alike T (Writes p value s) a → (st : Stack) → next d x st ≡ a
+  writes-on : {p : Place} {value : Word} {s : Stack} {a : Act} {rest : Trace} → ActsAlike T (Writes p value s) a → (st : Stack) → next d x st ≡ a
       → ((s' : Stack) → T s s' → Yields d x s' rest) → Yields d x st (Stepped (Wrote p value rest))
-  writes-on (Acts_alike.writes {st' = s'} t) st e again = Yields.writes e (again s' t)
+  writes-on (ActsAlike.writes {st' = s'} t) st e again = Yields.writes e (again s' t)
 
   reads-on : {p : Place} {u : UnitId} {v : ℕ} {args : List Word} {below : Stack} {a : Act} {value : Word} {inside rest : Trace}
-      → Acts_alike T (Reads p u v args below) a → (st : Stack) → next d x st ≡ a
+      → ActsAlike T (Reads p u v args below) a → (st : Stack) → next d x st ≡ a
       → Yields d x (entered d u.0 (given d u.0 v args value) Empty) inside
       → ((s' : Stack) → T below s' → Yields d x s' rest)
-      → Yields d x st (Stepped (Was_read p value u v args inside rest))
-  reads-on (Acts_alike.reads {below' = below'} t) st e inner again = Yields.reads e inner (again below' t)
+      → Yields d x st (Stepped (WasRead p value u v args inside rest))
+  reads-on (ActsAlike.reads {below' = below'} t) st e inner again = Yields.reads e inner (again below' t)
 
   -- so related stacks yield the same
   pub yields-on : {st : Stack} {l : Trace} → Yields c x st l → (st' : Stack) → T st st' → Yields d x st' l
@@ -80,28 +80,28 @@ module _ (code : Code) (ok : valid code ≡ true) where
   abbrev Back : Stack → Stack → Type 0
   Back st' st = Tied code ok st st'
 
-  on : {a a' : Act} → Acts_tied code ok a a' → Acts_alike (Tied code ok) a a'
-  on Acts_tied.over = Acts_alike.over
-  on (Acts_tied.quiet t) = Acts_alike.quiet t
-  on (Acts_tied.makes t) = Acts_alike.makes t
-  on (Acts_tied.writes t) = Acts_alike.writes t
-  on (Acts_tied.reads t) = Acts_alike.reads t
+  on : {a a' : Act} → ActsTied code ok a a' → ActsAlike (Tied code ok) a a'
+  on ActsTied.over = ActsAlike.over
+  on (ActsTied.quiet t) = ActsAlike.quiet t
+  on (ActsTied.makes t) = ActsAlike.makes t
+  on (ActsTied.writes t) = ActsAlike.writes t
+  on (ActsTied.reads t) = ActsAlike.reads t
 
-  back : {a a' : Act} → Acts_tied code ok a a' → Acts_alike Back a' a
-  back Acts_tied.over = Acts_alike.over
-  back (Acts_tied.quiet t) = Acts_alike.quiet t
-  back (Acts_tied.makes t) = Acts_alike.makes t
-  back (Acts_tied.writes t) = Acts_alike.writes t
-  back (Acts_tied.reads t) = Acts_alike.reads t
+  back : {a a' : Act} → ActsTied code ok a a' → ActsAlike Back a' a
+  back ActsTied.over = ActsAlike.over
+  back (ActsTied.quiet t) = ActsAlike.quiet t
+  back (ActsTied.makes t) = ActsAlike.makes t
+  back (ActsTied.writes t) = ActsAlike.writes t
+  back (ActsTied.reads t) = ActsAlike.reads t
 
   module _ (x : Plain) where
     enters : (u v : ℕ) (args : List Word) (value : Word) → Tied code ok (entered code u (given code u v args value) Empty) (entered after u (given after u v args value) Empty)
     enters u v args value = given-tied code ok u v args value value refl Empty Empty Tied.empty
 
-    steps-on : Steps_alike code after x (Tied code ok)
+    steps-on : StepsAlike code after x (Tied code ok)
     steps-on = record { acts = λ st st' t. on (next-tied code ok x st st' t); same = λ key. sym (made-is code ok x key); enters = enters }
 
-    steps-back : Steps_alike after code x Back
+    steps-back : StepsAlike after code x Back
     steps-back = record { acts = λ st' st t. back (next-tied code ok x st st' t); same = made-is code ok x; enters = enters }
 
     -- tied stacks yield the same
@@ -118,7 +118,7 @@ module _ (code : Code) (ok : valid code ≡ true) where
   after-same x (Allocated b key rest) =
       after-same (learnt x b (made after x key)) rest ∙ ap (λ block. plain_after code (learnt x b block) rest) (made-is code ok x key)
   after-same x (Wrote p value rest) = after-same x rest
-  after-same x (Was_read p value u v args inside rest) =
+  after-same x (WasRead p value u v args inside rest) =
       after-same (plain_after after x inside) rest ∙ ap (λ x. plain_after code x rest) (after-same x inside)
 
   input-same : (inputs : List Block) → input_plain after inputs ≡ input_plain code inputs

@@ -15,7 +15,7 @@ use Rattle.ceal_base.specs.declared.operators.Unary.TheVariants.{Neg, Not}
 use Rattle.ceal_base.specs.declared.typed.StructInfo.{StructInfo}
 use Rattle.ceal_base.specs.declared.word.Word.{Word}
 use Rattle.ceal_base.specs.declared.word.Word.TheVariants.{Num as NumWord, Null}
-use Rattle.ceal_code.proofs.Picks.{If_pick}
+use Rattle.ceal_code.proofs.Picks.{IfPick}
 use Rattle.ceal_code.proofs.Rows.{kind-same}
 use Rattle.ceal_code.proofs.Same.{both, both-true, some-same, none-some}
 use Rattle.ceal_code.proofs.TypeSteps.{type-unary, type-binary, type-field, type-address, row-address}
@@ -168,13 +168,13 @@ refined-one (Some (Of kind)) s' t t' (inr (inl p)) h k = rw (p.0) (kind-one kind
 refined-one (Some (Of kind)) s' t t' (inr (inr p)) h k = rw (p.0) (kind-place kind t t' h p.1 k)
 
 -- a type that the address of a modifiable may have
-abbrev pub Place_type : Typing → Type 0
-Place_type None = ⊤
-Place_type (Some AnyPointer) = ⊤
-Place_type (Some AnyPlace) = ⊤
-Place_type (Some (Of k)) = is_place k ≡ true
+abbrev pub PlaceType : Typing → Type 0
+PlaceType None = ⊤
+PlaceType (Some AnyPointer) = ⊤
+PlaceType (Some AnyPlace) = ⊤
+PlaceType (Some (Of k)) = is_place k ≡ true
 
-refined-element : (s s' : Typing) → Refined s s' → Place_type s → Refined (element_type s) (element_type s')
+refined-element : (s s' : Typing) → Refined s s' → PlaceType s → Refined (element_type s) (element_type s')
 refined-element None s' g p = tt
 refined-element (Some AnyPointer) s' g p = rw g (inl refl)
 refined-element (Some AnyPlace) s' (inl e) p = rw e (inl refl)
@@ -196,7 +196,7 @@ ints s s' t t' g h k =
     let p = both (fits Int s) (fits Int t) k in
     both-true (fits Int s') (fits Int t') (refined-fits Int s s' g p.0) (refined-fits Int t t' h p.1)
 
-pub refined-binary : (op : BinaryOp) (s s' t t' : Typing) → If_pick op (λ row. Place_type s) → Refined s s' → Refined t t' → Refined (binary_type op s t) (binary_type op s' t')
+pub refined-binary : (op : BinaryOp) (s s' t t' : Typing) → IfPick op (λ row. PlaceType s) → Refined s s' → Refined t t' → Refined (binary_type op s t) (binary_type op s' t')
 refined-binary Same s s' t t' p g h = refined-int (one_type s t) (one_type s' t') (refined-one s s' t t' g h)
 refined-binary Differ s s' t t' p g h = refined-int (one_type s t) (one_type s' t') (refined-one s s' t t' g h)
 refined-binary Add s s' t t' p g h = refined-int (fits Int s && fits Int t) (fits Int s' && fits Int t') (ints s s' t t' g h)
@@ -218,7 +218,7 @@ int-refined : (b : Bool) (t : Typing) → t ≡ Some (Of Int) → Refined (int_i
 int-refined true t h = inl h
 int-refined false t h = tt
 
-binary-int : (op : BinaryOp) (s t u : Typing) → If_pick op (λ row. ⊥) → u ≡ Some (Of Int) → Refined (binary_type op s t) u
+binary-int : (op : BinaryOp) (s t u : Typing) → IfPick op (λ row. ⊥) → u ≡ Some (Of Int) → Refined (binary_type op s t) u
 binary-int Same s t u p h = int-refined (one_type s t) u h
 binary-int Differ s t u p h = int-refined (one_type s t) u h
 binary-int Add s t u p h = int-refined (fits Int s && fits Int t) u h
@@ -333,25 +333,25 @@ known_at known v = unwrap_or (slice_get known v) false
 
 module _ (structs : List StructInfo) (kinds : List Kind) (known : List Bool) where
   -- a folded expression where each copy has the type of its variable
-  abbrev pub Copies_typed : Copies → Type 0
-  Copies_typed copies = (v : VarId) → Refined (variable_type (slice_get kinds v.0) (known_at known v.0)) (type_of structs kinds known (use_of v (copies v.0)))
+  abbrev pub CopiesTyped : Copies → Type 0
+  CopiesTyped copies = (v : VarId) → Refined (variable_type (slice_get kinds v.0) (known_at known v.0)) (type_of structs kinds known (use_of v (copies v.0)))
 
-  abbrev Is_num : Word → Type 0
-  Is_num w = (z : ℤ) × (w ≡ NumWord z)
+  abbrev IsNum : Word → Type 0
+  IsNum w = (z : ℤ) × (w ≡ NumWord z)
 
-  constant-int : (w : Word) → Is_num w → type_of structs kinds known (constant_expr w) ≡ Some (Of Int)
+  constant-int : (w : Word) → IsNum w → type_of structs kinds known (constant_expr w) ≡ Some (Of Int)
   unfolding type_of
   constant-int w h = rw (h.1) refl
 
-  truth-num : (b : Bool) → Is_num (truth b)
+  truth-num : (b : Bool) → IsNum (truth b)
   truth-num true = (_, refl)
   truth-num false = (_, refl)
 
-  unary-num : (op : UnaryOp) (w : Word) → Is_num (unary_value op w)
+  unary-num : (op : UnaryOp) (w : Word) → IsNum (unary_value op w)
   unary-num Neg w = (_, refl)
   unary-num Not w = truth-num _
 
-  binary-num : (op : BinaryOp) (v w : Word) → If_pick op (λ row. ⊥) → Is_num (binary_value op v w)
+  binary-num : (op : BinaryOp) (v w : Word) → IfPick op (λ row. ⊥) → IsNum (binary_value op v w)
   binary-num Add v w p = (_, refl)
   binary-num Sub v w p = (_, refl)
   binary-num Mul v w p = (_, refl)
@@ -375,7 +375,7 @@ module _ (structs : List StructInfo) (kinds : List Kind) (known : List Bool) whe
   if-refined true t u h = h
   if-refined false t u h = tt
 
-  kept-op : (op : BinaryOp) (q : Bool) (s t : Typing) (a b : CodeExpr) → (q ≡ true → left_suits structs op a ≡ true) → If_pick op (λ row. Place_type s) → Refined s (type_of structs kinds known a)
+  kept-op : (op : BinaryOp) (q : Bool) (s t : Typing) (a b : CodeExpr) → (q ≡ true → left_suits structs op a ≡ true) → IfPick op (λ row. PlaceType s) → Refined s (type_of structs kinds known a)
       → Refined t (type_of structs kinds known b) → Refined (if q then binary_type op s t else None) (type_of structs kinds known (Binary op a b))
   kept-op op q s t a b l p g h =
       rw (type-binary structs kinds known op a b)
@@ -411,7 +411,7 @@ module _ (structs : List StructInfo) (kinds : List Kind) (known : List Bool) whe
       if-refined q (binary_type op s t) (type_of structs kinds known (constant_expr (binary_value op v w)))
       (binary-int op s t (type_of structs kinds known (constant_expr (binary_value op v w))) tt (constant-int (binary_value op v w) (binary-num op v w tt)))
 
-  binary-refined : (op : BinaryOp) (q : Bool) (s t : Typing) (a b : CodeExpr) (o p : Option Word) → (q ≡ true → left_suits structs op a ≡ true) → If_pick op (λ row. Place_type s) → constant a ≡ o
+  binary-refined : (op : BinaryOp) (q : Bool) (s t : Typing) (a b : CodeExpr) (o p : Option Word) → (q ≡ true → left_suits structs op a ≡ true) → IfPick op (λ row. PlaceType s) → constant a ≡ o
       → Refined s (type_of structs kinds known a) → Refined t (type_of structs kinds known b)
       → Refined (if q then binary_type op s t else None) (type_of structs kinds known (binary_folded op a b o p))
   binary-refined op q s t a b None p l c e g h = kept-op op q s t a b l c g h
@@ -526,14 +526,14 @@ module _ (structs : List StructInfo) (kinds : List Kind) (known : List Bool) whe
       rw (type-address structs kinds known a s f) (points-if (points_to s t) (points_to s (type_of structs kinds known a)) (cell_type (field_kind structs (Struct s) f)) (points-refined s t a h n))
 
   -- what stands left of an index has the type of a place
-  place-if : (b : Bool) (k : Option FieldKind) → Place_type (if b then cell_type k else None)
+  place-if : (b : Bool) (k : Option FieldKind) → PlaceType (if b then cell_type k else None)
   place-if false k = tt
   place-if true None = tt
   place-if true (Some (PlainField kind)) = tt
   place-if true (Some CellInt) = refl
   place-if true (Some (CellPtr s)) = refl
 
-  start-place : (row : ℕ) (e : CodeExpr) → starts_row structs row e ≡ true → Place_type (type_of structs kinds known e)
+  start-place : (row : ℕ) (e : CodeExpr) → starts_row structs row e ≡ true → PlaceType (type_of structs kinds known e)
   unfolding type_of
   start-place row NullExpr h = tt
   start-place row (Address' _ a s f) h = place-if (points_to s (operand_type structs kinds known a)) (field_kind structs (Struct s) f)
@@ -543,7 +543,7 @@ module _ (structs : List StructInfo) (kinds : List Kind) (known : List Bool) whe
   start-place row (Binary' op _ a _ b) h = absurd (grind (arith, h))
   start-place row (Field' _ a s f) h = absurd (grind (arith, h))
 
-  module _ (copies : Copies) (good : Copies_typed copies) where
+  module _ (copies : Copies) (good : CopiesTyped copies) where
     null-or-address : (row : ℕ) (b : Bool) (a : CodeExpr) (s f : ℕ) → is_row_of row (row_at structs s f) ≡ true → starts_row structs row (if b then NullExpr else Address a s f) ≡ true
     null-or-address row true a s f h = refl
     null-or-address row false a s f h = rw (row-address structs row a s f) h
@@ -565,14 +565,14 @@ module _ (structs : List StructInfo) (kinds : List Kind) (known : List Bool) whe
     suits-folded (Pick row) (more_of-CodeExpr e rest) h = start-folded row e h
     suits-folded op a h = refl
 
-    pick-place : (op : BinaryOp) {n : _} (a : Row_of-CodeExpr n) → operand_suits structs op a ≡ true → If_pick op (λ row. Place_type (operand_type structs kinds known a))
+    pick-place : (op : BinaryOp) {n : _} (a : Row_of-CodeExpr n) → operand_suits structs op a ≡ true → IfPick op (λ row. PlaceType (operand_type structs kinds known a))
     unfolding type_of
     pick-place (Pick row) end_of-CodeExpr h = tt
     pick-place (Pick row) (more_of-CodeExpr e rest) h = start-place row e h
     pick-place op a h = tt
 
     -- an operator, where its left operand is what it asks
-    suited : (op : BinaryOp) (q : Bool) (s t : Typing) (a b : CodeExpr) → (q ≡ true → left_suits structs op a ≡ true) → (q ≡ true → If_pick op (λ row. Place_type s))
+    suited : (op : BinaryOp) (q : Bool) (s t : Typing) (a b : CodeExpr) → (q ≡ true → left_suits structs op a ≡ true) → (q ≡ true → IfPick op (λ row. PlaceType s))
         → Refined s (type_of structs kinds known a) → Refined t (type_of structs kinds known b)
         → Refined (if q then binary_type op s t else None) (type_of structs kinds known (binary_folded op a b (constant a) (constant b)))
     suited op true s t a b l c g h = binary-refined op true s t a b (constant a) (constant b) l (c refl) refl g h
@@ -597,8 +597,8 @@ module _ (structs : List StructInfo) (kinds : List Kind) (known : List Bool) whe
       operand-folded (more_of-CodeExpr e rest) = type-folded e
 
   module _ (known' : List Bool) where
-    abbrev pub Known_where : (ℕ → Bool) → Type 0
-    Known_where used = (v : ℕ) → used v ≡ true → known_at known v ≡ true → known_at known' v ≡ true
+    abbrev pub KnownWhere : (ℕ → Bool) → Type 0
+    KnownWhere used = (v : ℕ) → used v ≡ true → known_at known v ≡ true → known_at known' v ≡ true
 
     kept-variable : (o : Option Kind) (b b' : Bool) → (b ≡ true → b' ≡ true) → Kept (variable_type o b) (variable_type o b')
     kept-variable None b b' h = tt
@@ -608,7 +608,7 @@ module _ (structs : List StructInfo) (kinds : List Kind) (known : List Bool) whe
     mutual
       unfolding type_of mentions
 
-      pub type-kept : (e : CodeExpr) → Known_where (mentions e) → Kept (type_of structs kinds known e) (type_of structs kinds known' e)
+      pub type-kept : (e : CodeExpr) → KnownWhere (mentions e) → Kept (type_of structs kinds known e) (type_of structs kinds known' e)
       type-kept (NumExpr n) h = refl
       type-kept NullExpr h = refl
       type-kept (Var v) h = let s : (v.0 == v.0) ≡ true = grind arith in kept-variable (slice_get kinds v.0) (known_at known v.0) (known_at known' v.0) (h v.0 s)
@@ -622,17 +622,17 @@ module _ (structs : List StructInfo) (kinds : List Kind) (known : List Bool) whe
       type-kept (Field' _ a s f) h = kept-points s (operand_type structs kinds known a) (operand_type structs kinds known' a) (plain_type (field_kind structs (Struct s) f)) (operand-kept a h)
       type-kept (Address' _ a s f) h = kept-points s (operand_type structs kinds known a) (operand_type structs kinds known' a) (cell_type (field_kind structs (Struct s) f)) (operand-kept a h)
 
-      operand-kept : {n : _} (row : Row_of-CodeExpr n) → Known_where (operand_mentions row) → Kept (operand_type structs kinds known row) (operand_type structs kinds known' row)
+      operand-kept : {n : _} (row : Row_of-CodeExpr n) → KnownWhere (operand_mentions row) → Kept (operand_type structs kinds known row) (operand_type structs kinds known' row)
       operand-kept end_of-CodeExpr h = tt
       operand-kept (more_of-CodeExpr e rest) h = type-kept e h
 
-    module _ (copies : Copies) (good : Copies_typed copies) where
-      pub type-final : (e : CodeExpr) → Known_where (mentions (folded_expr structs copies e)) → Refined (type_of structs kinds known e) (type_of structs kinds known' (folded_expr structs copies e))
+    module _ (copies : Copies) (good : CopiesTyped copies) where
+      pub type-final : (e : CodeExpr) → KnownWhere (mentions (folded_expr structs copies e)) → Refined (type_of structs kinds known e) (type_of structs kinds known' (folded_expr structs copies e))
       type-final e h =
           kept-refined (type_of structs kinds known e) (type_of structs kinds known (folded_expr structs copies e)) (type_of structs kinds known' (folded_expr structs copies e))
           (type-folded copies good e) (type-kept (folded_expr structs copies e) h)
 
-      pub all-final : (ks : List Kind) (es : List CodeExpr) → Known_where (all_mention (folded_exprs structs copies es)) → all_fit structs kinds known ks es ≡ true → all_fit structs kinds known' ks (folded_exprs structs copies es) ≡ true
+      pub all-final : (ks : List Kind) (es : List CodeExpr) → KnownWhere (all_mention (folded_exprs structs copies es)) → all_fit structs kinds known ks es ≡ true → all_fit structs kinds known' ks (folded_exprs structs copies es) ≡ true
       unfolding all_fit folded_exprs all_mention
       all-final [] [] h k = k
       all-final [] (e ∷ es) h k = absurd (grind (arith, k))
@@ -645,7 +645,7 @@ module _ (structs : List StructInfo) (kinds : List Kind) (known : List Bool) whe
           (refined-fits asked (type_of structs kinds known e) (type_of structs kinds known' e') (type-final e (λ v m. h v (or-left (mentions e' v) (all_mention es' v) m))) p.0)
           (all-final ks es (λ v m. h v (or-right (mentions e' v) (all_mention es' v) m)) p.1)
 
-      pub params-final : (theirs : List Kind) (ps : List VarId) (es : List CodeExpr) → Known_where (all_mention (folded_exprs structs copies es)) → params_fit structs kinds known theirs ps es ≡ true
+      pub params-final : (theirs : List Kind) (ps : List VarId) (es : List CodeExpr) → KnownWhere (all_mention (folded_exprs structs copies es)) → params_fit structs kinds known theirs ps es ≡ true
           → params_fit structs kinds known' theirs ps (folded_exprs structs copies es) ≡ true
       unfolding params_fit folded_exprs all_mention
       params-final theirs [] [] h k = k

@@ -1,5 +1,5 @@
 -- Unit by unit.
-use Rattle.std.proofs.Common.{◌≡◌, ℕ, Bool, true, ◌&&◌, List, [], ◌∷◌, refl, sym, ap, ◌∙◌, ◌++◌, length, arith, append_assoc}
+use Rattle.std.proofs.Common.{◌≡◌, true, List, [], ◌∷◌, refl, sym, ap, ◌∙◌, ◌++◌, length, arith, append_assoc}
 use Rattle.std.proofs.lemmas.List.{append-nil}
 use Rattle.ceal_base.specs.declared.typed.StructInfo.{StructInfo}
 use Rattle.ceal_code.proofs.Same.{both}
@@ -7,10 +7,6 @@ use Rattle.ceal_code.specs.Program.{Unit as CodeUnit}
 use Rattle.ceal_code.specs.Valid.{is_tree}
 use Rattle.ceal_fold.specs.Folding.{folded_unit, folded_units}
 use Rattle.ceal_fold.specs.Trees.{are_trees}
-
-pub units-cons : (structs : List StructInfo) (unit : CodeUnit) (units : List CodeUnit) → folded_units structs (unit ∷ units) ≡ folded_unit structs unit ∷ folded_units structs units
-unfolding folded_units
-units-cons structs unit units = refl
 
 pub units-end : (structs : List StructInfo) (units : List CodeUnit) → length units ≡ 0 → folded_units structs units ≡ []
 unfolding folded_units

@@ -169,10 +169,10 @@ replicate-length zero x = refl
 replicate-length (suc n) x = ap suc (replicate-length n x)
 
 -- the sets that are still there are right
-abbrev pub Sets_right : List (List ℕ) → ℕ → List Cmd → Type 0
-Sets_right sets n done = (j u : ℕ) → is_among j (all_followers done n) ≡ false → has_at sets j u ≡ used n done j u
+abbrev pub SetsRight : List (List ℕ) → ℕ → List Cmd → Type 0
+SetsRight sets n done = (j u : ℕ) → is_among j (all_followers done n) ≡ false → has_at sets j u ≡ used n done j u
 
-module _ (cs : List Cmd) (c : Cmd) (done : List Cmd) (tree : is_tree (cs ++ c ∷ done) ≡ true) (sets : List (List ℕ)) (right : Sets_right sets (length cs + 1) done) where
+module _ (cs : List Cmd) (c : Cmd) (done : List Cmd) (tree : is_tree (cs ++ c ∷ done) ≡ true) (sets : List (List ℕ)) (right : SetsRight sets (length cs + 1) done) where
   -- those of the followers are there
   pub later-right : (u : ℕ) → used_in (has_at sets) (followers c (length cs)) u ≡ used_in (used (length cs + 1) done) (followers c (length cs)) u
   later-right u = used-same (has_at sets) (used (length cs + 1) done) (followers c (length cs)) u (λ j m. right j u (tree-apart cs c done tree j m))
@@ -183,7 +183,7 @@ module _ (cs : List Cmd) (c : Cmd) (done : List Cmd) (tree : is_tree (cs ++ c �
   pub sets-right : (d : Cmd) (sets' : List (List ℕ)) → ((i : ℕ) → followers d i ≡ followers c i)
       → ((u : ℕ) → has_at sets' (length cs) u ≡ used_by (has_at sets) d (length cs) u)
       → ((j u : ℕ) → (j ≡ length cs → ⊥) → is_among j (followers c (length cs)) ≡ false → has_at sets' j u ≡ has_at sets j u)
-      → Sets_right sets' (length cs) (d ∷ done)
+      → SetsRight sets' (length cs) (d ∷ done)
   unfolding all_followers used
   sets-right d sets' same here others j u m =
       let p = among-part j (followers d (length cs)) (all_followers done (length cs + 1)) m in
@@ -211,7 +211,7 @@ used-past n j u = refl
 -- the pass from the leaves up, where these commands are left and the others are done, the last one first
 pub record Underway (body left done : List Cmd) (sets : List (List ℕ)) : Type 0 where
   pub whole : onto 0 left (reverse done) ≡ without_unused 0 body
-  pub right : Sets_right sets (length left) (reverse done)
+  pub right : SetsRight sets (length left) (reverse done)
   pub tree : is_tree (left ++ reverse done) ≡ true
   pub long : length sets ≡ length left + length done
 
@@ -244,12 +244,12 @@ module _ (body cs : List Cmd) (c d : Cmd) (done : List Cmd) (sets sets' : List (
       let D = reverse done in
       let back : reverse (done ++ d ∷ []) ≡ d ∷ reverse done = reverse-append done (d ∷ []) in
       let tree : is_tree (cs ++ c ∷ reverse done) ≡ true = subst (λ ds. is_tree ds ≡ true) (append_assoc cs (c ∷ []) (reverse done)) (w.tree) in
-      let right : Sets_right sets (length cs + 1) (reverse done) = subst (λ n. Sets_right sets n (reverse done)) (push-length cs c) (w.right) in
+      let right : SetsRight sets (length cs + 1) (reverse done) = subst (λ n. SetsRight sets n (reverse done)) (push-length cs c) (w.right) in
       let same : (i : ℕ) → followers d i ≡ followers c i = λ i. ap (λ d. followers d i) e ∙ ticked-followers (used_in (has_at sets) (followers c (length cs))) c i in
       let is : d ≡ ticked (used_in (used (length cs + 1) (reverse done)) (followers c (length cs))) c = e ∙ ticked-right cs c (reverse done) tree sets right in
       record {
         whole = ap (onto 0 cs) back ∙ ap (λ d. onto 0 cs (d ∷ reverse done)) is ∙ sym (onto-push 0 cs c (reverse done) (length cs) (omega arith)) ∙ w.whole;
-        right = subst (Sets_right sets' (length cs)) (sym back) (sets-right cs c (reverse done) tree sets right d sets' same here others);
+        right = subst (SetsRight sets' (length cs)) (sym back) (sets-right cs c (reverse done) tree sets right d sets' same here others);
         tree = subst (λ ds. is_tree (cs ++ ds) ≡ true) (sym back) (tree-right cs c (reverse done) tree sets right d same);
         long = long ∙ w.long ∙ omega (arith, push-length cs c, push-length done d);
       }

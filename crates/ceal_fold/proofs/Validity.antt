@@ -21,7 +21,7 @@ use Rattle.ceal_fold.proofs.Bodies.{facts, facts-root, folded-length, replaced-t
 use Rattle.ceal_fold.proofs.ListSteps.{at-same, at-other, at-past}
 use Rattle.ceal_fold.proofs.ReplaceSteps.{set-length}
 use Rattle.ceal_fold.proofs.Simulated.{final, spot, used-follower, among-next, among-first, among-second, lt-true}
-use Rattle.ceal_fold.proofs.Types.{Refined, refined-refl, refined-fits, refined-maybe, refined-place, refined-write, known_at, Copies_typed, type-folded, type-final, all-final, params-final}
+use Rattle.ceal_fold.proofs.Types.{Refined, refined-refl, refined-fits, refined-maybe, refined-place, refined-write, known_at, CopiesTyped, type-folded, type-final, all-final, params-final}
 use Rattle.ceal_fold.specs.Folding.{Copies, no_copies, at_root, use_of, copies_after, copy_by, copy_without, assigned, is_among, folded_expr, folded_exprs, folded_command, replaced, mentions, all_mention, uses, assigns, used, used_in, used_by, ticked, folded_unit, folded_units, folded}
 use Rattle.ceal_fold.specs.declared.copies.Copied.{Copied}
 use Rattle.ceal_fold.specs.declared.copies.Copied.TheVariants.{Num as CopiedNum, Null as CopiedNull, Var as CopiedVar}
@@ -98,9 +98,9 @@ module _ (structs : List StructInfo) (kinds : List Kind) (known : List Bool) whe
         go true f = type-self w
         go false f = rw (set-other known v w.0 e, type-apart y f) h
 
-    copies-set : (copies : Copies) (copy : Option Copied) → Copies_typed structs kinds known copies
+    copies-set : (copies : Copies) (copy : Option Copied) → CopiesTyped structs kinds known copies
         → ((w : VarId) → w.0 ≡ v → Refined (variable_type (slice_get kinds w.0) (known_at after w.0)) (type_of structs kinds after (use_of w copy)))
-        → Copies_typed structs kinds after (assigned copies v copy)
+        → CopiesTyped structs kinds after (assigned copies v copy)
     unfolding assigned
     copies-set copies copy good h w = go (w.0 == v) refl
       where
@@ -138,7 +138,7 @@ module _ (structs : List StructInfo) (kinds : List Kind) (known : List Bool) whe
     move-typed (Field' _ a s f) h w i = type-self w
     move-typed (Address' _ a s f) h w i = type-self w
 
-  none-typed : Copies_typed structs kinds known no_copies
+  none-typed : CopiesTyped structs kinds known no_copies
   unfolding type_of no_copies
   none-typed w = refined-refl (variable_type (slice_get kinds w.0) (known_at known w.0))
 
@@ -156,7 +156,7 @@ module _ (code : Code) (ok : valid code ≡ true) where
   abbrev folds : Code
   folds = folded code
 
-  module _ (f : ℕ) (known known' : List Bool) (copies : Copies) (good : Copies_typed code.structs (kinds_of code f) known copies) where
+  module _ (f : ℕ) (known known' : List Bool) (copies : Copies) (good : CopiesTyped code.structs (kinds_of code f) known copies) where
     abbrev Where : (ℕ → Bool) → Type 0
     Where used = (v : ℕ) → used v ≡ true → known_at known v ≡ true → known_at known' v ≡ true
 
@@ -234,7 +234,7 @@ module _ (code : Code) (ok : valid code ≡ true) where
     U = used 0 (final code.structs body)
 
     abbrev Good : ℕ → List Bool → Type 0
-    Good i known = Copies_typed code.structs (kinds_of code f) known (F i)
+    Good i known = CopiesTyped code.structs (kinds_of code f) known (F i)
 
     abbrev Live : ℕ → List Bool → List Bool → Type 0
     Live i known known' = (v : ℕ) → U i v ≡ true → known_at known v ≡ true → known_at known' v ≡ true
@@ -294,7 +294,7 @@ module _ (code : Code) (ok : valid code ≡ true) where
 
           good' : Good (i + 1) (slice_set known v.0 true)
           good' =
-              subst (Copies_typed code.structs (kinds_of code f) (slice_set known v.0 true)) (sym (follow (i + 1) next-up (among-next i)))
+              subst (CopiesTyped code.structs (kinds_of code f) (slice_set known v.0 true)) (sym (follow (i + 1) next-up (among-next i)))
               (copies-set code.structs (kinds_of code f) known v.0 (F i) (copy_by v.0 e') good (move-typed code.structs (kinds_of code f) known v.0 e' typed))
 
           go : (b : Bool) → used_in later ((i + 1) ∷ []) v.0 ≡ b → ((z : ℕ) → U i z ≡ used_by later (if b then Move v e' else Tick) i z) → Goes (if b then Move v e' else Tick)
@@ -317,14 +317,14 @@ module _ (code : Code) (ok : valid code ≡ true) where
                   which false a = kept-known Tick here z refl used' (sym (set-other known v.0 z a) ∙ k)
       cmd-go Tick up here follow k p =
           both-true (command_ok folds f known' stepped Tick) (onward (paths_ok folds f (final code.structs body) n) Tick i known') refl
-          (on (i + 1) known known' true long p (subst (Copies_typed code.structs (kinds_of code f) known) (sym (follow (i + 1) next-up (among-next i))) good)
+          (on (i + 1) known known' true long p (subst (CopiesTyped code.structs (kinds_of code f) known) (sym (follow (i + 1) next-up (among-next i))) good)
           (keep-live Tick here (λ z. refl) (i + 1) next-up (among-next i)))
       cmd-go (Alloc v g args) up here follow k p =
           let d = fold-it (Alloc v g args) in
           both-true (command_ok folds f known' stepped d) (onward (paths_ok folds f (final code.structs body) n) d i known')
           (command-go f known known' (F i) good stepped (Alloc v g args) (used-known d here) k)
           (on (i + 1) (slice_set known v.0 true) (slice_set known' v.0 true) true (same-flags v.0) p
-          (subst (Copies_typed code.structs (kinds_of code f) (slice_set known v.0 true)) (sym (follow (i + 1) next-up (among-next i)))
+          (subst (CopiesTyped code.structs (kinds_of code f) (slice_set known v.0 true)) (sym (follow (i + 1) next-up (among-next i)))
           (copies-set code.structs (kinds_of code f) known v.0 (F i) None good (λ w e. type-self code.structs (kinds_of code f) known v.0 w)))
           (set-live v.0 d here (λ z. refl) refl))
       cmd-go (Modref v shape) up here follow k p =
@@ -332,14 +332,14 @@ module _ (code : Code) (ok : valid code ≡ true) where
           both-true (command_ok folds f known' stepped d) (onward (paths_ok folds f (final code.structs body) n) d i known')
           (command-go f known known' (F i) good stepped (Modref v shape) (used-known d here) k)
           (on (i + 1) (slice_set known v.0 true) (slice_set known' v.0 true) true (same-flags v.0) p
-          (subst (Copies_typed code.structs (kinds_of code f) (slice_set known v.0 true)) (sym (follow (i + 1) next-up (among-next i)))
+          (subst (CopiesTyped code.structs (kinds_of code f) (slice_set known v.0 true)) (sym (follow (i + 1) next-up (among-next i)))
           (copies-set code.structs (kinds_of code f) known v.0 (F i) None good (λ w e. type-self code.structs (kinds_of code f) known v.0 w)))
           (set-live v.0 d here (λ z. refl) refl))
       cmd-go (Write q e) up here follow k p =
           let d = fold-it (Write q e) in
           both-true (command_ok folds f known' stepped d) (onward (paths_ok folds f (final code.structs body) n) d i known')
           (command-go f known known' (F i) good stepped (Write q e) (used-known d here) k)
-          (on (i + 1) known known' true long p (subst (Copies_typed code.structs (kinds_of code f) known) (sym (follow (i + 1) next-up (among-next i))) good)
+          (on (i + 1) known known' true long p (subst (CopiesTyped code.structs (kinds_of code f) known) (sym (follow (i + 1) next-up (among-next i))) good)
           (keep-live d here (λ z. refl) (i + 1) next-up (among-next i)))
       cmd-go (If test first second) up here follow k p =
           let b = both (nat_lt i first) (nat_lt i second) up in
@@ -351,8 +351,8 @@ module _ (code : Code) (ok : valid code ≡ true) where
           both-true (command_ok folds f known' stepped d) (onward (paths_ok folds f B n) d i known')
           (command-go f known known' (F i) good stepped (If test first second) (used-known d here) k)
           (both-true (paths_ok folds f B n first known' true) (paths_ok folds f B n second known' true)
-          (on first known known' true long c.0 (subst (Copies_typed code.structs (kinds_of code f) known) (sym (follow first lo (among-first first second))) good) (keep-live d here (λ z. refl) first lo (among-first first second)))
-          (on second known known' true long c.1 (subst (Copies_typed code.structs (kinds_of code f) known) (sym (follow second hi (among-second first second))) good) (keep-live d here (λ z. refl) second hi (among-second first second))))
+          (on first known known' true long c.0 (subst (CopiesTyped code.structs (kinds_of code f) known) (sym (follow first lo (among-first first second))) good) (keep-live d here (λ z. refl) first lo (among-first first second)))
+          (on second known known' true long c.1 (subst (CopiesTyped code.structs (kinds_of code f) known) (sym (follow second hi (among-second first second))) good) (keep-live d here (λ z. refl) second hi (among-second first second))))
       cmd-go Done up here follow k p = refl
       cmd-go (Tail w args) up here follow k p =
           let d = fold-it (Tail w args) in
@@ -393,7 +393,7 @@ module _ (code : Code) (ok : valid code ≡ true) where
       let paths : paths_ok folds f B (length B) 0 begun false ≡ true =
       ap (λ n. paths_ok folds f B n 0 begun false) (folded-length code.structs unit.body)
       ∙ paths-go f unit.body shape.1 shape.0 (length unit.body) 0 begun begun false refl r.1
-      (subst (Copies_typed code.structs (kinds_of code f) begun) (sym (facts-root code.structs unit.body)) (none-typed code.structs (kinds_of code f) begun)) (λ v m k. k) in
+      (subst (CopiesTyped code.structs (kinds_of code f) begun) (sym (facts-root code.structs unit.body)) (none-typed code.structs (kinds_of code f) begun)) (λ v m k. k) in
       both-true (is_core (slice_get code.functions f)) (below (length (kinds_of code f)) unit.params && body_ok folds f unit.params B) p.0
       (both-true (below (length (kinds_of code f)) unit.params) (body_ok folds f unit.params B) q.0
       (both-true (all_forward B 0 && is_tree B) (paths_ok folds f B (length B) 0 begun false) (both-true (all_forward B 0) (is_tree B) forward tree) paths))

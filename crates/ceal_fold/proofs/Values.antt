@@ -25,14 +25,14 @@ use Rattle.ceal_fold.specs.declared.copies.Copied.{Copied}
 use Rattle.ceal_fold.specs.declared.copies.Copied.TheVariants.{Num as CopiedNum, Null as CopiedNull, Var as CopiedVar}
 
 -- a word that is what the copy says
-abbrev pub Copy_holds : Variables → Word → Option Copied → Type 0
-Copy_holds env word None = ⊤
-Copy_holds env word (Some (CopiedNum n)) = word ≡ Num n
-Copy_holds env word (Some CopiedNull) = word ≡ Null
-Copy_holds env word (Some (CopiedVar w)) = word ≡ env w.0
+abbrev pub CopyHolds : Variables → Word → Option Copied → Type 0
+CopyHolds env word None = ⊤
+CopyHolds env word (Some (CopiedNum n)) = word ≡ Num n
+CopyHolds env word (Some CopiedNull) = word ≡ Null
+CopyHolds env word (Some (CopiedVar w)) = word ≡ env w.0
 
 abbrev pub Holds : Copies → Variables → Type 0
-Holds known env = (v : ℕ) → Copy_holds env (env v) (known v)
+Holds known env = (v : ℕ) → CopyHolds env (env v) (known v)
 
 pub holds-none : (env : Variables) → Holds no_copies env
 unfolding no_copies
@@ -170,7 +170,7 @@ module _ (structs : List StructInfo) (x : Plain) where
     address-same a s f false e = value-address a s f
 
     module _ (known : Copies) (holds : Holds known env) where
-      use-same : (v : VarId) (o : Option Copied) → Copy_holds env (env v.0) o → expr_value structs x env (use_of v o) ≡ env v.0
+      use-same : (v : VarId) (o : Option Copied) → CopyHolds env (env v.0) o → expr_value structs x env (use_of v o) ≡ env v.0
       unfolding expr_value
       use-same v None h = refl
       use-same v (Some (CopiedNum n)) h = sym h
@@ -210,13 +210,13 @@ module _ (structs : List StructInfo) (x : Plain) where
     or-right true b h = refl
     or-right false b h = h
 
-    abbrev pub Same_where : (ℕ → Bool) → Type 0
-    Same_where used = (v : ℕ) → used v ≡ true → env' v ≡ env v
+    abbrev pub SameWhere : (ℕ → Bool) → Type 0
+    SameWhere used = (v : ℕ) → used v ≡ true → env' v ≡ env v
 
     mutual
       unfolding expr_value mentions
 
-      pub value-mentioned : (e : CodeExpr) → Same_where (mentions e) → expr_value structs x env' e ≡ expr_value structs x env e
+      pub value-mentioned : (e : CodeExpr) → SameWhere (mentions e) → expr_value structs x env' e ≡ expr_value structs x env e
       value-mentioned (NumExpr n) h = refl
       value-mentioned NullExpr h = refl
       value-mentioned (Var v) h = let s : (v.0 == v.0) ≡ true = grind arith in h v.0 s
@@ -227,11 +227,11 @@ module _ (structs : List StructInfo) (x : Plain) where
       value-mentioned (Field' _ a s f) h = ap (λ w. field_value structs x w s f) (operand-mentioned a h)
       value-mentioned (Address' _ a s f) h = ap (λ w. address_value structs x w s f) (operand-mentioned a h)
 
-      operand-mentioned : {n : _} (row : Row_of-CodeExpr n) → Same_where (operand_mentions row) → operand_value structs x env' row ≡ operand_value structs x env row
+      operand-mentioned : {n : _} (row : Row_of-CodeExpr n) → SameWhere (operand_mentions row) → operand_value structs x env' row ≡ operand_value structs x env row
       operand-mentioned end_of-CodeExpr h = refl
       operand-mentioned (more_of-CodeExpr e rest) h = value-mentioned e h
 
-    pub values-mentioned : (es : List CodeExpr) → Same_where (all_mention es) → values structs x env' es ≡ values structs x env es
+    pub values-mentioned : (es : List CodeExpr) → SameWhere (all_mention es) → values structs x env' es ≡ values structs x env es
     unfolding values all_mention
     values-mentioned [] h = refl
     values-mentioned (e ∷ es) h =
@@ -247,34 +247,34 @@ pub set-other : (env : Variables) (v u : ℕ) (word : Word) → (u == v) ≡ fal
 unfolding set
 set-other env v u word e = rw e refl
 
-pub holds-set : (known : Copies) (env : Variables) (v : ℕ) (word : Word) (copy : Option Copied) → Holds known env → Copy_holds (set env v word) word copy → Holds (assigned known v copy) (set env v word)
+pub holds-set : (known : Copies) (env : Variables) (v : ℕ) (word : Word) (copy : Option Copied) → Holds known env → CopyHolds (set env v word) word copy → Holds (assigned known v copy) (set env v word)
 unfolding assigned
 holds-set known env v word copy h k u = go (u == v) refl
   where
-    left : (u == v) ≡ false → (o : Option Copied) → Copy_holds env (env u) o → Copy_holds (set env v word) (set env v word u) (copy_without v o)
+    left : (u == v) ≡ false → (o : Option Copied) → CopyHolds env (env u) o → CopyHolds (set env v word) (set env v word u) (copy_without v o)
     left e None h = tt
     left e (Some (CopiedNum n)) h = set-other env v u word e ∙ h
     left e (Some CopiedNull) h = set-other env v u word e ∙ h
     left e (Some (CopiedVar w)) h = apart (w.0 == v) refl
       where
-        apart : (b : Bool) → (w.0 == v) ≡ b → Copy_holds (set env v word) (set env v word u) (if b then None else Some (CopiedVar w))
+        apart : (b : Bool) → (w.0 == v) ≡ b → CopyHolds (set env v word) (set env v word u) (if b then None else Some (CopiedVar w))
         apart true f = tt
         apart false f = set-other env v u word e ∙ h ∙ sym (set-other env v w.0 word f)
 
-    go : (b : Bool) → (u == v) ≡ b → Copy_holds (set env v word) (set env v word u) (if b then copy else copy_without v (known u))
+    go : (b : Bool) → (u == v) ≡ b → CopyHolds (set env v word) (set env v word u) (if b then copy else copy_without v (known u))
     go true e =
         let i : u ≡ v = nat-same u v e in
-        subst (λ w. Copy_holds (set env v word) w copy) (sym (ap (set env v word) i ∙ set-same env v word)) k
+        subst (λ w. CopyHolds (set env v word) w copy) (sym (ap (set env v word) i ∙ set-same env v word)) k
     go false e = left e (known u) (h u)
 
 -- a move makes its variable a copy of what its expression is
-pub move-holds : (structs : List StructInfo) (x : Plain) (env : Variables) (v : ℕ) (e : CodeExpr) → Copy_holds (set env v (expr_value structs x env e)) (expr_value structs x env e) (copy_by v e)
+pub move-holds : (structs : List StructInfo) (x : Plain) (env : Variables) (v : ℕ) (e : CodeExpr) → CopyHolds (set env v (expr_value structs x env e)) (expr_value structs x env e) (copy_by v e)
 unfolding expr_value
 move-holds structs x env v (NumExpr n) = refl
 move-holds structs x env v NullExpr = refl
 move-holds structs x env v (Var w) = go (w.0 == v) refl
   where
-    go : (b : Bool) → (w.0 == v) ≡ b → Copy_holds (set env v (env w.0)) (env w.0) (if b then None else Some (CopiedVar w))
+    go : (b : Bool) → (w.0 == v) ≡ b → CopyHolds (set env v (env w.0)) (env w.0) (if b then None else Some (CopiedVar w))
     go true e = tt
     go false e = sym (set-other env v w.0 (env w.0) e)
 move-holds structs x env v (Unary' op _ a) = tt

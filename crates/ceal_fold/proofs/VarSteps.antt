@@ -5,10 +5,6 @@ use Rattle.std.specs.List.{list_any}
 use Rattle.std.specs.Ordering.{nat_cmp}
 use Rattle.ceal_fold.specs.States.{has}
 
-pub has-in : (vars : List ℕ) (u : ℕ) → list_any (is_at (nat_cmp u)) vars ≡ has vars u
-unfolding has
-has-in vars u = refl
-
 pub has-none : (vars : List ℕ) (u : ℕ) → length vars ≡ 0 → has vars u ≡ false
 unfolding has
 has-none [] u h = refl

@@ -25,6 +25,7 @@ use Rattle.ceal_fold.specs.declared.copies.Copied.TheVariants.{Num as CopiedNum,
 abbrev pub Copies : Type 0
 Copies = ℕ → Option Copied
 
+-- no variable is known to be a copy
 unfoldable pub no_copies : Copies
 no_copies = λ v. None
 
@@ -48,6 +49,7 @@ constant_expr Null = NullExpr
 constant_expr (BlockWord b) = NullExpr
 constant_expr (At p) = NullExpr
 
+-- whether the expression is `null`
 abbrev pub is_null : CodeExpr → Bool
 is_null NullExpr = true
 is_null _ = false
@@ -57,6 +59,7 @@ abbrev pub unary_folded : UnaryOp → CodeExpr → Option Word → CodeExpr
 unary_folded op a None = Unary op a
 unary_folded op a (Some x) = constant_expr (unary_value op x)
 
+-- an operator on two operands, whose values are given where they are constants
 abbrev pub binary_folded : BinaryOp → CodeExpr → CodeExpr → Option Word → Option Word → CodeExpr
 binary_folded op a b None y = Binary op a b
 binary_folded op a b (Some x) None = Binary op a b
@@ -67,10 +70,12 @@ abbrev pub field_folded : List StructInfo → CodeExpr → ℕ → ℕ → CodeE
 field_folded structs a s field =
     if is_null a then constant_expr (field_default (field_kind structs (Struct s) field)) else Field a s field
 
+-- the address of a field; that of a field of `null` is null
 abbrev pub address_folded : CodeExpr → ℕ → ℕ → CodeExpr
 address_folded a s field = if is_null a then NullExpr else Address a s field
 
 unfoldable mutual
+  -- an expression with copies in place of its variables, and with operators on constants computed
   pub folded_expr : List StructInfo → Copies → CodeExpr → CodeExpr
   folded_expr structs known (NumExpr n) = NumExpr n
   folded_expr structs known NullExpr = NullExpr
@@ -82,10 +87,12 @@ unfoldable mutual
   folded_expr structs known (Field' _ a s field) = field_folded structs (folded_operand structs known a) s field
   folded_expr structs known (Address' _ a s field) = address_folded (folded_operand structs known a) s field
 
+  -- the same of an operand
   pub folded_operand : List StructInfo → Copies → {n : _} → Row_of-CodeExpr n → CodeExpr
   folded_operand structs known end_of-CodeExpr = NullExpr
   folded_operand structs known (more_of-CodeExpr e rest) = folded_expr structs known e
 
+-- the same of each expression of a list
 unfoldable pub folded_exprs : List StructInfo → Copies → List CodeExpr → List CodeExpr
 folded_exprs structs known [] = []
 folded_exprs structs known (e ∷ es) = folded_expr structs known e ∷ folded_exprs structs known es
@@ -128,6 +135,7 @@ copies_after known (Alloc v g args) = assigned known v.0 None
 copies_after known (Modref v shape) = assigned known v.0 None
 copies_after known _ = known
 
+-- whether the index is in the list
 unfoldable pub is_among : ℕ → List ℕ → Bool
 is_among j [] = false
 is_among j (k ∷ ks) = j == k || is_among j ks
@@ -143,6 +151,7 @@ replaced structs at i (c ∷ cs) =
     folded_command structs (at i) c ∷ replaced structs (handed at i (folded_command structs (at i) c)) (i + 1) cs
 
 unfoldable mutual
+  -- whether the expression mentions the variable
   pub mentions : CodeExpr → ℕ → Bool
   mentions (NumExpr n) v = false
   mentions NullExpr v = false
@@ -152,10 +161,12 @@ unfoldable mutual
   mentions (Field' _ a s field) v = operand_mentions a v
   mentions (Address' _ a s field) v = operand_mentions a v
 
+  -- the same of an operand
   pub operand_mentions : {n : _} → Row_of-CodeExpr n → ℕ → Bool
   operand_mentions end_of-CodeExpr v = false
   operand_mentions (more_of-CodeExpr e rest) v = mentions e v
 
+-- whether one of the expressions mentions the variable
 unfoldable pub all_mention : List CodeExpr → ℕ → Bool
 all_mention [] v = false
 all_mention (e ∷ es) v = mentions e v || all_mention es v
@@ -173,6 +184,7 @@ uses (Tail w args) v = all_mention args v
 uses (Read w p u args) v = mentions p v || all_mention args v
 uses (Call g args w rest) v = all_mention args v || all_mention rest v
 
+-- whether the command assigns the variable
 abbrev pub assigns : Cmd → ℕ → Bool
 assigns (Move w e) v = w.0 == v
 assigns (Alloc w g args) v = w.0 == v
@@ -184,6 +196,7 @@ unfoldable pub used_in : (ℕ → ℕ → Bool) → List ℕ → ℕ → Bool
 used_in later [] v = false
 used_in later (j ∷ js) v = later j v || used_in later js v
 
+-- whether the variable is used from a command on: by it, or after it where it does not assign it
 abbrev pub used_by : (ℕ → ℕ → Bool) → Cmd → ℕ → ℕ → Bool
 used_by later c i v = uses c v || (not (assigns c v) && used_in later (followers c i) v)
 
@@ -192,6 +205,7 @@ unfoldable pub used : ℕ → List Cmd → ℕ → ℕ → Bool
 used i [] j v = false
 used i (c ∷ cs) j v = if j == i then used_by (used (i + 1) cs) c i v else used (i + 1) cs j v
 
+-- the command; a step alone, where it is a move of a variable that is not used later
 abbrev pub ticked : (ℕ → Bool) → Cmd → Cmd
 ticked later (Move v e) = if later v.0 then Move v e else Tick
 ticked later c = c
@@ -202,12 +216,15 @@ without_unused i [] = []
 without_unused i (c ∷ cs) =
     ticked (used_in (used (i + 1) (without_unused (i + 1) cs)) (followers c i)) c ∷ without_unused (i + 1) cs
 
+-- what is known at the root of a body: nothing
 abbrev pub at_root : ℕ → Copies
 at_root i = no_copies
 
+-- a unit with its body folded
 abbrev pub folded_unit : List StructInfo → Unit → Unit
 folded_unit structs unit = record unit { body = without_unused 0 (replaced structs at_root 0 unit.body) }
 
+-- the same of each unit
 unfoldable pub folded_units : List StructInfo → List Unit → List Unit
 folded_units structs [] = []
 folded_units structs (unit ∷ units) = folded_unit structs unit ∷ folded_units structs units

@@ -1,4 +1,7 @@
+-- what the crate promises
 pub mod Folding
+pub mod Traces
+pub mod Laws
+-- what its own functions say of each other
 pub mod States
 pub mod Trees
-pub mod Traces

@@ -25,6 +25,7 @@ still last at (Some (CopiedNum n)) = Some (CopiedNum n)
 still last at (Some CopiedNull) = Some CopiedNull
 still last at (Some (CopiedVar w)) = if nat_lt (time (last w.0)) at then Some (CopiedVar w) else None
 
+-- what is copied by an assignment, if it still holds
 abbrev pub standing : (ℕ → Option Assigned) → Option Assigned → Option Copied
 standing last None = None
 standing last (Some a) = still last a.at a.copy
@@ -37,6 +38,7 @@ copy_at known v = standing (last_of known) (last_of known v)
 unfoldable pub state_at : List (List (ℕ × Assigned)) → ℕ → List (ℕ × Assigned)
 state_at states j = unwrap_or (slice_get states j) []
 
+-- the copies at an index, by the states of all indices
 unfoldable pub copies_at : List (List (ℕ × Assigned)) → ℕ → Copies
 copies_at states j = copy_at (state_at states j)
 
@@ -44,8 +46,9 @@ copies_at states j = copy_at (state_at states j)
 unfoldable pub Until : ℕ → List (ℕ × Assigned) → Type 0
 Until n known = (v : ℕ) → time (last_of known v) ≤ n
 
-unfoldable pub All_until : ℕ → List (List (ℕ × Assigned)) → Type 0
-All_until n states = (j : ℕ) → Until n (state_at states j)
+-- In no state was an assignment after this time.
+unfoldable pub AllUntil : ℕ → List (List (ℕ × Assigned)) → Type 0
+AllUntil n states = (j : ℕ) → Until n (state_at states j)
 
 -- whether a variable is among those that are used
 unfoldable pub has : List ℕ → ℕ → Bool

@@ -1,16 +1,18 @@
 // What is known of variables at a point of a path.
 
-ghost use Rattle.std.specs.Prelude.{◌≡◌, ◌<◌, ◌≤◌, ℕ, [], IfOk};
+ghost use Rattle.std.specs.Prelude.{◌≡◌, ◌<◌, ◌≤◌, ℕ, [], unwrap_or, IfOk};
 ghost use Rattle.ceal_fold.specs.Folding.{assigned, copy_without, copies_after};
 ghost use Rattle.ceal_fold.specs.States.{last_of, time, still, copy_at};
 
 use crate::copies::{Copied, copy_by_move};
+use crate::shared::Shared;
 use ceal_base::no_memory::NoMemory;
 use ceal_code::command::Cmd;
 use ceal_code::expr::VarId;
 use std::alloc::Global;
 use std::collections::BTreeMap;
 use std::marker::Model;
+use std::mem;
 
 /// The last assignment of a variable: when it was, and what it made the variable a copy of.
 #[derive(Clone, Copy, PartialEq, Eq, Debug)]
@@ -20,19 +22,34 @@ pub struct Assigned {
 }
 
 /// The last assignment of each variable on a path. Times rise along a path, so a copy is known to be over where its
-/// source was assigned after it, and an assignment takes no copy out.
+/// source was assigned after it, and an assignment takes no copy out. Paths that part share what they know until one of
+/// them assigns.
 #[derive(Drop)]
 pub struct Known {
-    map: BTreeMap<u32, Assigned>,
+    alloc: Global,
+    shared: Option<Shared>,
 }
 
 impl Model for Known {
-    ghost use Rattle.std.specs.Prelude.{ℕ, List};
+    ghost use Rattle.std.specs.Prelude.{ℕ, List, [], unwrap_or};
     ghost use Rattle.ceal_fold.specs.declared.known.Assigned.{Assigned};
 
     ghost Value = { List (ℕ × Assigned) };
 
-    ghost view = { λ k. k.map.entries };
+    ghost view = { λ k. unwrap_or k.shared [] };
+}
+
+/// Takes the map out; where another path has it too, a copy of it.
+fn own(alloc: Global, shared: Option<Shared>) -> Result<BTreeMap<u32, Assigned>, NoMemory>
+    ensures { IfOk result (λ map. map.entries ≡ unwrap_or shared []) }
+{
+    match shared {
+        None => Ok(BTreeMap::new(alloc)),
+        Some(shared) => {
+            let map = shared.into_map()?;
+            Ok(map)
+        }
+    }
 }
 
 impl Known {
@@ -40,7 +57,8 @@ impl Known {
         ensures { result ≡ [] }
     {
         Known {
-            map: BTreeMap::new(alloc),
+            alloc,
+            shared: None,
         }
     }
 
@@ -48,7 +66,10 @@ impl Known {
     fn last(&self, v: VarId) -> Option<Assigned>
         ensures value { result ≡ last_of self.now v.0 }
     {
-        self.map.get(&v.0).copied()
+        match &self.shared {
+            None => None,
+            Some(shared) => shared.last(v.0),
+        }
     }
 
     fn time_of(&self, v: VarId) -> usize
@@ -88,11 +109,20 @@ impl Known {
         }
     }
 
+    /// The same for one path more. It takes the same time whatever is known.
     pub fn copy(&self) -> Result<Known, NoMemory>
         ensures equal { IfOk result (λ copy. copy ≡ self.now) }
     {
-        let map = self.map.clone()?;
-        Ok(Known { map })
+        match &self.shared {
+            None => Ok(Known::new(self.alloc)),
+            Some(shared) => {
+                let shared = shared.share()?;
+                Ok(Known {
+                    alloc: self.alloc,
+                    shared: Some(shared),
+                })
+            }
+        }
     }
 
     /// Goes over an assignment to a variable, which makes it this copy.
@@ -102,7 +132,9 @@ impl Known {
         ensures value { IfOk result (λ _. copy_at self.new ≡ assigned (copy_at self.old) v.0 copy) }
         ensures times { IfOk result (λ _. (u : ℕ) → time (last_of self.new u) ≤ at) }
     {
-        self.map.insert(v.0, Assigned { at, copy })?;
+        let mut map = own(self.alloc, mem::replace(&mut self.shared, None))?;
+        map.insert(v.0, Assigned { at, copy })?;
+        self.shared = Some(Shared::new(self.alloc, map)?);
         Ok(())
     }
 

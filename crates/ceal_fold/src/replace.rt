@@ -3,13 +3,13 @@
 ghost use Rattle.std.specs.Prelude.{◌≡◌, ◌<◌, ◌+◌, ◌^◌, ℕ, [], length, slice_get, slice_set, replicate, if◌then◌else◌, IfOk};
 ghost use Rattle.ceal_code.specs.Valid.{followers};
 ghost use Rattle.ceal_fold.specs.Folding.{at_root, copies_after, is_among, folded_command, handed, replaced};
-ghost use Rattle.ceal_fold.specs.States.{copy_at, state_at, copies_at, Until, All_until};
+ghost use Rattle.ceal_fold.specs.States.{copy_at, state_at, copies_at, Until, AllUntil};
 
 use crate::expr::fold_command;
 use crate::known::Known;
 use ceal_base::no_memory::NoMemory;
 use ceal_base::typed::StructInfo;
-use ceal_code::command::Cmd;
+use ceal_code::command::{Cmd, Followers};
 use std::alloc::Global;
 use std::mem;
 
@@ -52,43 +52,26 @@ fn hand_on(
 ) -> Result<(), NoMemory>
     requires room { index < 2 ^ 63 }
     requires state { Until (index + 1) state }
-    requires earlier { All_until (index + 1) states.old.items }
-    ensures times { IfOk result (λ _. All_until (index + 1) states.new.items) }
+    requires earlier { AllUntil (index + 1) states.old.items }
+    ensures times { IfOk result (λ _. AllUntil (index + 1) states.new.items) }
     ensures length { IfOk result (λ _. length states.new.items ≡ length states.old.items) }
-    ensures value { IfOk result (λ _. (j : ℕ) → j < length states.old.items → copies_at states.new.items j
-        ≡ (if is_among j (followers command.now index) then copy_at state else copies_at states.old.items j)) }
+    ensures value { IfOk result
+        (λ _. (j : ℕ) → j < length states.old.items → copies_at states.new.items j
+        ≡ (if is_among j (followers command.now index) then copy_at state
+        else copies_at states.old.items j)) }
 {
-    match command {
-        Cmd::Move { .. } => {
-            hand(states, index + 1, state);
+    match command.followers(index) {
+        Followers::Nowhere => Ok(()),
+        Followers::One(next) => {
+            hand(states, next, state);
             Ok(())
         }
-        Cmd::Tick => {
-            hand(states, index + 1, state);
-            Ok(())
-        }
-        Cmd::Alloc { .. } => {
-            hand(states, index + 1, state);
-            Ok(())
-        }
-        Cmd::Modref { .. } => {
-            hand(states, index + 1, state);
-            Ok(())
-        }
-        Cmd::Write { .. } => {
-            hand(states, index + 1, state);
-            Ok(())
-        }
-        Cmd::If { yes, no, .. } => {
+        Followers::Two(yes, no) => {
             let other = state.copy()?;
-            hand(states, *yes as usize, other);
-            hand(states, *no as usize, state);
+            hand(states, yes, other);
+            hand(states, no, state);
             Ok(())
         }
-        Cmd::Done => Ok(()),
-        Cmd::Tail { .. } => Ok(()),
-        Cmd::Read { .. } => Ok(()),
-        Cmd::Call { .. } => Ok(()),
     }
 }
 
@@ -102,8 +85,8 @@ fn replace_at(
 ) -> Result<Cmd, NoMemory>
     requires there { index < length states.old.items }
     requires room { index < 2 ^ 63 }
-    requires earlier { All_until index states.old.items }
-    ensures times { IfOk result (λ c. All_until (index + 1) states.new.items) }
+    requires earlier { AllUntil index states.old.items }
+    ensures times { IfOk result (λ c. AllUntil (index + 1) states.new.items) }
     ensures command { IfOk result
         (λ c. c ≡ folded_command structs.now (copies_at states.old.items index) command.now) }
     ensures length { IfOk result (λ c. length states.new.items ≡ length states.old.items) }

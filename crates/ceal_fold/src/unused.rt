@@ -8,7 +8,7 @@ ghost use Rattle.ceal_fold.specs.States.{has, has_at};
 use crate::uses::pass_back;
 use crate::vars::Vars;
 use ceal_base::no_memory::NoMemory;
-use ceal_code::command::Cmd;
+use ceal_code::command::{Cmd, Followers};
 use std::alloc::Global;
 use std::mem;
 
@@ -50,22 +50,15 @@ fn take_later(
     ensures left { IfOk result (λ _. (j u : ℕ) → is_among j (followers command.now index) ≡ false
         → has_at sets.new.items j u ≡ has_at sets.old.items j u) }
 {
-    match command {
-        Cmd::Move { .. } => Ok(take_set(alloc, sets, index + 1)),
-        Cmd::Tick => Ok(take_set(alloc, sets, index + 1)),
-        Cmd::Alloc { .. } => Ok(take_set(alloc, sets, index + 1)),
-        Cmd::Modref { .. } => Ok(take_set(alloc, sets, index + 1)),
-        Cmd::Write { .. } => Ok(take_set(alloc, sets, index + 1)),
-        Cmd::If { yes, no, .. } => {
-            let first = take_set(alloc, sets, *yes as usize);
-            let second = take_set(alloc, sets, *no as usize);
+    match command.followers(index) {
+        Followers::Nowhere => Ok(Vars::new(alloc)),
+        Followers::One(next) => Ok(take_set(alloc, sets, next)),
+        Followers::Two(yes, no) => {
+            let first = take_set(alloc, sets, yes);
+            let second = take_set(alloc, sets, no);
             let both = first.joined(second)?;
             Ok(both)
         }
-        Cmd::Done => Ok(Vars::new(alloc)),
-        Cmd::Tail { .. } => Ok(Vars::new(alloc)),
-        Cmd::Read { .. } => Ok(Vars::new(alloc)),
-        Cmd::Call { .. } => Ok(Vars::new(alloc)),
     }
 }
 
@@ -96,7 +89,8 @@ fn tick_at(alloc: Global, sets: &mut Vec<Vars>, command: Cmd, index: usize) -> R
     ensures length { IfOk result (λ c. length sets.new.items ≡ length sets.old.items) }
     ensures here { IfOk result
         (λ c. (u : ℕ) → has_at sets.new.items index u ≡ used_by (has_at sets.old.items) c index u) }
-    ensures left { IfOk result (λ c. (j u : ℕ) → (j ≡ index → ⊥) → is_among j (followers command index) ≡ false
+    ensures left { IfOk result
+        (λ c. (j u : ℕ) → (j ≡ index → ⊥) → is_among j (followers command index) ≡ false
         → has_at sets.new.items j u ≡ has_at sets.old.items j u) }
 {
     let mut vars = take_later(alloc, sets, &command, index)?;

@@ -39,7 +39,7 @@ nodes-more seed size behind h =
     let same : node_draw seed size (i + 1) ≡ drawn (next_state (state_after seed behind)) = ap drawn (ap (state_after seed) number ∙ state-more seed behind) in
     rw left (nodes-one seed size i ∙ ap (λ (d : ℕ). node_line size (i + 1) d ++ node_lines seed size i) same)
 
--- a cell behind the others
+-- a cell after the others
 pub cells-next : (seed k s h : ℕ) (first out new : List ℕ)
     → s ≡ state_after seed (k + 1) → h ≡ head_of (drawn s) → out ≡ first ++ cell_lines seed k → new ≡ out ++ cell_line (k + 1) h
     → new ≡ first ++ cell_lines seed (k + 1)

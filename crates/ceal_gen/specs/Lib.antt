@@ -1,3 +1,4 @@
+-- what the crate promises
 pub mod Draws
 pub mod Programs
 pub mod Names

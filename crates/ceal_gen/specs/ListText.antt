@@ -9,6 +9,7 @@ use Rattle.ceal_gen.specs.Programs.{map_program}
 abbrev pub head_of : ℕ → ℕ
 head_of drawn = drawn % 1000
 
+-- the head of the k-th cell
 abbrev pub head : ℕ → ℕ → ℕ
 head seed k = head_of (draw seed k)
 
@@ -16,10 +17,11 @@ head seed k = head_of (draw seed k)
 abbrev pub tail_text : ℕ → List ℕ
 tail_text k = if k == 1 then codes "null" else cell_name (k - 1)
 
+-- the line that makes the k-th cell with this head
 unfoldable pub cell_line : ℕ → ℕ → List ℕ
 cell_line k h = codes "new " ++ cell_name k ++ codes " cell " ++ decimal h ++ codes " " ++ tail_text k ++ codes "\n"
 
--- the lines of the first so many cells
+-- the lines of the first cells, as many as are given
 unfoldable pub cell_lines : ℕ → ℕ → List ℕ
 cell_lines seed zero = []
 cell_lines seed (suc k) = cell_lines seed k ++ cell_line (suc k) (head seed (suc k))
@@ -58,6 +60,7 @@ take_front size =
     ++ codes "steps\n"
     ++ codes "blocks\n"
 
+-- the workload of a list: program, mark and script
 abbrev pub list_text : ℕ → ℕ → List ℕ
 list_text seed size =
     map_program

@@ -6,5 +6,6 @@ use Rattle.std.specs.Fmt.{decimal}
 abbrev pub cell_name : ℕ → List ℕ
 cell_name k = codes "c" ++ decimal k
 
+-- the name of the i-th node
 abbrev pub node_name : ℕ → List ℕ
 node_name i = codes "n" ++ decimal i

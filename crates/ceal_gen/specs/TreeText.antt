@@ -5,7 +5,7 @@ use Rattle.ceal_gen.specs.Draws.{draw}
 use Rattle.ceal_gen.specs.Names.{node_name}
 use Rattle.ceal_gen.specs.Programs.{eval_program}
 
--- the nodes of a tree with so many operators; the last of them is the first that is made
+-- the nodes of a tree with the given number of operators; the last of them is made first
 abbrev pub node_count : ℕ → ℕ
 node_count size = 2 * size + 1
 
@@ -13,7 +13,7 @@ node_count size = 2 * size + 1
 unfoldable pub leaf_line : ℕ → ℕ → List ℕ
 leaf_line i v = codes "new " ++ node_name i ++ codes " node 0 " ++ decimal v ++ codes " null null\n"
 
--- an operator, over the nodes with twice its number and the number behind that
+-- an operator, over the nodes with twice its number and the number after that
 unfoldable pub operator_line : ℕ → ℕ → List ℕ
 operator_line i op =
     codes "new " ++ node_name i ++ codes " node " ++ decimal op ++ codes " 0 " ++ node_name (2 * i) ++ codes " " ++ node_name (2 * i + 1) ++ codes "\n"
@@ -60,6 +60,7 @@ replace_left =
     ++ codes "steps\n"
     ++ codes "blocks\n"
 
+-- the workload of a tree: program, mark and script
 abbrev pub tree_text : ℕ → ℕ → List ℕ
 tree_text seed size =
     eval_program

@@ -5,10 +5,10 @@
 //! the same text. `specs/` has the draws and the text by lines.
 #![tactic(auto)]
 
-mod bytes;
 mod draws;
 pub mod kind;
 mod list;
+mod names;
 mod programs;
 pub mod text;
 mod tree;

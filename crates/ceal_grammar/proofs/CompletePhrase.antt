@@ -29,7 +29,7 @@ use Rattle.ceal_grammar.specs.Follows.{Follows}
 abbrev pub piece_of : Phrase → Piece
 piece_of c = record { from = first c; expr = expression c }
 
--- An arrow and an index may stand behind a phrase that does not end with an index.
+-- An arrow and an index may stand after a phrase that does not end with an index.
 unfoldable pub held : Phrase → Piece → Place
 held (prefix op s a) p = held a p
 held (element s a l b r) p = Element p
@@ -196,7 +196,7 @@ sign_operator And h = refl
 sign_operator Or h = refl
 sign_operator (Pick n) h = absurd h
 
--- no item begins behind a phrase
+-- no item begins after a phrase
 held_item : (w : Whole) (c : Phrase) (p : Piece) → place_item w (held c p) ≡ 0
 unfolding held
 held_item w (prefix op at a) p = held_item w a p
@@ -214,7 +214,7 @@ pub no_item : (d : ℕ) (c : Phrase) (fs : List Frame) (n : ℕ) (r : Receiver)
     → let q = pending c fs in place_item (whole d (after c n) q.frames r) (held c q.piece) ≡ 0
 no_item d c fs n r = let q = pending c fs in held_item (whole d (after c n) q.frames r) c q.piece
 
--- a sign behind a phrase, other than an arrow and the `[` of an index
+-- a sign after a phrase, other than an arrow and the `[` of an index
 pub sign_behind : (i : Inside) (w : Whole) (c : Phrase) (p : Piece) (s : Span) (k : SignOf) → same_sign k Signs.Arrow ≡ false → same_sign k Signs.LeftBracket ≡ false
     → at_place i w (held c p) s (Sign k) ≡ at_sign_after i w p s k (operator_of k)
 unfolding held

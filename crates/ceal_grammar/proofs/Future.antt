@@ -68,7 +68,7 @@ TypeFuture cells next Types.ModStruct u = AfterName (StarOr cells next) u
 TypeFuture cells next (Types.ModNamed y) u = StarOr cells next u
 TypeFuture cells next (Types.Done form) u = AfterName (next (is_cell form)) u
 
--- the same behind each type
+-- the same after each type
 abbrev pub Each : (List Token → Type 0) → Bool → List Token → Type 0
 Each next cell u = next u
 
@@ -90,11 +90,11 @@ unfoldable pub CloseFuture : List Opened → List Token → Type 0
 CloseFuture [] u = TopFuture u
 CloseFuture (o ∷ os) u = OwnedFuture o.owner (BodyFuture (CloseFuture os)) u
 
-abbrev pub In_body : Inside → List Token → Type 0
-In_body i u = BodyFuture (CloseFuture i.opened) u
+abbrev pub InBody : Inside → List Token → Type 0
+InBody i u = BodyFuture (CloseFuture i.opened) u
 
 abbrev pub SemiFuture : Inside → List Token → Type 0
-SemiFuture i u = AfterSign Signs.Semicolon (In_body i) u
+SemiFuture i u = AfterSign Signs.Semicolon (InBody i) u
 
 abbrev pub ClosedFuture : Inside → List Token → Type 0
 ClosedFuture i u = AfterSign Signs.RightParenthesis (SemiFuture i) u
@@ -115,8 +115,8 @@ ReceiverFuture i (To.Set a x) u = SemiFuture i u
 ReceiverFuture i (To.Write s) u = (c : Span) × (e : Phrase) × (r : Span) × (v : List Token) × Grouped e
     × (u ≡ word (Sign Signs.Comma) c ∷ phrase e (word (Sign Signs.RightParenthesis) r ∷ v)) × SemiFuture i v
 ReceiverFuture i (To.Store s a) u = ClosedFuture i u
-ReceiverFuture i (To.If at) u = AfterSign Signs.RightParenthesis (BlockFuture (OtherFuture (In_body i))) u
-ReceiverFuture i (To.While at) u = AfterSign Signs.RightParenthesis (BlockFuture (In_body i)) u
+ReceiverFuture i (To.If at) u = AfterSign Signs.RightParenthesis (BlockFuture (OtherFuture (InBody i))) u
+ReceiverFuture i (To.While at) u = AfterSign Signs.RightParenthesis (BlockFuture (InBody i)) u
 
 -- after an operand and what follows it, within its frames
 unfoldable pub FramesFuture : Inside → Receiver → List Frame → List Token → Type 0
@@ -131,7 +131,7 @@ abbrev pub IndexFuture : Inside → Receiver → List Frame → List Token → T
 IndexFuture i r fs u = (l : Span) × (c : Phrase) × (e : Span) × (b : Behind) × (v : List Token) × Grouped c × BehindGrouped b
     × (u ≡ word (Sign Signs.LeftBracket) l ∷ phrase c (word (Sign Signs.RightBracket) e ∷ behind_words b v)) × FramesFuture i r fs v
 
--- after a whole operand: behind the operand of an `&` an index may stand
+-- after a whole operand: after the operand of an `&` an index may stand
 abbrev pub OperandFuture : Inside → Receiver → List Frame → List Token → Type 0
 OperandFuture i r (AddressOf s ∷ fs) u = FramesFuture i r fs u ⊎ IndexFuture i r fs u
 OperandFuture i r fs u = FramesFuture i r fs u
@@ -195,10 +195,10 @@ NamedFuture i u = AfterSign Signs.Equals (ValueFuture i) u
     ⊎ (AfterSign Signs.LeftParenthesis (ArgumentsFuture i) u ⊎ AfterSign Signs.Arrow (PathFuture i) u)
 
 abbrev pub BranchFuture : Inside → List Token → Type 0
-BranchFuture i u = (b : Branch) × (v : List Token) × BranchProper b × (u ≡ branch_words b v) × In_body i v
+BranchFuture i u = (b : Branch) × (v : List Token) × BranchProper b × (u ≡ branch_words b v) × InBody i v
 
 abbrev pub ModeFuture : Inside → Mode → List Token → Type 0
-ModeFuture i Modes.Body u = In_body i u
+ModeFuture i Modes.Body u = InBody i u
 ModeFuture i (Modes.Typing at p) u = TypeFuture false (Each (AfterSign Signs.Equals (ValueFuture i))) p u
 ModeFuture i (Modes.Declared at form x) u = AfterSign Signs.Equals (ValueFuture i) u
 ModeFuture i (Modes.Named x) u = NamedFuture i u
@@ -212,10 +212,10 @@ ModeFuture i (Modes.First f) u = ArgumentsFuture i u
 ModeFuture i (Modes.Before r) u = AfterSign Signs.LeftParenthesis (WantFuture i r []) u
 ModeFuture i (Modes.Within w p) u = PlaceFuture i w p u
 ModeFuture i (Modes.Ends st) u = SemiFuture i u
-ModeFuture i (Modes.Ended st) u = In_body i u
-ModeFuture i (Modes.Opens o) u = BlockFuture (OwnedFuture o (In_body i)) u
-ModeFuture i (Modes.Closed at e first) u = OtherFuture (In_body i) u
-ModeFuture i (Modes.Otherwise at e first) u = BlockFuture (In_body i) u ⊎ BranchFuture i u
+ModeFuture i (Modes.Ended st) u = InBody i u
+ModeFuture i (Modes.Opens o) u = BlockFuture (OwnedFuture o (InBody i)) u
+ModeFuture i (Modes.Closed at e first) u = OtherFuture (InBody i) u
+ModeFuture i (Modes.Otherwise at e first) u = BlockFuture (InBody i) u ⊎ BranchFuture i u
 
 abbrev pub MembersFuture : List Token → Type 0
 MembersFuture u = (ms : List Member) × (r semi : Span) × (v : List Token) × MembersProper ms

@@ -1,5 +1,5 @@
 -- Each reading can be brought to an end.
-use Rattle.std.proofs.Common.{ℕ, pos, Bool, true, false, List, [], ◌∷◌, refl, arith, inl, inr}
+use Rattle.std.proofs.Common.{pos, Bool, true, false, List, [], ◌∷◌, refl, arith, inl, inr}
 use Rattle.ceal_base.specs.declared.fault.Span.{Span}
 use Rattle.ceal_base.specs.declared.syntax.Ident.{Ident}
 use Rattle.ceal_lex.specs.declared.token.Reserved.TheVariants as Words
@@ -34,7 +34,7 @@ use Rattle.ceal_grammar.specs.Grammar.{variable, Grouped, int, no_arguments, All
 use Rattle.ceal_grammar.specs.Machine.{is_cell}
 use Rattle.ceal_grammar.proofs.Words.{word, phrase, items, statement, others, member_words, parts_words}
 use Rattle.ceal_grammar.proofs.Regroup.{stop, behind_words, BehindGrouped, ending, tail_words, TailGrouped}
-use Rattle.ceal_grammar.proofs.Future.{After, AfterSign, AfterName, TopFuture, StarOr, TypeFuture, Each, BodyFuture, OtherFuture, OwnedFuture, CloseFuture, In_body, SemiFuture, ClosedFuture, EmptyFuture, BlockFuture, ReceiverFuture, FramesFuture, without_index, WantFuture, PostFuture, HaveFuture, ElementFuture, PlaceFuture, ArgumentsFuture, ValueFuture, hops, ReachedFuture, PathFuture, MakingFuture, ModeFuture, MembersFuture, SizedFuture, LengthFuture, EndFuture, StructFuture, OthersFuture, ParametersFuture, OwnFuture, ShapeFuture, HeadFuture, Future}
+use Rattle.ceal_grammar.proofs.Future.{After, AfterSign, AfterName, TopFuture, StarOr, TypeFuture, Each, BodyFuture, OtherFuture, OwnedFuture, CloseFuture, InBody, SemiFuture, ClosedFuture, EmptyFuture, BlockFuture, ReceiverFuture, FramesFuture, without_index, WantFuture, PostFuture, HaveFuture, ElementFuture, PlaceFuture, ArgumentsFuture, ValueFuture, hops, ReachedFuture, PathFuture, MakingFuture, ModeFuture, MembersFuture, SizedFuture, LengthFuture, EndFuture, StructFuture, OthersFuture, ParametersFuture, OwnFuture, ShapeFuture, HeadFuture, Future}
 
 -- some tokens bring it about
 abbrev pub Possible : (List Token → Type 0) → Type 0
@@ -68,7 +68,7 @@ unfolding CloseFuture
 close_possible [] = top_possible
 close_possible (o ∷ os) = owned_possible o.owner (BodyFuture (CloseFuture os)) (body_possible (CloseFuture os) (close_possible os))
 
-in_possible : (i : Inside) → Possible (In_body i)
+in_possible : (i : Inside) → Possible (InBody i)
 in_possible i = body_possible (CloseFuture i.opened) (close_possible i.opened)
 
 block_possible : (next : List Token → Type 0) → Possible next → Possible (BlockFuture next)
@@ -82,7 +82,7 @@ name_possible : (next : List Token → Type 0) → Possible next → Possible (A
 name_possible next c = (word (Name []) here ∷ c.0, (some_name, c.0, refl, c.1))
 
 semi_possible : (i : Inside) → Possible (SemiFuture i)
-semi_possible i = after_possible (Sign Signs.Semicolon) (In_body i) (in_possible i)
+semi_possible i = after_possible (Sign Signs.Semicolon) (InBody i) (in_possible i)
 
 closed_possible : (i : Inside) → Possible (ClosedFuture i)
 closed_possible i = after_possible (Sign Signs.RightParenthesis) (SemiFuture i) (semi_possible i)
@@ -193,7 +193,7 @@ mode_possible i (Modes.Before r) = after_possible _ _ (want_possible i r [])
 mode_possible i (Modes.Within w p) = place_possible i w p
 mode_possible i (Modes.Ends st) = semi_possible i
 mode_possible i (Modes.Ended st) = in_possible i
-mode_possible i (Modes.Opens o) = block_possible _ (owned_possible o (In_body i) (in_possible i))
+mode_possible i (Modes.Opens o) = block_possible _ (owned_possible o (InBody i) (in_possible i))
 mode_possible i (Modes.Closed at e first) = other_possible _ (in_possible i)
 mode_possible i (Modes.Otherwise at e first) = let c = block_possible _ (in_possible i) in (c.0, inl c.1)
 

@@ -71,7 +71,7 @@ second_tree : expression second ≡ record { span = s; form = Pick named one }
 unfolding expression first
 second_tree = refl
 
--- mod int x[4]; and mod int x; behind two fields
+-- mod int x[4]; and mod int x; after two fields
 abbrev members : List Member
 members = record { type = cell_int s t; x = x; size = row s 4 t t; semi = t } ∷ record { type = cell_int s t; x = x; size = single; semi = t } ∷ []
 

@@ -1,12 +1,9 @@
 -- A list in reverse.
-use Rattle.std.proofs.Common.{◌≡◌, ℕ, ◌+◌, ◌<◌, List, [], ◌∷◌, ◌++◌, length, reverse, take, get_or, ap, ◌∙◌, arith}
-use Rattle.std.proofs.lemmas.List.{reverse-append, take_more, length-reverse, nil_from_length}
+use Rattle.std.proofs.Common.{◌≡◌, ◌+◌, List, [], ◌∷◌, ◌++◌, length, reverse, ap, arith}
+use Rattle.std.proofs.lemmas.List.{reverse-append, length-reverse, nil_from_length}
 
 pub reverse_push : {A : Type 0} (xs : List A) (x : A) → reverse (xs ++ x ∷ []) ≡ x ∷ reverse xs
 reverse_push xs x = reverse-append xs (x ∷ [])
-
-pub reverse_more : {A : Type 0} (xs : List A) (i : ℕ) (d : A) → i < length xs → reverse (take (i + 1) xs) ≡ get_or xs i d ∷ reverse (take i xs)
-reverse_more xs i d h = ap reverse (take_more xs i d h) ∙ reverse_push (take i xs) (get_or xs i d)
 
 pub reverse_empty : {A : Type 0} (xs : List A) → reverse xs ≡ [] → length xs ≡ 0
 reverse_empty xs h = omega (arith, ap length h, length-reverse xs)

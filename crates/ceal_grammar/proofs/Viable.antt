@@ -63,7 +63,7 @@ use Rattle.ceal_base.specs.declared.syntax.TypeForm.TheVariants as Forms
 use Rattle.ceal_base.specs.declared.syntax.Value.TheVariants as Values
 use Rattle.ceal_grammar.specs.Machine.{same_sign, same_word, is_sign, is_word, wants, operator_of, at_name, single, prefixed, addressed, joined, accessed, reduced, within, begun, operated, placed, at_prim, at_operand, with_statement, given, called, received, closes, at_sign_after, accesses, at_index, at_after, at_element, at_place, type_begin, type_starts, star_or, at_type, owned, block_closed, opened_by, at_statement, at_word, at_body, typed, path_of, field_of, at_value, at_modref, at_making, at_reached, chained_in, moved, begun_type, with_member, is_cell, length_of, at_member_end, at_length, begun_struct, at_struct, with_parameter, at_head, at_part, at_top, step}
 use Rattle.ceal_grammar.proofs.Telling.{sign_true, word_true, sign_is, word_is}
-use Rattle.ceal_grammar.proofs.Future.{AfterSign, AfterWord, AfterName, TopFuture, StarOr, TypeFuture, Each, BodyFuture, OtherFuture, OwnedFuture, CloseFuture, In_body, SemiFuture, ClosedFuture, BlockFuture, ReceiverFuture, FramesFuture, OperandFuture, without_index, WantFuture, PostFuture, HaveFuture, ElementFuture, PlaceFuture, ArgumentsFuture, ValueFuture, hops, ReachedFuture, PathFuture, MakingFuture, NamedFuture, ModeFuture, MembersFuture, LengthFuture, EndFuture, StructFuture, OthersFuture, ParametersFuture, OwnFuture, ShapeFuture, HeadFuture, Future}
+use Rattle.ceal_grammar.proofs.Future.{AfterSign, AfterWord, AfterName, TopFuture, StarOr, TypeFuture, Each, BodyFuture, OtherFuture, OwnedFuture, CloseFuture, InBody, SemiFuture, ClosedFuture, BlockFuture, ReceiverFuture, FramesFuture, OperandFuture, without_index, WantFuture, PostFuture, HaveFuture, ElementFuture, PlaceFuture, ArgumentsFuture, ValueFuture, hops, ReachedFuture, PathFuture, MakingFuture, NamedFuture, ModeFuture, MembersFuture, LengthFuture, EndFuture, StructFuture, OthersFuture, ParametersFuture, OwnFuture, ShapeFuture, HeadFuture, Future}
 
 pub wanted : {A : Type 0} (b : Bool) (x y : A) → wants b x ≡ Some y → (b ≡ true) × (x ≡ y)
 wanted true x y h = (refl, cc)
@@ -173,7 +173,7 @@ begun_tells k p h = elim (chosen (same_word k Words.Int) (Some (Types.Done Forms
     later : ReservedWord → Option TypePart
     later k = if same_word k Words.Struct then Some Types.Struct else wants (same_word k Words.Mod) Types.Mod
 
--- a whole type and the name behind it
+-- a whole type and the name after it
 abbrev TypeAnd : Bool → (Bool → List Token → Type 0) → List Token → Type 0
 TypeAnd cells next u = (w : Written) × (x : Ident) × (v : List Token) × Allowed cells w × (u ≡ type_words w (named x ∷ v)) × next (is_cell (type_form w)) v
 
@@ -218,10 +218,6 @@ module _ (cells : Bool) (next : Bool → List Token → Type 0) (s : Span) (u : 
 
 module _ (cells : Bool) (next : Bool → List Token → Type 0) (s : Span) (τ : State) (u : List Token) (on : TypePart → State) (done : TypeForm → Ident → State)
     (from_on : (p : TypePart) → Future (on p) u → TypeFuture cells next p u) (from_done : (form : TypeForm) (x : Ident) → Future (done form x) u → next (is_cell form) u) where
-  begins_back : (o : Option TypePart) → begun_type on o ≡ Some τ → Future τ u → (p : TypePart) × (o ≡ Some p) × TypeFuture cells next p u
-  begins_back (Some p) h f = (p, refl, from_on p (at_next u _ τ h f))
-  begins_back None h f = never τ h
-
   abbrev Typed : Option Typing → Type 0
   Typed o = typed on done o ≡ Some τ
 
@@ -271,7 +267,7 @@ module _ (cells : Bool) (next : Bool → List Token → Type 0) (s : Span) (τ :
   type_back (Types.ModNamed y) k h f = star_back (Forms.ModPtr y) (Forms.CellPtr y) refl refl k h f
   type_back (Types.Done form) k h f = name_done form k h f
 
--- Paths: an arrow and a name behind a path make a longer one.
+-- Paths: an arrow and a name after a path make a longer one.
 pub record Way : Type 0 where
   pub path : Phrase
   pub at : Span
@@ -294,7 +290,7 @@ way_words p s y (a ∷ l) u = way_words (arrow p s y) a.0 a.1 l u
 
 module _ (i : Inside) (s : Span) (τ : State) (u : List Token) where
   -- a field assignment, by its path so far
-  set_back : (p : Phrase) → IsPath p → AfterSign Signs.Arrow (PathFuture i) u → In_body i (phrase p u)
+  set_back : (p : Phrase) → IsPath p → AfterSign Signs.Arrow (PathFuture i) u → InBody i (phrase p u)
   unfolding statement StatementProper
   set_back p h f =
       let y = f.3 in let r = y.3 in let semi = r.6 in
@@ -303,7 +299,7 @@ module _ (i : Inside) (s : Span) (τ : State) (u : List Token) where
       (ap (phrase p) (f.2 ∙ ahead (Sign Signs.Arrow) f.0 _ _ (y.2 ∙ ahead (Name y.0.text) y.0.span _ _ (r.5 ∙ ap (λ (v : List Token). hops r.0 (word (Sign Signs.Equals) r.1 ∷ phrase r.2 v)) semi.2)))
       ∙ way_words p f.0 y.0 r.0 _) semi.3
 
-  named_back : (x : List ℕ) → NamedFuture i u → In_body i (word (Name x) s ∷ u)
+  named_back : (x : List ℕ) → NamedFuture i u → InBody i (word (Name x) s ∷ u)
   unfolding statement StatementProper phrase
   named_back x (inl f) =
       let g = f.3 in let semi = g.4 in
@@ -315,7 +311,7 @@ module _ (i : Inside) (s : Span) (τ : State) (u : List Token) where
       (ahead (Name x) s _ _ (f.2 ∙ ahead (Sign Signs.LeftParenthesis) f.0 _ _ (a.4 ∙ ap (λ (v : List Token). argument_words a.0 (word (Sign Signs.RightParenthesis) a.1 ∷ v)) semi.2))) semi.3
   named_back x (inr (inr f)) = set_back (variable (record { text = x; span = s })) tt f
 
-  typing_back : (k : ReservedWord) (p : TypePart) → type_begin k ≡ Some p → TypeFuture false (Each (AfterSign Signs.Equals (ValueFuture i))) p u → In_body i (word (Reserved k) s ∷ u)
+  typing_back : (k : ReservedWord) (p : TypePart) → type_begin k ≡ Some p → TypeFuture false (Each (AfterSign Signs.Equals (ValueFuture i))) p u → InBody i (word (Reserved k) s ∷ u)
   unfolding statement StatementProper
   typing_back k p h f =
       let t = begun_back false (Each (AfterSign Signs.Equals (ValueFuture i))) s u k p h f in
@@ -324,7 +320,7 @@ module _ (i : Inside) (s : Span) (τ : State) (u : List Token) where
       (t.4 ∙ ap (λ (v : List Token). type_words t.0 (named t.1 ∷ v)) (q.2 ∙ ahead (Sign Signs.Equals) q.0 _ _ (g.3 ∙ ap (given_words g.0) semi.2))) semi.3
 
   -- the rest of an `if`
-  if_rest : Future (In i (Modes.Before (To.If s))) u → (b : Branch) × (v : List Token) × BranchProper b × (word (Reserved Words.If) s ∷ u ≡ branch_words b v) × In_body i v
+  if_rest : Future (In i (Modes.Before (To.If s))) u → (b : Branch) × (v : List Token) × BranchProper b × (word (Reserved Words.If) s ∷ u ≡ branch_words b v) × InBody i v
   unfolding FramesFuture statement StatementProper
   if_rest f =
       let w = f.3 in
@@ -339,7 +335,7 @@ module _ (i : Inside) (s : Span) (τ : State) (u : List Token) where
         o.4,
       )
 
-  while_back : Future (In i (Modes.Before (To.While s))) u → In_body i (word (Reserved Words.While) s ∷ u)
+  while_back : Future (In i (Modes.Before (To.While s))) u → InBody i (word (Reserved Words.While) s ∷ u)
   unfolding FramesFuture statement StatementProper
   while_back f =
       let w = f.3 in
@@ -348,7 +344,7 @@ module _ (i : Inside) (s : Span) (τ : State) (u : List Token) where
       put _ (loop s f.0 w.0 r.0 b.0) _ b.1 (w.2, b.2)
       (ahead (Reserved Words.While) s _ _ (f.2 ∙ ahead (Sign Signs.LeftParenthesis) f.0 _ _ (w.3 ∙ ap (phrase w.0) (r.2 ∙ ahead (Sign Signs.RightParenthesis) r.0 _ _ b.3)))) b.4
 
-  write_back : Future (In i (Modes.Before (To.Write s))) u → In_body i (word (Reserved Words.Write) s ∷ u)
+  write_back : Future (In i (Modes.Before (To.Write s))) u → InBody i (word (Reserved Words.Write) s ∷ u)
   unfolding FramesFuture statement StatementProper
   write_back f =
       let w = f.3 in
@@ -377,7 +373,7 @@ module _ (i : Inside) (s : Span) (τ : State) (u : List Token) where
   at_word_2 k = if same_word k Words.While then Some (Modes.Before (To.While s)) else at_word_3 k
 
   abbrev Backed : ReservedWord → Type 0
-  Backed k = In_body i (word (Reserved k) s ∷ u)
+  Backed k = InBody i (word (Reserved k) s ∷ u)
 
   backed : (k l : ReservedWord) → same_word k l ≡ true → Backed l → Backed k
   backed k l e b = subst Backed (sym (word_true k l e)) b
@@ -408,7 +404,7 @@ module _ (i : Inside) (s : Span) (τ : State) (u : List Token) where
   word_back k (Some p) e h f = typing_back k p e (at_next u _ τ h f)
   word_back k None e h f = statement_back k h f
 
-  body_back : (k : TokenKind) → at_body i s k ≡ Some τ → Future τ u → In_body i (word k s ∷ u)
+  body_back : (k : TokenKind) → at_body i s k ≡ Some τ → Future τ u → InBody i (word k s ∷ u)
   unfolding statement StatementProper
   body_back (Name x) h f = named_back x (at_next u _ τ h f)
   body_back (Reserved w) h f = word_back w (type_begin w) refl h f
@@ -491,7 +487,7 @@ module _ (i : Inside) (s : Span) (τ : State) (u : List Token) where
 
   receiver_back : (r : Receiver) (d : ℕ) (e : Expr) (c : SignOf) → received i d r e c ≡ Some τ → Future τ u → ReceiverFuture i r (word (Sign c) s ∷ u)
   unfolding FramesFuture items AllGrouped
-  receiver_back (To.Value t) d e c h f = ended_at c Signs.Semicolon (In (with_statement i (given t (Values.Plain e))) Modes.Body) h (In_body i) (λ g. g) f
+  receiver_back (To.Value t) d e c h f = ended_at c Signs.Semicolon (In (with_statement i (given t (Values.Plain e))) Modes.Body) h (InBody i) (λ g. g) f
   receiver_back (To.Read t at) d e c h f = ended_at c Signs.RightParenthesis (In i (Modes.Ends (given t (Values.Read at e)))) (wanted_in i _ _ τ h) (SemiFuture i) (λ g. g) f
   receiver_back (To.Argument x args) d e c h f =
       elim (chosen_in i (same_sign c Signs.Comma) (Some (Modes.Within (begun d (To.Argument x (args ++ e ∷ []))) Want)) (wants (same_sign c Signs.RightParenthesis) (Modes.Ends (called x (args ++ e ∷ [])))) τ h) [
@@ -499,13 +495,13 @@ module _ (i : Inside) (s : Span) (τ : State) (u : List Token) where
             ((s, w.0) ∷ a.0, a.1, a.2, (w.2, a.3), behind _ _ s _ _ (ap Sign (sign_true c Signs.Comma p.0)) (w.3 ∙ ap (phrase w.0) a.4), a.5)
         | inr p ↦ let q = wanted_in i _ _ τ p.1 in ([], s, u, tt, same_kind _ _ s u (ap Sign (sign_true c Signs.RightParenthesis (wanted _ _ τ q).0)), at_wanted u _ _ τ q f)
       ]
-  receiver_back (To.Set a x) d e c h f = ended_at c Signs.Semicolon (In (with_statement i (SetField a.span a x e)) Modes.Body) h (In_body i) (λ g. g) f
+  receiver_back (To.Set a x) d e c h f = ended_at c Signs.Semicolon (In (with_statement i (SetField a.span a x e)) Modes.Body) h (InBody i) (λ g. g) f
   receiver_back (To.Write at) d e c h f =
       let q = wanted_in i _ _ τ h in let w = at_wanted u _ _ τ q f in let p = w.4 in
       (s, w.0, p.0, p.1, w.2, behind _ _ s _ _ (ap Sign (sign_true c Signs.Comma (wanted _ _ τ q).0)) (w.3 ∙ ap (phrase w.0) p.2), p.3)
   receiver_back (To.Store at a) d e c h f = ended_at c Signs.RightParenthesis (In i (Modes.Ends (Write at a e))) (wanted_in i _ _ τ h) (SemiFuture i) (λ g. g) f
-  receiver_back (To.If at) d e c h f = ended_at c Signs.RightParenthesis (In i (Modes.Opens (OfThen at e))) (wanted_in i _ _ τ h) (BlockFuture (OtherFuture (In_body i))) (λ g. g) f
-  receiver_back (To.While at) d e c h f = ended_at c Signs.RightParenthesis (In i (Modes.Opens (OfWhile at e))) (wanted_in i _ _ τ h) (BlockFuture (In_body i)) (λ g. g) f
+  receiver_back (To.If at) d e c h f = ended_at c Signs.RightParenthesis (In i (Modes.Opens (OfThen at e))) (wanted_in i _ _ τ h) (BlockFuture (OtherFuture (InBody i))) (λ g. g) f
+  receiver_back (To.While at) d e c h f = ended_at c Signs.RightParenthesis (In i (Modes.Opens (OfWhile at e))) (wanted_in i _ _ τ h) (BlockFuture (InBody i)) (λ g. g) f
 
   closes_back : (w : Whole) (c : SignOf) (p : Piece) (fs : List Frame) → closes i w c p fs ≡ Some τ → Future τ u → FramesFuture i w.receiver fs (word (Sign c) s ∷ u)
   unfolding FramesFuture
@@ -705,7 +701,7 @@ module _ (i : Inside) (s : Span) (τ : State) (u : List Token) where
   making_back (Makings.Typed st) k h f = sign_wanted s τ u Signs.LeftParenthesis k (In i (Modes.Making (Makings.Opened st))) (ClosedFuture i) (λ g. g) (wanted_in i _ _ τ h) f
   making_back (Makings.Opened st) k h f = sign_wanted s τ u Signs.RightParenthesis k (In i (Modes.Ends st)) (SemiFuture i) (λ g. g) (wanted_in i _ _ τ h) f
 
-  opened_back : (o : Owner) (k : TokenKind) → k ≡ Sign Signs.LeftBrace → Future (opened_by i o) u → BlockFuture (OwnedFuture o (In_body i)) (word k s ∷ u)
+  opened_back : (o : Owner) (k : TokenKind) → k ≡ Sign Signs.LeftBrace → Future (opened_by i o) u → BlockFuture (OwnedFuture o (InBody i)) (word k s ∷ u)
   unfolding CloseFuture statement StatementProper
   opened_back o k e f = (block s f.0 f.1, f.2, f.3, behind _ _ s _ _ e f.4, f.5)
 
@@ -754,7 +750,7 @@ module _ (i : Inside) (s : Span) (τ : State) (u : List Token) where
       ]
   mode_back (Modes.Before r) k h f = sign_wanted s τ u Signs.LeftParenthesis k (within i (begun (suc i.nesting) r) Want) (WantFuture i r []) (λ g. g) (wanted_in i _ _ τ h) f
   mode_back (Modes.Within w p) k h f = place_back i s τ u w p k h f
-  mode_back (Modes.Ends st) k h f = sign_wanted s τ u Signs.Semicolon k (In (with_statement i st) Modes.Body) (In_body i) (λ g. g) h f
+  mode_back (Modes.Ends st) k h f = sign_wanted s τ u Signs.Semicolon k (In (with_statement i st) Modes.Body) (InBody i) (λ g. g) h f
   mode_back (Modes.Ended st) k h f = body_back (with_statement i st) s τ u k h f
   mode_back (Modes.Opens o) k h f = opened_back i s τ u o k (sign_is Signs.LeftBrace k (wanted _ _ τ h).0) (at_wanted u _ _ τ h f)
   mode_back (Modes.Closed at e first) k h f =
@@ -763,7 +759,7 @@ module _ (i : Inside) (s : Span) (τ : State) (u : List Token) where
         | inr p ↦ (nothing, _, tt, refl, body_back (with_statement i (Trees.If at e first [])) s τ u k p.1 f)
       ]
     where
-      else_back : k ≡ Reserved Words.Else → Future (In i (Modes.Otherwise at e first)) u → OtherFuture (In_body i) (word k s ∷ u)
+      else_back : k ≡ Reserved Words.Else → Future (In i (Modes.Otherwise at e first)) u → OtherFuture (InBody i) (word k s ∷ u)
       else_back h (inl b) = (otherwise s b.0, b.1, b.2, behind _ _ s _ _ h b.3, b.4)
       else_back h (inr b) = (chained s b.0, b.1, b.2, behind _ _ s _ _ h b.3, b.4)
   mode_back (Modes.Otherwise at e first) k h f =
@@ -825,7 +821,7 @@ module _ (s : Span) (τ : State) (u : List Token) (es : List Entry) where
   starts_back on cells next c End h f = never τ h
   starts_back on cells next c Cut h f = never τ h
 
-  -- a member and those behind it
+  -- a member and those after it
   member_back : (w : Written) (x : Ident) (v l : List Token) → l ≡ type_words w (named x ∷ v) → EndFuture (is_cell (type_form w)) v → MembersFuture l
   unfolding member_words MembersProper
   member_back w x v l e (inl c) =

@@ -27,6 +27,7 @@ pub record IsWithin (m : Mark) : Type 0 where
   pub item : m.item ≤ 255
   pub operators : m.operators ≤ 255
 
+-- each token is within the limits
 unfoldable pub AllWithin : List Mark → Type 0
 AllWithin [] = Unit {0}
 AllWithin (m ∷ ms) = IsWithin m × AllWithin ms
@@ -43,7 +44,7 @@ pub record Accepts (ts : List Token) (tree : Tree) : Type 0 where
 abbrev pub IsClean : List Token → Token → Type 0
 IsClean before t = (b : Begins before t) × IsWithin b.at
 
--- The fault that stands at t, behind the tokens `before`.
+-- The fault that stands at t, after the tokens `before`.
 abbrev pub StandsAt : List Token → Token → FaultCode → Type 0
 StandsAt before t S3 = (t.kind ≢ End) × (t.kind ≢ Cut) × (Begins before t → ⊥)
 StandsAt before t S4 = (b : Begins before t) × (65 ≤ b.at.nesting)

@@ -38,10 +38,12 @@ level Div = 6
 level Rem = 6
 level (Pick n) = 0
 
+-- an operator that has a sign between its operands
 abbrev pub IsInfix : BinaryOp → Type 0
 IsInfix (Pick n) = ⊥
 IsInfix op = Unit {0}
 
+-- how tightly a phrase binds: 9 is the tightest
 abbrev pub level_of : Phrase → ℕ
 level_of (number v s) = 9
 level_of (null s) = 9
@@ -107,6 +109,7 @@ pub data Given : Type 0 where
   modref : (at : Span) (shape : Ident) (left right : Span) → Given
 
 mutual
+  -- a statement
   pub data Statement : Type 0 where
     declare : (type : Written) (x : Ident) (equals : Span) (g : Given) (semi : Span) → Statement
     assign : (x : Ident) (equals : Span) (g : Given) (semi : Span) → Statement
@@ -119,25 +122,31 @@ mutual
     break : (at semi : Span) → Statement
     continue : (at semi : Span) → Statement
 
+  -- an `if` with its parts
   pub data Branch : Type 0 where
     when : (at left : Span) (e : Phrase) (right : Span) (body : Block) (other : Otherwise) → Branch
 
+  -- what follows the first block of an `if`
   pub data Otherwise : Type 0 where
     nothing : Otherwise
     otherwise : (at : Span) (body : Block) → Otherwise
     chained : (at : Span) (other : Branch) → Otherwise
 
+  -- statements in braces
   pub data Block : Type 0 where
     block : (left : Span) (body : Statements) (right : Span) → Block
 
+  -- statements one after another
   pub data Statements : Type 0 where
     ended : Statements
     followed : Statement → Statements → Statements
 
+-- a parameter: its type and its name
 pub record Parameter : Type 0 where
   pub type : Written
   pub x : Ident
 
+-- parameters with commas between
 pub data Parameters : Type 0 where
   no_parameters : Parameters
   parameters : (p : Parameter) (more : List (Span × Parameter)) → Parameters
@@ -152,16 +161,19 @@ pub data Size : Type 0 where
   single : Size
   row : (left : Span) (length : ℕ) (at right : Span) → Size
 
+-- a member of a struct
 pub record Member : Type 0 where
   pub type : Written
   pub x : Ident
   pub size : Size
   pub semi : Span
 
+-- a struct or a function
 pub data Part : Type 0 where
   structure : (at : Span) (x : Ident) (left : Span) (members : List Member) (right semi : Span) → Part
   function : (head : Signature) (body : Block) → Part
 
+-- a program: its parts, and the end
 pub record Program : Type 0 where
   pub parts : List Part
   pub last : Span
@@ -172,10 +184,12 @@ unfoldable pub AllGrouped : List (Span × Phrase) → Type 0
 AllGrouped [] = Unit {0}
 AllGrouped (a ∷ more) = Grouped a.1 × AllGrouped more
 
+-- each argument is grouped by levels
 abbrev pub ArgumentsGrouped : Arguments → Type 0
 ArgumentsGrouped no_arguments = Unit {0}
 ArgumentsGrouped (arguments e more) = Grouped e × AllGrouped more
 
+-- the expressions of a value are grouped by levels
 abbrev pub GivenGrouped : Given → Type 0
 GivenGrouped (plainly e) = Grouped e
 GivenGrouped (reading s l e r) = Grouped e
@@ -184,6 +198,7 @@ GivenGrouped (modref_int s k l r) = Unit {0}
 GivenGrouped (modref s y l r) = Unit {0}
 
 unfoldable mutual
+  -- the types of a statement may stand there, and its expressions are grouped by levels
   pub StatementProper : Statement → Type 0
   StatementProper (declare w x q g semi) = Allowed false w × GivenGrouped g
   StatementProper (assign x q g semi) = GivenGrouped g
@@ -196,29 +211,36 @@ unfoldable mutual
   StatementProper (break s semi) = Unit {0}
   StatementProper (continue s semi) = Unit {0}
 
+  -- the same of an `if`
   pub BranchProper : Branch → Type 0
   BranchProper (when s l e r b other) = Grouped e × BlockProper b × OtherwiseProper other
 
+  -- the same of what follows the first block of an `if`
   pub OtherwiseProper : Otherwise → Type 0
   OtherwiseProper nothing = Unit {0}
   OtherwiseProper (otherwise s b) = BlockProper b
   OtherwiseProper (chained s b) = BranchProper b
 
+  -- the same of a block
   pub BlockProper : Block → Type 0
   BlockProper (block l ss r) = StatementsProper ss
 
+  -- the same of each statement
   pub StatementsProper : Statements → Type 0
   StatementsProper ended = Unit {0}
   StatementsProper (followed s ss) = StatementProper s × StatementsProper ss
 
+-- the type of each parameter may stand there
 unfoldable pub MoreProper : List (Span × Parameter) → Type 0
 MoreProper [] = Unit {0}
 MoreProper (p ∷ more) = Allowed false p.1.type × MoreProper more
 
+-- the same of all parameters of a function
 abbrev pub ParametersProper : Parameters → Type 0
 ParametersProper no_parameters = Unit {0}
 ParametersProper (parameters p more) = Allowed false p.type × MoreProper more
 
+-- the same of the head of a function
 abbrev pub SignatureProper : Signature → Type 0
 SignatureProper (core s x l ps r) = ParametersProper ps
 SignatureProper (init s x l k y t o more r) = MoreProper more
@@ -234,14 +256,17 @@ abbrev pub SizeProper : Written → Size → Type 0
 SizeProper w single = Unit {0}
 SizeProper w (row l n s r) = IsCell w × (0 < n)
 
+-- the type of each member may stand there
 unfoldable pub MembersProper : List Member → Type 0
 MembersProper [] = Unit {0}
 MembersProper (m ∷ ms) = SizeProper m.type m.size × MembersProper ms
 
+-- the same of a struct or a function
 abbrev pub PartProper : Part → Type 0
 PartProper (structure s x l ms r semi) = MembersProper ms
 PartProper (function h b) = SignatureProper h × BlockProper b
 
+-- the same of each part
 unfoldable pub PartsProper : List Part → Type 0
 PartsProper [] = Unit {0}
 PartsProper (p ∷ ps) = PartProper p × PartsProper ps

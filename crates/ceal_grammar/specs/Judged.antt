@@ -12,14 +12,17 @@ use Rattle.ceal_grammar.specs.declared.state.State.{State}
 use Rattle.ceal_grammar.specs.declared.state.State.TheVariants.{Finished}
 use Rattle.ceal_grammar.specs.Machine.{step, nesting_of, item_of, operators_of}
 
+-- the code of a fault at a token that cannot stand there
 abbrev pub code_at : TokenKind → FaultCode
 code_at End = S5
 code_at Cut = S5
 code_at _ = S3
 
+-- a fault at a token
 abbrev pub fault_at : FaultCode → Token → Fault
 fault_at code t = record { code = code; span = t.span }
 
+-- the entries of a reading that has ended
 abbrev pub entries_of : State → Option (List Entry)
 entries_of (Finished es) = Some es
 entries_of _ = None
@@ -37,10 +40,12 @@ tested item t next =
     else if nat_le 256 (operators_of next) then Err (fault_at S6 t)
     else Ok next
 
+-- where a token leads to, or the fault at it
 abbrev pub advanced : State → Token → Option State → Result State Fault
 advanced s t None = Err (fault_at (code_at t.kind) t)
 advanced s t (Some next) = tested (item_of s t) t next
 
+-- the tree of tokens from a state on, or the first fault
 unfoldable pub judged : State → List Token → Result Tree Fault
 judged s [] = finished s
 judged s (t ∷ ts) = elim (advanced s t (step s t)) [ Ok next ↦ judged next ts | Err f ↦ Err f ]

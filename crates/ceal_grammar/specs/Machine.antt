@@ -14,7 +14,6 @@ use Rattle.ceal_base.specs.declared.syntax.FieldDecl.{FieldDecl}
 use Rattle.ceal_base.specs.declared.syntax.Ident.{Ident}
 use Rattle.ceal_base.specs.declared.syntax.Stmt.{Stmt, Declare, Assign, SetField, Write, Call, Return, Break, Continue}
 use Rattle.ceal_base.specs.declared.syntax.Stmt.TheViews.{If, While}
-use Rattle.ceal_base.specs.declared.syntax.StructDecl.{StructDecl}
 use Rattle.ceal_base.specs.declared.syntax.TypeForm.{TypeForm}
 use Rattle.ceal_base.specs.declared.syntax.TypeForm.TheVariants.{Int, Ptr, ModInt, ModPtr, CellInt, CellPtr, CellRow, CellPtrRow}
 use Rattle.ceal_base.specs.declared.syntax.Value.{Value}
@@ -90,6 +89,7 @@ sign_number Signs.Semicolon = 22
 sign_number Signs.LeftBracket = 23
 sign_number Signs.RightBracket = 24
 
+-- a number for each reserved word
 abbrev pub word_number : ReservedWord → ℕ
 word_number Words.Struct = 0
 word_number Words.Int = 1
@@ -109,23 +109,29 @@ word_number Words.Null = 14
 word_number Words.Break = 15
 word_number Words.Continue = 16
 
+-- whether two signs are one
 unfoldable pub same_sign : SignOf → SignOf → Bool
 same_sign a b = nat_eq (sign_number a) (sign_number b)
 
+-- whether two reserved words are one
 unfoldable pub same_word : ReservedWord → ReservedWord → Bool
 same_word a b = nat_eq (word_number a) (word_number b)
 
+-- whether the token is this sign
 abbrev pub is_sign : SignOf → TokenKind → Bool
 is_sign c (Sign s) = same_sign s c
 is_sign c _ = false
 
+-- whether the token is this reserved word
 abbrev pub is_word : ReservedWord → TokenKind → Bool
 is_word c (Reserved s) = same_word s c
 is_word c _ = false
 
+-- the next state, if the token is the one that is wanted
 abbrev pub wants : {A : Type 0} → Bool → A → Option A
 wants b next = if b then Some next else None
 
+-- the operator that a sign stands for between operands
 abbrev pub operator_of : SignOf → Option BinaryOp
 operator_of Signs.Plus = Some Add
 operator_of Signs.Minus = Some Sub
@@ -147,10 +153,12 @@ abbrev pub ident_of : Span → TokenKind → Option Ident
 ident_of s (Name x) = Some (record { text = x; span = s })
 ident_of s _ = None
 
+-- what is made of a name, if there is one
 abbrev pub named : {A : Type 0} → (Ident → A) → Option Ident → Option A
 named f None = None
 named f (Some x) = Some (f x)
 
+-- what is made of a token that is a name
 abbrev pub at_name : {A : Type 0} → (Ident → A) → Span → TokenKind → Option A
 at_name f s k = named f (ident_of s k)
 
@@ -158,21 +166,27 @@ at_name f s k = named f (ident_of s k)
 abbrev pub single : Span → ExprForm → Piece
 single s form = record { from = s; expr = record { span = s; form = form } }
 
+-- a piece with an operator before it
 abbrev pub prefixed : UnaryOp → Span → Piece → Piece
 prefixed op s p = record { from = s; expr = record { span = s; form = Unary op p.expr } }
 
+-- a piece with `&` before it
 abbrev pub addressed : Span → Piece → Piece
 addressed s p = record { from = s; expr = record { span = s; form = Address p.expr } }
 
+-- the element of a row, the piece being its index
 abbrev pub element_of : Span → Expr → Piece → Piece
 element_of s row p = record { from = s; expr = record { span = s; form = Pick row p.expr } }
 
+-- two pieces with an operator between
 abbrev pub joined : Piece → BinaryOp → Span → Piece → Piece
 joined a op s b = record { from = a.from; expr = record { span = a.from; form = Binary op s a.expr b.expr } }
 
+-- a piece with an arrow and a name after it
 abbrev pub accessed : Piece → Ident → Piece
 accessed p x = record { from = p.from; expr = record { span = p.from; form = Field p.expr x } }
 
+-- a piece, and the frames that still wait
 pub record Reduced : Type 0 where
   pub piece : Piece
   pub frames : List Frame
@@ -187,6 +201,7 @@ reduced l p (AddressOf s ∷ fs) = reduced l (addressed s p) fs
 reduced l p (Left a op s ∷ fs) =
     if nat_le l (level op) then reduced l (joined a op s p) fs else record { piece = p; frames = Left a op s ∷ fs }
 
+-- the state within a whole expression
 abbrev pub within : Inside → Whole → Place → State
 within i w p = In i (Modes.Within w p)
 
@@ -194,14 +209,16 @@ within i w p = In i (Modes.Within w p)
 abbrev pub begun : ℕ → Receiver → Whole
 begun d r = record { nesting = d; operators = 0; frames = []; receiver = r }
 
+-- a whole expression with one more parenthesis open
 abbrev pub opened : Whole → Span → Whole
 opened w s = record { nesting = suc w.nesting; operators = w.operators; frames = Open s w.nesting ∷ w.frames; receiver = w.receiver }
 
--- an index begins behind the piece p, the operand of the `&` at s
+-- an index begins after the piece p, the operand of the `&` at s
 abbrev pub indexed : Whole → Span → Piece → List Frame → Whole
 indexed w s p fs =
     record { nesting = suc w.nesting; operators = suc w.operators; frames = Index s p.expr w.nesting ∷ fs; receiver = w.receiver }
 
+-- a whole expression with one more operator that waits
 abbrev pub operated : Whole → Frame → List Frame → Whole
 operated w f fs = record { nesting = w.nesting; operators = suc w.operators; frames = f ∷ fs; receiver = w.receiver }
 
@@ -210,6 +227,7 @@ abbrev pub placed : Inside → Option Mode → Option State
 placed i None = None
 placed i (Some m) = Some (In i m)
 
+-- a token that begins an operand without a sign
 abbrev pub at_prim : Whole → Span → TokenKind → Option Mode
 at_prim w s (Name x) = Some (Modes.Within w (Have (single s (Var (record { text = x; span = s })))))
 at_prim w s (Number v) = Some (Modes.Within w (Have (single s (Num v))))
@@ -219,6 +237,7 @@ at_prim w s (Reserved k) =
 at_prim w s (Sign c) = wants (same_sign c Signs.LeftParenthesis) (Modes.Within (opened w s) Want)
 at_prim w s _ = None
 
+-- a token that begins an operand
 abbrev pub at_operand : Whole → Span → TokenKind → Option Mode
 at_operand w s k =
     if is_sign Signs.Minus k then Some (Modes.Within (operated w (Prefix Neg s) w.frames) Want)
@@ -231,6 +250,7 @@ unfoldable pub wrapped : List Chained → Stmt → Stmt
 wrapped [] st = st
 wrapped (c ∷ cs) st = wrapped cs (If c.span c.test c.first (st ∷ []))
 
+-- a body with one more statement
 abbrev pub with_statement : Inside → Stmt → Inside
 with_statement i st = record {
   entries = i.entries;
@@ -242,6 +262,7 @@ with_statement i st = record {
   nesting = i.base;
 }
 
+-- the statement whose value has ended
 abbrev pub given : Target → Value → Stmt
 given (ToDeclare s form x) v = Declare s form x v
 given (ToAssign x) v = Assign x v
@@ -251,15 +272,17 @@ abbrev pub called : Callee → List Expr → Stmt
 called (ToCall x) args = Call x args
 called (ToAlloc t s y x) args = given t (Alloc s y x args)
 
+-- a statement ends at `;`
 abbrev pub ends_at : Inside → Stmt → SignOf → Option State
 ends_at i st c = wants (same_sign c Signs.Semicolon) (In (with_statement i st) Modes.Body)
 
--- The whole expression e at the sign behind it; d is the nesting at it.
+-- The whole expression e at the sign after it; d is the nesting at it.
 abbrev pub at_argument : ℕ → Callee → List Expr → SignOf → Option Mode
 at_argument d f args c =
     if same_sign c Signs.Comma then Some (Modes.Within (begun d (To.Argument f args)) Want)
     else wants (same_sign c Signs.RightParenthesis) (Modes.Ends (called f args))
 
+-- a whole expression has ended at this sign
 abbrev pub received : Inside → ℕ → Receiver → Expr → SignOf → Option State
 received i d (To.Value t) e c = ends_at i (given t (Plain e)) c
 received i d (To.Read t s) e c = placed i (wants (same_sign c Signs.RightParenthesis) (Modes.Ends (given t (Read s e))))
@@ -270,9 +293,11 @@ received i d (To.Store s a) e c = placed i (wants (same_sign c Signs.RightParent
 received i d (To.If s) e c = placed i (wants (same_sign c Signs.RightParenthesis) (Modes.Opens (OfThen s e)))
 received i d (To.While s) e c = placed i (wants (same_sign c Signs.RightParenthesis) (Modes.Opens (OfWhile s e)))
 
+-- a whole expression with one parenthesis closed
 abbrev pub closed : Whole → ℕ → List Frame → Whole
 closed w d fs = record { nesting = d; operators = w.operators; frames = fs; receiver = w.receiver }
 
+-- a sign that closes a parenthesis, or ends the whole expression
 abbrev pub closes : Inside → Whole → SignOf → Piece → List Frame → Option State
 closes i w c p [] = received i w.nesting w.receiver p.expr c
 closes i w c p (Open s d ∷ fs) =
@@ -283,21 +308,25 @@ closes i w c p (Prefix op s ∷ fs) = None
 closes i w c p (AddressOf s ∷ fs) = None
 closes i w c p (Left a op s ∷ fs) = None
 
+-- an operator after a piece
 abbrev pub operates : Inside → Whole → BinaryOp → Span → Reduced → Option State
 operates i w op s q = Some (within i (operated w (Left q.piece op s) q.frames) Want)
 
+-- a sign after a piece, with the operator that it stands for
 abbrev pub at_sign_after : Inside → Whole → Piece → Span → SignOf → Option BinaryOp → Option State
 at_sign_after i w p s c (Some op) = operates i w op s (reduced (level op) p w.frames)
 at_sign_after i w p s c None = let q = reduced 0 p w.frames in closes i w c q.piece q.frames
 
+-- a whole expression with one more arrow
 abbrev pub accesses : Whole → Whole
 accesses w = record { nesting = w.nesting; operators = suc w.operators; frames = w.frames; receiver = w.receiver }
 
--- An index may stand behind the operand of an `&` alone.
+-- An index may stand after the operand of an `&` alone.
 abbrev pub at_index : Inside → Whole → Piece → List Frame → Option State
 at_index i w p (AddressOf s ∷ fs) = Some (within i (indexed w s p fs) Want)
 at_index i w p _ = None
 
+-- a token after a piece
 abbrev pub at_after : Inside → Whole → Piece → Span → TokenKind → Option State
 at_after i w p s (Sign c) =
     if same_sign c Signs.Arrow then Some (within i (accesses w) (Access p))
@@ -305,13 +334,16 @@ at_after i w p s (Sign c) =
     else at_sign_after i w p s c (operator_of c)
 at_after i w p s _ = None
 
+-- a token after an operand with an index
 abbrev pub at_element : Inside → Whole → Piece → Span → TokenKind → Option State
 at_element i w p s (Sign c) = at_sign_after i w p s c (operator_of c)
 at_element i w p s _ = None
 
+-- the name after an arrow
 abbrev pub at_access : Whole → Piece → Span → TokenKind → Option Mode
 at_access w p s k = at_name (λ x. Modes.Within w (Have (accessed p x))) s k
 
+-- a token within a whole expression, by the place in it
 abbrev pub at_place : Inside → Whole → Place → Span → TokenKind → Option State
 at_place i w Want s k = placed i (at_operand w s k)
 at_place i w Post s k = placed i (at_prim w s k)
@@ -326,18 +358,22 @@ type_begin k =
     else if same_word k Words.Struct then Some Types.Struct
     else wants (same_word k Words.Mod) Types.Mod
 
+-- how a type begins at a token
 abbrev pub type_starts : TokenKind → Option TypePart
 type_starts (Reserved k) = type_begin k
 type_starts _ = None
 
+-- a `*`, or the name after a type that has ended
 abbrev pub star_or : Bool → TypeForm → TypeForm → Span → TokenKind → Option Typing
 star_or cells form cell s k =
     if is_sign Signs.Star k then Some (MoreType (Types.Done form))
     else if cells then at_name (λ x. NamedType cell x) s k else None
 
+-- a token after `mod`
 abbrev pub at_mod : TokenKind → Option Typing
 at_mod k = if is_word Words.Int k then Some (MoreType Types.ModInt) else wants (is_word Words.Struct k) (MoreType Types.ModStruct)
 
+-- a token within a type
 abbrev pub at_type : Bool → TypePart → Span → TokenKind → Option Typing
 at_type cells Types.Struct s k = at_name (λ x. MoreType (Types.StructNamed x)) s k
 at_type cells (Types.StructNamed y) s k = wants (is_sign Signs.Star k) (MoreType (Types.Done (Ptr y)))
@@ -353,12 +389,14 @@ owned (OfWhile s e) body = Modes.Ended (While s e body)
 owned (OfThen s e) body = Modes.Closed s e body
 owned (OfElse s e first) body = Modes.Ended (If s e first body)
 
+-- the state after a `}`
 abbrev pub block_closed : List Entry → Head → List Stmt → List Opened → Span → State
 block_closed es h done [] s =
     Top (es ++ FunctionEntry (record { initialiser = h.initialiser; name = h.name; params = h.params; body = done; close = s }) ∷ [])
 block_closed es h done (o ∷ os) s =
     In (record { entries = es; head = h; opened = os; done = o.before; chain = o.chain; base = o.base; nesting = o.nesting }) (owned o.owner done)
 
+-- the state after a `{`
 abbrev pub opened_by : Inside → Owner → State
 opened_by i o = In (record {
   entries = i.entries;
@@ -381,16 +419,19 @@ at_statement s k =
     else if same_word k Words.Write then Some (Modes.Before (To.Write s))
     else wants (same_word k Words.Own) (Modes.Owned s)
 
+-- a reserved word that begins a statement
 abbrev pub at_word : Span → ReservedWord → Option TypePart → Option Mode
 at_word s k (Some part) = Some (Modes.Typing s part)
 at_word s k None = at_statement s k
 
+-- a token that begins a statement, or ends its block
 abbrev pub at_body : Inside → Span → TokenKind → Option State
 at_body i s (Name x) = Some (In i (Modes.Named (record { text = x; span = s })))
 at_body i s (Reserved k) = placed i (at_word s k (type_begin k))
 at_body i s (Sign c) = wants (same_sign c Signs.RightBrace) (block_closed i.entries i.head i.done i.opened s)
 at_body i s _ = None
 
+-- what is made of a type that goes on, and of one that has ended
 abbrev pub typed : {A : Type 0} → (TypePart → A) → (TypeForm → Ident → A) → Option Typing → Option A
 typed more done None = None
 typed more done (Some (MoreType part)) = Some (more part)
@@ -400,6 +441,7 @@ typed more done (Some (NamedType form x)) = Some (done form x)
 abbrev pub field_of : Expr → Ident → Expr
 field_of e x = record { span = e.span; form = Field e x }
 
+-- a name as a path
 abbrev pub path_of : Ident → Expr
 path_of x = record { span = x.span; form = Var x }
 
@@ -411,11 +453,13 @@ at_value d t s k =
     else if is_word Words.Modref k then Some (Modes.Making (Makings.Modref t s))
     else at_operand (begun d (To.Value t)) s k
 
+-- a token after `modref(`
 abbrev pub at_modref : Target → Span → Span → TokenKind → Option Mode
 at_modref t at s (Name y) = Some (Modes.Making (Makings.Typed (given t (Modref at (record { text = y; span = s })))))
 at_modref t at s (Reserved k) = wants (same_word k Words.Int) (Modes.Making (Makings.Typed (given t (ModrefInt at))))
 at_modref t at s _ = None
 
+-- a token within an allocation
 abbrev pub at_making : Making → Span → TokenKind → Option Mode
 at_making (Makings.Alloc t at) s k = at_name (λ y. Modes.Making (Makings.Shape t at y)) s k
 at_making (Makings.Shape t at y) s k = at_name (λ x. Modes.Calls (ToAlloc t at y x)) s k
@@ -423,12 +467,15 @@ at_making (Makings.Modref t at) s k = at_modref t at s k
 at_making (Makings.Typed st) s k = wants (is_sign Signs.LeftParenthesis k) (Modes.Making (Makings.Opened st))
 at_making (Makings.Opened st) s k = wants (is_sign Signs.RightParenthesis k) (Modes.Ends st)
 
+-- a token within the type of a declaration
 abbrev pub at_typing : Span → TypePart → Span → TokenKind → Option Mode
 at_typing at part s k = typed (λ p. Modes.Typing at p) (λ form x. Modes.Declared at form x) (at_type false part s k)
 
+-- the `=` of a declaration
 abbrev pub at_declared : Span → TypeForm → Ident → TokenKind → Option Mode
 at_declared at form x k = wants (is_sign Signs.Equals k) (Modes.Value (ToDeclare at form x))
 
+-- the arrow after `self`
 abbrev pub at_owned : Span → TokenKind → Option Mode
 at_owned at k = wants (is_sign Signs.Arrow k) (Modes.Path (record { span = at; form = Own }) 1)
 
@@ -436,23 +483,28 @@ at_owned at k = wants (is_sign Signs.Arrow k) (Modes.Path (record { span = at; f
 abbrev pub at_path : Expr → ℕ → Span → TokenKind → Option Mode
 at_path e n s k = at_name (λ x. Modes.Reached e x n) s k
 
+-- the parenthesis of a call
 abbrev pub at_calls : Callee → TokenKind → Option Mode
 at_calls f k = wants (is_sign Signs.LeftParenthesis k) (Modes.First f)
 
+-- the parenthesis before an expression
 abbrev pub at_before : ℕ → Receiver → TokenKind → Option Mode
 at_before d r k = wants (is_sign Signs.LeftParenthesis k) (Modes.Within (begun (suc d) r) Want)
 
+-- a token after a name that begins a statement
 abbrev pub at_named : Ident → TokenKind → Option Mode
 at_named x k =
     if is_sign Signs.Equals k then Some (Modes.Value (ToAssign x))
     else if is_sign Signs.LeftParenthesis k then Some (Modes.First (ToCall x))
     else wants (is_sign Signs.Arrow k) (Modes.Path (path_of x) 1)
 
+-- a token after a path of a field assignment's left side
 abbrev pub at_reached : ℕ → Expr → Ident → ℕ → TokenKind → Option Mode
 at_reached d e x n k =
     if is_sign Signs.Arrow k then Some (Modes.Path (field_of e x) (suc n))
     else wants (is_sign Signs.Equals k) (Modes.Within (begun d (To.Set e x)) Want)
 
+-- the first argument of a call, or its end
 abbrev pub at_first : ℕ → Callee → Span → TokenKind → Option Mode
 at_first d f s k =
     if is_sign Signs.RightParenthesis k then Some (Modes.Ends (called f []))
@@ -470,21 +522,26 @@ chained_in i c = record {
   nesting = suc i.nesting;
 }
 
+-- the `;` of a statement
 abbrev pub at_ends : Inside → Stmt → TokenKind → Option State
 at_ends i st k = wants (is_sign Signs.Semicolon k) (In (with_statement i st) Modes.Body)
 
+-- the `{` of a block
 abbrev pub at_opens : Inside → Owner → TokenKind → Option State
 at_opens i o k = wants (is_sign Signs.LeftBrace k) (opened_by i o)
 
+-- a token after the first block of an `if`
 abbrev pub at_closed : Inside → Span → Expr → List Stmt → Span → TokenKind → Option State
 at_closed i at e first s k =
     if is_word Words.Else k then Some (In i (Modes.Otherwise at e first)) else at_body (with_statement i (If at e first [])) s k
 
+-- a token after `else`
 abbrev pub at_otherwise : Inside → Span → Expr → List Stmt → Span → TokenKind → Option State
 at_otherwise i at e first s k =
     if is_sign Signs.LeftBrace k then Some (opened_by i (OfElse at e first))
     else wants (is_word Words.If k) (In (chained_in i (record { span = at; test = e; first = first })) (Modes.Before (To.If s)))
 
+-- a token within a body, by the mode
 abbrev pub moved : Inside → Mode → Span → TokenKind → Option State
 moved i Modes.Body s k = at_body i s k
 moved i (Modes.Typing at part) s k = placed i (at_typing at part s k)
@@ -512,10 +569,12 @@ widened c (CellRow n) = c + n
 widened c (CellPtrRow y n) = c + n
 widened c form = suc c
 
+-- a struct with one more member
 abbrev pub with_member : Layout → FieldDecl → Layout
 with_member l m =
     record { decl = record { name = l.decl.name; fields = l.decl.fields ++ m ∷ [] }; count = widened l.count m.form }
 
+-- whether the type is that of a modifiable
 abbrev pub is_cell : TypeForm → Bool
 is_cell CellInt = true
 is_cell (CellPtr y) = true
@@ -526,25 +585,30 @@ abbrev pub length_of : TokenKind → Option ℕ
 length_of (Number (pos (suc n))) = Some (suc n)
 length_of k = None
 
+-- the state within a type, if one begins
 abbrev pub begun_type : (TypePart → State) → Option TypePart → Option State
 begun_type more None = None
 begun_type more (Some part) = Some (more part)
 
+-- a token that begins a member, or ends the struct
 abbrev pub at_member : List Entry → Layout → TokenKind → Option State
 at_member es l k =
     if is_sign Signs.RightBrace k then Some (Struct es (Structs.Closed l.decl))
     else begun_type (λ p. Struct es (Structs.Typing l p)) (type_starts k)
 
+-- a token after a member
 abbrev pub at_member_end : List Entry → Layout → FieldDecl → TokenKind → Option State
 at_member_end es l m k =
     if is_sign Signs.Semicolon k then Some (Struct es (Structs.Members (with_member l m)))
     else if is_cell m.form then wants (is_sign Signs.LeftBracket k) (Struct es (Structs.Length l m))
     else None
 
+-- the length of a row
 abbrev pub at_length : List Entry → Layout → FieldDecl → Option ℕ → Option State
 at_length es l m None = None
 at_length es l m (Some n) = Some (Struct es (Structs.Sized l m n))
 
+-- the `]` after the length of a row
 abbrev pub at_sized : List Entry → Layout → FieldDecl → ℕ → TokenKind → Option State
 at_sized es l m n k =
     wants (is_sign Signs.RightBracket k) (Struct es (Structs.Ends l (record { form = row_form m.form n; name = m.name })))
@@ -553,6 +617,7 @@ at_sized es l m n k =
 abbrev pub begun_struct : Ident → Layout
 begun_struct x = record { decl = record { name = x; fields = [] }; count = 0 }
 
+-- a token within a struct
 abbrev pub at_struct : List Entry → StructPlace → Span → TokenKind → Option State
 at_struct es Structs.Begun s k = at_name (λ x. Struct es (Structs.Named x)) s k
 at_struct es (Structs.Named x) s k = wants (is_sign Signs.LeftBrace k) (Struct es (Structs.Members (begun_struct x)))
@@ -568,9 +633,11 @@ at_struct es (Structs.Closed d) s k = wants (is_sign Signs.Semicolon k) (Top (es
 abbrev pub with_parameter : Head → FieldDecl → Head
 with_parameter h p = record { initialiser = h.initialiser; name = h.name; params = h.params ++ p ∷ [] }
 
+-- the state at the begin of a body
 abbrev pub body_of : List Entry → Head → State
 body_of es h = In (record { entries = es; head = h; opened = []; done = []; chain = []; base = 1; nesting = 1 }) Modes.Body
 
+-- a token within the head of a function
 abbrev pub at_head : List Entry → HeadPlace → Span → TokenKind → Option State
 at_head es Heads.Ceal s k = at_name (λ x. InHead es (Heads.CealNamed x)) s k
 at_head es (Heads.CealNamed x) s k =
@@ -591,12 +658,14 @@ at_head es (Heads.Named h) s k =
     if is_sign Signs.Comma k then Some (InHead es (Heads.Next h)) else wants (is_sign Signs.RightParenthesis k) (InHead es (Heads.Done h))
 at_head es (Heads.Done h) s k = wants (is_sign Signs.LeftBrace k) (body_of es h)
 
+-- a reserved word that begins a part of a program
 abbrev pub at_part : List Entry → ReservedWord → Option State
 at_part es k =
     if same_word k Words.Struct then Some (Struct es Structs.Begun)
     else if same_word k Words.Ceal then Some (InHead es Heads.Ceal)
     else wants (same_word k Words.Init) (InHead es Heads.Init)
 
+-- a token between the parts of a program
 abbrev pub at_top : List Entry → TokenKind → Option State
 at_top es End = Some (Finished es)
 at_top es (Reserved k) = at_part es k
@@ -615,12 +684,14 @@ abbrev pub making_nesting : Making → ℕ → ℕ
 making_nesting (Makings.Opened st) d = suc d
 making_nesting _ d = d
 
+-- the nesting of a token within a body, by the mode
 abbrev pub mode_nesting : Mode → ℕ → ℕ
 mode_nesting (Modes.First f) d = suc d
 mode_nesting (Modes.Within w p) d = w.nesting
 mode_nesting (Modes.Making m) d = making_nesting m d
 mode_nesting _ d = d
 
+-- the nesting of a token within a struct
 abbrev pub struct_nesting : StructPlace → ℕ
 struct_nesting (Structs.Members l) = 1
 struct_nesting (Structs.Typing l p) = 1
@@ -629,6 +700,7 @@ struct_nesting (Structs.Length l m) = 2
 struct_nesting (Structs.Sized l m n) = 2
 struct_nesting _ = 0
 
+-- the nesting of a token within the head of a function
 abbrev pub head_nesting : HeadPlace → ℕ
 head_nesting Heads.Ceal = 0
 head_nesting (Heads.CealNamed x) = 0
@@ -637,6 +709,7 @@ head_nesting (Heads.InitNamed x) = 0
 head_nesting (Heads.Done h) = 0
 head_nesting _ = 1
 
+-- the nesting of a token
 abbrev pub nesting_of : State → ℕ
 nesting_of (Top es) = 0
 nesting_of (Struct es p) = struct_nesting p
@@ -651,6 +724,7 @@ operators_in (Modes.Path e n) = n
 operators_in (Modes.Reached e x n) = n
 operators_in _ = 0
 
+-- how many operators the expression has so far
 abbrev pub operators_of : State → ℕ
 operators_of (In i m) = operators_in m
 operators_of _ = 0
@@ -661,33 +735,40 @@ abbrev pub argument_number : Receiver → ℕ
 argument_number (To.Argument f args) = suc (length args)
 argument_number _ = 0
 
+-- the number of the argument that begins here; 0 where none does
 abbrev pub argument_begun : List Frame → Receiver → ℕ
 argument_begun [] r = argument_number r
 argument_begun (f ∷ fs) r = 0
 
+-- the same within a whole expression
 abbrev pub place_item : Whole → Place → ℕ
 place_item w Want = argument_begun w.frames w.receiver
 place_item w _ = 0
 
+-- the same within a body
 abbrev pub mode_item : Mode → TokenKind → ℕ
 mode_item (Modes.First f) k = if is_sign Signs.RightParenthesis k then 0 else 1
 mode_item (Modes.Within w p) k = place_item w p
 mode_item _ k = 0
 
+-- the number of the last field of a row with this length
 abbrev pub length_item : ℕ → Option ℕ → ℕ
 length_item c None = 0
 length_item c (Some n) = c + n
 
+-- the number of the field that begins or ends here
 abbrev pub struct_item : StructPlace → TokenKind → ℕ
 struct_item (Structs.Members l) k = if is_sign Signs.RightBrace k then 0 else suc l.count
 struct_item (Structs.Length l m) k = length_item l.count (length_of k)
 struct_item _ k = 0
 
+-- the number of the parameter that begins here
 abbrev pub head_item : HeadPlace → TokenKind → ℕ
 head_item (Heads.First h) k = if is_sign Signs.RightParenthesis k then 0 else 1
 head_item (Heads.Next h) k = suc (length h.params)
 head_item _ k = 0
 
+-- the number of the list item that begins at a token; 0 where none does
 abbrev pub item_of : State → Token → ℕ
 item_of (Top es) t = 0
 item_of (Struct es p) t = struct_item p t.kind

@@ -23,6 +23,7 @@ pub record Mark : Type 0 where
   pub item : ℕ
   pub operators : ℕ
 
+-- a token with its nesting, its item and its operators
 abbrev pub mark : ℕ → ℕ → ℕ → TokenKind → Span → Mark
 mark d i n kind at = record { token = record { kind = kind; span = at }; nesting = d; item = i; operators = n }
 
@@ -30,9 +31,11 @@ mark d i n kind at = record { token = record { kind = kind; span = at }; nesting
 abbrev pub plain : ℕ → TokenKind → Span → Mark
 plain d kind at = mark d 0 0 kind at
 
+-- a name as a token
 abbrev pub name : ℕ → Ident → Mark
 name d x = plain d (Name x.text) x.span
 
+-- the sign of an operator between operands
 abbrev pub sign_of : BinaryOp → SignOf
 sign_of Add = Signs.Plus
 sign_of Sub = Signs.Minus
@@ -49,6 +52,7 @@ sign_of And = Signs.AndAnd
 sign_of Or = Signs.BarBar
 sign_of (Pick n) = Signs.LeftBracket
 
+-- the sign of an operator before its operand
 abbrev pub prefix_sign : UnaryOp → SignOf
 prefix_sign Neg = Signs.Minus
 prefix_sign Not = Signs.Bang
@@ -83,6 +87,7 @@ spelled d i n (element s a l b r) rest =
     ∷ spelled (suc d) 0 (suc (after a (suc n))) b (mark d 0 (after b (suc (after a (suc n)))) (Sign Signs.RightBracket) r ∷ rest))
 spelled d i n (binary op a s b) rest = spelled d i n a (mark d 0 (suc (after a n)) (Sign (sign_of op)) s ∷ spelled d 0 (suc (after a n)) b rest)
 
+-- the tokens of a type, and then the rest
 abbrev pub spelled_type : ℕ → ℕ → Written → List Mark → List Mark
 spelled_type d i (int s) rest = mark d i 0 (Reserved Words.Int) s ∷ rest
 spelled_type d i (pointer s x t) rest = mark d i 0 (Reserved Words.Struct) s ∷ name d x ∷ plain d (Sign Signs.Star) t ∷ rest
@@ -92,6 +97,7 @@ spelled_type d i (mod_pointer s k x t) rest =
 spelled_type d i (cell_int s k) rest = mark d i 0 (Reserved Words.Mod) s ∷ plain d (Reserved Words.Int) k ∷ rest
 spelled_type d i (cell_pointer s k x) rest = mark d i 0 (Reserved Words.Mod) s ∷ plain d (Reserved Words.Struct) k ∷ name d x ∷ rest
 
+-- the tokens of arguments with a comma before each
 unfoldable pub spelled_more : ℕ → ℕ → List (Span × Phrase) → List Mark → List Mark
 spelled_more d i [] rest = rest
 spelled_more d i (a ∷ more) rest = plain d (Sign Signs.Comma) a.0 ∷ spelled d i 0 a.1 (spelled_more d (suc i) more rest)
@@ -101,6 +107,7 @@ abbrev pub spelled_arguments : ℕ → Arguments → List Mark → List Mark
 spelled_arguments d no_arguments rest = rest
 spelled_arguments d (arguments e more) rest = spelled d 1 0 e (spelled_more d 2 more rest)
 
+-- the tokens of a value
 abbrev pub spelled_given : ℕ → Given → List Mark → List Mark
 spelled_given d (plainly e) rest = spelled d 0 0 e rest
 spelled_given d (reading s l e r) rest =
@@ -137,19 +144,23 @@ unfoldable mutual
   spelled_statement d (break s semi) rest = plain d (Reserved Words.Break) s ∷ plain d (Sign Signs.Semicolon) semi ∷ rest
   spelled_statement d (continue s semi) rest = plain d (Reserved Words.Continue) s ∷ plain d (Sign Signs.Semicolon) semi ∷ rest
 
+  -- the tokens of an `if`
   pub spelled_branch : ℕ → Branch → List Mark → List Mark
   spelled_branch d (when s l e r b other) rest =
       plain d (Reserved Words.If) s ∷ plain (suc d) (Sign Signs.LeftParenthesis) l
       ∷ spelled (suc d) 0 0 e (plain d (Sign Signs.RightParenthesis) r ∷ spelled_block d b (spelled_otherwise d other rest))
 
+  -- the tokens of what follows the first block of an `if`
   pub spelled_otherwise : ℕ → Otherwise → List Mark → List Mark
   spelled_otherwise d nothing rest = rest
   spelled_otherwise d (otherwise s b) rest = plain d (Reserved Words.Else) s ∷ spelled_block d b rest
   spelled_otherwise d (chained s b) rest = plain d (Reserved Words.Else) s ∷ spelled_branch (suc d) b rest
 
+  -- the tokens of a block
   pub spelled_block : ℕ → Block → List Mark → List Mark
   spelled_block d (block l ss r) rest = plain (suc d) (Sign Signs.LeftBrace) l ∷ spelled_statements (suc d) ss (plain d (Sign Signs.RightBrace) r ∷ rest)
 
+  -- the tokens of statements
   pub spelled_statements : ℕ → Statements → List Mark → List Mark
   spelled_statements d ended rest = rest
   spelled_statements d (followed s ss) rest = spelled_statement d s (spelled_statements d ss rest)
@@ -158,10 +169,12 @@ unfoldable mutual
 abbrev pub spelled_parameter : ℕ → Parameter → List Mark → List Mark
 spelled_parameter i p rest = spelled_type 1 i p.type (name 1 p.x ∷ rest)
 
+-- the tokens of parameters with a comma before each
 unfoldable pub spelled_others : ℕ → List (Span × Parameter) → List Mark → List Mark
 spelled_others i [] rest = rest
 spelled_others i (p ∷ more) rest = plain 1 (Sign Signs.Comma) p.0 ∷ spelled_parameter i p.1 (spelled_others (suc i) more rest)
 
+-- the tokens of parameters
 abbrev pub spelled_parameters : Parameters → List Mark → List Mark
 spelled_parameters no_parameters rest = rest
 spelled_parameters (parameters p more) rest = spelled_parameter 1 p (spelled_others 2 more rest)
@@ -179,30 +192,35 @@ abbrev pub counted : ℕ → Size → ℕ
 counted c single = suc c
 counted c (row l n s r) = c + n
 
+-- the tokens of a row's length
 abbrev pub spelled_size : ℕ → Size → List Mark → List Mark
 spelled_size c single rest = rest
 spelled_size c (row l n s r) rest =
     plain 2 (Sign Signs.LeftBracket) l ∷ mark 2 (c + n) 0 (Number (pos n)) s ∷ plain 1 (Sign Signs.RightBracket) r ∷ rest
 
--- the members behind c fields
+-- the members after c fields
 unfoldable pub spelled_members : ℕ → List Member → List Mark → List Mark
 spelled_members c [] rest = rest
 spelled_members c (m ∷ ms) rest =
     spelled_type 1 (suc c) m.type (name 1 m.x ∷ spelled_size c m.size (plain 1 (Sign Signs.Semicolon) m.semi ∷ spelled_members (counted c m.size) ms rest))
 
+-- the tokens of a struct or a function
 abbrev pub spelled_part : Part → List Mark → List Mark
 spelled_part (structure s x l ms r semi) rest =
     plain 0 (Reserved Words.Struct) s ∷ name 0 x ∷ plain 1 (Sign Signs.LeftBrace) l
     ∷ spelled_members 0 ms (plain 0 (Sign Signs.RightBrace) r ∷ plain 0 (Sign Signs.Semicolon) semi ∷ rest)
 spelled_part (function h b) rest = spelled_signature h (spelled_block 0 b rest)
 
+-- the tokens of all parts
 unfoldable pub spelled_parts : List Part → List Mark → List Mark
 spelled_parts [] rest = rest
 spelled_parts (p ∷ ps) rest = spelled_part p (spelled_parts ps rest)
 
+-- the tokens of a program, the end among them
 abbrev pub spelled_program : Program → List Mark
 spelled_program p = spelled_parts p.parts (plain 0 End p.last ∷ [])
 
+-- the tokens alone
 unfoldable pub tokens_of : List Mark → List Token
 tokens_of [] = []
 tokens_of (m ∷ ms) = m.token ∷ tokens_of ms

@@ -23,7 +23,7 @@ pub enum Frame {
     Prefix(Unary, Span),
     /// `&`
     Address(Span),
-    /// `[` behind an operand of `&`: the span of the `&`, the operand, and the nesting outside
+    /// `[` after an operand of `&`: the span of the `&`, the operand, and the nesting outside
     Index(Span, Expr, u32),
     /// a binary operator and its left side
     Left(Piece, Binary, Span),
@@ -55,7 +55,7 @@ pub enum Receiver {
     Set(Expr, Ident),
     /// the first operand of a `write`
     Write(Span),
-    /// the second operand of a `write`, behind the first
+    /// the second operand of a `write`, after the first
     Store(Span, Expr),
     If(Span),
     While(Span),
@@ -76,7 +76,7 @@ pub struct Whole {
 pub enum Place {
     /// an operand is wanted
     Want,
-    /// an operand without a sign before it is wanted, behind `&`
+    /// an operand without a sign before it is wanted, after `&`
     Post,
     /// an operand was read
     Have(Piece),
@@ -102,7 +102,7 @@ pub enum TypePart {
 #[derive(Drop)]
 pub enum Typing {
     More(TypePart),
-    /// the type has ended, and the token is the name behind it
+    /// the type has ended, and the token is the name after it
     Named(TypeForm, Ident),
 }
 
@@ -152,7 +152,7 @@ pub enum Mode {
     Declared(Span, TypeForm, Ident),
     Named(Ident),
     Owned(Span),
-    /// behind an arrow of a field assignment's left side, with its operators
+    /// after an arrow of a field assignment's left side, with its operators
     Path(Expr, u32),
     Reached(Expr, Ident, u32),
     Value(Target),
@@ -169,7 +169,7 @@ pub enum Mode {
     Ended(Stmt),
     /// `{` is wanted
     Opens(Owner),
-    /// behind the first block of an `if`
+    /// after the first block of an `if`
     Closed(Span, Expr, Stmts),
     Otherwise(Span, Expr, Stmts),
 }
@@ -209,11 +209,11 @@ pub enum StructPlace {
     Named(Ident),
     Members(Layout),
     Typing(Layout, TypePart),
-    /// behind a member, or behind a modifiable that may be a row of them
+    /// after a member, or after a modifiable that may be a row of them
     Ends(Layout, FieldDecl),
     /// the length of a row is wanted
     Length(Layout, FieldDecl),
-    /// `]` is wanted behind the length
+    /// `]` is wanted after the length
     Sized(Layout, FieldDecl, u64),
     Closed(StructDecl),
 }

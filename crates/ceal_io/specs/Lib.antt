@@ -1,2 +1,3 @@
+-- what the crate promises
 pub mod Streams
 pub mod Calls

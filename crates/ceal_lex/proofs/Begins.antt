@@ -8,14 +8,15 @@ use Rattle.std.proofs.lemmas.List.{length-append, length-take-le, length-drop, t
 use Rattle.std.proofs.Math.Numerals.{one-add}
 use Rattle.ceal_base.specs.declared.fault.FaultCode.{FaultCode}
 use Rattle.ceal_base.specs.declared.fault.FaultCode.TheVariants.{S1, S2}
+use Rattle.ceal_base.specs.Digits.{number_of, is_digit}
 use Rattle.ceal_lex.specs.declared.token.Sign.{Sign}
 use Rattle.ceal_lex.specs.declared.token.Sign.TheVariants as signs
 use Rattle.ceal_lex.specs.declared.token.TokenKind.{TokenKind}
 use Rattle.ceal_lex.specs.declared.token.TokenKind.TheVariants as kinds
 use Rattle.ceal_lex.specs.declared.front.Front.{Front}
 use Rattle.ceal_lex.specs.declared.front.Front.TheVariants.{Blank, Found, Broken}
-use Rattle.ceal_lex.specs.Characters.{LINE_FEED, SLASH, STAR, is_digit, is_letter, is_space, is_word_byte}
-use Rattle.ceal_lex.specs.Spelling.{AreDigits, IsLexeme, IsWord, LARGEST, number_of, sign_text, Spells}
+use Rattle.ceal_lex.specs.Characters.{LINE_FEED, SLASH, STAR, is_letter, is_space, is_word_byte}
+use Rattle.ceal_lex.specs.Spelling.{AreDigits, IsLexeme, IsWord, LARGEST, sign_text, Spells}
 use Rattle.ceal_lex.specs.Pieces.{Piece, space, line_comment, block_comment, token, followed, BeginsComment, IsLongest, Stands}
 use Rattle.ceal_lex.specs.Tokens.{tokens_from}
 use Rattle.ceal_lex.specs.Faults.{FaultStands}
@@ -50,7 +51,7 @@ blank_space (b ∷ bs) h = record {
   no_token = λ at ps. refl;
 }
 
--- the rest of a line behind `//`
+-- the rest of a line after `//`
 pub blank_line : (text : List ℕ) (n : ℕ) → n ≡ position_or_len (λ b. b == LINE_FEED) text → IsBlank (2 + n) (SLASH ∷ SLASH ∷ text)
 unfolding tokens_from
 blank_line text n h =
@@ -67,7 +68,7 @@ blank_line text n h =
       no_token = λ at ps. ap (λ (k : ℕ). tokens_from (at + (2 + k)) ps) l;
     }
 
--- a comment that is closed, behind `/*`
+-- a comment that is closed, after `/*`
 pub blank_block : (text : List ℕ) (n : ℕ) → ClosesAt n text → IsBlank (4 + n) (SLASH ∷ STAR ∷ text)
 unfolding tokens_from
 blank_block text n h =

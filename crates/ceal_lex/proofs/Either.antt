@@ -1,5 +1,5 @@
 -- A source has tokens, or a first fault; and an input has a split.
-use Rattle.std.proofs.Common.{◌≡◌, ◌≢◌, ◌⊎◌, inl, inr, ℕ, zero, suc, ◌+◌, ◌-◌, ◌<◌, ◌≤◌, Bool, true, false, List, [], ◌∷◌, ◌++◌, length, take, drop, get_or, refl, sym, ap, ◌∙◌, subst, arith}
+use Rattle.std.proofs.Common.{◌≡◌, ◌≢◌, ◌⊎◌, inl, inr, ℕ, zero, suc, ◌+◌, ◌-◌, ◌<◌, ◌≤◌, Bool, true, false, List, [], ◌∷◌, ◌++◌, length, take, drop, get_or, refl, sym, ◌∙◌, arith}
 use Rattle.std.specs.Prelude.{◌==◌, ◌^◌, min, pos}
 use Rattle.std.specs.List.{prefix_len, position_or_len}
 use Rattle.std.proofs.lemmas.Bool.{cases_Bool, cases_eq, cases_lt, false≢true}
@@ -8,19 +8,20 @@ use Rattle.std.proofs.lemmas.Slice.Eq.{bytes_eq-Decides}
 use Rattle.std.specs.Str.{bytes_eq}
 use Rattle.ceal_base.specs.declared.fault.Fault.{Fault}
 use Rattle.ceal_base.specs.declared.fault.FaultCode.TheVariants.{S1, S2}
+use Rattle.ceal_base.specs.Digits.{number_of, is_digit}
 use Rattle.ceal_lex.specs.declared.front.Front.{Front}
 use Rattle.ceal_lex.specs.declared.front.Front.TheVariants.{Blank, Found, Broken}
 use Rattle.ceal_lex.specs.declared.parts.Split.{Split}
 use Rattle.ceal_lex.specs.declared.token.Sign.{Sign}
 use Rattle.ceal_lex.specs.declared.token.Token.{Token}
 use Rattle.ceal_lex.specs.declared.token.TokenKind.TheVariants as kinds
-use Rattle.ceal_lex.specs.Characters.{CARRIAGE_RETURN, LINE_FEED, PERCENT, SLASH, STAR, is_digit, is_letter, is_space, is_word_byte}
+use Rattle.ceal_lex.specs.Characters.{CARRIAGE_RETURN, LINE_FEED, PERCENT, SLASH, STAR, is_letter, is_space, is_word_byte}
 use Rattle.ceal_lex.specs.Faults.{IsFirstFault}
 use Rattle.ceal_lex.specs.Front.{BeginsWith, ClosesAt, is_other, IsFront, IsLongestSign, IsNeverClosed}
 use Rattle.ceal_lex.specs.Parts.{IsBeforeLine, IsMark, IsSplit}
 use Rattle.ceal_lex.specs.Pieces.{BeginsComment}
 use Rattle.ceal_lex.specs.Reading.{Reads}
-use Rattle.ceal_lex.specs.Spelling.{LARGEST, number_of, sign_text}
+use Rattle.ceal_lex.specs.Spelling.{LARGEST, sign_text}
 use Rattle.ceal_lex.specs.Tokens.{AreTokens, span}
 use Rattle.ceal_lex.proofs.Begins.{begins_other, blank_space, block_at, front_taken, line_at, nothing_found, number_found, number_too_large, open_at, sign_found, word_found}
 use Rattle.ceal_lex.proofs.Closing.{NoneBefore as NoEndBefore, closes, none_left as never_closed, none_more as no_end_more}

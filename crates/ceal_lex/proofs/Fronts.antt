@@ -5,8 +5,9 @@ use Rattle.std.proofs.lemmas.Bool.{true≢false, false≢true}
 use Rattle.std.proofs.lemmas.List.{append_cancel_left, take_at}
 use Rattle.ceal_base.specs.declared.fault.FaultCode.{FaultCode}
 use Rattle.ceal_base.specs.declared.fault.FaultCode.TheVariants.{S1, S2}
+use Rattle.ceal_base.specs.Digits.{is_digit}
 use Rattle.ceal_lex.specs.declared.token.Sign.TheVariants as signs
-use Rattle.ceal_lex.specs.Characters.{LINE_FEED, SLASH, STAR, is_digit, is_space}
+use Rattle.ceal_lex.specs.Characters.{LINE_FEED, SLASH, STAR, is_space}
 use Rattle.ceal_lex.specs.Spelling.{AreDigits, IsLexeme, Spells}
 use Rattle.ceal_lex.specs.Pieces.{Piece, space, line_comment, block_comment, token, followed, EndsLine, IsLongest, IsClosedFirst, Stands}
 use Rattle.ceal_lex.specs.Faults.{IsOpen, BeginsNothing, BeginsTooLarge, FaultStands}

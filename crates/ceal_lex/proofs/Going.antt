@@ -29,7 +29,7 @@ followed_text (line_comment text) rest = refl
 followed_text (block_comment text) rest = ap (λ (x : List ℕ). SLASH ∷ STAR ∷ x) (sym (append_assoc text (STAR ∷ SLASH ∷ []) rest))
 followed_text (token kind text) rest = refl
 
--- what is left behind a piece of n bytes
+-- what is left after a piece of n bytes
 followed_rest : (p : Piece) (rest : List ℕ) (n : ℕ) (bytes : List ℕ) → followed p rest ≡ bytes → length rest + n ≡ length bytes → rest ≡ drop n bytes
 followed_rest p rest n bytes e l =
     let f = sym (followed_text p rest) ∙ e in

@@ -1,11 +1,11 @@
 -- Computed samples of the definitions.
 use Rattle.std.proofs.Common.{◌≡◌, true, false, List, [], ◌∷◌, ◌++◌, pos, refl}
 use Rattle.std.specs.Prelude.{codes}
+use Rattle.ceal_base.specs.Digits.{continued, number_of}
 use Rattle.ceal_lex.specs.declared.token.TokenKind.TheVariants.{Name, Number, Sign, End}
 use Rattle.ceal_lex.specs.declared.token.Sign.TheVariants.{Arrow}
 use Rattle.ceal_lex.specs.Characters.{is_space, is_word_byte}
 use Rattle.ceal_lex.specs.Pieces.{Piece, space, line_comment, block_comment, token, spelled}
-use Rattle.ceal_lex.specs.Spelling.{continued, number_of}
 use Rattle.ceal_lex.specs.Tokens.{ending, span, tokens_from}
 
 -- a name, a comment, a sign, white space, a number and a comment at the end

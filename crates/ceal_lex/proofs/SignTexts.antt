@@ -34,11 +34,6 @@ two_bytes [] h = absurd (omega (arith, h))
 two_bytes (b ∷ []) h = absurd (omega (arith, h))
 two_bytes (b ∷ c ∷ bytes) h = refl
 
-pub one_byte : (bytes : List ℕ) → length bytes ≡ 1 → bytes ≡ get_or bytes 0 0 ∷ []
-one_byte [] h = absurd (omega (arith, h))
-one_byte (b ∷ []) h = refl
-one_byte (b ∷ c ∷ bytes) h = absurd (omega (arith, h))
-
 pub no_byte : (bytes : List ℕ) → length bytes ≡ 0 → (s : Sign) (more : List ℕ) → bytes ≢ sign_text s ++ more
 no_byte bytes l s more h =
     let a = ap length h ∙ length-append (sign_text s) more in

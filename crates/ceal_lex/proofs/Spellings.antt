@@ -4,14 +4,15 @@ use Rattle.std.specs.Prelude.{codes, bytes_eq, if◌then◌else◌}
 use Rattle.std.proofs.lemmas.Bool.{cases_Bool, false≢true}
 use Rattle.std.proofs.lemmas.Bool.Decides.{nat_tests}
 use Rattle.std.proofs.lemmas.Slice.Eq.{bytes_eq-Decides}
+use Rattle.ceal_base.specs.Digits.{number_of, is_digit}
 use Rattle.ceal_lex.specs.declared.token.Reserved.{Reserved}
 use Rattle.ceal_lex.specs.declared.token.Reserved.TheVariants as words
 use Rattle.ceal_lex.specs.declared.token.Sign.{Sign}
 use Rattle.ceal_lex.specs.declared.token.Sign.TheVariants as signs
 use Rattle.ceal_lex.specs.declared.token.TokenKind.{TokenKind}
 use Rattle.ceal_lex.specs.declared.token.TokenKind.TheVariants as kinds
-use Rattle.ceal_lex.specs.Characters.{is_digit, is_letter, is_space}
-use Rattle.ceal_lex.specs.Spelling.{reserved_text, sign_text, IsWord, AreDigits, number_of, IsLexeme, LARGEST, Spells}
+use Rattle.ceal_lex.specs.Characters.{is_letter, is_space}
+use Rattle.ceal_lex.specs.Spelling.{reserved_text, sign_text, IsWord, AreDigits, IsLexeme, LARGEST, Spells}
 
 pub letter_no_digit : (b : ℕ) → is_letter b ≡ true → is_digit b ≡ true → ⊥
 letter_no_digit b l d = grind (arith, nat_tests)

@@ -1,5 +1,6 @@
 -- Bytes by their class.
 use Rattle.std.specs.Prelude.{ℕ, Bool, ◌&&◌, ◌||◌, nat_eq, nat_le}
+use Rattle.ceal_base.specs.Digits.{is_digit}
 
 abbrev pub LINE_FEED : ℕ
 LINE_FEED = 10
@@ -19,10 +20,6 @@ SLASH = 47
 -- space, tab, CR and LF
 abbrev pub is_space : ℕ → Bool
 is_space b = nat_eq b 32 || nat_eq b 9 || nat_eq b CARRIAGE_RETURN || nat_eq b LINE_FEED
-
--- 0 to 9
-abbrev pub is_digit : ℕ → Bool
-is_digit b = nat_le 48 b && nat_le b 57
 
 -- A to Z, a to z and the underscore
 abbrev pub is_letter : ℕ → Bool

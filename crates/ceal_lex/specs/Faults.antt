@@ -3,12 +3,13 @@ use Rattle.std.specs.Prelude.{ℕ, ◌+◌, ◌<◌, ◌≡◌, ◌≢◌, ◌�
 use Rattle.ceal_base.specs.declared.fault.Fault.{Fault}
 use Rattle.ceal_base.specs.declared.fault.FaultCode.{FaultCode}
 use Rattle.ceal_base.specs.declared.fault.FaultCode.TheVariants.{S1, S2}
+use Rattle.ceal_base.specs.Digits.{number_of}
 use Rattle.ceal_lex.specs.Characters.{SLASH, STAR, is_space}
-use Rattle.ceal_lex.specs.Spelling.{AreDigits, IsLexeme, LARGEST, number_of}
+use Rattle.ceal_lex.specs.Spelling.{AreDigits, IsLexeme, LARGEST}
 use Rattle.ceal_lex.specs.Pieces.{Piece, IsLongest, spelled, Stand}
 use Rattle.ceal_lex.specs.Tokens.{span}
 
--- A comment begins with `/*` and has no `*/` behind it.
+-- A comment begins with `/*` and has no `*/` after it.
 pub record IsOpen (rest : List ℕ) : Type 0 where
   pub text : List ℕ
   pub begins : rest ≡ SLASH ∷ STAR ∷ text
@@ -22,7 +23,7 @@ pub record BeginsNothing (rest : List ℕ) : Type 0 where
   pub no_space : IsFalse (is_space byte)
   pub no_lexeme : (a b : List ℕ) → rest ≡ a ++ b → IsLexeme a → ⊥
 
--- The bytes begin with a number of so many digits, and it is too large.
+-- The bytes begin with a number of this many digits, and it is too large.
 pub record BeginsTooLarge (rest : List ℕ) (count : ℕ) : Type 0 where
   pub digits : List ℕ
   pub more : List ℕ
@@ -38,7 +39,7 @@ FaultStands S1 rest count = (IsOpen rest ⊎ BeginsNothing rest) × (count ≡ 1
 FaultStands S2 rest count = BeginsTooLarge rest count
 FaultStands _ rest count = ⊥
 
--- Pieces stand before it, and the fault stands at byte `at`, behind them.
+-- Pieces stand before it, and the fault stands at byte `at`, after them.
 pub record IsFirstFault (source : List ℕ) (fault : Fault) : Type 0 where
   pub pieces : List Piece
   pub at : ℕ

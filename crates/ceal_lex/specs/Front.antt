@@ -1,10 +1,11 @@
 -- What the code finds at the front of bytes.
 use Rattle.std.specs.Prelude.{ℕ, ◌+◌, ◌<◌, ◌≤◌, ◌≡◌, ◌≢◌, Bool, not, ◌||◌, IsTrue, List, [], ◌∷◌, ◌++◌, length}
+use Rattle.ceal_base.specs.Digits.{is_digit}
 use Rattle.ceal_lex.specs.declared.token.Sign.{Sign}
 use Rattle.ceal_lex.specs.declared.token.TokenKind.{TokenKind}
 use Rattle.ceal_lex.specs.declared.front.Front.{Front}
 use Rattle.ceal_lex.specs.declared.front.Front.TheVariants.{Blank, Found, Broken}
-use Rattle.ceal_lex.specs.Characters.{SLASH, STAR, is_space, is_letter, is_digit}
+use Rattle.ceal_lex.specs.Characters.{SLASH, STAR, is_space, is_letter}
 use Rattle.ceal_lex.specs.Spelling.{sign_text}
 use Rattle.ceal_lex.specs.Pieces.{Piece, token, followed, Stands, IsClosedFirst}
 use Rattle.ceal_lex.specs.Tokens.{tokens_from}
@@ -19,6 +20,7 @@ BeginsWith test (b ∷ bs) = IsTrue (test b)
 abbrev pub is_other : ℕ → Bool
 is_other b = not (is_space b || is_letter b || is_digit b)
 
+-- no `*/` closes the comment
 abbrev pub IsNeverClosed : List ℕ → Type 0
 IsNeverClosed text = (a b : List ℕ) → text ≢ a ++ STAR ∷ SLASH ∷ b
 
@@ -54,6 +56,7 @@ pub record IsFound (kind : TokenKind) (n : ℕ) (bytes : List ℕ) : Type 0 wher
   pub stands : Stands (token kind text) rest
   pub counted : n ≡ length text
 
+-- what the bytes begin with: white space or a comment, a token, or a fault
 abbrev pub IsFront : Front → List ℕ → Type 0
 IsFront (Blank n) bytes = IsBlank n bytes
 IsFront (Found kind n) bytes = IsFound kind n bytes

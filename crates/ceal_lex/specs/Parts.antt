@@ -8,7 +8,7 @@ use Rattle.ceal_lex.specs.Tokens.{span}
 abbrev pub IsMark : List ℕ → Type 0
 IsMark text = (text ≡ PERCENT ∷ PERCENT ∷ []) ⊎ (text ≡ PERCENT ∷ PERCENT ∷ CARRIAGE_RETURN ∷ [])
 
--- A line may begin behind these bytes.
+-- A line may begin after these bytes.
 abbrev pub IsBeforeLine : List ℕ → Type 0
 IsBeforeLine bytes = (bytes ≡ []) ⊎ (earlier : List ℕ) × (bytes ≡ earlier ++ LINE_FEED ∷ [])
 
@@ -45,6 +45,7 @@ pub record IsUnmarked (input : List ℕ) (part : Split) : Type 0 where
   pub source : part.source ≡ span 0 (length input)
   pub script : part.script ≡ span (length input) (length input)
 
+-- the parts of an input, with the mark or without it
 abbrev pub PartsAre : Bool → List ℕ → Split → Type 0
 PartsAre true input part = IsMarked input part
 PartsAre false input part = IsUnmarked input part

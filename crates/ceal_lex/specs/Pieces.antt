@@ -1,10 +1,11 @@
--- What a source is made of: white space, comments and tokens, one behind the other.
+-- What a source is made of: white space, comments and tokens, one after the other.
 use Rattle.std.specs.Prelude.{ℕ, ◌≤◌, ◌≡◌, ◌≢◌, ◌⊎◌, List, [], ◌∷◌, ◌++◌, length, IsTrue}
 use Rattle.std.specs.List.{AllByRecursion}
 use Rattle.ceal_lex.specs.declared.token.TokenKind.{TokenKind}
 use Rattle.ceal_lex.specs.Characters.{LINE_FEED, SLASH, STAR, is_space}
 use Rattle.ceal_lex.specs.Spelling.{IsLexeme, Spells}
 
+-- what a source is made of
 pub data Piece : Type 0 where
   -- one byte of white space
   space : (byte : ℕ) → Piece
@@ -14,7 +15,7 @@ pub data Piece : Type 0 where
   block_comment : (text : List ℕ) → Piece
   token : (kind : TokenKind) (text : List ℕ) → Piece
 
--- a piece, and the bytes `rest` behind it
+-- a piece, and the bytes `rest` after it
 abbrev pub followed : Piece → List ℕ → List ℕ
 followed (space b) rest = b ∷ rest
 followed (line_comment text) rest = SLASH ∷ SLASH ∷ text ++ rest
@@ -33,7 +34,7 @@ EndsLine rest = (rest ≡ []) ⊎ (more : List ℕ) × (rest ≡ LINE_FEED ∷ m
 abbrev pub IsLongest : List ℕ → List ℕ → Type 0
 IsLongest text rest = (a b : List ℕ) → text ++ rest ≡ a ++ b → IsLexeme a → length a ≤ length text
 
--- No `*/` stands earlier than the one behind the text.
+-- No `*/` stands earlier than the one after the text.
 abbrev pub IsClosedFirst : List ℕ → List ℕ → Type 0
 IsClosedFirst text rest = (a b : List ℕ) → text ++ STAR ∷ SLASH ∷ rest ≡ a ++ STAR ∷ SLASH ∷ b → length text ≤ length a
 
@@ -44,7 +45,7 @@ Stands (line_comment text) rest = AllByRecursion (λ b. b ≢ LINE_FEED) text ×
 Stands (block_comment text) rest = IsClosedFirst text rest
 Stands (token kind text) rest = Spells kind text × IsLongest text rest × (BeginsComment (text ++ rest) → ⊥)
 
--- pieces one behind the other, and then the bytes `rest`
+-- pieces one after the other, and then the bytes `rest`
 unfoldable pub spelled : List Piece → List ℕ → List ℕ
 spelled [] rest = rest
 spelled (p ∷ ps) rest = followed p (spelled ps rest)

@@ -1,14 +1,16 @@
 -- Which bytes spell which token.
 use Rattle.std.specs.Prelude.{ℕ, ◌+◌, ◌-◌, ◌*◌, ◌≤◌, ◌≡◌, ◌≢◌, ◌⊎◌, pos, List, [], ◌∷◌, IsTrue, codes}
 use Rattle.std.specs.List.{AllByRecursion}
+use Rattle.ceal_base.specs.Digits.{is_digit, number_of}
 use Rattle.ceal_lex.specs.declared.token.Reserved.{Reserved}
 use Rattle.ceal_lex.specs.declared.token.Reserved.TheVariants as words
 use Rattle.ceal_lex.specs.declared.token.Sign.{Sign}
 use Rattle.ceal_lex.specs.declared.token.Sign.TheVariants as signs
 use Rattle.ceal_lex.specs.declared.token.TokenKind.{TokenKind}
 use Rattle.ceal_lex.specs.declared.token.TokenKind.TheVariants as kinds
-use Rattle.ceal_lex.specs.Characters.{is_digit, is_letter, is_word_byte}
+use Rattle.ceal_lex.specs.Characters.{is_letter, is_word_byte}
 
+-- how a reserved word is spelled
 abbrev pub reserved_text : Reserved → List ℕ
 reserved_text words.Struct = codes "struct"
 reserved_text words.Int = codes "int"
@@ -28,6 +30,7 @@ reserved_text words.Null = codes "null"
 reserved_text words.Break = codes "break"
 reserved_text words.Continue = codes "continue"
 
+-- how a sign is spelled
 abbrev pub sign_text : Sign → List ℕ
 sign_text signs.Arrow = codes "->"
 sign_text signs.AndAnd = codes "&&"
@@ -64,15 +67,6 @@ IsWord (b ∷ bs) = IsTrue (is_letter b) × AllByRecursion (λ c. IsTrue (is_wor
 abbrev pub AreDigits : List ℕ → Type 0
 AreDigits [] = ⊥
 AreDigits (b ∷ bs) = IsTrue (is_digit b) × AllByRecursion (λ c. IsTrue (is_digit c)) bs
-
--- a number n with the digits behind it
-unfoldable pub continued : ℕ → List ℕ → ℕ
-continued n [] = n
-continued n (b ∷ bs) = continued (10 * n + (b - 48)) bs
-
--- the decimal number that digits spell
-abbrev pub number_of : List ℕ → ℕ
-number_of digits = continued 0 digits
 
 abbrev pub LARGEST : ℕ
 LARGEST = 9223372036854775807

@@ -5,6 +5,7 @@ use Rattle.ceal_lex.specs.declared.token.Token.{Token}
 use Rattle.ceal_lex.specs.declared.token.TokenKind.TheVariants.{End, Cut}
 use Rattle.ceal_lex.specs.Pieces.{Piece, space, line_comment, block_comment, token, spelled, Stand}
 
+-- the span between two bytes
 abbrev pub span : ℕ → ℕ → Span
 span from to = record { from = from; to = to }
 
@@ -34,7 +35,7 @@ pub record IsEnded (tokens : List Token) : Type 0 where
   pub whole : tokens ≡ before ++ last ∷ []
   pub kind : (last.kind ≡ End) ⊎ (last.kind ≡ Cut)
 
--- The spans are between `from` and `to`, one behind the other.
+-- The spans are between `from` and `to`, one after the other.
 abbrev pub InOrder : ℕ → ℕ → List Token → Type 0
 InOrder from to [] = from ≤ to
 InOrder from to (t ∷ ts) = (from ≤ t.span.from) × (t.span.from ≤ t.span.to) × InOrder t.span.to to ts

@@ -2,20 +2,16 @@
 
 ghost use Rattle.std.specs.Prelude.{◌≡◌, not, position};
 ghost use Rattle.std.specs.List.{prefix_len};
+ghost use Rattle.ceal_base.specs.Digits as digits;
 ghost use Rattle.ceal_lex.specs.Characters as characters;
+
+use ceal_base::digits::is_digit;
 
 /// Whether a byte is white space: a space, a tab, a CR or an LF.
 pub fn is_space(byte: u8) -> bool
     ensures { result ≡ characters.is_space byte }
 {
     matches!(byte, b' ' | b'\t' | b'\r' | b'\n')
-}
-
-/// Whether a byte is a decimal digit.
-pub fn is_digit(byte: u8) -> bool
-    ensures { result ≡ characters.is_digit byte }
-{
-    matches!(byte, b'0'..=b'9')
 }
 
 /// Whether a byte is a letter or `_`.
@@ -25,7 +21,7 @@ pub fn is_letter(byte: u8) -> bool
     matches!(byte, b'A'..=b'Z' | b'a'..=b'z' | b'_')
 }
 
-/// Whether a byte may stand in a word behind its first.
+/// Whether a byte may stand in a word after its first.
 pub fn is_word_byte(byte: u8) -> bool
     ensures { result ≡ characters.is_word_byte byte }
 {
@@ -41,7 +37,7 @@ fn word_end(bytes: &[u8]) -> Option<usize>
 
 /// Where the first byte stands that is no digit.
 fn digits_end(bytes: &[u8]) -> Option<usize>
-    ensures { result ≡ position (λ b. not (characters.is_digit b)) bytes.now }
+    ensures { result ≡ position (λ b. not (digits.is_digit b)) bytes.now }
 {
     bytes.iter().position(|byte| !is_digit(*byte))
 }
@@ -55,7 +51,7 @@ pub fn word_length(bytes: &[u8]) -> usize
 
 /// How many bytes at the front are digits.
 pub fn digits_length(bytes: &[u8]) -> usize
-    ensures { result ≡ prefix_len characters.is_digit bytes.now }
+    ensures { result ≡ prefix_len digits.is_digit bytes.now }
 {
     digits_end(bytes).unwrap_or(bytes.len())
 }

@@ -1,16 +1,18 @@
 // What stands at the front of bytes.
 
 ghost use Rattle.std.specs.Prelude.{◌<◌, length, IfOk};
+ghost use Rattle.ceal_base.specs.Digits as decimal;
 ghost use Rattle.ceal_lex.specs.Characters as class;
 ghost use Rattle.ceal_lex.specs.Pieces.{BeginsComment};
 ghost use Rattle.ceal_lex.specs.Front.{BeginsWith, is_other, IsFront, IsTaken};
 
-use crate::characters::{digits_length, is_digit, is_letter, is_space, word_length};
+use crate::characters::{digits_length, is_letter, is_space, word_length};
 use crate::comments::{comment_length, line_length};
 use crate::number::number;
 use crate::signs::longest_sign;
 use crate::token::TokenKind;
 use crate::words::reserved;
+use ceal_base::digits::is_digit;
 use ceal_base::fault::FaultCode;
 use ceal_base::no_memory::NoMemory;
 use ceal_base::text::Text;
@@ -60,7 +62,7 @@ fn word(alloc: Global, bytes: &[u8]) -> Result<Front, NoMemory>
 
 /// A number.
 fn digits(bytes: &[u8]) -> Front
-    requires { BeginsWith class.is_digit bytes.now }
+    requires { BeginsWith decimal.is_digit bytes.now }
     ensures { IsFront result bytes.now }
 {
     let length = digits_length(bytes);

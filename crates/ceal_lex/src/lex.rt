@@ -17,7 +17,7 @@ use ceal_base::items::Items;
 use ceal_base::no_memory::NoMemory;
 use std::alloc::Global;
 
-/// The span of so many bytes from byte `at` on.
+/// The span of `length` bytes from byte `at` on.
 fn span(at: usize, length: usize) -> Span
     requires { at + length < 2 ^ 32 }
     ensures { result ≡ record { from = at; to = at + length } }
@@ -115,5 +115,6 @@ pub fn one_reading()
 /// A source has a list of tokens, or a first fault.
 pub fn either()
     ensures law { (source : List ℕ) (marked : Bool)
-        → ((ts : List TokenRecord) × AreTokens source marked ts) ⊎ ((f : FaultRecord) × IsFirstFault source f) }
+        → ((ts : List TokenRecord) × AreTokens source marked ts)
+        ⊎ ((f : FaultRecord) × IsFirstFault source f) }
 {}

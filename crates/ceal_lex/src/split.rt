@@ -16,7 +16,7 @@ fn is_mark(text: &[u8]) -> bool
 }
 
 /// The parts of an input. The line between them is the first whose bytes are `%%`, or `%%` and one CR.
-/// Comments count for nothing here.
+/// Comments are not looked at here.
 pub fn split(input: &[u8]) -> Split
     requires { length input.now < 2 ^ 32 }
     ensures parts { IsSplit input.now result }

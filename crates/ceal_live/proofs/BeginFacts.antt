@@ -1,7 +1,7 @@
 -- The sets with which the rounds begin.
-use Rattle.std.proofs.Common.{◌≡◌, ℕ, zero, suc, ◌+◌, ◌^◌, ◌≤◌, Bool, true, false, ◌==◌, ◌||◌, List, [], ◌∷◌, ◌++◌, length, slice_get, refl, ap, sym, ◌∙◌, arith, length-append}
-use Rattle.ceal_flow.specs.Live.{uses, uses_at, Live}
-use Rattle.ceal_flow.specs.Paths.{Path, stays}
+use Rattle.std.proofs.Common.{◌≡◌, ℕ, zero, suc, ◌+◌, ◌^◌, ◌≤◌, Bool, true, false, ◌==◌, ◌||◌, List, [], ◌∷◌, ◌++◌, length, slice_get, refl, sym, ◌∙◌, arith, length-append}
+use Rattle.ceal_flow.specs.Live.{uses, uses_at}
+use Rattle.ceal_flow.specs.Paths.{stays}
 use Rattle.ceal_flow.specs.Sets.{is_in, IsAscending, set_at}
 use Rattle.ceal_flow.specs.declared.block.GraphBlock.{GraphBlock}
 use Rattle.ceal_live.specs.Rounds.{Underway, Begun}

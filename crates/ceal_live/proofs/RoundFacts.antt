@@ -1,13 +1,13 @@
 -- What one update of a set does.
-use Rattle.std.proofs.Common.{◌≡◌, ◌≢◌, ◌⊎◌, inl, inr, ◌↔◌, ℕ, zero, suc, ◌+◌, ◌-◌, ◌^◌, ◌<◌, ◌≤◌, Bool, true, false, ◌||◌, ◌&&◌, not, Option, Some, None, IsTrue, List, [], ◌∷◌, ◌++◌, length, slice_get, slice_set, slice_index_or, take, get_or, Contains, refl, ap, sym, ◌∙◌, subst, arith}
+use Rattle.std.proofs.Common.{◌≡◌, ◌≢◌, ◌⊎◌, inl, inr, ℕ, zero, suc, ◌-◌, ◌^◌, ◌<◌, ◌≤◌, Bool, true, false, ◌||◌, ◌&&◌, not, Option, Some, None, List, [], ◌∷◌, length, slice_get, slice_set, Contains, refl, ap, sym, ◌∙◌, subst, arith}
 use Rattle.std.proofs.lemmas.Bool.Decides.{eqb_tells}
 use Rattle.std.proofs.lemmas.List.Elements.{Contains-push, Contains-push_cases, Contains-append_cases, Contains-append_left, Contains-append_right}
-use Rattle.ceal_flow.specs.Live.{uses, uses_at, assigns, stmt_assigns, keeps, Live, AreLiveSets}
+use Rattle.ceal_flow.specs.Live.{uses_at, stmt_assigns, keeps, Live, AreLiveSets}
 use Rattle.ceal_flow.specs.Paths.{Path, stays, jumps_to, jumps, jumps_at, test_at}
 use Rattle.ceal_flow.specs.Sets.{is_in, is_that, IsAscending, set_at}
 use Rattle.ceal_flow.specs.declared.block.GraphBlock.{GraphBlock}
 use Rattle.ceal_flow.specs.declared.block.GraphBlock.TheVariants.{Done, Test, Act, Unreached}
-use Rattle.ceal_live.specs.Rounds.{comes, IsClosed, Underway, Begun, room}
+use Rattle.ceal_live.specs.Rounds.{comes, IsClosed, Underway, room}
 
 or-cases : (a b : Bool) → (a || b) ≡ true → (a ≡ true) ⊎ (b ≡ true)
 or-cases true b e = inl refl
@@ -71,7 +71,7 @@ room-set (x ∷ xs) zero s l m few = omega arith
 room-set (x ∷ xs) (suc at) s l m few = let h = room-set xs at s (omega arith) m few in omega (arith, h)
 
 module _ (w at : ℕ) (old : Sets) where
-  -- the set that was taken out counts for nothing
+  -- the set that was taken out does not matter
   taken-less : (c : ℕ) → at < length old → is_in w (set_at (slice_set old at []) c) ≡ true → is_in w (set_at old c) ≡ true
   taken-less c l h = elim (eqb_tells c at) [
     | inl p ↦ let none : is_in w (set_at (slice_set old at []) c) ≡ false = rw (p.1, set-same old at [] l) refl in cc

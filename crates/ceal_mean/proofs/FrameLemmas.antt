@@ -1,34 +1,18 @@
 -- The frames, of which the code keeps the running one at the end.
-use Rattle.std.proofs.Common.{◌≡◌, ◌∙◌, Option, Some, None, List, [], ◌∷◌, ◌++◌, if◌then◌else◌, refl, ap, reverse}
+use Rattle.std.proofs.Common.{◌≡◌, ◌∙◌, Option, Some, None, List, [], ◌∷◌, ◌++◌, refl, ap, reverse}
 use Rattle.std.proofs.lemmas.List.{reverse-append}
 use Rattle.ceal_base.specs.Block.{Blocks}
 use Rattle.ceal_base.specs.declared.typed.Typed.{Typed}
 use Rattle.ceal_base.specs.declared.typed.TypedStmt.{TypedStmt, out-TypedStmt}
-use Rattle.ceal_base.specs.declared.word.Word.{Word}
-use Rattle.ceal_mean.specs.Exec.{effect, is_over, settled, stepped}
+use Rattle.ceal_mean.specs.Exec.{effect, settled, stepped}
 use Rattle.ceal_mean.specs.Frame.{Item, Frame, State}
-use Rattle.ceal_mean.specs.Jumps.{ready}
 use Rattle.ceal_mean.specs.Steps.{Begun, begun, begun_with, advanced}
-use Rattle.ceal_mean.specs.Todo.{Next, first_of}
+use Rattle.ceal_mean.specs.Todo.{first_of}
 
 pub reverse-push : (fs : List Frame) (f : Frame) → reverse (fs ++ f ∷ []) ≡ f ∷ reverse fs
 reverse-push fs f = reverse-append fs (f ∷ [])
 
 pub ruleset frame_steps = (reverse-push)
-
--- a frame that has nothing left to do is taken off
-pub settled-over : (f : Frame) (below : List Frame) → ready f.todo ≡ [] → settled (f ∷ below) ≡ settled below
-settled-over f below h = rw h refl
-
-begun-items : (items : List Item) (env : List Word) (below others : List Frame) (next : Next) → first_of items ≡ Some next
-    → begun (if is_over items then others else record { todo = items; env = env } ∷ below) ≡ begun_with (Some next) env below
-begun-items [] env below others next h = cc
-begun-items (item ∷ rest) env below others next h = ap (λ o. begun_with o env below) h
-
--- any other begins with its first statement
-pub settled-begun : (f : Frame) (below : List Frame) (next : Next) → first_of (ready f.todo) ≡ Some next
-    → begun (settled (f ∷ below)) ≡ begun_with (Some next) f.env below
-settled-begun f below next h = begun-items (ready f.todo) f.env below (settled below) next h
 
 -- and a step does that statement
 module _ (p : Typed) (m : Blocks) where

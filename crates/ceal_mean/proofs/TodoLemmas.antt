@@ -58,9 +58,6 @@ ready-step (Continue at) items r b c = absurd (c at refl)
 
 -- where the part that is taken is a loop, that loop turns
 module _ (ps qs : List Part) (p : Part) (w : Bor TypedStmt) (e : ps ≡ qs ++ p ∷ []) (is : p ≡ Turn w) where
-  pub turn-next : next_turn (joined ps) ≡ Again w.now ∷ joined qs
-  turn-next = rw (turn-first ps qs p w e is) refl
-
   pub turn-behind : ready_behind (joined ps) ≡ ready (joined qs)
   unfolding ready
   turn-behind = rw (turn-first ps qs p w e is) refl
@@ -69,7 +66,7 @@ module _ (ps qs : List Part) (p : Part) (w : Bor TypedStmt) (e : ps ≡ qs ++ p 
   unfolding ready
   turn-ready = rw (turn-first ps qs p w e is) refl
 
--- where it is a body, its statements count for nothing as to loops
+-- where it is a body, its statements add no loop
 module _ (ps qs : List Part) (p : Part) (ss : Bor (List TypedStmt)) (e : ps ≡ qs ++ p ∷ []) (is : p ≡ Body ss) where
   pub body-next : next_turn (joined ps) ≡ next_turn (joined qs)
   body-next = rw (body-first ps qs p ss e is) (next_turn-body ss.now (joined qs))

@@ -56,6 +56,7 @@ abbrev pub frame_of : Option TypedFunction → List Word → List Frame
 frame_of None args = []
 frame_of (Some f) args = record { todo = map Do f.body; env = first_env f args } ∷ []
 
+-- the frames that a run of the function begins with
 abbrev pub entered : Typed → ℕ → List Word → List Frame
 entered p function args = frame_of (slice_get p.functions function) args
 
@@ -89,6 +90,7 @@ effect p m env rest below s (While at test body) = record {
 }
 effect p m env rest below s _ = record { memory = m; frames = record { todo = rest; env = env } ∷ below }
 
+-- whether no items are left
 abbrev pub is_over : List Item → Bool
 is_over [] = true
 is_over (item ∷ rest) = false

@@ -9,6 +9,7 @@ pub data Item : Type 0 where
   Do : TypedStmt → Item
   Again : TypedStmt → Item
 
+-- the statement of an item
 abbrev pub statement_of : Item → TypedStmt
 statement_of (Do s) = s
 statement_of (Again w) = w

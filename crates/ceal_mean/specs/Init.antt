@@ -20,6 +20,7 @@ unfoldable mutual
       if holds (value_of env m test) then set_by_row env m words first else set_by_row env m words second
   set_by env m words _ = words
 
+  -- the words of a block after the statements of a row
   pub set_by_row : List Word → Blocks → List Word → {n : _} → Row_of-TypedStmt n → List Word
   set_by_row env m words end_of-TypedStmt = words
   set_by_row env m words (more_of-TypedStmt s rest) = set_by_row env m (set_by env m words s) rest

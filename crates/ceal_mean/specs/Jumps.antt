@@ -9,7 +9,7 @@ next_turn [] = []
 next_turn (Do s ∷ rest) = next_turn rest
 next_turn (Again w ∷ rest) = Again w ∷ rest
 
--- the items that are left when all jumps are made that come first. A `return` leaves none, a `break` those behind the
+-- the items that are left when all jumps are made that come first. A `return` leaves none, a `break` those after the
 -- first `Again`, and a `continue` those from it on
 unfoldable mutual
   pub ready : List Item → List Item
@@ -19,7 +19,7 @@ unfoldable mutual
   ready (Do (Continue at) ∷ rest) = next_turn rest
   ready (item ∷ rest) = item ∷ rest
 
-  -- the same of the items behind the first `Again`
+  -- the same of the items after the first `Again`
   pub ready_behind : List Item → List Item
   ready_behind [] = []
   ready_behind (Do s ∷ rest) = ready_behind rest

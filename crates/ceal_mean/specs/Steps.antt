@@ -13,10 +13,12 @@ pub record Begun : Type 0 where
   pub stmt : TypedStmt
   pub frames : List Frame
 
+-- the next statement of a frame, and the frames with what is left
 abbrev pub begun_with : Option Next → List Word → List Frame → Option Begun
 begun_with None env below = None
 begun_with (Some next) env below = Some (record { stmt = next.stmt; frames = record { todo = next.rest; env = env } ∷ below })
 
+-- the next statement of the first frame, and the frames with what is left
 abbrev pub begun : List Frame → Option Begun
 begun [] = None
 begun (f ∷ below) = begun_with (first_of f.todo) f.env below

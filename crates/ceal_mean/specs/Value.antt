@@ -32,6 +32,7 @@ unfoldable mutual
   form_value env m kind (Field' _ a shape field) = field_of m shape (operand_value env m a) field (default_of kind)
   form_value env m kind (Address' _ a shape field) = address_of m shape (operand_value env m a) field
 
+  -- the value of an operand
   pub operand_value : List Word → Blocks → {n : _} → Row_of-TypedExpr n → Word
   operand_value env m end_of-TypedExpr = Null
   operand_value env m (more_of-TypedExpr span kind form rest) = form_value env m kind form

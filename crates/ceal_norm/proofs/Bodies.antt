@@ -168,7 +168,7 @@ module _ (code : Code) (f : ℕ) where
   unfolding reached
   reached-none marks = refl
 
-  -- the indices of the part behind its first
+  -- the indices of the part after its first
   behind : List Cmd → ℕ
   behind [] = 0
   behind (c ∷ cs) = length cs

@@ -1,5 +1,5 @@
 -- The lists and marks of which the entries are made.
-use Rattle.std.proofs.Common.{◌≡◌, ◌⊎◌, inl, inr, ℕ, zero, suc, ◌+◌, ◌==◌, ◌<◌, ◌≤◌, Bool, true, false, ◌||◌, ◌&&◌, if◌then◌else◌, nat_le, Some, List, [], ◌∷◌, ◌++◌, length, take, get_or, replicate, slice_get, slice_set, slice_index_or, refl, ap, sym, ◌∙◌, arith, append-nil, append_assoc, length-append, add-one}
+use Rattle.std.proofs.Common.{◌≡◌, ◌⊎◌, inl, inr, ℕ, zero, suc, ◌+◌, ◌==◌, ◌<◌, ◌≤◌, Bool, true, false, ◌||◌, ◌&&◌, if◌then◌else◌, nat_le, List, [], ◌∷◌, ◌++◌, length, take, get_or, replicate, refl, ap, sym, ◌∙◌, arith, append-nil, append_assoc, add-one}
 use Rattle.std.proofs.Math.Dec.{leb}
 use Rattle.std.proofs.lemmas.Bool.{le-leb}
 use Rattle.std.proofs.lemmas.Bool.Decides.{leb_tells}
@@ -43,22 +43,6 @@ pub marked-none : (n c : ℕ) → is_marked (replicate n false) c ≡ false
 marked-none zero c = refl
 marked-none (suc n) zero = refl
 marked-none (suc n) (suc c) = marked-none n c
-
-pub marked-set : (marks : List Bool) (b c : ℕ) → b < length marks → c < length marks → is_marked (slice_set marks b true) c ≡ (b == c || is_marked marks c)
-marked-set [] b c h l = absurd (omega (arith, h))
-marked-set (m ∷ ms) zero zero h l = refl
-marked-set (m ∷ ms) zero (suc c) h l = sym (ap (λ t. t || is_marked ms c) (apart c))
-  where
-    apart : (c : ℕ) → (0 == suc c) ≡ false
-    apart c = grind arith
-marked-set (m ∷ ms) (suc b) zero h l = sym (ap (λ t. t || m) (apart b))
-  where
-    apart : (b : ℕ) → (suc b == 0) ≡ false
-    apart b = grind arith
-marked-set (m ∷ ms) (suc b) (suc c) h l = marked-set ms b c (omega (arith, h)) (omega (arith, l)) ∙ ap (λ t. t || is_marked ms c) (same b c)
-  where
-    same : (b c : ℕ) → (b == c) ≡ (suc b == suc c)
-    same b c = grind arith
 
 -- the table
 pub table-none : (g : Graph) → table g 0 ≡ []

@@ -2,7 +2,6 @@
 use Rattle.std.proofs.Common.{◌≡◌, inl, inr, ℕ, ◌<◌, ◌&&◌, Bool, true, false, Option, Some, None, IsSome, if◌then◌else◌, List, [], ◌∷◌, length, map, slice_get, unwrap_or, Contains, All, refl, sym, ap, ap₂, ◌∙◌, subst}
 use Rattle.std.proofs.lemmas.Bool.{lt-ltb}
 use Rattle.std.proofs.lemmas.List.Elements.{All-head, All-tail}
-use Rattle.ceal_base.specs.Shapes.{row_at}
 use Rattle.ceal_base.specs.Usage.{WithoutOwn, OperandWithoutOwn}
 use Rattle.ceal_base.specs.WellTyped.{Context, FormTyped, OperandTyped, ExprTyped, OperandsSuit, LeftSuits, StartsRow, FormStartsRow, kind_given, Comparable, Suits, IsPointer, operand_kind, plain_kind, address_kind, ArgsSuit}
 use Rattle.ceal_base.specs.declared.kind.FieldKind.{FieldKind}

@@ -169,7 +169,7 @@ module _ (p : Typed) (typed : WellTyped p) (kept : KeepsUsage p) (sets : List (L
           ∙ both-true _ _ (owner-true k fn seen b st)
           (own-fit p.structs (kinds_of code k) known (kinds_of code k) (set_at sets b) (λ v i. own-fits v (seen-live k fn seen b v st i).1 (cover v i)))
 
-      -- and of that behind a read
+      -- and of that after a read
       pub read-fits : (seen : List ℕ) (b n : ℕ) → StandsIn p k fn seen b → is_entry (graph_of p) b ≡ true → ((v : ℕ) → is_in v (set_at sets b) ≡ true → (v ≡ n → ⊥) → Knows known v)
           → read_fits code k known n (slice_get code.units (entries_before (graph_of p) b)) (closure_args src n b) ≡ true
       read-fits seen b n st e cover =
@@ -178,14 +178,14 @@ module _ (p : Typed) (typed : WellTyped p) (kept : KeepsUsage p) (sets : List (L
           (others-fit p.structs (kinds_of code k) known (kinds_of code k) n (set_at sets b) (λ v i d. own-fits v (seen-live k fn seen b v st i).1 (cover v i d)))
 
       module _ (seen : List ℕ) where
-        abbrev Typed_here : TypedExpr → Type 0
-        Typed_here e = ExprTyped (context p fn.f) seen e
+        abbrev TypedHere : TypedExpr → Type 0
+        TypedHere e = ExprTyped (context p fn.f) seen e
 
         has-of : (v : ℕ) → v < length fn.f.kinds → Knows known v → Has (context p fn.f) seen fn.f.kinds known v
         has-of v l h = let t = there fn.f.kinds v l in rw (h, t.is) refl
 
         -- the type of an expression whose variables are known
-        pub expr-is : (e : TypedExpr) → Typed_here e → ((v : ℕ) → is_in v (mentions e) ≡ true → Knows known v) → type_of p.structs (kinds_of code k) known (expr_code e) ≡ Some (type_for e.kind)
+        pub expr-is : (e : TypedExpr) → TypedHere e → ((v : ℕ) → is_in v (mentions e) ≡ true → Knows known v) → type_of p.structs (kinds_of code k) known (expr_code e) ≡ Some (type_for e.kind)
         expr-is e t h =
             subst (λ ks. type_of p.structs ks known (expr_code e) ≡ Some (type_for e.kind)) (sym (kinds-are k fn))
             (form-type (context p fn.f) seen fn.f.kinds known e.kind e.form t (form-without (context p fn.f) seen fn.none e.kind e.form t)
@@ -209,7 +209,7 @@ module _ (p : Typed) (typed : WellTyped p) (kept : KeepsUsage p) (sets : List (L
         held-place (Some (Ptr s)) asked e = cc
         held-place None asked e = cc
 
-        pub place-fits : (n : ℕ) (asked : Kind) (e : TypedExpr) → slice_get fn.f.kinds n ≡ Some asked → Typed_here e → kind_held e.kind ≡ Some asked
+        pub place-fits : (n : ℕ) (asked : Kind) (e : TypedExpr) → slice_get fn.f.kinds n ≡ Some asked → TypedHere e → kind_held e.kind ≡ Some asked
             → ((v : ℕ) → is_in v (mentions e) ≡ true → Knows known v) → place_fits (slice_get (kinds_of code k) n) (type_of p.structs (kinds_of code k) known (expr_code e)) ≡ true
         place-fits n asked e slot t held h =
             ap (λ ks. place_fits (slice_get ks n) (type_of p.structs (kinds_of code k) known (expr_code e))) (kinds-are k fn)
@@ -222,13 +222,13 @@ module _ (p : Typed) (typed : WellTyped p) (kept : KeepsUsage p) (sets : List (L
         held-write (Some (Ptr s)) asked given e t = cc
         held-write None asked given e t = cc
 
-        pub write-fits : (place e : TypedExpr) (asked : Kind) → Typed_here place → kind_held place.kind ≡ Some asked → ExprSuits (context p fn.f) seen asked e
+        pub write-fits : (place e : TypedExpr) (asked : Kind) → TypedHere place → kind_held place.kind ≡ Some asked → ExprSuits (context p fn.f) seen asked e
             → ((v : ℕ) → is_in v (mentions place) ≡ true → Knows known v) → ((v : ℕ) → is_in v (mentions e) ≡ true → Knows known v)
             → write_fits (type_of p.structs (kinds_of code k) known (expr_code place)) (type_of p.structs (kinds_of code k) known (expr_code e)) ≡ true
         write-fits place e asked t held u h i = ap₂ write_fits (expr-is place t h) (expr-is e u.0 i) ∙ held-write place.kind asked e.kind held u.1
 
         -- an `alloc` by an initialiser
-        pub alloc-fits : (n j shape : ℕ) (asked : Kind) (args : List TypedExpr) → slice_get fn.f.kinds n ≡ Some asked → asked ≡ Ptr shape → All Typed_here args
+        pub alloc-fits : (n j shape : ℕ) (asked : Kind) (args : List TypedExpr) → slice_get fn.f.kinds n ≡ Some asked → asked ≡ Ptr shape → All TypedHere args
             → AllocSuits (slice_get p.functions j) shape args → IsInitialiser (slice_get p.functions j) → ((v : ℕ) → is_in v (all_mentions args) ≡ true → Knows known v)
             → alloc_fits code k known (slice_get (kinds_of code k) n) (slice_get code.functions j) (map expr_code args) ≡ true
         alloc-fits n j shape asked args slot is t suits usage h =
@@ -251,7 +251,7 @@ module _ (p : Typed) (typed : WellTyped p) (kept : KeepsUsage p) (sets : List (L
             args-seen v i = (exprs-seen (context p fn.f) seen args t v i).1
 
         -- a call of a core function
-        arg-fits : (j : ℕ) (o : Function p j) (args : List TypedExpr) → All Typed_here args → ArgsSuit (param_kinds o.f) args
+        arg-fits : (j : ℕ) (o : Function p j) (args : List TypedExpr) → All TypedHere args → ArgsSuit (param_kinds o.f) args
             → ((v : ℕ) → is_in v (all_mentions args) ≡ true → Knows known v) → (v : ℕ) → is_in v (set_at sets (entry-of j o)) ≡ true
             → fits_maybe (slice_get (kinds_of code j) v) (type_of p.structs (kinds_of code k) known (arg_at (slice_get args v))) ≡ true
         arg-fits j o args t suits h v i =
@@ -264,7 +264,7 @@ module _ (p : Typed) (typed : WellTyped p) (kept : KeepsUsage p) (sets : List (L
             ap₂ fits_maybe theirs (ap (λ a. type_of p.structs (kinds_of code k) known (arg_at a)) r.is ∙ expr-is r.e r.typed (λ u m. h u (r.inside u m)))
             ∙ suits-fits r.kind r.e.kind r.suits
 
-        call-of : (j : ℕ) (o : Function p j) (args : List TypedExpr) → All Typed_here args → ArgsSuit (param_kinds o.f) args
+        call-of : (j : ℕ) (o : Function p j) (args : List TypedExpr) → All TypedHere args → ArgsSuit (param_kinds o.f) args
             → ((v : ℕ) → is_in v (all_mentions args) ≡ true → Knows known v)
             → call_fits code k known j (slice_get code.functions j) (call_args args (entry_set src (slice_get (graph_of p).functions j))) ≡ true
         call-of j o args t suits h =
@@ -274,7 +274,7 @@ module _ (p : Typed) (typed : WellTyped p) (kept : KeepsUsage p) (sets : List (L
             ∙ ap (λ u. entry_fits code k known j u (call_args args (set_at sets (entry-of j o)))) (unit-is j o (numbers_below o.f.params) (entry-of j o) o.first (entry-is j o))
             ∙ calls-fit p.structs (kinds_of code k) known (kinds_of code j) args (set_at sets (entry-of j o)) (arg-fits j o args t suits h)
 
-        pub call-fits : (j : ℕ) (args : List TypedExpr) → All Typed_here args → CallSuits (slice_get p.functions j) args → IsCore (slice_get p.functions j)
+        pub call-fits : (j : ℕ) (args : List TypedExpr) → All TypedHere args → CallSuits (slice_get p.functions j) args → IsCore (slice_get p.functions j)
             → ((v : ℕ) → is_in v (all_mentions args) ≡ true → Knows known v)
             → call_fits code k known j (slice_get code.functions j) (call_args args (entry_set src (slice_get (graph_of p).functions j))) ≡ true
         call-fits j args t suits usage h =

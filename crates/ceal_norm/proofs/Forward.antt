@@ -38,7 +38,7 @@ module _ (g : Graph) where
   abbrev Left : ℕ → ℕ → ℕ → Type 0
   Left from to c = (m : ℕ) × (from ≤ m) × (m < to) × Jumps m c
 
-  -- jumps from a part to what stands behind it
+  -- jumps from a part to what follows it
   abbrev After : ℕ → ℕ → ℕ → Type 0
   After from to c = (b : ℕ) → from ≤ b → b < to → Jumps b c → Good b c
 
@@ -87,7 +87,7 @@ module _ (g : Graph) where
     act-laws : Laws n (Act s after ∷ []) n 1 after true
     act-laws = record { good = act-good; left = λ e. inr (n, omega arith, omega arith, act-jumps) }
 
-  -- one part behind another
+  -- one part after another
   module _ (start mid : ℕ) (xs ys : List GraphBlock) (n k m after : ℕ) (on : Bool) (long : length xs ≡ k)
       (one : Laws start xs n k mid true) (two : Laws mid ys (n + k) m after on) where
     seq-good : (i : ℕ) (block : GraphBlock) (c : ℕ) → slice_get (xs ++ ys) i ≡ Some block → Contains (jumps block) c → Good (n + i) c
@@ -118,7 +118,7 @@ module _ (g : Graph) where
   no-jumps : (block : GraphBlock) (c : ℕ) → block ≡ Unreached → Contains (jumps block) c → ⊥
   no-jumps block c e j = contains-none c (subst (λ x. Contains (jumps x) c) e j)
 
-  -- a part that does not go on, and what is left out behind it
+  -- a part that does not go on, and what is left out after it
   last-laws : (start mid : ℕ) (xs : List GraphBlock) (n k m after : ℕ) → Laws start xs n k mid false
       → Laws start (xs ++ replicate m Unreached) n (k + m) after false
   last-laws start mid xs n k m after one = record {
@@ -239,7 +239,7 @@ module _ (g : Graph) where
   behind-placed xs ys n k m true long e h = placed-right g.blocks n xs ys k (sym long) h
   behind-placed xs ys n k m false long e h = cc
 
-  -- what stands behind a statement is entered from it
+  -- what follows a statement is entered from it
   mid-entered : (start mid n k m : ℕ) → (start ≡ mid) ⊎ Left n (n + k) mid → Entered n (n + (k + m)) start → Entered (n + k) (n + k + m) mid
   mid-entered start mid n k m (inl e) h =
       entered-within n (n + (k + m)) (n + k) (n + k + m) mid (omega arith) (omega arith) (subst (λ x. Entered n (n + (k + m)) x) e h)

@@ -33,7 +33,7 @@ match (Some x) P h = record { item = x; is = refl; holds = h }
 contains-two : (x y c : ℕ) → Contains (x ∷ y ∷ []) c → (x ≡ c) ⊎ (y ≡ c)
 contains-two x y c h = elim (contains-cases x (y ∷ []) c h) [ inl e ↦ inl e | inr k ↦ inr (contains-one y c k) ]
 
--- a variable is live where a block uses it, and where it is live behind a block that does not assign it
+-- a variable is live where a block uses it, and where it is live after a block that does not assign it
 module _ (blocks : List GraphBlock) (sets : List (List ℕ)) (live : AreLiveSets blocks sets) where
   pub used-live : (b v : ℕ) (block : GraphBlock) → slice_get blocks b ≡ Some block → is_in v (uses block) ≡ true → is_in v (set_at sets b) ≡ true
   used-live b v block look h = (live.exact b v (get-within blocks b block look)).1 (b, stays, rw look h)

@@ -79,7 +79,7 @@ ends-none (Test test a b ∷ xs) ys (suc i) h l = ends-none xs ys i h (omega (ar
 ends-none (Act s next ∷ xs) ys (suc i) h l = ends-none xs ys i h (omega (arith, l))
 ends-none (Unreached ∷ xs) ys (suc i) h l = ends-none xs ys i h (omega (arith, l))
 
--- one ends with them, and the others behind
+-- one ends with them, and the others follow
 ends-one : (xs ys : List GraphBlock) (i j : ℕ) → NoEnd xs → i ≡ length xs + 1 + j → ends_before (xs ++ Done ∷ ys) i ≡ ends_before ys j + 1
 unfolding ends_before
 ends-one [] ys zero j h e = absurd (omega (arith, e))

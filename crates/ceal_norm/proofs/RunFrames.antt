@@ -112,7 +112,7 @@ module _ (code : Code) (u i : ℕ) where
       let whole : (unit_at code u).body ≡ h.before ++ ((c ∷ rest) ++ h.after) = subst (λ x. (unit_at code u).body ≡ h.before ++ (x ++ h.after)) e h.body in
       ap (λ o. unwrap_or o DoneCmd) (ap (λ b. slice_get b i) whole ∙ get-append_right h.before ((c ∷ rest) ++ h.after) i 0 (omega (arith, at)))
 
-  -- what stands behind the first command, and behind a part of that
+  -- what follows the first command, and after a part of that
   pub part-behind : (c : Cmd) (rest : List Cmd) → PartAt code u i (c ∷ rest) → PartAt code u (i + 1) rest
   part-behind c rest h =
       let at = h.at in

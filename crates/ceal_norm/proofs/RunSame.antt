@@ -14,7 +14,7 @@ use Rattle.ceal_flow.specs.Lowering.{first_of, graph_of}
 use Rattle.ceal_flow.specs.Program.{Graph}
 use Rattle.ceal_flow.specs.Sets.{set_at}
 use Rattle.ceal_mean.specs.Value.{variable_of}
-use Rattle.ceal_norm.specs.Laws.{IsClosed, IsForward, RunsAs, Run_law, source_of}
+use Rattle.ceal_norm.specs.Laws.{IsClosed, IsForward, RunsAs, RunLaw, source_of}
 use Rattle.ceal_norm.specs.Units.{code_of}
 use Rattle.ceal_norm.proofs.Closed.{graph-closed}
 use Rattle.ceal_norm.proofs.Forward.{graph-forward}
@@ -77,5 +77,5 @@ module _ (p : Typed) (sets : List (List ℕ)) (typed : WellTyped p) (kept : Keep
   runs-as f args inputs fuel core =
       run-same fuel 0 (record { inputs = inputs; made = [] }) (entered graph f args) (started the_code f args) (start-along f args core)
 
-pub run-law : Run_law
+pub run-law : RunLaw
 run-law p sets typed kept live = runs-as p sets typed kept live (graph-closed p) (graph-forward p)

@@ -387,7 +387,7 @@ module _ (p : Typed) (sets : List (List ℕ)) (typed : WellTyped p) (kept : Keep
             along = kept-along _ is none;
           })
 
-      -- what comes behind a call
+      -- what comes after a call
       rest-along : is_entry graph next ≡ true → stmt_assigns st ≡ None
           → AllAlong p sets (record { block = next; env = q.env } ∷ points)
           (code_entered the_code (entry_unit p sets next) (values p.structs (block_at m) env (args_of source next)) below)

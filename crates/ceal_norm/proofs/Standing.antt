@@ -81,7 +81,7 @@ module _ (fs : List TypedFunction) (c : Context) where
 
   module _ (blocks : List GraphBlock) (start done : ℕ) where
     -- the statements still to do stand at a block, where these variables are in scope: they are parts of bodies, each of
-    -- which stands where the part before it leads, and other statements stand where jumps lead out; behind a part that
+    -- which stands where the part before it leads, and other statements stand where jumps lead out; after a part that
     -- does not go on anything may follow
     pub data Stands : List ℕ → ℕ → Type 0 where
       ends : {seen : List ℕ} {at : ℕ} → at ≡ done → Stands seen at
@@ -90,7 +90,7 @@ module _ (fs : List TypedFunction) (c : Context) where
           → Within outer seen → (all_go_on ss ≡ true → Stands outer after)
           → exits.done ≡ done → Within loop seen → Stands loop exits.behind → Stands loop exits.test → Stands seen at
 
-    -- the first statement, what stands behind it where it goes on, and what stands where jumps lead out
+    -- the first statement, what follows it where it goes on, and what stands where jumps lead out
     record Front (s : TypedStmt) (seen : List ℕ) (at : ℕ) : Type 0 where
       n : ℕ
       after : ℕ

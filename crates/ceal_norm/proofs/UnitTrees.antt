@@ -63,7 +63,7 @@ module _ (p : Typed) (typed : WellTyped p) (kept : KeepsUsage p) (sets : List (L
   abbrev all : ℕ
   all = length (graph_of p).blocks
 
-  -- the tree of so many blocks is right at each block behind which there are no more
+  -- the tree of n blocks is right at each block that has at most n blocks after it
   abbrev Grows : ℕ → Type 0
   Grows d = (b i : ℕ) (seen : List ℕ) (known : List Bool) (stepped : Bool) → At seen b → Cover known b → length known ≡ length fn.f.kinds → all ≤ b + d
       → Here i known stepped (tree src d b i)
@@ -130,7 +130,7 @@ module _ (p : Typed) (typed : WellTyped p) (kept : KeepsUsage p) (sets : List (L
       fewer : (c : ℕ) (block : GraphBlock) → slice_get (graph_of p).blocks b ≡ Some block → Contains (jumps block) c → is_entry (graph_of p) c ≡ false → all ≤ c + d
       fewer c block look j e = let l = forward b c (rw look j) e in omega (arith, l, deep)
 
-      -- what is live behind a block that does not assign it is known
+      -- what is live after a block that does not assign it is known
       carried : (c v : ℕ) (block : GraphBlock) → slice_get (graph_of p).blocks b ≡ Some block → keeps v block ≡ true → Contains (jumps block) c → c < all → is_in v (set_at sets c) ≡ true → Knows known v
       carried c v block look keep j within h = cover v (jump-live (graph_of p).blocks sets live b c v block look keep j within h)
 

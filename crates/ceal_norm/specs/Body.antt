@@ -22,6 +22,7 @@ value_command s next n (AllocValue at shape f name args) = command.Alloc (variab
 value_command s next n (ModrefIntValue at) = command.Modref (variable n) ModInt
 value_command s next n (ModrefValue at shape) = command.Modref (variable n) (ModPtr shape)
 
+-- the command of a statement at a block
 abbrev pub stmt_command : Source → ℕ → TypedStmt → Cmd
 stmt_command s next (Declare at n kind value) = value_command s next n value
 stmt_command s next (Assign at n value) = value_command s next n value
@@ -30,6 +31,7 @@ stmt_command s next (Call at f args) =
     command.Call f (call_args args (entry_set s (slice_get s.graph.functions f))) (unit_of s next) (args_of s next)
 stmt_command s next _ = command.Tick
 
+-- the tail call of the unit of block b
 abbrev pub tail_command : Source → ℕ → Cmd
 tail_command s b = command.Tail (unit_of s b) (args_of s b)
 
@@ -58,10 +60,11 @@ abbrev pub AllBelow : ℕ → List Pending → Type 0
 AllBelow n [] = Unit {0}
 AllBelow n (p ∷ ps) = (p.block < n) × AllBelow n ps
 
--- what is put behind a statement, and behind a test at an index
+-- what is put after a statement, and after a test at an index
 abbrev pub following : Bool → ℕ → List Pending
 following true next = record { block = next; test = None } ∷ []
 following false next = []
 
+-- the two parts of a test at an index, which are still to be written
 abbrev pub parts : ℕ → ℕ → ℕ → List Pending
 parts at first second = record { block = first; test = None } ∷ record { block = second; test = Some at } ∷ []

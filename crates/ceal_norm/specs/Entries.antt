@@ -10,6 +10,7 @@ use Rattle.ceal_flow.specs.Sets.{is_in}
 use Rattle.ceal_flow.specs.declared.block.GraphBlock.{GraphBlock}
 use Rattle.ceal_flow.specs.declared.block.GraphBlock.TheVariants.{Act}
 
+-- whether the value is that of a read
 abbrev pub is_read : TypedValue → Bool
 is_read (Read at e) = true
 is_read _ = false
@@ -26,6 +27,7 @@ abbrev pub behind : GraphBlock → List ℕ
 behind (Act s next) = if has_closure s then next ∷ [] else []
 behind _ = []
 
+-- the blocks that follow a read or a call, over all blocks
 unfoldable pub all_behind : List GraphBlock → List ℕ
 all_behind [] = []
 all_behind (block ∷ blocks) = behind block ++ all_behind blocks
@@ -35,6 +37,7 @@ unfoldable pub all_jumps : List GraphBlock → List ℕ
 all_jumps [] = []
 all_jumps (block ∷ blocks) = jumps block ++ all_jumps blocks
 
+-- how many times b is in the list
 unfoldable pub count : ℕ → List ℕ → ℕ
 count b [] = 0
 count b (c ∷ cs) = if c == b then count b cs + 1 else count b cs

@@ -10,6 +10,7 @@ use Rattle.ceal_code.specs.declared.expr.VarId.{VarId}
 use Rattle.ceal_code.specs.declared.function.InitStmt.{InitStmt, Set}
 use Rattle.ceal_code.specs.declared.function.InitStmt.TheViews as init
 
+-- the variable with this number
 abbrev pub variable : ℕ → VarId
 variable n = record { 0 = n }
 
@@ -25,10 +26,12 @@ unfoldable mutual
   form_code (Field' _ a s field) = code.Field (operand_code a) s field
   form_code (Address' _ a s field) = code.Address (operand_code a) s field
 
+  -- the expression of an operand
   pub operand_code : {n : _} → Row_of-TypedExpr n → CodeExpr
   operand_code end_of-TypedExpr = Null
   operand_code (more_of-TypedExpr span kind form rest) = form_code form
 
+-- an expression of the program as one of trace code
 abbrev pub expr_code : TypedExpr → CodeExpr
 expr_code e = form_code e.form
 
@@ -39,10 +42,12 @@ unfoldable mutual
   init_code (If' at test _ first _ second) = init.If (expr_code test) (row_init_code first) (row_init_code second) ∷ []
   init_code _ = []
 
+  -- the statements of an initialiser, of a row
   pub row_init_code : {n : _} → Row_of-TypedStmt n → List InitStmt
   row_init_code end_of-TypedStmt = []
   row_init_code (more_of-TypedStmt s rest) = init_code s ++ row_init_code rest
 
+-- the statements of an initialiser, of a list
 unfoldable pub all_init_code : List TypedStmt → List InitStmt
 all_init_code [] = []
 all_init_code (s ∷ rest) = init_code s ++ all_init_code rest

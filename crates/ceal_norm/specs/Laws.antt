@@ -28,28 +28,31 @@ IsClosed g = (b c : ℕ) → Contains (jumps_at (slice_get g.blocks b)) c → c 
 abbrev pub IsForward : Graph → Type 0
 IsForward g = (b c : ℕ) → Contains (jumps_at (slice_get g.blocks b)) c → is_entry g c ≡ false → b < c
 
-abbrev pub Closed_law : Type 0
-Closed_law = (p : Typed) → IsClosed (graph_of p)
+-- In the graph of a program no jump leads out of it.
+abbrev pub ClosedLaw : Type 0
+ClosedLaw = (p : Typed) → IsClosed (graph_of p)
 
-abbrev pub Forward_law : Type 0
-Forward_law = (p : Typed) → IsForward (graph_of p)
+-- In the graph of a program a jump that leads to no entry leads forwards.
+abbrev pub ForwardLaw : Type 0
+ForwardLaw = (p : Typed) → IsForward (graph_of p)
 
 -- every run of a core function comes to the same memory as that of the graph, in as many steps and with as many new blocks
 abbrev pub RunsAs : Code → Typed → Type 0
 RunsAs code p = (f : ℕ) (args : List Word) (inputs : List Block) (fuel : ℕ) → IsCore (slice_get p.functions f)
     → code_fresh code f args inputs fuel ≡ fresh (graph_of p) f args inputs fuel
 
+-- the graph of a program with its live variables
 abbrev pub source_of : Typed → List (List ℕ) → Source
 source_of p sets = record { graph = graph_of p; live = sets }
 
 -- the code of a program that is well typed and keeps the rules of usage is valid
-abbrev pub Valid_law : Type 0
-Valid_law = (p : Typed) (sets : List (List ℕ)) → WellTyped p → KeepsUsage p → AreLiveSets (graph_of p).blocks sets
+abbrev pub ValidLaw : Type 0
+ValidLaw = (p : Typed) (sets : List (List ℕ)) → WellTyped p → KeepsUsage p → AreLiveSets (graph_of p).blocks sets
     → valid (code_of (source_of p sets)) ≡ true
 
 -- and runs as its graph does
-abbrev pub Run_law : Type 0
-Run_law = (p : Typed) (sets : List (List ℕ)) → WellTyped p → KeepsUsage p → AreLiveSets (graph_of p).blocks sets
+abbrev pub RunLaw : Type 0
+RunLaw = (p : Typed) (sets : List (List ℕ)) → WellTyped p → KeepsUsage p → AreLiveSets (graph_of p).blocks sets
     → RunsAs (code_of (source_of p sets)) p
 
 -- the code of the program's units, by its graph and the variables that are live there

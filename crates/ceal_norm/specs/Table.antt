@@ -10,9 +10,11 @@ use Rattle.ceal_norm.specs.Entries.{is_entry, entries_before}
 use Rattle.ceal_norm.specs.Laws.{IsClosed, IsForward}
 use Rattle.ceal_norm.specs.declared.entries.Entry.{Entry}
 
+-- whether the block is marked
 abbrev pub is_marked : List Bool → ℕ → Bool
 is_marked marks b = slice_index_or marks b false
 
+-- whether block b is an entry, and how many entries come before it
 abbrev pub entry_at : Graph → ℕ → Entry
 entry_at g b = record { is_entry = is_entry g b; unit = entries_before g b }
 

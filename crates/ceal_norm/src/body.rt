@@ -109,7 +109,9 @@ fn call_command(
     args: &[TypedExpr],
 ) -> Result<Cmd, NoMemory>
     requires there { next < length plan.now.graph.blocks }
-    ensures { IfOk result (λ c. c ≡ Cmd.Call function (call_args args.now (entry_set plan.now (slice_get plan.now.graph.functions function)))
+    ensures { IfOk result
+        (λ c. c ≡ Cmd.Call function
+        (call_args args.now (entry_set plan.now (slice_get plan.now.graph.functions function)))
         (unit_of plan.now next) (args_of plan.now next)) }
 {
     let vs = plan.entry_variables(alloc, function)?;
@@ -184,7 +186,9 @@ fn put_act(
     requires there { next < length plan.now.graph.blocks }
     requires below { AllBelow (length plan.now.graph.blocks) (reverse pending.old.items) }
     ensures same { OnOk result (finished plan.now body.new.items (reverse pending.new.items)
-        ≡ finished plan.now (body.old.items ++ stmt_code plan.now (onward plan.now) next (length body.old.items) s.now) (reverse pending.old.items)) }
+        ≡ finished plan.now
+        (body.old.items ++ stmt_code plan.now (onward plan.now) next (length body.old.items) s.now)
+        (reverse pending.old.items)) }
     ensures below { OnOk result
         (AllBelow (length plan.now.graph.blocks) (reverse pending.new.items)) }
     ensures longer { OnOk result (length body.new.items ≡ length body.old.items + 1) }
@@ -227,7 +231,11 @@ fn put_test(
         × (second < length plan.now.graph.blocks) }
     requires below { AllBelow (length plan.now.graph.blocks) (reverse pending.old.items) }
     ensures same { OnOk result (finished plan.now body.new.items (reverse pending.new.items)
-        ≡ finished plan.now (body.old.items ++ block_code plan.now (onward plan.now) (length body.old.items) (Some (Test test.now first second))) (reverse pending.old.items)) }
+        ≡ finished plan.now
+        (body.old.items
+        ++ block_code plan.now (onward plan.now) (length body.old.items)
+        (Some (Test test.now first second)))
+        (reverse pending.old.items)) }
     ensures below { OnOk result
         (AllBelow (length plan.now.graph.blocks) (reverse pending.new.items)) }
     ensures longer { OnOk result (length body.new.items ≡ length body.old.items + 1) }
@@ -251,7 +259,10 @@ fn put_block(
     requires jumps { JumpsBelow (length plan.now.graph.blocks) block.now }
     requires below { AllBelow (length plan.now.graph.blocks) (reverse pending.old.items) }
     ensures same { OnOk result (finished plan.now body.new.items (reverse pending.new.items)
-        ≡ finished plan.now (body.old.items ++ block_code plan.now (onward plan.now) (length body.old.items) (Some block.now)) (reverse pending.old.items)) }
+        ≡ finished plan.now
+        (body.old.items
+        ++ block_code plan.now (onward plan.now) (length body.old.items) (Some block.now))
+        (reverse pending.old.items)) }
     ensures below { OnOk result
         (AllBelow (length plan.now.graph.blocks) (reverse pending.new.items)) }
     ensures longer { OnOk result (length body.new.items ≡ length body.old.items + 1) }
@@ -287,7 +298,9 @@ fn put_tree(
     requires there { b < length plan.now.graph.blocks }
     requires below { AllBelow (length plan.now.graph.blocks) (reverse pending.old.items) }
     ensures same { OnOk result (finished plan.now body.new.items (reverse pending.new.items)
-        ≡ finished plan.now (body.old.items ++ tree plan.now (length plan.now.graph.blocks) b (length body.old.items)) (reverse pending.old.items)) }
+        ≡ finished plan.now
+        (body.old.items ++ tree plan.now (length plan.now.graph.blocks) b (length body.old.items))
+        (reverse pending.old.items)) }
     ensures below { OnOk result
         (AllBelow (length plan.now.graph.blocks) (reverse pending.new.items)) }
     ensures longer { OnOk result (length body.new.items ≡ length body.old.items + 1) }
@@ -308,7 +321,8 @@ fn put_jump(
     requires there { b < length plan.now.graph.blocks }
     requires below { AllBelow (length plan.now.graph.blocks) (reverse pending.old.items) }
     ensures same { OnOk result (finished plan.now body.new.items (reverse pending.new.items)
-        ≡ finished plan.now (body.old.items ++ onward plan.now b (length body.old.items)) (reverse pending.old.items)) }
+        ≡ finished plan.now (body.old.items ++ onward plan.now b (length body.old.items))
+        (reverse pending.old.items)) }
     ensures below { OnOk result
         (AllBelow (length plan.now.graph.blocks) (reverse pending.new.items)) }
     ensures longer { OnOk result (length body.new.items ≡ length body.old.items + 1) }

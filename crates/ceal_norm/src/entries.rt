@@ -165,7 +165,8 @@ fn mark_again(once: &mut Vec<bool>, marks: &mut Vec<bool>, b: u32)
     ensures once { (c : ℕ) → c < length once.old.items
         → is_marked once.new.items c ≡ (b == c || is_marked once.old.items c) }
     ensures marks { (c : ℕ) → c < length marks.old.items
-        → is_marked marks.new.items c ≡ ((b == c && is_marked once.old.items b) || is_marked marks.old.items c) }
+        → is_marked marks.new.items c
+        ≡ ((b == c && is_marked once.old.items b) || is_marked marks.old.items c) }
 {
     if has_mark(once.as_slice(), b) {
         mark(marks, b);

@@ -15,7 +15,7 @@ use ceal_code::function::FunctionCode;
 use ceal_flow::function::GraphFunction;
 use std::alloc::Global;
 
-/// The first of the kinds, so many or all.
+/// The first `n` kinds, or all where there are fewer.
 fn first_kinds(alloc: Global, kinds: &[Kind], n: u32) -> Result<Kinds, NoMemory>
     ensures { IfOk result (λ ks. ks ≡ take n kinds.now) }
 {

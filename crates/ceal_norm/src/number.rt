@@ -1,4 +1,4 @@
-// Numbers of blocks, functions and commands. Memory for so many that there is none does not exist.
+// Numbers of blocks, functions and commands. An overflow is told as `NoMemory`: that many cannot be in memory.
 
 ghost use Rattle.std.specs.Prelude.{◌≡◌, ◌+◌, if◌then◌else◌, IfOk};
 

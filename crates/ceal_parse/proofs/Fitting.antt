@@ -1,5 +1,5 @@
 -- A reading within the limits holds no struct of more than 255 fields.
-use Rattle.std.proofs.Common.{◌≡◌, ℕ, suc, ◌+◌, ◌≤◌, Bool, true, false, Option, Some, None, List, [], ◌∷◌, refl, sym, ap, ◌∙◌, subst, arith, inl, inr}
+use Rattle.std.proofs.Common.{◌≡◌, ℕ, suc, ◌+◌, ◌≤◌, Bool, true, false, Option, Some, None, List, [], ◌∷◌, refl, sym, ap, ◌∙◌, subst, arith}
 use Rattle.std.specs.Prelude.{if◌then◌else◌}
 use Rattle.ceal_base.specs.declared.fault.Span.{Span}
 use Rattle.ceal_base.specs.declared.operators.Binary.{Binary as BinaryOp}
@@ -11,7 +11,6 @@ use Rattle.ceal_base.specs.declared.syntax.Stmt.{Stmt}
 use Rattle.ceal_base.specs.declared.syntax.Stmt.TheViews.{If}
 use Rattle.ceal_base.specs.declared.syntax.TypeForm.{TypeForm}
 use Rattle.ceal_base.specs.declared.syntax.TypeForm.TheVariants as Forms
-use Rattle.ceal_lex.specs.declared.token.Reserved.{Reserved as ReservedWord}
 use Rattle.ceal_lex.specs.declared.token.Reserved.TheVariants as Words
 use Rattle.ceal_lex.specs.declared.token.Sign.{Sign as SignOf}
 use Rattle.ceal_lex.specs.declared.token.Sign.TheVariants as Signs
@@ -44,8 +43,8 @@ use Rattle.ceal_grammar.specs.declared.state.Typing.{Typing}
 use Rattle.ceal_grammar.specs.declared.state.Typing.TheVariants.{More as MoreType, Named as NamedType}
 use Rattle.ceal_grammar.specs.declared.state.Whole.{Whole}
 use Rattle.ceal_grammar.specs.Trees.{row_form}
-use Rattle.ceal_grammar.specs.Machine.{same_sign, same_word, is_sign, is_word, wants, operator_of, at_name, reduced, within, placed, with_statement, received, closes, at_sign_after, accesses, at_index, at_after, at_element, at_place, type_begin, type_starts, star_or, at_type, block_closed, opened_by, at_body, typed, chained_in, moved, begun_type, widened, is_cell, length_of, at_length, length_item, struct_item, at_member_end, at_struct, with_member, body_of, at_head, at_part, at_top, step, item_of}
-use Rattle.ceal_grammar.proofs.Viable.{wanted, chosen, got}
+use Rattle.ceal_grammar.specs.Machine.{same_sign, same_word, is_sign, is_word, wants, operator_of, at_name, reduced, within, placed, with_statement, received, closes, at_sign_after, accesses, at_index, at_after, at_element, at_place, type_starts, at_type, block_closed, opened_by, at_body, typed, chained_in, moved, begun_type, widened, is_cell, length_of, at_length, length_item, struct_item, at_struct, with_member, body_of, at_head, at_top, step, item_of}
+use Rattle.ceal_grammar.proofs.Viable.{wanted, got}
 use Rattle.ceal_parse.specs.Reading.{fields_with, PlaceFits, Fits}
 
 never : {P : Type 0} (z : State) → None ≡ Some z → P
@@ -69,7 +68,7 @@ name_fits f s (Sign x) z h g = never z h
 name_fits f s End z h g = never z h
 name_fits f s Cut z h g = never z h
 
--- Bodies: a reading within one goes on within it, or behind it.
+-- Bodies: a reading within one goes on within it, or after it.
 module _ (i : Inside) (z : State) where
   placed_fits : (o : Option Mode) → placed i o ≡ Some z → Fits z
   placed_fits None h = never z h

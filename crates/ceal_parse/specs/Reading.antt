@@ -20,12 +20,12 @@ use Rattle.ceal_parse.specs.declared.turn.Part.TheVariants as Parts
 use Rattle.ceal_parse.specs.declared.turn.Turn.{Turn}
 use Rattle.ceal_parse.specs.declared.turn.Turn.TheVariants as Turns
 
--- Where the reading stands behind the sign c, at which the whole expression w has ended with the operand at p.
+-- Where the reading stands after the sign c, at which the whole expression w has ended with the operand at p.
 abbrev pub ended : Inside → Whole → Place → Sign → Option State
 ended i w (Have p) c = received i w.nesting w.receiver p.expr c
 ended i w _ c = None
 
--- Where the reading stands behind a token within a whole expression.
+-- Where the reading stands after a token within a whole expression.
 abbrev pub part_state : Inside → Whole → Place → Part → Option State
 part_state i w p Parts.Refused = None
 part_state i w p Parts.On = Some (within i w p)
@@ -46,7 +46,7 @@ abbrev pub is_inside : State → Bool
 is_inside (In i m) = true
 is_inside _ = false
 
--- Where the reading stands behind a token within a body.
+-- Where the reading stands after a token within a body.
 abbrev pub turn_state : Inside → Mode → Turn → Option State
 turn_state i m Turns.Refused = None
 turn_state i m Turns.On = Some (In i m)
@@ -57,7 +57,7 @@ abbrev pub fields_with : ℕ → TypePart → ℕ
 fields_with c (Done form) = widened c form
 fields_with c _ = suc c
 
--- The members of a struct are 255 fields at most, with the one at which the reading stands, and a length stands behind
+-- The members of a struct are 255 fields at most, with the one at which the reading stands, and a length stands after
 -- a modifiable. A reading within the limits comes to no other state.
 abbrev pub PlaceFits : StructPlace → Type 0
 PlaceFits (Structs.Typing l p) = fields_with l.count p ≤ 255
@@ -66,6 +66,7 @@ PlaceFits (Structs.Length l m) = is_cell m.form ≡ true
 PlaceFits (Structs.Sized l m n) = (n ≤ 255) × (widened l.count (row_form m.form n) ≤ 255)
 PlaceFits _ = Unit {0}
 
+-- the members of the struct at which the reading stands keep the limit
 abbrev pub Fits : State → Type 0
 Fits (Struct es p) = PlaceFits p
 Fits _ = Unit {0}

@@ -36,7 +36,7 @@ fn wanted(found: Sign, sign: Sign, mode: Mode) -> Option<Mode>
     }
 }
 
-/// The sign behind an argument, which is the last of these.
+/// The sign after an argument, which is the last of these.
 fn take_argument(
     alloc: Global,
     nesting: u32,
@@ -58,7 +58,7 @@ fn take_argument(
     }
 }
 
-/// The argument, at the sign behind it.
+/// The argument, at the sign after it.
 fn receive_argument(
     alloc: Global,
     nesting: u32,
@@ -80,7 +80,7 @@ fn receive_argument(
     }
 }
 
-/// Where the reading stands behind a whole expression, at the sign behind it.
+/// Where the reading stands after a whole expression, at the sign after it.
 fn receive(
     alloc: Global,
     inside: &mut Inside,
@@ -183,7 +183,7 @@ fn no_head(alloc: Global, at: Span) -> Head {
     }
 }
 
-/// Puts the function, whose body ends at `}`, behind the entries before it.
+/// Puts the function, whose body ends at `}`, after the entries before it.
 fn close_function(alloc: Global, inside: &mut Inside, at: Span) -> Result<(), NoMemory>
     ensures value { IfOk result
         (λ _. State.Top inside.new.entries
@@ -222,7 +222,8 @@ fn close_block(
     at: Span,
 ) -> Result<Turn, NoMemory>
     ensures value { IfOk result (λ turn. turn_state inside.new mode.new turn
-        ≡ Some (block_closed inside.old.entries inside.old.head inside.old.done inside.old.opened at)) }
+        ≡ Some (block_closed inside.old.entries inside.old.head inside.old.done
+        inside.old.opened at)) }
 {
     match inside.opened.pop() {
         None => {
@@ -298,7 +299,7 @@ fn take_ends(
     }
 }
 
-/// The token behind a statement that ends by itself.
+/// The token after a statement that ends by itself.
 fn take_behind(
     alloc: Global,
     inside: &mut Inside,
@@ -333,7 +334,7 @@ fn take_opens(
     }
 }
 
-/// The token behind the first block of an `if`.
+/// The token after the first block of an `if`.
 fn take_closed(
     alloc: Global,
     inside: &mut Inside,
@@ -369,7 +370,7 @@ fn chain(inside: &mut Inside, branch: Chained, at: Span) -> Result<Mode, NoMemor
     Ok(Mode::Before(Receiver::If(at)))
 }
 
-/// The token behind `else`.
+/// The token after `else`.
 fn take_otherwise(
     alloc: Global,
     inside: &mut Inside,
@@ -377,7 +378,9 @@ fn take_otherwise(
     token: &Token,
 ) -> Result<Option<Mode>, NoMemory>
     requires shallow { inside.old.nesting < 2 ^ 31 }
-    ensures value { IfOk result (λ mode. at_otherwise inside.old branch.span branch.test branch.first token.now.span token.now.kind
+    ensures value { IfOk result (λ mode.
+        at_otherwise inside.old branch.span branch.test branch.first token.now.span
+        token.now.kind
         ≡ placed inside.new mode) }
 {
     if is_word(token, Reserved::If) {

@@ -1,5 +1,5 @@
 // Whole expressions. A `take_..` takes one token: it moves the place within the expression, or answers that no program
-// goes on so.
+// goes on so. Operators wait on a stack until one of a lower level comes (operator precedence; Floyd, JACM 1963).
 
 ghost use Rattle.std.specs.Prelude.{◌≡◌, ◌∷◌, ◌<◌, ◌^◌, Some, [], IfOk, if◌then◌else◌};
 ghost use Rattle.ceal_grammar.specs.Machine.{single as single_piece, prefixed, addressed, element_of, joined, accessed, begun, operated, reduced, same_sign as same_signs, wants, within, operator_of, closes, at_prim, at_operand, at_access, at_sign_after, at_index, at_after, at_element, at_place};
@@ -257,7 +257,7 @@ fn take_access(
     }
 }
 
-/// The sign behind an index.
+/// The sign after an index.
 fn close_index(
     alloc: Global,
     place: &mut Place,
@@ -266,7 +266,8 @@ fn close_index(
     index: Piece,
 ) -> Result<Part, NoMemory>
     ensures value { IfOk result (λ part. (i : Inside) (w : Whole) → part_state i w place.new part
-        ≡ wants (same_signs sign Sign.RightBracket) (within i w (Place.Element (element_of row.0 row.1 index)))) }
+        ≡ wants (same_signs sign Sign.RightBracket)
+        (within i w (Place.Element (element_of row.0 row.1 index)))) }
 {
     let piece = element(alloc, row.0, row.1, index)?;
     put(place, Place::Element(piece));
@@ -277,7 +278,7 @@ fn close_index(
     }
 }
 
-/// A sign behind the piece that no operator waits for: a `)` or `]` within the whole expression, or its end.
+/// A sign after the piece that no operator waits for: a `)` or `]` within the whole expression, or its end.
 fn close(
     alloc: Global,
     whole: &mut Whole,
@@ -317,7 +318,7 @@ fn close(
     }
 }
 
-/// A sign behind the piece, other than an arrow and the `[` of an index.
+/// A sign after the piece, other than an arrow and the `[` of an index.
 fn take_sign(
     alloc: Global,
     whole: &mut Whole,
@@ -344,7 +345,7 @@ fn take_sign(
     }
 }
 
-/// The `[` of an index, which stands behind the operand of an `&` alone.
+/// The `[` of an index, which stands after the operand of an `&` alone.
 fn take_index(whole: &mut Whole, place: &mut Place, piece: Piece) -> Result<Part, NoMemory>
     requires shallow { whole.old.nesting < 2 ^ 31 }
     requires few { whole.old.operators < 2 ^ 31 }
@@ -370,7 +371,7 @@ fn take_index(whole: &mut Whole, place: &mut Place, piece: Piece) -> Result<Part
     }
 }
 
-/// A token behind an operand with an index.
+/// A token after an operand with an index.
 fn take_element(
     alloc: Global,
     whole: &mut Whole,
@@ -434,7 +435,7 @@ fn going(on: bool) -> Part
     if on { Part::On } else { Part::Refused }
 }
 
-/// A token within a whole expression, or behind it.
+/// A token within a whole expression, or after it.
 pub fn take_place(
     alloc: Global,
     whole: &mut Whole,

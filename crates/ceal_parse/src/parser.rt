@@ -157,7 +157,8 @@ impl Parser {
 
     /// Whether the token, which was taken last and begins the item of this number, keeps the limits.
     fn test(&self, item: usize, token: &Token) -> Result<(), FrontError>
-        ensures value { MatchResult result (λ _. tested item token.now self.now.state ≡ Ok self.now.state)
+        ensures value { MatchResult result
+            (λ _. tested item token.now self.now.state ≡ Ok self.now.state)
             (λ error. Fails error (tested item token.now self.now.state)) }
     {
         if nesting(&self.state) >= 65 {
@@ -176,8 +177,11 @@ impl Parser {
         requires shallow { nesting_of self.old.state ≤ 64 }
         requires few { operators_of self.old.state ≤ 255 }
         requires room { Fits self.old.state }
-        ensures value { MatchResult result (λ _. advanced self.old.state token.now (step self.old.state token.now) ≡ Ok self.new.state)
-            (λ error. Fails error (advanced self.old.state token.now (step self.old.state token.now))) }
+        ensures value { MatchResult result
+            (λ _. advanced self.old.state token.now (step self.old.state token.now)
+            ≡ Ok self.new.state)
+            (λ error. Fails error
+            (advanced self.old.state token.now (step self.old.state token.now))) }
     {
         let item = item(&self.state, token);
         match self.step(token) {

@@ -51,7 +51,7 @@ fn wrap(alloc: Global, chain: &mut Stack<Chained>, statement: Stmt) -> Result<St
     }
 }
 
-/// Puts the statement, which has ended, behind those of its block.
+/// Puts the statement, which has ended, after those of its block.
 pub fn end_statement(alloc: Global, inside: &mut Inside, statement: Stmt) -> Result<(), NoMemory>
     ensures value { IfOk result (λ _. inside.new ≡ with_statement inside.old statement) }
 {

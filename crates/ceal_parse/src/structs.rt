@@ -100,7 +100,7 @@ fn take_typing(
     }
 }
 
-/// How many fields there are with a member of this type, so many of them before it.
+/// How many fields there are with a member of this type, where `count` of them come before it.
 fn widen(count: u32, form: &TypeForm) -> u32
     requires room { widened count form.now ≤ 255 }
     ensures value { result ≡ widened count form.now }
@@ -112,7 +112,7 @@ fn widen(count: u32, form: &TypeForm) -> u32
     }
 }
 
-/// Puts the member, which has ended, behind those before it.
+/// Puts the member, which has ended, after those before it.
 fn end_member(layout: &mut Layout, member: FieldDecl) -> Result<(), NoMemory>
     requires room { widened layout.old.count member.form ≤ 255 }
     ensures value { IfOk result (λ _. layout.new ≡ with_member layout.old member) }
@@ -133,7 +133,7 @@ fn may_be_row(member: &FieldDecl) -> bool
     }
 }
 
-/// The token behind a member.
+/// The token after a member.
 fn take_end(
     entries: Items<Entry>,
     layout: Layout,
@@ -193,7 +193,7 @@ fn row(form: TypeForm, length: u64) -> TypeForm
     }
 }
 
-/// The `]` behind the length of a row.
+/// The `]` after the length of a row.
 fn take_sized(
     entries: Items<Entry>,
     layout: Layout,

@@ -14,7 +14,7 @@ pub enum Part {
     Refused,
     /// the expression goes on
     On,
-    /// the expression has ended with the operand that was read, and this sign stands behind it
+    /// the expression has ended with the operand that was read, and this sign stands after it
     Ended(Sign),
 }
 
@@ -25,7 +25,7 @@ pub enum Turn {
     Refused,
     /// the body goes on
     On,
-    /// the function has ended, and stands behind the entries before it
+    /// the function has ended, and stands after the entries before it
     Closed,
 }
 

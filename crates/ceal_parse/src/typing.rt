@@ -33,7 +33,7 @@ pub fn start_type(token: &Token) -> Option<TypePart>
     }
 }
 
-/// A type that has ended, and the name behind it.
+/// A type that has ended, and the name after it.
 fn named(form: TypeForm, token: &Token) -> Result<Option<Typing>, NoMemory>
     ensures value { IfOk result
         (λ next. next ≡ at_type false (TypePart.Done form) token.now.span token.now.kind) }

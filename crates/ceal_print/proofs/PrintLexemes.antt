@@ -1,4 +1,4 @@
--- The texts of tokens: where none goes on into the white space behind it.
+-- The texts of tokens: where none goes on into the white space after it.
 use Rattle.std.proofs.Common.{◌≡◌, ◌≢◌, ◌⊎◌, ℕ, zero, suc, ℤ, pos, ◌+◌, ◌-◌, ◌*◌, ◌≤◌, ◌<◌, ◌^◌, true, false, List, [], ◌∷◌, ◌++◌, length, get_or, refl, ap, sym, ◌∙◌, subst, arith, rules, inl, inr}
 use Rattle.std.specs.Prelude.{IsTrue}
 use Rattle.std.specs.Int.{IsInRange}
@@ -10,15 +10,16 @@ use Rattle.std.proofs.lemmas.Fmt.{digits_decimal, digits_value-decimal, decimal_
 use Rattle.std.proofs.lemmas.List.{get_or_append_left}
 use Rattle.std.proofs.lemmas.Str.Parse.{IsDigitsTest, FoldsDigits, IsNumeralModel, numerals_by_fold}
 use Rattle.std.proofs.Math.Seq.{get_or-append_seam, get_or-append_right}
+use Rattle.ceal_base.specs.Digits.{continued, number_of, is_digit}
 use Rattle.ceal_lex.specs.declared.token.Reserved.{Reserved}
 use Rattle.ceal_lex.specs.declared.token.Reserved.TheVariants as words
 use Rattle.ceal_lex.specs.declared.token.Sign.{Sign}
 use Rattle.ceal_lex.specs.declared.token.Sign.TheVariants as signs
 use Rattle.ceal_lex.specs.declared.token.TokenKind.{TokenKind}
 use Rattle.ceal_lex.specs.declared.token.TokenKind.TheVariants as kinds
-use Rattle.ceal_lex.specs.Characters.{PERCENT, SLASH, STAR, is_digit, is_letter, is_space, is_word_byte}
+use Rattle.ceal_lex.specs.Characters.{PERCENT, SLASH, STAR, is_letter, is_space, is_word_byte}
 use Rattle.ceal_lex.specs.Pieces.{BeginsComment, IsLongest, Stands, token}
-use Rattle.ceal_lex.specs.Spelling.{reserved_text, sign_text, IsWord, AreDigits, continued, number_of, IsLexeme, LARGEST, Spells}
+use Rattle.ceal_lex.specs.Spelling.{reserved_text, sign_text, IsWord, AreDigits, IsLexeme, LARGEST, Spells}
 use Rattle.ceal_print.specs.PrintWords.{kind_text, gap}
 
 -- Numbers: what `decimal` writes are digits of the number.
@@ -71,7 +72,7 @@ own_text (kinds.Sign s) text h = refl
 own_text kinds.End text h = absurd h
 own_text kinds.Cut text h = absurd h
 
--- How long it is, with what stands behind it.
+-- How long it is, with what follows it.
 word_some : (text : List ℕ) → IsWord text → 1 ≤ length text
 word_some [] h = absurd h
 word_some (b ∷ bs) h = omega arith
@@ -235,7 +236,7 @@ module _ (b : ℕ) (more : List ℕ) (blank : is_space b ≡ true) where
   pub stands : (k : TokenKind) (text : List ℕ) → Spells k text → Stands (token k text) (b ∷ more)
   stands k text h = (h, longest text, no_comment text (is_lexeme k text h))
 
--- No `%%` begins in a token and what stands behind it.
+-- No `%%` begins in a token and what follows it.
 abbrev pub IsClear : ℕ → List ℕ → Type 0
 IsClear n bytes = (i : ℕ) → i < n → get_or bytes i 0 ≡ PERCENT → get_or bytes (i + 1) 0 ≡ PERCENT → ⊥
 

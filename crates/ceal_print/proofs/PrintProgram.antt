@@ -39,7 +39,7 @@ pub record PrintedParameters (σ : List TokenKind → Span) (old : Parameters) (
   pub bare : bare_fields (parameter_trees made) ≡ bare_fields (parameter_trees old)
   pub thinner : (ms ns : List Mark) → Thinner 0 ms ns → Thinner 0 (spelled_parameters made ms) (spelled_parameters old ns)
 
--- what stands behind the name of a member
+-- what follows the name of a member
 abbrev pub size_tokens : Size → List TokenKind
 size_tokens single = []
 size_tokens (row l n s r) = row_length_kinds n

@@ -1,5 +1,5 @@
 -- The tokens of a tree and their text, piece by piece.
-use Rattle.std.proofs.Common.{◌≡◌, ℕ, zero, suc, ℤ, pos, ◌+◌, ◌<◌, Bool, true, false, Option, Some, None, List, [], ◌∷◌, ◌++◌, refl, length, arith, codes, ap, ap₂, append_assoc, append-nil, ◌∙◌, sym, take, get_or}
+use Rattle.std.proofs.Common.{◌≡◌, ℕ, ℤ, pos, ◌+◌, ◌<◌, false, List, [], ◌∷◌, ◌++◌, refl, length, arith, codes, ap, ap₂, append_assoc, append-nil, ◌∙◌, sym, take, get_or}
 use Rattle.std.specs.Fmt.{signed_decimal}
 use Rattle.std.proofs.lemmas.List.{take_more}
 use Rattle.ceal_base.specs.declared.fault.Span.{Span}
@@ -27,7 +27,7 @@ use Rattle.ceal_grammar.specs.Grammar.{level}
 use Rattle.ceal_grammar.specs.Spelled.{sign_of, prefix_sign}
 use Rattle.ceal_print.specs.PrintWords.{kind_text, gap, sign_gap, texts, form_level, raised, form_kinds, expr_kinds, more_kinds, argument_kinds, type_kinds, row_length_kinds, size_kinds, value_kinds, braced, after_else, stmt_kinds, row_kinds, else_kinds, stmts_kinds, second_kinds, field_kinds, other_kinds, parameter_kinds, member_kinds, entry_kinds, entries_kinds}
 
--- one list of tokens behind another
+-- one list of tokens after another
 pub texts-nil : texts [] ≡ []
 unfolding texts
 texts-nil = refl

@@ -55,7 +55,7 @@ module _ (σ : List TokenKind → Span) where
       let c = length-append (kind_text k) (gap k) in
       let d = total_texts ks in omega (arith, a, b, c, d)
 
--- The byte behind a token.
+-- The byte after a token.
 abbrev pub gap_byte : TokenKind → ℕ
 gap_byte (Sign s) = sign_gap s
 gap_byte _ = SPACE

@@ -27,10 +27,12 @@ use Rattle.ceal_grammar.specs.Faults.{Accepts}
 abbrev pub nowhere : Span
 nowhere = record { from = 0; to = 0 }
 
+-- a name without its place in the text
 abbrev pub bare_name : Ident → Ident
 bare_name x = record { text = x.text; span = nowhere }
 
 unfoldable mutual
+  -- a form of expression without places in the text
   pub bare_form : ExprForm → ExprForm
   bare_form (Num v) = Num v
   bare_form Null = Null
@@ -42,17 +44,21 @@ unfoldable mutual
   bare_form (Address' _ a) = Address (bare_row a)
   bare_form (Pick' _ a _ b) = Pick (bare_row a) (bare_row b)
 
+  -- the same of an operand
   pub bare_row : {n : _} → Row_of-Expr n → Expr
   bare_row end_of-Expr = record { span = nowhere; form = Null }
   bare_row (more_of-Expr span form rest) = record { span = nowhere; form = bare_form form }
 
+-- an expression without places in the text
 abbrev pub bare_expr : Expr → Expr
 bare_expr e = record { span = nowhere; form = bare_form e.form }
 
+-- the same of each of a list
 unfoldable pub bare_exprs : List Expr → List Expr
 bare_exprs [] = []
 bare_exprs (e ∷ es) = bare_expr e ∷ bare_exprs es
 
+-- a type without places in the text
 abbrev pub bare_type : TypeForm → TypeForm
 bare_type Int = Int
 bare_type (Ptr x) = Ptr (bare_name x)
@@ -63,6 +69,7 @@ bare_type (CellPtr x) = CellPtr (bare_name x)
 bare_type (CellRow n) = CellRow n
 bare_type (CellPtrRow x n) = CellPtrRow (bare_name x) n
 
+-- a value without places in the text
 abbrev pub bare_value : Value → Value
 bare_value (Plain e) = Plain (bare_expr e)
 bare_value (Read s e) = Read nowhere (bare_expr e)
@@ -71,6 +78,7 @@ bare_value (ModrefInt s) = ModrefInt nowhere
 bare_value (Modref s y) = Modref nowhere (bare_name y)
 
 unfoldable mutual
+  -- a statement without places in the text
   pub bare_stmt : Stmt → Stmt
   bare_stmt (Declare s form x v) = Declare nowhere (bare_type form) (bare_name x) (bare_value v)
   bare_stmt (Assign x v) = Assign (bare_name x) (bare_value v)
@@ -83,25 +91,31 @@ unfoldable mutual
   bare_stmt (Break s) = Break nowhere
   bare_stmt (Continue s) = Continue nowhere
 
+  -- the same of each of a row
   pub bare_stmt_row : {n : _} → Row_of-Stmt n → List Stmt
   bare_stmt_row end_of-Stmt = []
   bare_stmt_row (more_of-Stmt s rest) = bare_stmt s ∷ bare_stmt_row rest
 
+-- the same of each of a list
 unfoldable pub bare_stmts : List Stmt → List Stmt
 bare_stmts [] = []
 bare_stmts (s ∷ ss) = bare_stmt s ∷ bare_stmts ss
 
+-- a field or parameter without places in the text
 abbrev pub bare_field : FieldDecl → FieldDecl
 bare_field f = record { form = bare_type f.form; name = bare_name f.name }
 
+-- the same of each of a list
 unfoldable pub bare_fields : List FieldDecl → List FieldDecl
 bare_fields [] = []
 bare_fields (f ∷ fs) = bare_field f ∷ bare_fields fs
 
+-- the struct of an initialiser, if there is one, without its place in the text
 abbrev pub bare_owner : Option Ident → Option Ident
 bare_owner None = None
 bare_owner (Some y) = Some (bare_name y)
 
+-- a function without places in the text
 abbrev pub bare_function : FunctionDecl → FunctionDecl
 bare_function f = record {
   initialiser = bare_owner f.initialiser;
@@ -111,14 +125,17 @@ bare_function f = record {
   close = nowhere;
 }
 
+-- an entry without places in the text
 abbrev pub bare_entry : Entry → Entry
 bare_entry (Struct s) = Struct (record { name = bare_name s.name; fields = bare_fields s.fields })
 bare_entry (Function f) = Function (bare_function f)
 
+-- the same of each of a list
 unfoldable pub bare_entries : List Entry → List Entry
 bare_entries [] = []
 bare_entries (e ∷ es) = bare_entry e ∷ bare_entries es
 
+-- a tree without places in the text
 abbrev pub bare_tree : Tree → Tree
 bare_tree tree = record { entries = bare_entries tree.entries }
 

@@ -24,6 +24,7 @@ use Rattle.ceal_lex.specs.declared.token.TokenKind.TheVariants.{Name, Number, Re
 use Rattle.ceal_grammar.specs.Grammar.{level}
 use Rattle.ceal_grammar.specs.Spelled.{sign_of, prefix_sign}
 
+-- the byte of a space
 abbrev pub SPACE : ℕ
 SPACE = 32
 
@@ -36,14 +37,14 @@ kind_text (Sign s) = sign_text s
 kind_text End = []
 kind_text Cut = []
 
--- A line ends behind `;`, `{` and `}`.
+-- A line ends after `;`, `{` and `}`.
 abbrev pub sign_gap : SignOf → ℕ
 sign_gap Signs.Semicolon = LINE_FEED
 sign_gap Signs.LeftBrace = LINE_FEED
 sign_gap Signs.RightBrace = LINE_FEED
 sign_gap _ = SPACE
 
--- what stands behind a token
+-- what follows a token
 abbrev pub gap : TokenKind → List ℕ
 gap (Name text) = SPACE ∷ []
 gap (Number n) = SPACE ∷ []
@@ -52,6 +53,7 @@ gap (Sign s) = sign_gap s ∷ []
 gap End = []
 gap Cut = []
 
+-- the text of tokens, each with its gap
 unfoldable pub texts : List TokenKind → List ℕ
 texts [] = []
 texts (k ∷ ks) = kind_text k ++ (gap k ++ texts ks)
@@ -73,6 +75,7 @@ abbrev pub raised : ℕ → ℕ → List TokenKind → List TokenKind
 raised l m ks = if nat_le l m then ks else Sign Signs.LeftParenthesis ∷ ks ++ Sign Signs.RightParenthesis ∷ []
 
 unfoldable mutual
+  -- the tokens of a form of expression
   pub form_kinds : ExprForm → List TokenKind
   form_kinds (Num v) = Number v ∷ []
   form_kinds Null = Reserved Words.Null ∷ []
@@ -85,25 +88,31 @@ unfoldable mutual
   form_kinds (Pick' _ a _ b) =
       Sign Signs.Ampersand ∷ operand_kinds 8 a ++ Sign Signs.LeftBracket ∷ index_kinds b ++ Sign Signs.RightBracket ∷ []
 
+  -- the tokens of an operand, in parentheses where its level is below l
   pub operand_kinds : ℕ → {n : _} → Row_of-Expr n → List TokenKind
   operand_kinds l end_of-Expr = []
   operand_kinds l (more_of-Expr span form rest) = raised l (form_level form) (form_kinds form)
 
+  -- the tokens of an index
   pub index_kinds : {n : _} → Row_of-Expr n → List TokenKind
   index_kinds end_of-Expr = []
   index_kinds (more_of-Expr span form rest) = form_kinds form
 
+-- the tokens of an expression
 abbrev pub expr_kinds : Expr → List TokenKind
 expr_kinds e = form_kinds e.form
 
+-- the tokens of expressions with a comma before each
 unfoldable pub more_kinds : List Expr → List TokenKind
 more_kinds [] = []
 more_kinds (e ∷ es) = Sign Signs.Comma ∷ expr_kinds e ++ more_kinds es
 
+-- the tokens of arguments with commas between
 unfoldable pub argument_kinds : List Expr → List TokenKind
 argument_kinds [] = []
 argument_kinds (e ∷ es) = expr_kinds e ++ more_kinds es
 
+-- the tokens of a type
 abbrev pub type_kinds : TypeForm → List TokenKind
 type_kinds Int = Reserved Words.Int ∷ []
 type_kinds (Ptr x) = Reserved Words.Struct ∷ Name x.text ∷ Sign Signs.Star ∷ []
@@ -114,15 +123,17 @@ type_kinds (CellPtr x) = Reserved Words.Mod ∷ Reserved Words.Struct ∷ Name x
 type_kinds (CellRow n) = Reserved Words.Mod ∷ Reserved Words.Int ∷ []
 type_kinds (CellPtrRow x n) = Reserved Words.Mod ∷ Reserved Words.Struct ∷ Name x.text ∷ []
 
--- what stands behind the name of a row
+-- what follows the name of a row
 abbrev pub row_length_kinds : ℕ → List TokenKind
 row_length_kinds n = Sign Signs.LeftBracket ∷ Number (pos n) ∷ Sign Signs.RightBracket ∷ []
 
+-- the tokens of a row's length, where the type is a row
 abbrev pub size_kinds : TypeForm → List TokenKind
 size_kinds (CellRow n) = row_length_kinds n
 size_kinds (CellPtrRow x n) = row_length_kinds n
 size_kinds form = []
 
+-- the tokens of a value
 abbrev pub value_kinds : Value → List TokenKind
 value_kinds (Plain e) = expr_kinds e
 value_kinds (Read s e) = Reserved Words.Read ∷ Sign Signs.LeftParenthesis ∷ expr_kinds e ++ Sign Signs.RightParenthesis ∷ []
@@ -131,6 +142,7 @@ value_kinds (Alloc s y x args) =
 value_kinds (ModrefInt s) = Reserved Words.Modref ∷ Reserved Words.Int ∷ Sign Signs.LeftParenthesis ∷ Sign Signs.RightParenthesis ∷ []
 value_kinds (Modref s y) = Reserved Words.Modref ∷ Name y.text ∷ Sign Signs.LeftParenthesis ∷ Sign Signs.RightParenthesis ∷ []
 
+-- whether the statement is an `if`
 abbrev pub is_branch : Stmt → Bool
 is_branch (Declare s form x v) = false
 is_branch (Assign x v) = false
@@ -143,10 +155,12 @@ is_branch (Return s) = false
 is_branch (Break s) = false
 is_branch (Continue s) = false
 
+-- whether an `else` part, as a row, is one `if` alone
 abbrev pub is_alone : {n : _} → Stmt → Row_of-Stmt n → Bool
 is_alone s end_of-Stmt = is_branch s
 is_alone s (more_of-Stmt t rest) = false
 
+-- tokens in braces
 abbrev pub braced : List TokenKind → List TokenKind
 braced ks = Sign Signs.LeftBrace ∷ ks ++ Sign Signs.RightBrace ∷ []
 
@@ -155,6 +169,7 @@ abbrev pub after_else : Bool → List TokenKind → List TokenKind
 after_else alone ks = Reserved Words.Else ∷ (if alone then ks else braced ks)
 
 unfoldable mutual
+  -- the tokens of a statement
   pub stmt_kinds : Stmt → List TokenKind
   stmt_kinds (Declare s form x v) = type_kinds form ++ Name x.text ∷ Sign Signs.Equals ∷ value_kinds v ++ Sign Signs.Semicolon ∷ []
   stmt_kinds (Assign x v) = Name x.text ∷ Sign Signs.Equals ∷ value_kinds v ++ Sign Signs.Semicolon ∷ []
@@ -172,38 +187,47 @@ unfoldable mutual
   stmt_kinds (Break s) = Reserved Words.Break ∷ Sign Signs.Semicolon ∷ []
   stmt_kinds (Continue s) = Reserved Words.Continue ∷ Sign Signs.Semicolon ∷ []
 
+  -- the tokens of the statements of a row
   pub row_kinds : {n : _} → Row_of-Stmt n → List TokenKind
   row_kinds end_of-Stmt = []
   row_kinds (more_of-Stmt s rest) = stmt_kinds s ++ row_kinds rest
 
+  -- the tokens of an `else` part, as a row
   pub else_kinds : {n : _} → Row_of-Stmt n → List TokenKind
   else_kinds end_of-Stmt = []
   else_kinds (more_of-Stmt s rest) = after_else (is_alone s rest) (stmt_kinds s ++ row_kinds rest)
 
+-- the tokens of the statements of a list
 unfoldable pub stmts_kinds : List Stmt → List TokenKind
 stmts_kinds [] = []
 stmts_kinds (s ∷ ss) = stmt_kinds s ++ stmts_kinds ss
 
+-- whether an `else` part is one `if` alone
 abbrev pub is_chain : List Stmt → Bool
 is_chain [] = false
 is_chain (s ∷ []) = is_branch s
 is_chain (s ∷ t ∷ ss) = false
 
+-- the tokens of an `else` part; none where it is empty
 abbrev pub second_kinds : List Stmt → List TokenKind
 second_kinds [] = []
 second_kinds (s ∷ ss) = after_else (is_chain (s ∷ ss)) (stmts_kinds (s ∷ ss))
 
+-- the tokens of a parameter, or of a member without its end
 unfoldable pub field_kinds : FieldDecl → List TokenKind
 field_kinds f = type_kinds f.form ++ Name f.name.text ∷ []
 
+-- the tokens of parameters with a comma before each
 unfoldable pub other_kinds : List FieldDecl → List TokenKind
 other_kinds [] = []
 other_kinds (f ∷ fs) = Sign Signs.Comma ∷ field_kinds f ++ other_kinds fs
 
+-- the tokens of parameters with commas between
 unfoldable pub parameter_kinds : List FieldDecl → List TokenKind
 parameter_kinds [] = []
 parameter_kinds (f ∷ fs) = field_kinds f ++ other_kinds fs
 
+-- the tokens of the members of a struct
 unfoldable pub member_kinds : List FieldDecl → List TokenKind
 member_kinds [] = []
 member_kinds (f ∷ fs) = field_kinds f ++ size_kinds f.form ++ Sign Signs.Semicolon ∷ member_kinds fs
@@ -215,13 +239,16 @@ head_kinds (Some y) x fs =
     Reserved Words.Init ∷ Name x.text ∷ Sign Signs.LeftParenthesis ∷ Reserved Words.Struct ∷ Name y.text ∷ Sign Signs.Star ∷ Reserved Words.Own
     ∷ other_kinds fs
 
+-- the tokens of an entry
 abbrev pub entry_kinds : Entry → List TokenKind
 entry_kinds (Struct s) = Reserved Words.Struct ∷ Name s.name.text ∷ braced (member_kinds s.fields) ++ Sign Signs.Semicolon ∷ []
 entry_kinds (Function f) = head_kinds f.initialiser f.name f.params ++ Sign Signs.RightParenthesis ∷ braced (stmts_kinds f.body)
 
+-- the tokens of entries
 unfoldable pub entries_kinds : List Entry → List TokenKind
 entries_kinds [] = []
 entries_kinds (e ∷ es) = entry_kinds e ++ entries_kinds es
 
+-- the tokens of a tree
 abbrev pub tree_kinds : Tree → List TokenKind
 tree_kinds tree = entries_kinds tree.entries

@@ -5,15 +5,15 @@ ghost use Rattle.ceal_print.specs.PrintWords.{texts, field_kinds, other_kinds, p
 
 use crate::expressions::{put_size, put_type};
 use crate::statements::put_block;
-use crate::text::{put_name, put_str};
+use crate::text::put_name;
 use ceal_base::no_memory::NoMemory;
 use ceal_base::syntax::{Entry, FieldDecl, FunctionDecl, Ident};
-use std::alloc::Global;
+use ceal_base::text::Text;
 
 /// Adds a field or a parameter.
 #[tactic(auto, using(crate::proofs::PrintSteps::field_steps))]
-fn put_field(out: &mut Vec<u8>, field: &FieldDecl) -> Result<(), NoMemory>
-    ensures { IfOk result (λ _. out.new.items ≡ out.old.items ++ texts (field_kinds field.now)) }
+fn put_field(out: &mut Text, field: &FieldDecl) -> Result<(), NoMemory>
+    ensures { IfOk result (λ _. out.new ≡ out.old ++ texts (field_kinds field.now)) }
 {
     put_type(out, &field.form)?;
     put_name(out, &field.name)?;
@@ -21,12 +21,12 @@ fn put_field(out: &mut Vec<u8>, field: &FieldDecl) -> Result<(), NoMemory>
 }
 
 #[tactic(auto, using(crate::proofs::PrintSteps::other_steps))]
-fn put_others(out: &mut Vec<u8>, fields: &[FieldDecl]) -> Result<(), NoMemory>
-    ensures { IfOk result (λ _. out.new.items ≡ out.old.items ++ texts (other_kinds fields.now)) }
+fn put_others(out: &mut Text, fields: &[FieldDecl]) -> Result<(), NoMemory>
+    ensures { IfOk result (λ _. out.new ≡ out.old ++ texts (other_kinds fields.now)) }
 {
     let mut fields = fields;
     while let Some((field, more)) = fields.split_first() {
-        put_str(out, ", ")?;
+        out.append_str(", ")?;
         put_field(out, field)?;
         fields = more;
     }
@@ -34,9 +34,9 @@ fn put_others(out: &mut Vec<u8>, fields: &[FieldDecl]) -> Result<(), NoMemory>
 }
 
 #[tactic(auto, using(crate::proofs::PrintSteps::other_steps))]
-fn put_parameters(out: &mut Vec<u8>, fields: &[FieldDecl]) -> Result<(), NoMemory>
+fn put_parameters(out: &mut Text, fields: &[FieldDecl]) -> Result<(), NoMemory>
     ensures { IfOk result
-        (λ _. out.new.items ≡ out.old.items ++ texts (parameter_kinds fields.now)) }
+        (λ _. out.new ≡ out.old ++ texts (parameter_kinds fields.now)) }
 {
     match fields.split_first() {
         None => Ok(()),
@@ -49,14 +49,14 @@ fn put_parameters(out: &mut Vec<u8>, fields: &[FieldDecl]) -> Result<(), NoMemor
 }
 
 #[tactic(auto, using(crate::proofs::PrintSteps::member_steps))]
-fn put_members(alloc: Global, out: &mut Vec<u8>, fields: &[FieldDecl]) -> Result<(), NoMemory>
-    ensures { IfOk result (λ _. out.new.items ≡ out.old.items ++ texts (member_kinds fields.now)) }
+fn put_members(out: &mut Text, fields: &[FieldDecl]) -> Result<(), NoMemory>
+    ensures { IfOk result (λ _. out.new ≡ out.old ++ texts (member_kinds fields.now)) }
 {
     let mut fields = fields;
     while let Some((field, more)) = fields.split_first() {
         put_field(out, field)?;
-        put_size(alloc, out, &field.form)?;
-        put_str(out, ";\n")?;
+        put_size(out, &field.form)?;
+        out.append_str(";\n")?;
         fields = more;
     }
     Ok(())
@@ -65,29 +65,29 @@ fn put_members(alloc: Global, out: &mut Vec<u8>, fields: &[FieldDecl]) -> Result
 /// Adds the head of a function up to its last parameter.
 #[tactic(auto, using(crate::proofs::PrintSteps::entry_steps))]
 fn put_head(
-    out: &mut Vec<u8>,
+    out: &mut Text,
     initialiser: &Option<Ident>,
     name: &Ident,
     params: &[FieldDecl],
 ) -> Result<(), NoMemory>
     ensures { IfOk result
-        (λ _. out.new.items
-        ≡ out.old.items ++ texts (head_kinds initialiser.now name.now params.now)) }
+        (λ _. out.new
+        ≡ out.old ++ texts (head_kinds initialiser.now name.now params.now)) }
 {
     match initialiser {
         None => {
-            put_str(out, "ceal ")?;
+            out.append_str("ceal ")?;
             put_name(out, name)?;
-            put_str(out, "( ")?;
+            out.append_str("( ")?;
             put_parameters(out, params)?;
             Ok(())
         }
         Some(shape) => {
-            put_str(out, "init ")?;
+            out.append_str("init ")?;
             put_name(out, name)?;
-            put_str(out, "( struct ")?;
+            out.append_str("( struct ")?;
             put_name(out, shape)?;
-            put_str(out, "* self ")?;
+            out.append_str("* self ")?;
             put_others(out, params)?;
             Ok(())
         }
@@ -96,16 +96,16 @@ fn put_head(
 
 /// Adds a struct or a function.
 #[tactic(auto, using(crate::proofs::PrintSteps::entry_steps))]
-fn put_entry(alloc: Global, out: &mut Vec<u8>, entry: &Entry) -> Result<(), NoMemory>
-    ensures { IfOk result (λ _. out.new.items ≡ out.old.items ++ texts (entry_kinds entry.now)) }
+fn put_entry(out: &mut Text, entry: &Entry) -> Result<(), NoMemory>
+    ensures { IfOk result (λ _. out.new ≡ out.old ++ texts (entry_kinds entry.now)) }
 {
     match entry {
         Entry::Struct(shape) => {
-            put_str(out, "struct ")?;
+            out.append_str("struct ")?;
             put_name(out, &shape.name)?;
-            put_str(out, "{\n")?;
-            put_members(alloc, out, shape.fields.items())?;
-            put_str(out, "}\n;\n")?;
+            out.append_str("{\n")?;
+            put_members(out, shape.fields.items())?;
+            out.append_str("}\n;\n")?;
             Ok(())
         }
         Entry::Function(function) => {
@@ -115,8 +115,8 @@ fn put_entry(alloc: Global, out: &mut Vec<u8>, entry: &Entry) -> Result<(), NoMe
                 &function.name,
                 function.params.items(),
             )?;
-            put_str(out, ") ")?;
-            put_block(alloc, out, function.body.items())?;
+            out.append_str(") ")?;
+            put_block(out, function.body.items())?;
             Ok(())
         }
     }
@@ -124,13 +124,13 @@ fn put_entry(alloc: Global, out: &mut Vec<u8>, entry: &Entry) -> Result<(), NoMe
 
 /// Adds entries.
 #[tactic(auto, using(crate::proofs::PrintSteps::entry_steps))]
-pub fn put_entries(alloc: Global, out: &mut Vec<u8>, entries: &[Entry]) -> Result<(), NoMemory>
+pub fn put_entries(out: &mut Text, entries: &[Entry]) -> Result<(), NoMemory>
     ensures { IfOk result
-        (λ _. out.new.items ≡ out.old.items ++ texts (entries_kinds entries.now)) }
+        (λ _. out.new ≡ out.old ++ texts (entries_kinds entries.now)) }
 {
     let mut entries = entries;
     while let Some((entry, more)) = entries.split_first() {
-        put_entry(alloc, out, entry)?;
+        put_entry(out, entry)?;
         entries = more;
     }
     Ok(())

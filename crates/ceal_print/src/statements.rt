@@ -4,85 +4,85 @@ ghost use Rattle.std.specs.Prelude.{◌≡◌, ◌++◌, ◌∷◌, [], codes, i
 ghost use Rattle.ceal_print.specs.PrintWords.{texts, is_branch, is_chain, braced, stmt_kinds, stmts_kinds, second_kinds};
 
 use crate::expressions::{put_arguments, put_expr, put_type, put_value};
-use crate::text::{put_name, put_str};
+use crate::text::put_name;
 use ceal_base::no_memory::NoMemory;
 use ceal_base::syntax::Stmt;
-use std::alloc::Global;
+use ceal_base::text::Text;
 
 /// Adds a statement.
 #[cycle(lines)]
 #[tactic(auto, using(crate::proofs::PrintSteps::stmt_steps))]
-fn put_stmt(alloc: Global, out: &mut Vec<u8>, s: &Stmt) -> Result<(), NoMemory>
-    ensures { IfOk result (λ _. out.new.items ≡ out.old.items ++ texts (stmt_kinds s.now)) }
+fn put_stmt(out: &mut Text, s: &Stmt) -> Result<(), NoMemory>
+    ensures { IfOk result (λ _. out.new ≡ out.old ++ texts (stmt_kinds s.now)) }
 {
     match s {
         Stmt::Declare(_, form, x, value) => {
             put_type(out, form)?;
             put_name(out, x)?;
-            put_str(out, "= ")?;
-            put_value(alloc, out, value)?;
-            put_str(out, ";\n")?;
+            out.append_str("= ")?;
+            put_value(out, value)?;
+            out.append_str(";\n")?;
             Ok(())
         }
         Stmt::Assign(x, value) => {
             put_name(out, x)?;
-            put_str(out, "= ")?;
-            put_value(alloc, out, value)?;
-            put_str(out, ";\n")?;
+            out.append_str("= ")?;
+            put_value(out, value)?;
+            out.append_str(";\n")?;
             Ok(())
         }
         Stmt::SetField(_, left, field, right) => {
-            put_expr(alloc, out, left)?;
-            put_str(out, "-> ")?;
+            put_expr(out, left)?;
+            out.append_str("-> ")?;
             put_name(out, field)?;
-            put_str(out, "= ")?;
-            put_expr(alloc, out, right)?;
-            put_str(out, ";\n")?;
+            out.append_str("= ")?;
+            put_expr(out, right)?;
+            out.append_str(";\n")?;
             Ok(())
         }
         Stmt::Write(_, place, value) => {
-            put_str(out, "write ( ")?;
-            put_expr(alloc, out, place)?;
-            put_str(out, ", ")?;
-            put_expr(alloc, out, value)?;
-            put_str(out, ") ;\n")?;
+            out.append_str("write ( ")?;
+            put_expr(out, place)?;
+            out.append_str(", ")?;
+            put_expr(out, value)?;
+            out.append_str(") ;\n")?;
             Ok(())
         }
         Stmt::Call(x, args) => {
             put_name(out, x)?;
-            put_str(out, "( ")?;
-            put_arguments(alloc, out, args.items())?;
-            put_str(out, ") ;\n")?;
+            out.append_str("( ")?;
+            put_arguments(out, args.items())?;
+            out.append_str(") ;\n")?;
             Ok(())
         }
         Stmt::If(_, test, first, second) => {
-            put_str(out, "if ( ")?;
-            put_expr(alloc, out, test)?;
-            put_str(out, ") ")?;
-            put_block(alloc, out, first.items())?;
-            put_second(alloc, out, second.items())?;
+            out.append_str("if ( ")?;
+            put_expr(out, test)?;
+            out.append_str(") ")?;
+            put_block(out, first.items())?;
+            put_second(out, second.items())?;
             Ok(())
         }
         Stmt::While(_, test, body) => {
-            put_str(out, "while ( ")?;
-            put_expr(alloc, out, test)?;
-            put_str(out, ") ")?;
-            put_block(alloc, out, body.items())?;
+            out.append_str("while ( ")?;
+            put_expr(out, test)?;
+            out.append_str(") ")?;
+            put_block(out, body.items())?;
             Ok(())
         }
-        Stmt::Return(_) => put_str(out, "return ;\n"),
-        Stmt::Break(_) => put_str(out, "break ;\n"),
-        Stmt::Continue(_) => put_str(out, "continue ;\n"),
+        Stmt::Return(_) => out.append_str("return ;\n"),
+        Stmt::Break(_) => out.append_str("break ;\n"),
+        Stmt::Continue(_) => out.append_str("continue ;\n"),
     }
 }
 
 #[cycle(lines)]
 #[tactic(auto, using(crate::proofs::PrintSteps::stmts_steps))]
-fn put_stmts(alloc: Global, out: &mut Vec<u8>, stmts: &[Stmt]) -> Result<(), NoMemory>
-    ensures { IfOk result (λ _. out.new.items ≡ out.old.items ++ texts (stmts_kinds stmts.now)) }
+fn put_stmts(out: &mut Text, stmts: &[Stmt]) -> Result<(), NoMemory>
+    ensures { IfOk result (λ _. out.new ≡ out.old ++ texts (stmts_kinds stmts.now)) }
 {
     for s in stmts {
-        put_stmt(alloc, out, s)?;
+        put_stmt(out, s)?;
     }
     Ok(())
 }
@@ -90,27 +90,27 @@ fn put_stmts(alloc: Global, out: &mut Vec<u8>, stmts: &[Stmt]) -> Result<(), NoM
 /// Adds statements in braces.
 #[cycle(lines)]
 #[tactic(auto, using(crate::proofs::PrintSteps::block_steps))]
-pub fn put_block(alloc: Global, out: &mut Vec<u8>, stmts: &[Stmt]) -> Result<(), NoMemory>
+pub fn put_block(out: &mut Text, stmts: &[Stmt]) -> Result<(), NoMemory>
     ensures { IfOk result
-        (λ _. out.new.items ≡ out.old.items ++ texts (braced (stmts_kinds stmts.now))) }
+        (λ _. out.new ≡ out.old ++ texts (braced (stmts_kinds stmts.now))) }
 {
-    put_str(out, "{\n")?;
-    put_stmts(alloc, out, stmts)?;
-    put_str(out, "}\n")?;
+    out.append_str("{\n")?;
+    put_stmts(out, stmts)?;
+    out.append_str("}\n")?;
     Ok(())
 }
 
 /// Adds an else part, where there are statements in it.
 #[cycle(lines)]
 #[tactic(auto, using(crate::proofs::PrintSteps::block_steps))]
-fn put_second(alloc: Global, out: &mut Vec<u8>, stmts: &[Stmt]) -> Result<(), NoMemory>
-    ensures { IfOk result (λ _. out.new.items ≡ out.old.items ++ texts (second_kinds stmts.now)) }
+fn put_second(out: &mut Text, stmts: &[Stmt]) -> Result<(), NoMemory>
+    ensures { IfOk result (λ _. out.new ≡ out.old ++ texts (second_kinds stmts.now)) }
 {
     match stmts {
         [] => Ok(()),
         [_, ..] => {
-            put_str(out, "else ")?;
-            put_chained(alloc, out, stmts)?;
+            out.append_str("else ")?;
+            put_chained(out, stmts)?;
             Ok(())
         }
     }
@@ -118,17 +118,17 @@ fn put_second(alloc: Global, out: &mut Vec<u8>, stmts: &[Stmt]) -> Result<(), No
 
 #[cycle(lines)]
 #[tactic(auto, using(crate::proofs::PrintSteps::block_steps))]
-fn put_chained(alloc: Global, out: &mut Vec<u8>, stmts: &[Stmt]) -> Result<(), NoMemory>
+fn put_chained(out: &mut Text, stmts: &[Stmt]) -> Result<(), NoMemory>
     ensures { IfOk result
-        (λ _. out.new.items
-        ≡ out.old.items
+        (λ _. out.new
+        ≡ out.old
         ++ texts
         (if is_chain stmts.now then stmts_kinds stmts.now else braced (stmts_kinds stmts.now))) }
 {
     if is_one_branch(stmts) {
-        put_stmts(alloc, out, stmts)
+        put_stmts(out, stmts)
     } else {
-        put_block(alloc, out, stmts)
+        put_block(out, stmts)
     }
 }
 

@@ -1,7 +1,6 @@
 // Tokens of a text.
 
 ghost use Rattle.std.specs.Prelude.{◌≡◌, ◌≤◌, ◌++◌, ◌∷◌, [], codes, IfOk};
-ghost use Rattle.std.specs.Fmt.{signed_decimal};
 ghost use Rattle.ceal_base.specs.declared.operators.Binary.{Binary as BinaryOp};
 ghost use Rattle.ceal_lex.specs.declared.token.TokenKind.TheVariants.{Name, Number, Sign};
 ghost use Rattle.ceal_grammar.specs.Grammar.{level as level_of_operator};
@@ -11,92 +10,71 @@ ghost use Rattle.ceal_grammar.specs.Spelled.{sign_of, prefix_sign};
 use ceal_base::no_memory::NoMemory;
 use ceal_base::operators::{Binary, Unary};
 use ceal_base::syntax::Ident;
-use std::alloc::Global;
-
-fn put(out: &mut Vec<u8>, bytes: &[u8]) -> Result<(), NoMemory>
-    ensures { IfOk result (λ _. out.new.items ≡ out.old.items ++ bytes.now) }
-{
-    out.extend_from_slice(bytes)?;
-    Ok(())
-}
-
-/// Adds words and signs, each with what stands behind it.
-pub fn put_str(out: &mut Vec<u8>, text: &str) -> Result<(), NoMemory>
-    ensures { IfOk result (λ _. out.new.items ≡ out.old.items ++ text.now) }
-{
-    put(out, text.as_bytes())
-}
+use ceal_base::text::Text;
 
 /// Adds a name.
 #[tactic(auto, using(crate::proofs::PrintSteps::kind_steps))]
-pub fn put_name(out: &mut Vec<u8>, name: &Ident) -> Result<(), NoMemory>
-    ensures { IfOk result (λ _. out.new.items ≡ out.old.items ++ texts (Name name.now.text ∷ [])) }
+pub fn put_name(out: &mut Text, name: &Ident) -> Result<(), NoMemory>
+    ensures { IfOk result (λ _. out.new ≡ out.old ++ texts (Name name.now.text ∷ [])) }
 {
-    put(out, name.text.items())?;
-    put_str(out, " ")?;
+    out.append(name.text.items())?;
+    out.append_str(" ")?;
     Ok(())
-}
-
-fn put_digits(alloc: Global, out: &mut Vec<u8>, n: i64) -> Result<(), NoMemory>
-    ensures { IfOk result (λ _. out.new.items ≡ out.old.items ++ signed_decimal n) }
-{
-    let text = format!(in alloc; "{n}")?;
-    put_str(out, text.as_str())
 }
 
 /// Adds a number in decimal.
 #[tactic(auto, using(crate::proofs::PrintSteps::kind_steps))]
-pub fn put_number(alloc: Global, out: &mut Vec<u8>, n: i64) -> Result<(), NoMemory>
-    ensures { IfOk result (λ _. out.new.items ≡ out.old.items ++ texts (Number n ∷ [])) }
+pub fn put_number(out: &mut Text, n: i64) -> Result<(), NoMemory>
+    ensures { IfOk result (λ _. out.new ≡ out.old ++ texts (Number n ∷ [])) }
 {
-    put_digits(alloc, out, n)?;
-    put_str(out, " ")?;
+    out.append_signed(n)?;
+    out.append_str(" ")?;
     Ok(())
 }
 
 /// Adds the length of a row.
 #[tactic(auto, using(crate::proofs::PrintSteps::kind_steps))]
-pub fn put_length(alloc: Global, out: &mut Vec<u8>, length: u32) -> Result<(), NoMemory>
-    ensures { IfOk result (λ _. out.new.items ≡ out.old.items ++ texts (row_length_kinds length)) }
+pub fn put_length(out: &mut Text, length: u32) -> Result<(), NoMemory>
+    ensures { IfOk result (λ _. out.new ≡ out.old ++ texts (row_length_kinds length)) }
 {
-    put_str(out, "[ ")?;
-    put_number(alloc, out, i64::from(length))?;
-    put_str(out, "] ")?;
+    out.append_str("[ ")?;
+    put_number(out, i64::from(length))?;
+    out.append_str("] ")?;
     Ok(())
 }
 
 /// Adds the sign of an operator with one operand.
 #[tactic(auto, using(crate::proofs::PrintSteps::sign_steps))]
-pub fn put_unary(out: &mut Vec<u8>, op: Unary) -> Result<(), NoMemory>
+pub fn put_unary(out: &mut Text, op: Unary) -> Result<(), NoMemory>
     ensures { IfOk result
-        (λ _. out.new.items ≡ out.old.items ++ texts (Sign (prefix_sign op) ∷ [])) }
+        (λ _. out.new ≡ out.old ++ texts (Sign (prefix_sign op) ∷ [])) }
 {
     match op {
-        Unary::Neg => put_str(out, "- "),
-        Unary::Not => put_str(out, "! "),
+        Unary::Neg => out.append_str("- "),
+        Unary::Not => out.append_str("! "),
     }
 }
 
 /// Adds the sign of an operator with two operands.
 #[tactic(auto, using(crate::proofs::PrintSteps::sign_steps))]
-pub fn put_binary(out: &mut Vec<u8>, op: Binary) -> Result<(), NoMemory>
-    ensures { IfOk result (λ _. out.new.items ≡ out.old.items ++ texts (Sign (sign_of op) ∷ [])) }
+pub fn put_binary(out: &mut Text, op: Binary) -> Result<(), NoMemory>
+    ensures { IfOk result (λ _. out.new ≡ out.old ++ texts (Sign (sign_of op) ∷ [])) }
 {
     match op {
-        Binary::Add => put_str(out, "+ "),
-        Binary::Sub => put_str(out, "- "),
-        Binary::Mul => put_str(out, "* "),
-        Binary::Div => put_str(out, "/ "),
-        Binary::Rem => put_str(out, "% "),
-        Binary::Less => put_str(out, "< "),
-        Binary::LessEq => put_str(out, "<= "),
-        Binary::More => put_str(out, "> "),
-        Binary::MoreEq => put_str(out, ">= "),
-        Binary::Same => put_str(out, "== "),
-        Binary::Differ => put_str(out, "!= "),
-        Binary::And => put_str(out, "&& "),
-        Binary::Or => put_str(out, "|| "),
-        Binary::Pick(_) => put_str(out, "[ "),
+        Binary::Add => out.append_str("+ "),
+        Binary::Sub => out.append_str("- "),
+        Binary::Mul => out.append_str("* "),
+        Binary::Div => out.append_str("/ "),
+        Binary::Rem => out.append_str("% "),
+        Binary::Less => out.append_str("< "),
+        Binary::LessEq => out.append_str("<= "),
+        Binary::More => out.append_str("> "),
+        Binary::MoreEq => out.append_str(">= "),
+        Binary::Same => out.append_str("== "),
+        Binary::Differ => out.append_str("!= "),
+        Binary::And => out.append_str("&& "),
+        Binary::Or => out.append_str("|| "),
+        Binary::Pick(_) => out.append_str("[ "),
     }
 }
 

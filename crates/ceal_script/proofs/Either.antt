@@ -5,10 +5,11 @@ use Rattle.std.specs.List.{AllZip, prefix_len, position_or_len}
 use Rattle.std.proofs.lemmas.Bool.{cases_Bool, cases_eq, cases_lt, false≢true}
 use Rattle.std.proofs.lemmas.List.{length-append}
 use Rattle.std.proofs.lemmas.Slice.Eq.{bytes_eq-Decides}
+use Rattle.ceal_base.specs.Digits.{number_of}
 use Rattle.ceal_script.specs.Characters.{is_gap}
 use Rattle.ceal_script.specs.Keywords.{keyword_text}
 use Rattle.ceal_script.specs.Lines.{is_comment, Says, IsLineOf}
-use Rattle.ceal_script.specs.Spelling.{DOT, MINUS, are_digits, number_of, is_identifier, IsIdentifier, is_name, IsName, IsTextOf, IsField, SpellsKind, SpellsPositive, SpellsNegative, SpellsNumber, SpellsPlace, SpellsValue}
+use Rattle.ceal_script.specs.Spelling.{DOT, MINUS, are_digits, is_identifier, IsIdentifier, is_name, IsName, IsTextOf, IsField, SpellsKind, SpellsPositive, SpellsNegative, SpellsNumber, SpellsPlace, SpellsValue}
 use Rattle.ceal_script.specs.Words.{IsWord, HasWord, HasWords}
 use Rattle.ceal_script.specs.declared.command.Command.{Command}
 use Rattle.ceal_script.specs.declared.command.Command.TheVariants.{Blank, Mod, New, Set, Run, Propagate, Get, Show, Blocks, Steps, Work}
@@ -149,7 +150,7 @@ kind_or_none word = elim (cases_Bool (bytes_eq word (codes "int"))) [
       ]
 ]
 
--- The words behind each keyword: its command, or none.
+-- The words after each keyword: its command, or none.
 module _ (rest : List (List ℕ)) where
   not_mod : ((name : List ℕ) (kind : KindWord) (value : ValueWord) → Says (codes "mod" ∷ rest) (Mod name kind value) → ⊥) → (c : Command) → Says (codes "mod" ∷ rest) c → ⊥
   unfolding form_of_words

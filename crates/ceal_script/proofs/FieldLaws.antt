@@ -1,4 +1,4 @@
--- A field's name is an identifier, or an element's: what stands before the first bracket, and behind it.
+-- A field's name is an identifier, or an element's: what stands before the first bracket, and after it.
 use Rattle.std.proofs.Common.{◌≡◌, ◌⊎◌, inl, inr, ℕ, ◌+◌, true, false, not, List, [], ◌∷◌, ◌++◌, length, take, drop, Option, Some, None, refl, sym, ap, ◌∙◌, subst, arith}
 use Rattle.std.specs.Prelude.{◌==◌, position}
 use Rattle.std.proofs.lemmas.Bool.{cases_Bool, cases_eq, false≢true}

@@ -9,8 +9,8 @@ use Rattle.std.proofs.lemmas.Bool.Decides.{nat_tests}
 use Rattle.std.proofs.lemmas.Fmt.{digits_decimal, digits_value-decimal, decimal-digits_value, decimal_nonempty, first_decimal}
 use Rattle.std.proofs.lemmas.Slice.Eq.{bytes_eq-Decides}
 use Rattle.std.proofs.lemmas.Str.Parse.{IsDigitsTest, FoldsDigits, IsNumeralModel, numerals_by_fold}
-use Rattle.ceal_script.specs.Characters.{is_digit}
-use Rattle.ceal_script.specs.Spelling.{AreDigits, continued, number_of, IsIndex}
+use Rattle.ceal_base.specs.Digits.{continued, number_of, is_digit}
+use Rattle.ceal_script.specs.Spelling.{AreDigits, IsIndex}
 
 abbrev AllDigits : List ℕ → Type 0
 AllDigits ds = list_all is_digit ds ≡ true

@@ -1,4 +1,3 @@
-mod Values
 mod Runs
 mod WordLaws
 mod Marks

@@ -4,8 +4,9 @@ use Rattle.std.specs.Prelude.{codes}
 use Rattle.std.specs.Fmt.{decimal, digits}
 use Rattle.std.proofs.lemmas.Bool.{false≢true}
 use Rattle.std.proofs.lemmas.List.{append_assoc}
+use Rattle.ceal_base.specs.Digits.{continued, number_of}
 use Rattle.ceal_script.specs.Lines.{is_comment, IsLineOf}
-use Rattle.ceal_script.specs.Spelling.{is_name, is_identifier, IsIdentifier, IsIndex, IsField, continued, number_of}
+use Rattle.ceal_script.specs.Spelling.{is_name, is_identifier, IsIdentifier, IsIndex, IsField}
 use Rattle.ceal_script.specs.Words.{HasWords}
 use Rattle.ceal_script.specs.declared.command.Command.TheVariants.{Set, Steps}
 use Rattle.ceal_script.specs.declared.command.ValueWord.TheVariants.{Num}

@@ -5,8 +5,9 @@ use Rattle.std.specs.List.{AllZip, list_all}
 use Rattle.std.proofs.lemmas.Bool.{false≢true, and_parts}
 use Rattle.std.proofs.lemmas.Bool.Decides.{nat_tests}
 use Rattle.std.proofs.lemmas.Slice.Eq.{bytes_eq-Decides}
-use Rattle.ceal_script.specs.Characters.{is_digit, is_letter, is_name_byte}
-use Rattle.ceal_script.specs.Spelling.{DOT, MINUS, AreDigits, number_of, is_identifier, IsIdentifier, IsName, place_text, SpellsNumber, SpellsPlace, SpellsValue, SpellsKind}
+use Rattle.ceal_base.specs.Digits.{number_of, is_digit}
+use Rattle.ceal_script.specs.Characters.{is_letter, is_name_byte}
+use Rattle.ceal_script.specs.Spelling.{DOT, MINUS, AreDigits, is_identifier, IsIdentifier, IsName, place_text, SpellsNumber, SpellsPlace, SpellsValue, SpellsKind}
 use Rattle.ceal_script.specs.declared.command.KindWord.{KindWord}
 use Rattle.ceal_script.specs.declared.command.KindWord.TheVariants.{Int, Named}
 use Rattle.ceal_script.specs.declared.command.PlaceWord.{PlaceWord}
@@ -33,11 +34,6 @@ not_null : (name : List ℕ) → IsName name → name ≢ codes "null"
 not_null name h e =
     let p = (and_parts (is_identifier name) (not (bytes_eq name (codes "null"))) h).1 in
     false≢true (sym (ap not ((bytes_eq-Decides name (codes "null")).1 e)) ∙ p)
-
--- a number begins with a digit or with `-`, and an identifier with a letter
-identifier_no_digits : (word : List ℕ) → IsIdentifier word → AreDigits word → ⊥
-identifier_no_digits [] h d = false≢true h
-identifier_no_digits (b ∷ bs) h d = digit_no_letter b (first_digit b bs d) (first_letter b bs h)
 
 pub one_number : (word : List ℕ) (m n : ℤ) → SpellsNumber word m → SpellsNumber word n → m ≡ n
 one_number word m n (inl p) (inl q) = p.2 ∙ sym q.2

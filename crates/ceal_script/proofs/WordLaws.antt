@@ -45,7 +45,7 @@ gaps_end : (word rest : List ℕ) → IsWord word → EndsRun is_gap (word ++ re
 gaps_end [] rest h = absurd h
 gaps_end (b ∷ bs) rest h = h.0
 
--- the first word begins behind the gaps, and ends before the next one
+-- the first word begins after the gaps, and ends before the next one
 module _ (line : List ℕ) (n : ℕ) (e : n ≡ prefix_len is_gap line) where
   pub no_word : (text : List ℕ) → text ≡ drop n line → length text ≡ 0 → AreGaps line
   no_word text t z =

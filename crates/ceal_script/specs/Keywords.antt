@@ -3,6 +3,7 @@ use Rattle.std.specs.Prelude.{ℕ, List, codes}
 use Rattle.ceal_script.specs.declared.keyword.Keyword.{Keyword}
 use Rattle.ceal_script.specs.declared.keyword.Keyword.TheVariants.{Mod, New, Set, Run, Propagate, Get, Show, Blocks, Steps, Work}
 
+-- how a keyword is spelled
 abbrev pub keyword_text : Keyword → List ℕ
 keyword_text Mod = codes "mod"
 keyword_text New = codes "new"

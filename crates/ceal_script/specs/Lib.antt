@@ -1,6 +1,8 @@
+-- what the crate promises
 pub mod Characters
 pub mod Words
-pub mod Answers
 pub mod Spelling
-pub mod Keywords
 pub mod Lines
+-- what its own functions say of each other
+pub mod Answers
+pub mod Keywords

@@ -2,7 +2,8 @@
 use Rattle.std.specs.Prelude.{◌≡◌, ◌≢◌, ℕ, Bool, false, not, ◌&&◌, bytes_eq, ◌+◌, ◌-◌, ◌*◌, ◌^◌, ◌<◌, ◌≤◌, ℤ, pos, neg_ℤ, ◌⊎◌, Option, Some, None, List, [], ◌∷◌, ◌++◌, IsTrue, codes}
 use Rattle.std.specs.Fmt.{decimal}
 use Rattle.std.specs.List.{list_all}
-use Rattle.ceal_script.specs.Characters.{is_letter, is_digit, is_name_byte}
+use Rattle.ceal_base.specs.Digits.{is_digit, number_of}
+use Rattle.ceal_script.specs.Characters.{is_letter, is_name_byte}
 use Rattle.ceal_script.specs.declared.command.KindWord.{KindWord}
 use Rattle.ceal_script.specs.declared.command.KindWord.TheVariants.{Int, Named}
 use Rattle.ceal_script.specs.declared.command.PlaceWord.{PlaceWord}
@@ -26,6 +27,7 @@ abbrev pub is_identifier : List ℕ → Bool
 is_identifier [] = false
 is_identifier (b ∷ bs) = is_letter b && list_all is_name_byte bs
 
+-- the word is an identifier
 abbrev pub IsIdentifier : List ℕ → Type 0
 IsIdentifier word = IsTrue (is_identifier word)
 
@@ -33,6 +35,7 @@ IsIdentifier word = IsTrue (is_identifier word)
 abbrev pub is_name : List ℕ → Bool
 is_name word = is_identifier word && not (bytes_eq word (codes "null"))
 
+-- the word is a name
 abbrev pub IsName : List ℕ → Type 0
 IsName word = IsTrue (is_name word)
 
@@ -45,21 +48,15 @@ abbrev pub are_digits : List ℕ → Bool
 are_digits [] = false
 are_digits (b ∷ bs) = is_digit b && list_all is_digit bs
 
+-- the word is made of digits alone
 abbrev pub AreDigits : List ℕ → Type 0
 AreDigits digits = IsTrue (are_digits digits)
 
--- a number n with the digits behind it
-unfoldable pub continued : ℕ → List ℕ → ℕ
-continued n [] = n
-continued n (b ∷ bs) = continued (10 * n + (b - 48)) bs
-
--- the decimal number that digits spell
-abbrev pub number_of : List ℕ → ℕ
-number_of digits = continued 0 digits
-
+-- the digits spell a number that is not negative
 abbrev pub SpellsPositive : List ℕ → ℤ → Type 0
 SpellsPositive digits n = AreDigits digits × (number_of digits < 2 ^ 63) × (n ≡ pos (number_of digits))
 
+-- the digits after a minus spell a number
 abbrev pub SpellsNegative : List ℕ → ℤ → Type 0
 SpellsNegative digits n = AreDigits digits × (number_of digits ≤ 2 ^ 63) × (n ≡ neg_ℤ (pos (number_of digits)))
 
@@ -84,10 +81,12 @@ abbrev pub place_text : List ℕ → Option (List ℕ) → List ℕ
 place_text name None = name
 place_text name (Some field) = name ++ DOT ∷ field
 
+-- the field, if there is one, is spelled as one
 abbrev pub HasField : Option (List ℕ) → Type 0
 HasField None = Unit {0}
 HasField (Some field) = IsField field
 
+-- the word spells a place: a name, and a field after a dot if there is one
 abbrev pub SpellsPlace : List ℕ → PlaceWord → Type 0
 SpellsPlace word place = (word ≡ place_text place.name place.field) × IsName place.name × HasField place.field
 

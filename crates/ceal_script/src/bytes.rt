@@ -3,6 +3,8 @@
 ghost use Rattle.std.specs.Prelude.{◌≡◌};
 ghost use Rattle.ceal_script.specs.Characters as characters;
 
+use ceal_base::digits::is_digit;
+
 /// Whether a byte is a space or a tab.
 pub fn is_gap(byte: u8) -> bool
     ensures { result ≡ characters.is_gap byte }
@@ -15,13 +17,6 @@ pub fn is_letter(byte: u8) -> bool
     ensures { result ≡ characters.is_letter byte }
 {
     matches!(byte, b'A'..=b'Z' | b'a'..=b'z' | b'_')
-}
-
-/// Whether a byte is a decimal digit.
-pub fn is_digit(byte: u8) -> bool
-    ensures { result ≡ characters.is_digit byte }
-{
-    matches!(byte, b'0'..=b'9')
 }
 
 /// Whether a byte may stand in a name behind its first.

@@ -13,7 +13,7 @@ use crate::line_error::LineError;
 use crate::spelling::{identifier, kind, name, place, value, values};
 use std::alloc::Global;
 
-/// What stands behind `mod`.
+/// What follows `mod`.
 fn read_mod(alloc: Global, rest: &[&[u8]]) -> Result<Command, LineError>
     ensures { Reads result (Says (codes "mod" ∷ texts rest.now)) }
 {
@@ -26,7 +26,7 @@ fn read_mod(alloc: Global, rest: &[&[u8]]) -> Result<Command, LineError>
     Ok(Command::Mod { name, kind, value })
 }
 
-/// What stands behind `new`.
+/// What follows `new`.
 fn read_new(alloc: Global, rest: &[&[u8]]) -> Result<Command, LineError>
     ensures { Reads result (Says (codes "new" ∷ texts rest.now)) }
 {
@@ -43,7 +43,7 @@ fn read_new(alloc: Global, rest: &[&[u8]]) -> Result<Command, LineError>
     })
 }
 
-/// What stands behind `set`.
+/// What follows `set`.
 fn read_set(alloc: Global, rest: &[&[u8]]) -> Result<Command, LineError>
     ensures { Reads result (Says (codes "set" ∷ texts rest.now)) }
 {
@@ -55,7 +55,7 @@ fn read_set(alloc: Global, rest: &[&[u8]]) -> Result<Command, LineError>
     Ok(Command::Set { place, value })
 }
 
-/// What stands behind `run`.
+/// What follows `run`.
 fn read_run(alloc: Global, rest: &[&[u8]]) -> Result<Command, LineError>
     ensures { Reads result (Says (codes "run" ∷ texts rest.now)) }
 {
@@ -67,7 +67,7 @@ fn read_run(alloc: Global, rest: &[&[u8]]) -> Result<Command, LineError>
     Ok(Command::Run { function, args })
 }
 
-/// What stands behind `get`.
+/// What follows `get`.
 fn read_get(alloc: Global, rest: &[&[u8]]) -> Result<Command, LineError>
     ensures { Reads result (Says (codes "get" ∷ texts rest.now)) }
 {
@@ -78,7 +78,7 @@ fn read_get(alloc: Global, rest: &[&[u8]]) -> Result<Command, LineError>
     Ok(Command::Get { place })
 }
 
-/// What stands behind `show`.
+/// What follows `show`.
 fn read_show(alloc: Global, rest: &[&[u8]]) -> Result<Command, LineError>
     ensures { Reads result (Says (codes "show" ∷ texts rest.now)) }
 {
@@ -89,7 +89,7 @@ fn read_show(alloc: Global, rest: &[&[u8]]) -> Result<Command, LineError>
     Ok(Command::Show { name })
 }
 
-/// Nothing stands behind `propagate`.
+/// Nothing follows `propagate`.
 fn read_propagate(rest: &[&[u8]]) -> Result<Command, LineError>
     ensures { Reads result (Says (codes "propagate" ∷ texts rest.now)) }
 {
@@ -99,7 +99,7 @@ fn read_propagate(rest: &[&[u8]]) -> Result<Command, LineError>
     }
 }
 
-/// Nothing stands behind `blocks`.
+/// Nothing follows `blocks`.
 fn read_blocks(rest: &[&[u8]]) -> Result<Command, LineError>
     ensures { Reads result (Says (codes "blocks" ∷ texts rest.now)) }
 {
@@ -109,7 +109,7 @@ fn read_blocks(rest: &[&[u8]]) -> Result<Command, LineError>
     }
 }
 
-/// Nothing stands behind `steps`.
+/// Nothing follows `steps`.
 fn read_steps(rest: &[&[u8]]) -> Result<Command, LineError>
     ensures { Reads result (Says (codes "steps" ∷ texts rest.now)) }
 {
@@ -119,7 +119,7 @@ fn read_steps(rest: &[&[u8]]) -> Result<Command, LineError>
     }
 }
 
-/// Nothing stands behind `work`.
+/// Nothing follows `work`.
 fn read_work(rest: &[&[u8]]) -> Result<Command, LineError>
     ensures { Reads result (Says (codes "work" ∷ texts rest.now)) }
 {
@@ -129,7 +129,7 @@ fn read_work(rest: &[&[u8]]) -> Result<Command, LineError>
     }
 }
 
-/// What stands behind a keyword.
+/// What follows a keyword.
 fn behind(alloc: Global, word: Keyword, rest: &[&[u8]]) -> Result<Command, LineError>
     ensures { Reads result (Says (keyword_text word ∷ texts rest.now)) }
 {
@@ -147,7 +147,7 @@ fn behind(alloc: Global, word: Keyword, rest: &[&[u8]]) -> Result<Command, LineE
     }
 }
 
-/// What stands behind a first word that is no comment.
+/// What follows a first word that is no comment.
 fn named(alloc: Global, first: &[u8], rest: &[&[u8]]) -> Result<Command, LineError>
     requires { IsFalse (lines.is_comment first.now) }
     ensures { Reads result (Says (first.now ∷ texts rest.now)) }

@@ -2,12 +2,14 @@
 
 ghost use Rattle.std.specs.Prelude.{◌≡◌, ◌<◌, ◌≤◌, ◌^◌, pos, neg_ℤ, Decides, MatchOption};
 ghost use Rattle.std.specs.List.{list_all};
+ghost use Rattle.ceal_base.specs.Digits as decimal;
+ghost use Rattle.ceal_base.specs.Digits.{number_of};
 ghost use Rattle.ceal_script.specs.Answers.{Finds};
-ghost use Rattle.ceal_script.specs.Characters as characters;
 ghost use Rattle.ceal_script.specs.Spelling as spelling;
-ghost use Rattle.ceal_script.specs.Spelling.{IsIndex, number_of, SpellsPositive, SpellsNegative, SpellsNumber};
+ghost use Rattle.ceal_script.specs.Spelling.{IsIndex, SpellsPositive, SpellsNegative, SpellsNumber};
 
-use crate::bytes::is_digit;
+use ceal_base::digits;
+use ceal_base::digits::is_digit;
 
 /// The largest distance of a number from 0.
 const LARGEST: u64 = 1 << 63;
@@ -16,7 +18,7 @@ const LARGEST: u64 = 1 << 63;
 const LONGEST_ROW: u64 = 255;
 
 fn all_digits(bytes: &[u8]) -> bool
-    ensures { result ≡ list_all characters.is_digit bytes.now }
+    ensures { result ≡ list_all decimal.is_digit bytes.now }
 {
     bytes.iter().all(|byte| is_digit(*byte))
 }
@@ -31,30 +33,11 @@ fn are_digits(bytes: &[u8]) -> bool
     }
 }
 
-/// The number that decimal digits spell, unless it is too large.
-fn magnitude(digits: &[u8]) -> Option<u64>
-    ensures { MatchOption result (2 ^ 63 < number_of digits.now)
-        (λ n. (n ≡ number_of digits.now) × (n ≤ 2 ^ 63)) }
-{
-    let mut value = 0;
-    for byte in digits {
-        let digit = u64::from(byte.saturating_sub(b'0'));
-        if value > (LARGEST - digit) / 10 {
-            return None;
-        }
-        value = value * 10 + digit;
-    }
-    Some(value)
-}
-
 /// Whether a row may have an element of the number that digits spell.
 fn fits_row(digits: &[u8]) -> bool
     ensures { Decides result (number_of digits.now < 255) }
 {
-    match magnitude(digits) {
-        Some(number) => number < LONGEST_ROW,
-        None => false,
-    }
+    digits::number(digits, LONGEST_ROW - 1).is_some()
 }
 
 /// Whether a word is the number of an element of a row, without a zero in front.
@@ -74,21 +57,18 @@ fn positive(word: &[u8]) -> Option<i64>
     if !are_digits(word) {
         return None;
     }
-    let value = magnitude(word)?;
-    if value == LARGEST {
-        return None;
-    }
+    let value = digits::number(word, LARGEST - 1)?;
     Some(value as i64)
 }
 
-/// The number of digits behind a `-`.
+/// The number of digits after a `-`.
 fn negative(digits: &[u8]) -> Option<i64>
     ensures { Finds result (SpellsNegative digits.now) }
 {
     if !are_digits(digits) {
         return None;
     }
-    let value = magnitude(digits)?;
+    let value = digits::number(digits, LARGEST)?;
     Some(opposite(value))
 }
 

@@ -39,7 +39,7 @@ pub fn word_length(bytes: &[u8]) -> usize
     word_end(bytes).unwrap_or(bytes.len())
 }
 
-/// The first word and what stands behind it, if there is a word.
+/// The first word and what follows it, if there is a word.
 fn first_word(line: &[u8]) -> Option<(&[u8], &[u8])>
     ensures { MatchOption result (AreGaps line.now)
         (λ found. HasWord line.now found.0.now found.1.now) }

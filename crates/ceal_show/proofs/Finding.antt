@@ -17,7 +17,7 @@ use Rattle.ceal_show.proofs.PathOrder.{IsAtMost, at_most_append, at_most_trans, 
 use Rattle.ceal_show.proofs.Same.{same_self}
 use Rattle.ceal_show.proofs.Searching.{Visit, visit, blocks_of, paths_of, Among, Meets, Sound, Searched, Visiting, blocks_of-append, visited, is_in-visit, begin, skip, pass, meet, finish}
 
--- What the search has come to: so many blocks are done, and these are met.
+-- How far the search is: how many blocks are done, and which are met.
 pub record IsSearching (memory : Shown) (root : BlockId) (at : ℕ) (met : List BlockId) : Type 0 where
   pub done : List Visit
   pub waiting : List Visit

@@ -72,7 +72,7 @@ less_total p q = elim (cases_three (length p) (length q)) [
   ]
 ]
 
--- whatever stands behind paths of one length more
+-- whatever stands after paths of one length more
 pub less_append : (p q r s : List ℕ) → length r ≡ length s → IsLess p q → IsLess (p ++ r) (q ++ s)
 less_append p q r s l (inl h) = let a = length-append p r in let b = length-append q s in inl (omega (arith, a, b, l))
 less_append p q r s l (inr h) =

@@ -1,6 +1,6 @@
 -- A whole memory has a text from each of its blocks.
-use Rattle.std.proofs.Common.{◌≡◌, ◌≢◌, ℕ, ◌+◌, ◌<◌, ◌≤◌, zero, suc, Bool, true, false, ◌||◌, List, [], ◌∷◌, ◌++◌, length, Option, Some, None, refl, sym, ap, ◌∙◌, subst, arith, inl, inr}
-use Rattle.std.specs.Prelude.{IsSome, slice_get, is_some, codes, if◌then◌else◌}
+use Rattle.std.proofs.Common.{◌≡◌, ◌≢◌, ℕ, ◌+◌, ◌<◌, ◌≤◌, zero, suc, true, false, List, [], ◌∷◌, ◌++◌, length, Some, refl, sym, ap, ◌∙◌, subst, arith, inl, inr}
+use Rattle.std.specs.Prelude.{IsSome, slice_get, codes, if◌then◌else◌}
 use Rattle.std.proofs.lemmas.Bool.{cases_Bool, cases_lt, false≢true, or_left, or_right}
 use Rattle.ceal_base.specs.Block.{Block, Blocks, block_at}
 use Rattle.ceal_base.specs.declared.typed.StructInfo.{StructInfo}
@@ -9,7 +9,7 @@ use Rattle.ceal_base.specs.declared.word.BlockId.TheVariants.{Input, Core}
 use Rattle.ceal_show.specs.Graph.{IsGraphText, lines_text}
 use Rattle.ceal_show.specs.Paths.{same_block, is_in, IsLess, AreReached, AreRising}
 use Rattle.ceal_show.specs.Search.{with_targets}
-use Rattle.ceal_show.specs.Shown.{Shown, words_at, IsWhole}
+use Rattle.ceal_show.specs.Shown.{words_at, IsWhole}
 use Rattle.ceal_show.proofs.Finding.{IsSearching, end_reached, more_search, start_search}
 use Rattle.ceal_show.proofs.PathOrder.{less_irrefl}
 use Rattle.ceal_show.proofs.Same.{same_self, same_tells}

@@ -12,10 +12,12 @@ use Rattle.ceal_base.specs.declared.word.Word.TheVariants.{Num, Null, Block as B
 use Rattle.ceal_show.specs.Shown.{Shown, shape_at, words_at}
 use Rattle.ceal_show.specs.Paths.{same_block, AreReached}
 
+-- the name of a struct, if it is there
 abbrev pub name_in : Option StructInfo → List ℕ
 name_in None = []
 name_in (Some s) = s.name
 
+-- the name of the struct with this number
 abbrev pub struct_name : List StructInfo → ℕ → List ℕ
 struct_name structs s = name_in (slice_get structs s)
 
@@ -25,10 +27,12 @@ kind_text structs (Struct s) = struct_name structs s
 kind_text structs ModInt = codes "mod int"
 kind_text structs (ModPtr s) = codes "mod " ++ struct_name structs s
 
+-- the name of a field, if it is there
 abbrev pub field_text : Option FieldInfo → List ℕ
 field_text None = []
 field_text (Some field) = field.name
 
+-- the name of a struct's field
 abbrev pub field_in : Option StructInfo → ℕ → List ℕ
 field_in None field = []
 field_in (Some s) field = field_text (slice_get s.fields field)
@@ -39,6 +43,7 @@ field_name structs (Struct s) field = field_in (slice_get structs s) field
 field_name structs ModInt field = codes "value"
 field_name structs (ModPtr s) field = codes "value"
 
+-- 1 for a core block, and 0 for an input
 abbrev pub core_count : BlockId → ℕ
 core_count (Input n) = 0
 core_count (Core n) = 1
@@ -53,7 +58,7 @@ abbrev pub label_text : (ℕ → List ℕ) → List BlockId → BlockId → List
 label_text name blocks (Input n) = name n
 label_text name blocks (Core n) = codes "#" ++ decimal (cores_before (Core n) blocks + 1)
 
--- what stands behind the label in a pointer to a modifiable: nothing where the block has no other field
+-- what follows the label in a pointer to a modifiable: nothing where the block has no other field
 abbrev pub suffix_text : List StructInfo → Option Shape → ℕ → List ℕ
 suffix_text structs None field = []
 suffix_text structs (Some (Struct s)) field = codes "." ++ field_in (slice_get structs s) field
@@ -67,6 +72,7 @@ pub record Scene : Type 0 where
   pub name : ℕ → List ℕ
   pub blocks : List BlockId
 
+-- the text of a word
 abbrev pub word_text : Scene → Word → List ℕ
 word_text scene (Num n) = signed_decimal n
 word_text scene Null = codes "null"
@@ -82,6 +88,7 @@ unfoldable pub fields_text : Scene → Shape → ℕ → List Word → List ℕ
 fields_text scene shape field [] = []
 fields_text scene shape field (word ∷ words) = field_word_text scene shape field word ++ fields_text scene shape (field + 1) words
 
+-- the line of a block: its label, its kind and its fields
 abbrev pub block_text : Scene → BlockId → Option Shape → List ℕ
 block_text scene b None = []
 block_text scene b (Some shape) =

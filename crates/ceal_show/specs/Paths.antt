@@ -6,15 +6,18 @@ use Rattle.ceal_base.specs.declared.word.BlockId.TheVariants.{Input, Core}
 use Rattle.ceal_base.specs.declared.word.Word.{Word}
 use Rattle.ceal_show.specs.Shown.{Shown, word_at, target}
 
+-- whether two blocks are one
 abbrev pub same_block : BlockId → BlockId → Bool
 same_block (Input m) (Input n) = m == n
 same_block (Core m) (Core n) = m == n
 same_block _ _ = false
 
+-- whether the block is in the list
 abbrev pub is_in : BlockId → List BlockId → Bool
 is_in b [] = false
 is_in b (c ∷ cs) = same_block b c || is_in b cs
 
+-- the block that a word leads to, if there is such a word
 abbrev pub target_of : Option Word → Option BlockId
 target_of None = None
 target_of (Some word) = target word
@@ -47,6 +50,7 @@ abbrev pub IsBelow : List ℕ → List (List ℕ) → Type 0
 IsBelow p [] = Unit {0}
 IsBelow p (q ∷ qs) = IsLess p q
 
+-- each path is below those that follow it
 abbrev pub AreRising : List (List ℕ) → Type 0
 AreRising [] = Unit {0}
 AreRising (p ∷ ps) = IsBelow p ps × AreRising ps

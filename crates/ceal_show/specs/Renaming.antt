@@ -8,12 +8,14 @@ use Rattle.ceal_base.specs.declared.word.Word.TheVariants.{Num, Null, Block as B
 use Rattle.ceal_show.specs.Graph.{core_count}
 use Rattle.ceal_show.specs.Shown.{Shown}
 
+-- a word with its block renamed
 abbrev pub renamed_word : (BlockId → BlockId) → Word → Word
 renamed_word rename (Num n) = Num n
 renamed_word rename Null = Null
 renamed_word rename (BlockWord b) = BlockWord (rename b)
 renamed_word rename (At p) = At (record p { block = rename p.block })
 
+-- a block with its words renamed
 abbrev pub renamed_block : (BlockId → BlockId) → Block → Block
 renamed_block rename block = record block { words = map (renamed_word rename) block.words }
 

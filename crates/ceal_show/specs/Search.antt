@@ -10,6 +10,7 @@ use Rattle.ceal_show.specs.Graph.{core_count, cores_before}
 abbrev pub with_block : List BlockId → BlockId → List BlockId
 with_block blocks b = if is_in b blocks then blocks else blocks ++ b ∷ []
 
+-- the blocks that were met, with one more if there is one
 abbrev pub with_target : List BlockId → Option BlockId → List BlockId
 with_target blocks None = blocks
 with_target blocks (Some b) = with_block blocks b
@@ -28,6 +29,7 @@ cores_in (b ∷ bs) = core_count b + cores_in bs
 abbrev pub number_in : List BlockId → BlockId → Option ℕ
 number_in blocks b = if is_in b blocks then Some (cores_before b blocks + core_count b) else None
 
+-- the block, if there is one, is among those that were met
 abbrev pub AreAmong : List BlockId → Option BlockId → Type 0
 AreAmong blocks None = Unit {0}
 AreAmong blocks (Some b) = IsTrue (is_in b blocks)

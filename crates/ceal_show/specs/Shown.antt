@@ -12,13 +12,16 @@ use Rattle.ceal_base.specs.declared.word.Word.TheVariants.{Num, Null, Block as B
 abbrev pub Shown : Type 0
 Shown = BlockId → Option Block
 
+-- the shape of a block, if it is there
 abbrev pub shape_in : Option Block → Option Shape
 shape_in None = None
 shape_in (Some block) = Some block.shape
 
+-- the shape of the block with this name
 abbrev pub shape_at : Shown → BlockId → Option Shape
 shape_at memory b = shape_in (memory b)
 
+-- the words of a block; none, if it is not there
 abbrev pub words_in : Option Block → List Word
 words_in None = []
 words_in (Some block) = block.words
@@ -38,6 +41,7 @@ target Null = None
 target (BlockWord b) = Some b
 target (At p) = Some p.block
 
+-- the block that a word leads to is there, if the word leads to one
 abbrev pub IsThere : Shown → Option BlockId → Type 0
 IsThere memory None = Unit {0}
 IsThere memory (Some b) = IsSome (memory b)

@@ -4,7 +4,6 @@ ghost use Rattle.std.specs.Prelude.{IsSome, IfOk};
 ghost use Rattle.ceal_show.specs.Graph.{IsGraphText};
 ghost use Rattle.ceal_show.specs.Shown.{IsWhole};
 
-use crate::bytes::put_str;
 use crate::lines::put_lines;
 use crate::reach::reach;
 use crate::view::View;
@@ -23,8 +22,8 @@ pub fn graph_text<V: View>(alloc: Global, view: &V, root: BlockId) -> Result<Tex
         (V.name view.now) root text) }
 {
     let met = reach(alloc, view, root)?;
-    let mut out = Vec::new(alloc);
-    put_lines(alloc, &mut out, view, &met)?;
-    put_str(&mut out, "end\n")?;
-    Ok(Text::new(out))
+    let mut out = Text::empty(alloc);
+    put_lines(&mut out, view, &met)?;
+    out.append_str("end\n")?;
+    Ok(out)
 }

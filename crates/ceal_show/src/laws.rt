@@ -11,8 +11,10 @@ ghost use Rattle.ceal_show.specs.Shown.{Shown, IsWhole};
 
 /// A law: a memory has one text from a block.
 pub fn one_text()
-    ensures law { (structs : List StructInfo) (memory : Shown) (name : ℕ → List ℕ) (root : BlockId) (text other : List ℕ)
-        → IsGraphText structs memory name root text → IsGraphText structs memory name root other → text ≡ other }
+    ensures law { (structs : List StructInfo) (memory : Shown) (name : ℕ → List ℕ) (root : BlockId)
+        (text other : List ℕ)
+        → IsGraphText structs memory name root text → IsGraphText structs memory name root other
+        → text ≡ other }
 {}
 
 /// A law: a memory whose words fit is whole.
@@ -23,7 +25,8 @@ pub fn fitting_is_whole()
 
 /// A law: the text says nothing of the numbers that core blocks have inside.
 pub fn same_text()
-    ensures law { (structs : List StructInfo) (name : ℕ → List ℕ) (rename : BlockId → BlockId) (from to : Shown) (root : BlockId) (text : List ℕ)
+    ensures law { (structs : List StructInfo) (name : ℕ → List ℕ) (rename : BlockId → BlockId)
+        (from to : Shown) (root : BlockId) (text : List ℕ)
         → IsRenaming rename from to → IsWhole structs from → IsSome (from root)
         → IsGraphText structs from name root text → IsGraphText structs to name (rename root) text }
 {}

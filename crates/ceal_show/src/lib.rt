@@ -6,7 +6,6 @@
 //! this project's own.
 #![tactic(auto)]
 
-mod bytes;
 pub mod graph;
 pub mod laws;
 mod lines;

@@ -57,7 +57,7 @@ impl Met {
         self.blocks.len()
     }
 
-    /// The block that was met after so many others.
+    /// The block that was met after `at` others.
     pub fn block(&self, at: usize) -> BlockId
         requires { at < length self.now }
         ensures value { slice_get self.now at ≡ Some result }

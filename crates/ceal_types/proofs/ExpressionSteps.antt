@@ -29,7 +29,7 @@ abbrev addressed : Program → Option ℕ → Scope → Span → Expr → Option
 addressed p own scope at e (Some f) = after (address_at p.structs at f.1) (typed_expr p own scope f.0)
 addressed p own scope at e None = after no_address (typed_expr p own scope e)
 
--- `&` of an index behind a field access, or behind what is none
+-- `&` of an index after a field access, or after what is none
 abbrev indexed : Program → Option ℕ → Scope → Span → Expr → Expr → Option (Expr × Ident) → Result TypedExpr Fault
 indexed p own scope at e i (Some f) = both (pick_at p.structs at f.1) (typed_expr p own scope f.0) (typed_expr p own scope i)
 indexed p own scope at e i None = both no_pick (typed_expr p own scope e) (typed_expr p own scope i)

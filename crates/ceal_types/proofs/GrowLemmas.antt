@@ -1,5 +1,5 @@
--- A list that is another one with more behind it.
-use Rattle.std.proofs.Common.{◌≡◌, ℕ, zero, suc, ◌+◌, Some, List, [], ◌∷◌, ◌++◌, length, take, slice_get, refl, ap, ◌∙◌, append_assoc, arith}
+-- A list that is another one with more after it.
+use Rattle.std.proofs.Common.{◌≡◌, ℕ, zero, suc, ◌+◌, Some, List, [], ◌∷◌, ◌++◌, length, take, slice_get, refl, ap, ◌∙◌, append_assoc}
 
 pub record Grows {A : Type 0} (xs ys : List A) : Type 0 where
   pub more : List A
@@ -39,10 +39,3 @@ module _ {A : Type 0} where
 
   pub grows-take : (xs ys : List A) → Grows xs ys → take (length xs) ys ≡ xs
   grows-take xs ys g = rw g.is (take-front xs g.more)
-
-  length-front : (xs more : List A) → length (xs ++ more) ≡ length xs + length more
-  length-front [] more = omega arith
-  length-front (x ∷ xs) more = omega (arith, length-front xs more)
-
-  pub grows-length : (xs ys : List A) (g : Grows xs ys) → length ys ≡ length xs + length g.more
-  grows-length xs ys g = rw g.is (length-front xs g.more)

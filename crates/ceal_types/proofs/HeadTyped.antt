@@ -27,7 +27,6 @@ use Rattle.ceal_types.specs.Checked.{field_info, struct_info}
 use Rattle.ceal_types.specs.Expressions.{Fields}
 use Rattle.ceal_types.specs.Heads.{struct_number, kind_of, plain_pointer, plain_place, field_kind_of, row_of, row_at, taken, with_element, with_elements, added_field, new_field, with_field, with_variable, new_parameter, with_parameter, own_of, no_variables, head, with_parameters, head_of, with_struct, with_function, with_entry, with_struct_name, struct_names}
 use Rattle.ceal_types.specs.Limits.{width, fields_in, IsShort}
-use Rattle.ceal_types.specs.declared.program.Field.{Field}
 use Rattle.ceal_types.specs.Tables.{Name, has, with_name, element_name}
 use Rattle.ceal_types.specs.Walk.{fault, mapped, in_turn}
 use Rattle.ceal_types.specs.declared.program.Head.{Head}
@@ -96,7 +95,7 @@ module _ (names : List Name) (structs : List StructInfo) (all : length names ≤
     known : All (λ f. Known f.1.kind) fields
     rows : RowsWhole (map field_info fields)
 
-  -- some elements of a row behind fields
+  -- some elements of a row after fields
   record ElementsGood (name : Ident) (kind : FieldKind) (row i : ℕ) (fields more : Fields) : Type 0 where
     is : more ≡ fields ++ elements name kind row i
     apart : IsDistinct bytes_eq (keys_of more)

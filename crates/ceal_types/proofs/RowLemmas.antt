@@ -1,6 +1,6 @@
 -- The elements of a row are whole.
-use Rattle.std.proofs.Common.{◌≡◌, ◌==◌, Bool, true, false, if◌then◌else◌, ℕ, zero, suc, ◌+◌, ◌≤◌, arith, List, [], ◌∷◌, ◌++◌, All, map, length, take, refl, ap, ◌∙◌, subst, sym, append_assoc}
-use Rattle.std.proofs.lemmas.List.{length_push, map-append}
+use Rattle.std.proofs.Common.{◌≡◌, ◌==◌, Bool, true, false, if◌then◌else◌, ℕ, zero, suc, ◌+◌, ◌≤◌, arith, List, [], ◌∷◌, ◌++◌, All, map, length, take, refl, ap, subst, sym}
+use Rattle.std.proofs.lemmas.List.{length_push}
 use Rattle.std.proofs.lemmas.List.Elements.{All-push, All-map}
 use Rattle.ceal_base.specs.WellTyped.{IsCell, RowWhole, RowsWhole}
 use Rattle.ceal_base.specs.declared.kind.FieldKind.{FieldKind}
@@ -15,7 +15,7 @@ use Rattle.ceal_types.specs.declared.program.Field.{Field}
 abbrev pub element : Ident → FieldKind → ℕ → ℕ → Name × Field
 element name kind row i = (element_name name.text i, record { kind = kind; row = row_at row i })
 
--- the first so many elements of a row
+-- the first elements of a row, as many as are given
 unfoldable pub elements : Ident → FieldKind → ℕ → ℕ → Fields
 elements name kind row zero = []
 elements name kind row (suc i) = elements name kind row i ++ element name kind row i ∷ []
@@ -50,7 +50,7 @@ inside-whole kind [] h = tt
 inside-whole kind (f ∷ fields) h =
     (subst (λ (n : ℕ). RowWhole n f.kind fields) (sym (h 0 f (omega arith)).1) tt, inside-whole kind fields (λ k d l. h (suc k) d (omega (arith, l))))
 
--- the elements behind the first one
+-- the elements after the first one
 record Later (name : Ident) (kind : FieldKind) (row i : ℕ) : Type 0 where
   rest : Fields
   is : elements name kind row (suc i) ≡ element name kind row 0 ∷ rest

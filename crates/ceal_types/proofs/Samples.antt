@@ -88,7 +88,7 @@ inc : checked (program (
 unfolding checked heads struct_names in_turn with_entry head_of with_parameter with_body typed_function typed_stmt typed_value typed_form hidden-the_row-Expr-0 shape-the_row-Expr-0 hidden-the_row-Stmt-0 shape-the_row-Stmt-0 find denote.Hole.Carrier.hidden
 inc = refl
 
--- `if (null == null) { int x = 1; } x = 2;`: the comparison is allowed, and `x` is out of scope behind the block
+-- `if (null == null) { int x = 1; } x = 2;`: the comparison is allowed, and `x` is out of scope after the block
 out_of_scope : checked (program (
     If (at 4) (record { span = at 5; form = Binary Same (at 6) (null 5) (null 7) })
     (Declare (at 8) forms.Int (named (codes "x") 9) (Plain (number 1 10)) ∷ []) []

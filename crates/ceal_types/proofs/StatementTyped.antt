@@ -51,7 +51,7 @@ all-keep : {A C : Type 0} (P : C → A → Type 0) (Q : C → Type 0) (r : Resul
 all-keep P Q (Ok x) h = h
 all-keep P Q (Err f) h = tt
 
--- the variables in scope behind these statements
+-- the variables in scope after these statements
 abbrev pub seen_through : List ℕ → List TypedStmt → List ℕ
 seen_through seen [] = seen
 seen_through seen (s ∷ rest) = seen_through (seen_after seen s) rest

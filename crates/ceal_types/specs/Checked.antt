@@ -20,6 +20,7 @@ use Rattle.ceal_types.specs.declared.program.Field.{Field}
 use Rattle.ceal_types.specs.declared.program.Head.{Head}
 use Rattle.ceal_types.specs.declared.program.Program.{Program}
 
+-- a function with its head and its body
 abbrev pub function_of : FunctionDecl → Head → Block → TypedFunction
 function_of f head block = record {
   initialiser = head.own;
@@ -30,6 +31,7 @@ function_of f head block = record {
   close = f.close;
 }
 
+-- the function of this head, if its body has types
 abbrev pub function_body : Program → FunctionDecl → Head → Result TypedFunction Fault
 function_body p f head = mapped (function_of f head) (nested (typed_stmts p head.own f.body) head.parameters)
 
@@ -37,21 +39,27 @@ function_body p f head = mapped (function_of f head) (nested (typed_stmts p head
 unfoldable pub typed_function : Program → FunctionDecl → Result TypedFunction Fault
 typed_function p f = after (function_body p f) (head_of p.names f)
 
+-- the functions, with that of an entry added if it is one
 unfoldable pub with_body : Program → Entry → List TypedFunction → Result (List TypedFunction) Fault
 with_body p (Struct s) fs = Ok fs
 with_body p (Function f) fs = mapped (at_end fs) (typed_function p f)
 
+-- a field as the program has it
 abbrev pub field_info : Name × Field → FieldInfo
 field_info f = record { name = f.0; kind = f.1.kind; row = f.1.row }
 
+-- a struct as the program has it
 abbrev pub struct_info : Name × Fields → StructInfo
 struct_info s = record { name = s.0; fields = map field_info s.1 }
 
+-- the program of these structs and functions
 abbrev pub program_of : Program → List TypedFunction → Typed
 program_of p fs = record { structs = map struct_info p.structs; functions = fs }
 
+-- the second walk: the bodies of the functions, in text order
 abbrev pub bodies : List Entry → Program → Result Typed Fault
 bodies entries p = mapped (program_of p) (in_turn (with_body p) entries [])
 
+-- the program of a tree, or its first fault: heads first, and then bodies
 unfoldable pub checked : Tree → Result Typed Fault
 checked tree = after (bodies tree.entries) (heads tree.entries)

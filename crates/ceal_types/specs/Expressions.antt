@@ -28,12 +28,15 @@ use Rattle.ceal_types.specs.declared.program.Program.{Program}
 use Rattle.ceal_types.specs.declared.program.Variable.{Variable}
 use Rattle.ceal_types.specs.declared.program.Member.{Member}
 
+-- the fields of a struct, by name
 abbrev pub Fields : Type 0
 Fields = List (Name × Field)
 
+-- the variables in scope, by name
 abbrev pub Scope : Type 0
 Scope = List (Name × Variable)
 
+-- an expression of this kind and form
 abbrev pub expression : Span → Option Kind → TypedForm → TypedExpr
 expression at kind form = record { span = at; kind = kind; form = form }
 
@@ -51,9 +54,11 @@ own_at at (Some s) = Ok (expression at (Some (Ptr s)) OwnForm)
 abbrev pub int_asked : TypedExpr → Result TypedExpr Fault
 int_asked e = if suits Int e.kind then Ok e else fault T1 e.span
 
+-- an operator on one operand, which gives an `int`
 abbrev pub unary_of : Span → UnaryOp → TypedExpr → TypedExpr
 unary_of at op a = expression at (Some Int) (typed.Unary op a)
 
+-- an operator on two operands, which gives an `int`
 abbrev pub binary_of : Span → BinaryOp → Span → TypedExpr → TypedExpr → TypedExpr
 binary_of at op sign a b = expression at (Some Int) (typed.Binary op sign a b)
 
@@ -67,16 +72,18 @@ computed at op sign a b =
     if suits Int a.kind then (if suits Int b.kind then Ok (binary_of at op sign a b) else fault T1 b.span)
     else fault T1 a.span
 
--- an index behind what is no field access; no source text has it as an operator
+-- an index after what is no field access; no source text has it as an operator
 abbrev pub no_pick : TypedExpr → TypedExpr → Result TypedExpr Fault
 no_pick e i = fault T3 e.span
 
+-- an operator on two operands, if their kinds suit it
 abbrev pub binary_at : Span → BinaryOp → Span → TypedExpr → TypedExpr → Result TypedExpr Fault
 binary_at at Same sign a b = compared at Same sign a b
 binary_at at Differ sign a b = compared at Differ sign a b
 binary_at at (Pick row) sign a b = no_pick a b
 binary_at at op sign a b = computed at op sign a b
 
+-- an operator on one operand, if it is an `int`
 abbrev pub unary_at : Span → UnaryOp → TypedExpr → Result TypedExpr Fault
 unary_at at op a = if suits Int a.kind then Ok (unary_of at op a) else fault T1 a.span
 
@@ -84,10 +91,12 @@ unary_at at op a = if suits Int a.kind then Ok (unary_of at op a) else fault T1 
 abbrev pub member_with : ℕ → ℕ → Field → Member
 member_with s n f = record { shape = s; field = n; kind = f.kind; row = f.row }
 
+-- the member of a struct that has the name
 abbrev pub field_named : Ident → ℕ → Option (ℕ × Field) → Result Member Fault
 field_named name s None = fault T5 name.span
 field_named name s (Some f) = Ok (member_with s f.0 f.1)
 
+-- what was found, or else the other
 abbrev pub found_or : {A : Type 0} → Option A → Option A → Option A
 found_or None other = other
 found_or (Some x) other = Some x
@@ -96,10 +105,12 @@ found_or (Some x) other = Some x
 abbrev pub field_or_row : Fields → Name → Option (ℕ × Field)
 field_or_row fields name = found_or (find fields name) (find fields (element_name name 0))
 
+-- the member of struct s that has the name
 abbrev pub field_of_struct : Ident → ℕ → Option Fields → Result Member Fault
 field_of_struct name s None = fault T5 name.span
 field_of_struct name s (Some fields) = field_named name s (field_or_row fields name.text)
 
+-- the member with the name, by the kind of what stands before the arrow
 abbrev pub member_of : List (Name × Fields) → Span → Ident → Option Kind → Result Member Fault
 member_of structs at name (Some (Ptr s)) = field_of_struct name s (value_at structs s)
 member_of structs at name _ = fault T4 at
@@ -114,9 +125,11 @@ value_of_field at name e s field (Plain kind) = Ok (expression at (Some kind) (t
 value_of_field at name e s field CellInt = fault T1 name.span
 value_of_field at name e s field (CellPtr t) = fault T1 name.span
 
+-- the value of a member, if it is a plain field
 abbrev pub field_of : Span → Ident → TypedExpr → Member → Result TypedExpr Fault
 field_of at name e m = value_of_field at name e m.shape m.field m.kind
 
+-- the value of the member with the name
 unfoldable pub field_at : List (Name × Fields) → Span → Ident → TypedExpr → Result TypedExpr Fault
 field_at structs at name e = after (field_of at name e) (member structs name e)
 
@@ -126,9 +139,11 @@ place_of_field at name e s field (Plain kind) = fault T3 name.span
 place_of_field at name e s field CellInt = Ok (expression at (Some ModInt) (typed.Address e s field))
 place_of_field at name e s field (CellPtr t) = Ok (expression at (Some (ModPtr t)) (typed.Address e s field))
 
+-- the address of a member, if it is a modifiable and no row
 abbrev pub address_of : Span → Ident → TypedExpr → Member → Result TypedExpr Fault
 address_of at name e m = if m.row == 0 then place_of_field at name e m.shape m.field m.kind else fault T1 name.span
 
+-- the address of the member with the name
 unfoldable pub address_at : List (Name × Fields) → Span → Ident → TypedExpr → Result TypedExpr Fault
 address_at structs at name e = after (address_of at name e) (member structs name e)
 
@@ -141,19 +156,23 @@ abbrev pub element_of : Span → Ident → Kind → TypedExpr → TypedExpr → 
 element_of at name kind place i row =
     if suits Int i.kind then Ok (expression at (Some kind) (typed.Binary (Pick row) name.span place i)) else fault T1 i.span
 
+-- the address of an element of a member, if it is a row
 abbrev pub element_of_row : Span → Ident → Kind → TypedExpr → TypedExpr → Member → Result TypedExpr Fault
 element_of_row at name kind e i m =
     if m.row == 0 then fault T1 name.span
     else element_of at name kind (expression at (Some kind) (typed.Address e m.shape m.field)) i m.row
 
+-- the same, by the kind of the member
 abbrev pub pick_of_kind : Span → Ident → TypedExpr → TypedExpr → Member → FieldKind → Result TypedExpr Fault
 pick_of_kind at name e i m (Plain kind) = fault T3 name.span
 pick_of_kind at name e i m CellInt = element_of_row at name ModInt e i m
 pick_of_kind at name e i m (CellPtr t) = element_of_row at name (ModPtr t) e i m
 
+-- the same, by the member
 abbrev pub pick_of : Span → Ident → TypedExpr → TypedExpr → Member → Result TypedExpr Fault
 pick_of at name e i m = pick_of_kind at name e i m m.kind
 
+-- the address of an element of the member with the name
 unfoldable pub pick_at : List (Name × Fields) → Span → Ident → TypedExpr → TypedExpr → Result TypedExpr Fault
 pick_at structs at name e i = after (pick_of at name e i) (member structs name e)
 
@@ -175,10 +194,12 @@ unfoldable mutual
       both (pick_at p.structs at name) (typed_operand p own scope a) (typed_operand p own scope i)
   typed_form p own scope at (Pick' _ a _ i) = both no_pick (typed_operand p own scope a) (typed_operand p own scope i)
 
+  -- an operand with its types
   pub typed_operand : Program → Option ℕ → Scope → {n : _} → Row_of-Expr n → Result TypedExpr Fault
   typed_operand p own scope end_of-Expr = Ok (expression (record { from = 0; to = 0 }) None NullForm)
   typed_operand p own scope (more_of-Expr span form rest) = typed_form p own scope span form
 
+-- an expression with its types, or its first fault
 abbrev pub typed_expr : Program → Option ℕ → Scope → Expr → Result TypedExpr Fault
 typed_expr p own scope e = typed_form p own scope e.span e.form
 

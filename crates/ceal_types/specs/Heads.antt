@@ -26,6 +26,7 @@ abbrev pub numbered : Ident → Option ℕ → Result ℕ Fault
 numbered name None = fault N1 name.span
 numbered name (Some n) = Ok n
 
+-- the number of the struct with the name
 abbrev pub struct_number : List Name → Ident → Result ℕ Fault
 struct_number names name = numbered name (position (bytes_eq name.text) names)
 
@@ -41,12 +42,15 @@ kind_of names (forms.CellPtr name) = mapped kinds.ModPtr (struct_number names na
 kind_of names (forms.CellRow row) = Ok kinds.ModInt
 kind_of names (forms.CellPtrRow name row) = mapped kinds.ModPtr (struct_number names name)
 
+-- a plain field that points to struct s
 abbrev pub plain_pointer : ℕ → FieldKind
 plain_pointer s = Plain (kinds.Ptr s)
 
+-- a plain field with the address of a modifiable that points to struct s
 abbrev pub plain_place : ℕ → FieldKind
 plain_place s = Plain (kinds.ModPtr s)
 
+-- the kind of a field, by the form of its type
 abbrev pub field_kind_of : List Name → TypeForm → Result FieldKind Fault
 field_kind_of names forms.Int = Ok (Plain kinds.Int)
 field_kind_of names (forms.Ptr name) = mapped plain_pointer (struct_number names name)
@@ -77,7 +81,7 @@ with_element name kind row i fields =
     if has fields (element_name name.text i) then fault N2 name.span
     else Ok (fields ++ (element_name name.text i, record { kind = kind; row = row_at row i }) ∷ [])
 
--- the first so many elements of a row
+-- the first elements of a row, as many as are given
 unfoldable pub with_elements : Ident → FieldKind → ℕ → ℕ → List (Name × Field) → Result (List (Name × Field)) Fault
 with_elements name kind row zero fields = Ok fields
 with_elements name kind row (suc i) fields = after (with_element name kind row i) (with_elements name kind row i fields)
@@ -91,6 +95,7 @@ added_field name (Some row) fields kind = with_elements name kind row row fields
 abbrev pub new_field : Ident → Option ℕ → List (Name × Field) → FieldKind → Result (List (Name × Field)) Fault
 new_field name row fields kind = if taken fields name.text then fault N2 name.span else added_field name row fields kind
 
+-- the fields of a struct with one more
 unfoldable pub with_field : List Name → FieldDecl → List (Name × Field) → Result (List (Name × Field)) Fault
 with_field names d fields = after (new_field d.name (row_of d.form) fields) (field_kind_of names d.form)
 
@@ -105,6 +110,7 @@ with_variable v name kind = record {
 abbrev pub new_parameter : Ident → Variables → Kind → Result Variables Fault
 new_parameter name v kind = if has v.scope name.text then fault N2 name.span else Ok (with_variable v name.text kind)
 
+-- the parameters of a function with one more
 unfoldable pub with_parameter : List Name → FieldDecl → Variables → Result Variables Fault
 with_parameter names d v = after (new_parameter d.name v) (kind_of names d.form)
 
@@ -113,12 +119,15 @@ abbrev pub own_of : List Name → Option Ident → Result (Option ℕ) Fault
 own_of names None = Ok None
 own_of names (Some name) = mapped Some (struct_number names name)
 
+-- no variables
 abbrev pub no_variables : Variables
 no_variables = record { scope = []; kinds = [] }
 
+-- the head of a function: the struct of an initialiser, and the parameters
 abbrev pub head : Option ℕ → Variables → Head
 head own v = record { own = own; parameters = v }
 
+-- the head of a function with these parameters, or the first fault in them
 abbrev pub with_parameters : List Name → List FieldDecl → Option ℕ → Result Head Fault
 with_parameters names params own = mapped (head own) (in_turn (with_parameter names) params no_variables)
 
@@ -126,9 +135,11 @@ with_parameters names params own = mapped (head own) (in_turn (with_parameter na
 unfoldable pub head_of : List Name → FunctionDecl → Result Head Fault
 head_of names f = after (with_parameters names f.params) (own_of names f.initialiser)
 
+-- the program with one more struct
 abbrev pub with_struct : Program → Name → List (Name × Field) → Program
 with_struct p name fields = record p { structs = p.structs ++ (name, fields) ∷ [] }
 
+-- the program with one more function
 abbrev pub with_function : Program → Name → Head → Program
 with_function p name f = record p { functions = p.functions ++ (name, f) ∷ [] }
 
@@ -151,6 +162,7 @@ unfoldable pub struct_names : List Entry → List Name → List Name
 struct_names [] names = names
 struct_names (e ∷ rest) names = struct_names rest (with_struct_name e names)
 
+-- the program without entries, where structs have these names
 abbrev pub no_entries : List Name → Program
 no_entries names = record { names = names; structs = []; functions = [] }
 

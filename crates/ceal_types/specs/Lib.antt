@@ -1,9 +1,12 @@
+-- what the crate promises
 pub mod Tables
 pub mod Walk
-pub mod States
 pub mod Kinds
 pub mod Heads
 pub mod Expressions
 pub mod Statements
 pub mod Checked
 pub mod Limits
+pub mod Laws
+-- what its own functions say of each other
+pub mod States

@@ -11,6 +11,7 @@ abbrev pub width : Option ℕ → ℕ
 width None = 1
 width (Some row) = row
 
+-- how many fields the members have, each row as many as its length
 unfoldable pub fields_in : List FieldDecl → ℕ
 fields_in [] = 0
 fields_in (d ∷ ds) = width (row_of d.form) + fields_in ds
@@ -20,5 +21,6 @@ abbrev pub IsShort : Entry → Type 0
 IsShort (Struct s) = fields_in s.fields ≤ 255
 IsShort (Function f) = length f.params ≤ 255
 
+-- Each list of a tree is within the limits.
 abbrev pub HasShortLists : Tree → Type 0
 HasShortLists tree = All IsShort tree.entries

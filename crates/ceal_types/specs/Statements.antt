@@ -43,6 +43,7 @@ abbrev pub call_by_own : Option ℕ → List Kind → Ident → List TypedExpr �
 call_by_own None kinds name es = if length es == length kinds then arguments_suit kinds es else fault T2 name.span
 call_by_own (Some s) kinds name es = Ok tt
 
+-- whether a function may be called with these arguments
 abbrev pub call_suits : Ident → Head → List TypedExpr → Result (Unit {0}) Fault
 call_suits name f es = call_by_own f.own f.parameters.kinds name es
 
@@ -54,6 +55,7 @@ alloc_by_own (Some s) kinds structure name shape es =
     then (if s == shape then arguments_suit kinds es else fault T1 structure.span)
     else fault T2 name.span
 
+-- whether an allocation may have this initialiser and these arguments
 abbrev pub alloc_suits : Ident → Ident → ℕ → Head → List TypedExpr → Result (Unit {0}) Fault
 alloc_suits structure name shape f es = alloc_by_own f.own f.parameters.kinds structure name shape es
 
@@ -61,6 +63,7 @@ alloc_suits structure name shape f es = alloc_by_own f.own f.parameters.kinds st
 abbrev pub asked_for : {A : Type 0} → Kind → Kind → Span → A → Result A Fault
 asked_for asked given at x = if same_kind asked given then Ok x else fault T1 at
 
+-- the value of an expression, if it suits the kind that is asked for
 abbrev pub plain_value : Kind → TypedExpr → Result TypedValue Fault
 plain_value asked e = if suits asked e.kind then Ok (PlainTyped e) else fault T1 e.span
 
@@ -69,24 +72,30 @@ abbrev pub held_value : Kind → Span → TypedExpr → Option Kind → Result T
 held_value asked at e None = fault T3 e.span
 held_value asked at e (Some kind) = asked_for asked kind at (ReadTyped at e)
 
+-- the value of a read, if it is of a modifiable of this kind
 abbrev pub read_value : Kind → Span → TypedExpr → Result TypedValue Fault
 read_value asked at e = held_value asked at e (kind_held e.kind)
 
+-- a new modifiable that points to struct s, if one is asked for
 abbrev pub modref_value : Kind → Span → ℕ → Result TypedValue Fault
 modref_value asked at s = asked_for asked (ModPtr s) at (ModrefTyped at s)
 
+-- a new block, if a pointer to its struct is asked for
 abbrev pub allocated : Kind → Span → Ident → ℕ → ℕ → List TypedExpr → Unit {0} → Result TypedValue Fault
 allocated asked at name shape n es u = asked_for asked (Ptr shape) at (AllocTyped at shape n name.span es)
 
+-- a new block, if its initialiser and its arguments suit
 abbrev pub alloc_value : Kind → Span → Ident → Ident → ℕ → ℕ × Head → List TypedExpr → Result TypedValue Fault
 alloc_value asked at structure name shape f es =
     after (allocated asked at name shape f.0 es) (alloc_suits structure name shape f.1 es)
 
+-- a new block, if there is an initialiser of this name
 abbrev pub alloc_by : Program → Option ℕ → Scope → Kind → Span → Ident → Ident → List Expr → ℕ → Option (ℕ × Head) → Result TypedValue Fault
 alloc_by p own scope asked at structure name args shape None = fault N1 name.span
 alloc_by p own scope asked at structure name args shape (Some f) =
     after (alloc_value asked at structure name shape f) (typed_exprs p own scope args)
 
+-- a new block of struct `shape`, or the first fault
 abbrev pub alloc_of : Program → Option ℕ → Scope → Kind → Span → Ident → Ident → List Expr → ℕ → Result TypedValue Fault
 alloc_of p own scope asked at structure name args shape =
     alloc_by p own scope asked at structure name args shape (find p.functions name.text)
@@ -110,19 +119,23 @@ pub record Block : Type 0 where
   pub stmts : List TypedStmt
   pub variables : Variables
 
+-- a statement, and the variables after it
 abbrev pub step : TypedStmt → Variables → Step
 step s v = record { stmt = s; variables = v }
 
+-- statements, and the variables after them
 abbrev pub block : List TypedStmt → Variables → Block
 block stmts v = record { stmts = stmts; variables = v }
 
+-- the begin of a block: no statements yet
 abbrev pub opened : Variables → Block
 opened v = block [] v
 
+-- a block with one more statement
 abbrev pub with_step : Block → Step → Block
 with_step b s = record { stmts = b.stmts ++ s.stmt ∷ []; variables = s.variables }
 
--- the first variables stay in scope, and those that were declared behind them leave it
+-- the first variables stay in scope, and those that were declared after them leave it
 abbrev pub closed : ℕ → Block → Block
 closed n b = record b { variables = record b.variables { scope = take n b.variables.scope } }
 
@@ -134,18 +147,22 @@ nested walk v = mapped (closed (length v.scope)) (walk (opened v))
 abbrev pub declaration : Span → Ident → Kind → Variables → TypedValue → Step
 declaration at name kind v value = step (DeclareTyped at (length v.kinds) kind value) (with_variable v name.text kind)
 
+-- a declaration, if its value suits
 abbrev pub declare : Program → Option ℕ → Span → Ident → Value → Variables → Kind → Result Step Fault
 declare p own at name value v kind =
     if has v.scope name.text then fault N2 name.span
     else mapped (declaration at name kind v) (typed_value p own v.scope kind value)
 
+-- an assignment to variable n
 abbrev pub assignment : Ident → ℕ → TypedValue → TypedStmt
 assignment name n value = AssignTyped name.span n value
 
+-- an assignment to a variable, if it is in scope and the value suits
 abbrev pub assigned : Program → Option ℕ → Ident → Value → Scope → Option Variable → Result TypedStmt Fault
 assigned p own name value scope None = fault N1 name.span
 assigned p own name value scope (Some x) = mapped (assignment name x.number) (typed_value p own scope x.kind value)
 
+-- an assignment to the variable with the name
 abbrev pub assign : Program → Option ℕ → Scope → Ident → Value → Result TypedStmt Fault
 assign p own scope name value = assigned p own name value scope (lookup (bytes_eq name.text) scope)
 
@@ -159,15 +176,19 @@ plain_kind name (CellPtr t) = fault T1 name.span
 abbrev pub set_suited : Span → TypedExpr → Member → Kind → TypedExpr → Result TypedStmt Fault
 set_suited at left m kind e = if suits kind e.kind then Ok (SetTyped at left m.shape m.field e) else fault T1 e.span
 
+-- the assignment of a field, if the value suits its kind
 abbrev pub set_value : Program → Option ℕ → Scope → Span → Expr → TypedExpr → Member → Kind → Result TypedStmt Fault
 set_value p own scope at e left m kind = after (set_suited at left m kind) (typed_expr p own scope e)
 
+-- the assignment of a member, if it is a plain field
 abbrev pub set_member : Program → Option ℕ → Scope → Span → Ident → Expr → TypedExpr → Member → Result TypedStmt Fault
 set_member p own scope at name e left m = after (set_value p own scope at e left m) (plain_kind name m.kind)
 
+-- the assignment of the member with the name
 abbrev pub set_left : Program → Option ℕ → Scope → Span → Ident → Expr → TypedExpr → Result TypedStmt Fault
 set_left p own scope at name e left = after (set_member p own scope at name e left) (member p.structs name left)
 
+-- the assignment of a field, or the first fault
 abbrev pub set_field : Program → Option ℕ → Scope → Span → Expr → Ident → Expr → Result TypedStmt Fault
 set_field p own scope at left name e = after (set_left p own scope at name e) (typed_expr p own scope left)
 
@@ -176,9 +197,11 @@ abbrev pub write_held : Span → TypedExpr → TypedExpr → Option Kind → Res
 write_held at place e None = fault T3 place.span
 write_held at place e (Some kind) = if suits kind e.kind then Ok (WriteTyped at place e) else fault T1 e.span
 
+-- a write, if the value suits the modifiable
 abbrev pub written : Span → TypedExpr → TypedExpr → Result TypedStmt Fault
 written at place e = write_held at place e (kind_held place.kind)
 
+-- a write, or the first fault
 abbrev pub write : Program → Option ℕ → Scope → Span → Expr → Expr → Result TypedStmt Fault
 write p own scope at place e = both (written at) (typed_expr p own scope place) (typed_expr p own scope e)
 
@@ -186,13 +209,16 @@ write p own scope at place e = both (written at) (typed_expr p own scope place) 
 abbrev pub call_of : Ident → ℕ → List TypedExpr → Unit {0} → TypedStmt
 call_of name n es u = CallTyped name.span n es
 
+-- a call, if the function and the arguments suit
 abbrev pub call_checked : Ident → ℕ × Head → List TypedExpr → Result TypedStmt Fault
 call_checked name f es = mapped (call_of name f.0 es) (call_suits name f.1 es)
 
+-- a call, if there is a function of this name
 abbrev pub called : Program → Option ℕ → Scope → Ident → List Expr → Option (ℕ × Head) → Result TypedStmt Fault
 called p own scope name args None = fault N1 name.span
 called p own scope name args (Some f) = after (call_checked name f) (typed_exprs p own scope args)
 
+-- a call, or the first fault
 abbrev pub call : Program → Option ℕ → Scope → Ident → List Expr → Result TypedStmt Fault
 call p own scope name args = called p own scope name args (find p.functions name.text)
 
@@ -204,9 +230,11 @@ still v s = step s v
 abbrev pub chosen : Span → TypedExpr → Block → Block → Step
 chosen at test first second = step (typed.If at test first.stmts second.stmts) second.variables
 
+-- an `if` with its second part, where the first is there
 abbrev pub choose : Span → TypedExpr → (Variables → Result Block Fault) → Block → Result Step Fault
 choose at test second first = mapped (chosen at test first) (second first.variables)
 
+-- an `if` with its two parts, where the test is there
 abbrev pub branch : Span → (Variables → Result Block Fault) → (Variables → Result Block Fault) → Variables → TypedExpr → Result Step Fault
 branch at first second v test = after (choose at test second) (first v)
 
@@ -214,6 +242,7 @@ branch at first second v test = after (choose at test second) (first v)
 abbrev pub looped : Span → TypedExpr → Block → Step
 looped at test body = step (typed.While at test body.stmts) body.variables
 
+-- a loop with its body, where the test is there
 abbrev pub loop : Span → (Variables → Result Block Fault) → Variables → TypedExpr → Result Step Fault
 loop at body v test = mapped (looped at test) (body v)
 
@@ -232,6 +261,7 @@ unfoldable mutual
   typed_stmt p own (Break at) v = Ok (step (BreakTyped at) v)
   typed_stmt p own (Continue at) v = Ok (step (ContinueTyped at) v)
 
+  -- the statements of a row, after those of a block
   pub typed_row : Program → Option ℕ → {n : _} → Row_of-Stmt n → Block → Result Block Fault
   typed_row p own end_of-Stmt b = Ok b
   typed_row p own (more_of-Stmt s rest) b = after (typed_row p own rest) (mapped (with_step b) (typed_stmt p own s b.variables))

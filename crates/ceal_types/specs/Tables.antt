@@ -10,6 +10,7 @@ use Rattle.std.specs.Str.{bytes_eq}
 abbrev pub Name : Type 0
 Name = List ℕ
 
+-- both, if both are there
 abbrev pub both_some : {A B : Type 0} → Option A → Option B → Option (A × B)
 both_some (Some a) (Some b) = Some (a, b)
 both_some _ _ = None
@@ -26,6 +27,7 @@ find table name = both_some (position (bytes_eq name) (keys_of table)) (lookup (
 abbrev pub second : {A : Type 0} → Name × A → A
 second e = e.1
 
+-- the value at a place of a table
 abbrev pub value_at : {A : Type 0} → List (Name × A) → ℕ → Option A
 value_at table n = option_map second (slice_get table n)
 

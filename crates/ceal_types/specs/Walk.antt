@@ -4,6 +4,7 @@ use Rattle.ceal_base.specs.declared.fault.Fault.{Fault}
 use Rattle.ceal_base.specs.declared.fault.FaultCode.{FaultCode}
 use Rattle.ceal_base.specs.declared.fault.Span.{Span}
 
+-- a fault with this code at this place
 abbrev pub fault : {A : Type 0} → FaultCode → Span → Result A Fault
 fault code at = Err (record { code = code; span = at })
 
@@ -28,5 +29,6 @@ unfoldable pub in_turn : {A S : Type 0} → (A → S → Result S Fault) → Lis
 in_turn step [] s = Ok s
 in_turn step (x ∷ xs) s = after (in_turn step xs) (step x s)
 
+-- the list with one more at its end
 abbrev pub at_end : {A : Type 0} → List A → A → List A
 at_end xs x = xs ++ x ∷ []

@@ -143,7 +143,7 @@ fn type_binary(
     }
 }
 
-/// An index behind what is no field access.
+/// An index after what is no field access.
 fn no_row(a: TypedExpr, index: TypedExpr) -> Result<TypedExpr, FrontError>
     ensures { Gives result (no_pick a index) }
 {

@@ -13,6 +13,7 @@ pub mod check;
 mod expressions;
 mod heads;
 mod kinds;
+pub mod laws;
 mod members;
 pub mod names;
 mod program;

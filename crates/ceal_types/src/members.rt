@@ -196,7 +196,7 @@ pub fn type_address(
     cell(alloc, at, name, e, member)
 }
 
-/// The index behind a row's address, and what they make.
+/// The index after a row's address, and what they make.
 fn element(
     alloc: Global,
     at: Span,

@@ -17,7 +17,7 @@ use Rattle.ceal_base.specs.declared.typed.TypedStmt.TheViews.{If, While}
 use Rattle.ceal_base.specs.declared.typed.TypedValue.{TypedValue}
 use Rattle.ceal_usage.specs.Faults.{one, form_mentions, mentions, is_core, value_faults, loop_faults, core_faults, row_core_faults, target_faults, init_faults, row_init_faults}
 use Rattle.ceal_usage.specs.Verdict.{verdict, faults_of_each}
-use Rattle.ceal_usage.proofs.VerdictSteps.{before, verdict-append, each-none, each-drop}
+use Rattle.ceal_usage.proofs.VerdictSteps.{before, verdict-append, each-none}
 
 module _ (at : Span) where
   pub mention-num : (n : ℤ) → verdict (form_mentions at (Num n)) ≡ Ok tt

@@ -32,13 +32,16 @@ unfoldable mutual
   form_mentions at (Field' _ a s field) = operand_mentions a
   form_mentions at (Address' _ a s field) = operand_mentions a
 
+  -- U3 at each `self` in an operand
   pub operand_mentions : {n : _} → Row_of-TypedExpr n → List Fault
   operand_mentions end_of-TypedExpr = []
   operand_mentions (more_of-TypedExpr span kind form rest) = form_mentions span form
 
+-- U3 at each `self` in an expression
 abbrev pub mentions : TypedExpr → List Fault
 mentions e = form_mentions e.span e.form
 
+-- U3 at each `self` in a value
 abbrev pub value_mentions : TypedValue → List Fault
 value_mentions (Plain e) = mentions e
 value_mentions (Read at e) = mentions e
@@ -51,6 +54,7 @@ abbrev pub is_core : Option TypedFunction → Bool
 is_core None = false
 is_core (Some f) = is_none f.initialiser
 
+-- whether there is such a function, and it is an initialiser
 abbrev pub is_initialiser : Option TypedFunction → Bool
 is_initialiser None = false
 is_initialiser (Some f) = is_some f.initialiser
@@ -82,6 +86,7 @@ unfoldable mutual
   core_faults fs looped (Break at) = loop_faults looped at
   core_faults fs looped (Continue at) = loop_faults looped at
 
+  -- the faults of the statements of a row, in a core function
   pub row_core_faults : List TypedFunction → Bool → {n : _} → Row_of-TypedStmt n → List Fault
   row_core_faults fs looped end_of-TypedStmt = []
   row_core_faults fs looped (more_of-TypedStmt s rest) = core_faults fs looped s ++ row_core_faults fs looped rest
@@ -109,12 +114,15 @@ unfoldable mutual
   init_faults (Break at) = one U2 at
   init_faults (Continue at) = one U2 at
 
+  -- the faults of the statements of a row, in an initialiser
   pub row_init_faults : {n : _} → Row_of-TypedStmt n → List Fault
   row_init_faults end_of-TypedStmt = []
   row_init_faults (more_of-TypedStmt s rest) = init_faults s ++ row_init_faults rest
 
+-- the faults of a function, in text order
 abbrev pub function_faults : List TypedFunction → TypedFunction → List Fault
 function_faults fs f = elim f.initialiser [ None ↦ faults_of_each (core_faults fs false) f.body | Some s ↦ faults_of_each init_faults f.body ]
 
+-- the faults of a program, in the order of the walk
 abbrev pub usage_faults : Typed → List Fault
 usage_faults program = faults_of_each (function_faults program.functions) program.functions

@@ -1,2 +1,4 @@
+-- what the crate promises
 pub mod Verdict
 pub mod Faults
+pub mod Laws

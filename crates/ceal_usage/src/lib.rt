@@ -7,4 +7,5 @@
 
 mod bodies;
 pub mod check;
+pub mod laws;
 mod mention;

@@ -1,7 +1,7 @@
 // Old items are walked: those that the edit does not reach are kept.
 
 ghost use Rattle.std.specs.Prelude.{◌≡◌, ◌∷◌, drop, reverse, IfOk, OnOk};
-ghost use Rattle.ceal_base.specs.Trace.{Was_read};
+ghost use Rattle.ceal_base.specs.Trace.{WasRead};
 ghost use Rattle.ceal_theory.specs.Levels.{first, around, levels as levels_of};
 ghost use Rattle.ceal_theory.specs.Turns.{fixing};
 ghost use Rattle.ceal_adjust.specs.Machines.{code_of, state_in, frames_in, ahead, machine_in, turn_in};
@@ -20,7 +20,7 @@ impl<'a> Repair<'a> {
         ensures turn { IfOk result (λ t. turn_in t (machine_in self.new) ≡ fixing (code_of self.old)
             (state_in self.old)
             (frames_in (reverse self.old.frames.items) (around (around (ahead self.old))))
-            (Was_read closure.place value closure.unit closure.var closure.args
+            (WasRead closure.place value closure.unit closure.var closure.args
             (first (ahead self.old)) (first (around (ahead self.old))))) }
     {
         let now = self.memory.value(closure.place);

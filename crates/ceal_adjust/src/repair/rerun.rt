@@ -45,7 +45,8 @@ impl<'a> Repair<'a> {
         ensures state { OnOk result
             (state_in self.new ≡ clears (code_of self.old) (state_in self.old) block key.now) }
         ensures stack { OnOk result (stack_in self.new.stack ≡ Run unit.unit unit.index
-            (set (arguments unit.env.items) var (pointer key.now block)) (stack_in self.old.stack)) }
+            (set (arguments unit.env.items) var (pointer key.now block))
+            (stack_in self.old.stack)) }
     {
         let mut unit = unit;
         self.memory.clear(block, key)?;
@@ -59,7 +60,8 @@ impl<'a> Repair<'a> {
     fn make(&mut self, key: Key, var: u32, unit: Activation) -> Result<Turn, NoMemory>
         requires running { self.old.mode ≡ Mode.Running }
         ensures code { OnOk result (code_of self.new ≡ code_of self.old) }
-        ensures turn { IfOk result (λ t. turn_in t (machine_in self.new) ≡ making (code_of self.old) own
+        ensures turn { IfOk result
+            (λ t. turn_in t (machine_in self.new) ≡ making (code_of self.old) own
             (state_in self.old) (after self.old self.old.levels) key var unit.unit unit.index
             (arguments unit.env.items) (stack_in self.old.stack) (left_over self.old)
             (taken_alloc (find_alloc key self.old.levels (drop self.old.rest self.old.items)))) }
@@ -93,11 +95,13 @@ impl<'a> Repair<'a> {
     fn read(&mut self, closure: Closure) -> Result<Turn, NoMemory>
         requires running { self.old.mode ≡ Mode.Running }
         ensures code { OnOk result (code_of self.new ≡ code_of self.old) }
-        ensures turn { IfOk result (λ t. turn_in t (machine_in self.new) ≡ reading (code_of self.old)
+        ensures turn { IfOk result
+            (λ t. turn_in t (machine_in self.new) ≡ reading (code_of self.old)
             (state_in self.old) (after self.old self.old.levels)
             closure.place closure.unit closure.var closure.args
             (stack_in self.old.stack) (left_over self.old)
-            (taken_read (find_closure closure self.old.levels (drop self.old.rest self.old.items)))) }
+            (taken_read
+            (find_closure closure self.old.levels (drop self.old.rest self.old.items)))) }
     {
         let now = self.memory.value(closure.place);
         self.step()?;
@@ -123,7 +127,8 @@ impl<'a> Repair<'a> {
     pub fn perform(&mut self, act: Act) -> Result<Turn, NoMemory>
         requires running { self.old.mode ≡ Mode.Running }
         ensures code { OnOk result (code_of self.new ≡ code_of self.old) }
-        ensures turn { IfOk result (λ t. turn_in t (machine_in self.new) ≡ acting (code_of self.old) own
+        ensures turn { IfOk result
+            (λ t. turn_in t (machine_in self.new) ≡ acting (code_of self.old) own
             (state_in self.old) (after self.old self.old.levels) (left_over self.old)
             (act_in act (stack_in self.old.stack))) }
     {

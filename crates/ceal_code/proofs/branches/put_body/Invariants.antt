@@ -5,7 +5,7 @@ use Rattle.ceal_code.proofs.branches.put_body.Given as goal
 
 abbrev pub invariant-loop-branch : goal.invariant-loop-branch
 invariant-loop-branch l =
-    l.out.items ++ branches_text l.code l.body l.branches.items ≡ l.initial.out.items ++ commands l.code l.body (length l.body) 0 1
+    l.out ++ branches_text l.code l.body l.branches.items ≡ l.initial.out ++ commands l.code l.body (length l.body) 0 1
 
 abbrev pub decreases-loop-branch : goal.decreases-loop-branch
 decreases-loop-branch l = branch_weights l.branches.items

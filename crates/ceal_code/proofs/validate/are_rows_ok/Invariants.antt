@@ -1,4 +1,4 @@
-use Rattle.std.proofs.Common.{◌≡◌, ℕ, length}
+use Rattle.std.proofs.Common.{◌≡◌, length}
 use Rattle.ceal_code.specs.Valid.{rows_ok}
 use Rattle.ceal_code.proofs.validate.are_rows_ok.Given as goal
 

@@ -1,4 +1,4 @@
-use Rattle.std.proofs.Common.{◌≡◌, ℕ}
+use Rattle.std.proofs.Common.{◌≡◌}
 use Rattle.ceal_code.specs.Valid.{row_goes_on}
 use Rattle.ceal_code.proofs.validate.does_row_go_on.Given as goal
 

@@ -2,7 +2,7 @@ use Rattle.std.proofs.Common.{◌≡◌, ◌≤◌, ◌+◌, take}
 use Rattle.ceal_compile.specs.FaultLine.{line_after, column_after}
 use Rattle.ceal_compile.proofs.position.position_after.Given as goal
 
--- the position behind the bytes so far
+-- the position after the bytes so far
 abbrev pub invariant-loop-byte : goal.invariant-loop-byte
 invariant-loop-byte l = record {
   line : l.position.line ≡ line_after (take l.byte-index l.before);

@@ -1,4 +1,4 @@
-use Rattle.std.proofs.Common.{◌≤◌, length, arith}
+use Rattle.std.proofs.Common.{◌≤◌, length, ◌∙◌, arith}
 use Rattle.ceal_flow.proofs.BitFacts.{all-joined, has-added, step-joined, step-left, step-more, step-same}
 use Rattle.ceal_flow.proofs.bits.join_words.Goals as goal
 
@@ -6,16 +6,16 @@ pub loop-i-preserved : goal.loop-i-preserved
 loop-i-preserved c =
     let old = c.args.words.now.items in
     let cur = c.loop-i.words.items in
-    let new = c.put_bits.new.words.items in
+    let new = c.put_bits-more.new.words.items in
     let inv = c.loop-i.invariant in
-    let put = c.in_ok-more.ensures in
+    let put = c.put_bits-more.ensures in
     record {
-      few = put.few;
+      as_many = put.length ∙ inv.as_many;
       joined = step-joined old cur new c.args.others.now c.args.except c.loop-i.i c.bits_but-bits.result inv.joined inv.left put.here put.others c.bits_but-bits.ensures;
       left = step-left old cur new c.args.others.now c.args.except c.loop-i.i c.bits_but-bits.result inv.joined inv.left put.here put.others c.bits_but-bits.ensures;
-      same = step-same c.loop-i.changed c.in_ok-more.more old cur new inv.same put.same;
+      same = step-same c.loop-i.changed c.put_bits-more.result old cur new inv.same put.same;
       more = step-more old cur new c.args.others.now c.args.except c.loop-i.i c.bits_but-bits.result inv.joined inv.left put.here put.others c.bits_but-bits.ensures
-          c.loop-i.changed c.in_ok-more.more inv.more put.more;
+          c.loop-i.changed c.put_bits-more.result inv.more put.more;
     }
 
 pub returns-clause-joined : goal.returns-clause-joined

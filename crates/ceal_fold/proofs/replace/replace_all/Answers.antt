@@ -1,6 +1,6 @@
 use Rattle.std.proofs.Common.{[], ◌++◌, length, ap, ◌∙◌, sym, subst, arith}
 use Rattle.ceal_fold.specs.Folding.{at_root, replaced}
-use Rattle.ceal_fold.specs.States.{copies_at, All_until}
+use Rattle.ceal_fold.specs.States.{copies_at, AllUntil}
 use Rattle.ceal_fold.proofs.ReplaceSteps.{replaced-same, root-none, replicate-length, until-begun, walk-on}
 use Rattle.ceal_fold.proofs.replace.replace_all.Goals as goal
 
@@ -14,7 +14,7 @@ loop-command-init c =
           ∙ replaced-same structs (copies_at states) at_root 0 body (λ j lo hi. ap (λ s. copies_at s j) c.in_ok-states.ensures ∙ root-none _ j);
       long = ap length c.in_ok-states.ensures ∙ replicate-length _ [];
       left = omega arith;
-      times = subst (All_until 0) (sym c.in_ok-states.ensures) (until-begun 0 _);
+      times = subst (AllUntil 0) (sym c.in_ok-states.ensures) (until-begun 0 _);
     }
 
 pub loop-command-preserved : goal.loop-command-preserved

@@ -1,6 +1,6 @@
 use Rattle.std.proofs.Common.{◌≡◌, ◌+◌, ◌++◌, length}
 use Rattle.ceal_fold.specs.Folding.{at_root, replaced}
-use Rattle.ceal_fold.specs.States.{copies_at, All_until}
+use Rattle.ceal_fold.specs.States.{copies_at, AllUntil}
 use Rattle.ceal_fold.proofs.replace.replace_all.Given as goal
 
 abbrev pub invariant-loop-command : goal.invariant-loop-command
@@ -8,7 +8,7 @@ invariant-loop-command l = record {
   whole : (l.done.items ++ replaced l.structs (copies_at l.states.items) l.index l.rest) ≡ replaced l.structs at_root 0 l.body;
   long : length l.states.items ≡ length l.body;
   left : l.index + length l.rest ≡ length l.body;
-  times : All_until l.index l.states.items;
+  times : AllUntil l.index l.states.items;
 }
 
 abbrev pub decreases-loop-command : goal.decreases-loop-command

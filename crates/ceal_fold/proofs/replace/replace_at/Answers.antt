@@ -1,7 +1,7 @@
-use Rattle.std.proofs.Common.{◌≡◌, ◌<◌, ◌+◌, [], length, ap, ◌∙◌, sym, subst, arith, if◌then◌else◌}
+use Rattle.std.proofs.Common.{◌≡◌, ◌+◌, [], length, ap, ◌∙◌, sym, subst, arith, if◌then◌else◌}
 use Rattle.ceal_code.specs.Valid.{followers}
 use Rattle.ceal_fold.specs.Folding.{copies_after, is_among, folded_command}
-use Rattle.ceal_fold.specs.States.{last_of, time, copy_at, copies_at, All_until}
+use Rattle.ceal_fold.specs.States.{last_of, time, copy_at, copies_at, AllUntil}
 use Rattle.ceal_fold.proofs.ReplaceSteps.{set-length, copies-is, until-at, until-from, until-none, until-set, until-more, handed-is}
 use Rattle.ceal_fold.proofs.replace.replace_at.Goals as goal
 
@@ -15,7 +15,7 @@ pub hand_on-requires : goal.hand_on-requires
 hand_on-requires c = record {
   room = c.requires.room;
   state = until-from (c.args.index + 1) c.pass.new.self c.in_ok-pass.ensures.times;
-  earlier = subst (All_until (c.args.index + 1)) (sym c.take_state-known.ensures.left)
+  earlier = subst (AllUntil (c.args.index + 1)) (sym c.take_state-known.ensures.left)
       (until-set (c.args.index + 1) c.args.states.now.items c.args.index [] (until-more c.args.index c.args.states.now.items c.requires.earlier) (until-none (c.args.index + 1)));
 }
 

@@ -1,6 +1,6 @@
 use Rattle.std.proofs.Common.{◌∙◌, ap, length}
 use Rattle.std.specs.Prelude.{ℕ, Option, not, unwrap_or}
-use Rattle.ceal_lex.specs.Characters.{is_digit}
+use Rattle.ceal_base.specs.Digits.{is_digit}
 use Rattle.ceal_lex.proofs.Runs.{position_default, run_turned}
 use Rattle.ceal_lex.proofs.characters.digits_length.Goals as goal
 

@@ -1,6 +1,6 @@
-use Rattle.std.proofs.Common.{◌≡◌, ◌<◌, ◌≤◌, ◌^◌, ◌||◌, ℕ, Some, [], length, slice_get, slice_set, refl, ap, ap₂, sym, ◌∙◌, arith}
+use Rattle.std.proofs.Common.{◌≡◌, ◌<◌, ◌≤◌, ◌^◌, ◌||◌, ℕ, Some, [], length, slice_get, slice_set, refl, ap, ap₂, ◌∙◌, arith}
 use Rattle.std.proofs.lemmas.Option.{slice_get_read}
-use Rattle.ceal_flow.specs.Sets.{is_in, set_at, IsAscending}
+use Rattle.ceal_flow.specs.Sets.{is_in, set_at}
 use Rattle.ceal_live.specs.Rounds.{comes}
 use Rattle.ceal_live.proofs.RoundFacts.{set-twice, put-underway, put-same, put-closed, put-more}
 use Rattle.ceal_live.proofs.round.update.Goals as goal

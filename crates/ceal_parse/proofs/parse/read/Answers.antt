@@ -1,4 +1,4 @@
-use Rattle.std.proofs.Common.{◌≡◌, ◌≤◌, ◌<◌, length, arith, ◌∙◌, get_or, sym}
+use Rattle.std.proofs.Common.{arith, ◌∙◌, sym}
 use Rattle.ceal_parse.proofs.Outcomes.{loop_fault, loop_on, kept, at_end, has_entries, has_none}
 use Rattle.ceal_parse.proofs.parse.read.Goals as goal
 

@@ -19,7 +19,7 @@ pub loop-field-preserved : goal.loop-field-preserved
 loop-field-preserved g c =
     let scene : Scene = record { structs = g.V.View.declared c.args.view.now; memory = g.V.View.memory c.args.view.now; name = g.V.View.name c.args.view.now; blocks = c.args.met.now } in
     let words = words_at (g.V.View.memory c.args.view.now) c.args.block in
-    fields_more scene c.args.shape c.loop-field.out.items c.put_field_word.new.out.items words c.loop-field.field c.word-word.result c.word-word.ensures c.in_ok-put_field_word.ensures
+    fields_more scene c.args.shape c.loop-field.out c.put_field_word.new.out words c.loop-field.field c.word-word.result c.word-word.ensures c.in_ok-put_field_word.ensures
     ∙ c.loop-field.invariant
 
 pub returns : goal.returns
@@ -29,4 +29,4 @@ returns g c =
     let counted = rw (c.items.ensures.value, c.structs.ensures) at c.in_ok-count.ensures in
     let all = words_counted (g.V.View.declared c.args.view.now) (g.V.View.memory c.args.view.now) c.requires.whole c.args.block c.args.shape c.requires.shape in
     let over : length words ≤ c.loop-field.field = omega (arith, counted, all, c.loop-field-test.false) in
-    sym (fields_all scene c.args.shape c.loop-field.out.items words c.loop-field.field over) ∙ c.loop-field.invariant
+    sym (fields_all scene c.args.shape c.loop-field.out words c.loop-field.field over) ∙ c.loop-field.invariant

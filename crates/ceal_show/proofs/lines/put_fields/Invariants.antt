@@ -8,4 +8,4 @@ abbrev pub invariant-loop-field : goal.invariant-loop-field
 invariant-loop-field g l =
     let scene : Scene = record { structs = g.V.View.declared l.view; memory = g.V.View.memory l.view; name = g.V.View.name l.view; blocks = l.met } in
     let words = words_at (g.V.View.memory l.view) l.block in
-    l.out.items ++ fields_text scene l.shape l.field (drop l.field words) ≡ l.fn.out.items ++ fields_text scene l.shape 0 words
+    l.out ++ fields_text scene l.shape l.field (drop l.field words) ≡ l.fn.out ++ fields_text scene l.shape 0 words

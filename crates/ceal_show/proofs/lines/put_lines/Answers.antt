@@ -20,10 +20,10 @@ loop-block-preserved g c =
     let scene : Scene = record { structs = g.V.View.declared c.args.view.now; memory = g.V.View.memory c.args.view.now; name = g.V.View.name c.args.view.now; blocks = c.args.met.now } in
     let within = rw c.blocks-block-items.ensures.value at c.loop-block-test.true in
     let added = rw c.blocks-block-items.ensures.value at c.in_ok-put_block.ensures in
-    lines_more scene c.loop-block.out.items c.put_block.new.out.items c.args.met.now c.loop-block.block-index (Input 0) within added ∙ c.loop-block.invariant
+    lines_more scene c.loop-block.out c.put_block.new.out c.args.met.now c.loop-block.block-index (Input 0) within added ∙ c.loop-block.invariant
 
 pub returns : goal.returns
 returns g c =
     let scene : Scene = record { structs = g.V.View.declared c.args.view.now; memory = g.V.View.memory c.args.view.now; name = g.V.View.name c.args.view.now; blocks = c.args.met.now } in
     let over = rw c.blocks-block-items.ensures.value at c.loop-block-test.false in
-    sym (lines_all scene c.loop-block.out.items c.args.met.now c.loop-block.block-index over) ∙ c.loop-block.invariant
+    sym (lines_all scene c.loop-block.out c.args.met.now c.loop-block.block-index over) ∙ c.loop-block.invariant

@@ -6,4 +6,4 @@ use Rattle.ceal_show.proofs.lines.put_lines.Given as goal
 abbrev pub invariant-loop-block : goal.invariant-loop-block
 invariant-loop-block g l =
     let scene : Scene = record { structs = g.V.View.declared l.view; memory = g.V.View.memory l.view; name = g.V.View.name l.view; blocks = l.met } in
-    l.out.items ++ lines_text scene (drop l.block-index l.met) ≡ l.fn.out.items ++ lines_text scene l.met
+    l.out ++ lines_text scene (drop l.block-index l.met) ≡ l.fn.out ++ lines_text scene l.met

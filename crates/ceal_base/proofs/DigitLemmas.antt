@@ -1,7 +1,7 @@
 -- The value of decimal digits.
-use Rattle.std.proofs.Common.{◌≡◌, ℕ, ◌+◌, ◌-◌, ◌*◌, ◌^◌, ◌≤◌, ◌<◌, List, [], ◌∷◌, length, drop, get_or, sym, ◌∙◌, arith}
+use Rattle.std.proofs.Common.{◌≡◌, ℕ, ◌+◌, ◌-◌, ◌*◌, ◌≤◌, ◌<◌, List, [], ◌∷◌, length, drop, get_or, sym, ◌∙◌, arith}
 use Rattle.std.proofs.lemmas.List.{at_drop_more, at_drop_all}
-use Rattle.ceal_script.specs.Spelling.{continued, number_of}
+use Rattle.ceal_base.specs.Digits.{continued, number_of}
 
 -- more digits make no smaller number
 continued_grows : (n : ℕ) (ds : List ℕ) → n ≤ continued n ds
@@ -18,8 +18,8 @@ module _ (value i : ℕ) (digits : List ℕ) (same : continued value (drop i dig
   unfolding continued
   value_all h = sym (at_drop_all (continued value) digits i h) ∙ same
 
-  pub value_large : i < length digits → 2 ^ 63 < 10 * value + (get_or digits i 0 - 48) → 2 ^ 63 < number_of digits
-  value_large h l =
+  pub value_large : (most : ℕ) → i < length digits → most < 10 * value + (get_or digits i 0 - 48) → most < number_of digits
+  value_large most h l =
       let e = value_more h in
       let p = continued_grows (10 * value + (get_or digits i 0 - 48)) (drop (i + 1) digits) in
       omega (arith, e, p, l)

@@ -1,0 +1,15 @@
+-- Decimal digits, and the numbers that they spell.
+use Rattle.std.specs.Prelude.{ℕ, ◌+◌, ◌-◌, ◌*◌, ◌&&◌, Bool, List, [], ◌∷◌, nat_le}
+
+-- 0 to 9
+abbrev pub is_digit : ℕ → Bool
+is_digit b = nat_le 48 b && nat_le b 57
+
+-- a number n with the digits behind it
+unfoldable pub continued : ℕ → List ℕ → ℕ
+continued n [] = n
+continued n (b ∷ bs) = continued (10 * n + (b - 48)) bs
+
+-- the decimal number that digits spell
+abbrev pub number_of : List ℕ → ℕ
+number_of digits = continued 0 digits

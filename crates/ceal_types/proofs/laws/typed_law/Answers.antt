@@ -1,0 +1,5 @@
+use Rattle.ceal_types.proofs.ProgramTyped.{answered-typed}
+use Rattle.ceal_types.proofs.laws.typed_law.Goals as goal
+
+pub returns : goal.returns
+returns c = record { law = answered-typed }
