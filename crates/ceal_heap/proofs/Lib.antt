@@ -1,4 +1,6 @@
-pub mod CellsLemmas
+-- what crates above cite
 pub mod TallyLemmas
+-- the rest
+pub mod CellsLemmas
 pub mod TableLemmas
 pub mod HeapLemmas

@@ -2,7 +2,7 @@
 
 ghost use Rattle.std.specs.Prelude.{◌≡◌, ◌+◌, ◌≤◌, false, None, length, IsSome, IfSome, IfOk, OnOk, OnErr, IsTrue};
 ghost use Rattle.ceal_code.specs.PlainWords.{block_shape, block_word};
-ghost use Rattle.ceal_heap.specs.Heap.{standing, block_of, plain_of, word_at, live_count, revoked_count, revoked, number_of, IsLive, IsMade, IsFreeFor, KeepsBlocks, ReleasesRevoked, ReleasesAlike, IsUnchanged, HasSlots, IsNew};
+ghost use Rattle.ceal_heap.specs.Heap.{standing, block_of, plain_of, word_at, live_count, revoked_count, revoked, next, number_of, IsLive, IsMade, IsFreeFor, KeepsBlocks, ReleasesRevoked, ReleasesAlike, IsUnchanged, HasSlots, IsNew};
 
 use crate::number::Held;
 use crate::pieces::Pieces;
@@ -160,6 +160,13 @@ impl Heap {
                 true
             }
         }
+    }
+
+    /// The number that is given out next where none is released: how many numbers were given out.
+    pub fn next(&self) -> u32
+        ensures { result ≡ next self.now }
+    {
+        self.table.made()
     }
 
     /// How many blocks are live.

@@ -54,6 +54,13 @@ impl Table {
         self.live
     }
 
+    /// How many numbers were given out.
+    pub fn made(&self) -> u32
+        ensures { result ≡ length self.now.numbers }
+    {
+        self.numbers.len() as u32
+    }
+
     /// What is kept of a block.
     pub fn held(&self, number: u32) -> &Held
         requires { IsSome (held_at self.now.numbers number) }

@@ -1,121 +1,235 @@
 -- A memo with one more entry.
-use Rattle.std.proofs.Common.{◌≡◌, ◌≢◌, Bool, ℕ, inl, inr, true, false, List, [], refl, sym, ap, ◌∙◌, subst, Option, Some}
-use Rattle.std.specs.Prelude.{unwrap_or}
+use Rattle.std.proofs.Common.{◌≡◌, ◌≢◌, Bool, ℕ, inl, inr, true, false, List, [], ◌∷◌, refl, sym, ap, ◌∙◌, subst, Option, None, Some, slice_get}
+use Rattle.std.proofs.lemmas.Bool.Decides.{eqb_tells}
+use Rattle.std.proofs.lemmas.Bool.{eq-eqb, false≢true}
 use Rattle.std.specs.Bool.{Decides}
-use Rattle.std.specs.HashMap.{Updates}
+use Rattle.std.specs.List.{IsDistinct}
+use Rattle.std.specs.Map.{keys_of, lookup}
 use Rattle.ceal_base.specs.declared.forest.Key.{Key}
 use Rattle.ceal_base.specs.contracts.forest.KeyPartialEq.TheImpl as alloc_key
-use Rattle.ceal_order.specs.declared.stamp.Stamp.{Stamp}
-use Rattle.ceal_order.specs.Stamps.{is_in}
+use Rattle.ceal_order.specs.Stamps.{is_in, Distinct}
 use Rattle.ceal_order.specs.Rising.{IsRising, count_before}
 use Rattle.ceal_order.proofs.Editing.{rising_insert}
+use Rattle.ceal_order.proofs.StampLists.{in_besides, rising_once}
 use Rattle.ceal_memo.specs.declared.home.Home.{Home}
 use Rattle.ceal_memo.specs.declared.home.Home.TheVariants.{Read, Alloc}
 use Rattle.ceal_memo.specs.declared.key.ReadKey.{ReadKey}
 use Rattle.ceal_memo.specs.contracts.key.ReadKeyPartialEq.TheImpl as read_key
-use Rattle.ceal_memo.specs.Homes.{Table, entries_in, HomeChange, IsKept}
+use Rattle.ceal_memo.specs.Homes.{home_of, HomeChange, Houses, IsKept}
 use Rattle.ceal_memo.specs.Lists.{stamps_at, with_stamp}
-use Rattle.ceal_memo.specs.Memo.{Entries, reads_of, allocs_of, Follows, HasNone, ReadsChange, AllocsChange}
-use Rattle.ceal_memo.proofs.Keys.{tells, either, read-Decides, alloc-Decides}
-use Rattle.ceal_memo.proofs.Keeping.{matches_more, matches_apart}
-use Rattle.ceal_order.proofs.StampLists.{in_besides, rising_once}
+use Rattle.ceal_memo.specs.Numbers.{list_at, IsEntered}
+use Rattle.ceal_memo.specs.Memo.{Entries, Follows, HasNone, ReadsChange, AllocsChange}
+use Rattle.ceal_memo.proofs.Keys.{either, read-Decides, alloc-Decides}
+use Rattle.ceal_memo.proofs.Numbers.{same_value}
+use Rattle.ceal_memo.proofs.Looking.{stamps_are, list_is, found, looked, nowhere}
 
--- ---- the lists of a table in which one key was given another list
+-- ---- the lists of a table, one of which has other stamps
 
-module _ {K : Type 0} (eq : K → K → Bool) (decides : (a b : K) → Decides (eq a b) (a ≡ b))
-    (old new : Table K (List ℕ)) (key : K) (stamps : List ℕ) (updates : Updates eq old new key (Some stamps)) where
-  pub list_here : stamps_at eq new.entries key ≡ stamps
-  list_here = ap (λ (o : Option (List ℕ)). unwrap_or o []) updates.1
+module _ {K : Type 0} (eq : K → K → Bool) (decides : (a b : K) → Decides (eq a b) (a ≡ b)) (old new : List (K × List ℕ)) (unique_old : IsDistinct eq (keys_of old))
+    (key : K) (n : ℕ) (stamps : List ℕ) (entered : IsEntered eq old new key n stamps) where
+  at_key : slice_get new n ≡ Some (key, stamps)
+  at_key = subst (λ (k : K). slice_get new n ≡ Some (k, stamps)) (sym ((decides key entered.stored).0 entered.same)) entered.here
 
-  pub list_other : (other : K) → other ≢ key → stamps_at eq new.entries other ≡ stamps_at eq old.entries other
-  list_other other differ = elim (tells eq decides key other) [
-    | inl p ↦ absurd (differ (sym p.1))
-    | inr p ↦ ap (λ (o : Option (List ℕ)). unwrap_or o []) (updates.2 other p.0)
+  pub list_here : list_at new n ≡ stamps
+  list_here = list_is new n key stamps at_key
+
+  pub list_other : (i : ℕ) → i ≢ n → list_at new i ≡ list_at old i
+  list_other i other = same_value new old i (entered.others i other)
+
+  pub key_here : stamps_at eq new key ≡ stamps
+  key_here = stamps_are eq new key (Some stamps) (looked eq decides new entered.unique n key stamps at_key)
+
+  -- the list with this number was that of the key, or empty
+  was_empty : (other : K) → other ≢ key → (l : List ℕ) → slice_get old n ≡ Some (other, l) → l ≡ []
+  was_empty other differ [] at = refl
+  was_empty other differ (s ∷ ss) at = absurd (differ (sym ((decides key other).0 (entered.place other s ss at))))
+
+  same_some : (a b : K × List ℕ) → Some a ≡ Some b → a ≡ b
+  same_some a b same = cc
+
+  pub key_other : (other : K) → other ≢ key → stamps_at eq new other ≡ stamps_at eq old other
+  key_other other differ = by (lookup (eq other) new) (lookup (eq other) old) refl refl
+    where
+      by : (a b : Option (List ℕ)) → lookup (eq other) new ≡ a → lookup (eq other) old ≡ b → stamps_at eq new other ≡ stamps_at eq old other
+      by None None p q = stamps_are eq new other None p ∙ sym (stamps_are eq old other None q)
+      by None (Some l) p q =
+          let there = found eq decides old other l q in
+          elim (eqb_tells there.0 n) [
+            | inl same ↦
+                let empty = was_empty other differ l (subst (λ (i : ℕ). slice_get old i ≡ Some (other, l)) same.1 there.1) in
+                stamps_are eq new other None p ∙ sym (stamps_are eq old other (Some l) q ∙ empty)
+            | inr apart ↦
+                let again = looked eq decides new entered.unique there.0 other l (entered.others there.0 apart.1 ∙ there.1) in
+                let no : None ≡ Some l = sym p ∙ again in
+                cc
+          ]
+      by (Some l) b p q =
+          let there = found eq decides new other l p in
+          let apart : there.0 ≢ n = λ same.
+          differ (ap (λ (e : K × List ℕ). e.0) (same_some (other, l) (key, stamps) (sym there.1 ∙ subst (λ (i : ℕ). slice_get new i ≡ Some (key, stamps)) (sym same) at_key))) in
+          let before = looked eq decides old unique_old there.0 other l (sym (entered.others there.0 apart) ∙ there.1) in
+          stamps_are eq new other (Some l) p ∙ sym (stamps_are eq old other (Some l) before)
+
+-- ---- homes
+
+module _ (s : ℕ) (home : Home) (old new : List Home) (change : HomeChange s home old new) where
+  pub home_here : home_of new s ≡ home
+  home_here = change s ∙ rw (eq-eqb s s refl) refl
+
+  pub home_other : (t : ℕ) → t ≢ s → home_of new t ≡ home_of old t
+  home_other t other = elim (eqb_tells s t) [
+    | inl p ↦ absurd (other (sym p.1))
+    | inr p ↦ change t ∙ rw p.0 refl
   ]
 
-pub read_added : (old new : Table ReadKey (List ℕ)) (allocs : Table Key (List ℕ)) (key : ReadKey) (stamps : List ℕ)
-    → Updates read_key.ghosts.eq old new key (Some stamps) → ReadsChange key stamps (entries_in old allocs) (entries_in new allocs)
-read_added old new allocs key stamps updates = record {
-  here = list_here read_key.ghosts.eq read-Decides old new key stamps updates;
-  others = list_other read_key.ghosts.eq read-Decides old new key stamps updates;
-  allocs = λ other. refl;
-}
+-- a stamp that is in a list is none that is in no list
+pub not_that : (s t : ℕ) (stamps : List ℕ) → is_in s stamps ≡ false → is_in t stamps ≡ true → t ≢ s
+not_that s t stamps none there same = false≢true (sym none ∙ subst (λ (u : ℕ). is_in u stamps ≡ true) same there)
 
-pub alloc_added : (reads : Table ReadKey (List ℕ)) (old new : Table Key (List ℕ)) (key : Key) (stamps : List ℕ)
-    → Updates alloc_key.ghosts.eq old new key (Some stamps) → AllocsChange key stamps (entries_in reads old) (entries_in reads new)
-alloc_added reads old new key stamps updates = record {
-  here = list_here alloc_key.ghosts.eq alloc-Decides old new key stamps updates;
-  others = list_other alloc_key.ghosts.eq alloc-Decides old new key stamps updates;
-  reads = λ other. refl;
-}
+-- lists of the other kind
+pub houses_still : {K : Type 0} (kind : ℕ → Home) (es : List (K × List ℕ)) (s : ℕ) (home : Home) (homes homes' : List Home) → ((n : ℕ) → is_in s (list_at es n) ≡ false)
+    → HomeChange s home homes homes' → Houses kind es homes → Houses kind es homes'
+houses_still kind es s home homes homes' none change houses n t there =
+    home_other s home homes homes' change t (not_that s t (list_at es n) (none n) there) ∙ houses n t there
 
--- ---- what follows the order still does, and stamps are kept under their keys
+-- the home that a stamp has where others keep theirs
+pub houses_more : {K : Type 0} (kind : ℕ → Home) (old new : List (K × List ℕ)) (s n : ℕ) (homes homes' : List Home) → ((m : ℕ) → is_in s (list_at old m) ≡ false)
+    → HomeChange s (kind n) homes homes' → ((t : ℕ) → t ≢ s → is_in t (list_at new n) ≡ is_in t (list_at old n))
+    → ((m : ℕ) → m ≢ n → list_at new m ≡ list_at old m) → Houses kind old homes → Houses kind new homes'
+houses_more kind old new s n homes homes' none change here others houses m t there = elim (eqb_tells m n) [
+  | inl p ↦ elim (eqb_tells t s) [
+    | inl q ↦ ap (home_of homes') q.1 ∙ home_here s (kind n) homes homes' change ∙ ap kind (sym p.1)
+    | inr q ↦
+        let was = sym (here t q.1) ∙ subst (λ (j : ℕ). is_in t (list_at new j) ≡ true) p.1 there in
+        home_other s (kind n) homes homes' change t q.1 ∙ houses n t was ∙ ap kind (sym p.1)
+  ]
+  | inr p ↦
+      let was = subst (λ (l : List ℕ). is_in t l ≡ true) (others m p.1) there in
+      home_other s (kind n) homes homes' change t (not_that s t (list_at old m) (none m) was) ∙ houses m t was
+]
 
-module _ (order : List ℕ) (s : Stamp) (old new : Entries)
-    (here : is_in s.0 order ≡ true) (follows : Follows order old) (none : HasNone s.0 old) where
-  -- lists of one kind, one of which has one stamp more
-  rising_more : {K : Type 0} (eq : K → K → Bool) (decides : (a b : K) → Decides (eq a b) (a ≡ b)) (stamps stamps' : K → List ℕ) (key : K)
-      → stamps' key ≡ with_stamp order s.0 (stamps key) → ((k : K) → k ≢ key → stamps' k ≡ stamps k)
-      → ((k : K) → IsRising order (stamps k)) → ((k : K) → is_in s.0 (stamps k) ≡ false) → (k : K) → IsRising order (stamps' k)
-  rising_more {K} eq decides stamps stamps' key here_is others rising absent k = elim (either eq decides k key) [
-    | inl same ↦ subst (λ (q : K). IsRising order (stamps' q)) (sym same) (rw here_is (rising_insert order s.0 (stamps key) here (rising key) (absent key)))
-    | inr other ↦ rw (others k other) (rising k)
+-- ---- a memo
+
+-- lists of one kind still rise after a stamp comes in
+module _ {K : Type 0} (eq : K → K → Bool) (decides : (a b : K) → Decides (eq a b) (a ≡ b)) (order : List ℕ) (s : ℕ) (here : is_in s order ≡ true)
+    (old new : List (K × List ℕ)) (unique : IsDistinct eq (keys_of old)) (rising : (k : K) → IsRising order (stamps_at eq old k)) (none : (k : K) → is_in s (stamps_at eq old k) ≡ false)
+    (key : K) (n : ℕ) (entered : IsEntered eq old new key n (with_stamp order s (stamps_at eq old key))) where
+  rises_here : IsRising order (with_stamp order s (stamps_at eq old key))
+  rises_here = rising_insert order s (stamps_at eq old key) here (rising key) (none key)
+
+  more_here : stamps_at eq new key ≡ with_stamp order s (stamps_at eq old key)
+  more_here = key_here eq decides old new unique key n (with_stamp order s (stamps_at eq old key)) entered
+
+  more_other : (k : K) → k ≢ key → stamps_at eq new k ≡ stamps_at eq old k
+  more_other = key_other eq decides old new unique key n (with_stamp order s (stamps_at eq old key)) entered
+
+  pub rising_more : (k : K) → IsRising order (stamps_at eq new k)
+  rising_more k = elim (either eq decides k key) [
+    | inl same ↦ subst (λ (q : K). IsRising order (stamps_at eq new q)) (sym same) (rw more_here rises_here)
+    | inr other ↦ rw (more_other k other) (rising k)
   ]
 
-  pub follows_read : (key : ReadKey) → ReadsChange key (with_stamp order s.0 (reads_of old key)) old new → Follows order new
-  follows_read key change = record {
-    reads = rising_more read_key.ghosts.eq read-Decides (reads_of old) (reads_of new) key change.here change.others follows.reads none.reads;
-    allocs = λ k. rw (change.allocs k) (follows.allocs k);
-  }
-
-  pub follows_alloc : (key : Key) → AllocsChange key (with_stamp order s.0 (allocs_of old key)) old new → Follows order new
-  follows_alloc key change = record {
-    reads = λ k. rw (change.reads k) (follows.reads k);
-    allocs = rising_more alloc_key.ghosts.eq alloc-Decides (allocs_of old) (allocs_of new) key change.here change.others follows.allocs none.allocs;
-  }
-
-  pub kept_read : (homes homes' : Table Stamp Home) (key : ReadKey) → ReadsChange key (with_stamp order s.0 (reads_of old key)) old new → HomeChange s (Some (Read key)) homes homes'
-      → IsKept old homes → IsKept new homes'
-  kept_read homes homes' key change home kept = record {
-    reads = matches_more (λ k. Read k) (λ a b same. cc) (either read_key.ghosts.eq read-Decides) s (reads_of old) (reads_of new) homes homes' kept.reads
-        key (count_before order s.0 (reads_of old key)) home change.here change.others none.reads;
-    allocs = matches_apart (λ k. Alloc k) (λ a b same. cc) (either alloc_key.ghosts.eq alloc-Decides) s (allocs_of old) (allocs_of new) homes homes' kept.allocs
-        (Read key) home (λ k same. cc) change.allocs none.allocs;
-    reads_once = λ k. rising_once order (reads_of new k) ((follows_read key change).reads k);
-    allocs_once = λ k. rising_once order (allocs_of new k) ((follows_read key change).allocs k);
-  }
-
-  pub kept_alloc : (homes homes' : Table Stamp Home) (key : Key) → AllocsChange key (with_stamp order s.0 (allocs_of old key)) old new → HomeChange s (Some (Alloc key)) homes homes'
-      → IsKept old homes → IsKept new homes'
-  kept_alloc homes homes' key change home kept = record {
-    reads = matches_apart (λ k. Read k) (λ a b same. cc) (either read_key.ghosts.eq read-Decides) s (reads_of old) (reads_of new) homes homes' kept.reads
-        (Alloc key) home (λ k same. cc) change.reads none.reads;
-    allocs = matches_more (λ k. Alloc k) (λ a b same. cc) (either alloc_key.ghosts.eq alloc-Decides) s (allocs_of old) (allocs_of new) homes homes' kept.allocs
-        key (count_before order s.0 (allocs_of old key)) home change.here change.others none.allocs;
-    reads_once = λ k. rising_once order (reads_of new k) ((follows_alloc key change).reads k);
-    allocs_once = λ k. rising_once order (allocs_of new k) ((follows_alloc key change).allocs k);
-  }
-
-  -- ---- no other stamp gets an entry
-
-  none_more : {K : Type 0} (eq : K → K → Bool) (decides : (a b : K) → Decides (eq a b) (a ≡ b)) (stamps stamps' : K → List ℕ) (key : K)
-      → stamps' key ≡ with_stamp order s.0 (stamps key) → ((k : K) → k ≢ key → stamps' k ≡ stamps k)
-      → (t : ℕ) → t ≢ s.0 → ((k : K) → is_in t (stamps k) ≡ false) → (k : K) → is_in t (stamps' k) ≡ false
-  none_more {K} eq decides stamps stamps' key here_is others t other absent k = elim (either eq decides k key) [
+  -- no other stamp comes in
+  pub none_more : (t : ℕ) → t ≢ s → ((k : K) → is_in t (stamps_at eq old k) ≡ false) → (k : K) → is_in t (stamps_at eq new k) ≡ false
+  none_more t other absent k = elim (either eq decides k key) [
     | inl same ↦
-        subst (λ (q : K). is_in t (stamps' q) ≡ false) (sym same)
-        (rw here_is (in_besides t s.0 (count_before order s.0 (stamps key)) (stamps key) other ∙ absent key))
-    | inr differ ↦ rw (others k differ) (absent k)
+        subst (λ (q : K). is_in t (stamps_at eq new q) ≡ false) (sym same)
+        (rw more_here (in_besides t s (count_before order s (stamps_at eq old key)) (stamps_at eq old key) other ∙ absent key))
+    | inr differ ↦ rw (more_other k differ) (absent k)
   ]
 
-  pub none_read : (key : ReadKey) → ReadsChange key (with_stamp order s.0 (reads_of old key)) old new → (t : ℕ) → t ≢ s.0 → HasNone t old → HasNone t new
-  none_read key change t other absent = record {
-    reads = none_more read_key.ghosts.eq read-Decides (reads_of old) (reads_of new) key change.here change.others t other absent.reads;
-    allocs = λ k. rw (change.allocs k) (absent.allocs k);
-  }
+  more_list : list_at new n ≡ with_stamp order s (stamps_at eq old key)
+  more_list = list_here eq decides old new unique key n (with_stamp order s (stamps_at eq old key)) entered
 
-  pub none_alloc : (key : Key) → AllocsChange key (with_stamp order s.0 (allocs_of old key)) old new → (t : ℕ) → t ≢ s.0 → HasNone t old → HasNone t new
-  none_alloc key change t other absent = record {
-    reads = λ k. rw (change.reads k) (absent.reads k);
-    allocs = none_more alloc_key.ghosts.eq alloc-Decides (allocs_of old) (allocs_of new) key change.here change.others t other absent.allocs;
-  }
+  other_list : (m : ℕ) → m ≢ n → list_at new m ≡ list_at old m
+  other_list = list_other eq decides old new unique key n (with_stamp order s (stamps_at eq old key)) entered
+
+  pub once_more : ((m : ℕ) → Distinct (list_at old m)) → (m : ℕ) → Distinct (list_at new m)
+  once_more once m = elim (eqb_tells m n) [
+    | inl p ↦ subst (λ (i : ℕ). Distinct (list_at new i)) (sym p.1) (rw more_list (rising_once order (with_stamp order s (stamps_at eq old key)) rises_here))
+    | inr p ↦ rw (other_list m p.1) (once m)
+  ]
+
+  pub houses_entered : (kind : ℕ → Home) (homes homes' : List Home) → HomeChange s (kind n) homes homes' → Houses kind old homes → Houses kind new homes'
+  houses_entered kind homes homes' change houses =
+      houses_more kind old new s n homes homes' (nowhere eq decides old unique s none) change
+      (λ t other. rw (more_list, entered.before) (in_besides t s (count_before order s (stamps_at eq old key)) (stamps_at eq old key) other)) other_list houses
+
+-- each stamp has the home that it had
+houses_same : {K : Type 0} (kind : ℕ → Home) (es : List (K × List ℕ)) (homes homes' : List Home) → ((t : ℕ) → home_of homes' t ≡ home_of homes t)
+    → Houses kind es homes → Houses kind es homes'
+houses_same kind es homes homes' same houses n t there = same t ∙ houses n t there
+
+pub kept_same : (memo : Entries) (homes homes' : List Home) → ((t : ℕ) → home_of homes' t ≡ home_of homes t) → IsKept memo homes → IsKept memo homes'
+kept_same memo homes homes' same kept = record {
+  reads = houses_same (λ n. Read n) memo.reads homes homes' same kept.reads;
+  allocs = houses_same (λ n. Alloc n) memo.allocs homes homes' same kept.allocs;
+  reads_once = kept.reads_once;
+  allocs_once = kept.allocs_once;
+  reads_unique = kept.reads_unique;
+  allocs_unique = kept.allocs_unique;
+}
+
+module _ (order : List ℕ) (s : ℕ) (reads : List (ReadKey × List ℕ)) (allocs : List (Key × List ℕ)) (homes : List Home) (here : is_in s order ≡ true)
+    (follows : Follows order (record { reads = reads; allocs = allocs })) (none : HasNone s (record { reads = reads; allocs = allocs }))
+    (kept : IsKept (record { reads = reads; allocs = allocs }) homes) where
+  module _ (reads' : List (ReadKey × List ℕ)) (key : ReadKey) (n : ℕ) (entered : IsEntered read_key.ghosts.eq reads reads' key n (with_stamp order s (stamps_at read_key.ghosts.eq reads key))) where
+    pub read_added : ReadsChange key (with_stamp order s (stamps_at read_key.ghosts.eq reads key)) (record { reads = reads; allocs = allocs }) (record { reads = reads'; allocs = allocs })
+    read_added = record {
+      here = more_here read_key.ghosts.eq read-Decides order s here reads reads' kept.reads_unique follows.reads none.reads key n entered;
+      others = more_other read_key.ghosts.eq read-Decides order s here reads reads' kept.reads_unique follows.reads none.reads key n entered;
+      allocs = λ other. refl;
+    }
+
+    pub follows_read : Follows order (record { reads = reads'; allocs = allocs })
+    follows_read = record {
+      reads = rising_more read_key.ghosts.eq read-Decides order s here reads reads' kept.reads_unique follows.reads none.reads key n entered;
+      allocs = follows.allocs;
+    }
+
+    pub none_read : (t : ℕ) → t ≢ s → HasNone t (record { reads = reads; allocs = allocs }) → HasNone t (record { reads = reads'; allocs = allocs })
+    none_read t other absent = record {
+      reads = none_more read_key.ghosts.eq read-Decides order s here reads reads' kept.reads_unique follows.reads none.reads key n entered t other absent.reads;
+      allocs = absent.allocs;
+    }
+
+    pub kept_read : (homes' : List Home) → HomeChange s (Read n) homes homes' → IsKept (record { reads = reads'; allocs = allocs }) homes'
+    kept_read homes' change = record {
+      reads = houses_entered read_key.ghosts.eq read-Decides order s here reads reads' kept.reads_unique follows.reads none.reads key n entered (λ m. Read m) homes homes' change kept.reads;
+      allocs = houses_still (λ m. Alloc m) allocs s (Read n) homes homes' (nowhere alloc_key.ghosts.eq alloc-Decides allocs kept.allocs_unique s none.allocs) change kept.allocs;
+      reads_once = once_more read_key.ghosts.eq read-Decides order s here reads reads' kept.reads_unique follows.reads none.reads key n entered kept.reads_once;
+      allocs_once = kept.allocs_once;
+      reads_unique = entered.unique;
+      allocs_unique = kept.allocs_unique;
+    }
+
+  module _ (allocs' : List (Key × List ℕ)) (key : Key) (n : ℕ) (entered : IsEntered alloc_key.ghosts.eq allocs allocs' key n (with_stamp order s (stamps_at alloc_key.ghosts.eq allocs key))) where
+    pub alloc_added : AllocsChange key (with_stamp order s (stamps_at alloc_key.ghosts.eq allocs key)) (record { reads = reads; allocs = allocs }) (record { reads = reads; allocs = allocs' })
+    alloc_added = record {
+      here = more_here alloc_key.ghosts.eq alloc-Decides order s here allocs allocs' kept.allocs_unique follows.allocs none.allocs key n entered;
+      others = more_other alloc_key.ghosts.eq alloc-Decides order s here allocs allocs' kept.allocs_unique follows.allocs none.allocs key n entered;
+      reads = λ other. refl;
+    }
+
+    pub follows_alloc : Follows order (record { reads = reads; allocs = allocs' })
+    follows_alloc = record {
+      reads = follows.reads;
+      allocs = rising_more alloc_key.ghosts.eq alloc-Decides order s here allocs allocs' kept.allocs_unique follows.allocs none.allocs key n entered;
+    }
+
+    pub none_alloc : (t : ℕ) → t ≢ s → HasNone t (record { reads = reads; allocs = allocs }) → HasNone t (record { reads = reads; allocs = allocs' })
+    none_alloc t other absent = record {
+      reads = absent.reads;
+      allocs = none_more alloc_key.ghosts.eq alloc-Decides order s here allocs allocs' kept.allocs_unique follows.allocs none.allocs key n entered t other absent.allocs;
+    }
+
+    pub kept_alloc : (homes' : List Home) → HomeChange s (Alloc n) homes homes' → IsKept (record { reads = reads; allocs = allocs' }) homes'
+    kept_alloc homes' change = record {
+      reads = houses_still (λ m. Read m) reads s (Alloc n) homes homes' (nowhere read_key.ghosts.eq read-Decides reads kept.reads_unique s none.reads) change kept.reads;
+      allocs = houses_entered alloc_key.ghosts.eq alloc-Decides order s here allocs allocs' kept.allocs_unique follows.allocs none.allocs key n entered (λ m. Alloc m) homes homes' change
+          kept.allocs;
+      reads_once = kept.reads_once;
+      allocs_once = once_more alloc_key.ghosts.eq alloc-Decides order s here allocs allocs' kept.allocs_unique follows.allocs none.allocs key n entered kept.allocs_once;
+      reads_unique = kept.reads_unique;
+      allocs_unique = entered.unique;
+    }

@@ -5,7 +5,6 @@ use Rattle.std.specs.Bool.{Decides}
 use Rattle.ceal_base.specs.declared.forest.Key.{Key}
 use Rattle.ceal_base.specs.contracts.forest.KeyPartialEq.TheImpl as alloc_key
 use Rattle.ceal_base.proofs.Equality.{words-Decides}
-use Rattle.ceal_memo.specs.declared.home.Home.TheVariants.{Read, Alloc}
 use Rattle.ceal_memo.specs.declared.key.ReadKey.{ReadKey}
 use Rattle.ceal_memo.specs.contracts.key.ReadKeyPartialEq.TheImpl as read_key
 
@@ -24,14 +23,3 @@ tells eq decides a b = elim (cases_Bool (eq a b)) [
 
 pub either : {K : Type 0} (eq : K → K → Bool) → ((a b : K) → Decides (eq a b) (a ≡ b)) → (a b : K) → (a ≡ b) ⊎ (a ≢ b)
 either eq decides a b = elim (tells eq decides a b) [ inl p ↦ inl p.1 | inr p ↦ inr p.1 ]
-
--- ---- keys as homes
-
-pub one_read : (a b : ReadKey) → Read a ≡ Read b → a ≡ b
-one_read a b same = cc
-
-pub one_alloc : (a b : Key) → Alloc a ≡ Alloc b → a ≡ b
-one_alloc a b same = cc
-
-pub read_apart : (a : ReadKey) (b : Key) → Read a ≡ Alloc b → ⊥
-read_apart a b same = cc

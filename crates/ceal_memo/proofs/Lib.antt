@@ -1,4 +1,6 @@
 pub mod Keys
-pub mod Keeping
+pub mod Numbers
+pub mod Entering
+pub mod Looking
 pub mod Adding
 pub mod Taking

@@ -3,3 +3,4 @@ pub mod Lists
 pub mod Memo
 -- what its own functions say of each other
 pub mod Homes
+pub mod Numbers

@@ -5,8 +5,8 @@
 //! each call that compares stamps is handed it, and what is kept follows it.
 //!
 //! `key` is what a read is found again by, `memo` the tables with their calls; `laws` says along which orders a memo
-//! still follows. Inside, `lists` has the stamps of each key, and `home` the key of each stamp, by which an entry is
-//! taken out without an order.
+//! still follows. Inside, `lists` has the stamps of each key, in lists that have numbers, `home` the list of each stamp, by
+//! which an entry is taken out without an order or a key, and `spares` the lists that have become empty.
 #![tactic(auto)]
 
 mod home;
@@ -14,3 +14,4 @@ pub mod key;
 pub mod laws;
 mod lists;
 pub mod memo;
+mod spares;

@@ -6,41 +6,38 @@ ghost use Rattle.ceal_order.specs.Stamps.{is_in, Distinct, place, without};
 ghost use Rattle.ceal_order.specs.Rising.{IsFirstAfter};
 ghost use Rattle.ceal_memo.specs.declared.key.ReadKey.{ReadKey as KeyOfRead};
 ghost use Rattle.ceal_memo.specs.declared.home.Home.TheVariants.{Read, Alloc};
-ghost use Rattle.ceal_memo.specs.Homes.{entries_in};
 ghost use Rattle.ceal_memo.specs.Lists.{with_stamp, NoneBetween};
+ghost use Rattle.ceal_memo.specs.Numbers.{list_at, IsWithout};
 ghost use Rattle.ceal_memo.specs.Memo.{reads_of, allocs_of, Follows, HasNone, OneEntry, ReadsChange, AllocsChange};
 
-use crate::home::{Home, settle};
+use crate::home::{Home, Homes};
 use crate::key::ReadKey;
-use crate::lists::{first_between, put, take};
+use crate::lists::Lists;
 use ceal_base::forest::Key;
 use ceal_base::no_memory::NoMemory;
 use ceal_order::order::Order;
-use ceal_order::rising::Rising;
 use ceal_order::stamp::Stamp;
 use std::alloc::Global;
-use std::collections::HashMap;
 use std::marker::Model;
 
 /// Entries of recorded reads and of allocations. Contracts see, for each key, the list of the stamps of its entries.
 /// Each call that is handed an order needs that the memo follows it, and leaves it so.
 #[derive(Drop)]
 pub struct Memo {
-    reads: HashMap<ReadKey, Rising>,
-    allocs: HashMap<Key, Rising>,
-    homes: HashMap<Stamp, Home>,
-    alloc: Global,
+    reads: Lists<ReadKey>,
+    allocs: Lists<Key>,
+    homes: Homes,
 }
 
 impl Model for Memo {
     ghost use Rattle.ceal_memo.specs.Memo.{Entries};
-    ghost use Rattle.ceal_memo.specs.Homes.{entries_in, IsKept};
+    ghost use Rattle.ceal_memo.specs.Homes.{IsKept};
 
     ghost Value = { Entries };
 
-    ghost view = { λ m. entries_in m.reads m.allocs };
+    ghost view = { λ m. record { reads = m.reads; allocs = m.allocs } };
 
-    ghost invariant = { λ m. IsKept (entries_in m.reads m.allocs) m.homes };
+    ghost invariant = { λ m. IsKept (record { reads = m.reads; allocs = m.allocs }) m.homes };
 }
 
 impl Memo {
@@ -52,10 +49,9 @@ impl Memo {
         ensures follows { IfOk result (λ memo. (order : List ℕ) → Follows order memo) }
     {
         Ok(Memo {
-            reads: HashMap::new(alloc),
-            allocs: HashMap::new(alloc),
-            homes: HashMap::new(alloc),
-            alloc,
+            reads: Lists::new(alloc),
+            allocs: Lists::new(alloc),
+            homes: Homes::new(alloc),
         })
     }
 
@@ -78,10 +74,9 @@ impl Memo {
         ensures others { (s : ℕ) → s ≢ stamp.0 → HasNone s self.old → HasNone s self.new }
         ensures follows { Follows order.now.stamps self.new }
     {
-        self.homes.reserve(1)?;
-        let home = Home::Read(key.copy()?);
-        put(self.alloc, &mut self.reads, order, key, stamp)?;
-        settle(&mut self.homes, stamp, home);
+        self.homes.make_room(stamp)?;
+        let number = self.reads.put(order, key, stamp)?;
+        self.homes.settle(stamp, Home::Read(number));
         Ok(())
     }
 
@@ -97,10 +92,9 @@ impl Memo {
         ensures others { (s : ℕ) → s ≢ stamp.0 → HasNone s self.old → HasNone s self.new }
         ensures follows { Follows order.now.stamps self.new }
     {
-        self.homes.reserve(1)?;
-        let home = Home::Alloc(key.copy()?);
-        put(self.alloc, &mut self.allocs, order, key, stamp)?;
-        settle(&mut self.homes, stamp, home);
+        self.homes.make_room(stamp)?;
+        let number = self.allocs.put(order, key, stamp)?;
+        self.homes.settle(stamp, Home::Alloc(number));
         Ok(())
     }
 
@@ -115,9 +109,8 @@ impl Memo {
         ensures others { (s : ℕ) → HasNone s self.old → HasNone s self.new }
         ensures follows { (order : List ℕ) → Follows order self.old → Follows order self.new }
     {
-        if let Some(home) = self.homes.remove(&stamp) {
-            forget(&mut self.reads, &mut self.allocs, home, stamp);
-        }
+        let home = self.homes.take(stamp);
+        forget(&mut self.reads, &mut self.allocs, home, stamp);
     }
 
     /// The earliest read with a key after one stamp and before another.
@@ -139,7 +132,7 @@ impl Memo {
         ensures none { IfNone result
             (NoneBetween order.now.stamps (reads_of self.now key.now) after.0 until.0) }
     {
-        first_between(&self.reads, order, key, after, until)
+        self.reads.first_between(order, key, after, until)
     }
 
     /// The earliest allocation with a key after one stamp and before another.
@@ -155,33 +148,22 @@ impl Memo {
         ensures none { IfNone result
             (NoneBetween order.now.stamps (allocs_of self.now key.now) after.0 until.0) }
     {
-        first_between(&self.allocs, order, key, after, until)
+        self.allocs.first_between(order, key, after, until)
     }
 }
 
-// Takes a stamp out of the list of the key that is its home.
-fn forget(
-    reads: &mut HashMap<ReadKey, Rising>,
-    allocs: &mut HashMap<Key, Rising>,
-    home: Home,
-    stamp: Stamp,
-)
-    requires reads { (key : KeyOfRead)
-        → is_in stamp.0 (reads_of (entries_in reads.old allocs.old) key) ≡ true → home ≡ Read key }
-    requires allocs { (key : AllocKey)
-        → is_in stamp.0 (allocs_of (entries_in reads.old allocs.old) key) ≡ true
-        → home ≡ Alloc key }
-    requires reads_once { (key : KeyOfRead)
-        → Distinct (reads_of (entries_in reads.old allocs.old) key) }
-    requires allocs_once { (key : AllocKey)
-        → Distinct (allocs_of (entries_in reads.old allocs.old) key) }
-    ensures reads { (key : KeyOfRead) → reads_of (entries_in reads.new allocs.new) key
-        ≡ without stamp.0 (reads_of (entries_in reads.old allocs.old) key) }
-    ensures allocs { (key : AllocKey) → allocs_of (entries_in reads.new allocs.new) key
-        ≡ without stamp.0 (allocs_of (entries_in reads.old allocs.old) key) }
+// Takes a stamp out of the list that is its home.
+fn forget(reads: &mut Lists<ReadKey>, allocs: &mut Lists<Key>, home: Home, stamp: Stamp)
+    requires reads { (n : ℕ) → is_in stamp.0 (list_at reads.old n) ≡ true → home ≡ Read n }
+    requires allocs { (n : ℕ) → is_in stamp.0 (list_at allocs.old n) ≡ true → home ≡ Alloc n }
+    requires reads_once { (n : ℕ) → Distinct (list_at reads.old n) }
+    requires allocs_once { (n : ℕ) → Distinct (list_at allocs.old n) }
+    ensures reads { IsWithout stamp.0 reads.old reads.new }
+    ensures allocs { IsWithout stamp.0 allocs.old allocs.new }
 {
     match home {
-        Home::Read(key) => take(reads, key, stamp),
-        Home::Alloc(key) => take(allocs, key, stamp),
+        Home::Nowhere => (),
+        Home::Read(number) => reads.take(number, stamp),
+        Home::Alloc(number) => allocs.take(number, stamp),
     }
 }

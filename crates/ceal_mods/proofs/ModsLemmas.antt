@@ -1,6 +1,6 @@
 -- The cells of places.
-use Rattle.std.proofs.Common.{◌≡◌, ◌≢◌, ℕ, cond, inl, inr, List, [], ◌∷◌, ◌++◌, Option, Some, refl, sym, ap, ◌∙◌}
-use Rattle.std.specs.Prelude.{unwrap_or}
+use Rattle.std.proofs.Common.{◌≡◌, ◌≢◌, ℕ, cond, inl, inr, List, [], ◌∷◌, ◌++◌, Option, Some, None, refl, sym, ap, ◌∙◌}
+use Rattle.std.specs.Prelude.{unwrap_or, IsSome}
 use Rattle.std.specs.Map.{lookup}
 use Rattle.std.proofs.lemmas.Bool.{cases_Bool}
 use Rattle.ceal_base.specs.contracts.word.PlacePartialEq.TheImpl.{ghosts}
@@ -44,6 +44,21 @@ changes_as cells after looked p cell updates = record {
   looked = refl;
 }
 
+-- where one place has another cell, it has one, and the others that had one have it
+pub touched_now : (cells after : List (Place × Cell)) (p : Place) (cell : Cell) → ((q : Place) → lookup (ghosts.eq q) after ≡ cond (ghosts.eq p q) (Some cell) (lookup (ghosts.eq q) cells))
+    → IsSome (lookup (ghosts.eq p) after)
+touched_now cells after p cell updates = elim (same_place p p) [
+  | inl same ↦ (let here : lookup (ghosts.eq p) after ≡ Some cell = updates p ∙ rw same.0 refl in rw here refl)
+  | inr differ ↦ absurd (differ.1 refl)
+]
+
+pub touched_still : (cells after : List (Place × Cell)) (p : Place) (cell : Cell) → ((q : Place) → lookup (ghosts.eq q) after ≡ cond (ghosts.eq p q) (Some cell) (lookup (ghosts.eq q) cells))
+    → (q : Place) → IsSome (lookup (ghosts.eq q) cells) → IsSome (lookup (ghosts.eq q) after)
+touched_still cells after p cell updates q h = elim (cases_Bool (ghosts.eq p q)) [
+  | inl e ↦ (let here : lookup (ghosts.eq q) after ≡ Some cell = updates q ∙ rw e refl in rw here refl)
+  | inr e ↦ (let same : lookup (ghosts.eq q) after ≡ lookup (ghosts.eq q) cells = updates q ∙ rw e refl in rw same h)
+]
+
 -- ---- what was found of a place
 
 module _ (index : Index) (cells : List (Place × Cell)) (p : Place) (slot : ℕ) (indexes : Indexes index cells) (is : slot ≡ slot_of index p) where
@@ -64,12 +79,27 @@ module _ (index : Index) (cells : List (Place × Cell)) (p : Place) (slot : ℕ)
     pub follow : (order : List ℕ) (cell : Cell) (after : List (Place × Cell)) → AllRise order cells → after ≡ with_cell slot cell cells → Rises order cell → AllRise order after
     follow order cell after rise now rises = rw now (rise_changed order cells (with_cell slot cell cells) p cell rise (λ q. lookup_with p q cells slot cell at.stands) rises)
 
+    pub touched : (cell : Cell) (after : List (Place × Cell)) → after ≡ with_cell slot cell cells → IsSome (lookup (ghosts.eq p) after)
+    touched cell after now = rw now (touched_now cells (with_cell slot cell cells) p cell (λ q. lookup_with p q cells slot cell at.stands))
+
+    pub touched_too : (cell : Cell) (after : List (Place × Cell)) → after ≡ with_cell slot cell cells → (q : Place) → IsSome (lookup (ghosts.eq q) cells) → IsSome (lookup (ghosts.eq q) after)
+    touched_too cell after now = rw now (touched_still cells (with_cell slot cell cells) p cell (λ q. lookup_with p q cells slot cell at.stands))
+
     pub indexed : (cell : Cell) (after : List (Place × Cell)) → after ≡ with_cell slot cell cells → Indexes index after
     indexed cell after now = rw now (still_indexes index cells slot cell indexes)
 
   module _ (none : slot ≡ no_slot) where
     pub nowhere : where_from 0 p cells ≡ no_slot
     nowhere = none_held index cells p slot indexes is none
+
+    pub no_cell : lookup (ghosts.eq p) cells ≡ None
+    no_cell = not_found index cells p indexes nowhere
+
+    pub added_touched : (cell : Cell) (after : List (Place × Cell)) → after ≡ cells ++ (p, cell) ∷ [] → IsSome (lookup (ghosts.eq p) after)
+    added_touched cell after now = rw now (touched_now cells (cells ++ (p, cell) ∷ []) p cell (λ q. lookup_pushed p q cell cells no_cell))
+
+    pub added_too : (cell : Cell) (after : List (Place × Cell)) → after ≡ cells ++ (p, cell) ∷ [] → (q : Place) → IsSome (lookup (ghosts.eq q) cells) → IsSome (lookup (ghosts.eq q) after)
+    added_too cell after now = rw now (touched_still cells (cells ++ (p, cell) ∷ []) p cell (λ q. lookup_pushed p q cell cells no_cell))
 
     pub cell_none : unwrap_or (lookup (ghosts.eq p) cells) untouched ≡ untouched
     cell_none = ap (λ (o : Option Cell). unwrap_or o untouched) (not_found index cells p indexes nowhere)

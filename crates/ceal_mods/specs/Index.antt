@@ -12,8 +12,8 @@ use Rattle.ceal_mods.specs.Slots.{no_slot, slot_in}
 
 -- the slot in the sheet of a kind of blocks
 abbrev pub near_in : Index → BlockId → ℕ → ℕ
-near_in index (Input number) field = slot_in index.inputs number field
-near_in index (Core number) field = slot_in index.cores number field
+near_in index (Input number) field = slot_in index.inputs field number
+near_in index (Core number) field = slot_in index.cores field number
 
 abbrev pub near_of : Index → Place → ℕ
 near_of index p = near_in index p.block p.field

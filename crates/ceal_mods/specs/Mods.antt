@@ -1,5 +1,5 @@
 -- The modifiables of all places.
-use Rattle.std.specs.Prelude.{◌≡◌, ◌≢◌, ℕ, List, unwrap_or, false}
+use Rattle.std.specs.Prelude.{◌≡◌, ◌≢◌, ℕ, List, unwrap_or, IsSome, false}
 use Rattle.std.specs.Map.{lookup}
 use Rattle.ceal_base.specs.contracts.word.PlacePartialEq.TheImpl.{ghosts}
 use Rattle.ceal_base.specs.declared.word.Place.{Place}
@@ -17,6 +17,10 @@ pub record Contents : Type 0 where
 -- the cell of a place
 abbrev pub cell_of : Contents → Place → Cell
 cell_of mods p = unwrap_or (lookup (ghosts.eq p) mods.cells) untouched
+
+-- the place was touched: what it holds has its room
+abbrev pub HasCell : Contents → Place → Type 0
+HasCell mods p = IsSome (lookup (ghosts.eq p) mods.cells)
 
 -- nothing was set, written or read at any place
 abbrev pub IsUntouched : Contents → Type 0

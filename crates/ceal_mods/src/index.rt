@@ -18,7 +18,8 @@ const NEAR_FIELDS: u32 = 256;
 const NEAR_BLOCKS: u32 = 4096;
 
 /// A slot for each place. Blocks are numbered from 0, and fields too, so a place is found by its two numbers, as long as
-/// these are not much above the number of slots; a place of a larger number is found by hashing.
+/// these are not much above the number of slots; a place of a larger number is found by hashing. A sheet has a row for each
+/// field: few fields are modifiables, and the numbers of blocks are dense.
 #[derive(Drop)]
 pub struct Index {
     inputs: Sheet,
@@ -42,7 +43,7 @@ impl Index {
         ensures { result ≡ slot_of self.now place }
     {
         let near = self.near(place);
-        if near != NO_SLOT {
+        if near != NO_SLOT || self.far.is_empty() {
             return near;
         }
         match self.far.get(&place) {
@@ -55,8 +56,8 @@ impl Index {
         ensures { result ≡ near_of self.now place }
     {
         match place.block {
-            BlockId::Input(number) => self.inputs.get(number, place.field),
-            BlockId::Core(number) => self.cores.get(number, place.field),
+            BlockId::Input(number) => self.inputs.get(place.field, number),
+            BlockId::Core(number) => self.cores.get(place.field, number),
         }
     }
 
@@ -72,12 +73,12 @@ impl Index {
         match place.block {
             BlockId::Input(number) => {
                 if place.field < NEAR_FIELDS && number < most {
-                    return self.inputs.set(number, place.field, slot);
+                    return self.inputs.set(place.field, number, slot);
                 }
             }
             BlockId::Core(number) => {
                 if place.field < NEAR_FIELDS && number < most {
-                    return self.cores.set(number, place.field, slot);
+                    return self.cores.set(place.field, number, slot);
                 }
             }
         }

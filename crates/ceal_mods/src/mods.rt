@@ -1,13 +1,14 @@
 // The modifiables of all places.
 
-ghost use Rattle.std.specs.Prelude.{◌≡◌, ℕ, ◌+◌, ◌-◌, ◌^◌, ◌++◌, ◌∷◌, [], List, None, Some, false, min, IsTrue, IfSome, IfNone, IfOk, OnOk, OnErr};
+ghost use Rattle.std.specs.Prelude.{◌≡◌, ℕ, ◌+◌, ◌-◌, ◌^◌, ◌++◌, ◌∷◌, [], List, None, Some, false, min, IsTrue, IfSome, IfNone, IfOk, IsOk, OnOk, OnErr};
 ghost use Rattle.std.specs.Map.{lookup};
 ghost use Rattle.ceal_base.specs.contracts.word.PlacePartialEq.TheImpl.{ghosts};
+ghost use Rattle.ceal_base.specs.declared.word.Place.{Place as PlaceOf};
 ghost use Rattle.ceal_order.specs.Stamps.{is_in};
 ghost use Rattle.ceal_mods.specs.Writes.{stamps_of};
 ghost use Rattle.ceal_mods.specs.Cell.{value_before, latest_value, with_base, with_write, without_write, with_read, without_read, Sees, IsAffected};
 ghost use Rattle.ceal_mods.specs.Index.{where_from, Indexes};
-ghost use Rattle.ceal_mods.specs.Mods.{cell_of, IsUntouched, Changes, Follows};
+ghost use Rattle.ceal_mods.specs.Mods.{cell_of, HasCell, IsUntouched, Changes, Follows};
 ghost use Rattle.ceal_mods.specs.Slots.{no_slot};
 
 use crate::cell::Cell;
@@ -62,11 +63,14 @@ impl Mods {
         })
     }
 
-    /// Sets what a place holds before any write.
+    /// Sets what a place holds before any write. Where the place was touched before, it takes no memory.
     pub fn set_base(&mut self, place: Place, value: Word) -> Result<(), NoMemory>
         ensures ok { OnOk result
             (Changes self.old self.new place (with_base value (cell_of self.old place))) }
         ensures err { OnErr result (self.new ≡ self.old) }
+        ensures sure { HasCell self.old place → IsOk result }
+        ensures touched { OnOk result (HasCell self.new place) }
+        ensures others_touched { (p : PlaceOf) → HasCell self.old p → HasCell self.new p }
         ensures follows { (order : List ℕ) → Follows order self.old → Follows order self.new }
     {
         let slot = self.index.find(place);

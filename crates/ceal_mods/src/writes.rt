@@ -7,9 +7,9 @@ ghost use Rattle.ceal_mods.specs.Writes.{stamps_of, last_of, those_before, with_
 
 use ceal_base::no_memory::NoMemory;
 use ceal_base::word::Word;
-use ceal_order::gap_buffer::GapBuffer;
 use ceal_order::order::Order;
 use ceal_order::rising::Rising;
+use ceal_order::short_list::ShortList;
 use ceal_order::stamp::Stamp;
 use std::alloc::Global;
 use std::marker::Model;
@@ -18,7 +18,7 @@ use std::marker::Model;
 #[derive(Drop)]
 pub struct Writes {
     stamps: Rising,
-    values: GapBuffer<Word>,
+    values: ShortList<Word>,
 }
 
 impl Model for Writes {
@@ -39,7 +39,7 @@ impl Writes {
     {
         Writes {
             stamps: Rising::new(alloc),
-            values: GapBuffer::new(alloc),
+            values: ShortList::new(alloc),
         }
     }
 

@@ -4,13 +4,7 @@ use Rattle.std.proofs.lemmas.Bool.Decides.{eqb_tells}
 use Rattle.std.specs.List.{insert, remove}
 use Rattle.ceal_order.specs.Stamps.{NotIn, Distinct, is_in, place, without}
 use Rattle.std.proofs.lemmas.Bool.{eq-eqb}
-use Rattle.ceal_order.proofs.Places.{in_head, in_tail}
 use Rattle.ceal_order.specs.Rising.{IsBeforeAll, IsRising}
-
-pub in_inserted : (s n : ℕ) (xs : List ℕ) → is_in s (insert xs n s) ≡ true
-in_inserted s zero xs = in_head s xs
-in_inserted s (suc n) [] = in_head s []
-in_inserted s (suc n) (x ∷ xs) = in_tail s x (insert xs n s) (in_inserted s n xs)
 
 in_behind : (t s : ℕ) (xs : List ℕ) → t ≢ s → is_in t (s ∷ xs) ≡ is_in t xs
 in_behind t s xs other = elim (eqb_tells s t) [ inl p ↦ absurd (other (sym p.1)) | inr p ↦ rw p.0 refl ]

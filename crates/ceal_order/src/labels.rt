@@ -11,6 +11,9 @@ use crate::run::sparse_run;
 /// How many labels there are.
 const LABELS: u64 = 1 << 62;
 
+/// Into how many shares the room between two links is parted. Only the first one is before the new link.
+const SHARES: u64 = 16;
+
 /// A label that is free directly after a link; where there is none, labels are given anew round it first.
 pub fn fresh_label(links: &mut Vec<Link>, at: u32) -> u64
     requires line { IsLine links.old.items (stamps_of links.old.items) }
@@ -37,8 +40,9 @@ fn fresh_label_in(links: &mut [Link], at: u32) -> u64
     }
 }
 
-// A label that is free directly after a link, where there is one: between two links the middle one. Behind the last
-// link, and between the first and the second, the room is shared among all links, so that many can follow there.
+// A label that is free directly after a link, where there is one: between two links a small share of the room behind the
+// first one, since what is put in next mostly comes directly behind it. Behind the last link, and between the first and the
+// second, the room is shared among all links, so that many can follow there.
 fn free_label(links: &[Link], at: u32) -> Option<u64>
     requires line { IsLine links.now (stamps_of links.now) }
     requires here { IsTrue (is_in at (stamps_of links.now)) }
@@ -57,7 +61,7 @@ fn free_label(links: &[Link], at: u32) -> Option<u64>
         let step = free_step(room, links_there)?;
         return Some(high - step);
     }
-    let step = free_step(room, 2)?;
+    let step = free_step(room, SHARES)?;
     Some(low + step)
 }
 
@@ -83,7 +87,16 @@ fn relabel(links: &mut [Link], at: u32) -> u64
     let run = sparse_run(links, at);
     let gap = gap_in(run.count, run.bits);
     spread(links, run.first, run.count, run.low, gap);
-    label_at(links, at) + gap / 2
+    label_at(links, at) + share_of(gap)
+}
+
+// The first share of a room.
+fn share_of(room: u64) -> u64
+    requires { 2 ≤ room }
+    ensures some { 0 < result }
+    ensures less { result < room }
+{
+    (room / SHARES).max(1)
 }
 
 // How far apart so many labels may lie in a range of 2^bits.

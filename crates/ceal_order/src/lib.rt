@@ -9,15 +9,16 @@
 //! `run` finds the links that get new labels then.
 //!
 //! What is kept by time is kept in lists of stamps that rise along the order: each stands before those that follow it.
-//! `rising` is such a list, searched by halves; it stands in a `gap_buffer`, in which a change near the last one moves few
-//! items. `laws` says along which other orders stamps still rise.
+//! `rising` is such a list, searched by halves; it stands in a `short_list`, which takes no memory for one stamp alone, and
+//! for more a `gap_buffer`, in which a change near the last one moves few items. `laws` says along which other orders stamps still rise.
 #![tactic(auto)]
 
-pub mod gap_buffer;
+mod gap_buffer;
 mod labels;
 pub mod laws;
 mod link;
 pub mod order;
 pub mod rising;
 mod run;
+pub mod short_list;
 pub mod stamp;

@@ -1,11 +1,11 @@
-// Rising stamps in a gap buffer.
+// Rising stamps.
 
 ghost use Rattle.std.specs.Prelude.{◌≡◌, ◌↔◌, ◌<◌, ◌≤◌, [], false, length, insert, remove, slice_index, IfOk, IfSome, IfNone, OnOk, OnErr, IsTrue};
 ghost use Rattle.ceal_order.specs.Stamps.{is_in, Distinct, place, without};
 ghost use Rattle.ceal_order.specs.Rising.{numbers, count_before, IsRising, IsFirstAfter, NoneAfter, IsParted};
 
-use crate::gap_buffer::GapBuffer;
 use crate::order::Order;
+use crate::short_list::ShortList;
 use crate::stamp::Stamp;
 use ceal_base::no_memory::NoMemory;
 use std::alloc::Global;
@@ -15,7 +15,7 @@ use std::marker::Model;
 /// along it, and leaves them so.
 #[derive(Drop)]
 pub struct Rising {
-    stamps: GapBuffer<Stamp>,
+    stamps: ShortList<Stamp>,
 }
 
 impl Model for Rising {
@@ -33,7 +33,7 @@ impl Rising {
         ensures { result ≡ [] }
     {
         Rising {
-            stamps: GapBuffer::new(alloc),
+            stamps: ShortList::new(alloc),
         }
     }
 
@@ -120,7 +120,7 @@ impl Rising {
 }
 
 // How many stand before a stamp, found by halves; at once where all do.
-fn searched(order: &Order, stamps: &GapBuffer<Stamp>, stamp: Stamp) -> usize
+fn searched(order: &Order, stamps: &ShortList<Stamp>, stamp: Stamp) -> usize
     requires here { IsTrue (is_in stamp.0 order.now.stamps) }
     requires rising { IsRising order.now.stamps (numbers stamps.now) }
     ensures count { result ≡ count_before order.now.stamps stamp.0 (numbers stamps.now) }
@@ -143,7 +143,7 @@ fn searched(order: &Order, stamps: &GapBuffer<Stamp>, stamp: Stamp) -> usize
 }
 
 // The nearest one behind a stamp.
-fn next_of(order: &Order, stamps: &GapBuffer<Stamp>, stamp: Stamp) -> Option<Stamp>
+fn next_of(order: &Order, stamps: &ShortList<Stamp>, stamp: Stamp) -> Option<Stamp>
     requires here { IsTrue (is_in stamp.0 order.now.stamps) }
     requires rising { IsRising order.now.stamps (numbers stamps.now) }
     ensures some { IfSome result
@@ -160,7 +160,7 @@ fn next_of(order: &Order, stamps: &GapBuffer<Stamp>, stamp: Stamp) -> Option<Sta
 }
 
 // How many do not stand behind a stamp.
-fn past(order: &Order, stamps: &GapBuffer<Stamp>, stamp: Stamp) -> usize
+fn past(order: &Order, stamps: &ShortList<Stamp>, stamp: Stamp) -> usize
     requires here { IsTrue (is_in stamp.0 order.now.stamps) }
     requires rising { IsRising order.now.stamps (numbers stamps.now) }
     ensures { IsParted order.now.stamps (numbers stamps.now) stamp.0 result }
@@ -176,7 +176,7 @@ fn past(order: &Order, stamps: &GapBuffer<Stamp>, stamp: Stamp) -> usize
 }
 
 // Where a stamp first stands.
-fn index_of(stamps: &GapBuffer<Stamp>, stamp: Stamp) -> Option<usize>
+fn index_of(stamps: &ShortList<Stamp>, stamp: Stamp) -> Option<usize>
     ensures some { IfSome result
         (λ at. (at < length stamps.now)
         × (remove (numbers stamps.now) at ≡ without stamp.0 (numbers stamps.now))) }
@@ -191,7 +191,7 @@ fn index_of(stamps: &GapBuffer<Stamp>, stamp: Stamp) -> Option<usize>
 }
 
 // Where a stamp stands that stands once at most, looked for from the last change outwards.
-fn nearest_index(stamps: &GapBuffer<Stamp>, stamp: Stamp) -> Option<usize>
+fn nearest_index(stamps: &ShortList<Stamp>, stamp: Stamp) -> Option<usize>
     requires once { Distinct (numbers stamps.now) }
     ensures within { IfSome result (λ at. at < length stamps.now) }
     ensures some { IfSome result
@@ -211,7 +211,7 @@ fn nearest_index(stamps: &GapBuffer<Stamp>, stamp: Stamp) -> Option<usize>
 }
 
 // Whether this stamp stands at an index.
-fn is_at(stamps: &GapBuffer<Stamp>, at: usize, stamp: Stamp) -> bool
+fn is_at(stamps: &ShortList<Stamp>, at: usize, stamp: Stamp) -> bool
     requires { at < length stamps.now }
     ensures { IsTrue result ↔ (slice_index (numbers stamps.now) at ≡ stamp.0) }
 {

@@ -12,7 +12,10 @@ use ceal_base::word::Word;
 use ceal_order::stamp::Stamp;
 use std::alloc::Global;
 
-/// A row for each stamp and each spare place of the order, by its number, and how many nodes there are.
+// How many rows are added beyond those that are asked for.
+const ROWS_BEYOND: usize = 15;
+
+/// A row for each stamp and each spare place of the order, by its number, a few more, and how many nodes there are.
 #[derive(Drop)]
 pub struct Table {
     rows: Vec<Row>,
@@ -30,13 +33,16 @@ impl Table {
         }
     }
 
-    /// Makes room for so many more nodes.
+    /// Makes room for so many more nodes, and some beyond, so that rows are added a few at a time.
     pub fn reserve(&mut self, more: u32) -> Result<(), NoMemory>
         ensures rows { OnOk result (self.new.count + more ≤ length self.new.rows.items) }
         ensures kept { Wider self.old self.new }
     {
         let count = self.count as usize + more as usize;
-        lengthen(&mut self.rows, count)
+        if count <= self.rows.len() {
+            return Ok(());
+        }
+        lengthen(&mut self.rows, count + ROWS_BEYOND)
     }
 
     /// Puts a node without steps at a stamp that has none.

@@ -1,4 +1,4 @@
-use Rattle.std.proofs.Common.{◌/◌, arith}
+use Rattle.std.proofs.Common.{arith}
 use Rattle.ceal_order.specs.Links.{stamps_of}
 use Rattle.ceal_order.proofs.Places.{place_below}
 use Rattle.ceal_order.proofs.Neighbours.{link_in}
@@ -29,8 +29,7 @@ returns-clause-rising c =
 pub returns-clause-between : goal.returns-clause-between
 returns-clause-between c =
     let run = c.sparse_run-run.ensures.run in
-    let gap = c.gap_in-gap.result in
     let wide = c.gap_in-gap.ensures.wide in
     rw c.label_at.ensures
     (new_between _ _ _ _ _ _ _ _ _ c.requires.line c.spread.ensures run.is_run run.before run.after wide c.gap_in-gap.ensures.fits run.within
-    (gap / 2) (omega (arith, wide)) (omega (arith, wide)))
+    c.share_of.result c.share_of.ensures.some c.share_of.ensures.less)

@@ -1,7 +1,7 @@
-use Rattle.std.proofs.Common.{◌≡◌, length, sym, ◌∙◌}
+use Rattle.std.proofs.Common.{◌≡◌, length, sym, ◌∙◌, arith}
 use Rattle.std.proofs.lemmas.List.{with_items_is}
 use Rattle.ceal_mods.proofs.IndexLemmas.{length-with}
-use Rattle.ceal_mods.proofs.ModsLemmas.{rise_same, at, cell_here, rises_here, changed, follow, indexed, cell_none, added, follow_added}
+use Rattle.ceal_mods.proofs.ModsLemmas.{rise_same, at, cell_here, rises_here, changed, follow, indexed, cell_none, no_cell, touched, touched_too, added, added_touched, added_too, follow_added}
 use Rattle.ceal_mods.proofs.mods.Mods.set_base.Goals as goal
 
 pub set_base_at-requires : goal.set_base_at-requires
@@ -43,3 +43,31 @@ pub returns-clause-follows : goal.returns-clause-follows
 returns-clause-follows c = λ order follows.
     let rise = rw (← c.self.view_is) at follows in
     follow_added c.self.inside.index c.self.inside.cells.items c.args.place c.find-slot.result c.self.invariant c.find-slot.ensures c.if-slot.false order _ _ rise c.in_ok-enter.ensures.ok (rw c.new-cell.ensures (record { writes = tt; reads = tt }))
+
+pub returns-then-slot-clause-touched : goal.returns-then-slot-clause-touched
+returns-then-slot-clause-touched c =
+    let cell = rw c.deref_mut.ensures.value at c.set_base_at.ensures in
+    let long : length c.set_base_at.new.cells ≡ length c.self.inside.cells.items = rw cell (length-with _ _ _) in
+    let back = with_items_is c.self.inside.cells c.set_base_at.new.cells (long ∙ sym c.self.inside.cells.ok.0) in
+    touched c.self.inside.index c.self.inside.cells.items c.args.place c.find-slot.result c.self.invariant c.find-slot.ensures c.if-slot.true _ _ (back ∙ cell)
+
+pub returns-then-slot-clause-others_touched : goal.returns-then-slot-clause-others_touched
+returns-then-slot-clause-others_touched c = λ p h.
+    let cell = rw c.deref_mut.ensures.value at c.set_base_at.ensures in
+    let long : length c.set_base_at.new.cells ≡ length c.self.inside.cells.items = rw cell (length-with _ _ _) in
+    let back = with_items_is c.self.inside.cells c.set_base_at.new.cells (long ∙ sym c.self.inside.cells.ok.0) in
+    touched_too c.self.inside.index c.self.inside.cells.items c.args.place c.find-slot.result c.self.invariant c.find-slot.ensures c.if-slot.true _ _ (back ∙ cell) p (rw (← c.self.view_is) at h)
+
+pub returns-in_err-enter-clause-sure : goal.returns-in_err-enter-clause-sure
+returns-in_err-enter-clause-sure c = λ h.
+    let none = no_cell c.self.inside.index c.self.inside.cells.items c.args.place c.find-slot.result c.self.invariant c.find-slot.ensures c.if-slot.false in
+    let there = rw (← c.self.view_is) at h in
+    absurd (grind (arith, rw none at there))
+
+pub returns-clause-touched : goal.returns-clause-touched
+returns-clause-touched c =
+    added_touched c.self.inside.index c.self.inside.cells.items c.args.place c.find-slot.result c.self.invariant c.find-slot.ensures c.if-slot.false _ _ c.in_ok-enter.ensures.ok
+
+pub returns-clause-others_touched : goal.returns-clause-others_touched
+returns-clause-others_touched c = λ p h.
+    added_too c.self.inside.index c.self.inside.cells.items c.args.place c.find-slot.result c.self.invariant c.find-slot.ensures c.if-slot.false _ _ c.in_ok-enter.ensures.ok p (rw (← c.self.view_is) at h)
