@@ -19,8 +19,8 @@ use Rattle.ceal_mods.specs.Mods.{cell_of, IsUntouched}
 use Rattle.ceal_mods.specs.declared.cell.Cell.{Cell}
 use Rattle.ceal_order.specs.Stamps.{is_in}
 use Rattle.ceal_repair.specs.Words.{base_of}
-use Rattle.ceal_tables.specs.Kept.{Kept, base_in}
-use Rattle.ceal_tables.specs.declared.tables.Tables.{Tables}
+use Rattle.ceal_repair.specs.Kept.{Kept, base_in}
+use Rattle.ceal_repair.specs.declared.tables.Tables.{Tables}
 
 -- where the nodes are the same, the reads of each place are
 pub reads-same : (old t : Tables) → Kept old → Kept t → t.trace ≡ old.trace → (p : Place) → (cell_of t.mods p).reads ≡ (cell_of old.mods p).reads

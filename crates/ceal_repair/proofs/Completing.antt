@@ -1,5 +1,4 @@
 -- A repair is turned again and again.
-use Rattle.std.proofs.Common.{◌≡◌, None}
 use Rattle.ceal_repair.specs.Moment.{Start}
 use Rattle.ceal_repair.specs.Repairs.{Runs, SameCall}
 use Rattle.ceal_repair.specs.declared.repair.Repair.{Repair}
@@ -7,6 +6,5 @@ use Rattle.ceal_repair.specs.declared.repair.Repair.{Repair}
 -- after turns of a repair its unit, or another one, still runs
 pub record Turning (old now : Repair) : Type 0 where
   pub call : SameCall old now
-  pub alone : now.limit ≡ None
   pub some : (start : Start) × Runs start now
   pub runs : (start : Start) → Runs start old → Runs start now

@@ -10,30 +10,36 @@ use Rattle.ceal_base.specs.declared.word.Word.{Word}
 use Rattle.ceal_code.specs.Program.{Code}
 use Rattle.ceal_code.specs.Step.{Stack}
 use Rattle.ceal_heap.specs.Heap.{Contents, block_of}
+use Rattle.ceal_memo.specs.declared.key.ReadKey.{ReadKey}
 use Rattle.ceal_order.specs.Stamps.{head_of}
 use Rattle.ceal_order.specs.declared.stamp.Stamp.{Stamp}
 use Rattle.ceal_repair.proofs.Fewer.{queued-from}
 use Rattle.ceal_repair.proofs.Items.{more}
+use Rattle.ceal_repair.proofs.Left.{first-left}
 use Rattle.ceal_repair.proofs.Matching.{cut-first, CutsThere}
 use Rattle.ceal_repair.proofs.Moves.{step-nodes, step-late}
-use Rattle.ceal_repair.proofs.Recalling.{first-starts}
+use Rattle.ceal_repair.proofs.Recalling.{first-starts, none-read}
 use Rattle.ceal_repair.proofs.Retaking.{CutDone}
-use Rattle.ceal_repair.proofs.Taking.{left-is}
+use Rattle.ceal_repair.proofs.Taking.{bound-now, left-is}
 use Rattle.ceal_repair.proofs.Under_way.{IsStepped, cursor-kept, stepped-view}
 use Rattle.ceal_repair.specs.Blocks.{HasBlocks}
 use Rattle.ceal_repair.specs.Entries.{stamped, entries, CutTo, IsUntil, Lies}
 use Rattle.ceal_repair.specs.Moment.{View, Start, PassingNow, through}
 use Rattle.ceal_repair.specs.declared.frame.Frame.{Frame}
 use Rattle.ceal_mods.specs.Mods.{Contents as Mods}
-use Rattle.ceal_tables.specs.Kept.{Records}
+use Rattle.ceal_repair.specs.Kept.{Records}
 use Rattle.ceal_trace.specs.declared.node.Node.TheVariants.{Read}
 use Rattle.ceal_trace.specs.declared.node.Node.{Node}
 use Rattle.ceal_repair.specs.Repairs.{code_of, inputs_of, view, RunsAt, left_nodes}
 use Rattle.ceal_repair.specs.declared.repair.Repair.{Repair}
-use Rattle.ceal_tables.specs.Kept.{Kept, QueuedFrom, base_in}
-use Rattle.ceal_tables.specs.Lists.{recalls, stamps_where}
-use Rattle.ceal_tables.specs.declared.tables.Tables.{Tables}
+use Rattle.ceal_repair.specs.Kept.{Kept, QueuedFrom, base_in}
+use Rattle.ceal_repair.specs.Lists.{recalls, stamps_where}
+use Rattle.ceal_repair.specs.declared.tables.Tables.{Tables}
+use Rattle.ceal_theory.proofs.Revoked.{taking-law}
 use Rattle.ceal_theory.specs.Groves.{Grove}
+use Rattle.ceal_theory.specs.Levels.{first, levels}
+use Rattle.ceal_theory.specs.Take.{take_read}
+use Rattle.ceal_trace.specs.Items.{forest_of}
 
 module _ (old new : Repair) (h : IsStepped old new) (start : Start) (st : Stack) (now : RunsAt start st old) (p : Place) (u : UnitId) (x : ℕ) (args : List Word) (found : Stamp)
     (matches : head_of (stamps_where (recalls (record { place = p; unit = u; var = x; args = args })) (left_nodes old)) ≡ Some found.0) where
@@ -72,6 +78,17 @@ module _ (old new : Repair) (h : IsStepped old new) (start : Start) (st : Stack)
       has = λ k. has (code_of old) (inputs_of old) (subst (λ z. HasBlocks (code_of old) (inputs_of old) z new.running.tables) (sym h.heap) k);
       kept = kept;
     }
+
+-- nothing is taken where no read that is left over has the key
+pub none-entered : (r : Repair) (start : Start) (st : Stack) (now : RunsAt start st r) (key : ReadKey) → head_of (stamps_where (recalls key) (left_nodes r)) ≡ None
+    → take_read key.place key.unit key.var key.args (first (levels (forest_of (entries now.left ++ now.tail)))) ≡ None
+none-entered r start st now key h =
+    ap (take_read key.place key.unit key.var key.args) (first-left now.left (view r).limit now.tail (bound-now (code_of r) (inputs_of r) start st (view r) now))
+    ∙ none-read taking-law key now.left (none-first (stamps_where (recalls key) (entries now.left)) (subst (λ es. head_of (stamps_where (recalls key) es) ≡ None) (left-is (code_of r) (inputs_of r) start st (view r) now) h))
+  where
+    none-first : (xs : List ℕ) → head_of xs ≡ None → xs ≡ []
+    none-first [] e = refl
+    none-first (x ∷ xs) e = absurd (cc)
 
 -- the view of a read that was entered
 reverse-more : {A : Type 0} (xs : List A) (x : A) → reverse (xs ++ x ∷ []) ≡ x ∷ reverse xs

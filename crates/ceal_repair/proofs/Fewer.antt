@@ -22,8 +22,8 @@ use Rattle.ceal_repair.proofs.Nodes.{node_blocks, blocks_at, allocs-nodes}
 use Rattle.ceal_repair.specs.Blocks.{There, Lives, HasBlocks}
 use Rattle.ceal_repair.specs.Entries.{stamped, entry, closing, entries, first_stamp, first_in, starts, CutTo, there, more, IsUntil, Lies}
 use Rattle.ceal_repair.specs.Words.{default_of}
-use Rattle.ceal_tables.specs.Kept.{Kept, QueuedBehind, QueuedFrom, Records, base_in}
-use Rattle.ceal_tables.specs.declared.tables.Tables.{Tables}
+use Rattle.ceal_repair.specs.Kept.{Kept, QueuedBehind, QueuedFrom, Records, base_in}
+use Rattle.ceal_repair.specs.declared.tables.Tables.{Tables}
 use Rattle.ceal_theory.specs.Groves.{Grove, Bare, Made, Put, Got, joined, cut}
 use Rattle.ceal_trace.proofs.Entries.{has-held, entry-left}
 use Rattle.ceal_trace.proofs.Parts.{not_before, not_behind, entry-part, position-part, without-part}
@@ -373,7 +373,7 @@ pub has-fewer-nodes : (code : Code) (inputs : List Block) (heap heap' : Contents
 has-fewer-nodes code inputs heap heap' old new b default same was lives h = record {
   bases = record {
     of_cores = λ c f. b (record { block = Core c; field = f }) ∙ (h.bases.of_cores c f ∙ sym (default c f));
-    of_inputs = λ i f k. b (record { block = Input i; field = f }) ∙ h.bases.of_inputs i f k;
+    of_inputs = λ i f. b (record { block = Input i; field = f }) ∙ h.bases.of_inputs i f;
   };
   lives = lives;
   reads = λ u p v r. there-same (length inputs) heap heap' same p.block (h.reads u p v (records-was new.trace.nodes old.trace.nodes was u p v r));

@@ -18,8 +18,8 @@ use Rattle.ceal_repair.specs.Entries.{entries}
 use Rattle.ceal_repair.specs.Moment.{View, Start, Placed, RunningNow, through, state_at}
 use Rattle.ceal_repair.specs.Words.{words_of}
 use Rattle.ceal_repair.specs.declared.frame.Frame.TheVariants.{Begun}
-use Rattle.ceal_tables.specs.Kept.{base_in}
-use Rattle.ceal_tables.specs.declared.tables.Tables.{Tables}
+use Rattle.ceal_repair.specs.Kept.{base_in}
+use Rattle.ceal_repair.specs.declared.tables.Tables.{Tables}
 use Rattle.ceal_theory.specs.Course.{Wait, Begins, running_at}
 use Rattle.ceal_theory.specs.Cover.{known_after}
 use Rattle.ceal_theory.specs.Repair.{State}

@@ -22,9 +22,9 @@ use Rattle.ceal_repair.specs.Entries.{entries, entry, closing, knots_of}
 use Rattle.ceal_repair.specs.Moment.{Start, Began, Unfinished, through}
 use Rattle.ceal_repair.specs.declared.frame.Frame.{Frame}
 use Rattle.ceal_repair.specs.declared.frame.Frame.TheVariants.{Begun, Taken, Kept}
-use Rattle.ceal_tables.specs.AsItems.{item_in}
-use Rattle.ceal_tables.specs.Covered.{content_after, contents_after}
-use Rattle.ceal_tables.specs.Lists.{up_to}
+use Rattle.ceal_repair.specs.AsItems.{item_in}
+use Rattle.ceal_repair.specs.Covered.{content_after, contents_after}
+use Rattle.ceal_repair.specs.Lists.{up_to}
 use Rattle.ceal_theory.specs.Course.{Wait, Begins}
 use Rattle.ceal_theory.specs.Cover.{known_after}
 use Rattle.ceal_theory.specs.Groves.{knot, Grove, Bare, Made, Put, Got, knots, joined, items_in}
@@ -69,11 +69,6 @@ forest-step done last =
 -- a node that is put behind all
 pub forest-put : (front : List Entry) (s : ℕ) (node : Node) → forest_of (front ++ new_entry s node ∷ []) ≡ forest_of front ++ item_of node
 forest-put front s node = forest-append front (new_entry s node ∷ []) ∙ ap (λ is. forest_of front ++ is) (append-nil (item_of node))
-
--- and its stamps
-pub stamps-more : (done : List Entry) (last : Entry) (back : List Entry) → stamps_in (through done (more last) ++ back) ≡ stamps_in (through done last ++ back)
-stamps-more [] last back = refl
-stamps-more (e ∷ es) last back = ap (λ (l : List ℕ). e.stamp ∷ l) (stamps-more es last back)
 
 pub behind-all : (done : List Entry) (e : Entry) (back : List Entry) → (done ++ e ∷ []) ++ back ≡ done ++ e ∷ back
 behind-all done e back = append_assoc done (e ∷ []) back
@@ -175,10 +170,6 @@ rootless-entries Bare = tt
 rootless-entries (Made s b key n rest) = (tt, rootless-entries rest)
 rootless-entries (Put s p v n rest) = (tt, rootless-entries rest)
 rootless-entries (Got s p v u x args n inside e m rest) = (tt, rootless-append (entries inside) (closing e s m ∷ entries rest) (rootless-entries inside) (tt, rootless-entries rest))
-
-pub forest-entries : (g : Grove) (es : List Entry) → Rootless es → forest_of (entries g ++ es) ≡ items_in (knots g ++ knots_of es)
-forest-entries g es h = sym (items-knots-of (entries g ++ es) (rootless-append (entries g) es (rootless-entries g) h))
-    ∙ ap items_in (knots-append (entries g) es ∙ ap (λ ks. ks ++ knots_of es) (knots-entries g))
 
 -- ---- open reads
 
@@ -432,10 +423,6 @@ known-items-append (KnownItems.alloc a k) l = KnownItems.alloc a (known-items-ap
 known-items-append (KnownItems.write a b k) l = KnownItems.write a b (known-items-append k l)
 known-items-append (KnownItems.read a b c k) l = KnownItems.read a b c (known-items-append k l)
 
-pub known-block-more : (n : ℕ) (bs cs : List ℕ) → Subset bs cs → (b : BlockId) → KnownBlock n bs b → KnownBlock n cs b
-known-block-more n bs cs h (Input i) k = k
-known-block-more n bs cs h (Core b) k = h b k
-
 -- ---- what is found in front
 
 pub entry-front : (r : ℕ) (front back : List Entry) → has_node r front ≡ true → entry_at r (front ++ back) ≡ entry_at r front
@@ -495,10 +482,6 @@ tails-bound Tails.last b = b
 tails-bound (Tails.begun below read t) b = tails-bound t b
 tails-bound (Tails.taken {tail = tail} below e r m g t) b = (r, m, entries g ++ tail, refl)
 tails-bound (Tails.kept {back = back} e r m t) b = (r, m, back, refl)
-
-pub nothing-behind : (until : Option Stamp) (tail : List Entry) → until ≡ None → Bounds until tail → tail ≡ []
-nothing-behind None tail h b = b
-nothing-behind (Some e) tail h b = absurd (cc)
 
 -- what a frame that comes next says of what waits
 pub record WaitsBegun (limit : Option Stamp) (beyond : List Entry) (until : Option Stamp) (below : CodeStack) (read : Stamp) (fs : List Frame) (ws : List Wait) (rs : List ℕ) (tail : List Entry) : Type 0 where

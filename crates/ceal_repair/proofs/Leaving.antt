@@ -29,8 +29,8 @@ use Rattle.ceal_repair.specs.Moment.{View, Start, RunningNow, through, state_at}
 use Rattle.ceal_repair.specs.Words.{words_of}
 use Rattle.ceal_repair.specs.declared.frame.Frame.{Frame}
 use Rattle.ceal_repair.specs.declared.frame.Frame.TheVariants.{Taken}
-use Rattle.ceal_tables.specs.Kept.{Kept, QueuedBehind, base_in}
-use Rattle.ceal_tables.specs.declared.tables.Tables.{Tables}
+use Rattle.ceal_repair.specs.Kept.{Kept, QueuedBehind, base_in}
+use Rattle.ceal_repair.specs.declared.tables.Tables.{Tables}
 use Rattle.ceal_theory.proofs.Bare.{frames-self}
 use Rattle.ceal_theory.proofs.Revoked.{bare-stepped}
 use Rattle.ceal_theory.specs.Course.{Wait, Takes, frames_at, running_at, BareMode, BareFrames, BareSame}

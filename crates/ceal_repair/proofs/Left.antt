@@ -14,9 +14,9 @@ use Rattle.ceal_order.specs.declared.stamp.Stamp.{Stamp}
 use Rattle.ceal_repair.proofs.Items.{knots-entries, items-knots-of, rootless-entries, entries-joined, not-in-is}
 use Rattle.ceal_repair.specs.Around.{Bounds}
 use Rattle.ceal_repair.specs.Entries.{closing, entries, first_stamp, starts, CutTo, there, more}
-use Rattle.ceal_tables.proofs.Parting.{where-append, where-among}
-use Rattle.ceal_tables.proofs.Putting.{in-front, in-back}
-use Rattle.ceal_tables.specs.Lists.{allocates, stamps_where}
+use Rattle.ceal_repair.proofs.Parting.{where-append, where-among}
+use Rattle.ceal_repair.proofs.Putting.{in-front, in-back}
+use Rattle.ceal_repair.specs.Lists.{allocates, stamps_where}
 use Rattle.ceal_theory.proofs.FlatTake.{followed-nothing, first-flat, around-flat}
 use Rattle.ceal_theory.proofs.Moves.{items-knots}
 use Rattle.ceal_theory.proofs.Revoked.{taking-law, bare-stepped}

@@ -1,12 +1,31 @@
--- What the functions of this crate cite.
+-- what crates above cite
+pub mod Putting
+pub mod Parting
 pub mod Items
+pub mod Making
+-- What the functions of this crate cite. The tables.
+pub mod Covering
+pub mod Queueing
+pub mod Waking
+pub mod Tabling
+pub mod Changing
+pub mod Steps
+pub mod Finding
+pub mod Keeping
+pub mod TakingOut
+pub mod Editing
+pub mod Looking
+pub mod Bridging
+-- The run over the tables.
 pub mod Nodes
 pub mod Moves
 pub mod Under_way
 pub mod Reading
 pub mod BaseSteps
+pub mod Touching
 pub mod RunSteps
 pub mod Starting
+pub mod Releasing
 pub mod Ending
 pub mod Completing
 pub mod Finishing
@@ -19,7 +38,20 @@ pub mod Recalling
 pub mod Retaking
 pub mod Entering
 pub mod Leaving
-pub mod Making
+pub mod Passing
+pub mod Passed
+pub mod Mending
+pub mod Going
 pub mod Turned
-
--- what the next pass stands on: Items, Recalling
+-- Change propagation, turn by turn.
+pub mod AsGrove
+pub mod Front
+pub mod Beginning
+pub mod KeptRun
+pub mod TurnByTurn
+pub mod UpToDate
+pub mod Propagated
+pub mod Continuing
+pub mod Spots
+pub mod TurnOver
+pub mod TurnEnding

@@ -35,11 +35,11 @@ use Rattle.ceal_repair.specs.Blocks.{There, HasBlocks, Given}
 use Rattle.ceal_repair.specs.Entries.{entries}
 use Rattle.ceal_repair.specs.Moment.{View, Start, Placed, CourseNow, RunningNow, Unfinished, through, state_at, items_before}
 use Rattle.ceal_repair.specs.Words.{HasBases, words_of, default_of}
-use Rattle.ceal_tables.proofs.Parting.{where-holds}
-use Rattle.ceal_tables.specs.Covered.{content_after, contents_after}
-use Rattle.ceal_tables.specs.Kept.{Kept, QueuedBehind, Records, base_in}
-use Rattle.ceal_tables.specs.Lists.{reads_at}
-use Rattle.ceal_tables.specs.declared.tables.Tables.{Tables}
+use Rattle.ceal_repair.proofs.Parting.{where-holds}
+use Rattle.ceal_repair.specs.Covered.{content_after, contents_after}
+use Rattle.ceal_repair.specs.Kept.{Kept, QueuedBehind, Records, base_in}
+use Rattle.ceal_repair.specs.Lists.{reads_at}
+use Rattle.ceal_repair.specs.declared.tables.Tables.{Tables}
 use Rattle.ceal_theory.proofs.Chosen.{chosen-law}
 use Rattle.ceal_theory.proofs.Known.{knowing-law}
 use Rattle.ceal_theory.proofs.MachineLaws.{leads-turn}
@@ -260,7 +260,7 @@ module _ (code : Code) (inputs : List Block) (b : ℕ) (key : Key) (heap heap' :
     blocks-made = record {
       bases = record {
         of_cores = λ c f. k.bases (record { block = Core c; field = f }) ∙ (h.bases has.bases).of_cores c f;
-        of_inputs = λ i f l. k.bases (record { block = Input i; field = f }) ∙ (h.bases has.bases).of_inputs i f l;
+        of_inputs = λ i f. k.bases (record { block = Input i; field = f }) ∙ (h.bases has.bases).of_inputs i f;
       };
       lives = record {
         live = λ c. subst (λ bs. IsLive heap' (Core c) ↔ In c bs) (sym (allocs-nodes t.trace.nodes)) (live-new c);

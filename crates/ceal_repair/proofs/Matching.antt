@@ -23,10 +23,10 @@ use Rattle.ceal_repair.specs.Entries.{closing, entries, starts, first_stamp, Cut
 use Rattle.ceal_repair.specs.Moment.{Start, through}
 use Rattle.ceal_repair.specs.Repairs.{code_of, inputs_of, view, RunsAt, left_nodes}
 use Rattle.ceal_repair.specs.declared.repair.Repair.{Repair}
-use Rattle.ceal_tables.specs.Kept.{Kept, base_in}
-use Rattle.ceal_tables.specs.Lists.{allocates, stamps_where}
-use Rattle.ceal_tables.specs.declared.tables.Tables.{Tables}
-use Rattle.ceal_tables.proofs.Parting.{where-append}
+use Rattle.ceal_repair.specs.Kept.{Kept, base_in}
+use Rattle.ceal_repair.specs.Lists.{allocates, stamps_where}
+use Rattle.ceal_repair.specs.declared.tables.Tables.{Tables}
+use Rattle.ceal_repair.proofs.Parting.{where-append}
 use Rattle.ceal_theory.proofs.Revoked.{taking-law}
 use Rattle.ceal_theory.specs.Groves.{Knot, knot, Grove, Bare, Made, Put, Got, knots, Lacks}
 use Rattle.ceal_theory.specs.Levels.{first, levels}

@@ -24,9 +24,9 @@ use Rattle.ceal_repair.specs.Entries.{entries}
 use Rattle.ceal_repair.specs.Moment.{View, Start, Placed, CourseNow, RunningNow, Unfinished, through, state_at, items_before}
 use Rattle.ceal_repair.specs.Words.{words_of}
 use Rattle.ceal_repair.specs.declared.frame.Frame.{Frame}
-use Rattle.ceal_tables.specs.Covered.{contents_after}
-use Rattle.ceal_tables.specs.Kept.{Kept, QueuedBehind, Records, base_in}
-use Rattle.ceal_tables.specs.declared.tables.Tables.{Tables}
+use Rattle.ceal_repair.specs.Covered.{contents_after}
+use Rattle.ceal_repair.specs.Kept.{Kept, QueuedBehind, Records, base_in}
+use Rattle.ceal_repair.specs.declared.tables.Tables.{Tables}
 use Rattle.ceal_theory.proofs.Chosen.{chosen-law}
 use Rattle.ceal_theory.proofs.Known.{knowing-law}
 use Rattle.ceal_theory.proofs.MachineLaws.{leads-turn}
@@ -117,7 +117,7 @@ pub blocks-still : (code : Code) (inputs : List Block) (heap : Contents) (old ne
     → ((s i : ℕ) (key : Key) → node_at s new.trace.nodes ≡ Some (Alloc (Input i) key) → ⊥)
     → HasBlocks code inputs heap old → HasBlocks code inputs heap new
 blocks-still code inputs heap old new b a r cores h = record {
-  bases = record { of_cores = λ c f. b (record { block = Core c; field = f }) ∙ h.bases.of_cores c f; of_inputs = λ i f k. b (record { block = Input i; field = f }) ∙ h.bases.of_inputs i f k };
+  bases = record { of_cores = λ c f. b (record { block = Core c; field = f }) ∙ h.bases.of_cores c f; of_inputs = λ i f. b (record { block = Input i; field = f }) ∙ h.bases.of_inputs i f };
   lives = record {
     live = λ c. subst (λ bs. IsLive heap (Core c) ↔ In c bs) (sym same) (h.lives.live c);
     once = subst (λ bs. Once bs) (sym same) h.lives.once;

@@ -16,7 +16,7 @@ use Rattle.ceal_code.specs.Step.{Stack, Empty, Reads, next, entered, given}
 use Rattle.ceal_code.specs.declared.stack.Stack.{Stack as CodeStack}
 use Rattle.ceal_heap.specs.Heap.{Contents, Known, block_of, plain_block}
 use Rattle.ceal_order.specs.declared.stamp.Stamp.{Stamp}
-use Rattle.ceal_repair.proofs.Items.{more, up-to-last, contents-put, known-append, nothing-behind, tails-bound}
+use Rattle.ceal_repair.proofs.Items.{more, up-to-last, contents-put, known-append}
 use Rattle.ceal_repair.proofs.Moves.{StepMore, NodeMore, nodes-distinct, placed-step, placed-put, blocks-more, blocks-node, course-turn, items-next, same-next, knows-act}
 use Rattle.ceal_repair.proofs.Nodes.{unfinished-ends}
 use Rattle.ceal_repair.specs.Around.{Tails}
@@ -25,10 +25,10 @@ use Rattle.ceal_repair.specs.Entries.{entries}
 use Rattle.ceal_repair.specs.Moment.{View, Start, Placed, RunningNow, through, state_at}
 use Rattle.ceal_repair.specs.Words.{words_of}
 use Rattle.ceal_repair.specs.declared.frame.Frame.TheVariants.{Begun}
-use Rattle.ceal_tables.specs.Covered.{contents_after}
-use Rattle.ceal_tables.specs.Kept.{Records, base_in}
-use Rattle.ceal_tables.specs.Lists.{up_to}
-use Rattle.ceal_tables.specs.declared.tables.Tables.{Tables}
+use Rattle.ceal_repair.specs.Covered.{contents_after}
+use Rattle.ceal_repair.specs.Kept.{Records, base_in}
+use Rattle.ceal_repair.specs.Lists.{up_to}
+use Rattle.ceal_repair.specs.declared.tables.Tables.{Tables}
 use Rattle.ceal_theory.specs.Course.{Begins, running_at}
 use Rattle.ceal_theory.specs.Cover.{known_after}
 use Rattle.ceal_theory.specs.Levels.{first, levels}
@@ -57,14 +57,6 @@ up-to-cursor start v reads behind p =
     ap (up_to v.cursor) p.nodes ∙ (ap (λ s. up_to s (through p.done p.last ++ behind)) (sym p.cursor) ∙ up-to-last p.done p.last behind (nodes-distinct start v reads behind p))
 
 module _ (code : Code) (inputs : List Block) (start : Start) (st : Stack) (v : View) (now : RunningNow code inputs start st v) where
-  -- without a limit nothing is left over
-  pub nothing-left : v.limit ≡ None → forest_of (entries now.left ++ now.tail) ≡ []
-  nothing-left h = rw (now.bare h, nothing-behind v.limit now.tail h (tails-bound now.tails now.bounds)) refl
-
-  none-taken : v.limit ≡ None → (p : Place) (u : UnitId) (x : ℕ) (args : List Word) → take_read p u x args (first (levels (forest_of (entries now.left ++ now.tail)))) ≡ None
-  unfolding take_read
-  none-taken h p u x args = rw (nothing-left h) refl
-
   -- a read reads what the store has
   value-there : (t1 : Tables) → StepMore v.cursor v.tables t1 → (p : Place) (word : Word) → word ≡ contents_after (base_in t1.mods) (up_to v.cursor t1.trace.nodes) p
       → KnownBlock (length inputs) (known_after [] (forest_of (through now.placed.done now.placed.last))) p.block → now.course.store p ≡ word
@@ -75,23 +67,23 @@ module _ (code : Code) (inputs : List Block) (start : Start) (st : Stack) (v : V
       (placed-step start v now.reads (entries now.left ++ now.tail) now.placed t1 (v.spent + 1) h)))
       ∙ sym is)
 
-  begun-turn : v.limit ≡ None → (p : Place) (u : UnitId) (x : ℕ) (args : List Word) (below : Stack) (word : Word) → next code (words_of code inputs v.heap) st ≡ Reads p u x args below
+  begun-turn : (p : Place) (u : UnitId) (x : ℕ) (args : List Word) (below : Stack) (word : Word) → take_read p u x args (first (levels (forest_of (entries now.left ++ now.tail)))) ≡ None → next code (words_of code inputs v.heap) st ≡ Reads p u x args below
       → now.course.store p ≡ word → (names : ℕ → ℕ)
       → turn code names (running_at (state_at code inputs v now.course.store (start.chosen ++ now.course.made)) st now.waits (forest_of (entries now.left ++ now.tail)))
       ≡ Went (item.Step ∷ item.Read p word u x args ∷ []) (running_at (works (state_at code inputs v now.course.store (start.chosen ++ now.course.made))) (resumed code u x args word) (Begins below ∷ now.waits) (forest_of (entries now.left ++ now.tail)))
   unfolding turn
-  begun-turn h p u x args below word does is names =
+  begun-turn p u x args below word none does is names =
       subst (λ w. turn code names (running_at (state_at code inputs v now.course.store (start.chosen ++ now.course.made)) st now.waits (forest_of (entries now.left ++ now.tail)))
       ≡ Went (item.Step ∷ item.Read p w u x args ∷ []) (running_at (works (state_at code inputs v now.course.store (start.chosen ++ now.course.made))) (resumed code u x args w) (Begins below ∷ now.waits) (forest_of (entries now.left ++ now.tail))))
-      is (rw (does, none-taken h p u x args) refl)
+      is (rw (does, none) refl)
 
-  -- a new read begins: its unit runs on what its place holds, and shares what is left over
-  pub now-begin : v.limit ≡ None → (p : Place) (u : UnitId) (x : ℕ) (args : List Word) (below : CodeStack) (word : Word) (t1 t : Tables) (read : Stamp)
-      → next code (words_of code inputs v.heap) st ≡ Reads p u x args (stack_in below) → StepMore v.cursor v.tables t1
+  -- a new read begins, where none that is left over is taken: its unit runs on what its place holds, and shares what is left over
+  pub now-begin : (p : Place) (u : UnitId) (x : ℕ) (args : List Word) (below : CodeStack) (word : Word) (t1 t : Tables) (read : Stamp)
+      → take_read p u x args (first (levels (forest_of (entries now.left ++ now.tail)))) ≡ None → next code (words_of code inputs v.heap) st ≡ Reads p u x args (stack_in below) → StepMore v.cursor v.tables t1
       → word ≡ contents_after (base_in t1.mods) (up_to v.cursor t1.trace.nodes) p → NodeMore v.cursor read.0 (Read p word u x args) t1 t → end_in read.0 t.trace.nodes ≡ None
       → RunningNow code inputs start (resumed code u x args word) (record { tables = t; heap = v.heap; spent = v.spent + 1; cursor = read.0; limit = v.limit; frames = Begun below read ∷ v.frames })
   unfolding placed-step placed-put
-  now-begin none p u x args below word t1 t read does h is k unended = record {
+  now-begin p u x args below word t1 t read none does h is k unended = record {
     reads = read.0 ∷ now.reads;
     left = now.left;
     waits = Begins (stack_in below) ∷ now.waits;
@@ -111,7 +103,7 @@ module _ (code : Code) (inputs : List Block) (start : Start) (st : Stack) (v : V
         (through (through now.placed.done (more now.placed.last)) (new_entry read.0 (Read p word u x args))) (forest_of (through (through now.placed.done (more now.placed.last)) (new_entry read.0 (Read p word u x args))))
         (λ s. running_at s (resumed code u x args word) (Begins (stack_in below) ∷ now.waits) (forest_of (entries now.left ++ now.tail)))
         (item.Step ∷ item.Read p word u x args ∷ []) now.course.store (items-next code inputs start st v now read.0 (Read p word u x args))
-        (begun-turn none p u x args (stack_in below) word does (value-there t1 h p word is place-known)) refl
+        (begun-turn p u x args (stack_in below) word none does (value-there t1 h p word is place-known)) refl
         (λ q c. same-next code inputs start st v now t (λ o. k.bases o ∙ ap (λ d. base_in d o) h.mods) q (known-before q c)
         ∙ sym (ap (λ (f : Store). f q) (contents-put (base_in t.mods) (through now.placed.done (more now.placed.last)) read.0 (Read p word u x args))))
         now.course.given;

@@ -11,9 +11,9 @@ use Rattle.ceal_order.specs.Stamps.{NotIn, Distinct, is_in, head_of}
 use Rattle.ceal_order.specs.declared.stamp.Stamp.{Stamp}
 use Rattle.ceal_repair.proofs.Items.{knots-entries, entries-joined}
 use Rattle.ceal_repair.specs.Entries.{CutTo, entries, closing, knots_of, first_stamp, starts}
-use Rattle.ceal_tables.proofs.Parting.{where-append}
-use Rattle.ceal_tables.specs.AsItems.{item_in}
-use Rattle.ceal_tables.specs.Lists.{recalls, stamps_where}
+use Rattle.ceal_repair.proofs.Parting.{where-append}
+use Rattle.ceal_repair.specs.AsItems.{item_in}
+use Rattle.ceal_repair.specs.Lists.{recalls, stamps_where}
 use Rattle.ceal_base.specs.Operators.{same_place}
 use Rattle.ceal_theory.proofs.Revoked.{taking-law}
 use Rattle.ceal_theory.proofs.Taken.{words-same, unit-same}
@@ -38,10 +38,6 @@ not-head : (s : ℕ) (xs : List ℕ) → NotIn s xs → head_of xs ≡ Some s �
 not-head s [] n e = cc
 not-head s (x ∷ xs) n e = let same : x ≡ s = cc in n.0 (sym same)
 
-not-front : (s : ℕ) (xs ys : List ℕ) → NotIn s (xs ++ ys) → NotIn s xs
-not-front s [] ys n = tt
-not-front s (x ∷ xs) ys n = (n.0, not-front s xs ys n.1)
-
 not-without : (s y : ℕ) (xs ys : List ℕ) → NotIn s (xs ++ y ∷ ys) → NotIn s (xs ++ ys)
 not-without s y [] ys n = n.1
 not-without s y (x ∷ xs) ys n = (n.0, not-without s y xs ys n.1)
@@ -59,17 +55,7 @@ holds_first holds (Made s b k n rest) = holds (Alloc b k)
 holds_first holds (Put s p v n rest) = holds (Write p v)
 holds_first holds (Got s p v u x args n inside e m rest) = holds (Read p v u x args)
 
--- the nodes behind the first one
-abbrev pub later_in : Grove → List Entry
-later_in Bare = []
-later_in (Made s b k n rest) = entries rest
-later_in (Put s p v n rest) = entries rest
-later_in (Got s p v u x args n inside e m rest) = entries inside ++ closing e s m ∷ entries rest
-
 module _ (holds : Node → Bool) where
-  head-here : (s : ℕ) (node : Node) (es : List ℕ) → holds node ≡ true → head_of (if holds node then s ∷ es else es) ≡ Some s
-  head-here s node es h = rw h refl
-
   -- it holds of the first node, where that has the first of the stamps
   pub first-holds : (g : Grove) (s : ℕ) → Distinct (stamps_in (entries g)) → head_of (stamps_where holds (entries g)) ≡ Some s → first_stamp g ≡ Some s → holds_first holds g ≡ true
   first-holds Bare s d e f = absurd cc

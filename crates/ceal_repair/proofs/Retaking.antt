@@ -37,10 +37,10 @@ use Rattle.ceal_repair.specs.Moment.{View, Start, Placed, RunningNow, PassingNow
 use Rattle.ceal_repair.specs.declared.frame.Frame.{Frame}
 use Rattle.ceal_repair.specs.declared.frame.Frame.TheVariants.{Begun, Taken, Kept as FrameKept}
 use Rattle.ceal_repair.specs.Words.{words_of}
-use Rattle.ceal_tables.specs.Covered.{contents_after}
-use Rattle.ceal_tables.specs.Kept.{Kept, Records, QueuedBehind, base_in, contents_at}
-use Rattle.ceal_tables.specs.Lists.{recalls, stamps_where, before}
-use Rattle.ceal_tables.specs.declared.tables.Tables.{Tables}
+use Rattle.ceal_repair.specs.Covered.{contents_after}
+use Rattle.ceal_repair.specs.Kept.{Kept, Records, QueuedBehind, base_in, contents_at}
+use Rattle.ceal_repair.specs.Lists.{recalls, stamps_where, before}
+use Rattle.ceal_repair.specs.declared.tables.Tables.{Tables}
 use Rattle.ceal_theory.proofs.Bare.{frames-self}
 use Rattle.ceal_theory.proofs.Revoked.{bare-stepped}
 use Rattle.ceal_theory.specs.Course.{Takes, frames_at, running_at, fixing_at, BareMode, BareFrames, BareSame}
@@ -57,7 +57,7 @@ use Rattle.ceal_trace.specs.Nodes.{Entry, Timeline, stamps_in, has_node, node_at
 use Rattle.ceal_trace.specs.declared.node.Node.{Node}
 use Rattle.ceal_trace.specs.declared.node.Node.TheVariants.{Root, Alloc, Write, Read, End}
 
-not-same : (v w : Word) → v ≢ w → same_word v w ≡ false
+pub not-same : (v w : Word) → v ≢ w → same_word v w ≡ false
 not-same v w h = elim (cases_Bool (same_word v w)) [ inl e ↦ absurd (h (word-same v w e)) | inr e ↦ e ]
 
 -- ---- nodes before one, and ends
@@ -111,7 +111,7 @@ given-same firsts chosen heap heap' h g = record {
 }
 
 -- the end of a read among nodes
-end-is : (t : Tables) → Kept t → (e r m : ℕ) (front inside later : List Entry) → t.trace.nodes ≡ front ++ (inside ++ closing e r m ∷ later) → end_in r t.trace.nodes ≡ Some e
+pub end-is : (t : Tables) → Kept t → (e r m : ℕ) (front inside later : List Entry) → t.trace.nodes ≡ front ++ (inside ++ closing e r m ∷ later) → end_in r t.trace.nodes ≡ Some e
 end-is t kept e r m front inside later h =
     let all : t.trace.nodes ≡ (front ++ inside) ++ closing e r m ∷ later = h ∙ sym (append_assoc front inside (closing e r m ∷ later)) in
     let none : has_node e (front ++ inside) ≡ false = not_before (front ++ inside) (closing e r m) later (subst (λ es. order.Distinct (stamps_in es)) all kept.step.whole.order.distinct) in
@@ -119,7 +119,7 @@ end-is t kept e r m front inside later h =
 
 -- ---- a read with another value
 
-ends-valued : (r : ℕ) (w : Word) (n : Node) → ends r (valued w n) ≡ ends r n
+pub ends-valued : (r : ℕ) (w : Word) (n : Node) → ends r (valued w n) ≡ ends r n
 ends-valued r w Root = refl
 ends-valued r w (Alloc b key) = refl
 ends-valued r w (Write p v) = refl
@@ -187,7 +187,7 @@ blocks-look code inputs heap old new s w e b h = blocks-still code inputs heap o
     ])
     h
 
-blocks-as : (code : Code) (inputs : List Block) (heap : Contents) (old new : Tables) → new.trace ≡ old.trace → ((p : Place) → base_in new.mods p ≡ base_in old.mods p)
+pub blocks-as : (code : Code) (inputs : List Block) (heap : Contents) (old new : Tables) → new.trace ≡ old.trace → ((p : Place) → base_in new.mods p ≡ base_in old.mods p)
     → HasBlocks code inputs heap old → HasBlocks code inputs heap new
 blocks-as code inputs heap old new e b h = blocks-still code inputs heap old new b (ap (λ (l : Timeline). blocks_at l.nodes) e)
     (λ u p v r. h.reads u p v (subst (λ (l : Timeline). Records p v (node_at u l.nodes)) e r))
@@ -493,6 +493,7 @@ module _ (code : Code) (inputs : List Block) (start : Start) (st : Stack) (v : V
         unfinished = unfinished-none v.frames t1.trace.nodes t.trace.nodes no-end-same placed-stepped.unfinished;
       };
       passes = Passes.passes below the-match.end found.0 the-match.end_steps the-match.behind (Inside.level the-match.inside) (subst (λ o. Tails start.limit start.beyond o v.frames now.waits now.reads now.tail) limit now.tails);
+      bounds = now.bounds;
       blocks = blocks-as code inputs heap t2 t seen cells blocks-mid;
       course = course-bare code inputs start v (through now.placed.done now.placed.last) (forest_of (through now.placed.done now.placed.last)) (λ s. running_at s st now.waits (forest_of (entries now.left ++ now.tail))) now.course
           (record { tables = t; heap = heap; spent = v.spent + 1; cursor = found.0; limit = Some (stamped the-match.end); frames = Taken below until ∷ v.frames })

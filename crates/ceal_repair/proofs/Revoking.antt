@@ -10,7 +10,7 @@ use Rattle.ceal_repair.proofs.Fewer.{LeftOf, until-still, is-first, cut-more, cu
 use Rattle.ceal_repair.specs.Blocks.{HasBlocks}
 use Rattle.ceal_repair.specs.Entries.{first_stamp, first_in, starts, CutTo, IsNoneOr, IsUntil, Lies}
 use Rattle.ceal_repair.specs.declared.running.Running.{Running}
-use Rattle.ceal_tables.specs.Kept.{Kept, base_in}
+use Rattle.ceal_repair.specs.Kept.{Kept, base_in}
 use Rattle.ceal_theory.specs.Groves.{Grove, Bare, cut}
 use Rattle.ceal_trace.specs.Nodes.{Entry, stamps_in, has_node}
 

@@ -1,5 +1,6 @@
 -- A run begins, and makes blocks.
-use Rattle.std.proofs.Common.{◌≡◌, ◌≢◌, ◌<◌, ℕ, ◌==◌, pos, inl, inr, Bool, true, false, if◌then◌else◌, Some, None, List, [], ◌∷◌, length, refl, sym, ap, ap₂, subst, ◌∙◌, slice_get}
+use Rattle.std.proofs.Common.{◌≡◌, ◌≢◌, ◌<◌, ◌≤◌, ℕ, zero, suc, ◌==◌, nat_le, pos, inl, inr, Bool, true, false, if◌then◌else◌, Some, None, List, [], ◌∷◌, length, refl, sym, ap, ap₂, subst, ◌∙◌, slice_get, arith}
+use Rattle.std.proofs.lemmas.Bool.Decides.{eqb_tells}
 use Rattle.ceal_base.specs.Block.{Block}
 use Rattle.ceal_base.specs.Operators.{same_block}
 use Rattle.ceal_base.specs.declared.forest.Key.{Key}
@@ -21,8 +22,8 @@ use Rattle.ceal_mods.specs.Mods.{Contents as Mods, IsUntouched}
 use Rattle.ceal_mods.specs.declared.cell.Cell.{Cell}
 use Rattle.ceal_order.specs.Stamps.{is_in}
 use Rattle.ceal_repair.specs.Words.{HasBases, default_of, base_of}
-use Rattle.ceal_tables.specs.Kept.{Kept, base_in}
-use Rattle.ceal_tables.specs.declared.tables.Tables.{Tables}
+use Rattle.ceal_repair.specs.Kept.{Kept, base_in}
+use Rattle.ceal_repair.specs.declared.tables.Tables.{Tables}
 use Rattle.ceal_trace.specs.Nodes.{new_entry, is_read, held_by}
 use Rattle.ceal_trace.specs.declared.node.Node.TheVariants.{Root}
 
@@ -41,12 +42,27 @@ none-queued t k e = go t.stale.stamps (λ s i. sym (alone s 0 (0 == s)) ∙ rw e
 -- the bases of a run at its beginning
 pub first-bases : (structs : List StructInfo) (inputs : List Block) (heap : Contents) (old new : Mods) → IsNew heap → IsUntouched old
     → ((i field : ℕ) → i < length inputs → base_in new (record { block = Input i; field = field }) ≡ content_in structs (slice_get inputs i) field)
-    → ((p : Place) → ((i : ℕ) → same_block p.block (Input i) ≡ false) → base_in new p ≡ base_in old p)
+    → ((p : Place) → ((i : ℕ) → i < length inputs → same_block p.block (Input i) ≡ false) → base_in new p ≡ base_in old p)
     → HasBases structs inputs heap new
 first-bases structs inputs heap old new empty fresh of_inputs others = record {
-  of_cores = λ b field. others (record { block = Core b; field = field }) (λ i. refl) ∙ (ap (λ (c : Cell). c.base) (fresh (record { block = Core b; field = field })) ∙ rw (empty.blocks (Core b)) refl);
-  of_inputs = of_inputs;
+  of_cores = λ b field. others (record { block = Core b; field = field }) (λ i h. refl) ∙ (ap (λ (c : Cell). c.base) (fresh (record { block = Core b; field = field })) ∙ rw (empty.blocks (Core b)) refl);
+  of_inputs = λ i field. go i field (nat_le (length inputs) i) refl;
 }
+  where
+    -- an input that is not there has 0
+    later : (xs : List Block) (i : ℕ) → length xs ≤ i → slice_get xs i ≡ None
+    later [] i h = refl
+    later (x ∷ xs) zero h = absurd (omega (arith, h))
+    later (x ∷ xs) (suc i) h = later xs i (omega (arith, h))
+
+    away : (i j : ℕ) → length inputs ≤ i → j < length inputs → same_block (Input i) (Input j) ≡ false
+    away i j h k = elim (eqb_tells i j) [ inl q ↦ absurd (omega (arith, h, k, q.1)) | inr q ↦ q.0 ]
+
+    go : (i field : ℕ) (t : Bool) → nat_le (length inputs) i ≡ t → base_in new (record { block = Input i; field = field }) ≡ content_in structs (slice_get inputs i) field
+    go i field true h =
+        let late : length inputs ≤ i = grind (arith, h) in
+        others (record { block = Input i; field = field }) (λ j k. away i j late k) ∙ (ap (λ (c : Cell). c.base) (fresh (record { block = Input i; field = field })) ∙ rw (later inputs i late) refl)
+    go i field false h = of_inputs i field (grind (arith, h))
 
 -- a block that is made is a core block, with the words of its key
 pub made-core : (heap : Contents) (id : BlockId) (shape : Shape) (key : Key) (words : List Word) → IsMade heap id shape key words → (b : ℕ) × (id ≡ Core b)
@@ -98,7 +114,7 @@ module _ (structs : List StructInfo) (inputs : List Block) (heap heap' : Content
               let away : Core b ≢ id = λ same. let clash : true ≡ false = sym (block-refl (Core b)) ∙ (rw (← same) at e) in cc in
               others (record { block = Core b; field = field }) e ∙ (h.of_cores b field ∙ rw (kept (Core b) away) refl)
 
-      of_inputs : (i field : ℕ) → i < length inputs → base_in mods' (record { block = Input i; field = field }) ≡ content_in structs (slice_get inputs i) field
-      of_inputs i field l =
+      of_inputs : (i field : ℕ) → base_in mods' (record { block = Input i; field = field }) ≡ content_in structs (slice_get inputs i) field
+      of_inputs i field =
           let core = made-core heap' id shape key words new_one in
-          others (record { block = Input i; field = field }) (rw core.1 refl) ∙ h.of_inputs i field l
+          others (record { block = Input i; field = field }) (rw core.1 refl) ∙ h.of_inputs i field

@@ -22,7 +22,7 @@ use Rattle.ceal_repair.specs.Repairs.{code_of, inputs_of, view, Runs}
 use Rattle.ceal_repair.specs.Words.{words_of, HasBases}
 use Rattle.ceal_repair.specs.declared.repair.Repair.{Repair}
 use Rattle.ceal_repair.specs.declared.running.Running.{Running}
-use Rattle.ceal_tables.specs.Kept.{Kept, QueuedBehind, Records, base_in}
+use Rattle.ceal_repair.specs.Kept.{Kept, QueuedBehind, Records, base_in}
 use Rattle.ceal_theory.specs.Chosen.{ChosenLaws, ComesBy, first_begins}
 use Rattle.ceal_theory.specs.Course.{running_at}
 use Rattle.ceal_theory.specs.Groves.{Bare}
@@ -105,7 +105,7 @@ module _ (code : Code) (inputs : List Block) (f : ℕ) (args : List Word) (fits 
 
   same-at : (b : BlockId) (field : ℕ) → KnownBlock (length inputs) [] b → bases code inputs (record { block = b; field = field }) ≡ base_in v.tables.mods (record { block = b; field = field })
   unfolding bases
-  same-at (Input i) field l = sym (has.of_inputs i field l)
+  same-at (Input i) field l = sym (has.of_inputs i field)
   same-at (Core b) field i = no-block i
 
   course : CourseNow code inputs (first_start code inputs f args) v (through [] (new_entry 0 Root)) [] (λ s. running_at s (started code f args) [] [])

@@ -34,10 +34,10 @@ use Rattle.ceal_repair.specs.Repairs.{nodes_to}
 use Rattle.ceal_repair.specs.declared.frame.Frame.{Frame}
 use Rattle.ceal_repair.specs.declared.frame.Frame.TheVariants.{Begun, Taken, Kept as FrameKept}
 use Rattle.ceal_repair.specs.Words.{words_of, default_of}
-use Rattle.ceal_tables.specs.Covered.{contents_after}
-use Rattle.ceal_tables.specs.Kept.{Kept, QueuedBehind, base_in}
-use Rattle.ceal_tables.specs.Lists.{allocates, stamps_where, before, behind, between}
-use Rattle.ceal_tables.specs.declared.tables.Tables.{Tables}
+use Rattle.ceal_repair.specs.Covered.{contents_after}
+use Rattle.ceal_repair.specs.Kept.{Kept, QueuedBehind, base_in}
+use Rattle.ceal_repair.specs.Lists.{allocates, stamps_where, before, behind, between}
+use Rattle.ceal_repair.specs.declared.tables.Tables.{Tables}
 use Rattle.ceal_theory.specs.Cover.{known_after}
 use Rattle.ceal_theory.specs.Groves.{Grove, Bare, Made, Put, Got, cut, trace_in, bare}
 use Rattle.ceal_trace.proofs.Entries.{has-held, has-read, stamps-changed, ends-changed}
@@ -70,7 +70,7 @@ behind-part e back (x ∷ xs) h = elim (eqb_tells x.stamp e.stamp) [
   | inr p ↦ rw p.0 (behind-part e back xs (rw p.0 at h))
 ]
 
-before-part : (e : Entry) (back front : List Entry) → has_node e.stamp front ≡ false → before e.stamp (front ++ e ∷ back) ≡ front
+pub before-part : (e : Entry) (back front : List Entry) → has_node e.stamp front ≡ false → before e.stamp (front ++ e ∷ back) ≡ front
 before-part e back [] h = rw (eq-eqb e.stamp e.stamp refl) refl
 before-part e back (x ∷ xs) h = elim (eqb_tells x.stamp e.stamp) [
   | inl p ↦ absurd (let bad : true ≡ false = rw p.0 at h in cc)
@@ -197,7 +197,7 @@ words-input : (code : Code) (inputs : List Block) (heap heap' : Contents) (i : �
 unfolding words_of with_inputs
 words-input code inputs heap heap' i = refl
 
-words-core : (code : Code) (inputs : List Block) (heap : Contents) (b : ℕ) → words_of code inputs heap (Core b) ≡ plain_of heap (Core b)
+pub words-core : (code : Code) (inputs : List Block) (heap : Contents) (b : ℕ) → words_of code inputs heap (Core b) ≡ plain_of heap (Core b)
 unfolding words_of with_inputs
 words-core code inputs heap b = refl
 
@@ -208,13 +208,13 @@ words-same code inputs heap heap' h = fun_ext go
     go (Input i) = words-input code inputs heap heap' i
     go (Core b) = words-core code inputs heap' b ∙ (ap (option_map plain_block) (h (Core b)) ∙ sym (words-core code inputs heap b))
 
-default-known : (structs : List StructInfo) (s : Standing) (block : Block) → option_map plain_block (known s) ≡ Some block → (field : ℕ) → default_of structs s field ≡ cell_default (field_kind structs block.shape field)
+pub default-known : (structs : List StructInfo) (s : Standing) (block : Block) → option_map plain_block (known s) ≡ Some block → (field : ℕ) → default_of structs s field ≡ cell_default (field_kind structs block.shape field)
 default-known structs Unused block h field = absurd (cc)
 default-known structs (Live x) block h field = let same : plain_block x ≡ block = cc in ap (λ (z : Block). cell_default (field_kind structs z.shape field)) same
 default-known structs (Revoked x) block h field = let same : plain_block x ≡ block = cc in ap (λ (z : Block). cell_default (field_kind structs z.shape field)) same
 default-known structs (Released shape) block h field = absurd (cc)
 
-blocks-append : (c : ℕ) (xs ys : List Entry) → count c (blocks_at (xs ++ ys)) ≡ count c (blocks_at ys) + count c (blocks_at xs)
+pub blocks-append : (c : ℕ) (xs ys : List Entry) → count c (blocks_at (xs ++ ys)) ≡ count c (blocks_at ys) + count c (blocks_at xs)
 blocks-append c [] ys = omega arith
 blocks-append c (x ∷ xs) ys = node-count c (count c (blocks_at ys)) x.node (blocks_at (xs ++ ys)) (blocks_at xs) (blocks-append c xs ys)
 

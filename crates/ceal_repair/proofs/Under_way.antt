@@ -12,7 +12,7 @@ use Rattle.ceal_repair.specs.Moment.{View, Start, RunningNow}
 use Rattle.ceal_repair.specs.Repairs.{code_of, inputs_of, view, RunsAt}
 use Rattle.ceal_repair.specs.declared.frame.Frame.{Frame}
 use Rattle.ceal_repair.specs.declared.repair.Repair.{Repair}
-use Rattle.ceal_tables.specs.declared.tables.Tables.{Tables}
+use Rattle.ceal_repair.specs.declared.tables.Tables.{Tables}
 use Rattle.ceal_trace.specs.Nodes.{has_node}
 use Rattle.ceal_trace.specs.declared.node.Node.{Node}
 

@@ -5,15 +5,16 @@ use Rattle.ceal_base.specs.Trace.{Trace, Nothing, flat, steps_of}
 use Rattle.ceal_base.specs.declared.word.BlockId.{BlockId}
 use Rattle.ceal_base.specs.declared.word.BlockId.TheVariants.{Core}
 use Rattle.ceal_base.specs.declared.word.Word.{Word}
+use Rattle.ceal_code.specs.Fitting.{Fits}
 use Rattle.ceal_code.specs.Fresh.{fresh}
 use Rattle.ceal_code.specs.Program.{Code}
 use Rattle.ceal_code.specs.Replay.{Replays, IsHonest, bases, plain_of}
-use Rattle.ceal_heap.specs.Heap.{Known, Revoked, standing, plain_of as heap_words}
+use Rattle.ceal_heap.specs.Heap.{Known, Revoked, HasSlots, standing, plain_of as heap_words}
 use Rattle.ceal_repair.specs.Blocks.{HasBlocks}
 use Rattle.ceal_repair.specs.declared.running.Outcome.{Outcome}
 use Rattle.ceal_repair.specs.declared.running.Outcome.TheVariants.{Done, OutOfFuel}
 use Rattle.ceal_repair.specs.declared.running.Running.{Running}
-use Rattle.ceal_tables.specs.Kept.{Kept}
+use Rattle.ceal_repair.specs.Kept.{Kept}
 use Rattle.ceal_theory.specs.Adjust.{Above}
 use Rattle.ceal_theory.specs.Computed.{Repaired, adjusted, first_of}
 use Rattle.ceal_theory.specs.Named.{Apart, Named, naming, trace_by}
@@ -23,14 +24,22 @@ use Rattle.ceal_trace.specs.Items.{forest_of, Nests}
 use Rattle.ceal_trace.specs.Nodes.{Entry}
 
 -- The nodes of a run stand for this trace on these inputs: its flat items are theirs, and the blocks that can be read are its blocks
--- with their plain words, none of them revoked.
+-- with their plain words, none of them revoked; the region has their slots and no others.
 pub record Stands (code : Code) (inputs : List Block) (l : Trace) (run : Running) : Type 0 where
   pub kept : Kept run.tables
   pub nests : Nests run.tables.trace.nodes
   pub items : forest_of run.tables.trace.nodes ≡ flat l
   pub words : (b : ℕ) → heap_words run.heap (Core b) ≡ plain_of code inputs l (Core b)
   pub released : (b : BlockId) (block : Known) → ¬ (standing run.heap b ≡ Revoked block)
+  pub slots : HasSlots run.heap
   pub blocks : HasBlocks code inputs run.heap run.tables
+
+-- The nodes stand for a trace of the call that has no more steps than the fuel. Inputs may have got other bases since it was honest.
+pub record IsKeptRun (code : Code) (inputs : List Block) (f : ℕ) (args : List Word) (fuel : ℕ) (l : Trace) (run : Running) : Type 0 where
+  pub stands : Stands code inputs l run
+  pub fits : Fits code inputs f args
+  pub replays : Replays code inputs f args l
+  pub few : steps_of l ≤ fuel
 
 -- The nodes stand for a trace of the call that is honest on the inputs and has no more steps than the fuel.
 pub record IsRunOf (code : Code) (inputs : List Block) (f : ℕ) (args : List Word) (fuel : ℕ) (l : Trace) (run : Running) : Type 0 where

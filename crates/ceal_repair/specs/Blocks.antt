@@ -10,8 +10,8 @@ use Rattle.ceal_code.specs.Program.{Code}
 use Rattle.ceal_code.specs.Replay.{In, Distinct, count}
 use Rattle.ceal_heap.specs.Heap.{Contents, IsLive, block_of}
 use Rattle.ceal_repair.specs.Words.{HasBases}
-use Rattle.ceal_tables.specs.Kept.{Records}
-use Rattle.ceal_tables.specs.declared.tables.Tables.{Tables}
+use Rattle.ceal_repair.specs.Kept.{Records}
+use Rattle.ceal_repair.specs.declared.tables.Tables.{Tables}
 use Rattle.ceal_theory.specs.KnownContent.{allocs}
 use Rattle.ceal_trace.specs.Items.{forest_of}
 use Rattle.ceal_trace.specs.Nodes.{Entry, node_at}

@@ -5,9 +5,9 @@ use Rattle.ceal_base.specs.declared.word.Word.{Word}
 use Rattle.ceal_order.specs.declared.stamp.Stamp.{Stamp}
 use Rattle.ceal_repair.specs.declared.cutting.Cut.{Cut}
 use Rattle.ceal_repair.specs.declared.cutting.Cut.TheVariants.{Alloc as CutAlloc, Write as CutWrite, Read as CutRead}
-use Rattle.ceal_tables.specs.AsItems.{item_in}
-use Rattle.ceal_tables.specs.Kept.{QueuedBehind}
-use Rattle.ceal_tables.specs.declared.tables.Tables.{Tables}
+use Rattle.ceal_repair.specs.AsItems.{item_in}
+use Rattle.ceal_repair.specs.Kept.{QueuedBehind}
+use Rattle.ceal_repair.specs.declared.tables.Tables.{Tables}
 use Rattle.ceal_theory.specs.Groves.{Knot, knot, Grove, Bare, Made, Put, Got, cut}
 use Rattle.ceal_order.specs.Stamps.{is_in}
 use Rattle.ceal_trace.specs.Nodes.{Entry, is_read}

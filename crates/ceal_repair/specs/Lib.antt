@@ -1,4 +1,8 @@
 -- what the crate promises
+pub mod Lists
+pub mod Covered
+pub mod Kept
+pub mod AsItems
 pub mod Words
 pub mod Entries
 pub mod Blocks
@@ -8,5 +12,6 @@ pub mod Around
 pub mod Moment
 pub mod Repairs
 pub mod Reads
--- what the next pass stands on, beside parts of Answers, Entries, Moment, Repairs
+pub mod Passing
 pub mod Turning
+pub mod Propagation

@@ -15,9 +15,9 @@ use Rattle.ceal_repair.specs.Entries.{entries, entry}
 use Rattle.ceal_repair.specs.Words.{words_of}
 use Rattle.ceal_repair.specs.declared.frame.Frame.{Frame}
 use Rattle.ceal_repair.specs.declared.frame.Frame.TheVariants.{Begun, Taken, Kept as FrameKept}
-use Rattle.ceal_tables.specs.Covered.{contents_after}
-use Rattle.ceal_tables.specs.Kept.{Kept, QueuedBehind, base_in}
-use Rattle.ceal_tables.specs.declared.tables.Tables.{Tables}
+use Rattle.ceal_repair.specs.Covered.{contents_after}
+use Rattle.ceal_repair.specs.Kept.{Kept, QueuedBehind, base_in}
+use Rattle.ceal_repair.specs.declared.tables.Tables.{Tables}
 use Rattle.ceal_theory.specs.Chosen.{ComesBy, first_begins}
 use Rattle.ceal_theory.specs.Course.{Wait, fixing_at, running_at}
 use Rattle.ceal_theory.specs.Cover.{known_after}
@@ -148,6 +148,7 @@ pub record PassingNow (code : Code) (inputs : List Block) (start : Start) (until
   pub limit : v.limit ≡ Some until
   pub placed : Placed start v reads behind
   pub passes : Passes start.limit start.beyond until v.frames waits reads behind
+  pub bounds : Bounds start.limit start.beyond
   pub blocks : HasBlocks code inputs v.heap v.tables
   pub course : CourseNow code inputs start v (through placed.done placed.last) (forest_of placed.done ++ item_of placed.last.node)
       (λ s. fixing_at s waits (ticks placed.last.steps ++ forest_of behind))

@@ -7,7 +7,7 @@ use Rattle.ceal_memo.specs.declared.key.ReadKey.{ReadKey}
 use Rattle.ceal_order.specs.declared.stamp.Stamp.{Stamp}
 use Rattle.ceal_repair.specs.Moment.{Start, RunningNow}
 use Rattle.ceal_repair.specs.Repairs.{code_of, inputs_of, view, next_in, Runs, PassesOn}
-use Rattle.ceal_repair.specs.declared.frame.Frame.TheVariants.{Taken}
+use Rattle.ceal_repair.specs.declared.frame.Frame.TheVariants.{Taken, Kept}
 use Rattle.ceal_repair.specs.declared.repair.Repair.{Repair}
 
 -- what a read of a closure is found by
@@ -23,4 +23,10 @@ Entered false start r = PassesOn start r
 pub record EndsTaken (start : Start) (below : CodeStack) (until : Stamp) (r : Repair) : Type 0 where
   pub stack : Stack
   pub now : RunningNow (code_of r) (inputs_of r) start stack (record (view r) { frames = Taken below until ∷ (view r).frames })
+  pub over : next_in r stack ≡ Over
+
+-- the unit of a stale read among nodes that are kept is over; its frame was taken off
+pub record EndsKept (start : Start) (until : Stamp) (r : Repair) : Type 0 where
+  pub stack : Stack
+  pub now : RunningNow (code_of r) (inputs_of r) start stack (record (view r) { frames = Kept until ∷ (view r).frames })
   pub over : next_in r stack ≡ Over

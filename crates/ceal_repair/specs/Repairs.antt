@@ -11,7 +11,7 @@ use Rattle.ceal_repair.specs.Moment.{View, Start, RunningNow, PassingNow}
 use Rattle.ceal_repair.specs.Words.{words_of}
 use Rattle.ceal_repair.specs.declared.frame.Frame.TheVariants.{Begun}
 use Rattle.ceal_repair.specs.declared.repair.Repair.{Repair}
-use Rattle.ceal_tables.specs.Lists.{between}
+use Rattle.ceal_repair.specs.Lists.{between}
 use Rattle.ceal_trace.specs.Nodes.{Entry}
 
 abbrev pub code_of : Repair → Code

@@ -1,25 +1,29 @@
 -- A run that is repaired turn by turn, each turn the first stale read with what is inside it.
-use Rattle.std.specs.Prelude.{◌≡◌, ℕ, Some, List, ◌∷◌, ◌++◌, length}
+use Rattle.std.specs.Prelude.{◌≡◌, ℕ, Some, List, [], ◌∷◌, ◌++◌, length}
 use Rattle.ceal_base.specs.Block.{Block}
 use Rattle.ceal_base.specs.Trace.{Trace, flat, blocks_of}
 use Rattle.ceal_base.specs.declared.forest.UnitId.{UnitId}
 use Rattle.ceal_base.specs.declared.word.BlockId.TheVariants.{Core}
 use Rattle.ceal_base.specs.declared.word.Place.{Place}
 use Rattle.ceal_base.specs.declared.word.Word.{Word}
+use Rattle.ceal_code.specs.Fitting.{Fits}
 use Rattle.ceal_code.specs.Program.{Code}
-use Rattle.ceal_code.specs.Replay.{core_numbers}
+use Rattle.ceal_code.specs.Replay.{Replays, core_numbers}
 use Rattle.ceal_heap.specs.Heap.{plain_of}
 use Rattle.ceal_repair.specs.Blocks.{HasBlocks, Given}
 use Rattle.ceal_repair.specs.Entries.{stamped, entry, entries, closing}
 use Rattle.ceal_repair.specs.Moment.{Start}
+use Rattle.ceal_repair.specs.Repairs.{Runs}
+use Rattle.ceal_repair.specs.declared.repair.Repair.{Repair as RepairInCode}
 use Rattle.ceal_repair.specs.declared.running.Running.{Running}
-use Rattle.ceal_tables.specs.Kept.{Kept}
+use Rattle.ceal_repair.specs.Kept.{Kept, IsStale, Records, QueuedBehind, contents_at}
 use Rattle.ceal_theory.specs.Chosen.{Continues}
 use Rattle.ceal_theory.specs.Groves.{Grove, stepped, trace_in}
 use Rattle.ceal_theory.specs.SliceLaws.{unit_alone, Turns}
-use Rattle.ceal_theory.specs.Slices.{Repair, beginning, Sound}
-use Rattle.ceal_trace.specs.Items.{forest_of, Nests}
-use Rattle.ceal_trace.specs.Nodes.{Entry}
+use Rattle.ceal_theory.specs.Slices.{Repair, beginning, starting, Sound}
+use Rattle.ceal_theory.specs.Walk.{store_after, AgreesAll}
+use Rattle.ceal_trace.specs.Items.{forest_of, unclosed, Nests}
+use Rattle.ceal_trace.specs.Nodes.{Entry, node_at, with_value}
 use Rattle.ceal_trace.specs.declared.node.Node.TheVariants.{Read}
 
 -- a finished read of nodes: those before it, those inside it, its end, and those behind that
@@ -74,3 +78,50 @@ pub record TurnedSoFar (code : Code) (inputs : List Block) (f : ℕ) (args : Lis
   pub given : Given (core_numbers (blocks_of l)) chosen run.heap
   pub turns : ℕ
   pub history : (names : ℕ → ℕ) → Continues chosen names → Turns code names inputs turns (beginning code inputs l 0) repair
+
+-- a trace of a call that fits
+pub record IsCalled (code : Code) (inputs : List Block) (f : ℕ) (args : List Word) (l : Trace) : Type 0 where
+  pub fits : Fits code inputs f args
+  pub replays : Replays code inputs f args l
+
+-- The first stale read of a run that has come so far was found, and has the content of its moment since then; what is queued stands
+-- behind it, and all else is as it was.
+pub record FoundStale (code : Code) (inputs : List Block) (f : ℕ) (args : List Word) (l : Trace) (read : ℕ) (run : Running) : Type 0 where
+  pub called : IsCalled code inputs f args l
+  pub before : Running
+  pub so_far : TurnedSoFar code inputs f args l before
+  pub stale : IsStale read before.tables
+  pub place : Place
+  pub value : Word
+  pub is_read : Records place value (node_at read before.tables.trace.nodes)
+  pub nodes : run.tables.trace.nodes ≡ with_value read (contents_at read before.tables place) before.tables.trace.nodes
+  pub queued : QueuedBehind read run.tables
+  pub cells : run.tables.mods.cells ≡ before.tables.mods.cells
+  pub heap : run.heap ≡ before.heap
+  pub spent : run.spent ≡ before.spent
+  pub kept : Kept run.tables
+
+-- A turn has begun at the first stale read of a run that has come so far: the items before the read agree with the store, its
+-- own content does not.
+pub record TurnBegan (code : Code) (inputs : List Block) (f : ℕ) (args : List Word) (l : Trace) (before : Running) (start : Start) : Type 0 where
+  pub called : IsCalled code inputs f args l
+  pub so_far : TurnedSoFar code inputs f args l before
+  pub spot : ReadAt before.tables.trace.nodes
+  pub agrees : AgreesAll code (starting code inputs so_far.repair.known) (forest_of spot.before)
+  pub stale : ¬ (store_after code (starting code inputs so_far.repair.known) (forest_of spot.before) spot.place ≡ spot.value)
+  pub reads : List ℕ
+  pub opened : unclosed (Some []) spot.before ≡ Some reads
+  pub is : start ≡ turn_start code inputs so_far.repair (core_numbers (blocks_of l)) so_far.chosen so_far.stands.sound.blocks (spot.read ∷ reads) spot
+      (store_after code (starting code inputs so_far.repair.known) (forest_of spot.before) spot.place)
+
+-- the unit of that read runs
+pub record TurnRuns (code : Code) (inputs : List Block) (f : ℕ) (args : List Word) (l : Trace) (before : Running) (r : RepairInCode) : Type 0 where
+  pub start : Start
+  pub began : TurnBegan code inputs f args l before start
+  pub runs : Runs start r
+
+-- the turn has ended: the run has come further, and the nodes before the read are as they were
+pub record TurnEnded (code : Code) (inputs : List Block) (f : ℕ) (args : List Word) (l : Trace) (start : Start) (run : Running) : Type 0 where
+  pub so_far : TurnedSoFar code inputs f args l run
+  pub later : List Entry
+  pub front : run.tables.trace.nodes ≡ start.before ++ later

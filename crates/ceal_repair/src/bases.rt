@@ -10,8 +10,9 @@ ghost use Rattle.ceal_mods.specs.Mods.{IsUntouched, cell_of};
 ghost use Rattle.ceal_order.specs.Stamps.{is_in};
 ghost use Rattle.ceal_code.specs.Replay.{content_in};
 ghost use Rattle.ceal_repair.specs.Words.{base_of};
-ghost use Rattle.ceal_tables.specs.Kept.{Kept, base_in};
+ghost use Rattle.ceal_repair.specs.Kept.{Kept, base_in};
 
+use crate::tables::Tables;
 use ceal_base::kind::{FieldKind, Shape};
 use ceal_base::memory::Inputs;
 use ceal_base::no_memory::NoMemory;
@@ -19,10 +20,9 @@ use ceal_base::shapes::field_kind;
 use ceal_base::typed::StructInfo;
 use ceal_base::word::{BlockId, Place, Word};
 use ceal_code::evaluate::is_modifiable;
-use ceal_tables::tables::Tables;
 
 /// The word of a field, or the default of its kind where there is none.
-fn word_or_default(words: &[Word], field: u32, kind: FieldKind) -> Word
+pub fn word_or_default(words: &[Word], field: u32, kind: FieldKind) -> Word
     ensures { result ≡ unwrap_or (slice_get words.now field) (default_of_field kind) }
 {
     match words.get(field as usize) {
@@ -81,7 +81,8 @@ pub fn set_inputs(
     ensures inputs { OnOk result ((i field : ℕ) → i < length inputs.now
         → base_in tables.new.mods (record { block = Input i; field = field })
         ≡ content_in structs.now (slice_get inputs.now i) field) }
-    ensures others { (p : PlaceOf) → ((i : ℕ) → same_block p.block (Input i) ≡ false)
+    ensures others { (p : PlaceOf)
+        → ((i : ℕ) → i < length inputs.now → same_block p.block (Input i) ≡ false)
         → base_in tables.new.mods p ≡ base_in tables.old.mods p }
     ensures kept { Kept tables.new }
 {

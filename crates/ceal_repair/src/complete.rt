@@ -1,17 +1,16 @@
 // A repair is turned until it is over.
 
-ghost use Rattle.std.specs.Prelude.{◌≡◌, None, IfOk, OnOk};
+ghost use Rattle.std.specs.Prelude.{IfOk, OnOk};
 ghost use Rattle.ceal_repair.specs.Moment.{Start};
 ghost use Rattle.ceal_repair.specs.Repairs.{Runs, Completed, SameCall};
 
 use crate::repair::Repair;
 use ceal_base::no_memory::NoMemory;
 
-/// Turns a run from nothing until it is over, or has run more steps than the fuel allows: then it answers false. No run that fits
+/// Turns a repair until it is over, or has run more steps than the fuel allows: then it answers false. No run that fits
 /// into memory comes to 2^64 turns; one that did would be told as want of memory.
 pub fn complete(repair: &mut Repair<'_>, fuel: u32) -> Result<bool, NoMemory>
     requires runs { (start : Start) × Runs start repair.old }
-    requires alone { repair.old.limit ≡ None }
     ensures call { OnOk result (SameCall repair.old repair.new) }
     ensures done { IfOk result
         (λ done. (start : Start) → Runs start repair.old → Completed done fuel start repair.new) }

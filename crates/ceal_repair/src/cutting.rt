@@ -9,7 +9,7 @@ ghost use Rattle.ceal_heap.specs.Heap.{block_of};
 ghost use Rattle.ceal_order.specs.Stamps.{is_in, successor};
 ghost use Rattle.ceal_repair.specs.Blocks.{HasBlocks};
 ghost use Rattle.ceal_repair.specs.Entries.{CutTo, IsNoneOr, IsUntil, Lies, Revokes, starts, first_in, first_stamp};
-ghost use Rattle.ceal_tables.specs.Kept.{Kept, base_in};
+ghost use Rattle.ceal_repair.specs.Kept.{Kept, base_in};
 ghost use Rattle.ceal_theory.specs.Groves.{Grove, Bare, cut};
 ghost use Rattle.ceal_trace.specs.Nodes.{Entry, stamps_in, has_node, node_at, is_plain};
 ghost use Rattle.ceal_trace.specs.declared.node.Node.{Node as NodeOf};

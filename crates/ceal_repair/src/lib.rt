@@ -1,21 +1,36 @@
-//! The run of trace code over the nodes of its trace: the run from nothing, and how nodes that are left over are revoked. It is to
-//! become the engine's body, whose repair takes time that goes with what is run anew, and not with the trace.
+//! The run of trace code over the nodes of its trace, and change propagation over them: the body of the engine. Its time goes with
+//! what is run anew, and not with the trace.
+//!
+//! Below it are the tables of a trace in step (`tables`): its nodes, the lists of its modifiables, the queue of its stale reads, and
+//! the memo. Their contracts speak of the list of nodes, of what each place holds before any write, and of the stamps that are
+//! queued. What is true of all tables is `Kept`: each place has exactly the writes and the reads of the nodes, each key exactly
+//! their allocations and reads, and wherever a read has not the content of its moment, a queued read of its place stands there or
+//! before it, with no write of the place between. So nothing above these calls sees an order of stamps. Where a call lacks memory,
+//! the tables are of no use any more, but for the edit of a base, which changes nothing then. `laws` has what follows of `Kept`.
 //!
 //! Contracts speak of the list of nodes and of the theory of repair: the nodes of a run from nothing stand for the first trace of
-//! the call (`specs/Answers`). Inside, a moment of a run is a function of the nodes behind the cursor (`specs/Moment`): what is
-//! left over to the unit that runs, up to a limit, and what waits around it (`specs/Around`). A run from nothing has no limit and
-//! nothing left over. How kept nodes are passed and the turns of a repair (`specs/Turning`) stand as definitions; no code has them yet.
+//! the call, and after a propagation for the repair of the trace before it (`specs/Answers`). Inside, a moment of a run is a function of
+//! the nodes behind the cursor (`specs/Moment`): what is left over to the unit that runs, up to a limit, and what waits around it
+//! (`specs/Around`). A run from nothing has no limit and nothing left over. A propagation is one turn after another (`specs/Turning`), each
+//! the first stale read with what is inside it.
 //!
-//! `running` has what a run keeps, and `first` the run from nothing. A `repair` under way turns one unit at a time: it puts nodes
-//! in behind its cursor (`put`), and takes allocations and reads that are left over (`take`, `read`). `cutting` revokes nodes that
-//! are left over, `bases` sets what modifiables hold before any write, and `words` reads plain words.
+//! `running` has what a run keeps, `first` the run from nothing, and `propagate` change propagation. A `repair` under way turns one unit
+//! at a time: it puts nodes in behind its cursor (`put`), takes allocations and reads that are left over (`take`, `read`), and passes
+//! kept nodes inside a taken read (`pass`). `turns` are made one after another; `turn` begins one, `complete` turns its unit until it is
+//! over, and `end` ends it. `cutting` revokes nodes that are left over, `bases` sets what modifiables hold before any write,
+//! `edits` does so for an input that is new to a run, and `words` reads plain words.
 #![tactic(auto)]
 
 mod bases;
 mod complete;
 pub mod cutting;
+pub mod edits;
 pub mod first;
 mod frame;
+pub mod laws;
+pub mod propagate;
+mod recorded;
 mod repair;
 pub mod running;
+pub mod tables;
 mod words;

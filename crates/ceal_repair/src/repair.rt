@@ -7,7 +7,7 @@ ghost use Rattle.ceal_code.specs.declared.step.Act.{Act as ActOf};
 ghost use Rattle.ceal_code.specs.declared.step.Act.TheVariants as act;
 ghost use Rattle.ceal_repair.specs.Moment.{Start};
 ghost use Rattle.ceal_repair.specs.Repairs.{code_of, inputs_of, view, next_in, Runs, RunsAt, Acts, IsOver, Turned, SameCall};
-ghost use Rattle.ceal_tables.specs.Kept.{Kept};
+ghost use Rattle.ceal_repair.specs.Kept.{Kept};
 ghost use Rattle.ceal_order.specs.Stamps.{head_of};
 ghost use Rattle.ceal_trace.specs.Nodes.{has_node, stamps_in, with_steps, steps_at};
 
@@ -22,9 +22,13 @@ use ceal_code::step::{Act, advance};
 use ceal_order::stamp::Stamp;
 use std::alloc::Global;
 
+mod end;
+mod pass;
 mod put;
 mod read;
 mod take;
+mod turn;
+mod turns;
 
 /// A repair that is under way, or a run from nothing. A unit runs; the nodes up to the cursor are final, and those behind it, up to
 /// the limit, are left over to the unit. The cursor only moves on.
@@ -120,12 +124,10 @@ impl<'a> Repair<'a> {
     }
 
     /// What the running unit does next. It answers false where the unit is over and nothing follows. After want of memory the
-    /// repair is of no further use. There is no limit: nothing is left over.
+    /// repair is of no further use.
     pub fn turn(&mut self) -> Result<bool, NoMemory>
         requires runs { (start : Start) × Runs start self.old }
-        requires alone { self.old.limit ≡ None }
         ensures call { OnOk result (SameCall self.old self.new) }
-        ensures alone { OnOk result (self.new.limit ≡ None) }
         ensures runs { IfOk result
             (λ more. (start : Start) → Runs start self.old → Turned more start self.new) }
         ensures spent { IfOk result
@@ -146,7 +148,7 @@ impl<'a> Repair<'a> {
                 Ok(true)
             }
             Act::Reads(closure) => {
-                self.begin(closure)?;
+                self.read(closure)?;
                 Ok(true)
             }
         }
@@ -155,9 +157,7 @@ impl<'a> Repair<'a> {
     /// The unit is over. What follows it is done; it answers false where nothing does.
     fn close(&mut self) -> Result<bool, NoMemory>
         requires over { (start : Start) × Acts start act.Over self.old }
-        requires alone { self.old.limit ≡ None }
         ensures call { OnOk result (SameCall self.old self.new) }
-        ensures alone { OnOk result (self.new.limit ≡ None) }
         ensures runs { IfOk result
             (λ more. (start : Start) → Acts start act.Over self.old → Turned more start self.new) }
         ensures spent { IfOk result
@@ -169,8 +169,14 @@ impl<'a> Repair<'a> {
                 self.finish(below, read)?;
                 Ok(true)
             }
-            Some(Frame::Taken { .. }) => unreachable!(),
-            Some(Frame::Kept { .. }) => unreachable!(),
+            Some(Frame::Taken { below, limit }) => {
+                self.leave(below, limit)?;
+                Ok(true)
+            }
+            Some(Frame::Kept { until }) => {
+                self.go_on(until)?;
+                Ok(true)
+            }
         }
     }
 }

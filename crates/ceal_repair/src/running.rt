@@ -10,11 +10,12 @@ ghost use Rattle.ceal_heap.specs.Heap.{IsLive, IsNew, KeepsBlocks, block_of, pla
 ghost use Rattle.ceal_order.specs.Stamps.{is_in};
 ghost use Rattle.ceal_mods.specs.Mods.{cell_of};
 ghost use Rattle.ceal_repair.specs.Words.{words_of, HasBases};
-ghost use Rattle.ceal_tables.specs.Kept.{Kept, base_in};
+ghost use Rattle.ceal_repair.specs.Kept.{Kept, base_in};
 ghost use Rattle.ceal_trace.specs.Nodes.{new_entry};
 ghost use Rattle.ceal_trace.specs.declared.node.Node.TheVariants.{Root};
 
 use crate::bases::{set_bases, set_inputs};
+use crate::tables::Tables;
 use crate::words::RunWords;
 use ceal_base::forest::Key;
 use ceal_base::memory::{BlockWords, Inputs};
@@ -23,7 +24,6 @@ use ceal_base::word::{BlockId, Word};
 use ceal_code::code::Code;
 use ceal_code::initialise::{made_shape, make_block};
 use ceal_heap::heap::Heap;
-use ceal_tables::tables::Tables;
 use std::alloc::Global;
 
 /// What a run keeps: the tables of its trace, its core blocks, and how many steps were run anew for it.

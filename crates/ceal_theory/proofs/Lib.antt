@@ -1,4 +1,4 @@
--- what crates above cite: taking from flat items, one turn of the machine, the repair as a function and where it ends.
+-- what crates above cite: taking from flat items, the machine, the repair as a function and where it ends, the walk, slices
 pub mod Bare
 pub mod Moves
 pub mod Revoked
@@ -21,8 +21,16 @@ pub mod PlainWords
 pub mod Repaired
 pub mod Main
 pub mod Named
-pub mod Segments
 pub mod MoreInputs
+pub mod Counts
+pub mod Course
+pub mod Done
+pub mod KnownContent
+pub mod Listed
+pub mod SameStore
+pub mod SliceLaws
+pub mod Sound
+pub mod Walk
 -- The laws of repair.
 pub mod Stored
 pub mod Told
@@ -38,19 +46,14 @@ pub mod RenamedWalk
 pub mod Renamed
 pub mod RenamedRepair
 -- The machine.
+pub mod Segments
 pub mod FlatMachine
 -- Walks, counts, and what is known.
-pub mod Walk
-pub mod Counts
 pub mod KeptSteps
-pub mod KnownContent
 -- Slices and turns.
 pub mod Uses
 pub mod Parts
 pub mod Adds
-pub mod Sound
-pub mod SameStore
-pub mod Done
 pub mod SliceFunction
 pub mod IsDone
 pub mod Begun
@@ -63,8 +66,6 @@ pub mod Split
 pub mod RenamedSlice
 pub mod NamedBeginning
 pub mod RenamedSound
-pub mod SliceLaws
-pub mod Listed
 pub mod SliceSamples
 -- The queue.
 pub mod Cover
@@ -72,6 +73,5 @@ pub mod CoverKept
 pub mod NodeChanges
 -- Courses.
 pub mod Layers
-pub mod Course
 -- Cost.
 pub mod CostBound

@@ -3,11 +3,11 @@
 ghost use Rattle.std.specs.Prelude.{◌≡◌, ◌∷◌, [], None, IfOk, OnOk};
 ghost use Rattle.ceal_base.specs.declared.word.Word.{Word as WordOf};
 ghost use Rattle.ceal_code.specs.declared.step.Act.TheVariants as act;
-ghost use Rattle.ceal_memo.specs.declared.key.ReadKey.{ReadKey as KeyOf};
 ghost use Rattle.ceal_repair.specs.Moment.{Start};
 ghost use Rattle.ceal_order.specs.Stamps.{head_of};
 ghost use Rattle.ceal_repair.specs.Repairs.{Runs, Acts, EndsRead, SameCall, left_nodes};
-ghost use Rattle.ceal_tables.specs.Lists.{allocates, stamps_where};
+ghost use Rattle.ceal_repair.specs.Lists.{allocates, recalls, stamps_where};
+ghost use Rattle.ceal_repair.specs.Reads.{key_in};
 
 use super::Repair;
 use crate::frame::Frame;
@@ -20,30 +20,11 @@ use ceal_memo::key::ReadKey;
 use ceal_order::stamp::Stamp;
 use std::mem;
 
-/// What a read of a closure is found by.
-pub fn key_of(closure: &Closure) -> Result<ReadKey, NoMemory>
-    ensures key { IfOk result (λ key. key ≡ record {
-      place = closure.now.place;
-      unit = closure.now.unit;
-      var = closure.now.var;
-      args = closure.now.args;
-    }) }
-{
-    let args = closure.args.copy()?;
-    Ok(ReadKey {
-        place: closure.place,
-        unit: closure.unit,
-        var: closure.var,
-        args,
-    })
-}
-
 impl<'a> Repair<'a> {
     /// A step that leaves no item but itself.
     pub fn quiet(&mut self) -> Result<(), NoMemory>
         requires acts { (start : Start) × Acts start act.Quiet self.old }
         ensures call { OnOk result (SameCall self.old self.new) }
-        ensures limit { OnOk result (self.new.limit ≡ self.old.limit) }
         ensures runs { OnOk result
             ((start : Start) → Acts start act.Quiet self.old → Runs start self.new) }
     {
@@ -55,7 +36,6 @@ impl<'a> Repair<'a> {
     pub fn write(&mut self, place: Place, value: Word) -> Result<(), NoMemory>
         requires acts { (start : Start) × Acts start (act.Writes place value) self.old }
         ensures call { OnOk result (SameCall self.old self.new) }
-        ensures limit { OnOk result (self.new.limit ≡ self.old.limit) }
         ensures runs { OnOk result
             ((start : Start) → Acts start (act.Writes place value) self.old → Runs start self.new) }
     {
@@ -69,7 +49,6 @@ impl<'a> Repair<'a> {
     pub fn make(&mut self, key: Key, var: u32, unit: Activation) -> Result<(), NoMemory>
         requires acts { (start : Start) × Acts start (act.Makes key var unit) self.old }
         ensures call { OnOk result (SameCall self.old self.new) }
-        ensures limit { OnOk result (self.new.limit ≡ self.old.limit) }
         ensures runs { OnOk result
             ((start : Start) → Acts start (act.Makes key var unit) self.old → Runs start self.new) }
     {
@@ -85,7 +64,6 @@ impl<'a> Repair<'a> {
         requires acts { (start : Start) × Acts start (act.Makes key var unit) self.old }
         requires absent { head_of (stamps_where (allocates key) (left_nodes self.old)) ≡ None }
         ensures call { OnOk result (SameCall self.old self.new) }
-        ensures limit { OnOk result (self.new.limit ≡ self.old.limit) }
         ensures runs { OnOk result
             ((start : Start) → Acts start (act.Makes key var unit) self.old → Runs start self.new) }
     {
@@ -99,17 +77,17 @@ impl<'a> Repair<'a> {
     }
 
     /// A new read, which no read that is left over is: its unit runs on the content of its place, with what is left over.
-    pub fn begin(&mut self, closure: Closure) -> Result<(), NoMemory>
+    pub fn begin(&mut self, closure: Closure, key: &ReadKey) -> Result<(), NoMemory>
         requires acts { (start : Start) × Acts start (act.Reads closure) self.old }
-        requires alone { self.old.limit ≡ None }
+        requires key { key.now ≡ key_in closure }
+        requires absent { head_of (stamps_where (recalls (key_in closure)) (left_nodes self.old))
+            ≡ None }
         ensures call { OnOk result (SameCall self.old self.new) }
-        ensures limit { OnOk result (self.new.limit ≡ self.old.limit) }
         ensures runs { OnOk result
             ((start : Start) → Acts start (act.Reads closure) self.old → Runs start self.new) }
     {
         self.step()?;
-        let key = key_of(&closure)?;
-        let begun = self.running.tables.begin_read(self.cursor, &key)?;
+        let begun = self.running.tables.begin_read(self.cursor, key)?;
         self.cursor = begun.read;
         let mut stack = Stack::empty(self.alloc);
         stack.resume(self.code, &closure, begun.value)?;
@@ -125,7 +103,6 @@ impl<'a> Repair<'a> {
     pub fn finish(&mut self, below: Stack, read: Stamp) -> Result<(), NoMemory>
         requires ends { (start : Start) × EndsRead start below read self.old }
         ensures call { OnOk result (SameCall self.old self.new) }
-        ensures limit { OnOk result (self.new.limit ≡ self.old.limit) }
         ensures runs { OnOk result
             ((start : Start) → EndsRead start below read self.old → Runs start self.new) }
     {

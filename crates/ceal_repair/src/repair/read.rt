@@ -1,4 +1,4 @@
-// What a unit does that takes a read which is left over.
+// What a unit does that reads.
 
 ghost use Rattle.std.specs.Prelude.{◌≡◌, ◌++◌, ◌∷◌, [], Some, true, IfOk, OnOk, option_map};
 ghost use Rattle.ceal_base.specs.declared.forest.UnitId.{UnitId as UnitOf};
@@ -13,8 +13,8 @@ ghost use Rattle.ceal_repair.specs.Moment.{Start};
 ghost use Rattle.ceal_repair.specs.Reads.{key_in, Entered, EndsTaken};
 ghost use Rattle.ceal_repair.specs.Repairs.{Runs, RunsAt, Acts, SameCall, left_nodes};
 ghost use Rattle.ceal_repair.specs.declared.frame.Frame.TheVariants.{Taken};
-ghost use Rattle.ceal_tables.specs.Kept.{Records};
-ghost use Rattle.ceal_tables.specs.Lists.{recalls, stamps_where};
+ghost use Rattle.ceal_repair.specs.Kept.{Records};
+ghost use Rattle.ceal_repair.specs.Lists.{recalls, stamps_where};
 ghost use Rattle.ceal_trace.specs.Nodes.{node_at, end_in, is_read};
 
 use super::Repair;
@@ -28,8 +28,21 @@ use ceal_trace::node::Node;
 use ceal_trace::trace::Trace;
 use std::mem;
 
+/// What a read of a closure is found by.
+fn key_of(closure: &Closure) -> Result<ReadKey, NoMemory>
+    ensures key { IfOk result (λ key. key ≡ key_in closure.now) }
+{
+    let args = closure.args.copy()?;
+    Ok(ReadKey {
+        place: closure.place,
+        unit: closure.unit,
+        var: closure.var,
+        args,
+    })
+}
+
 /// The value that a read records.
-fn value_at(trace: &Trace, node: Stamp) -> Word
+pub fn value_at(trace: &Trace, node: Stamp) -> Word
     requires here { (p : PlaceOf) × (v : WordOf) × Records p v (node_at node.0 trace.now.nodes) }
     ensures { (p : PlaceOf) × Records p result (node_at node.0 trace.now.nodes) }
 {
@@ -43,6 +56,26 @@ fn value_at(trace: &Trace, node: Stamp) -> Word
 }
 
 impl<'a> Repair<'a> {
+    /// A read: the earliest one of the closure that is left over is taken, and a new one begins where there is none. Where a taken
+    /// read has the content of its moment, what is inside it is passed, and else its unit runs.
+    pub fn read(&mut self, closure: Closure) -> Result<(), NoMemory>
+        requires acts { (start : Start) × Acts start (act.Reads closure) self.old }
+        ensures call { OnOk result (SameCall self.old self.new) }
+        ensures runs { OnOk result
+            ((start : Start) → Acts start (act.Reads closure) self.old → Runs start self.new) }
+    {
+        let key = key_of(&closure)?;
+        match self.find_read(&key) {
+            None => self.begin(closure, &key)?,
+            Some(found) => {
+                if !self.take_read(found, closure)? {
+                    self.pass()?;
+                }
+            }
+        }
+        Ok(())
+    }
+
     /// The earliest read with a key that is left over.
     pub fn find_read(&self, key: &ReadKey) -> Option<Stamp>
         requires runs { (start : Start) × (st : StackOf) × RunsAt start st self.now }
@@ -113,7 +146,6 @@ impl<'a> Repair<'a> {
     pub fn leave(&mut self, below: Stack, until: Stamp) -> Result<(), NoMemory>
         requires ends { (start : Start) × EndsTaken start below until self.old }
         ensures call { OnOk result (SameCall self.old self.new) }
-        ensures limit { OnOk result (self.new.limit ≡ Some until) }
         ensures runs { OnOk result
             ((start : Start) → EndsTaken start below until self.old → Runs start self.new) }
     {

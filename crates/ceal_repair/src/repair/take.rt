@@ -8,7 +8,7 @@ ghost use Rattle.ceal_code.specs.declared.step.Act.TheVariants as act;
 ghost use Rattle.ceal_order.specs.Stamps.{head_of};
 ghost use Rattle.ceal_repair.specs.Moment.{Start};
 ghost use Rattle.ceal_repair.specs.Repairs.{Runs, RunsAt, Acts, SameCall, left_nodes};
-ghost use Rattle.ceal_tables.specs.Lists.{allocates, stamps_where};
+ghost use Rattle.ceal_repair.specs.Lists.{allocates, stamps_where};
 ghost use Rattle.ceal_trace.specs.Nodes.{node_at};
 ghost use Rattle.ceal_trace.specs.declared.node.Node.TheVariants.{Alloc};
 
@@ -62,7 +62,6 @@ impl<'a> Repair<'a> {
         requires found { head_of (stamps_where (allocates key) (left_nodes self.old))
             ≡ Some found.0 }
         ensures call { OnOk result (SameCall self.old self.new) }
-        ensures limit { OnOk result (self.new.limit ≡ self.old.limit) }
         ensures runs { OnOk result
             ((start : Start) → Acts start (act.Makes key var unit) self.old → Runs start self.new) }
     {

@@ -5,13 +5,13 @@ use Rattle.ceal_repair.proofs.first.first.Goals as goal
 use Rattle.ceal_repair.specs.Moment.{first_start}
 use Rattle.ceal_repair.specs.declared.running.Running.{Running}
 
-pub complete-requires-clause-runs : goal.complete-requires-clause-runs
-complete-requires-clause-runs c =
+pub complete-requires : goal.complete-requires
+complete-requires c =
     let r = c.first-repair.ensures in
     let e = c.in_ok-running.ensures in
     let runs = begun c.args.code.now c.args.inputs.now c.args.function c.args.args.now c.requires.fits (c.chosen_law.ensures.law c.args.code.now) (c.known_law.ensures.law c.args.code.now) c.in_ok-running.running e.nodes e.queue
     e.kept e.heap e.bases e.spent c.first-repair.result r.code r.inputs r.view r.heap r.spent r.frames r.limit (r.stack ∙ c.in_ok-stack.ensures.started) r.cursor in
-    (first_start c.args.code.now c.args.inputs.now c.args.function c.args.args.now, runs)
+    record { runs = (first_start c.args.code.now c.args.inputs.now c.args.function c.args.args.now, runs) }
 
 pub returns-then-branch : goal.returns-then-branch
 returns-then-branch c =
@@ -25,7 +25,7 @@ returns-then-branch c =
       first =
           first-done c.args.code.now c.args.inputs.now c.args.function c.args.args.now c.requires.fits (c.chosen_law.ensures.law c.args.code.now) c.complete.new.repair (same.code ∙ r.code) (same.inputs ∙ r.inputs) c.args.fuel
           done.0 done.1 (record { tables = c.into_running-running.result.tables; heap = c.release_revoked.new.self; spent = c.into_running-running.result.spent }) (ap (λ (run : Running). run.tables) c.into_running-running.ensures)
-          (ap (λ (run : Running). run.spent) c.into_running-running.ensures) (rw c.into_running-running.ensures at c.release_revoked.ensures.released);
+          (ap (λ (run : Running). run.spent) c.into_running-running.ensures) (rw c.into_running-running.ensures at c.release_revoked.ensures.released) c.release_revoked.ensures.slots;
     }
 
 pub returns-else-branch : goal.returns-else-branch

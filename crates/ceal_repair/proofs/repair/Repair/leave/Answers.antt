@@ -7,7 +7,7 @@ use Rattle.ceal_repair.specs.Entries.{stamped}
 use Rattle.ceal_repair.specs.Moment.{through}
 use Rattle.ceal_repair.specs.Repairs.{code_of, inputs_of, view}
 use Rattle.ceal_repair.specs.declared.repair.Repair.{Repair}
-use Rattle.ceal_tables.specs.declared.tables.Tables.{Tables}
+use Rattle.ceal_repair.specs.declared.tables.Tables.{Tables}
 use Rattle.ceal_trace.specs.Nodes.{has_node, with_steps}
 use Rattle.ceal_repair.proofs.repair.Repair.leave.Goals as goal
 

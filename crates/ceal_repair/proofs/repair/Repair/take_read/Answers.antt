@@ -17,8 +17,8 @@ use Rattle.ceal_repair.specs.Moment.{through}
 use Rattle.ceal_repair.specs.Repairs.{code_of, inputs_of, view}
 use Rattle.ceal_repair.specs.declared.frame.Frame.TheVariants.{Taken}
 use Rattle.ceal_repair.specs.declared.repair.Repair.{Repair}
-use Rattle.ceal_tables.specs.Kept.{contents_at}
-use Rattle.ceal_tables.specs.declared.tables.Tables.{Tables}
+use Rattle.ceal_repair.specs.Kept.{contents_at}
+use Rattle.ceal_repair.specs.declared.tables.Tables.{Tables}
 use Rattle.ceal_theory.specs.Repair.{resumed}
 use Rattle.ceal_trace.proofs.Entries.{has-held, stamps-changed}
 use Rattle.ceal_trace.specs.Nodes.{Timeline, is_read, node_at, stamps_in, value_set, with_value}

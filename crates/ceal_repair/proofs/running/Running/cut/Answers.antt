@@ -1,6 +1,6 @@
 use Rattle.std.proofs.Common.{ap}
 use Rattle.ceal_repair.proofs.Fewer.{has-first, plain-first, queued-from, end-some, alloc-live, cut-alloc-lies, cut-write-lies, cut-read-lies, alloc-has, write-has, read-has}
-use Rattle.ceal_tables.specs.Kept.{base_in}
+use Rattle.ceal_repair.specs.Kept.{base_in}
 use Rattle.ceal_repair.proofs.running.Running.cut.Goals as goal
 
 pub cut_of-requires-clause-here : goal.cut_of-requires-clause-here

@@ -1,0 +1,12 @@
+use Rattle.ceal_repair.proofs.Editing.{edit-base}
+use Rattle.ceal_repair.proofs.Touching.{unread-kept}
+use Rattle.ceal_trace.specs.Nodes.{stamps_in}
+use Rattle.ceal_repair.proofs.edits.set_unread.Goals as goal
+
+pub returns-clause-base : goal.returns-clause-base
+returns-clause-base c = λ p. edit-base c.args.tables.now c.requires.kept c.args.place c.args.value c.set_base.new.self c.in-Ok.ensures.ok p
+
+pub returns-clause-kept : goal.returns-clause-kept
+returns-clause-kept c =
+    unread-kept c.args.tables.now c.requires.kept c.args.place c.args.value c.set_base.new.self c.in-Ok.ensures.ok c.requires.unread
+    (c.set_base.ensures.follows (stamps_in c.args.tables.now.trace.nodes) c.requires.kept.step.mods)

@@ -1,0 +1,9 @@
+use Rattle.ceal_repair.proofs.Touching.{touched-either, kept-cells}
+use Rattle.ceal_trace.specs.Nodes.{stamps_in}
+use Rattle.ceal_repair.proofs.edits.touch.Goals as goal
+
+pub returns-clause-kept : goal.returns-clause-kept
+returns-clause-kept c =
+    kept-cells c.args.tables.now c.requires.kept c.set_base.new.self
+    (touched-either c.set_base.result c.args.tables.now.mods c.set_base.new.self c.args.place _ c.requires.bare c.set_base.ensures.ok c.set_base.ensures.err)
+    (c.set_base.ensures.follows (stamps_in c.args.tables.now.trace.nodes) c.requires.kept.step.mods)

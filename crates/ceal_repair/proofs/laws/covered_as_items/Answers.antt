@@ -1,0 +1,5 @@
+use Rattle.ceal_repair.proofs.Bridging.{covered-as-items}
+use Rattle.ceal_repair.proofs.laws.covered_as_items.Goals as goal
+
+pub returns : goal.returns
+returns c = record { law = covered-as-items }

@@ -1,0 +1,45 @@
+use Rattle.std.proofs.Common.{◌≡◌, inr, None, Some, reverse, sym, ap, ◌∙◌}
+use Rattle.ceal_order.specs.declared.stamp.Stamp.{Stamp}
+use Rattle.ceal_repair.proofs.TurnEnding.{now-there, lies-ended, limit-ended, first-ended, turn-ends}
+use Rattle.ceal_repair.specs.Entries.{stamped}
+use Rattle.ceal_repair.specs.Moment.{through}
+use Rattle.ceal_repair.specs.Repairs.{code_of, inputs_of, view}
+use Rattle.ceal_repair.specs.declared.repair.Repair.{Repair}
+use Rattle.ceal_repair.proofs.repair.Repair.end_turn.Goals as goal
+
+pub unreachable-requires : goal.unreachable-requires
+unreachable-requires c =
+    let old : Repair = c.args.self.now in
+    let q = c.requires.over in
+    let now = now-there old q.0 q.1 q.2 q.3 q.4 q.5 q.6 in
+    let none = ap reverse q.6.last in
+    let both : Some (stamped q.5.spot.end) ≡ None = sym (limit-ended (code_of old) (inputs_of old) q.0 q.1 q.2 q.3 q.4 q.5 q.6.stack (view old) now none) ∙ c.in-None.is in
+    cc
+
+pub cut_until-requires-clause-lies : goal.cut_until-requires-clause-lies
+cut_until-requires-clause-lies c =
+    let old : Repair = c.args.self.now in
+    let q = c.requires.over in
+    let now = now-there old q.0 q.1 q.2 q.3 q.4 q.5 q.6 in
+    let none = ap reverse q.6.last in
+    let both : Some (stamped q.5.spot.end) ≡ Some c.in-Some.end = sym (limit-ended (code_of old) (inputs_of old) q.0 q.1 q.2 q.3 q.4 q.5 q.6.stack (view old) now none) ∙ c.in-Some.is in
+    let same : stamped q.5.spot.end ≡ c.in-Some.end = cc in (
+      through now.placed.done now.placed.last,
+      now.left,
+      now.tail,
+      lies-ended (code_of old) (inputs_of old) q.0 q.1 q.2 q.3 q.4 q.5 q.6.stack (view old) now none,
+      inr (first-ended (code_of old) (inputs_of old) q.0 q.1 q.2 q.3 q.4 q.5 q.6.stack (view old) now none ∙ ap (λ (s : Stamp). Some s.0) same),
+    )
+
+pub returns-clause-ends : goal.returns-clause-ends
+returns-clause-ends c = λ f args l before start b o.
+    let old : Repair = c.args.self.now in
+    let now = now-there old f args l before start b o in
+    let none = ap reverse o.last in
+    let both : Some (stamped b.spot.end) ≡ Some c.in-Some.end = sym (limit-ended (code_of old) (inputs_of old) f args l before start b o.stack (view old) now none) ∙ c.in-Some.is in
+    let same : stamped b.spot.end ≡ c.in-Some.end = cc in
+    let e = c.in_ok-cut_until.ensures in
+    turn-ends (code_of old) (inputs_of old) f args l before start b o.stack (view old) now none o.over c.cut_until.new.self
+    (e.all (through now.placed.done now.placed.last) now.left now.tail (lies-ended (code_of old) (inputs_of old) f args l before start b o.stack (view old) now none)
+    (first-ended (code_of old) (inputs_of old) f args l before start b o.stack (view old) now none ∙ ap (λ (s : Stamp). Some s.0) same))
+    e.kept e.blocks (e.has (code_of old) (inputs_of old)) e.spent

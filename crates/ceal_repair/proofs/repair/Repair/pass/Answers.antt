@@ -1,0 +1,78 @@
+use Rattle.std.proofs.Common.{subst}
+use Rattle.ceal_queue.specs.Queue.{IsBefore}
+use Rattle.ceal_repair.proofs.Passed.{limit-there, left-from}
+use Rattle.ceal_repair.specs.Repairs.{code_of, inputs_of, view, PassesOn}
+use Rattle.ceal_repair.specs.declared.repair.Repair.{Repair}
+use Rattle.ceal_trace.specs.Nodes.{stamps_in}
+use Rattle.ceal_repair.proofs.repair.Repair.pass.Goals as goal
+
+pub first_stale-requires-clause-kept : goal.first_stale-requires-clause-kept
+first_stale-requires-clause-kept c = c.requires.passes.1.1.placed.kept
+
+pub first_stale-requires-clause-until : goal.first_stale-requires-clause-until
+first_stale-requires-clause-until c =
+    let old : Repair = c.args.self.now in
+    let start = c.requires.passes.0 in
+    let a : PassesOn start old = c.requires.passes.1 in
+    limit-there (code_of old) (inputs_of old) start a.0 (view old) a.1
+
+pub pass_all-requires : goal.pass_all-requires
+pass_all-requires c =
+    let old : Repair = c.args.self.now in
+    let start = c.requires.passes.0 in
+    let a : PassesOn start old = c.requires.passes.1 in
+    let e = c.in-None.ensures in
+    record {
+      none = (
+        start,
+        record {
+          before = old.running.tables;
+          until = a.0;
+          now = a.1;
+          trace = e.none;
+          left = left-from (code_of old) (inputs_of old) start a.0 (view old) a.1 c.first_stale.new.self e.none e.left;
+          cells = e.cells;
+          kept = e.kept;
+        },
+      );
+    }
+
+pub repair_inside-requires : goal.repair_inside-requires
+repair_inside-requires c =
+    let old : Repair = c.args.self.now in
+    let start = c.requires.passes.0 in
+    let a : PassesOn start old = c.requires.passes.1 in
+    let e = c.in-Some.ensures in
+    record {
+      stale = (
+        start,
+        record {
+          before = old.running.tables;
+          until = a.0;
+          now = a.1;
+          stale = e.stale;
+          place = e.nodes.0;
+          value = e.nodes.1;
+          is_read = e.nodes.2;
+          nodes = e.nodes.3;
+          limit = subst (λ o. IsBefore (stamps_in old.running.tables.trace.nodes) o c.in-Some.read.0) a.1.limit e.limit;
+          queued = e.behind;
+          cells = e.cells;
+          kept = e.kept;
+        },
+      );
+    }
+
+pub returns-in-None-clause-runs : goal.returns-in-None-clause-runs
+returns-in-None-clause-runs c = λ start a.
+    let old : Repair = c.args.self.now in
+    let e = c.in-None.ensures in
+    c.pass_all.ensures.runs start (record {
+      before = old.running.tables;
+      until = a.0;
+      now = a.1;
+      trace = e.none;
+      left = left-from (code_of old) (inputs_of old) start a.0 (view old) a.1 c.first_stale.new.self e.none e.left;
+      cells = e.cells;
+      kept = e.kept;
+    })

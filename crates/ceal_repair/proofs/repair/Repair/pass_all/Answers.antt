@@ -1,0 +1,65 @@
+use Rattle.std.proofs.Common.{◌≡◌, true, Some, List, reverse, refl, sym, ap, subst, ◌∙◌}
+use Rattle.ceal_code.specs.Stacks.{stack_in}
+use Rattle.ceal_order.specs.declared.stamp.Stamp.{Stamp}
+use Rattle.ceal_repair.proofs.Entering.{bases-cells}
+use Rattle.ceal_repair.proofs.Passed.{around-it, frame-next, frames-next, end-there, now-passed}
+use Rattle.ceal_repair.proofs.Under_way.{runs-as}
+use Rattle.ceal_repair.specs.Passing.{NoneStale}
+use Rattle.ceal_repair.specs.Moment.{View}
+use Rattle.ceal_repair.specs.Repairs.{code_of, inputs_of, view}
+use Rattle.ceal_repair.specs.declared.frame.Frame.TheVariants.{Taken}
+use Rattle.ceal_repair.specs.declared.frame.Frame.{Frame}
+use Rattle.ceal_repair.specs.declared.repair.Repair.{Repair}
+use Rattle.ceal_repair.specs.declared.tables.Tables.{Tables}
+use Rattle.ceal_trace.specs.Nodes.{has_node, with_steps}
+use Rattle.ceal_repair.proofs.repair.Repair.pass_all.Goals as goal
+
+pub set_steps-requires-clause-here : goal.set_steps-requires-clause-here
+set_steps-requires-clause-here c =
+    let old : Repair = c.args.self.now in
+    let start = c.requires.none.0 in
+    let a : NoneStale start old = c.requires.none.1 in
+    let both : Some a.until ≡ Some c.in-Some.end = sym a.now.limit ∙ c.in-Some.is in
+    let same : a.until ≡ c.in-Some.end = cc in
+    subst (λ (s : Stamp). has_node s.0 old.running.tables.trace.nodes ≡ true) same
+    (end-there (code_of old) (inputs_of old) start a.until (record (view old) { tables = a.before }) a.now old.running.tables a.trace a.kept)
+
+pub unreachable-requires-in-Some-Begun : goal.unreachable-requires-in-Some-Begun
+unreachable-requires-in-Some-Begun c =
+    let old : Repair = c.args.self.now in
+    let start = c.requires.none.0 in
+    let a : NoneStale start old = c.requires.none.1 in
+    let f = frame-next (code_of old) (inputs_of old) start a.until (record (view old) { tables = a.before }) a.now old.frames.items c.pop.new.self.items c.in-Some-Begun.field-0 refl c.in-Some-Begun.ensures.items in
+    let no = sym c.in-Some-Begun.field-0-is ∙ f in cc
+
+pub unreachable-requires-in-Some-Kept : goal.unreachable-requires-in-Some-Kept
+unreachable-requires-in-Some-Kept c =
+    let old : Repair = c.args.self.now in
+    let start = c.requires.none.0 in
+    let a : NoneStale start old = c.requires.none.1 in
+    let f = frame-next (code_of old) (inputs_of old) start a.until (record (view old) { tables = a.before }) a.now old.frames.items c.pop.new.self.items c.in-Some-Kept.field-0 refl c.in-Some-Kept.ensures.items in
+    let no = sym c.in-Some-Kept.field-0-is ∙ f in cc
+
+pub returns-clause-runs : goal.returns-clause-runs
+returns-clause-runs c = λ start a.
+    let old : Repair = c.args.self.now in
+    let w : View = record (view old) { tables = a.before } in
+    let n = around-it (code_of old) (inputs_of old) start a.until w a.now in
+    let both : Some a.until ≡ Some c.in-Some.end = sym a.now.limit ∙ c.in-Some.is in
+    let same : a.until ≡ c.in-Some.end = cc in
+    let f = frame-next (code_of old) (inputs_of old) start a.until w a.now old.frames.items c.pop.new.self.items c.in-Some-Taken.field-0 refl c.in-Some-Taken.ensures.items in
+    let fs = frames-next (code_of old) (inputs_of old) start a.until w a.now old.frames.items c.pop.new.self.items c.in-Some-Taken.field-0 refl c.in-Some-Taken.ensures.items in
+    let taken : Taken c.in-Some-Taken.below c.in-Some-Taken.limit ≡ Taken n.below n.next = sym c.in-Some-Taken.field-0-is ∙ f in
+    let below : c.in-Some-Taken.below ≡ n.below = cc in
+    let next : c.in-Some-Taken.limit ≡ n.next = cc in
+    let g = c.set_steps.ensures in
+    let t : Tables = c.set_steps.new.self in
+    let nodes : t.trace.nodes ≡ with_steps a.until.0 0 old.running.tables.trace.nodes = g.nodes ∙ ap (λ (s : Stamp). with_steps s.0 0 old.running.tables.trace.nodes) (sym same) in
+    runs-as (code_of old) (inputs_of old) start (stack_in n.below)
+    (record { tables = t; heap = old.running.heap; spent = old.running.spent; cursor = a.until.0; limit = Some n.next; frames = n.frames })
+    (record old { running = record old.running { tables = t }; cursor = c.in-Some.end; stack = c.in-Some-Taken.below; limit = Some c.in-Some-Taken.limit; frames = c.pop.new.self })
+    (now-passed (code_of old) (inputs_of old) start a.until w a.now old.running.tables t a.trace a.left (bases-cells old.running.tables.mods a.before.mods a.cells) a.kept nodes g.mods g.queue g.kept)
+    refl refl (ap stack_in below)
+    (ap (λ (s : Stamp). record { tables = t; heap = old.running.heap; spent = old.running.spent; cursor = s.0; limit = Some c.in-Some-Taken.limit; frames = reverse c.pop.new.self.items }) (sym same)
+    ∙ (ap (λ (l : Stamp). record { tables = t; heap = old.running.heap; spent = old.running.spent; cursor = a.until.0; limit = Some l; frames = reverse c.pop.new.self.items }) next
+    ∙ ap (λ (gs : List Frame). record { tables = t; heap = old.running.heap; spent = old.running.spent; cursor = a.until.0; limit = Some n.next; frames = gs }) fs))

@@ -1,0 +1,71 @@
+use Rattle.std.proofs.Common.{◌≡◌, Option, Some, List, [], ◌∷◌, reverse, refl, sym, ap, ◌∙◌}
+use Rattle.std.proofs.lemmas.List.{reverse-append}
+use Rattle.ceal_order.specs.declared.stamp.Stamp.{Stamp}
+use Rattle.ceal_repair.proofs.Entering.{bases-cells}
+use Rattle.ceal_repair.proofs.Mending.{the-read, word, seen-as, read-here, node-then, end-then, now-mend, limit-of}
+use Rattle.ceal_repair.proofs.Under_way.{runs-as}
+use Rattle.ceal_repair.specs.Entries.{stamped}
+use Rattle.ceal_repair.specs.Passing.{StaleInside}
+use Rattle.ceal_repair.specs.Repairs.{code_of, inputs_of, view}
+use Rattle.ceal_repair.specs.declared.frame.Frame.TheVariants.{Kept}
+use Rattle.ceal_repair.specs.declared.frame.Frame.{Frame}
+use Rattle.ceal_repair.specs.declared.repair.Repair.{Repair}
+use Rattle.ceal_repair.specs.declared.tables.Tables.{Tables}
+use Rattle.ceal_theory.specs.Repair.{resumed}
+use Rattle.ceal_trace.specs.Nodes.{is_read}
+use Rattle.ceal_repair.proofs.repair.Repair.repair_inside.Goals as goal
+
+pub set_steps-requires-clause-here : goal.set_steps-requires-clause-here
+set_steps-requires-clause-here c =
+    let old : Repair = c.args.self.now in
+    let t1 : Tables = old.running.tables in
+    let start = c.requires.stale.0 in
+    let a : StaleInside start c.args.read old = c.requires.stale.1 in
+    let seen = seen-as (code_of old) (inputs_of old) start a.until (record (view old) { tables = a.before }) a.now c.args.read.0 a.stale a.limit t1 a.place a.value a.is_read a.nodes in
+    read-here (code_of old) (inputs_of old) start a.until (record (view old) { tables = a.before }) a.now c.args.read.0 a.stale a.limit t1 seen
+
+pub unit_at-requires : goal.unit_at-requires
+unit_at-requires c =
+    let old : Repair = c.args.self.now in
+    let t1 : Tables = old.running.tables in
+    let start = c.requires.stale.0 in
+    let a : StaleInside start c.args.read old = c.requires.stale.1 in
+    let seen = seen-as (code_of old) (inputs_of old) start a.until (record (view old) { tables = a.before }) a.now c.args.read.0 a.stale a.limit t1 a.place a.value a.is_read a.nodes in
+    let g = c.set_steps.ensures in
+    let t : Tables = c.set_steps.new.self in
+    let r = the-read (code_of old) (inputs_of old) start a.until (record (view old) { tables = a.before }) a.now c.args.read.0 a.stale a.limit in
+    record { here = (r.place, word (code_of old) (inputs_of old) start a.until (record (view old) { tables = a.before }) a.now c.args.read.0 a.stale a.limit, record { unit = r.unit; var = r.var; args = r.args; is = node-then (code_of old) (inputs_of old) start a.until (record (view old) { tables = a.before }) a.now c.args.read.0 a.stale a.limit t1 t seen a.queued (bases-cells t1.mods a.before.mods a.cells) a.kept g.nodes g.mods g.queue g.kept }) }
+
+pub end_of-self-requires : goal.end_of-self-requires
+end_of-self-requires c =
+    let old : Repair = c.args.self.now in
+    let t1 : Tables = old.running.tables in
+    let start = c.requires.stale.0 in
+    let a : StaleInside start c.args.read old = c.requires.stale.1 in
+    let seen = seen-as (code_of old) (inputs_of old) start a.until (record (view old) { tables = a.before }) a.now c.args.read.0 a.stale a.limit t1 a.place a.value a.is_read a.nodes in
+    let g = c.set_steps.ensures in
+    let t : Tables = c.set_steps.new.self in
+    record { read = ap is_read (node-then (code_of old) (inputs_of old) start a.until (record (view old) { tables = a.before }) a.now c.args.read.0 a.stale a.limit t1 t seen a.queued (bases-cells t1.mods a.before.mods a.cells) a.kept g.nodes g.mods g.queue g.kept) }
+
+pub returns-clause-runs : goal.returns-clause-runs
+returns-clause-runs c = λ start a.
+    let old : Repair = c.args.self.now in
+    let t1 : Tables = old.running.tables in
+    let seen = seen-as (code_of old) (inputs_of old) start a.until (record (view old) { tables = a.before }) a.now c.args.read.0 a.stale a.limit t1 a.place a.value a.is_read a.nodes in
+    let g = c.set_steps.ensures in
+    let t : Tables = c.set_steps.new.self in
+    let r = the-read (code_of old) (inputs_of old) start a.until (record (view old) { tables = a.before }) a.now c.args.read.0 a.stale a.limit in
+    let now-word = word (code_of old) (inputs_of old) start a.until (record (view old) { tables = a.before }) a.now c.args.read.0 a.stale a.limit in
+    let e = c.end_of-self.ensures in
+    let limit : c.end_of-self.result ≡ Some (stamped r.end) = limit-of c.end_of-self.result r.end _ (end-then (code_of old) (inputs_of old) start a.until (record (view old) { tables = a.before }) a.now c.args.read.0 a.stale a.limit t1 t seen a.queued (bases-cells t1.mods a.before.mods a.cells) a.kept g.nodes g.mods g.queue g.kept) e.finished e.open in
+    let both : Some a.until ≡ Some c.in-Some.until = sym a.now.limit ∙ c.in-Some.is in
+    let same : c.in-Some.until ≡ a.until = cc in
+    let frames : reverse c.push.new.self.items ≡ Kept a.until ∷ reverse old.frames.items =
+    ap reverse c.in_ok-push.ensures.items ∙ (reverse-append old.frames.items (Kept c.in-Some.until ∷ []) ∙ ap (λ (s : Stamp). Kept s ∷ reverse old.frames.items) same) in
+    runs-as (code_of old) (inputs_of old) start (resumed (code_of old) r.unit r.var r.args now-word)
+    (record { tables = t; heap = old.running.heap; spent = old.running.spent; cursor = c.args.read.0; limit = Some (stamped r.end); frames = Kept a.until ∷ reverse old.frames.items })
+    (record old { running = record old.running { tables = t }; cursor = c.args.read; stack = c.in_ok-stack.stack; limit = c.end_of-self.result; frames = c.push.new.self })
+    (now-mend (code_of old) (inputs_of old) start a.until (record (view old) { tables = a.before }) a.now c.args.read.0 a.stale a.limit t1 t seen a.queued (bases-cells t1.mods a.before.mods a.cells) a.kept g.nodes g.mods g.queue g.kept)
+    refl refl (c.in_ok-stack.ensures.unit r.place now-word r.unit r.var r.args (node-then (code_of old) (inputs_of old) start a.until (record (view old) { tables = a.before }) a.now c.args.read.0 a.stale a.limit t1 t seen a.queued (bases-cells t1.mods a.before.mods a.cells) a.kept g.nodes g.mods g.queue g.kept))
+    (ap (λ (o : Option Stamp). record { tables = t; heap = old.running.heap; spent = old.running.spent; cursor = c.args.read.0; limit = o; frames = reverse c.push.new.self.items }) limit
+    ∙ ap (λ (gs : List Frame). record { tables = t; heap = old.running.heap; spent = old.running.spent; cursor = c.args.read.0; limit = Some (stamped r.end); frames = gs }) frames)

@@ -1,0 +1,22 @@
+use Rattle.std.proofs.Common.{ℕ, refl}
+use Rattle.ceal_trace.specs.Nodes.{stamps_in}
+use Rattle.ceal_trace.specs.declared.node.Node.TheVariants.{End}
+use Rattle.ceal_repair.proofs.Changing.{read-has}
+use Rattle.ceal_repair.proofs.Keeping.{end-kept}
+use Rattle.ceal_repair.proofs.Steps.{behind-put}
+use Rattle.ceal_repair.proofs.tables.Tables.finish_read.Goals as goal
+
+pub returns-clause-behind : goal.returns-clause-behind
+returns-clause-behind c = λ late r i.
+    behind-put c.args.after.0 c.finish_read.result.0 (End c.args.read) c.args.self.now.trace.nodes c.finish_read.new.self.nodes
+    (rw c.reserve.ensures.nodes at c.finish_read.ensures.inserted) c.requires.here r (read-has r c.args.self.now.trace.nodes (c.requires.kept.step.queued r i)) (late r i)
+
+pub returns-clause-kept : goal.returns-clause-kept
+returns-clause-kept c =
+    let s : ℕ = c.finish_read.result.0 in
+    let more = rw c.reserve.ensures.nodes at c.finish_read.ensures.inserted in
+    end-kept c.args.self.now c.requires.kept c.args.after.0 s (End c.args.read) c.finish_read.new.self c.requires.here (rw c.reserve.ensures.nodes at c.finish_read.ensures.nodes) more
+    c.finish_read.ensures.whole c.finish_read.ensures.closed c.args.read refl
+    (c.follows_still.ensures.inserted s c.args.self.now.mods (stamps_in c.args.self.now.trace.nodes) (stamps_in c.finish_read.new.self.nodes) c.requires.kept.step.mods more.others.stamps)
+    (c.follows_still-3.ensures.inserted s c.args.self.now.memo (stamps_in c.args.self.now.trace.nodes) (stamps_in c.finish_read.new.self.nodes) c.requires.kept.step.memo more.others.stamps)
+    (c.follows_still-2.ensures.inserted s c.args.self.now.stale (stamps_in c.args.self.now.trace.nodes) (stamps_in c.finish_read.new.self.nodes) c.requires.kept.step.stale more.others.stamps)

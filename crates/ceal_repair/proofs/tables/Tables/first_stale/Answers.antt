@@ -1,0 +1,78 @@
+use Rattle.std.proofs.Common.{◌∙◌, arith}
+use Rattle.ceal_repair.proofs.Editing.{looking-first, none-late, popped-step, popped-covered, popped-read, looked-more, stale-same, nodes-same, if-none}
+use Rattle.ceal_repair.proofs.Keeping.{tables}
+use Rattle.ceal_repair.proofs.tables.Tables.first_stale.Goals as goal
+
+pub loop-looked-init : goal.loop-looked-init
+loop-looked-init c = looking-first c.args.self.now c.requires.kept
+
+pub pop_before-requires-clause-limit : goal.pop_before-requires-clause-limit
+pop_before-requires-clause-limit c = λ x e. rw (c.order.ensures, c.loop-looked.invariant.trace) (c.requires.until x e)
+
+pub pop_before-requires-clause-follows : goal.pop_before-requires-clause-follows
+pop_before-requires-clause-follows c = rw c.order.ensures c.loop-looked.invariant.kept.step.stale
+
+pub returns-in_err-read-clause-none : goal.returns-in_err-read-clause-none
+returns-in_err-read-clause-none c = if-none c.from_residual.result c.loop-looked.invariant.trace
+
+pub returns-in_err-read-clause-left : goal.returns-in_err-read-clause-left
+returns-in_err-read-clause-left c = if-none c.from_residual.result
+    (rw (c.in_err-read.ensures.unchanged) (rw (c.order.ensures, c.loop-looked.invariant.trace) at c.in_err-read.ensures.none))
+
+pub returns-in_err-read-clause-cells : goal.returns-in_err-read-clause-cells
+returns-in_err-read-clause-cells c = c.loop-looked.invariant.cells
+
+pub returns-in_err-read-clause-memo : goal.returns-in_err-read-clause-memo
+returns-in_err-read-clause-memo c = c.loop-looked.invariant.memo
+
+pub returns-in_err-read-clause-kept : goal.returns-in_err-read-clause-kept
+returns-in_err-read-clause-kept c = rw c.in_err-read.ensures.unchanged c.loop-looked.invariant.kept
+
+pub settle-requires-clause-step : goal.settle-requires-clause-step
+settle-requires-clause-step c = popped-step c.loop-looked.self c.loop-looked.invariant.kept c.in_ok-read.read.0 c.pop_before.new.self (rw c.order.ensures at c.in_ok-read.ensures.earliest) c.in_ok-read.ensures.without
+    (rw c.order.ensures at c.pop_before.ensures.follows)
+
+pub settle-requires-clause-covered : goal.settle-requires-clause-covered
+settle-requires-clause-covered c = popped-covered c.loop-looked.self c.loop-looked.invariant.kept c.in_ok-read.read.0 c.pop_before.new.self (rw c.order.ensures at c.in_ok-read.ensures.earliest) c.in_ok-read.ensures.without
+
+pub settle-requires-clause-here : goal.settle-requires-clause-here
+settle-requires-clause-here c = popped-read c.loop-looked.self c.loop-looked.invariant.kept c.in_ok-read.read.0 c.pop_before.new.self (rw c.order.ensures at c.in_ok-read.ensures.earliest) c.in_ok-read.ensures.without
+
+pub returns-then-settle-clause-stale : goal.returns-then-settle-clause-stale
+returns-then-settle-clause-stale c =
+    stale-same (tables c.loop-looked.self.trace c.loop-looked.self.mods c.pop_before.new.self c.loop-looked.self.memo) c.args.self.now c.in_ok-read.read.0 c.loop-looked.invariant.trace c.loop-looked.invariant.cells
+    (c.settle.ensures.stale c.if-settle.true)
+
+pub returns-then-settle-clause-nodes : goal.returns-then-settle-clause-nodes
+returns-then-settle-clause-nodes c =
+    nodes-same (tables c.loop-looked.self.trace c.loop-looked.self.mods c.pop_before.new.self c.loop-looked.self.memo) c.args.self.now c.in_ok-read.read.0 c.settle.new.self.trace.nodes c.loop-looked.invariant.trace c.loop-looked.invariant.cells
+    (c.settle.ensures.nodes c.if-settle.true)
+
+pub returns-then-settle-clause-limit : goal.returns-then-settle-clause-limit
+returns-then-settle-clause-limit c = rw (c.order.ensures, c.loop-looked.invariant.trace) at c.in_ok-read.ensures.before
+
+pub returns-then-settle-clause-cells : goal.returns-then-settle-clause-cells
+returns-then-settle-clause-cells c = c.settle.ensures.cells ∙ c.loop-looked.invariant.cells
+
+pub returns-then-settle-clause-memo : goal.returns-then-settle-clause-memo
+returns-then-settle-clause-memo c = c.settle.ensures.memo ∙ c.loop-looked.invariant.memo
+
+pub loop-looked-preserved : goal.loop-looked-preserved
+loop-looked-preserved c =
+    looked-more c.args.self.now c.loop-looked.self c.settle.new.self c.loop-looked._looked c.in_ok-read.read.0 c.loop-looked.invariant c.in_ok-read.ensures.earliest.there c.settle.ensures.kept (c.settle.ensures.same c.if-settle.false)
+    c.settle.ensures.cells c.settle.ensures.memo c.settle.ensures.behind
+
+pub returns-clause-none : goal.returns-clause-none
+returns-clause-none c = c.loop-looked.invariant.trace
+
+pub returns-clause-left : goal.returns-clause-left
+returns-clause-left c = λ s i b. absurd (none-late c.args.self.now c.loop-looked.self c.loop-looked._looked c.loop-looked.invariant (omega (arith, c.loop-looked-test.false)) s i)
+
+pub returns-clause-cells : goal.returns-clause-cells
+returns-clause-cells c = c.loop-looked.invariant.cells
+
+pub returns-clause-memo : goal.returns-clause-memo
+returns-clause-memo c = c.loop-looked.invariant.memo
+
+pub returns-clause-kept : goal.returns-clause-kept
+returns-clause-kept c = c.loop-looked.invariant.kept

@@ -1,0 +1,44 @@
+use Rattle.std.proofs.Common.{ℕ, refl}
+use Rattle.ceal_mods.specs.Mods.{cell_of}
+use Rattle.ceal_trace.specs.Nodes.{stamps_in}
+use Rattle.ceal_trace.specs.declared.node.Node.TheVariants.{Write}
+use Rattle.ceal_repair.proofs.Changing.{read-has}
+use Rattle.ceal_repair.proofs.TakingOut.{by-queue, as-tables}
+use Rattle.ceal_repair.proofs.Steps.{behind-put}
+use Rattle.ceal_repair.proofs.Keeping.{write-kept, is-free, bases-same}
+use Rattle.ceal_mods.specs.Cell.{with_write}
+use Rattle.ceal_repair.proofs.tables.Tables.put_write.Goals as goal
+
+pub add_write-requires-clause-absent : goal.add_write-requires-clause-absent
+add_write-requires-clause-absent c = (is-free c.insert_write-added.result.0 c.args.self.now c.requires.kept.step (rw c.reserve.ensures.nodes at c.insert_write-added.ensures.inserted.new) c.args.place).0
+
+pub wake-requires-clause-stale : goal.wake-requires-clause-stale
+wake-requires-clause-stale c =
+    c.follows_still-2.ensures.inserted c.insert_write-added.result.0 c.reserve-2.new.self (stamps_in c.args.self.now.trace.nodes) (stamps_in c.insert_write-added.new.self.nodes)
+    (c.reserve-2.ensures.follows (stamps_in c.args.self.now.trace.nodes) c.requires.kept.step.stale) (rw c.reserve.ensures.nodes at c.insert_write-added.ensures.inserted.others.stamps)
+
+pub returns-clause-bases : goal.returns-clause-bases
+returns-clause-bases c = λ p. rw c.wake.ensures.mods
+    (bases-same c.args.self.now.mods c.add_write.new.self c.args.place (with_write (stamps_in c.insert_write-added.new.self.nodes) c.insert_write-added.result.0 c.args.value (cell_of c.args.self.now.mods c.args.place))
+    (rw c.order.ensures at c.in_ok-add_write.ensures.ok) refl p)
+
+pub returns-clause-behind : goal.returns-clause-behind
+returns-clause-behind c = λ late r i. rw c.wake.ensures.trace
+    (by-queue r c.args.self.now.stale.stamps
+    (λ j. behind-put c.args.after.0 c.insert_write-added.result.0 (Write c.args.place c.args.value) c.args.self.now.trace.nodes c.insert_write-added.new.self.nodes
+    (rw c.reserve.ensures.nodes at c.insert_write-added.ensures.inserted) c.requires.here r (read-has r c.args.self.now.trace.nodes (c.requires.kept.step.queued r j)) (late r j))
+    (λ j. c.wake.ensures.ahead r (rw c.reserve-2.ensures.stamps j) i))
+
+pub returns-clause-kept : goal.returns-clause-kept
+returns-clause-kept c =
+    let s : ℕ = c.insert_write-added.result.0 in
+    let more = rw c.reserve.ensures.nodes at c.insert_write-added.ensures.inserted in
+    as-tables c.wake.new.self c.insert_write-added.new.self c.add_write.new.self c.args.self.now.memo c.wake.ensures.trace c.wake.ensures.mods c.wake.ensures.memo
+    (write-kept c.args.self.now c.requires.kept c.args.after.0 s (Write c.args.place c.args.value) c.insert_write-added.new.self c.requires.here
+    (rw c.reserve.ensures.nodes at c.insert_write-added.ensures.nodes) more
+    c.insert_write-added.ensures.whole c.insert_write-added.ensures.closed c.args.place c.args.value refl c.add_write.new.self c.wake.new.self.stale
+    (rw c.order.ensures at c.in_ok-add_write.ensures.ok)
+    (λ t i. c.wake.ensures.more t (rw c.reserve-2.ensures.stamps i)) (λ t i. c.wake.ensures.only t (rw c.reserve-2.ensures.stamps i)) c.wake.ensures.woken
+    (rw c.order.ensures at c.add_write.ensures.follows)
+    (c.follows_still-3.ensures.inserted s c.args.self.now.memo (stamps_in c.args.self.now.trace.nodes) (stamps_in c.insert_write-added.new.self.nodes) c.requires.kept.step.memo more.others.stamps)
+    (rw c.wake.ensures.trace at c.wake.ensures.stale))

@@ -1,0 +1,31 @@
+// The laws of the tables.
+
+ghost use Rattle.std.specs.Prelude.{◌≡◌, ◌<◌, ◌≤◌, ℕ, List, true, false};
+ghost use Rattle.ceal_code.specs.Program.{Code};
+ghost use Rattle.ceal_code.specs.Replay.{Store};
+ghost use Rattle.ceal_order.specs.Stamps.{is_in};
+ghost use Rattle.ceal_repair.specs.AsItems.{nodes_of, StartsAll};
+ghost use Rattle.ceal_repair.specs.Covered.{Queue, Covers};
+ghost use Rattle.ceal_repair.specs.Kept.{Kept, QueuedBehind, QueuedFrom, IsHonestRecord};
+ghost use Rattle.ceal_repair.specs.declared.tables.Tables.{Tables};
+ghost use Rattle.ceal_theory.specs.Cover.{Covered, none_waits};
+ghost use Rattle.ceal_trace.specs.Nodes.{Entry, position};
+
+/// Laws: a read up to a node after which all that is queued stands has the content of its moment; so has one before a node
+/// before which nothing is queued, and where nothing is queued each one.
+pub fn unqueued_reads_are_honest()
+    ensures behind { (t : Tables) → Kept t → (s : ℕ) → QueuedBehind s t → (r : ℕ)
+        → position r t.trace.nodes ≤ position s t.trace.nodes → IsHonestRecord r t }
+    ensures from { (t : Tables) → Kept t → (s : ℕ) → QueuedFrom s t → (r : ℕ)
+        → position r t.trace.nodes < position s t.trace.nodes → IsHonestRecord r t }
+    ensures none { (t : Tables) → Kept t → ((s : ℕ) → is_in s t.stale.stamps ≡ false) → (r : ℕ)
+        → IsHonestRecord r t }
+{}
+
+/// A law: what is covered is so in the words of the theory of repair, where each allocation stands where the modifiables of
+/// its block hold their defaults. The lists of the modifiables know nothing of allocations.
+pub fn covered_as_items()
+    ensures law { (code : Code) (q : Queue) (s : Store) (nodes : List Entry)
+        → StartsAll code s nodes → Covers q s (λ p. false) nodes
+        → Covered code q s none_waits (nodes_of nodes) }
+{}

@@ -1,5 +1,0 @@
-use Rattle.ceal_tables.proofs.Bridging.{covered-as-items}
-use Rattle.ceal_tables.proofs.laws.covered_as_items.Goals as goal
-
-pub returns : goal.returns
-returns c = record { law = covered-as-items }

@@ -1,7 +1,0 @@
-use Rattle.ceal_tables.proofs.Keeping.{steps-kept}
-use Rattle.ceal_tables.proofs.tables.Tables.set_steps.Goals as goal
-
-pub returns-clause-kept : goal.returns-clause-kept
-returns-clause-kept c =
-    steps-kept c.args.self.now c.requires.kept c.args.node.0 c.args.steps c.set_steps.new.self c.requires.here c.set_steps.ensures.nodes c.set_steps.ensures.node c.set_steps.ensures.others
-    c.set_steps.ensures.whole (c.set_steps.ensures.closed c.requires.kept.step.closed)
