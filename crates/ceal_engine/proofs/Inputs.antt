@@ -40,7 +40,7 @@ all-set test [] n x h k = h
 all-set test (y ∷ xs) zero x h k = let g = both (test y) (list_all test xs) h in both-true (test x) (list_all test xs) k g.1
 all-set test (y ∷ xs) (suc n) x h k = let g = both (test y) (list_all test xs) h in both-true (test y) (list_all test (slice_set xs n x)) g.0 (all-set test xs n x g.1 k)
 
-all-get : (test : Block → Bool) (xs : List Block) (n : ℕ) (x : Block) → list_all test xs ≡ true → slice_get xs n ≡ Some x → test x ≡ true
+pub all-get : (test : Block → Bool) (xs : List Block) (n : ℕ) (x : Block) → list_all test xs ≡ true → slice_get xs n ≡ Some x → test x ≡ true
 all-get test [] n x h e = none-some x e
 all-get test (y ∷ xs) zero x h e = let g = both (test y) (list_all test xs) h in subst (λ o. only o ≡ true) e g.0
   where
@@ -53,7 +53,7 @@ module _ (structs : List StructInfo) where
   abbrev fit : List Block → Block → Bool
   fit inputs = block_fits structs (alone inputs)
 
-  fit-all : (inputs : List Block) → inputs_fit structs inputs ≡ true → list_all (fit inputs) inputs ≡ true
+  pub fit-all : (inputs : List Block) → inputs_fit structs inputs ≡ true → list_all (fit inputs) inputs ≡ true
   fit-all inputs h = (both (list_all (fit inputs) inputs) true h).0
 
   fit-kept : (xs ys : List Block) → ShapesKept (alone xs) (alone ys) → (b : Block) → fit xs b ≡ true → fit ys b ≡ true

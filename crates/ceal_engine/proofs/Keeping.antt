@@ -1,319 +1,241 @@
 -- What an engine keeps stays sound.
-use Rattle.std.proofs.Common.{◌≡◌, ℕ, ◌+◌, ◌<◌, ◌≤◌, ◌^◌, ◌&&◌, nat_le, Bool, true, false, Option, Some, None, List, [], ◌∷◌, ◌++◌, length, slice_get, refl, sym, ap, ◌∙◌, subst, arith}
-use Rattle.std.specs.Option.{IsSomeAnd}
-use Rattle.std.specs.Prelude.{IfSome}
+use Rattle.std.proofs.Common.{◌≡◌, ◌⊎◌, ℕ, zero, suc, if◌then◌else◌, ◌≤◌, ◌&&◌, true, false, Option, Some, None, List, [], ◌∷◌, length, slice_get, refl, sym, ap, ◌∙◌, subst, arith}
 use Rattle.std.specs.Option.{option_map}
-use Rattle.ceal_adjust.specs.Answers.{IsRepair, IsAnswer}
-use Rattle.ceal_adjust.specs.declared.adjust.Adjusted.{Adjusted}
-use Rattle.ceal_adjust.specs.declared.adjust.Adjusted.TheVariants.{Done, OutOfFuel}
-use Rattle.ceal_base.proofs.TraceLemmas.{trace-flat, steps-flat}
-use Rattle.ceal_base.specs.Block.{Block}
-use Rattle.ceal_base.specs.Finished.{Finished}
-use Rattle.ceal_base.specs.Fitting.{kind_at, block_fits, inputs_fit}
-use Rattle.ceal_base.specs.Trace.{Trace, flat, trace_of, steps_of, blocks_of, steps_in}
+use Rattle.std.specs.Prelude.{IfSome, Result, Ok, Err, OnErr}
+use Rattle.std.proofs.Math.Path.{fun_ext}
+use Rattle.ceal_base.specs.Block.{Block, block_at}
+use Rattle.ceal_base.specs.Fitting.{kind_in, kind_at, block_fits, fields_fit, fits_field, inputs_fit}
+use Rattle.ceal_base.specs.Operators.{same_place}
+use Rattle.ceal_base.specs.Shapes.{kinds_of_shape}
+use Rattle.ceal_base.specs.Trace.{Trace}
 use Rattle.ceal_base.specs.declared.call.Call.{Call}
-use Rattle.ceal_base.specs.declared.forest.Item.{Item}
+use Rattle.ceal_base.specs.declared.kind.FieldKind.{FieldKind}
+use Rattle.ceal_base.specs.declared.typed.StructInfo.{StructInfo}
+use Rattle.ceal_base.specs.declared.word.BlockId.{BlockId}
 use Rattle.ceal_base.specs.declared.word.BlockId.TheVariants.{Input, Core}
 use Rattle.ceal_base.specs.declared.word.Place.{Place}
 use Rattle.ceal_base.specs.declared.word.Word.{Word}
-use Rattle.ceal_code.proofs.Memory.{got}
-use Rattle.ceal_code.proofs.Replayed.{trace-law}
+use Rattle.ceal_code.proofs.Memory.{CellThere, contents, written-contents}
 use Rattle.ceal_code.proofs.Same.{both, some-same, none-some}
-use Rattle.ceal_code.specs.After.{memory_after}
 use Rattle.ceal_code.specs.Fitting.{Fits}
-use Rattle.ceal_code.specs.Fresh.{fresh}
 use Rattle.ceal_code.specs.Program.{Code}
-use Rattle.ceal_code.specs.Replay.{Replays, IsHonest, count, core_numbers, bases, content_in}
+use Rattle.ceal_code.specs.Replay.{IsHonest, stored}
 use Rattle.ceal_code.specs.Value.{is_cell}
-use Rattle.ceal_engine.proofs.Inputs.{kept-longer, longer-fits, edit-fits, call-kept, extended-refl, extended-longer, extended-edit}
-use Rattle.ceal_engine.proofs.Items.{blocks-flat}
-use Rattle.ceal_engine.proofs.Later.{later-ran, later-new}
-use Rattle.ceal_engine.proofs.MoreMemory.{input-none, input-some, core-none, core-more, later-more, get-out}
-use Rattle.ceal_engine.proofs.Present.{trace-kept}
-use Rattle.ceal_engine.proofs.Renaming.{new-flat, new-replays, new-honest, new-repaired, left-trace, left-work}
-use Rattle.ceal_engine.specs.Completed.{finished, IsFirstRun, IsRepairedRun, IsDraft, IsSettled, IsOldRun, IsDraftOf, IsRepairOf}
-use Rattle.ceal_engine.specs.Engine.{alone, fits_in, with_base, edited, fresh_call, has_run, at_number, stands_for}
-use Rattle.ceal_engine.specs.Items.{blocks_in, AllBelow}
-use Rattle.ceal_engine.specs.Keeping.{Kept, forest_in, state_of, with_later, IsStored, IsMade, IsRunOf, IsKept, Keeps, Sound}
-use Rattle.ceal_engine.specs.Numbers.{renamed, AreNew}
-use Rattle.ceal_engine.specs.Repaired.{IsFirst, IsRepaired, IsUnchanged}
-use Rattle.ceal_engine.specs.declared.draft.Draft.{Draft}
+use Rattle.ceal_engine.proofs.Inputs.{all-get, fit-all, edit-fits, call-kept, extended-edit, extended-refl}
+use Rattle.ceal_engine.proofs.MoreMemory.{core-plain}
+use Rattle.ceal_engine.proofs.Repairs.{first-of, repaired-of, no-end}
+use Rattle.ceal_engine.specs.Completed.{IsFirstOf, IsOldRun, IsRepairOf, IsStillHonest, SameRun, SetsBase, LeavesCells, OfRuns}
+use Rattle.ceal_engine.specs.Engine.{NUMBERS, alone, fits_in, with_base, edited, fresh_call, has_run}
+use Rattle.ceal_engine.specs.Keeping.{contents as cell_contents, Kept, state_of, IsKept, Keeps, Sound}
 use Rattle.ceal_engine.specs.declared.phase.Phase.{Phase}
 use Rattle.ceal_engine.specs.declared.phase.Phase.TheVariants.{New, Finished as IsFinished, Pending, Dropped}
-use Rattle.ceal_engine.specs.declared.run.Completed.{Completed}
-use Rattle.ceal_engine.specs.declared.run.Run.{Run}
-use Rattle.ceal_theory.proofs.Found.{first-law}
+use Rattle.ceal_heap.specs.Heap.{Contents, next, standing, plain_of as heap_words}
+use Rattle.ceal_mods.specs.Cell.{latest_value}
+use Rattle.ceal_mods.specs.declared.cell.Cell.{Cell}
+use Rattle.ceal_repair.specs.Answers.{Stands, IsKeptRun, IsFirst as IsFirstAnswer, IsRepaired as IsRepairedAnswer}
+use Rattle.ceal_repair.specs.Blocks.{There}
+use Rattle.ceal_repair.specs.Words.{HasBases, default_of}
+use Rattle.ceal_repair.specs.declared.running.Outcome.{Outcome}
+use Rattle.ceal_repair.specs.declared.running.Outcome.TheVariants.{Done, OutOfFuel}
+use Rattle.ceal_repair.specs.declared.running.Running.{Running}
 use Rattle.ceal_theory.proofs.MoreInputs.{inputs-law}
-use Rattle.ceal_theory.proofs.Named.{selves, self-tied, selves-one, trace-self}
-use Rattle.ceal_theory.specs.Adjust.{Above}
-use Rattle.ceal_theory.specs.Computed.{Repaired, adjusted, first_of}
-use Rattle.ceal_theory.specs.Laws.{Edited, FirstTrace, FirstOutcome}
-use Rattle.ceal_theory.specs.MoreInputs.{SameBases}
-use Rattle.ceal_theory.specs.Segments.{items_by}
+use Rattle.ceal_theory.specs.Adjust.{Extended}
+use Rattle.ceal_theory.specs.MoreInputs.{OnMore}
+use Rattle.ceal_trace.specs.Items.{forest_of, Nests}
+use Rattle.ceal_trace.specs.Nodes.{Timeline}
 
-module _ (code : Code) (fuel : ℕ) (inputs : List Block) (call : Call) (fits : Fits code inputs call.function call.args) where
-  -- a run that ends has no more steps than the fuel
-  few-steps : (l : Trace) → Replays code inputs call.function call.args l → IsHonest code inputs l → (r : Finished) → fresh code call.function call.args inputs fuel ≡ Some r → steps_of l ≤ fuel
-  few-steps l p h r e = go (nat_le (steps_of l) fuel) refl
+-- ---- a run on other inputs
+
+there-on : (n m : ℕ) (heap : Contents) (b : BlockId) → n ≤ m → There n heap b → There m heap b
+there-on n m heap (Input i) h k = omega (arith, h, k)
+there-on n m heap (Core b) h k = k
+
+-- A run of a call is one on inputs that extend its own, where its tables have the bases of these.
+pub kept-on : (code : Code) (inputs more : List Block) (f : ℕ) (args : List Word) (fuel : ℕ) (l : Trace) (old run : Running) → IsKeptRun code inputs f args fuel l old
+    → Extended code inputs more → inputs_fit code.structs more ≡ true → length inputs ≤ length more → SameRun old run → HasBases code.structs more run.heap run.tables.mods → IsKeptRun code more f args fuel l run
+kept-on code inputs more f args fuel l old run k extended fit long same has = record {
+  stands = record {
+    kept = same.kept;
+    nests = subst (λ (t : Timeline). Nests t.nodes) (sym same.trace) s.nests;
+    items = ap (λ (t : Timeline). forest_of t.nodes) same.trace ∙ s.items;
+    words = λ b. ap (λ h. heap_words h (Core b)) same.heap ∙ (s.words b ∙ sym (core-plain code inputs more f args k.fits extended l k.replays b));
+    released = λ b block e. s.released b block (rw same.heap at e);
+    slots = rw same.heap s.slots;
+    blocks = record {
+      bases = has;
+      lives = rw (same.heap, same.trace) s.blocks.lives;
+      reads = rw (same.heap, same.trace) (λ s' p v r. there-on (length inputs) (length more) old.heap p.block long (s.blocks.reads s' p v r));
+    };
+  };
+  fits = on.call;
+  replays = on.replays;
+  few = k.few;
+}
+  where
+    s : Stands code inputs l old
+    s = k.stands
+
+    on : OnMore code inputs more f args l
+    on = inputs-law code inputs more f args k.fits fit extended l k.replays
+
+-- ---- an edit
+
+-- the place of an input's modifiable has a content
+module _ (code : Code) (inputs : List Block) (p : Place) (w : Word) (fit : inputs_fit code.structs inputs ≡ true)
+    (t : (is_cell (kind_at code.structs (alone inputs) p) && fits_in code.structs (alone inputs) (kind_at code.structs (alone inputs) p) w) ≡ true) where
+  word-there : (kinds : List FieldKind) (words : List Word) (n : ℕ) → fields_fit code.structs (alone inputs) kinds words ≡ true → is_cell (slice_get kinds n) ≡ true → (v : Word) × (slice_get words n ≡ Some v)
+  word-there [] words n h e = absurd (grind (arith, e))
+  word-there (kind ∷ kinds) [] n h e = absurd (grind (arith, h))
+  word-there (kind ∷ kinds) (v ∷ words) zero h e = (v, refl)
+  word-there (kind ∷ kinds) (v ∷ words) (suc n) h e =
+      word-there kinds words n (both (fits_field code.structs (alone inputs) kind v) (fields_fit code.structs (alone inputs) kinds words) h).1 e
+
+  cell-at : is_cell (kind_at code.structs (alone inputs) p) ≡ true
+  cell-at = (both (is_cell (kind_at code.structs (alone inputs) p)) (fits_in code.structs (alone inputs) (kind_at code.structs (alone inputs) p) w) t).0
+
+  cell-there : CellThere code.structs (alone inputs) p
+  cell-there = go p.block refl
     where
-      go : (t : Bool) → nat_le (steps_of l) fuel ≡ t → steps_of l ≤ fuel
-      go true k = grind (arith, k)
-      go false k = none-some r (sym ((trace-law code inputs call.function call.args fits l p h).short fuel (grind (arith, k))) ∙ e)
+      of : (o : Option Block) → block_at (alone inputs) p.block ≡ o → ((block : Block) → o ≡ Some block → fields_fit code.structs (alone inputs) (kinds_of_shape code.structs block.shape) block.words ≡ true)
+          → is_cell (kind_in code.structs o p.field) ≡ true → CellThere code.structs (alone inputs) p
+      of None e h k = absurd (grind (arith, k))
+      of (Some block) e h k =
+          let v = word-there (kinds_of_shape code.structs block.shape) block.words p.field (h block refl) k in
+          record { block = block; there = e; cell = k; word = v.0; holds = v.1 }
 
-  module _ (forest : List Item) (run : Run) (made : IsMade code inputs forest run) (l : Trace) (flat-is : forest ≡ flat l) (p : Replays code inputs call.function call.args l) (h : IsHonest code inputs l) where
-    blocks-are : blocks_in forest ≡ blocks_of l
-    blocks-are = ap blocks_in flat-is ∙ blocks-flat l
+      go : (b : BlockId) → p.block ≡ b → CellThere code.structs (alone inputs) p
+      go (Input n) e =
+          of (block_at (alone inputs) p.block) refl
+          (λ block i. all-get (block_fits code.structs (alone inputs)) inputs n block (fit-all code.structs inputs fit) (ap (block_at (alone inputs)) (sym e) ∙ i)) cell-at
+      go (Core c) e = let none : is_cell (kind_in code.structs None p.field) ≡ true = ap (λ b. is_cell (kind_in code.structs (block_at (alone inputs) b) p.field)) (sym e) ∙ cell-at in absurd (grind (arith, none))
 
-    low : Above run.counts.bound l
-    low b k = ap (λ bs. count b (core_numbers bs)) (sym blocks-are) ∙ made.above b k
-
-    stored : IsStored code inputs l run.counts.bound run.stored
-    stored = made.stored l flat-is
-
-    inputs-are : (n : ℕ) → slice_get (with_later run.stored.inputs.items inputs) n ≡ memory_after code inputs l (Input n)
-    inputs-are n = go (nat_le (length inputs) n) refl
-      where
-        go : (t : Bool) → nat_le (length inputs) n ≡ t → slice_get (with_later run.stored.inputs.items inputs) n ≡ memory_after code inputs l (Input n)
-        go true k =
-            let behind : length inputs ≤ n = grind (arith, k) in
-            later-new run.stored.inputs.items inputs n (omega (arith, behind, stored.input_count))
-            ∙ (get-out inputs n behind ∙ sym (input-none code inputs call.function call.args l p n (get-out inputs n behind)))
-        go false k =
-            let before : n < length inputs = grind (arith, k) in
-            let g = got inputs n before in
-            let is = input-some code inputs call.function call.args l p n g.0 g.1 in
-            later-ran run.stored.inputs.items inputs n (omega (arith, before, stored.input_count)) ∙ (stored.each_input n g.0 _ g.1 is refl ∙ sym is)
-
-    cores-are : (n : ℕ) → at_number (slice_get run.stored.cores.items n) ≡ memory_after code inputs l (Core n)
-    cores-are n = go (nat_le run.counts.bound n) refl
-      where
-        go : (t : Bool) → nat_le run.counts.bound n ≡ t → at_number (slice_get run.stored.cores.items n) ≡ memory_after code inputs l (Core n)
-        go true k =
-            let behind : run.counts.bound ≤ n = grind (arith, k) in
-            ap at_number (get-out run.stored.cores.items n (omega (arith, behind, stored.core_count)))
-            ∙ sym (core-none code inputs call.function call.args l p n (low n behind))
-        go false k = ap at_number (stored.each_core n (grind (arith, k)))
-
-    pub made-kept : steps_of l ≤ fuel → IsKept code fuel inputs IsFinished call run
-    made-kept few = record {
-      there = refl;
-      trace = l;
-      of = record { flat_form = made.forest ∙ flat-is; replays = p; few = few; above = low; room = made.room };
-      present = λ e. record {
-        honest = h;
-        steps = made.steps ∙ (ap steps_in flat-is ∙ steps-flat l);
-        live = made.live ∙ ap length blocks-are;
-        ran = omega (arith, stored.input_count);
-        input_blocks = inputs-are;
-        core_blocks = cores-are;
-      };
-    }
-
-    trace-is : trace_of run.forest ≡ Some l
-    trace-is = ap trace_of (made.forest ∙ flat-is) ∙ trace-flat l
-
-  -- the first trace is the run's
-  pub first-run : (forest : List Item) (work : ℕ) (run : Run) → IsRepair forest work (first_of code inputs fuel call.function call.args) (fresh code call.function call.args inputs fuel) → IsMade code inputs forest run
-      → IsFirstRun code fuel inputs (Some call) (record { run = run; work = work })
-  first-run forest work run r made = go (first-law code inputs call.function call.args fits fuel)
+  -- the place is that of an input
+  not-core : (b f : ℕ) → same_place (record { block = Core b; field = f }) p ≡ false
+  not-core b f = go p.block refl cell-at
     where
-      a : Repaired
-      a = record { items = r.items; work = work }
+      go : (c : BlockId) → p.block ≡ c → is_cell (kind_in code.structs (block_at (alone inputs) p.block) p.field) ≡ true → same_place (record { block = Core b; field = f }) p ≡ false
+      go (Input n) e k = rw e refl
+      go (Core c) e k = let none : is_cell (kind_in code.structs None p.field) ≡ true = ap (λ b. is_cell (kind_in code.structs (block_at (alone inputs) b) p.field)) (sym e) ∙ k in absurd (grind (arith, none))
 
-      of : FirstTrace code inputs call.function call.args (record { items = r.items; work = work }) r.finished → IsFirstRun code fuel inputs (Some call) (record { run = run; work = work })
-      of t = record {
-        kept = made-kept forest run made r.items r.flat_form t.replays t.honest (few-steps r.items t.replays t.honest r.finished r.ends);
-        first = subst (λ o. IsSomeAnd o (IsFirst (finished code fuel inputs (Some call) (record { run = run; work = work })))) (sym (trace-is forest run made r.items r.flat_form t.replays t.honest)) (record {
-          first = record { items = r.items; work = work };
-          is = r.same;
-          renamed = record {
-            pairs = selves t.replays.known;
-            one = selves-one t.replays.known;
-            alike = trace-self (length inputs) (selves t.replays.known) t.replays.mentions (λ b i. self-tied b t.replays.known i);
-          };
-          work = t.work ∙ sym t.steps;
-        });
+  -- the tables have the bases of the inputs with another one
+  bases-edited : (old run : Running) → SetsBase p w old run → HasBases code.structs inputs old.heap old.tables.mods → HasBases code.structs (with_base inputs p w) run.heap run.tables.mods
+  unfolding stored contents
+  bases-edited old run s has = record {
+    of_cores = λ b f. s.base (record { block = Core b; field = f }) ∙ (rw (not-core b f) (has.of_cores b f) ∙ ap (λ h. default_of code.structs (standing h (Core b)) f) (sym s.same.heap));
+    of_inputs = λ i f.
+        s.base (record { block = Input i; field = f })
+        ∙ (ap (λ x. if same_place (record { block = Input i; field = f }) p then w else x) (has.of_inputs i f)
+        ∙ sym (written-contents code (alone inputs) p cell-there w (record { block = Input i; field = f }) ∙ refl));
+  }
+
+  not-finished : (phase : Phase) → edited phase ≡ IsFinished → ⊥
+  not-finished New e = absurd (grind (arith, e))
+  not-finished IsFinished e = absurd (grind (arith, e))
+  not-finished Pending e = absurd (grind (arith, e))
+  not-finished Dropped e = absurd (grind (arith, e))
+
+  still-new : (phase : Phase) → edited phase ≡ New → phase ≡ New
+  still-new New e = refl
+  still-new IsFinished e = absurd (grind (arith, e))
+  still-new Pending e = absurd (grind (arith, e))
+  still-new Dropped e = absurd (grind (arith, e))
+
+  still-run : (phase : Phase) → has_run (edited phase) ≡ has_run phase
+  still-run New = refl
+  still-run IsFinished = refl
+  still-run Pending = refl
+  still-run Dropped = refl
+
+  keeps-edited : (fuel : ℕ) (phase : Phase) → inputs_fit code.structs (with_base inputs p w) ≡ true → length (with_base inputs p w) ≡ length inputs → (call : Option Call) (old run : Option Running) → OfRuns (SetsBase p w) old run
+      → Keeps code fuel inputs phase call old → Keeps code fuel (with_base inputs p w) (edited phase) call run
+  keeps-edited fuel phase fits long call None None o k = still-run phase ∙ k
+  keeps-edited fuel phase fits long call None (Some run) o k = elim o [ ]
+  keeps-edited fuel phase fits long call (Some old) None o k = elim o [ ]
+  keeps-edited fuel phase fits long None (Some old) (Some run) o k = k
+  keeps-edited fuel phase fits long (Some call) (Some old) (Some run) o k = record {
+    there = still-run phase ∙ k.there;
+    trace = k.trace;
+    of = kept-on code inputs (with_base inputs p w) call.function call.args fuel k.trace old run k.of (extended-edit code inputs p w cell-at) fits (omega (arith, long)) o.same (bases-edited old run o k.of.stands.blocks.bases);
+    above = k.above;
+    present = λ e. absurd (not-finished phase e);
+  }
+
+  pub sound-edited : (fuel : ℕ) (kept : Kept) (phase : Phase) (old run : Option Running) → OfRuns (SetsBase p w) old run → Sound code fuel inputs kept phase old → Sound code fuel (with_base inputs p w) kept (edited phase) run
+  sound-edited fuel kept phase old run o s =
+      let k = edit-fits code.structs inputs p w s.fit t in
+      record {
+        is_valid = s.is_valid;
+        limits = s.limits;
+        fit = k.fits;
+        count = omega (arith, s.count, k.count);
+        calls = call-kept code inputs (with_base inputs p w) k.kept k.fits kept.call s.calls;
+        uncalled = λ e. s.uncalled (still-new phase e);
+        new = λ e. ap edited (s.new e);
+        room = s.room;
+        keeps = keeps-edited fuel phase k.fits k.count kept.call old run o s.keeps;
       }
 
-      is-some : FirstOutcome code inputs call.function call.args (Some (record { items = r.items; work = work })) (Some r.finished) → IsFirstRun code fuel inputs (Some call) (record { run = run; work = work })
-      is-some (FirstOutcome.some t) = of t
+-- ---- where nothing is seen to change
 
-      go : FirstOutcome code inputs call.function call.args (first_of code inputs fuel call.function call.args) (fresh code call.function call.args inputs fuel) → IsFirstRun code fuel inputs (Some call) (record { run = run; work = work })
-      go o =
-          is-some
-          (subst (λ q. FirstOutcome code inputs call.function call.args (Some (record { items = r.items; work = work })) q) r.ends
-          (subst (λ q. FirstOutcome code inputs call.function call.args q (fresh code call.function call.args inputs fuel)) r.same o))
+bases-left : (structs : List StructInfo) (inputs : List Block) (old run : Running) → LeavesCells old run → HasBases structs inputs old.heap old.tables.mods → HasBases structs inputs run.heap run.tables.mods
+bases-left structs inputs old run o has = record {
+  of_cores = λ b f. ap (λ (c : Cell). c.base) (o.cells (record { block = Core b; field = f })) ∙ (has.of_cores b f ∙ ap (λ h. default_of structs (standing h (Core b)) f) (sym o.same.heap));
+  of_inputs = λ i f. ap (λ (c : Cell). c.base) (o.cells (record { block = Input i; field = f })) ∙ has.of_inputs i f;
+}
 
-  -- the repair of a kept trace is the run's, its new blocks renamed
-  pub repaired-run : (old : Run) (l : Trace) (of : IsRunOf code fuel inputs call old l) (forest : List Item) (work : ℕ)
-      → IsRepair forest work (adjusted code inputs old.counts.bound fuel l) (fresh code call.function call.args inputs fuel)
-      → (d : Draft) → IsDraft old.forest old.counts.bound forest work d → (c : Completed) → IsSettled code inputs d c → IsRepairedRun code fuel inputs (Some call) l c
-  repaired-run old l of forest work r d draft c settled = record {
-    kept = made-kept _ c.run made new flat-is p h (few-steps new p h r.finished r.ends);
-    repaired = subst (λ o. IsSomeAnd o (IsRepaired (finished code fuel inputs (Some call) c) l)) (sym (trace-is _ c.run made new flat-is p h))
-        (new-repaired code inputs call fits l of.replays fuel old.counts.bound of.above d.names.numbers.items are-new a r.same low IsFinished (Some c.run) c.work counted);
-    unchanged = λ k. record {
-      same = trace-is _ c.run made new flat-is p h ∙ ap Some (left-trace code inputs call fits l of.replays fuel old.counts.bound of.above d.names.numbers.items are-new a r.same low k);
-      work = counted ∙ left-work code inputs call fits l of.replays fuel old.counts.bound of.above d.names.numbers.items are-new a r.same low k;
-    };
-  }
-    where
-      a : Repaired
-      a = record { items = r.items; work = work }
+-- a run whose nodes, heap and cells are as they were
+keeps-same : (code : Code) (fuel : ℕ) (inputs : List Block) (phase : Phase) (call : Call) (old run : Running) → LeavesCells old run → IsKept code fuel inputs phase call old → IsKept code fuel inputs phase call run
+keeps-same code fuel inputs phase call old run o k = record {
+  there = k.there;
+  trace = k.trace;
+  of = kept-on code inputs inputs call.function call.args fuel k.trace old run k.of (extended-refl code inputs) k.of.fits.blocks (omega arith) o.same (bases-left code.structs inputs old run o k.of.stands.blocks.bases);
+  above = k.above;
+  present = k.present;
+}
 
-      are-new : AreNew (core_numbers (blocks_of l)) (old.counts.bound + length d.names.numbers.items) d.names.numbers.items
-      are-new = subst (λ bs. AreNew (core_numbers bs) (old.counts.bound + length d.names.numbers.items) d.names.numbers.items) (ap blocks_in of.flat_form ∙ blocks-flat l) draft.new
+keeps-left : (code : Code) (fuel : ℕ) (inputs : List Block) (phase : Phase) (call : Option Call) (old run : Option Running) → OfRuns LeavesCells old run → Keeps code fuel inputs phase call old → Keeps code fuel inputs phase call run
+keeps-left code fuel inputs phase call None None o k = k
+keeps-left code fuel inputs phase call None (Some run) o k = elim o [ ]
+keeps-left code fuel inputs phase call (Some old) None o k = elim o [ ]
+keeps-left code fuel inputs phase None (Some old) (Some run) o k = k
+keeps-left code fuel inputs phase (Some call) (Some old) (Some run) o k = keeps-same code fuel inputs phase call old run o k
 
-      low : AllBelow (old.counts.bound + length d.names.numbers.items) (core_numbers (blocks_of r.items))
-      low = subst (λ bs. AllBelow (old.counts.bound + length d.names.numbers.items) (core_numbers bs)) (ap blocks_in r.flat_form ∙ blocks-flat r.items) draft.all
+pub sound-left : (code : Code) (fuel : ℕ) (inputs : List Block) (kept : Kept) (phase : Phase) (old run : Option Running) → OfRuns LeavesCells old run → Sound code fuel inputs kept phase old → Sound code fuel inputs kept phase run
+sound-left code fuel inputs kept phase old run o s = record {
+  is_valid = s.is_valid;
+  limits = s.limits;
+  fit = s.fit;
+  count = s.count;
+  calls = s.calls;
+  uncalled = s.uncalled;
+  new = s.new;
+  room = s.room;
+  keeps = keeps-left code fuel inputs phase kept.call old run o s.keeps;
+}
 
-      new : Trace
-      new = Rattle.ceal_engine.proofs.Renaming.new-trace code inputs call fits l of.replays fuel old.counts.bound of.above d.names.numbers.items are-new a r.same low
+pub state-left : (code : Code) (fuel : ℕ) (inputs : List Block) (call : Option Call) (phase : Phase) (old run : Option Running) → OfRuns LeavesCells old run
+    → state_of code fuel inputs call phase run ≡ state_of code fuel inputs call phase old
+state-left code fuel inputs call phase None None o = refl
+state-left code fuel inputs call phase None (Some run) o = elim o [ ]
+state-left code fuel inputs call phase (Some old) None o = elim o [ ]
+state-left code fuel inputs call phase (Some old) (Some run) o =
+    let same : cell_contents run.tables.mods ≡ cell_contents old.tables.mods = fun_ext (λ p. ap latest_value (o.cells p)) in
+    rw (o.same.trace, o.same.heap, o.same.spent, same) refl
 
-      p : Replays code inputs call.function call.args new
-      p = new-replays code inputs call fits l of.replays fuel old.counts.bound of.above d.names.numbers.items are-new a r.same low
+-- what holds anyway holds after an error
+pub on-err : {A E : Type 0} (r : Result A E) (P : Type 0) → P → OnErr r P
+on-err (Ok x) P p = tt
+on-err (Err x) P p = p
 
-      h : IsHonest code inputs new
-      h = new-honest code inputs call fits l of.replays fuel old.counts.bound of.above d.names.numbers.items are-new a r.same low
+-- ---- a run is taken
 
-      made : IsMade code inputs (items_by (renamed d.names.next d.names.numbers.items) d.forest) c.run
-      made = settled.made
-
-      flat-is : items_by (renamed d.names.next d.names.numbers.items) d.forest ≡ flat new
-      flat-is =
-          ap (λ n. items_by (renamed n d.names.numbers.items) d.forest) draft.next
-          ∙ new-flat code inputs call fits l of.replays fuel old.counts.bound of.above d.names.numbers.items are-new a r.same low d.forest (draft.forest ∙ r.flat_form)
-
-      counted : c.work ≡ work
-      counted = settled.work ∙ draft.work
-
--- in a finished engine nothing is to be repaired
-module _ (code : Code) (fuel : ℕ) (inputs : List Block) (call : Call) (fits : Fits code inputs call.function call.args) (run : Run) (l : Trace) (of : IsRunOf code fuel inputs call run l) (honest : IsHonest code inputs l) where
-  none-new : AreNew (core_numbers (blocks_of l)) (run.counts.bound + 0) []
-  none-new = record { distinct = λ b. omega arith; below = λ b h. absurd (omega (arith, h)); new = λ b h. absurd (omega (arith, h)) }
-
-  abbrev same : Repaired
-  same = record { items = l; work = 0 }
-
-  there : adjusted code inputs run.counts.bound fuel l ≡ Some (record { items = l; work = 0 })
-  there = Rattle.ceal_theory.proofs.Main.unchanged-law code inputs l honest run.counts.bound fuel
-
-  low-old : AllBelow (run.counts.bound + 0) (core_numbers (blocks_of l))
-  low-old b h = of.above b (omega (arith, h))
-
-  pub still-repaired : (phase : Phase) (kept : Option Run) → IsRepaired (state_of code fuel inputs (Some call) phase kept 0) l l
-  still-repaired phase kept =
-      subst (λ m. IsRepaired (state_of code fuel inputs (Some call) phase kept 0) l m)
-      (left-trace code inputs call fits l of.replays fuel run.counts.bound of.above [] none-new same there low-old honest)
-      (new-repaired code inputs call fits l of.replays fuel run.counts.bound of.above [] none-new same there low-old phase kept 0 refl)
-
-module _ (code : Code) (fuel : ℕ) (inputs : List Block) (kept : Kept) (phase : Phase) (run : Option Run) (s : Sound code fuel inputs kept phase run) where
-  -- with one input more
-  module _ (b : Block) (fits : block_fits code.structs (alone inputs) b ≡ true) (room : length inputs + 1 < 2 ^ 32) where
-    new-fits : inputs_fit code.structs (inputs ++ b ∷ []) ≡ true
-    new-fits = longer-fits code.structs inputs b s.fit fits
-
-    longer : length (inputs ++ b ∷ []) ≡ length inputs + 1
-    longer = go inputs
-      where
-        go : (xs : List Block) → length (xs ++ b ∷ []) ≡ length xs + 1
-        go [] = refl
-        go (x ∷ xs) = omega (arith, go xs)
-
-    same-bases : SameBases code inputs (inputs ++ b ∷ [])
-    unfolding bases
-    same-bases i field h = ap (λ o. content_in code.structs o field) (sym (Rattle.ceal_code.proofs.Memory.get-before inputs (b ∷ []) i h))
-
-    keeps-longer : (call : Option Call) → IfSome call (λ call. Fits code inputs call.function call.args) → (run : Option Run) → Keeps code fuel inputs phase call run → Keeps code fuel (inputs ++ b ∷ []) phase call run
-    keeps-longer call h None k = k
-    keeps-longer None h (Some run) k = k
-    keeps-longer (Some call) h (Some run) k =
-        let on = inputs-law code inputs (inputs ++ b ∷ []) call.function call.args h new-fits (extended-longer code inputs b) k.trace k.of.replays in
-        record {
-          there = k.there;
-          trace = k.trace;
-          of = record { flat_form = k.of.flat_form; replays = on.replays; few = k.of.few; above = k.of.above; room = k.of.room };
-          present = λ e.
-              let up = k.present e in
-              record {
-                honest = on.honest same-bases up.honest;
-                steps = up.steps;
-                live = up.live;
-                ran = omega (arith, up.ran, longer);
-                input_blocks = later-more code inputs call.function call.args h b k.trace k.of.replays on.replays run.stored.inputs.items up.ran up.input_blocks;
-                core_blocks = λ n. up.core_blocks n ∙ sym (core-more code inputs call.function call.args h b k.trace k.of.replays on.replays n);
-              };
-        }
-
-    pub sound-longer : Sound code fuel (inputs ++ b ∷ []) kept phase run
-    sound-longer = record {
-      is_valid = s.is_valid;
-      limits = s.limits;
-      fit = new-fits;
-      count = omega (arith, longer, room);
-      calls = call-kept code inputs (inputs ++ b ∷ []) (kept-longer code.structs inputs b) new-fits kept.call s.calls;
-      uncalled = s.uncalled;
-      new = s.new;
-      room = s.room;
-      keeps = keeps-longer kept.call s.calls run s.keeps;
-    }
-
-  -- after an edit
-  module _ (p : Place) (w : Word) (t : (is_cell (kind_at code.structs (alone inputs) p) && fits_in code.structs (alone inputs) (kind_at code.structs (alone inputs) p) w) ≡ true) where
-    not-finished : (phase : Phase) → edited phase ≡ IsFinished → ⊥
-    not-finished New e = absurd (grind (arith, e))
-    not-finished IsFinished e = absurd (grind (arith, e))
-    not-finished Pending e = absurd (grind (arith, e))
-    not-finished Dropped e = absurd (grind (arith, e))
-
-    still-new : (phase : Phase) → edited phase ≡ New → phase ≡ New
-    still-new New e = refl
-    still-new IsFinished e = absurd (grind (arith, e))
-    still-new Pending e = absurd (grind (arith, e))
-    still-new Dropped e = absurd (grind (arith, e))
-
-    still-run : (phase : Phase) → has_run (edited phase) ≡ has_run phase
-    still-run New = refl
-    still-run IsFinished = refl
-    still-run Pending = refl
-    still-run Dropped = refl
-
-    keeps-edited : inputs_fit code.structs (with_base inputs p w) ≡ true → (call : Option Call) → IfSome call (λ call. Fits code inputs call.function call.args) → (run : Option Run) → Keeps code fuel inputs phase call run
-        → Keeps code fuel (with_base inputs p w) (edited phase) call run
-    keeps-edited fit call h None k = still-run phase ∙ k
-    keeps-edited fit None h (Some run) k = k
-    keeps-edited fit (Some call) h (Some run) k =
-        let cell = (both (is_cell (kind_at code.structs (alone inputs) p)) (fits_in code.structs (alone inputs) (kind_at code.structs (alone inputs) p) w) t).0 in
-        let on = inputs-law code inputs (with_base inputs p w) call.function call.args h fit (extended-edit code inputs p w cell) k.trace k.of.replays in
-        record {
-          there = still-run phase ∙ k.there;
-          trace = k.trace;
-          of = record { flat_form = k.of.flat_form; replays = on.replays; few = k.of.few; above = k.of.above; room = k.of.room };
-          present = λ e. absurd (not-finished phase e);
-        }
-
-    pub sound-edited : Sound code fuel (with_base inputs p w) kept (edited phase) run
-    sound-edited =
-        let k = edit-fits code.structs inputs p w s.fit t in
-        record {
-          is_valid = s.is_valid;
-          limits = s.limits;
-          fit = k.fits;
-          count = omega (arith, s.count, k.count);
-          calls = call-kept code inputs (with_base inputs p w) k.kept k.fits kept.call s.calls;
-          uncalled = λ e. s.uncalled (still-new phase e);
-          new = λ e. ap edited (s.new e);
-          room = s.room;
-          keeps = keeps-edited k.fits kept.call s.calls run s.keeps;
-        }
-
--- The states on the way.
 module _ (code : Code) (fuel : ℕ) (inputs : List Block) where
-  called : (call : Option Call) (run : Run) → Keeps code fuel inputs IsFinished call (Some run) → call ≡ None → ⊥
+  called : (call : Option Call) (run : Running) → Keeps code fuel inputs IsFinished call (Some run) → call ≡ None → ⊥
   called None run k e = k
   called (Some call) run k e = none-some call (sym e)
 
-  pub sound-kept : (kept : Kept) (phase : Phase) (before : Option Run) (run : Run) → Sound code fuel inputs kept phase before → Keeps code fuel inputs IsFinished kept.call (Some run) → Sound code fuel inputs kept IsFinished (Some run)
+  pub sound-kept : (kept : Kept) (phase : Phase) (before : Option Running) (run : Running) → Sound code fuel inputs kept phase before → Keeps code fuel inputs IsFinished kept.call (Some run)
+      → Sound code fuel inputs kept IsFinished (Some run)
   sound-kept kept phase before run s k = record {
     is_valid = s.is_valid;
     limits = s.limits;
@@ -326,71 +248,6 @@ module _ (code : Code) (fuel : ℕ) (inputs : List Block) where
     keeps = k;
   }
 
-  pub draft-low : (call : Option Call) (old : Run) → IsOldRun code fuel inputs call old → AllBelow old.counts.bound (core_numbers (blocks_in old.forest))
-  draft-low None old o = elim o [ ]
-  draft-low (Some call) old o = λ b h. ap (λ bs. count b (core_numbers bs)) (ap blocks_in o.1.flat_form ∙ blocks-flat o.0) ∙ o.1.above b h
-
-  abbrev Answers : Run → Adjusted → Type 0
-  Answers old answer = (before : List Block) (f : ℕ) (args : List Word) (l : Trace) → old.forest ≡ flat l → Edited code before inputs f args l old.counts.bound
-      → IsAnswer (adjusted code inputs old.counts.bound fuel l) (fresh code f args inputs fuel) answer
-
-  pub drafted-out : (call : Option Call) (old : Run) → IfSome call (λ call. Fits code inputs call.function call.args) → IsOldRun code fuel inputs call old → (answer : Adjusted) → Answers old answer → answer ≡ OutOfFuel
-      → fresh_call code inputs fuel call ≡ None
-  drafted-out None old h o answer a e = elim o [ ]
-  drafted-out (Some call) old h o answer a e =
-      subst (λ x. IsAnswer (adjusted code inputs old.counts.bound fuel o.0) (fresh code call.function call.args inputs fuel) x) e
-      (a inputs call.function call.args o.0 o.1.flat_form (record { call = h; fit = h.blocks; extended = extended-refl code inputs; trace = o.1.replays; above = o.1.above }))
-
-  pub drafted-done : (call : Option Call) (old : Run) → IfSome call (λ call. Fits code inputs call.function call.args) → IsOldRun code fuel inputs call old → (answer : Adjusted) → Answers old answer
-      → (forest : List Item) (work : ℕ) → answer ≡ Done forest work → (d : Draft) → IsDraft old.forest old.counts.bound forest work d → IsDraftOf code fuel inputs call old d
-  drafted-done None old h o answer a forest work e d is = elim o [ ]
-  drafted-done (Some call) old h o answer a forest work e d is = λ l of.
-      let r = subst (λ x. IsAnswer (adjusted code inputs old.counts.bound fuel l) (fresh code call.function call.args inputs fuel) x) e
-      (a inputs call.function call.args l of.flat_form (record { call = h; fit = h.blocks; extended = extended-refl code inputs; trace = of.replays; above = of.above })) in (
-        subst (λ x. IsRepair x d.work (adjusted code inputs old.counts.bound fuel l) (fresh code call.function call.args inputs fuel)) (sym is.forest)
-            (subst (λ x. IsRepair forest x (adjusted code inputs old.counts.bound fuel l) (fresh code call.function call.args inputs fuel)) (sym is.work) r),
-        record {
-          forest = refl;
-          work = refl;
-          next = is.next;
-          new = is.new;
-          all = subst (λ x. AllBelow (old.counts.bound + length d.names.numbers.items) (core_numbers (blocks_in x))) (sym is.forest) is.all;
-        },
-      )
-
-  pub repaired-ok : (call : Option Call) (old : Run) → IfSome call (λ call. Fits code inputs call.function call.args) → (d : Draft) → IsDraftOf code fuel inputs call old d → (c : Completed) → IsSettled code inputs d c
-      → IsRepairOf code fuel inputs call old c
-  repaired-ok None old h d k c s = elim k [ ]
-  repaired-ok (Some call) old h d k c s = λ l of. let q = k l of in repaired-run code fuel inputs call h old l of d.forest d.work q.0 d q.1 c s
-
-  -- what becomes of a kept run
-  module _ (phase : Phase) (call : Option Call) (old : Run) (k : Keeps code fuel inputs phase call (Some old)) (c : Completed) (r : IsRepairOf code fuel inputs call old c) where
-    pub repaired-clause : (l : Trace) → trace_of old.forest ≡ Some l → IsSomeAnd (trace_of c.run.forest) (IsRepaired (finished code fuel inputs call c) l)
-    repaired-clause l = go call k r
-      where
-        go : (call : Option Call) → Keeps code fuel inputs phase call (Some old) → IsRepairOf code fuel inputs call old c → trace_of old.forest ≡ Some l → IsSomeAnd (trace_of c.run.forest) (IsRepaired (finished code fuel inputs call c) l)
-        go None k r e = elim k [ ]
-        go (Some call) k r e =
-            subst (λ l. IsSomeAnd (trace_of c.run.forest) (IsRepaired (finished code fuel inputs (Some call) c) l)) (some-same k.trace l (sym (trace-kept code fuel inputs call old k.trace k.of) ∙ e)) (r k.trace k.of).repaired
-
-    pub unchanged-clause : (l : Trace) → trace_of old.forest ≡ Some l → IsHonest code inputs l → IsUnchanged (finished code fuel inputs call c) l
-    unchanged-clause l = go call k r
-      where
-        go : (call : Option Call) → Keeps code fuel inputs phase call (Some old) → IsRepairOf code fuel inputs call old c → trace_of old.forest ≡ Some l → IsHonest code inputs l → IsUnchanged (finished code fuel inputs call c) l
-        go None k r e = elim k [ ]
-        go (Some call) k r e =
-            subst (λ l. IsHonest code inputs l → IsUnchanged (finished code fuel inputs (Some call) c) l) (some-same k.trace l (sym (trace-kept code fuel inputs call old k.trace k.of) ∙ e)) (r k.trace k.of).unchanged
-
-  -- in Finished nothing is to be done
-  pub finished-clause : (call : Option Call) → IfSome call (λ call. Fits code inputs call.function call.args) → (run : Option Run) → Keeps code fuel inputs IsFinished call run → (phase : Phase) (l : Trace)
-      → stands_for (forest_in run) ≡ Some l → IsSomeAnd (stands_for (forest_in run)) (IsRepaired (state_of code fuel inputs call phase run 0) l)
-  finished-clause call h None k phase l e = none-some l e
-  finished-clause None h (Some run) k phase l e = elim k [ ]
-  finished-clause (Some call) h (Some run) k phase l e =
-      subst (λ o. IsSomeAnd o (IsRepaired (state_of code fuel inputs (Some call) phase (Some run) 0) l)) (sym (trace-kept code fuel inputs call run k.trace k.of))
-      (subst (λ l. IsRepaired (state_of code fuel inputs (Some call) phase (Some run) 0) l k.trace) (some-same k.trace l (sym (trace-kept code fuel inputs call run k.trace k.of) ∙ e))
-      (still-repaired code fuel inputs call h run k.trace k.of (k.present refl).honest phase (Some run)))
-
   -- the call from its parts
   pub the-call : (call : Option Call) (f : ℕ) (args : List Word) → option_map (λ call. call.function) call ≡ Some f → IfSome call (λ call. call.args ≡ args) → call ≡ Some (record { function = f; args = args })
   the-call None f args e h = none-some f e
@@ -399,10 +256,42 @@ module _ (code : Code) (fuel : ℕ) (inputs : List Block) where
   pub first-fits : (call : Option Call) (f : ℕ) (args : List Word) → call ≡ Some (record { function = f; args = args }) → IfSome call (λ call. Fits code inputs call.function call.args) → Fits code inputs f args
   first-fits call f args e h = subst (λ o. IfSome o (λ call. Fits code inputs call.function call.args)) e h
 
-  pub first-done : (call : Option Call) (f : ℕ) (args : List Word) → call ≡ Some (record { function = f; args = args }) → IfSome call (λ call. Fits code inputs call.function call.args) → (answer : Adjusted)
-      → IsAnswer (first_of code inputs fuel f args) (fresh code f args inputs fuel) answer → (forest : List Item) (work : ℕ) → answer ≡ Done forest work → (run : Run) → IsMade code inputs forest run
-      → IsFirstRun code fuel inputs call (record { run = run; work = work })
-  first-done call f args e h answer a forest work k run made =
-      subst (λ o. IsFirstRun code fuel inputs o (record { run = run; work = work })) (sym e)
-      (first-run code fuel inputs (record { function = f; args = args }) (first-fits call f args e h) forest work run
-      (subst (λ x. IsAnswer (first_of code inputs fuel f args) (fresh code f args inputs fuel) x) k a) made)
+  pub first-done : (call : Option Call) (f : ℕ) (args : List Word) → call ≡ Some (record { function = f; args = args }) → IfSome call (λ call. Fits code inputs call.function call.args) → (o : Outcome)
+      → IsFirstAnswer code inputs f args fuel o → (run : Running) → o ≡ Done run → next run.heap ≤ NUMBERS → IsFirstOf code fuel inputs call run
+  first-done call f args e h o a run k few =
+      subst (λ c. IsFirstOf code fuel inputs c run) (sym e)
+      (first-of code fuel inputs (record { function = f; args = args }) (first-fits call f args e h) run (subst (λ o. IsFirstAnswer code inputs f args fuel o) k a) few)
+
+  -- an old run can be propagated
+  pub old-kept : (call : Option Call) (run : Running) → IsOldRun code fuel inputs call run → (f : ℕ) × (args : List Word) × (l : Trace) × IsKeptRun code inputs f args fuel l run
+  old-kept None run o = elim o [ ]
+  old-kept (Some call) run o = (call.function, call.args, o.0, o.1)
+
+  abbrev Propagates : Running → Outcome → Type 0
+  Propagates old o = (f : ℕ) (args : List Word) (l : Trace) → IsKeptRun code inputs f args fuel l old → IsRepairedAnswer code inputs f args fuel l old o
+
+  pub repaired-out : (call : Option Call) (old : Running) → IsOldRun code fuel inputs call old → (o : Outcome) → Propagates old o → o ≡ OutOfFuel → fresh_call code inputs fuel call ≡ None
+  repaired-out None old h o a k = elim h [ ]
+  repaired-out (Some call) old h o a k = subst (λ o. IsRepairedAnswer code inputs call.function call.args fuel h.0 old o) k (a call.function call.args h.0 h.1)
+
+  pub repaired-done : (call : Option Call) (old : Running) → IsOldRun code fuel inputs call old → (o : Outcome) → Propagates old o → (run : Running) → o ≡ Done run → (run.spent ≡ 0) ⊎ (next run.heap ≤ NUMBERS)
+      → IsRepairOf code fuel inputs call old run
+  repaired-done None old h o a run k few = elim h [ ]
+  repaired-done (Some call) old h o a run k few = λ l was above.
+      repaired-of code fuel inputs call was.fits l old was above run (subst (λ o. IsRepairedAnswer code inputs call.function call.args fuel l old o) k (a call.function call.args l was)) few
+
+  -- an honest trace is not out of fuel, and has no work
+  pub honest-in : (call : Option Call) (old : Running) → IsStillHonest code fuel inputs call old → (o : Outcome) → Propagates old o → o ≡ OutOfFuel → ⊥
+  honest-in None old h o a k = elim h [ ]
+  honest-in (Some call) old h o a k =
+      no-end code inputs call.function call.args h.1.fits fuel h.0 h.1.replays h.1.few h.2
+      (subst (λ o. IsRepairedAnswer code inputs call.function call.args fuel h.0 old o) k (a call.function call.args h.0 h.1))
+
+  pub honest-idle : (call : Option Call) (old : Running) → IsStillHonest code fuel inputs call old → (o : Outcome) → Propagates old o → (run : Running) → o ≡ Done run → run.spent ≡ 0
+  honest-idle None old h o a run k = elim h [ ]
+  honest-idle (Some call) old h o a run k =
+      (Rattle.ceal_repair.specs.Answers.IsRepairedRun.unchanged (subst (λ o. IsRepairedAnswer code inputs call.function call.args fuel h.0 old o) k (a call.function call.args h.0 h.1)) h.2).1
+
+  pub still-honest : (call : Option Call) (old : Running) → IsStillHonest code fuel inputs call old → (f : ℕ) × (args : List Word) × (l : Trace) × IsKeptRun code inputs f args fuel l old × IsHonest code inputs l
+  still-honest None old h = elim h [ ]
+  still-honest (Some call) old h = (call.function, call.args, h.0, h.1, h.2)

@@ -1,9 +1,11 @@
-pub mod Later
-pub mod Items
-pub mod Words
-pub mod Numbers
 pub mod Inputs
 pub mod MoreMemory
+pub mod RunMemory
+pub mod LiveCount
 pub mod Present
-pub mod Renaming
+pub mod Repairs
 pub mod Keeping
+pub mod Propagated
+pub mod ReadRun
+pub mod Flattening
+pub mod NewInput

@@ -1,5 +1,5 @@
 -- What an engine keeps is the run from scratch on its present inputs.
-use Rattle.std.proofs.Common.{◌≡◌, ℕ, zero, suc, ◌+◌, ◌<◌, ◌≤◌, ◌==◌, Bool, true, false, if◌then◌else◌, Option, Some, None, List, [], ◌∷◌, length, map, slice_index, refl, sym, ap, ◌∙◌, subst, arith}
+use Rattle.std.proofs.Common.{◌≡◌, ℕ, zero, suc, ◌+◌, ◌<◌, ◌≤◌, ◌==◌, Bool, true, false, if◌then◌else◌, Option, Some, None, List, [], ◌∷◌, length, map, slice_get, slice_index, refl, sym, ap, ◌∙◌, subst, arith}
 use Rattle.std.specs.Option.{option_map}
 use Rattle.std.specs.Prelude.{IfSome, IsSome, is_some}
 use Rattle.ceal_base.proofs.TraceLemmas.{trace-flat}
@@ -15,7 +15,7 @@ use Rattle.ceal_code.proofs.AfterLaws.{store-law, inputs-law}
 use Rattle.ceal_code.proofs.Ends.{ended-law}
 use Rattle.ceal_code.proofs.FinalMemory.{list-same}
 use Rattle.ceal_code.proofs.Pairs.{one_if}
-use Rattle.ceal_code.proofs.Replayed.{trace-law}
+use Rattle.ceal_code.proofs.Replayed.{trace-law, all-core}
 use Rattle.ceal_code.proofs.Same.{none-some}
 use Rattle.ceal_code.proofs.TypedRun.{progress}
 use Rattle.ceal_code.specs.After.{memory_after}
@@ -23,15 +23,22 @@ use Rattle.ceal_code.specs.Determined.{Determined}
 use Rattle.ceal_code.specs.Fitting.{Fits}
 use Rattle.ceal_code.specs.Fresh.{fresh}
 use Rattle.ceal_code.specs.Program.{Code}
-use Rattle.ceal_code.specs.Replay.{count, core_numbers, bases, plain_of, block_after, inputs_after}
+use Rattle.ceal_code.specs.Replay.{count, core_numbers, bases, plain_of, block_after, inputs_after, IsHonest}
 use Rattle.ceal_code.specs.Valid.{valid}
+use Rattle.ceal_engine.proofs.LiveCount.{live-are}
 use Rattle.ceal_engine.proofs.MoreMemory.{core-none}
-use Rattle.ceal_engine.specs.Engine.{NUMBERS, EngineState, ReplaysCall, IsPresent, IsTraced, IsEngine, has_run, core, stands_for}
-use Rattle.ceal_engine.specs.Keeping.{Kept, forest_in, state_of, IsRunOf, IsUpToDate, IsKept, Keeps, Sound}
+use Rattle.ceal_engine.proofs.RunMemory.{allocs-flat, inputs-held, cores-held, steps-held}
+use Rattle.ceal_engine.specs.Engine.{NUMBERS, EngineState, ReplaysCall, IsPresent, IsTraced, IsEngine, IsTidy, has_run, core, stands_for}
+use Rattle.ceal_engine.specs.Completed.{trace_in}
+use Rattle.ceal_engine.specs.Keeping.{Kept, forest_in, timeline_in, heap_in, steps_kept, store_in, state_of, IsKept, Keeps, Sound}
 use Rattle.ceal_engine.specs.declared.phase.Phase.{Phase}
 use Rattle.ceal_engine.specs.declared.phase.Phase.TheVariants.{Finished as IsFinished, Dropped}
-use Rattle.ceal_engine.specs.declared.run.Run.{Run}
+use Rattle.ceal_heap.specs.Heap.{live_count}
+use Rattle.ceal_repair.specs.Answers.{IsKeptRun}
+use Rattle.ceal_repair.specs.declared.running.Running.{Running}
 use Rattle.ceal_theory.specs.Adjust.{Above}
+use Rattle.ceal_theory.specs.KnownContent.{allocs}
+use Rattle.ceal_trace.specs.Items.{forest_of}
 
 index-below : (b : ℕ) (bs : List ℕ) → 1 ≤ count b bs → index_of bs b < length bs
 index-below b [] h = absurd (omega (arith, h))
@@ -44,10 +51,10 @@ index-below b (c ∷ bs) h = go (c == b) refl (index-below b bs)
     go true e f = omega arith
     go false e f = omega (arith, f (omega (arith, h, none e)))
 
-module _ (code : Code) (ok : valid code ≡ true) (fuel : ℕ) (inputs : List Block) (call : Call) (fits : Fits code inputs call.function call.args) (run : Run) (l : Trace) (of : IsRunOf code fuel inputs call run l)
-    (up : IsUpToDate code inputs run l) where
-  abbrev det : Determined code inputs call.function call.args l up.honest.after
-  det = trace-law code inputs call.function call.args fits l of.replays up.honest
+module _ (code : Code) (ok : valid code ≡ true) (fuel : ℕ) (inputs : List Block) (call : Call) (run : Running) (l : Trace) (of : IsKeptRun code inputs call.function call.args fuel l run)
+    (above : Above NUMBERS l) (honest : IsHonest code inputs l) where
+  abbrev det : Determined code inputs call.function call.args l honest.after
+  det = trace-law code inputs call.function call.args of.fits l of.replays honest
 
   abbrev ran : Finished
   ran = record { memory = det.memory; steps = steps_of l; blocks = length (blocks_of l) }
@@ -55,17 +62,32 @@ module _ (code : Code) (ok : valid code ≡ true) (fuel : ℕ) (inputs : List Bl
   ends : fresh code call.function call.args inputs fuel ≡ Some ran
   ends = det.ends fuel of.few
 
-  after-is : (b : BlockId) → memory_after code inputs l b ≡ block_after code (plain_of code inputs l) up.honest.after b
-  after-is b = ap (λ s. block_after code (plain_of code inputs l) s b) (sym (store-law code (bases code inputs) up.honest.after l up.honest.walk))
+  after-is : (b : BlockId) → memory_after code inputs l b ≡ block_after code (plain_of code inputs l) honest.after b
+  after-is b = ap (λ s. block_after code (plain_of code inputs l) s b) (sym (store-law code (bases code inputs) honest.after l honest.walk))
 
-  module _ (phase : Phase) (work : ℕ) where
+  input-blocks : (n : ℕ) → slice_get (store_in code inputs (Some run)).inputs n ≡ memory_after code inputs l (Input n)
+  input-blocks = inputs-held code inputs call.function call.args fuel l run of above honest
+
+  core-blocks : (n : ℕ) → core (store_in code inputs (Some run)) n ≡ memory_after code inputs l (Core n)
+  core-blocks = cores-held code inputs call.function call.args fuel l run of above honest
+
+  steps-are : steps_kept (Some run) ≡ steps_of l
+  steps-are = steps-held code inputs call.function call.args fuel l run of
+
+  -- the live blocks are those that the trace allocates
+  live-count : live_count run.heap ≡ length (blocks_of l)
+  live-count =
+      live-are run.heap (allocs (forest_of run.tables.trace.nodes)) of.stands.blocks.lives.once of.stands.blocks.lives.live
+      ∙ (ap length (ap allocs of.stands.items ∙ allocs-flat l) ∙ all-core of.replays.yields)
+
+  module _ (phase : Phase) where
     abbrev e : EngineState
-    e = state_of code fuel inputs (Some call) phase (Some run) work
+    e = state_of code fuel inputs (Some call) phase (Some run)
 
-    inputs-are : e.memory.inputs ≡ inputs_after code up.honest.after 0 inputs
+    inputs-are : e.memory.inputs ≡ inputs_after code honest.after 0 inputs
     inputs-are =
-        list-same e.memory.inputs (inputs_after code up.honest.after 0 inputs)
-        (λ n. up.input_blocks n ∙ (after-is (Input n) ∙ sym (inputs-law code inputs call.function call.args l of.replays up.honest.after n)))
+        list-same e.memory.inputs (inputs_after code honest.after 0 inputs)
+        (λ n. input-blocks n ∙ (after-is (Input n) ∙ sym (inputs-law code inputs call.function call.args l of.replays honest.after n)))
 
     same : Same (core_numbers (blocks_of l)) e.memory.inputs (core e.memory) det.memory
     same = record {
@@ -73,7 +95,7 @@ module _ (code : Code) (ok : valid code ≡ true) (fuel : ℕ) (inputs : List Bl
       each_input = ap (map (renamed_block (core_numbers (blocks_of l)))) inputs-are ∙ det.same.each_input;
       count = det.same.count;
       each_core = λ i h.
-          ap (option_map (renamed_block (core_numbers (blocks_of l)))) (up.core_blocks (slice_index (core_numbers (blocks_of l)) i) ∙ after-is (Core (slice_index (core_numbers (blocks_of l)) i)))
+          ap (option_map (renamed_block (core_numbers (blocks_of l)))) (core-blocks (slice_index (core_numbers (blocks_of l)) i) ∙ after-is (Core (slice_index (core_numbers (blocks_of l)) i)))
           ∙ det.same.each_core i h;
     }
 
@@ -85,74 +107,88 @@ module _ (code : Code) (ok : valid code ≡ true) (fuel : ℕ) (inputs : List Bl
     only n h = go (count n (core_numbers (blocks_of l))) refl
       where
         go : (k : ℕ) → count n (core_numbers (blocks_of l)) ≡ k → index_of (core_numbers (blocks_of l)) n < length (core_numbers (blocks_of l))
-        go zero c = absurd (no-block (core e.memory n) h (up.core_blocks n ∙ core-none code inputs call.function call.args l of.replays n c))
+        go zero c = absurd (no-block (core e.memory n) h (core-blocks n ∙ core-none code inputs call.function call.args l of.replays n c))
         go (suc k) c = index-below n (core_numbers (blocks_of l)) (omega (arith, c))
 
     memory-fits : memory_fits code.structs det.memory ≡ true
     memory-fits =
         let end = ended-law code inputs call.function call.args fuel ran ends in
-        (progress code ok inputs call.function call.args fits det.memory end.stack end.reaches).memory
+        (progress code ok inputs call.function call.args of.fits det.memory end.stack end.reaches).memory
 
-    pub is-present : IsPresent (state_of code fuel inputs (Some call) phase (Some run) work)
+    pub is-present : IsPresent (state_of code fuel inputs (Some call) phase (Some run))
     is-present = record {
       run = ran;
       fresh = ends;
-      is = record { numbers = core_numbers (blocks_of l); same = same; only = only; steps = up.steps; live = up.live; fits = memory-fits };
+      is = record { numbers = core_numbers (blocks_of l); same = same; only = only; steps = steps-are; live = live-count; fits = memory-fits };
     }
 
-    pub is-traced : IsTraced (state_of code fuel inputs (Some call) phase (Some run) work) l
-    is-traced = record { honest = up.honest; inputs = up.input_blocks; cores = up.core_blocks; steps = up.steps; live = up.live }
+    pub is-traced : IsTraced (state_of code fuel inputs (Some call) phase (Some run)) l
+    is-traced = record { honest = honest; inputs = input-blocks; cores = core-blocks; steps = steps-are; live = live-count }
 
 -- the trace that is kept
-pub trace-kept : (code : Code) (fuel : ℕ) (inputs : List Block) (call : Call) (run : Run) (l : Trace) → IsRunOf code fuel inputs call run l → trace_of run.forest ≡ Some l
-trace-kept code fuel inputs call run l of = ap trace_of of.flat_form ∙ trace-flat l
+pub trace-kept : (code : Code) (fuel : ℕ) (inputs : List Block) (call : Call) (run : Running) (l : Trace) → IsKeptRun code inputs call.function call.args fuel l run → trace_in run ≡ Some l
+trace-kept code fuel inputs call run l of = ap trace_of of.stands.items ∙ trace-flat l
 
 no-run : (phase : Phase) → phase ≡ Dropped → has_run phase ≡ true → ⊥
 no-run phase e h = absurd (grind (arith, rw e at h))
 
-module _ (code : Code) (fuel : ℕ) (inputs : List Block) (kept : Kept) (phase : Phase) (run : Option Run) (work : ℕ) (s : Sound code fuel inputs kept phase run) where
-  is-kept : (call : Option Call) (run : Option Run) → Keeps code fuel inputs phase call run → is_some (stands_for (forest_in run)) ≡ has_run phase
+module _ (code : Code) (fuel : ℕ) (inputs : List Block) (kept : Kept) (phase : Phase) (run : Option Running) (s : Sound code fuel inputs kept phase run) where
+  is-kept : (call : Option Call) (run : Option Running) → Keeps code fuel inputs phase call run → is_some (stands_for (forest_in run)) ≡ has_run phase
   is-kept call None h = sym h
   is-kept None (Some run) h = elim h [ ]
   is-kept (Some call) (Some run) h = ap is_some (trace-kept code fuel inputs call run h.trace h.of) ∙ sym h.there
 
-  flat-form : (call : Option Call) (run : Option Run) → Keeps code fuel inputs phase call run → forest_in run ≡ option_map flat (stands_for (forest_in run))
+  flat-form : (call : Option Call) (run : Option Running) → Keeps code fuel inputs phase call run → forest_in run ≡ option_map flat (stands_for (forest_in run))
   flat-form call None h = refl
   flat-form None (Some run) h = elim h [ ]
-  flat-form (Some call) (Some run) h = ap Some h.of.flat_form ∙ sym (ap (option_map flat) (trace-kept code fuel inputs call run h.trace h.of))
+  flat-form (Some call) (Some run) h = ap Some h.of.stands.items ∙ sym (ap (option_map flat) (trace-kept code fuel inputs call run h.trace h.of))
 
-  of-trace : (P : Trace → Type 0) (call : Option Call) (run : Option Run) → Keeps code fuel inputs phase call run
-      → ((c : Call) (r : Run) (k : IsKept code fuel inputs phase c r) → call ≡ Some c → run ≡ Some r → P k.trace) → IfSome (stands_for (forest_in run)) P
+  of-trace : (P : Trace → Type 0) (call : Option Call) (run : Option Running) → Keeps code fuel inputs phase call run
+      → ((c : Call) (r : Running) (k : IsKept code fuel inputs phase c r) → call ≡ Some c → run ≡ Some r → P k.trace) → IfSome (stands_for (forest_in run)) P
   of-trace P call None h f = tt
   of-trace P None (Some run) h f = elim h [ ]
   of-trace P (Some call) (Some run) h f = subst (λ o. IfSome o P) (sym (trace-kept code fuel inputs call run h.trace h.of)) (f call run h refl refl)
 
-  present : (call : Option Call) → IfSome call (λ call. Fits code inputs call.function call.args) → (run : Option Run) → Keeps code fuel inputs phase call run → phase ≡ IsFinished
-      → IsPresent (state_of code fuel inputs call phase run work)
+  present : (call : Option Call) → IfSome call (λ call. Fits code inputs call.function call.args) → (run : Option Running) → Keeps code fuel inputs phase call run → phase ≡ IsFinished
+      → IsPresent (state_of code fuel inputs call phase run)
   present call fits None h e = absurd (grind (arith, rw e at h))
   present None fits (Some run) h e = elim h [ ]
-  present (Some call) fits (Some run) h e = is-present code s.is_valid fuel inputs call fits run h.trace h.of (h.present e) phase work
+  present (Some call) fits (Some run) h e = is-present code s.is_valid fuel inputs call run h.trace h.of h.above (h.present e) phase
 
-  traced : (call : Option Call) → IfSome call (λ call. Fits code inputs call.function call.args) → (run : Option Run) → Keeps code fuel inputs phase call run → phase ≡ IsFinished
-      → IfSome (stands_for (forest_in run)) (IsTraced (state_of code fuel inputs call phase run work))
+  traced : (call : Option Call) → IfSome call (λ call. Fits code inputs call.function call.args) → (run : Option Running) → Keeps code fuel inputs phase call run → phase ≡ IsFinished
+      → IfSome (stands_for (forest_in run)) (IsTraced (state_of code fuel inputs call phase run))
   traced call fits None h e = tt
   traced None fits (Some run) h e = elim h [ ]
   traced (Some call) fits (Some run) h e =
-      subst (λ o. IfSome o (IsTraced (state_of code fuel inputs (Some call) phase (Some run) work))) (sym (trace-kept code fuel inputs call run h.trace h.of))
-      (is-traced code s.is_valid fuel inputs call fits run h.trace h.of (h.present e) phase work)
+      subst (λ o. IfSome o (IsTraced (state_of code fuel inputs (Some call) phase (Some run)))) (sym (trace-kept code fuel inputs call run h.trace h.of))
+      (is-traced code s.is_valid fuel inputs call run h.trace h.of h.above (h.present e) phase)
 
-  replays : (call : Option Call) (run : Option Run) → Keeps code fuel inputs phase call run → IfSome (stands_for (forest_in run)) (ReplaysCall (state_of code fuel inputs call phase run work))
+  replays : (call : Option Call) (run : Option Running) → Keeps code fuel inputs phase call run → IfSome (stands_for (forest_in run)) (ReplaysCall (state_of code fuel inputs call phase run))
   replays call None h = tt
   replays None (Some run) h = elim h [ ]
   replays (Some call) (Some run) h =
-      subst (λ o. IfSome o (ReplaysCall (state_of code fuel inputs (Some call) phase (Some run) work))) (sym (trace-kept code fuel inputs call run h.trace h.of)) h.of.replays
+      subst (λ o. IfSome o (ReplaysCall (state_of code fuel inputs (Some call) phase (Some run)))) (sym (trace-kept code fuel inputs call run h.trace h.of)) h.of.replays
 
-  none-left : (call : Option Call) (run : Option Run) → Keeps code fuel inputs phase call run → phase ≡ Dropped → (n : ℕ) → core (state_of code fuel inputs call phase run work).memory n ≡ None
+  nodes-are : (run : Option Running) → forest_in run ≡ option_map (λ t. forest_of t.nodes) (timeline_in run)
+  nodes-are None = refl
+  nodes-are (Some run) = refl
+
+  tidy : (call : Option Call) (run : Option Running) → Keeps code fuel inputs phase call run → IfSome (timeline_in run) (λ t. IfSome (heap_in run) (IsTidy t))
+  tidy call None h = tt
+  tidy None (Some run) h = elim h [ ]
+  tidy (Some call) (Some run) h = record { nests = h.of.stands.nests; lives = h.of.stands.blocks.lives; released = h.of.stands.released; slots = h.of.stands.slots }
+
+  heap-there : (call : Option Call) (run : Option Running) → Keeps code fuel inputs phase call run → is_some (heap_in run) ≡ has_run phase
+  heap-there call None h = sym h
+  heap-there None (Some run) h = elim h [ ]
+  heap-there (Some call) (Some run) h = sym h.there
+
+  none-left : (call : Option Call) (run : Option Running) → Keeps code fuel inputs phase call run → phase ≡ Dropped → (n : ℕ) → core (state_of code fuel inputs call phase run).memory n ≡ None
   none-left call None h e n = refl
   none-left None (Some run) h e n = elim h [ ]
   none-left (Some call) (Some run) h e n = absurd (no-run phase e h.there)
 
-  pub sound-engine : IsEngine (state_of code fuel inputs kept.call phase run work)
+  pub sound-engine : IsEngine (state_of code fuel inputs kept.call phase run)
   sound-engine = record {
     valid = s.is_valid;
     fuel = s.limits;
@@ -162,12 +198,15 @@ module _ (code : Code) (fuel : ℕ) (inputs : List Block) (kept : Kept) (phase :
     new = s.new;
     kept = is-kept kept.call run s.keeps;
     flat_form = flat-form kept.call run s.keeps;
+    nodes = nodes-are run;
+    tidy = tidy kept.call run s.keeps;
     replays = replays kept.call run s.keeps;
-    numbers = of-trace (Above NUMBERS) kept.call run s.keeps (λ c r k i j b h. k.of.above b (omega (arith, h, k.of.room)));
+    numbers = of-trace (Above NUMBERS) kept.call run s.keeps (λ c r k i j. k.above);
     traced = traced kept.call s.calls run s.keeps;
     present = present kept.call s.calls run s.keeps;
     none_left = none-left kept.call run s.keeps;
+    heap_there = heap-there kept.call run s.keeps;
   }
 
-  pub sound-present : phase ≡ IsFinished → IsPresent (state_of code fuel inputs kept.call phase run work)
+  pub sound-present : phase ≡ IsFinished → IsPresent (state_of code fuel inputs kept.call phase run)
   sound-present = present kept.call s.calls run s.keeps

@@ -1,67 +1,98 @@
--- What a run that was completed is: that of a first trace, or of the repair of a trace.
-use Rattle.std.specs.Prelude.{◌≡◌, ℕ, ◌+◌, Option, Some, None, List, length}
+-- What a run that was completed is: that of a first trace, or of the repair of a trace. And what edits make of a run.
+use Rattle.std.specs.Prelude.{◌≡◌, ℕ, true, false, ◌++◌, Option, Some, None, List, ⊤}
 use Rattle.std.specs.Option.{IsSomeAnd}
-use Rattle.ceal_adjust.specs.Answers.{IsRepair}
 use Rattle.ceal_base.specs.Block.{Block}
 use Rattle.ceal_base.specs.Trace.{Trace, trace_of}
 use Rattle.ceal_base.specs.declared.call.Call.{Call}
-use Rattle.ceal_base.specs.declared.forest.Item.{Item}
-use Rattle.ceal_code.specs.Fresh.{fresh}
+use Rattle.ceal_base.specs.Operators.{same_block}
+use Rattle.ceal_base.specs.declared.kind.Shape.{Shape}
+use Rattle.ceal_base.specs.declared.typed.StructInfo.{StructInfo}
+use Rattle.ceal_base.specs.declared.word.BlockId.TheVariants.{Input}
+use Rattle.ceal_base.specs.declared.word.Place.{Place}
+use Rattle.ceal_base.specs.declared.word.Word.{Word}
 use Rattle.ceal_code.specs.Program.{Code}
-use Rattle.ceal_code.specs.Replay.{IsHonest, core_numbers}
-use Rattle.ceal_engine.specs.Engine.{EngineState}
-use Rattle.ceal_engine.specs.Items.{blocks_in, AllBelow}
-use Rattle.ceal_engine.specs.Keeping.{Keeps, state_of, IsMade, IsRunOf}
-use Rattle.ceal_engine.specs.Numbers.{renamed, AreNew}
+use Rattle.ceal_code.specs.Replay.{IsHonest, bases, stored}
+use Rattle.ceal_engine.specs.Engine.{NUMBERS, EngineState}
+use Rattle.ceal_engine.specs.Keeping.{Keeps, state_of}
 use Rattle.ceal_engine.specs.Repaired.{IsFirst, IsRepaired, IsUnchanged}
-use Rattle.ceal_engine.specs.declared.draft.Draft.{Draft}
 use Rattle.ceal_engine.specs.declared.phase.Phase.TheVariants.{Finished as IsFinished}
-use Rattle.ceal_engine.specs.declared.run.Completed.{Completed}
-use Rattle.ceal_engine.specs.declared.run.Run.{Run}
-use Rattle.ceal_theory.specs.Computed.{adjusted}
-use Rattle.ceal_theory.specs.Segments.{items_by}
+use Rattle.ceal_repair.specs.Answers.{IsKeptRun}
+use Rattle.ceal_mods.specs.Mods.{cell_of}
+use Rattle.ceal_repair.specs.Kept.{Kept, base_in}
+use Rattle.ceal_repair.specs.Words.{base_of}
+use Rattle.ceal_repair.specs.declared.running.Running.{Running}
+use Rattle.ceal_theory.specs.Adjust.{Above}
+use Rattle.ceal_theory.specs.Walk.{AgreesAll}
+use Rattle.ceal_trace.specs.Items.{forest_of}
+use Rattle.ceal_trace.specs.Nodes.{Entry}
 
 -- the state of an engine that has this run
-abbrev pub finished : Code → ℕ → List Block → Option Call → Completed → EngineState
-finished code fuel inputs call c = state_of code fuel inputs call IsFinished (Some c.run) c.work
+abbrev pub finished : Code → ℕ → List Block → Option Call → Running → EngineState
+finished code fuel inputs call run = state_of code fuel inputs call IsFinished (Some run)
 
--- what a first run that has ended leaves: its parts agree, and its items are the first trace
-pub record IsFirstRun (code : Code) (fuel : ℕ) (inputs : List Block) (call : Option Call) (c : Completed) : Type 0 where
-  pub kept : Keeps code fuel inputs IsFinished call (Some c.run)
-  pub first : IsSomeAnd (trace_of c.run.forest) (IsFirst (finished code fuel inputs call c))
+-- the trace that a run stands for
+abbrev pub trace_in : Running → Option Trace
+trace_in run = trace_of (forest_of run.tables.trace.nodes)
 
--- what a propagation that has ended leaves: its parts agree, its items are the repair, and an honest trace stays as it was
-pub record IsRepairedRun (code : Code) (fuel : ℕ) (inputs : List Block) (call : Option Call) (l : Trace) (c : Completed) : Type 0 where
-  pub kept : Keeps code fuel inputs IsFinished call (Some c.run)
-  pub repaired : IsSomeAnd (trace_of c.run.forest) (IsRepaired (finished code fuel inputs call c) l)
-  pub unchanged : IsHonest code inputs l → IsUnchanged (finished code fuel inputs call c) l
+-- what a first run that has ended leaves: it can be kept, and its items are the first trace
+pub record IsFirstOf (code : Code) (fuel : ℕ) (inputs : List Block) (call : Option Call) (run : Running) : Type 0 where
+  pub kept : Keeps code fuel inputs IsFinished call (Some run)
+  pub first : IsSomeAnd (trace_in run) (IsFirst (finished code fuel inputs call run))
 
--- the items of a repair, with its work, and new numbers for all its new blocks
-pub record IsDraft (old : List Item) (from : ℕ) (items : List Item) (steps : ℕ) (d : Draft) : Type 0 where
-  pub forest : d.forest ≡ items
-  pub work : d.work ≡ steps
-  pub next : d.names.next ≡ from
-  pub new : AreNew (core_numbers (blocks_in old)) (from + length d.names.numbers.items) d.names.numbers.items
-  pub all : AllBelow (from + length d.names.numbers.items) (core_numbers (blocks_in items))
-
--- the run of a draft whose new blocks have their numbers
-pub record IsSettled (code : Code) (inputs : List Block) (d : Draft) (c : Completed) : Type 0 where
-  pub made : IsMade code inputs (items_by (renamed d.names.next d.names.numbers.items) d.forest) c.run
-  pub work : c.work ≡ d.work
+-- what a propagation that has ended leaves: it can be kept, its items are the repair, an honest trace stays as it was, and so do
+-- nodes at the beginning that agree with the walk over the inputs
+pub record IsRepairedOf (code : Code) (fuel : ℕ) (inputs : List Block) (call : Option Call) (l : Trace) (old run : Running) : Type 0 where
+  pub kept : Keeps code fuel inputs IsFinished call (Some run)
+  pub repaired : IsSomeAnd (trace_in run) (IsRepaired (finished code fuel inputs call run) l)
+  pub unchanged : IsHonest code inputs l → IsUnchanged (finished code fuel inputs call run) l × (run.tables.trace ≡ old.tables.trace)
+  pub front : (front back : List Entry) → old.tables.trace.nodes ≡ front ++ back → AgreesAll code (bases code inputs) (forest_of front)
+      → (later : List Entry) × (run.tables.trace.nodes ≡ front ++ later)
 
 -- a run of the call
-abbrev pub IsOldRun : Code → ℕ → List Block → Option Call → Run → Type 0
+abbrev pub IsOldRun : Code → ℕ → List Block → Option Call → Running → Type 0
 IsOldRun code fuel inputs None run = ⊥
-IsOldRun code fuel inputs (Some call) run = (l : Trace) × IsRunOf code fuel inputs call run l
-
--- a draft of the repair of the run's trace
-abbrev pub IsDraftOf : Code → ℕ → List Block → Option Call → Run → Draft → Type 0
-IsDraftOf code fuel inputs None run d = ⊥
-IsDraftOf code fuel inputs (Some call) run d = (l : Trace) → IsRunOf code fuel inputs call run l
-    → IsRepair d.forest d.work (adjusted code inputs run.counts.bound fuel l) (fresh code call.function call.args inputs fuel)
-    × IsDraft run.forest run.counts.bound d.forest d.work d
+IsOldRun code fuel inputs (Some call) run = (l : Trace) × IsKeptRun code inputs call.function call.args fuel l run × Above NUMBERS l
 
 -- a run of the repair of the run's trace
-abbrev pub IsRepairOf : Code → ℕ → List Block → Option Call → Run → Completed → Type 0
-IsRepairOf code fuel inputs None run c = ⊥
-IsRepairOf code fuel inputs (Some call) run c = (l : Trace) → IsRunOf code fuel inputs call run l → IsRepairedRun code fuel inputs (Some call) l c
+abbrev pub IsRepairOf : Code → ℕ → List Block → Option Call → Running → Running → Type 0
+IsRepairOf code fuel inputs None old run = ⊥
+IsRepairOf code fuel inputs (Some call) old run =
+    (l : Trace) → IsKeptRun code inputs call.function call.args fuel l old → Above NUMBERS l → IsRepairedOf code fuel inputs (Some call) l old run
+
+-- the trace of the run is honest on these inputs
+abbrev pub IsStillHonest : Code → ℕ → List Block → Option Call → Running → Type 0
+IsStillHonest code fuel inputs None run = ⊥
+IsStillHonest code fuel inputs (Some call) run = (l : Trace) × IsKeptRun code inputs call.function call.args fuel l run × IsHonest code inputs l
+
+-- a run whose nodes, heap and work are those of another
+pub record SameRun (old new : Running) : Type 0 where
+  pub trace : new.tables.trace ≡ old.tables.trace
+  pub heap : new.heap ≡ old.heap
+  pub spent : new.spent ≡ old.spent
+  pub kept : Kept new.tables
+
+-- a base was set
+pub record SetsBase (p : Place) (value : Word) (old new : Running) : Type 0 where
+  pub same : SameRun old new
+  pub base : (q : Place) → base_in new.tables.mods q ≡ stored (base_in old.tables.mods) p value q
+
+-- the bases of an input of this shape and with these words were set
+pub record SetsInput (structs : List StructInfo) (input : ℕ) (shape : Shape) (words : List Word) (old new : Running) : Type 0 where
+  pub same : SameRun old new
+  pub here : (q : Place) → same_block q.block (Input input) ≡ true → base_in new.tables.mods q ≡ base_of structs shape words q.field (base_in old.tables.mods q)
+  pub others : (q : Place) → same_block q.block (Input input) ≡ false → base_in new.tables.mods q ≡ base_in old.tables.mods q
+
+-- no place holds anything else
+pub record LeavesCells (old new : Running) : Type 0 where
+  pub same : SameRun old new
+  pub cells : (q : Place) → cell_of new.tables.mods q ≡ cell_of old.tables.mods q
+
+-- this is true of both runs, or there is none
+abbrev pub OfRuns : (Running → Running → Type 0) → Option Running → Option Running → Type 0
+OfRuns P None None = ⊤
+OfRuns P (Some old) (Some new) = P old new
+OfRuns P _ _ = ⊥
+
+-- a run of which nothing was run anew
+abbrev pub idle : Running → Running
+idle run = record run { spent = 0 }

@@ -26,7 +26,11 @@ use Rattle.ceal_engine.specs.declared.phase.Phase.{Phase}
 use Rattle.ceal_engine.specs.declared.phase.Phase.TheVariants.{New, Finished as IsFinished, Pending, Dropped}
 use Rattle.ceal_engine.specs.declared.run_error.RunError.{RunError}
 use Rattle.ceal_engine.specs.declared.run_error.RunError.TheVariants.{Memory, OutOfFuel}
+use Rattle.ceal_heap.specs.Heap.{Contents, Known, Revoked, HasSlots, standing}
+use Rattle.ceal_repair.specs.Blocks.{Lives}
 use Rattle.ceal_theory.specs.Adjust.{Above}
+use Rattle.ceal_trace.specs.Items.{Nests, forest_of}
+use Rattle.ceal_trace.specs.Nodes.{Timeline}
 
 -- how many steps a run may be allowed to take
 abbrev pub LARGEST_FUEL : ℕ
@@ -59,8 +63,9 @@ abbrev pub stored_at : Store → BlockId → Option Block
 stored_at m (Input n) = slice_get m.inputs n
 stored_at m (Core n) = core m n
 
--- `inputs` are the input blocks with their present bases, `forest` has the flat items of the last run's trace, in Finished
--- and Pending, and `work` is the number of steps that were run anew for it. The last four say something in Finished alone
+-- `inputs` are the input blocks with their present bases, `forest` has the flat items of the last run's trace, `timeline` its
+-- nodes and `heap` its core blocks, in Finished and Pending, and `work` is the number of steps that were run anew for it. `memory`,
+-- `steps`, `live` and `work` say something in Finished alone
 pub record EngineState : Type 0 where
   pub code : Code
   pub fuel : ℕ
@@ -68,6 +73,8 @@ pub record EngineState : Type 0 where
   pub call : Option Call
   pub phase : Phase
   pub forest : Option (List Item)
+  pub timeline : Option Timeline
+  pub heap : Option Contents
   pub memory : Store
   pub steps : ℕ
   pub live : ℕ
@@ -132,6 +139,14 @@ pub record IsTraced (e : EngineState) (l : Trace) : Type 0 where
   pub steps : e.steps ≡ steps_of l
   pub live : e.live ≡ length (blocks_of l)
 
+-- The nodes nest, the live blocks are exactly those that they allocate, each once, no block is revoked, and the region has the
+-- slots of the live blocks and no others.
+pub record IsTidy (t : Timeline) (heap : Contents) : Type 0 where
+  pub nests : Nests t.nodes
+  pub lives : Lives heap t.nodes
+  pub released : (b : BlockId) (block : Known) → ¬ (standing heap b ≡ Revoked block)
+  pub slots : HasSlots heap
+
 -- a run, though maybe not on the present inputs
 abbrev pub has_run : Phase → Bool
 has_run New = false
@@ -152,12 +167,16 @@ pub record IsEngine (e : EngineState) : Type 0 where
   -- the trace is there where there is a run, and is one of the call
   pub kept : is_some (trace e) ≡ has_run e.phase
   pub flat_form : e.forest ≡ option_map flat (trace e)
+  -- it is kept as nodes, which stand for its items
+  pub nodes : e.forest ≡ option_map (λ t. forest_of t.nodes) e.timeline
+  pub tidy : IfSome e.timeline (λ t. IfSome e.heap (IsTidy t))
   pub replays : IfSome (trace e) (ReplaysCall e)
   pub numbers : IfSome (trace e) (Above NUMBERS)
   pub traced : e.phase ≡ IsFinished → IfSome (trace e) (IsTraced e)
   pub present : e.phase ≡ IsFinished → IsPresent e
-  -- in Dropped there is no core block
+  -- in Dropped nothing of a run is there, and no core block
   pub none_left : e.phase ≡ Dropped → (n : ℕ) → core e.memory n ≡ None
+  pub heap_there : is_some e.heap ≡ has_run e.phase
 
 -- the phase after an edit
 abbrev pub edited : Phase → Phase

@@ -4,5 +4,4 @@ pub mod Repaired
 pub mod Keeping
 pub mod Completed
 -- what its own functions say of each other
-pub mod Items
-pub mod Numbers
+pub mod Reading

@@ -1,15 +1,20 @@
 -- What a run and a propagation make of the trace.
-use Rattle.std.specs.Prelude.{◌≡◌, ℕ, Option, Some, None, List}
+use Rattle.std.specs.Option.{IsSomeAnd}
+use Rattle.std.specs.Prelude.{◌≡◌, ℕ, Option, Some, None, IfSome, List, ◌++◌}
 use Rattle.ceal_base.specs.Block.{Block}
 use Rattle.ceal_base.specs.Trace.{Trace, steps_of}
 use Rattle.ceal_base.specs.declared.call.Call.{Call}
 use Rattle.ceal_code.specs.Alike.{Pairs, OneToOne, TraceAlike}
 use Rattle.ceal_code.specs.Program.{Code}
+use Rattle.ceal_code.specs.Replay.{bases}
 use Rattle.ceal_engine.specs.Engine.{EngineState, trace}
 use Rattle.ceal_theory.specs.Adjust.{Above}
 use Rattle.ceal_theory.specs.Computed.{Repaired, adjusted, first_of}
 use Rattle.ceal_theory.specs.Named.{Apart, naming, trace_by}
 use Rattle.ceal_theory.specs.Repair.{Single}
+use Rattle.ceal_theory.specs.Walk.{AgreesAll}
+use Rattle.ceal_trace.specs.Items.{forest_of}
+use Rattle.ceal_trace.specs.Nodes.{Entry}
 
 -- the second trace is the first one with its core blocks renamed one to one
 pub record IsRenamed (l m : Trace) : Type 0 where
@@ -55,3 +60,10 @@ pub record IsRepaired (e : EngineState) (old new : Trace) : Type 0 where
 pub record IsUnchanged (e : EngineState) (old : Trace) : Type 0 where
   pub same : trace e ≡ Some old
   pub work : e.work ≡ 0
+
+-- Nodes at the beginning of the old list that agree with the walk over the present inputs stand as they were, each with its
+-- stamp, its content and its steps, in front of all others.
+abbrev pub KeepsFront : EngineState → EngineState → Type 0
+KeepsFront old new =
+    IfSome old.timeline (λ t. (front back : List Entry) → t.nodes ≡ front ++ back → AgreesAll old.code (bases old.code old.inputs) (forest_of front)
+    → IsSomeAnd new.timeline (λ u. (later : List Entry) × (u.nodes ≡ front ++ later)))

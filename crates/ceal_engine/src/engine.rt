@@ -3,39 +3,49 @@
 ghost use Rattle.std.specs.Prelude.{◌≡◌, ◌∷◌, [], ◌++◌, ◌<◌, ◌+◌, ◌^◌, true, Some, None, IfOk, IfSome, IsSome, IsOk, OnOk, OnErr, MatchOption, List, length, slice_get};
 ghost use Rattle.std.specs.Option.{option_map, IsSomeAnd};
 ghost use Rattle.ceal_base.specs.Access.{word_in};
-ghost use Rattle.ceal_base.specs.Block.{Block};
 ghost use Rattle.ceal_base.specs.Fitting.{block_fits, kind_in};
-ghost use Rattle.ceal_base.specs.Trace.{Trace};
+ghost use Rattle.ceal_base.specs.Trace.{Trace as TraceOf};
 ghost use Rattle.ceal_base.specs.declared.word.BlockId.TheVariants.{Input};
 ghost use Rattle.ceal_code.specs.Fitting.{Fits};
 ghost use Rattle.ceal_code.specs.Replay.{IsHonest};
 ghost use Rattle.ceal_code.specs.Valid.{valid};
 ghost use Rattle.ceal_code.specs.Value.{is_cell};
-ghost use Rattle.ceal_engine.specs.Engine.{InLimits, alone, block_in, block_of, core, stored_at, trace, edited, takes, with_base, is_plain, fresh_of, IsPresent, IsEngine, Shows, IfOutOfFuel};
-ghost use Rattle.ceal_engine.specs.Completed.{finished, IsDraftOf, IsFirstRun, IsOldRun, IsRepairOf};
-ghost use Rattle.ceal_engine.specs.Keeping.{Keeps, store_in};
-ghost use Rattle.ceal_engine.specs.Repaired.{IsFirst, IsRepaired, IsUnchanged};
+ghost use Rattle.ceal_engine.specs.Engine.{InLimits, alone, block_in, stored_at, trace, edited, takes, with_base, is_plain, fresh_of, IsPresent, IsEngine, Shows, IfOutOfFuel};
+ghost use Rattle.ceal_engine.specs.Completed.{finished, IsFirstOf, IsOldRun, IsRepairOf, IsStillHonest};
+ghost use Rattle.ceal_engine.specs.Keeping.{Keeps};
+ghost use Rattle.ceal_engine.specs.Repaired.{IsFirst, IsRepaired, IsUnchanged, KeepsFront};
 ghost use Rattle.ceal_engine.specs.declared.phase.Phase.TheVariants.{New, Finished, Pending, Dropped};
+ghost use Rattle.ceal_repair.specs.Lists.{IsTabled};
+ghost use Rattle.ceal_repair.specs.Words.{HasBases};
+ghost use Rattle.ceal_trace.specs.Nodes.{IsTrace};
 
-use crate::draft::Draft;
+use crate::items::flat_items;
 use crate::kept_call::{KeptCall, most_arguments};
+use crate::numbered::{numbered, renumbered};
 use crate::phase::Phase;
-use crate::run::{Completed, Run};
+use crate::reading::{content, plain_word, shape};
 use crate::run_error::RunError;
-use ceal_adjust::adjust::{Adjusted, adjust, first_forest};
+use crate::running::{add, edit, rest, touch};
 use ceal_base::forest::Forest;
 use ceal_base::kind::Shape;
 use ceal_base::memory::{BlockWords, Inputs};
 use ceal_base::no_memory::NoMemory;
 use ceal_base::word::{BlockId, Place, Word};
 use ceal_code::code::Code;
+use ceal_mods::mods::Mods;
+use ceal_repair::first::first;
+use ceal_repair::propagate::propagate;
+use ceal_repair::running::{Outcome, Running};
+use ceal_trace::trace::Trace;
 use std::alloc::Global;
 use std::marker::Model;
+use std::mem;
 
 /// Runs trace code on inputs, and keeps the memory of the run up to date where inputs are edited.
 ///
 /// Contracts see the code and the fuel, the inputs with their present bases, the call, the phase, the trace of the last
-/// run, and what a finished run came to: its memory by block numbers, its steps, its number of core blocks, and the work.
+/// run with its nodes and its heap, and what a finished run came to: its memory by block numbers, its steps, its number of
+/// core blocks, and the work.
 #[derive(Drop)]
 pub struct Engine {
     alloc: Global,
@@ -44,8 +54,7 @@ pub struct Engine {
     inputs: Inputs,
     call: KeptCall,
     phase: Phase,
-    run: Option<Run>,
-    work: u32,
+    running: Option<Running>,
 }
 
 impl Model for Engine {
@@ -59,9 +68,9 @@ impl Model for Engine {
 
     ghost coded = { Prim.hlevel (codes, expr.the_row.coded, stmt.the_row.coded) };
 
-    ghost view = { λ e. state_of e.code e.fuel e.inputs e.call.call e.phase e.run e.work };
+    ghost view = { λ e. state_of e.code e.fuel e.inputs e.call.call e.phase e.running };
 
-    ghost invariant = { λ e. Sound e.code e.fuel e.inputs e.call e.phase e.run };
+    ghost invariant = { λ e. Sound e.code e.fuel e.inputs e.call e.phase e.running };
 }
 
 /// Sets the word of a field of an input.
@@ -104,8 +113,7 @@ impl Engine {
             inputs: Inputs::new(Vec::new(alloc)),
             call,
             phase: Phase::New,
-            run: None,
-            work: 0,
+            running: None,
         })
     }
 
@@ -119,6 +127,8 @@ impl Engine {
         ensures call { self.new.call ≡ self.old.call }
         ensures phase { self.new.phase ≡ self.old.phase }
         ensures forest { self.new.forest ≡ self.old.forest }
+        ensures nodes { self.new.timeline ≡ self.old.timeline }
+        ensures heap { self.new.heap ≡ self.old.heap }
         ensures work { self.new.work ≡ self.old.work }
         ensures number { IfOk result (λ id. id ≡ Input (length self.old.inputs)) }
         ensures inputs { OnOk result
@@ -128,7 +138,9 @@ impl Engine {
     {
         let block = BlockWords::new(shape, Vec::from_slice(self.alloc, words)?);
         let at = self.inputs.items().len() as u32;
+        touch(&mut self.running, &self.code, at, shape)?;
         self.inputs.push(block)?;
+        add(&mut self.running, &self.code, at, shape, words);
         Ok(BlockId::Input(at))
     }
 
@@ -140,28 +152,31 @@ impl Engine {
         ensures fuel { self.new.fuel ≡ self.old.fuel }
         ensures call { self.new.call ≡ self.old.call }
         ensures forest { self.new.forest ≡ self.old.forest }
+        ensures nodes { self.new.timeline ≡ self.old.timeline }
+        ensures heap { self.new.heap ≡ self.old.heap }
         ensures work { self.new.work ≡ self.old.work }
         ensures phase { OnOk result (self.new.phase ≡ edited self.old.phase) }
         ensures inputs { OnOk result (self.new.inputs ≡ with_base self.old.inputs place value) }
         ensures err { OnErr result (self.new ≡ self.old) }
     {
+        edit(&mut self.running, place, value)?;
         set_base(&mut self.inputs, place, value);
         self.phase = phase_edited(self.phase);
         Ok(())
     }
 
     /// The first trace of the call, as a run.
-    fn first(&self) -> Result<Completed, RunError>
+    fn first(&self) -> Result<Running, RunError>
         requires called { IsSome self.now.call }
-        ensures ok { IfOk result (λ c.
-            IsFirstRun self.now.code self.now.fuel self.now.inputs self.now.call c) }
+        ensures ok { IfOk result (λ run.
+            IsFirstOf self.now.code self.now.fuel self.now.inputs self.now.call run) }
         ensures out { IfOutOfFuel result (fresh_of self.now ≡ None) }
     {
         match self.call.function() {
             None => unreachable!(),
             Some(function) => {
                 let args = self.call.args();
-                let answer = first_forest(
+                let outcome = first(
                     self.alloc,
                     &self.code,
                     function,
@@ -169,68 +184,45 @@ impl Engine {
                     &self.inputs,
                     self.fuel,
                 )?;
-                match answer {
-                    Adjusted::OutOfFuel => Err(RunError::OutOfFuel),
-                    Adjusted::Done { forest, work } => {
-                        let run = Run::new(self.alloc, &self.code, &self.inputs, forest)?;
-                        Ok(Completed { run, work })
+                match outcome {
+                    Outcome::OutOfFuel => Err(RunError::OutOfFuel),
+                    Outcome::Done(run) => {
+                        let run = numbered(run)?;
+                        Ok(run)
                     }
                 }
             }
         }
     }
 
-    /// The repair of an old run's trace on the present inputs.
-    fn drafted(&self, old: &Run) -> Result<Draft, RunError>
-        requires old { IsOldRun self.now.code self.now.fuel self.now.inputs self.now.call old.now }
-        ensures ok { IfOk result (λ draft.
-            IsDraftOf self.now.code self.now.fuel self.now.inputs self.now.call old.now draft) }
+    /// The repair of an old run on the present inputs.
+    fn repaired(&self, old: Running) -> Result<Running, RunError>
+        requires old { IsOldRun self.now.code self.now.fuel self.now.inputs self.now.call old }
+        ensures ok { IfOk result (λ run.
+            IsRepairOf self.now.code self.now.fuel self.now.inputs self.now.call old run) }
         ensures out { IfOutOfFuel result (fresh_of self.now ≡ None) }
+        ensures sure { IsStillHonest self.now.code self.now.fuel self.now.inputs self.now.call old
+            → IsOk result }
     {
-        let next = old.counts.bound;
-        let fuel = self.fuel;
-        let answer = adjust(
-            self.alloc,
-            &self.code,
-            &old.forest,
-            &self.inputs,
-            next,
-            fuel,
-        )?;
-        match answer {
-            Adjusted::OutOfFuel => Err(RunError::OutOfFuel),
-            Adjusted::Done { forest, work } => {
-                let draft = Draft::new(self.alloc, &old.forest, next, forest, work)?;
-                Ok(draft)
+        let outcome = propagate(self.alloc, &self.code, &self.inputs, self.fuel, old)?;
+        match outcome {
+            Outcome::OutOfFuel => Err(RunError::OutOfFuel),
+            Outcome::Done(run) => {
+                let run = renumbered(run)?;
+                Ok(run)
             }
         }
     }
 
-    /// The same as a run, its new blocks with numbers of their own.
-    fn repaired(&self, old: Run) -> Result<Completed, RunError>
-        requires old { IsOldRun self.now.code self.now.fuel self.now.inputs self.now.call old }
-        ensures ok { IfOk result (λ c.
-            IsRepairOf self.now.code self.now.fuel self.now.inputs self.now.call old c) }
-        ensures out { IfOutOfFuel result (fresh_of self.now ≡ None) }
-    {
-        let draft = self.drafted(&old);
-        drop(old);
-        let draft = draft?;
-        let completed = draft.settle(self.alloc, &self.code, &self.inputs)?;
-        Ok(completed)
-    }
-
     /// Takes a run of the call on the present inputs.
-    fn keep(&mut self, completed: Completed)
+    fn keep(&mut self, run: Running)
         requires kept { Keeps self.old.code self.old.fuel self.old.inputs Finished
-            self.old.call (Some completed.run) }
+            self.old.call (Some run) }
         ensures state { self.new
-            ≡ finished self.old.code self.old.fuel self.old.inputs self.old.call completed }
+            ≡ finished self.old.code self.old.fuel self.old.inputs self.old.call run }
         ensures present { IsPresent self.new }
     {
-        let Completed { run, work } = completed;
-        self.run = Some(run);
-        self.work = work;
+        drop(mem::replace(&mut self.running, Some(run)));
         self.phase = Phase::Finished;
     }
 
@@ -248,8 +240,8 @@ impl Engine {
         ensures out_of_fuel { IfOutOfFuel result (fresh_of self.new ≡ None) }
         ensures dropped { OnErr result (self.new.phase ≡ Dropped) }
     {
-        let completed = self.first()?;
-        self.keep(completed);
+        let run = self.first()?;
+        self.keep(run);
         Ok(())
     }
 
@@ -262,19 +254,24 @@ impl Engine {
         ensures call { self.new.call ≡ self.old.call }
         ensures phase { OnOk result (self.new.phase ≡ Finished) }
         ensures present { OnOk result (IsPresent self.new) }
-        ensures repaired { OnOk result ((l : Trace) → trace self.old ≡ Some l →
+        ensures repaired { OnOk result ((l : TraceOf) → trace self.old ≡ Some l →
             IsSomeAnd (trace self.new) (IsRepaired self.new l)) }
-        ensures unchanged { OnOk result ((l : Trace) → trace self.old ≡ Some l →
+        ensures unchanged { OnOk result ((l : TraceOf) → trace self.old ≡ Some l →
             IsHonest self.old.code self.old.inputs l → IsUnchanged self.new l) }
+        ensures unchanged_nodes { OnOk result ((l : TraceOf) → trace self.old ≡ Some l →
+            IsHonest self.old.code self.old.inputs l → self.new.timeline ≡ self.old.timeline) }
+        ensures front { OnOk result (KeepsFront self.old self.new) }
+        ensures sure_where_honest { (l : TraceOf) → trace self.old ≡ Some l →
+            IsHonest self.old.code self.old.inputs l → IsOk result }
         ensures out_of_fuel { IfOutOfFuel result (fresh_of self.new ≡ None) }
         ensures dropped { OnErr result (self.new.phase ≡ Dropped) }
     {
         self.phase = Phase::Dropped;
-        match self.run.take() {
+        match self.running.take() {
             None => unreachable!(),
             Some(old) => {
-                let completed = self.repaired(old)?;
-                self.keep(completed);
+                let run = self.repaired(old)?;
+                self.keep(run);
                 Ok(())
             }
         }
@@ -314,10 +311,15 @@ impl Engine {
         ensures present { OnOk result (IsPresent self.new) }
         ensures first { OnOk result (self.old.phase ≡ Dropped →
             IsSomeAnd (trace self.new) (IsFirst self.new)) }
-        ensures repaired { OnOk result ((l : Trace) → trace self.old ≡ Some l →
+        ensures repaired { OnOk result ((l : TraceOf) → trace self.old ≡ Some l →
             IsSomeAnd (trace self.new) (IsRepaired self.new l)) }
-        ensures unchanged { OnOk result ((l : Trace) → trace self.old ≡ Some l →
+        ensures unchanged { OnOk result ((l : TraceOf) → trace self.old ≡ Some l →
             IsHonest self.old.code self.old.inputs l → IsUnchanged self.new l) }
+        ensures unchanged_nodes { OnOk result ((l : TraceOf) → trace self.old ≡ Some l →
+            IsHonest self.old.code self.old.inputs l → self.new.timeline ≡ self.old.timeline) }
+        ensures front { OnOk result (KeepsFront self.old self.new) }
+        ensures sure_where_honest { (l : TraceOf) → trace self.old ≡ Some l →
+            IsHonest self.old.code self.old.inputs l → IsOk result }
         ensures sure { self.old.phase ≡ Finished → IsOk result }
         ensures still { self.old.phase ≡ Finished → self.new ≡ record self.old { work = 0 } }
         ensures out_of_fuel { IfOutOfFuel result (fresh_of self.new ≡ None) }
@@ -326,7 +328,7 @@ impl Engine {
         match self.phase {
             Phase::New => unreachable!(),
             Phase::Finished => {
-                self.work = 0;
+                rest(&mut self.running);
                 Ok(())
             }
             Phase::Pending => self.propagate_edits(),
@@ -350,8 +352,7 @@ impl Engine {
         ensures value { result
             ≡ word_in (stored_at self.now.memory place.block) place.field Word.Null }
     {
-        let block = stored(&self.run, &self.inputs, place.block);
-        word_of(block, place.field)
+        content(&self.running, &self.inputs, place)
     }
 
     /// The word of a plain field, by its index, of an input or of a core block of the run.
@@ -361,7 +362,7 @@ impl Engine {
             ≡ true }
         ensures value { result ≡ word_in (block_in self.now block) index Word.Null }
     {
-        word_of(seen_block(&self.run, &self.inputs, block), index)
+        plain_word(&self.running, &self.inputs, block, index)
     }
 
     /// The shape of an input or of a core block of the run.
@@ -370,8 +371,8 @@ impl Engine {
         requires there { IsSome (block_in self.now block) }
         ensures value { option_map (λ b. b.shape) (block_in self.now block) ≡ Some result }
     {
-        match seen_block(&self.run, &self.inputs, block) {
-            Some(found) => found.shape,
+        match shape(&self.running, &self.inputs, block) {
+            Some(shape) => shape,
             None => unreachable!(),
         }
     }
@@ -381,8 +382,8 @@ impl Engine {
         requires { self.now.phase ≡ Finished }
         ensures value { result ≡ self.now.steps }
     {
-        match &self.run {
-            Some(run) => run.counts.steps,
+        match &self.running {
+            Some(run) => run.tables.trace.steps() as u32,
             None => 0,
         }
     }
@@ -393,7 +394,10 @@ impl Engine {
         requires { self.now.phase ≡ Finished }
         ensures value { result ≡ self.now.work }
     {
-        self.work
+        match &self.running {
+            Some(run) => run.spent,
+            None => 0,
+        }
     }
 
     /// How many core blocks the run made.
@@ -401,8 +405,8 @@ impl Engine {
         requires { self.now.phase ≡ Finished }
         ensures value { result ≡ self.now.live }
     {
-        match &self.run {
-            Some(run) => run.counts.live,
+        match &self.running {
+            Some(run) => run.heap.live_count(),
             None => 0,
         }
     }
@@ -412,9 +416,34 @@ impl Engine {
         requires { self.now.phase ≡ Finished }
         ensures value { IfOk result (λ forest. self.now.forest ≡ Some forest) }
     {
-        match &self.run {
-            Some(run) => run.forest.copy(),
+        match &self.running {
+            Some(run) => flat_items(self.alloc, &run.tables.trace),
             None => Err(NoMemory),
+        }
+    }
+
+    /// The nodes of the run.
+    pub fn trace(&self) -> &Trace
+        requires { self.now.phase ≡ Finished }
+        ensures value { self.now.timeline ≡ Some result.now }
+        ensures whole { IsTrace result.now }
+    {
+        match &self.running {
+            Some(run) => &run.tables.trace,
+            None => unreachable!(),
+        }
+    }
+
+    /// The modifiables of the run: each has its present base, and exactly the writes and the reads of the nodes.
+    pub fn mods(&self) -> &Mods
+        requires { self.now.phase ≡ Finished }
+        ensures tabled { IsSomeAnd self.now.timeline (λ t. IsTabled t.nodes result.now) }
+        ensures bases { IsSomeAnd self.now.heap
+            (λ heap. HasBases self.now.code.structs self.now.inputs heap result.now) }
+    {
+        match &self.running {
+            Some(run) => &run.tables.mods,
+            None => unreachable!(),
         }
     }
 
@@ -453,70 +482,5 @@ impl Engine {
         ensures value { result ≡ self.now.fuel }
     {
         self.fuel
-    }
-}
-
-/// The core block of the run of this number.
-fn core_block(run: &Option<Run>, n: u32) -> Option<&BlockWords>
-    ensures { (inputs : List Block) →
-        option_map (λ b. b.now) result ≡ core (store_in run.now inputs) n }
-{
-    match run {
-        None => None,
-        Some(run) => match run.stored.cores.get(n as usize) {
-            None => None,
-            Some(block) => block.as_ref(),
-        },
-    }
-}
-
-/// The input block of the run; those that were added later are as they are.
-#[tactic(auto, using(crate::proofs::Later::later_steps))]
-fn input_block<'a>(run: &'a Option<Run>, inputs: &'a Inputs, n: u32) -> Option<&'a BlockWords>
-    ensures { option_map (λ b. b.now) result ≡ slice_get (store_in run.now inputs.now).inputs n }
-{
-    let n = n as usize;
-    match run {
-        None => inputs.items().get(n),
-        Some(run) if n < run.stored.inputs.len() => run.stored.inputs.get(n),
-        Some(_) => inputs.items().get(n),
-    }
-}
-
-/// The block of the run's memory, to which the inputs that were added later belong.
-fn stored<'a>(run: &'a Option<Run>, inputs: &'a Inputs, block: BlockId) -> Option<&'a BlockWords>
-    ensures { option_map (λ b. b.now) result ≡ stored_at (store_in run.now inputs.now) block }
-{
-    match block {
-        BlockId::Core(n) => core_block(run, n),
-        BlockId::Input(n) => input_block(run, inputs, n),
-    }
-}
-
-/// An input with its bases, or a core block of the run.
-fn seen_block<'a>(
-    run: &'a Option<Run>,
-    inputs: &'a Inputs,
-    block: BlockId,
-) -> Option<&'a BlockWords>
-    ensures { option_map
-        (λ b. b.now) result ≡ block_of inputs.now (store_in run.now inputs.now) block }
-{
-    match block {
-        BlockId::Core(n) => core_block(run, n),
-        BlockId::Input(n) => inputs.items().get(n as usize),
-    }
-}
-
-fn word_of(block: Option<&BlockWords>, field: u32) -> Word
-    ensures { result ≡ word_in (option_map (λ b. b.now) block.entry) field Word.Null }
-{
-    match block {
-        None => Word::Null,
-        Some(block) => block
-            .items()
-            .get(field as usize)
-            .copied()
-            .unwrap_or(Word::Null),
     }
 }

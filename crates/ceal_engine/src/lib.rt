@@ -1,18 +1,20 @@
 //! The engine: runs trace code on inputs, and brings the run up to date after edits of the inputs, by change propagation
 //! (Acar, *Self-Adjusting Computation*, 2005).
 //!
-//! `specs/Engine` says what an engine has: the trace of its last run, and what a finished run came to, which is the run
-//! from scratch on its present inputs up to the numbers of its core blocks. `specs/Repaired` says what becomes of the
-//! trace: after a first run it is the first trace, after a propagation its repair. The body repairs whole traces
-//! (`draft`), gives the new blocks of a repair the least free numbers (`rename`), and keeps the memory after the trace.
+//! `specs/Engine` says what an engine has: the trace of its last run with its nodes, and what a finished run came to, which is
+//! the run from scratch on its present inputs up to the numbers of its core blocks. `specs/Repaired` says what becomes of the
+//! trace: after a first run it is the first trace, after a propagation its repair. The body keeps what `ceal_repair` keeps of
+//! a run: the nodes, the lists of the modifiables, the queue of stale reads, the memo, and the heap. So the time of a
+//! propagation goes with what is run anew, and not with the trace. `running` has what edits and new inputs do to a run,
+//! `numbered` gives up a run whose blocks have too large numbers, `reading` reads words and contents, and `items` lists the
+//! flat items of nodes.
 #![tactic(auto)]
 
-mod counts;
-mod draft;
 pub mod engine;
+mod items;
 mod kept_call;
-mod memory;
+mod numbered;
 pub mod phase;
-mod rename;
-mod run;
+mod reading;
 pub mod run_error;
+mod running;

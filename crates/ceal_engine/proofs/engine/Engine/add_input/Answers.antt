@@ -1,14 +1,44 @@
 use Rattle.std.proofs.Common.{◌≡◌, ◌∙◌, ◌+◌, ◌<◌, ◌^◌, true, length, ap, sym, subst}
+use Rattle.ceal_base.specs.Block.{Block}
 use Rattle.ceal_base.specs.Fitting.{block_fits}
-use Rattle.ceal_engine.proofs.Keeping.{sound-longer}
+use Rattle.ceal_engine.proofs.Keeping.{on-err, sound-left, state-left}
+use Rattle.ceal_engine.proofs.NewInput.{run-unread, sound-longer}
+use Rattle.ceal_engine.specs.Completed.{OfRuns, SetsInput}
 use Rattle.ceal_engine.specs.Engine.{alone}
 use Rattle.ceal_engine.proofs.engine.Engine.add_input.Goals as goal
 
+pub invariant_of-self : goal.invariant_of-self
+invariant_of-self c =
+    sound-left c.self.inside.code c.self.inside.fuel c.self.inside.inputs c.self.inside.call c.self.inside.phase c.self.inside.running c.touch.new.run c.touch.ensures.same c.self.invariant
+
+pub returns-in_err-touch-clause-err : goal.returns-in_err-touch-clause-err
+returns-in_err-touch-clause-err c =
+    on-err c.from_residual-in_err-touch.result _
+    (state-left c.self.inside.code c.self.inside.fuel c.self.inside.inputs c.self.inside.call.call c.self.inside.phase c.self.inside.running c.touch.new.run c.touch.ensures.same ∙ c.self.view_is)
+
+pub invariant_of-self-in_err-push : goal.invariant_of-self-in_err-push
+invariant_of-self-in_err-push c =
+    rw c.in_err-push.ensures.err
+    (sound-left c.self.inside.code c.self.inside.fuel c.self.inside.inputs c.self.inside.call c.self.inside.phase c.self.inside.running c.touch.new.run c.touch.ensures.same c.self.invariant)
+
+pub returns-in_err-push-clause-err : goal.returns-in_err-push-clause-err
+returns-in_err-push-clause-err c =
+    on-err c.from_residual-in_err-push.result _
+    (rw c.in_err-push.ensures.err
+    (state-left c.self.inside.code c.self.inside.fuel c.self.inside.inputs c.self.inside.call.call c.self.inside.phase c.self.inside.running c.touch.new.run c.touch.ensures.same ∙ c.self.view_is))
+
+pub add-requires-clause-unread : goal.add-requires-clause-unread
+add-requires-clause-unread c =
+    rw c.items.ensures.value
+    (run-unread c.self.inside.code c.self.inside.fuel c.self.inside.inputs c.self.inside.phase c.self.inside.call.call c.touch.new.run
+    (sound-left c.self.inside.code c.self.inside.fuel c.self.inside.inputs c.self.inside.call c.self.inside.phase c.self.inside.running c.touch.new.run c.touch.ensures.same c.self.invariant).keeps)
+
 pub invariant_of-self-2 : goal.invariant_of-self-2
 invariant_of-self-2 c =
+    let b : Block = record { shape = c.args.shape; words = c.args.words.now } in
     let is = c.new-block.ensures.value ∙ ap (λ ws. record { shape = c.args.shape; words = ws }) c.in_ok-from_slice.ensures.items in
-    let fits : block_fits c.self.inside.code.structs (alone c.self.inside.inputs) c.new-block.result ≡ true =
-    rw is (subst (λ e. block_fits e.code.structs (alone e.inputs) (record { shape = c.args.shape; words = c.args.words.now }) ≡ true) (sym c.self.view_is) c.requires.fits) in
-    rw c.in_ok-push.ensures.ok
-    (sound-longer c.self.inside.code c.self.inside.fuel c.self.inside.inputs c.self.inside.call c.self.inside.phase c.self.inside.run c.self.invariant c.new-block.result fits
-    (subst (λ e. length e.inputs + 1 < 2 ^ 32) (sym c.self.view_is) c.requires.room))
+    let set : OfRuns (SetsInput c.self.inside.code.structs (length c.self.inside.inputs) c.args.shape c.args.words.now) c.touch.new.run c.add.new.run = rw c.items.ensures.value at c.add.ensures in
+    let sound = sound-left c.self.inside.code c.self.inside.fuel c.self.inside.inputs c.self.inside.call c.self.inside.phase c.self.inside.running c.touch.new.run c.touch.ensures.same c.self.invariant in
+    rw (c.in_ok-push.ensures.ok, is)
+    (sound-longer c.self.inside.code c.self.inside.fuel c.self.inside.inputs c.self.inside.phase b (subst (λ e. block_fits e.code.structs (alone e.inputs) b ≡ true) (sym c.self.view_is) c.requires.fits) c.self.invariant.fit
+    c.self.inside.call c.touch.new.run c.add.new.run set (subst (λ e. length e.inputs + 1 < 2 ^ 32) (sym c.self.view_is) c.requires.room) sound)

@@ -7,6 +7,7 @@ use Rattle.ceal_engine.proofs.engine.Engine.keep.Goals as goal
 
 pub returns-clause-present : goal.returns-clause-present
 returns-clause-present c =
-    sound-present c.self.inside.code c.self.inside.fuel c.self.inside.inputs c.self.inside.call Finished (Some c.args.completed.run) c.args.completed.work
-    (sound-kept c.self.inside.code c.self.inside.fuel c.self.inside.inputs c.self.inside.call c.self.inside.phase c.self.inside.run c.args.completed.run c.self.invariant
-    (subst (λ e. Keeps e.code e.fuel e.inputs Finished e.call (Some c.args.completed.run)) (sym c.self.view_is) c.requires.kept)) refl
+    rw c.replace.ensures.after
+    (sound-present c.self.inside.code c.self.inside.fuel c.self.inside.inputs c.self.inside.call Finished (Some c.args.run)
+    (sound-kept c.self.inside.code c.self.inside.fuel c.self.inside.inputs c.self.inside.call c.self.inside.phase c.self.inside.running c.args.run c.self.invariant
+    (subst (λ e. Keeps e.code e.fuel e.inputs Finished e.call (Some c.args.run)) (sym c.self.view_is) c.requires.kept)) refl)

@@ -5,4 +5,4 @@ use Rattle.ceal_engine.proofs.engine.Engine.phase.Goals as goal
 
 pub returns-clause-whole : goal.returns-clause-whole
 returns-clause-whole c =
-    subst IsEngine c.self.view_is (sound-engine c.self.inside.code c.self.inside.fuel c.self.inside.inputs c.self.inside.call c.self.inside.phase c.self.inside.run c.self.inside.work c.self.invariant)
+    subst IsEngine c.self.view_is (sound-engine c.self.inside.code c.self.inside.fuel c.self.inside.inputs c.self.inside.call c.self.inside.phase c.self.inside.running c.self.invariant)

@@ -1,0 +1,125 @@
+-- An engine with one input more.
+use Rattle.std.proofs.Common.{◌≡◌, ℕ, ◌+◌, ◌<◌, ◌^◌, inl, inr, true, Option, Some, None, List, [], ◌∷◌, ◌++◌, length, refl, sym, ap, ◌∙◌, subst, arith}
+use Rattle.std.proofs.lemmas.Bool.Decides.{eqb_tells}
+use Rattle.std.specs.Prelude.{IfSome}
+use Rattle.ceal_base.specs.Block.{Block}
+use Rattle.ceal_base.specs.Fitting.{block_fits, inputs_fit}
+use Rattle.ceal_base.specs.Operators.{same_place}
+use Rattle.ceal_base.specs.declared.call.Call.{Call}
+use Rattle.ceal_base.specs.declared.word.BlockId.TheVariants.{Input, Core}
+use Rattle.ceal_base.specs.declared.word.Place.{Place}
+use Rattle.ceal_base.specs.declared.word.Word.{Word}
+use Rattle.ceal_code.proofs.Memory.{get-push, get-push_other, get-before}
+use Rattle.ceal_code.proofs.Same.{block-refl, place-same}
+use Rattle.ceal_code.specs.Program.{Code}
+use Rattle.ceal_code.specs.Replay.{bases, content_in}
+use Rattle.ceal_engine.proofs.Inputs.{kept-longer, longer-fits, call-kept, extended-longer}
+use Rattle.ceal_engine.proofs.Keeping.{kept-on}
+use Rattle.ceal_engine.proofs.MoreMemory.{get-out}
+use Rattle.ceal_engine.specs.Completed.{SetsInput, OfRuns}
+use Rattle.ceal_engine.specs.Engine.{alone}
+use Rattle.ceal_engine.specs.Keeping.{Kept, IsKept, Keeps, Sound}
+use Rattle.ceal_engine.specs.declared.phase.Phase.{Phase}
+use Rattle.ceal_mods.specs.Mods.{cell_of}
+use Rattle.ceal_order.specs.Stamps.{is_in}
+use Rattle.ceal_repair.proofs.Parting.{where-holds}
+use Rattle.ceal_repair.specs.Kept.{Kept as KeptTables, Records}
+use Rattle.ceal_repair.specs.Lists.{reads_at}
+use Rattle.ceal_repair.specs.Words.{HasBases, default_of}
+use Rattle.ceal_repair.specs.declared.running.Running.{Running}
+use Rattle.ceal_heap.specs.Heap.{standing}
+use Rattle.ceal_theory.proofs.MoreInputs.{inputs-law}
+use Rattle.ceal_theory.specs.MoreInputs.{SameBases}
+use Rattle.ceal_trace.specs.Nodes.{node_at}
+use Rattle.ceal_trace.specs.declared.node.Node.{Node}
+use Rattle.ceal_trace.specs.declared.node.Node.TheVariants.{Root, Alloc, Write, Read, End}
+
+module _ (code : Code) (fuel : ℕ) (inputs : List Block) (phase : Phase) where
+  abbrev at : ℕ → Place
+  at field = record { block = Input (length inputs); field = field }
+
+  -- no node reads the next input
+  read-node : (p : Place) (node : Node) (s : ℕ) (o : Option Node) → o ≡ Some node → reads_at p node ≡ true → (q : Place) × (v : Word) × Records q v o × (same_place q p ≡ true)
+  read-node p Root s o e h = absurd (grind (arith, h))
+  read-node p (Alloc b key) s o e h = absurd (grind (arith, h))
+  read-node p (Write q v) s o e h = absurd (grind (arith, h))
+  read-node p (Read q v u x args) s o e h = (q, v, record { unit = u; var = x; args = args; is = e }, h)
+  read-node p (End r) s o e h = absurd (grind (arith, h))
+
+  none-reads : (call : Call) (run : Running) (k : IsKept code fuel inputs phase call run) (field : ℕ) → (cell_of run.tables.mods (record { block = Input (length inputs); field = field })).reads ≡ []
+  none-reads call run k field = go (cell_of run.tables.mods (at field)).reads (λ s i. no s i)
+    where
+      kept : KeptTables run.tables
+      kept = k.of.stands.kept
+
+      no : (s : ℕ) → is_in s (cell_of run.tables.mods (at field)).reads ≡ true → ⊥
+      no s i =
+          let w = where-holds (reads_at (at field)) run.tables.trace.nodes s kept.step.whole.order.distinct (subst (λ rs. is_in s rs ≡ true) (kept.step.tabled.reads (at field)) i) in
+          let r = read-node (at field) w.0 s (node_at s run.tables.trace.nodes) w.1 w.2 in
+          let there = k.of.stands.blocks.reads s r.0 r.1 r.2 in
+          let early : length inputs < length inputs = subst (λ (b : Rattle.ceal_base.specs.declared.word.BlockId.BlockId). Rattle.ceal_repair.specs.Blocks.There (length inputs) run.heap b) (ap (λ (q : Place). q.block) (place-same r.0 (at field) r.3)) there in
+          absurd (omega (arith, early))
+
+      go : (xs : List ℕ) → ((s : ℕ) → is_in s xs ≡ true → ⊥) → xs ≡ []
+      go [] h = refl
+      go (x ∷ xs) h = absurd (h x (elim (eqb_tells x x) [ inl p ↦ rw p.0 refl | inr p ↦ absurd (p.1 refl) ]))
+
+  pub run-unread : (call : Option Call) (run : Option Running) → Keeps code fuel inputs phase call run
+      → IfSome run (λ r. (field : ℕ) → (cell_of r.tables.mods (record { block = Input (length inputs); field = field })).reads ≡ [])
+  run-unread call None k = tt
+  run-unread None (Some run) k = elim k [ ]
+  run-unread (Some call) (Some run) k = none-reads call run k
+
+  module _ (b : Block) (fits : block_fits code.structs (alone inputs) b ≡ true) (fit : inputs_fit code.structs inputs ≡ true) where
+    new-fits : inputs_fit code.structs (inputs ++ b ∷ []) ≡ true
+    new-fits = longer-fits code.structs inputs b fit fits
+
+    pub longer : length (inputs ++ b ∷ []) ≡ length inputs + 1
+    longer = go inputs
+      where
+        go : (xs : List Block) → length (xs ++ b ∷ []) ≡ length xs + 1
+        go [] = omega arith
+        go (x ∷ xs) = omega (arith, go xs)
+
+    same-bases : SameBases code inputs (inputs ++ b ∷ [])
+    unfolding bases
+    same-bases i field h = ap (λ o. content_in code.structs o field) (sym (get-before inputs (b ∷ []) i h))
+
+    -- the tables have the bases of the longer inputs
+    bases-more : (old run : Running) → SetsInput code.structs (length inputs) b.shape b.words old run → HasBases code.structs inputs old.heap old.tables.mods → HasBases code.structs (inputs ++ b ∷ []) run.heap run.tables.mods
+    bases-more old run s has = record {
+      of_cores = λ c f. s.others (record { block = Core c; field = f }) refl ∙ (has.of_cores c f ∙ ap (λ h. default_of code.structs (standing h (Core c)) f) (sym s.same.heap));
+      of_inputs = λ i f. elim (eqb_tells i (length inputs)) [
+        | inl p ↦ rw (p.1, get-push inputs b) (s.here (at f) (block-refl (Input (length inputs))) ∙ rw (has.of_inputs (length inputs) f ∙ ap (λ o. content_in code.structs o f) (get-out inputs (length inputs) (omega arith))) refl)
+        | inr p ↦ s.others (record { block = Input i; field = f }) p.0 ∙ (has.of_inputs i f ∙ ap (λ o. content_in code.structs o f) (sym (get-push_other inputs b i p.0)))
+      ];
+    }
+
+    keeps-longer : (call : Option Call) (old run : Option Running) → OfRuns (SetsInput code.structs (length inputs) b.shape b.words) old run → Keeps code fuel inputs phase call old → Keeps code fuel (inputs ++ b ∷ []) phase call run
+    keeps-longer call None None o k = k
+    keeps-longer call None (Some run) o k = elim o [ ]
+    keeps-longer call (Some old) None o k = elim o [ ]
+    keeps-longer None (Some old) (Some run) o k = k
+    keeps-longer (Some call) (Some old) (Some run) o k =
+        let on = inputs-law code inputs (inputs ++ b ∷ []) call.function call.args k.of.fits new-fits (extended-longer code inputs b) k.trace k.of.replays in
+        record {
+          there = k.there;
+          trace = k.trace;
+          of = kept-on code inputs (inputs ++ b ∷ []) call.function call.args fuel k.trace old run k.of (extended-longer code inputs b) new-fits (omega (arith, longer)) o.same (bases-more old run o k.of.stands.blocks.bases);
+          above = k.above;
+          present = λ e. on.honest same-bases (k.present e);
+        }
+
+    pub sound-longer : (kept : Kept) (old run : Option Running) → OfRuns (SetsInput code.structs (length inputs) b.shape b.words) old run → length inputs + 1 < 2 ^ 32 → Sound code fuel inputs kept phase old
+        → Sound code fuel (inputs ++ b ∷ []) kept phase run
+    sound-longer kept old run o room s = record {
+      is_valid = s.is_valid;
+      limits = s.limits;
+      fit = new-fits;
+      count = omega (arith, longer, room);
+      calls = call-kept code inputs (inputs ++ b ∷ []) (kept-longer code.structs inputs b) new-fits kept.call s.calls;
+      uncalled = s.uncalled;
+      new = s.new;
+      room = s.room;
+      keeps = keeps-longer kept.call old run o s.keeps;
+    }
