@@ -512,6 +512,10 @@ pub fn take_mode(
                 Ok(turn)
             }
         },
+        Mode::Body => {
+            let turn = take_body(alloc, inside, mode, token)?;
+            Ok(turn)
+        }
         _ => {
             let turn = take_other(alloc, inside, mode, token)?;
             Ok(turn)

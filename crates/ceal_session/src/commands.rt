@@ -33,7 +33,7 @@ fn make_modifiable(
     ensures trace { OnOk result (Keeps state.old state.new) }
     ensures err { OnErr result (state.new ≡ state.old) }
 {
-    let shape = mod_shape(state, kind)?;
+    let shape = mod_shape(state, kind);
     let sense = value_sense(state, value)?;
     make(alloc, state, name, shape, &[sense])
 }
@@ -55,7 +55,7 @@ fn make_block(
     ensures trace { OnOk result (Keeps state.old state.new) }
     ensures err { OnErr result (state.new ≡ state.old) }
 {
-    let shape = struct_shape(state, shape)?;
+    let shape = struct_shape(state, shape);
     let senses = value_senses(alloc, state, values)?;
     make(alloc, state, name, shape, senses.as_slice())
 }

@@ -4,7 +4,7 @@ ghost use Rattle.std.specs.Prelude.{◌≡◌, map, IfOk, slice_get};
 ghost use Rattle.std.specs.List.{list_any};
 ghost use Rattle.ceal_session.specs.Senses.{modifiable as modifiable_sense, shape_at, fields_of, block_sense, kind_sense, field_sense, member_sense, part_sense, input_sense, found_sense, place_sense as sense_of_place, value_sense as sense_of_value, is_unknown as is_unknown_sense, words_of as words_of_senses, mod_shape as shape_of_mod, pointer_shape as shape_of_pointer, struct_named, struct_shape as shape_of_struct, field_named};
 
-use crate::numbers::{field_number, struct_number};
+use crate::numbers::field_number;
 use crate::sense::Sense;
 use crate::state::State;
 use ceal_base::kind::{FieldKind, Shape};
@@ -184,31 +184,28 @@ fn pointer_shape(number: Option<u32>) -> Option<Shape>
     }
 }
 
-fn named_shape(state: &State, name: &Text) -> Result<Option<Shape>, NoMemory>
-    ensures { IfOk result
-        (λ shape. shape ≡ shape_of_pointer (struct_named state.now.state name.now)) }
+fn named_shape(state: &State, name: &Text) -> Option<Shape>
+    ensures { result ≡ shape_of_pointer (struct_named state.now.state name.now) }
 {
-    let number = struct_number(state.structs(), name)?;
-    Ok(pointer_shape(number))
+    pointer_shape(state.struct_number(name))
 }
 
 /// The shape of a block made by `mod`.
-pub fn mod_shape(state: &State, kind: &KindWord) -> Result<Option<Shape>, NoMemory>
-    ensures { IfOk result (λ shape. shape ≡ shape_of_mod state.now.state kind.now) }
+pub fn mod_shape(state: &State, kind: &KindWord) -> Option<Shape>
+    ensures { result ≡ shape_of_mod state.now.state kind.now }
 {
     match kind {
-        KindWord::Int => Ok(Some(Shape::ModInt)),
+        KindWord::Int => Some(Shape::ModInt),
         KindWord::Named(name) => named_shape(state, name),
     }
 }
 
 /// The shape of a block made by `new`.
-pub fn struct_shape(state: &State, name: &Text) -> Result<Option<Shape>, NoMemory>
-    ensures { IfOk result
-        (λ shape. shape ≡ shape_of_struct (struct_named state.now.state name.now)) }
+pub fn struct_shape(state: &State, name: &Text) -> Option<Shape>
+    ensures { result ≡ shape_of_struct (struct_named state.now.state name.now) }
 {
-    match struct_number(state.structs(), name)? {
-        None => Ok(None),
-        Some(number) => Ok(Some(Shape::Struct(number))),
+    match state.struct_number(name) {
+        None => None,
+        Some(number) => Some(Shape::Struct(number)),
     }
 }

@@ -8,7 +8,7 @@ ghost use Rattle.ceal_session.specs.Asking.{IsReady, IsCellOf, steps_in, blocks_
 ghost use Rattle.ceal_session.specs.Following.{IsAllowed, opened, Keeps, Goes, IsLeftBy};
 ghost use Rattle.ceal_session.specs.Recording.{IsRecorded};
 ghost use Rattle.ceal_session.specs.Runs.{memory_of, present_run};
-ghost use Rattle.ceal_session.specs.Senses.{input_named};
+ghost use Rattle.ceal_session.specs.Senses.{input_named, struct_named, function_named};
 ghost use Rattle.ceal_session.specs.Steps.{IsFirst, with_input, with_base, block_of, fits_cell, has_no_run, runs, called_again};
 ghost use Rattle.ceal_session.specs.Texts.{value_text, TellsOf};
 ghost use Rattle.ceal_session.specs.State.{last};
@@ -25,7 +25,7 @@ use ceal_base::memory::Inputs;
 use ceal_base::no_memory::NoMemory;
 use ceal_base::recorded::Record;
 use ceal_base::text::Text;
-use ceal_base::typed::{StructInfo, Typed, TypedFunction};
+use ceal_base::typed::{StructInfo, TypedFunction};
 use ceal_base::word::{Place, Word};
 use ceal_code::laws::progress_law;
 use ceal_compile::program::Program;
@@ -36,13 +36,14 @@ use ceal_record::record::record;
 use ceal_show::laws::{fitting_is_whole, same_text};
 use ceal_theory::laws::first_law;
 use ceal_types::names::Names;
+use ceal_types::numbers::Numbered;
 use std::alloc::Global;
 use std::marker::Model;
 
 /// A program, the names of the inputs by number, and an engine that has the inputs and the run.
 #[derive(Drop)]
 pub struct State {
-    program: Typed,
+    program: Numbered,
     names: Names,
     engine: Engine,
     /// whether an edit came after the last run or propagate
@@ -87,9 +88,16 @@ impl State {
         ensures { IfOk result (λ state. state ≡ opened program fuel) }
     {
         let Program { typed, code } = program;
+        let program = match Numbered::new(alloc, typed) {
+            Ok(program) => program,
+            Err(NoMemory) => {
+                drop(code);
+                return Err(NoMemory);
+            }
+        };
         let engine = Engine::new(alloc, code, fuel)?;
         Ok(State {
-            program: typed,
+            program,
             names: Names::new(alloc),
             engine,
             pending: false,
@@ -99,13 +107,27 @@ impl State {
     pub fn structs(&self) -> &[StructInfo]
         ensures { result.now ≡ self.now.state.program.structs }
     {
-        self.program.structs.items()
+        self.program.structs()
     }
 
     pub fn functions(&self) -> &[TypedFunction]
         ensures { result.now ≡ self.now.state.program.functions }
     {
-        self.program.functions.items()
+        self.program.functions()
+    }
+
+    /// The number of the struct of a name.
+    pub fn struct_number(&self, name: &Text) -> Option<u32>
+        ensures { result ≡ struct_named self.now.state name.now }
+    {
+        self.program.struct_number(name)
+    }
+
+    /// The number of the function of a name.
+    pub fn function_number(&self, name: &Text) -> Option<u32>
+        ensures { result ≡ function_named self.now.state name.now }
+    {
+        self.program.function_number(name)
     }
 
     pub fn inputs(&self) -> &Inputs

@@ -8,7 +8,6 @@ ghost use Rattle.ceal_session.specs.Senses.{function_named};
 ghost use Rattle.ceal_session.specs.Steps.{IsQuiet, made, made_of, made_with, set as set_of, set_word as set_sense, set_base as based, fits_function, called_with, called_function, called as called_of, asked, has_no_run, got, shown as shown_of, fits_cell};
 
 use crate::fits::{field_fits, new_block_fits, place_kind, words_fit};
-use crate::numbers::function_number;
 use crate::refusal::Refusal;
 use crate::reply::{Query, Reply};
 use crate::sense::Sense;
@@ -213,7 +212,7 @@ pub fn call(
         (λ call. call
         ≡ called_of state.now.state (function_named state.now.state function.now) senses.now) }
 {
-    match function_number(state.functions(), function)? {
+    match state.function_number(function) {
         None => Ok(Err(Refusal::C2)),
         Some(number) => call_function(alloc, state, number, senses),
     }

@@ -1,5 +1,5 @@
 -- A list that is another one with more after it.
-use Rattle.std.proofs.Common.{◌≡◌, ℕ, zero, suc, ◌+◌, Some, List, [], ◌∷◌, ◌++◌, length, take, slice_get, refl, ap, ◌∙◌, append_assoc}
+use Rattle.std.proofs.Common.{◌≡◌, ℕ, zero, suc, Some, List, [], ◌∷◌, ◌++◌, length, take, slice_get, refl, ap, ◌∙◌, append_assoc}
 
 pub record Grows {A : Type 0} (xs ys : List A) : Type 0 where
   pub more : List A

@@ -1,4 +1,3 @@
-pub mod TableLemmas
 pub mod ExpressionSteps
 pub mod TurnLemmas
 pub mod KeepLemmas
@@ -18,3 +17,6 @@ pub mod NameLemmas
 pub mod Samples
 pub mod RowLemmas
 pub mod ElementLemmas
+pub mod PlacesLemmas
+pub mod NumberLemmas
+pub mod FirstLemmas

@@ -8,5 +8,7 @@ pub mod Statements
 pub mod Checked
 pub mod Limits
 pub mod Laws
+pub mod Numbers
+pub mod Places
 -- what its own functions say of each other
 pub mod States

@@ -16,6 +16,8 @@ mod kinds;
 pub mod laws;
 mod members;
 pub mod names;
+pub mod numbers;
+mod places;
 mod program;
 mod statements;
 mod table;

@@ -6,26 +6,25 @@ ghost use Rattle.std.specs.Option.{option_map};
 ghost use Rattle.std.specs.Str.{bytes_eq};
 ghost use Rattle.ceal_types.specs.Tables.{with_name};
 
+use crate::table::Table;
 use ceal_base::no_memory::NoMemory;
 use ceal_base::text::Text;
-use indexmap::IndexSet;
 use std::alloc::Global;
 use std::marker::Model;
 
 /// Names in the order in which they were added, each of them once.
 #[derive(Drop)]
 pub struct Names {
-    names: IndexSet<Text>,
+    table: Table<()>,
 }
 
 impl Model for Names {
-    ghost use Rattle.std.specs.Prelude.{List, ℕ, length, ◌<◌, ◌^◌};
+    ghost use Rattle.std.specs.Prelude.{List, ℕ};
+    ghost use Rattle.std.specs.Map.{keys_of};
 
     ghost Value = { List (List ℕ) };
 
-    ghost view = { λ n. n.names.keys };
-
-    ghost invariant = { λ n. length n.names.keys < 2 ^ 32 };
+    ghost view = { λ n. keys_of n.table };
 }
 
 impl Names {
@@ -33,19 +32,20 @@ impl Names {
         ensures empty { result ≡ [] }
     {
         Names {
-            names: IndexSet::new(alloc),
+            table: Table::new(alloc),
         }
     }
 
     /// Adds a name, if it is not there.
+    #[tactic(auto, using(crate::proofs::NumberLemmas::name_steps))]
     pub fn add(&mut self, name: &Text) -> Result<(), NoMemory>
         ensures ok { OnOk result (self.new ≡ with_name self.old name.now) }
         ensures err { OnErr result (self.new ≡ self.old) }
     {
-        if self.names.len() >= 4294967295 {
-            return Err(NoMemory);
+        if self.has(name) {
+            return Ok(());
         }
-        self.names.insert(name.copy()?)?;
+        self.table.add(name, ())?;
         Ok(())
     }
 
@@ -53,33 +53,39 @@ impl Names {
     pub fn number(&self, name: &Text) -> Option<u32>
         ensures number { result ≡ position (bytes_eq name.now) self.now }
     {
-        let number = self.names.get_index_of(name)?;
-        Some(number as u32)
+        self.table.number(name)
     }
 
     pub fn len(&self) -> usize
         ensures count { result ≡ length self.now }
     {
-        self.names.len()
+        self.table.len()
     }
 
     /// Leaves the first `len` names.
+    #[tactic(auto, using(crate::proofs::NumberLemmas::name_steps))]
     pub fn truncate(&mut self, len: usize)
         ensures kept { self.new ≡ take len self.old }
     {
-        self.names.truncate(len);
+        self.table.truncate(len);
     }
 
+    #[tactic(auto, using(crate::proofs::NumberLemmas::name_steps))]
     pub fn has(&self, name: &Text) -> bool
         ensures there { result ≡ list_any (bytes_eq name.now) self.now }
     {
-        self.names.contains(name)
+        self.table.number(name).is_some()
     }
 
     /// The name of this number.
     pub fn at(&self, number: u32) -> Option<&Text>
         ensures name { option_map (λ n. n.now) result ≡ slice_get self.now number }
     {
-        self.names.get_index(number as usize)
+        let number = number as usize;
+        if number < self.table.len() {
+            Some(self.table.entry(number).0)
+        } else {
+            None
+        }
     }
 }

@@ -1,0 +1,5 @@
+use Rattle.ceal_types.proofs.FirstLemmas.{with-new}
+use Rattle.ceal_types.proofs.numbers.put_first.Goals as goal
+
+pub returns : goal.returns
+returns c = λ n. rw c.in_ok-add.ensures.ok (with-new c.args.table.now c.args.name.now n c.args.number)
