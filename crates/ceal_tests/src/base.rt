@@ -1,7 +1,5 @@
 // The operators at the edges of their range, and copies.
 
-use crate::inputs::{at, operators};
-use crate::samples::{EVAL, compiled};
 use ceal_base::access::content;
 use ceal_base::copies::{copied_function, copied_structs};
 use ceal_base::forest::{Forest, Item, Key, UnitId};
@@ -15,6 +13,8 @@ use ceal_base::typed::Typed;
 use ceal_base::word::{BlockId, Place, Word};
 use ceal_base::words::Words;
 use ceal_mean::run::{Outcome, interpret};
+use ceal_samples::inputs::{at, operators};
+use ceal_samples::programs::{EVAL, compiled};
 use std::alloc::Global;
 use std::test::Fail;
 

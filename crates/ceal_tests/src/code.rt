@@ -1,6 +1,5 @@
 // Code that is valid, and code by hand that is not.
 
-use crate::samples::{INC, MAP, compiled};
 use ceal_base::boxed::Boxed;
 use ceal_base::copies::copied_structs;
 use ceal_base::forest::UnitId;
@@ -14,6 +13,7 @@ use ceal_code::expr::{CodeExpr, CodeExprs, VarId};
 use ceal_code::function::FunctionCode;
 use ceal_code::unit::Unit;
 use ceal_code::validate::validate;
+use ceal_samples::programs::{INC, MAP, compiled};
 use std::alloc::Global;
 use std::test::Fail;
 

@@ -1,11 +1,11 @@
 // Small programs, with the blocks that the language's description gives for them.
 
-use crate::samples::compiled;
 use ceal_base::no_memory::NoMemory;
 use ceal_flow::block::GraphBlock;
 use ceal_flow::live_set::LiveSet;
 use ceal_flow::live_sets::LiveSets;
 use ceal_flow::lower::lower;
+use ceal_samples::programs::compiled;
 use std::alloc::Global;
 use std::test::Fail;
 

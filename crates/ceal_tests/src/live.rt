@@ -1,6 +1,5 @@
 // A small program, with the live variables that the language's description gives for it.
 
-use crate::samples::compiled;
 use ceal_base::fault::FrontError;
 use ceal_base::no_memory::NoMemory;
 use ceal_base::typed::Typed;
@@ -8,6 +7,7 @@ use ceal_flow::live_set::LiveSet;
 use ceal_flow::live_sets::LiveSets;
 use ceal_flow::lower::lower;
 use ceal_live::live::live;
+use ceal_samples::programs::compiled;
 use std::alloc::Global;
 use std::test::Fail;
 

@@ -1,11 +1,11 @@
 // Whole programs, with the numbers that the language's description gives for them.
 
-use crate::inputs::{at, list, numbers, operators, place};
-use crate::samples::{DEEP, EVAL, INC, LOOP, MAP, compiled};
 use ceal_base::access::content;
 use ceal_base::memory::Inputs;
 use ceal_base::word::{BlockId, Word};
 use ceal_mean::run::{Outcome, interpret};
+use ceal_samples::inputs::{at, list, numbers, operators, place};
+use ceal_samples::programs::{DEEP, EVAL, INC, LOOP, MAP, compiled};
 use std::alloc::Global;
 use std::process::Abort;
 use std::test::Fail;

@@ -4,13 +4,13 @@
 ghost use Rattle.std.specs.Prelude.{IfOk};
 ghost use Rattle.ceal_print.specs.Print.{IsParsed};
 
-use crate::samples::EVAL;
 use ceal_base::syntax::Tree;
 use ceal_base::text::Text;
 use ceal_lex::lex::lex;
 use ceal_lex::split::split;
 use ceal_parse::parse::parse;
 use ceal_print::print::print_tree;
+use ceal_samples::programs::EVAL;
 use std::alloc::Global;
 use std::test::Fail;
 

@@ -1,7 +1,7 @@
 // The names and types of a small program.
 
-use crate::samples::compiled;
 use ceal_base::kind::{FieldKind, Kind};
+use ceal_samples::programs::compiled;
 use std::test::Fail;
 
 const SCOPES: &[u8] = b"

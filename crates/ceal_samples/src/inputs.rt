@@ -7,22 +7,22 @@ use ceal_base::word::{BlockId, Place, Word};
 use std::alloc::Global;
 
 /// A pointer to an input.
-pub(crate) fn input(n: u32) -> Word {
+pub fn input(n: u32) -> Word {
     Word::Block(BlockId::Input(n))
 }
 
 /// A pointer to a modifiable.
-pub(crate) fn place(block: BlockId, field: u32) -> Word {
+pub fn place(block: BlockId, field: u32) -> Word {
     Word::At(Place { block, field })
 }
 
 /// A pointer to the modifiable of an input that is one modifiable.
-pub(crate) fn at(n: u32) -> Word {
+pub fn at(n: u32) -> Word {
     place(BlockId::Input(n), 0)
 }
 
 /// Adds an input block.
-pub(crate) fn add(
+pub fn add(
     alloc: Global,
     inputs: &mut Inputs,
     shape: Shape,
@@ -32,7 +32,7 @@ pub(crate) fn add(
 }
 
 /// A modifiable for each number.
-pub(crate) fn numbers(alloc: Global, list: &[i64]) -> Result<Inputs, NoMemory> {
+pub fn numbers(alloc: Global, list: &[i64]) -> Result<Inputs, NoMemory> {
     let mut inputs = Inputs::new(Vec::new(alloc));
     for n in list {
         add(alloc, &mut inputs, Shape::ModInt, &[Word::Num(*n)])?;
@@ -42,7 +42,7 @@ pub(crate) fn numbers(alloc: Global, list: &[i64]) -> Result<Inputs, NoMemory> {
 
 /// A modifiable that points to the list, one for its image, and the cells of the list, each with the next one as its
 /// tail.
-pub(crate) fn list(alloc: Global, heads: &[i64]) -> Result<Inputs, NoMemory> {
+pub fn list(alloc: Global, heads: &[i64]) -> Result<Inputs, NoMemory> {
     let mut inputs = Inputs::new(Vec::new(alloc));
     add(alloc, &mut inputs, Shape::ModPtr(0), &[input(2)])?;
     add(alloc, &mut inputs, Shape::ModPtr(0), &[Word::Null])?;
@@ -59,7 +59,7 @@ pub(crate) fn list(alloc: Global, heads: &[i64]) -> Result<Inputs, NoMemory> {
 }
 
 /// The nodes of `9 / null + 6 * (17 % 5 - 4)`, a modifiable that points to the root, and one for the value.
-pub(crate) fn operators(alloc: Global) -> Result<Inputs, NoMemory> {
+pub fn operators(alloc: Global) -> Result<Inputs, NoMemory> {
     let mut inputs = Inputs::new(Vec::new(alloc));
     for (op, leaf, left, right) in [
         (0, 9, Word::Null, Word::Null),

@@ -9,7 +9,7 @@ use std::alloc::Global;
 use std::test::Fail;
 
 /// Writes the number behind that of the first modifiable into the second.
-pub(crate) const INC: &[u8] = b"
+pub const INC: &[u8] = b"
 ceal inc(mod int *a, mod int *b) {
   int x = read(a);
   write(b, x + 1);
@@ -18,7 +18,7 @@ ceal inc(mod int *a, mod int *b) {
 ";
 
 /// Counts down, and then writes 7.
-pub(crate) const LOOP: &[u8] = b"
+pub const LOOP: &[u8] = b"
 ceal loop(mod int *a, mod int *o) {
   int n = read(a);
   while (n != 0) { n = n - 1; }
@@ -28,13 +28,13 @@ ceal loop(mod int *a, mod int *o) {
 ";
 
 /// Calls itself as often as the number says.
-pub(crate) const DEEP: &[u8] = b"
+pub const DEEP: &[u8] = b"
 ceal d(int n, mod int *o) { if (n > 0) { d(n - 1, o); } write(o, n); }
 %%
 ";
 
 /// The image of a list, each cell made from its old cell.
-pub(crate) const MAP: &[u8] = b"
+pub const MAP: &[u8] = b"
 struct cell { int head; mod struct cell tail; };
 init mk(struct cell *self, struct cell *from) { self->head = from->head * 10; }
 ceal map(mod struct cell *from, mod struct cell *to) {
@@ -51,7 +51,7 @@ ceal map(mod struct cell *from, mod struct cell *to) {
 ";
 
 /// The image of a list, each cell made from the number in its old cell.
-pub(crate) const MAP_NUMBERS: &[u8] = b"
+pub const MAP_NUMBERS: &[u8] = b"
 struct cell { int head; mod struct cell tail; };
 init mkv(struct cell *self, int h) { self->head = h; }
 ceal mapv(mod struct cell *from, mod struct cell *to) {
@@ -68,7 +68,7 @@ ceal mapv(mod struct cell *from, mod struct cell *to) {
 ";
 
 /// Writes 1, and 2 over it where `p` is not 0, and then what stands there.
-pub(crate) const CONDITIONAL: &[u8] = b"
+pub const CONDITIONAL: &[u8] = b"
 ceal cond(mod int *p, mod int *d) {
   int c = read(p);
   if (c != 0) { write(d, 2); }
@@ -83,7 +83,7 @@ ceal top(mod int *p, mod int *d, mod int *e) {
 ";
 
 /// Makes a box for the number 1 or 2, and then writes the number in it.
-pub(crate) const BOX: &[u8] = b"
+pub const BOX: &[u8] = b"
 struct box { int v; };
 init mk(struct box *self, int v) { self->v = v; }
 ceal make(mod int *a, int k, mod struct box *m) {
@@ -106,7 +106,7 @@ ceal top(mod int *a, mod struct box *m, mod int *o) {
 ";
 
 /// The value of a tree of operators.
-pub(crate) const EVAL: &[u8] = b"
+pub const EVAL: &[u8] = b"
 struct node { int op; mod int leaf; mod struct node left; mod struct node right; };
 ceal eval(mod struct node *root, mod int *res) {
   struct node *t = read(root);
@@ -134,7 +134,7 @@ ceal eval(mod struct node *root, mod int *res) {
 ";
 
 /// The program of a source that is not longer than an input may be, and that has no fault.
-pub(crate) fn compiled(alloc: Global, source: &[u8]) -> Result<Program, Fail>
+pub fn compiled(alloc: Global, source: &[u8]) -> Result<Program, Fail>
     ensures valid { IfOk result (λ program. valid program.code ≡ true) }
 {
     if source.len() > 4_194_304 {

@@ -1,13 +1,13 @@
 // A call is run over nodes, from nothing. The answers were worked out by hand from the rules of the language.
 
-use crate::edits::fits;
-use crate::inputs::{at, list};
-use crate::samples::{MAP, compiled};
-use crate::told::told;
 use ceal_base::forest::Item;
 use ceal_base::no_memory::NoMemory;
 use ceal_repair::first::first;
 use ceal_repair::running::Outcome;
+use ceal_samples::calls::fits;
+use ceal_samples::inputs::{at, list};
+use ceal_samples::programs::{MAP, compiled};
+use ceal_samples::told::told;
 use ceal_trace::node::Node;
 use ceal_trace::trace::Trace;
 use std::alloc::Global;

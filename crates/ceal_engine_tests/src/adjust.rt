@@ -2,14 +2,14 @@
 // rules of the language.
 
 use crate::edits::repaired;
-use crate::inputs::{add, at, input, list, numbers};
-use crate::samples::{BOX, CONDITIONAL, INC, MAP, MAP_NUMBERS, compiled};
-use crate::told::told;
 use ceal_adjust::adjust::Adjusted;
 use ceal_base::kind::Shape;
 use ceal_base::memory::Inputs;
 use ceal_base::no_memory::NoMemory;
 use ceal_base::word::Word;
+use ceal_samples::inputs::{add, at, input, list, numbers};
+use ceal_samples::programs::{BOX, CONDITIONAL, INC, MAP, MAP_NUMBERS, compiled};
+use ceal_samples::told::told;
 use std::alloc::{AllocError, Global};
 use std::fmt::Write;
 use std::process::Abort;

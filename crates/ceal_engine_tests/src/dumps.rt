@@ -4,9 +4,6 @@
 ghost use Rattle.std.specs.Prelude.{◌≡◌, true};
 ghost use Rattle.ceal_code.specs.Valid.{valid};
 
-use crate::inputs::at;
-use crate::samples::{INC, compiled};
-use crate::told::told;
 use ceal_base::kind::Shape;
 use ceal_base::memory::BlockWords;
 use ceal_base::no_memory::NoMemory;
@@ -16,6 +13,9 @@ use ceal_base::word::Word;
 use ceal_code::code::Code;
 use ceal_dump::read::{DumpError, read_dump};
 use ceal_dump::write::dump_text;
+use ceal_samples::inputs::at;
+use ceal_samples::programs::{INC, compiled};
+use ceal_samples::told::told;
 use ceal_traceck::check::check_trace;
 use ceal_traceck::verdict::Verdict;
 use std::alloc::Global;

@@ -104,7 +104,7 @@ fn tell_item(text: &mut String, item: &Item) -> Result<(), AllocError> {
 }
 
 /// The items as text.
-pub(crate) fn told(alloc: Global, items: &[Item]) -> Result<String, AllocError> {
+pub fn told(alloc: Global, items: &[Item]) -> Result<String, AllocError> {
     let mut text = String::new(alloc);
     for item in items {
         tell_item(&mut text, item)?;

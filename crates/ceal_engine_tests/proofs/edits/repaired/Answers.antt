@@ -1,6 +1,6 @@
 use Rattle.std.proofs.Common.{refl}
-use Rattle.ceal_tests.proofs.FirstEdit.{first-edited}
-use Rattle.ceal_tests.proofs.edits.repaired.Goals as goal
+use Rattle.ceal_engine_tests.proofs.FirstEdit.{first-edited}
+use Rattle.ceal_engine_tests.proofs.edits.repaired.Goals as goal
 
 pub adjust-requires-clause-trace : goal.adjust-requires-clause-trace
 adjust-requires-clause-trace c =

@@ -1,0 +1,8 @@
+//! What the crates of tests share: `programs` with what the compiler makes of them, their input blocks (`inputs`), whether a call
+//! may be run (`calls`), and a trace as text (`told`). It has no tests of its own, and nothing but tests stands on it.
+#![tactic(auto)]
+
+pub mod calls;
+pub mod inputs;
+pub mod programs;
+pub mod told;
