@@ -5,8 +5,11 @@ ghost use Rattle.std.specs.Cmp.Lexicographic.{pointwise, lists_per, lists_equiv}
 ghost use Rattle.std.specs.Hash as fed;
 ghost use Rattle.ceal_base.specs.contracts.word.WordPartialEq.TheImpl.Laws as word_eq;
 ghost use Rattle.ceal_base.specs.contracts.word.WordEq.TheImpl.Laws as word_equal;
-ghost use Rattle.ceal_base.specs.contracts.word.WordHash.TheImpl.Laws as word_hash;
-ghost use Rattle.std.specs.Hash.{items_Alike};
+ghost use Rattle.ceal_base.specs.Hashing.{digest_behind, mixed as one_more};
+ghost use Rattle.std.proofs.Common.{rules};
+ghost use Rattle.std.proofs.Common.{refl};
+ghost use Rattle.std.proofs.lemmas.Slice.Eq.{slice_eq-Decides};
+ghost use Rattle.std.specs.Hash.{same_Alike};
 
 use crate::no_memory::NoMemory;
 use crate::word::Word;
@@ -18,7 +21,7 @@ use std::marker::Model;
 /// Words, which contracts see as their list.
 #[derive(Drop)]
 pub struct Words {
-    items: SmallVec<Word, 6>,
+    items: SmallVec<Word, 2>,
 }
 
 impl Model for Words {
@@ -31,7 +34,7 @@ impl Model for Words {
 }
 
 impl Words {
-    pub fn new(items: SmallVec<Word, 6>) -> Words
+    pub fn new(items: SmallVec<Word, 2>) -> Words
         ensures value { result ≡ items.items }
     {
         Words { items }
@@ -97,12 +100,33 @@ impl Eq for Words {
     ghost laws = { lists_equiv word_equal.laws-law };
 }
 
-impl Hash for Words {
-    ghost hash_input = { λ v. fed.slice ⟦<Word as Hash>⟧.hash_input v };
+// One more number behind a digest.
+fn mixed(digest: u64, number: u64) -> u64
+    ensures mixed { result ≡ one_more digest number }
+{
+    digest
+        .wrapping_mul(11_400_714_819_323_198_485)
+        .wrapping_add(number)
+}
 
-    ghost respects_eq = { (items_Alike (record { fed = word_hash.respects_eq-law })).fed };
+// Many words as one number, so that a hasher is fed once.
+fn digest(words: &[Word]) -> u64
+    ensures digest { result ≡ digest_behind 0 words.now }
+{
+    let mut digest = 0;
+    for word in words {
+        digest = mixed(digest, word.digest());
+    }
+    digest
+}
+
+impl Hash for Words {
+    ghost hash_input = { λ v. fed.u64 (digest_behind 0 v) };
+
+    ghost respects_eq = { (same_Alike (λ v. fed.u64 (digest_behind 0 v))
+        (λ v w. slice_eq-Decides (λ a b. Prim.search rules) v w _ refl)).fed };
 
     fn hash<H: Hasher>(&self, state: &mut H) {
-        self.items().hash(state);
+        state.write_u64(digest(self.items()));
     }
 }
