@@ -1,12 +1,12 @@
 -- A list is entered under a key.
-use Rattle.std.proofs.Common.{◌≡◌, ◌≢◌, ℕ, Bool, List, [], ◌∷◌, ◌++◌, length, Option, None, Some, refl, sym, ap, ◌∙◌, subst, arith, slice_get, slice_set}
+use Rattle.std.proofs.Common.{◌≡◌, ◌≢◌, ℕ, suc, Bool, true, false, List, [], ◌∷◌, ◌++◌, length, Option, None, Some, refl, sym, ap, ◌∙◌, subst, arith, slice_get, slice_set}
 use Rattle.std.specs.Prelude.{unwrap_or, IfSome}
 use Rattle.std.specs.Cmp.{IsEquivalence}
-use Rattle.std.specs.List.{IsDistinct, swap_remove}
+use Rattle.std.specs.List.{IsDistinct, swap_remove, position_or_len}
 use Rattle.std.specs.Map.{keys_of, lookup, lookup_key}
-use Rattle.indexmap.specs.IndexMap.{set_value_at}
+use Rattle.indexmap.specs.IndexMap.{set_value_at, insert_entry}
 use Rattle.ceal_memo.specs.Lists.{stamps_at}
-use Rattle.ceal_memo.specs.Numbers.{list_at, IsEntered}
+use Rattle.ceal_memo.specs.Numbers.{list_at, IsEntered, IsFound}
 use Rattle.ceal_memo.proofs.Numbers.{key_passes, value_of, set_here, set_other, push_here, push_other, into_place, set_gets, set_leaves, get_within}
 
 same_entry : {K : Type 0} (a b : K × List ℕ) → Some a ≡ Some b → a ≡ b
@@ -16,7 +16,7 @@ not_empty : (s : ℕ) (ss : List ℕ) → s ∷ ss ≡ [] → ⊥
 not_empty s ss same = cc
 
 -- what holds of whatever is there
-of_some : {X : Type 0} (P : X → Type 0) (o : Option X) (x : X) → IfSome o P → o ≡ Some x → P x
+pub of_some : {X : Type 0} (P : X → Type 0) (o : Option X) (x : X) → IfSome o P → o ≡ Some x → P x
 of_some P None x holds is = cc
 of_some P (Some y) x holds is = let same : y ≡ x = cc in subst P same holds
 
@@ -85,3 +85,54 @@ module _ {K : Type 0} (eq : K → K → Bool) (laws : IsEquivalence eq) (old new
           place = λ q s ss there. absurd (not_empty s ss (ap (λ (e : K × List ℕ). e.1) (same_entry (q, s ∷ ss) (k, []) (sym there ∙ at_old))));
           unique = unique;
         }
+
+-- a key that has a list: the number of that list; where another one is entered and this one set back, nothing has changed
+module _ {K : Type 0} (eq : K → K → Bool) (key : K) (l v : List ℕ) where
+  set_back : (es : List (K × List ℕ)) → lookup (eq key) es ≡ Some v → (n : ℕ) × (position_or_len (eq key) (keys_of es) ≡ n)
+      × (set_value_at (insert_entry eq es key l) n v ≡ es) × IsFound eq es key n
+  set_back [] there = cc
+  set_back (e ∷ es) there = by (eq key e.0) refl (set_back es)
+    where
+      by : (b : Bool) → eq key e.0 ≡ b
+          → (lookup (eq key) es ≡ Some v → (n : ℕ) × (position_or_len (eq key) (keys_of es) ≡ n)
+          × (set_value_at (insert_entry eq es key l) n v ≡ es) × IsFound eq es key n)
+          → (n : ℕ) × (position_or_len (eq key) (keys_of (e ∷ es)) ≡ n)
+          × (set_value_at (insert_entry eq (e ∷ es) key l) n v ≡ e ∷ es) × IsFound eq (e ∷ es) key n
+      by true p rest =
+          let same : Some e.1 ≡ Some v = rw p at there in
+          let is : e.1 ≡ v = cc in (
+            0,
+            rw p refl,
+            rw p (ap (λ (w : List ℕ). (e.0, w) ∷ es) (sym is)),
+            record {
+              stored = e.0;
+              stamps = v;
+              at = ap (λ (w : List ℕ). Some (e.0, w)) is;
+              found = rw p refl;
+              value = there;
+            },
+          )
+      by false p rest =
+          let later = rest (rw p at there) in
+          let found = later.3 in
+          let at = later.1 in (
+            suc later.0,
+            rw p (omega (arith, at)),
+            rw p (ap (λ (xs : List (K × List ℕ)). e ∷ xs) later.2),
+            record {
+              stored = found.stored;
+              stamps = found.stamps;
+              at = found.at;
+              found = rw p found.found;
+              value = rw p found.value;
+            },
+          )
+
+  pub entered_and_back : (es entered new : List (K × List ℕ)) (n : ℕ) → lookup (eq key) es ≡ Some v → entered ≡ insert_entry eq es key l
+      → n ≡ position_or_len (eq key) (keys_of es) → new ≡ set_value_at entered n v → (new ≡ es) × IsFound eq es key n
+  entered_and_back es entered new n there is at set =
+      let spot = set_back es there in
+      let here : n ≡ spot.0 = at ∙ spot.1 in (
+        set ∙ ap (λ (xs : List (K × List ℕ)). set_value_at xs n v) is ∙ ap (λ (i : ℕ). set_value_at (insert_entry eq es key l) i v) here ∙ spot.2,
+        subst (IsFound eq es key) (sym here) spot.3,
+      )

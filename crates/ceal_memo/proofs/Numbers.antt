@@ -89,7 +89,7 @@ module _ {X : Type 0} where
   push_other (y ∷ xs) x zero other = refl
   push_other (y ∷ xs) x (suc i) other = push_other xs x i (λ same. other (ap suc same))
 
-  length_push : (xs : List X) (x : X) → length (xs ++ x ∷ []) ≡ suc (length xs)
+  pub length_push : (xs : List X) (x : X) → length (xs ++ x ∷ []) ≡ suc (length xs)
   length_push [] x = refl
   length_push (y ∷ xs) x = ap suc (length_push xs x)
 

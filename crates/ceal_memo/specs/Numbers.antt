@@ -1,6 +1,6 @@
 -- Lists of stamps by their numbers.
 use Rattle.std.specs.Prelude.{◌≡◌, ◌≢◌, ℕ, Bool, true, List, [], ◌∷◌, Some, slice_get, unwrap_or}
-use Rattle.std.specs.Map.{keys_of, values_of}
+use Rattle.std.specs.Map.{keys_of, values_of, lookup, lookup_key}
 use Rattle.std.specs.List.{IsDistinct}
 use Rattle.ceal_order.specs.Stamps.{without}
 use Rattle.ceal_memo.specs.Lists.{stamps_at}
@@ -17,6 +17,14 @@ keys_in entries = keys_of entries
 pub record IsEmptyAt {K : Type 0} (entries : List (K × List ℕ)) (n : ℕ) : Type 0 where
   pub key : K
   pub at : slice_get entries n ≡ Some (key, [])
+
+-- a key has the list with this number
+pub record IsFound {K : Type 0} (eq : K → K → Bool) (entries : List (K × List ℕ)) (key : K) (n : ℕ) : Type 0 where
+  pub stored : K
+  pub stamps : List ℕ
+  pub at : slice_get entries n ≡ Some (stored, stamps)
+  pub found : lookup_key (eq key) entries ≡ Some stored
+  pub value : lookup (eq key) entries ≡ Some stamps
 
 -- a key has these stamps now, in the list with this number, which had those of the key before; the other lists are as they were
 pub record IsEntered {K : Type 0} (eq : K → K → Bool) (old new : List (K × List ℕ)) (key : K) (n : ℕ) (stamps : List ℕ) : Type 0 where

@@ -9,6 +9,9 @@ use ceal_order::stamp::Stamp;
 use std::alloc::Global;
 use std::marker::Model;
 
+// How many homes are added beyond those that are asked for.
+const HOMES_BEYOND: usize = 63;
+
 /// In which list a stamp has its entry: the number of a list of reads, or of one of allocations.
 #[derive(Clone, Copy)]
 pub enum Home {
@@ -41,14 +44,14 @@ impl Homes {
         }
     }
 
-    /// Makes room for the home of a stamp.
+    /// Makes room for the home of a stamp, and for some beyond, so that homes are added a few at a time.
     pub fn make_room(&mut self, stamp: Stamp) -> Result<(), NoMemory>
         ensures room { OnOk result (stamp.0 < length self.new) }
         ensures same { (t : ℕ) → home_of self.new t ≡ home_of self.old t }
     {
         let count = stamp.0 as usize + 1;
         if self.homes.len() < count {
-            self.homes.resize(count, Home::Nowhere)?;
+            self.homes.resize(count + HOMES_BEYOND, Home::Nowhere)?;
         }
         Ok(())
     }

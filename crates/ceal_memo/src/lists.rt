@@ -1,11 +1,12 @@
 // Lists of stamps by key, each of which rises along the order.
 
-ghost use Rattle.std.specs.Prelude.{◌≡◌, ◌≢◌, ◌<◌, ◌^◌, ◌-◌, ℕ, [], false, None, length, IfSome, IfNone, IfOk, OnOk, OnErr, IsTrue};
+ghost use Rattle.std.specs.Prelude.{◌≡◌, ◌≢◌, ◌<◌, ◌^◌, ◌++◌, ◌∷◌, ℕ, List, [], false, None, length, IfSome, IfNone, IfOk, OnOk, OnErr, IsTrue};
+ghost use Rattle.std.specs.Map.{lookup};
 ghost use Rattle.indexmap.specs.IndexMap.{get, IsUnique, set_value_at};
 ghost use Rattle.ceal_order.specs.Stamps.{is_in, Distinct, place, without};
 ghost use Rattle.ceal_order.specs.Rising.{IsRising, IsFirstAfter};
 ghost use Rattle.ceal_memo.specs.Lists.{stamps_at, with_stamp, NoneBetween};
-ghost use Rattle.ceal_memo.specs.Numbers.{list_at, keys_in, IsEntered, IsEmptyAt};
+ghost use Rattle.ceal_memo.specs.Numbers.{list_at, keys_in, IsEntered, IsEmptyAt, IsFound};
 
 use crate::spares::Spares;
 use ceal_base::no_memory::NoMemory;
@@ -58,16 +59,19 @@ impl<K: Eq + Hash + Drop> Lists<K> {
             (with_stamp order.now.stamps stamp.0 (stamps_at K.eq self.old key))) }
         ensures err { OnErr result (self.new ≡ self.old) }
     {
-        if self.by_key.len() >= MOST_LISTS {
+        let count = self.by_key.len();
+        if count >= MOST_LISTS {
             return Err(NoMemory);
         }
-        if let Some((number, _, _)) = self.by_key.get_full(&key) {
-            insert_at(&mut self.by_key, number, order, stamp)?;
-            return Ok(number as u32);
+        self.spares.make_room(count + 1)?;
+        let list = alone(*self.by_key.allocator(), order, stamp)?;
+        match enter(&mut self.by_key, key, list)? {
+            None => Ok(settle(&mut self.by_key, &mut self.spares)),
+            Some(number) => {
+                insert_at(&mut self.by_key, number, order, stamp)?;
+                Ok(number as u32)
+            }
         }
-        let mut list = Rising::new(*self.by_key.allocator());
-        list.insert(order, stamp)?;
-        enter(&mut self.by_key, &mut self.spares, key, list)
     }
 
     /// Takes a stamp out of the list with a number.
@@ -144,27 +148,66 @@ fn take_at<K: Eq + Hash>(lists: &mut IndexMap<K, Rising>, number: usize, stamp: 
     list.is_empty()
 }
 
-// Enters a list under a key that has none, in the place of a list that is empty, if one is known.
+// A list of one stamp.
+fn alone(alloc: Global, order: &Order, stamp: Stamp) -> Result<Rising, NoMemory>
+    requires here { IsTrue (is_in stamp.0 order.now.stamps) }
+    ensures { IfOk result (λ list. list ≡ stamp.0 ∷ []) }
+{
+    let mut list = Rising::new(alloc);
+    list.insert(order, stamp)?;
+    Ok(list)
+}
+
+// Puts a list in the place of the one with a number.
+fn put_at<K: Eq + Hash>(lists: &mut IndexMap<K, Rising>, number: usize, list: Rising)
+    ensures { lists.new.entries ≡ set_value_at lists.old.entries number list }
+{
+    if let Some(place) = lists.get_index_mut(number) {
+        *place = list;
+    }
+}
+
+// Enters a list under a key that has none, behind the others. Where the key has one, nothing has changed: it gives the number of
+// that list. A key is hashed once.
 fn enter<K: Eq + Hash + Drop>(
     lists: &mut IndexMap<K, Rising>,
-    spares: &mut Spares,
     key: K,
     list: Rising,
-) -> Result<u32, NoMemory>
-    requires few { length lists.old.entries < 2 ^ 32 - 1 }
-    requires absent { get K.eq lists.old key ≡ None }
-    requires some { list ≢ [] }
-    ensures ok { IfOk result (λ n. IsEntered K.eq lists.old.entries lists.new.entries key n list) }
+) -> Result<Option<usize>, NoMemory>
+    ensures absent { IfOk result (λ found. IfNone found (get K.eq lists.old key ≡ None)) }
+    ensures last { IfOk result (λ found. IfNone found
+        (lists.new.entries ≡ lists.old.entries ++ (key, list) ∷ [])) }
+    ensures found { IfOk result
+        (λ found. IfSome found (λ n. IsFound K.eq lists.old.entries key n)) }
+    ensures same { IfOk result (λ found. IfSome found
+        (λ n. lists.new.entries ≡ lists.old.entries)) }
     ensures err { OnErr result (lists.new.entries ≡ lists.old.entries) }
 {
-    let count = lists.len();
-    spares.make_room(count + 1)?;
-    lists.insert(key, list)?;
+    let (number, before) = lists.insert_full(key, list)?;
+    match before {
+        None => Ok(None),
+        Some(before) => {
+            put_at(lists, number, before);
+            Ok(Some(number))
+        }
+    }
+}
+
+// What was entered last goes into the place of a list that is empty, if one is known. It says where it is then.
+fn settle<K: Eq + Hash + Drop>(lists: &mut IndexMap<K, Rising>, spares: &mut Spares) -> u32
+    requires some { 0 < length lists.old.entries }
+    requires few { length lists.old.entries < 2 ^ 32 }
+    ensures entered { (before : List (K × List ℕ)) (key : K) (list : List ℕ)
+        → lists.old.entries ≡ before ++ (key, list) ∷ []
+        → lookup (K.eq key) before ≡ None → list ≢ []
+        → IsEntered K.eq before lists.new.entries key result list }
+{
+    let last = lists.len() - 1;
     let Some(number) = empty_list(lists, spares) else {
-        return Ok(count as u32);
+        return last as u32;
     };
     lists.swap_remove_index(number as usize);
-    Ok(number)
+    number
 }
 
 // The number of a list that is empty, if one is known.

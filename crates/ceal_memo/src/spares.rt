@@ -1,7 +1,13 @@
 // The numbers of lists that have become empty.
 
+ghost use Rattle.std.specs.Prelude.{◌≡◌, ◌⊎◌, ◌∷◌, ◌++◌, [], length, IfSome, IfNone};
+
 use ceal_base::no_memory::NoMemory;
 use std::alloc::Global;
+use std::marker::Model;
+
+// For how many lists there is room beyond those that are asked for.
+const LISTS_BEYOND: usize = 63;
 
 /// Numbers of lists that have become empty, so that new keys take their places and a table does not grow while keys come
 /// and go. A list that is filled again stays here until it is taken: who takes a number looks whether its list is empty.
@@ -11,30 +17,47 @@ pub struct Spares {
     noted: Vec<bool>,
 }
 
+impl Model for Spares {
+    ghost use Rattle.std.specs.Prelude.{List, ℕ};
+
+    ghost Value = { List ℕ };
+
+    ghost view = { λ s. s.numbers.items };
+}
+
 impl Spares {
-    pub fn new(alloc: Global) -> Spares {
+    pub fn new(alloc: Global) -> Spares
+        ensures none { result ≡ [] }
+    {
         Spares {
             numbers: Vec::new(alloc),
             noted: Vec::new(alloc),
         }
     }
 
-    pub fn len(&self) -> usize {
+    pub fn len(&self) -> usize
+        ensures count { result ≡ length self.now }
+    {
         self.numbers.len()
     }
 
     /// Makes room for the numbers of so many lists, so that none is lost later for want of memory.
-    pub fn make_room(&mut self, count: usize) -> Result<(), NoMemory> {
+    pub fn make_room(&mut self, count: usize) -> Result<(), NoMemory>
+        ensures same { self.new ≡ self.old }
+    {
         if self.noted.len() < count {
-            self.noted.resize(count, false)?;
+            self.noted
+                .resize(count.saturating_add(LISTS_BEYOND), false)?;
         }
         self.numbers
             .reserve(count.saturating_sub(self.numbers.len()))?;
         Ok(())
     }
 
-    /// Notes a list that is empty, once.
-    pub fn note(&mut self, number: u32) {
+    /// Notes a list that is empty, once: it goes behind the others, or nothing changes.
+    pub fn note(&mut self, number: u32)
+        ensures noted { (self.new ≡ self.old) ⊎ (self.new ≡ self.old ++ number ∷ []) }
+    {
         if let Some(noted) = self.noted.get_mut(number as usize) {
             if *noted {
                 return;
@@ -44,8 +67,11 @@ impl Spares {
         let _ = self.numbers.push(number);
     }
 
-    /// Takes a number out.
-    pub fn pop(&mut self) -> Option<u32> {
+    /// Takes out the number that was noted last.
+    pub fn pop(&mut self) -> Option<u32>
+        ensures some { IfSome result (λ number. self.old ≡ self.new ++ number ∷ []) }
+        ensures none { IfNone result ((self.old ≡ []) × (self.new ≡ [])) }
+    {
         let number = self.numbers.pop()?;
         if let Some(noted) = self.noted.get_mut(number as usize) {
             *noted = false;

@@ -1,18 +1,18 @@
-use Rattle.std.proofs.Common.{◌∙◌}
+use Rattle.std.proofs.Common.{sym, ◌∙◌}
 use Rattle.indexmap.proofs.CallerLemmas.{insert_entry-new}
-use Rattle.ceal_memo.proofs.Entering.{entered_last, entered_there}
+use Rattle.ceal_memo.proofs.Entering.{entered_and_back}
 use Rattle.ceal_memo.proofs.lists.enter.Goals as goal
 
-pub returns-in_default-clause-ok : goal.returns-in_default-clause-ok
-returns-in_default-clause-ok g c =
-    let is = c.in_ok-insert.ensures.entries ∙ insert_entry-new g.K.PartialEq.eq c.args.lists.now c.args.key c.args.list c.requires.absent in
-    let last = entered_last g.K.PartialEq.eq g.met.K.Eq.laws c.args.lists.now.entries c.insert.new.self.entries c.args.key c.args.list c.requires.absent c.insert.ensures.unique is in
-    rw c.len-count.ensures.len last
+pub returns-in-None-clause-last : goal.returns-in-None-clause-last
+returns-in-None-clause-last g c =
+    c.in_ok-number.ensures.entries ∙ insert_entry-new g.K.PartialEq.eq c.args.lists.now c.args.key c.args.list (sym c.in_ok-number.ensures.old ∙ c.in-None.is)
 
-pub returns-clause-ok : goal.returns-clause-ok
-returns-clause-ok g c =
-    let mid = c.in_ok-insert.ensures.entries ∙ insert_entry-new g.K.PartialEq.eq c.args.lists.now c.args.key c.args.list c.requires.absent in
-    let empty = c.in-Some.ensures in
-    entered_there g.K.PartialEq.eq g.met.K.Eq.laws c.args.lists.now.entries c.swap_remove_index.new.self.entries c.args.key c.args.list c.requires.absent
-    c.swap_remove_index.ensures.unique c.insert.new.self.entries c.in-Some.number empty.key c.swap_remove_index.result mid c.requires.some empty.at
-    c.swap_remove_index.ensures.entry c.swap_remove_index.ensures.entries
+pub returns-in-Some-clause-found : goal.returns-in-Some-clause-found
+returns-in-Some-clause-found g c =
+    (entered_and_back g.K.PartialEq.eq c.args.key c.args.list c.in-Some.before c.args.lists.now.entries c.insert_full.new.self.entries c.put_at.new.lists.entries c.in_ok-number.number
+    (sym c.in_ok-number.ensures.old ∙ c.in-Some.is) c.in_ok-number.ensures.entries c.in_ok-number.ensures.index c.put_at.ensures).1
+
+pub returns-in-Some-clause-same : goal.returns-in-Some-clause-same
+returns-in-Some-clause-same g c =
+    (entered_and_back g.K.PartialEq.eq c.args.key c.args.list c.in-Some.before c.args.lists.now.entries c.insert_full.new.self.entries c.put_at.new.lists.entries c.in_ok-number.number
+    (sym c.in_ok-number.ensures.old ∙ c.in-Some.is) c.in_ok-number.ensures.entries c.in_ok-number.ensures.index c.put_at.ensures).0
