@@ -1,7 +1,7 @@
 // Bodies of functions. A `take_..` takes one token: it moves the reading, or answers that no program goes on so.
 
 ghost use Rattle.std.specs.Prelude.{◌≡◌, ◌∷◌, ◌++◌, ◌<◌, ◌≤◌, ◌^◌, [], Some, false, IfOk};
-ghost use Rattle.ceal_grammar.specs.Machine.{same_sign as same_signs, wants, placed, at_argument, received, with_statement, owned, block_closed, chained_in, at_body, at_ends, at_opens, at_closed, at_otherwise, moved, mode_nesting, operators_in};
+ghost use Rattle.ceal_grammar.specs.Machine.{same_sign as same_signs, wants, placed, given, begun, ends_at, at_argument, received, with_statement, owned, block_closed, chained_in, at_body, at_ends, at_opens, at_closed, at_otherwise, moved, mode_nesting, operators_in};
 ghost use Rattle.ceal_parse.specs.Reading.{ended, is_within, mode_ended, turn_state};
 
 use crate::expression::{begin, take_place};
@@ -11,14 +11,14 @@ use crate::statement::{
     end_statement, open_block, take_before, take_calls, take_declared, take_end, take_first,
     take_named, take_owned, take_path, take_reached, take_typing, take_word,
 };
-use crate::turn::{Part, Turn, put};
+use crate::turn::{Part, Turn, put, settle};
 use ceal_base::fault::Span;
 use ceal_base::items::Items;
 use ceal_base::no_memory::NoMemory;
 use ceal_base::syntax::{Entry, Expr, Exprs, FunctionDecl, Ident, Stmt, Stmts, Value};
 use ceal_base::text::Text;
 use ceal_grammar::state::{
-    Callee, Chained, Head, Inside, Mode, Opened, Owner, Place, Receiver, State, Whole,
+    Callee, Chained, Head, Inside, Mode, Opened, Owner, Place, Receiver, State, Target, Whole,
 };
 use ceal_lex::token::{Reserved, Sign, Token, TokenKind};
 use std::alloc::Global;
@@ -58,7 +58,82 @@ fn take_argument(
     }
 }
 
+/// The value of a variable has ended.
+#[inline(never)]
+fn end_value(
+    alloc: Global,
+    inside: &mut Inside,
+    target: Target,
+    expr: Expr,
+    sign: Sign,
+) -> Result<Option<Mode>, NoMemory>
+    ensures value { IfOk result (λ mode.
+        ends_at inside.old (given target (Value.Plain expr)) sign ≡ placed inside.new mode) }
+{
+    take_end(alloc, inside, give(target, Value::Plain(expr)), sign)
+}
+
+/// The modifiable that a `read` names has ended.
+#[inline(never)]
+fn end_read(target: Target, at: Span, expr: Expr, sign: Sign) -> Option<Mode>
+    ensures value { result ≡ wants (same_signs sign Sign.RightParenthesis)
+        (Mode.Ends (given target (Value.Read at expr))) }
+{
+    let statement = give(target, Value::Read(at, expr));
+    wanted(sign, Sign::RightParenthesis, Mode::Ends(statement))
+}
+
+/// The value of a field has ended.
+#[inline(never)]
+fn end_set(
+    alloc: Global,
+    inside: &mut Inside,
+    path: Expr,
+    name: Ident,
+    expr: Expr,
+    sign: Sign,
+) -> Result<Option<Mode>, NoMemory>
+    ensures value { IfOk result (λ mode.
+        ends_at inside.old (Stmt.SetField path.span path name expr) sign ≡ placed inside.new mode) }
+{
+    take_end(
+        alloc,
+        inside,
+        Stmt::SetField(path.span, path, name, expr),
+        sign,
+    )
+}
+
+/// The first operand of a `write` has ended.
+#[inline(never)]
+fn end_target(alloc: Global, nesting: u32, at: Span, expr: Expr, sign: Sign) -> Option<Mode>
+    ensures value { result ≡ wants (same_signs sign Sign.Comma)
+        (Mode.Within (begun nesting (Receiver.Store at expr)) Place.Want) }
+{
+    let whole = begin(alloc, nesting, Receiver::Store(at, expr));
+    wanted(sign, Sign::Comma, Mode::Within(whole, Place::Want))
+}
+
+/// The second operand of a `write` has ended.
+#[inline(never)]
+fn end_store(at: Span, target: Expr, expr: Expr, sign: Sign) -> Option<Mode>
+    ensures value { result ≡ wants (same_signs sign Sign.RightParenthesis)
+        (Mode.Ends (Stmt.Write at target expr)) }
+{
+    let statement = Stmt::Write(at, target, expr);
+    wanted(sign, Sign::RightParenthesis, Mode::Ends(statement))
+}
+
+/// The test of an `if` or a `while` has ended.
+#[inline(never)]
+fn end_test(owner: Owner, sign: Sign) -> Option<Mode>
+    ensures value { result ≡ wants (same_signs sign Sign.RightParenthesis) (Mode.Opens owner) }
+{
+    wanted(sign, Sign::RightParenthesis, Mode::Opens(owner))
+}
+
 /// The argument, at the sign after it.
+#[inline(never)]
 fn receive_argument(
     alloc: Global,
     nesting: u32,
@@ -94,39 +169,22 @@ fn receive(
 {
     match receiver {
         Receiver::Value(target) => {
-            let statement = give(target, Value::Plain(expr));
-            let mode = take_end(alloc, inside, statement, sign)?;
+            let mode = end_value(alloc, inside, target, expr, sign)?;
             Ok(mode)
         }
-        Receiver::Read(target, at) => {
-            let statement = give(target, Value::Read(at, expr));
-            Ok(wanted(sign, Sign::RightParenthesis, Mode::Ends(statement)))
-        }
+        Receiver::Read(target, at) => Ok(end_read(target, at, expr, sign)),
         Receiver::Argument(callee, arguments) => {
             let mode = receive_argument(alloc, nesting, callee, arguments, expr, sign)?;
             Ok(mode)
         }
         Receiver::Set(path, name) => {
-            let statement = Stmt::SetField(path.span, path, name, expr);
-            let mode = take_end(alloc, inside, statement, sign)?;
+            let mode = end_set(alloc, inside, path, name, expr, sign)?;
             Ok(mode)
         }
-        Receiver::Write(at) => {
-            let whole = begin(alloc, nesting, Receiver::Store(at, expr));
-            Ok(wanted(sign, Sign::Comma, Mode::Within(whole, Place::Want)))
-        }
-        Receiver::Store(at, target) => {
-            let statement = Stmt::Write(at, target, expr);
-            Ok(wanted(sign, Sign::RightParenthesis, Mode::Ends(statement)))
-        }
-        Receiver::If(at) => {
-            let mode = Mode::Opens(Owner::Then(at, expr));
-            Ok(wanted(sign, Sign::RightParenthesis, mode))
-        }
-        Receiver::While(at) => {
-            let mode = Mode::Opens(Owner::While(at, expr));
-            Ok(wanted(sign, Sign::RightParenthesis, mode))
-        }
+        Receiver::Write(at) => Ok(end_target(alloc, nesting, at, expr, sign)),
+        Receiver::Store(at, target) => Ok(end_store(at, target, expr, sign)),
+        Receiver::If(at) => Ok(end_test(Owner::Then(at, expr), sign)),
+        Receiver::While(at) => Ok(end_test(Owner::While(at, expr), sign)),
     }
 }
 
@@ -184,6 +242,7 @@ fn no_head(alloc: Global, at: Span) -> Head {
 }
 
 /// Puts the function, whose body ends at `}`, after the entries before it.
+#[inline(never)]
 fn close_function(alloc: Global, inside: &mut Inside, at: Span) -> Result<(), NoMemory>
     ensures value { IfOk result
         (λ _. State.Top inside.new.entries
@@ -215,6 +274,7 @@ fn leave_block(inside: &mut Inside, outer: Opened) -> Mode
 }
 
 /// The block that ends at `}`, or the function.
+#[inline(never)]
 fn close_block(
     alloc: Global,
     inside: &mut Inside,
@@ -231,7 +291,7 @@ fn close_block(
             Ok(Turn::Closed)
         }
         Some(outer) => {
-            put(mode, leave_block(inside, outer));
+            settle(mode, leave_block(inside, outer));
             Ok(Turn::On)
         }
     }
@@ -243,7 +303,7 @@ fn go_on(mode: &mut Mode, next: Option<Mode>) -> Turn
 {
     match next {
         Some(next) => {
-            put(mode, next);
+            settle(mode, next);
             Turn::On
         }
         None => Turn::Refused,
@@ -265,7 +325,7 @@ fn take_body(
     match &token.kind {
         TokenKind::Name(text) => {
             let text = text.copy()?;
-            put(mode, Mode::Named(Ident { text, span: at }));
+            settle(mode, Mode::Named(Ident { text, span: at }));
             Ok(Turn::On)
         }
         TokenKind::Reserved(word) => Ok(go_on(mode, take_word(at, *word))),
@@ -281,6 +341,7 @@ fn take_body(
     }
 }
 
+#[inline(never)]
 fn take_ends(
     alloc: Global,
     inside: &mut Inside,
@@ -300,6 +361,7 @@ fn take_ends(
 }
 
 /// The token after a statement that ends by itself.
+#[inline(never)]
 fn take_behind(
     alloc: Global,
     inside: &mut Inside,
@@ -315,6 +377,7 @@ fn take_behind(
     Ok(turn)
 }
 
+#[inline(never)]
 fn take_opens(
     alloc: Global,
     inside: &mut Inside,
@@ -335,6 +398,7 @@ fn take_opens(
 }
 
 /// The token after the first block of an `if`.
+#[inline(never)]
 fn take_closed(
     alloc: Global,
     inside: &mut Inside,
@@ -346,7 +410,7 @@ fn take_closed(
         ≡ at_closed inside.old branch.span branch.test branch.first token.now.span token.now.kind) }
 {
     if is_word(token, Reserved::Else) {
-        put(
+        settle(
             mode,
             Mode::Otherwise(branch.span, branch.test, branch.first),
         );
@@ -371,6 +435,7 @@ fn chain(inside: &mut Inside, branch: Chained, at: Span) -> Result<Mode, NoMemor
 }
 
 /// The token after `else`.
+#[inline(never)]
 fn take_otherwise(
     alloc: Global,
     inside: &mut Inside,
@@ -394,6 +459,7 @@ fn take_otherwise(
 }
 
 /// A token within a body, and within no whole expression.
+#[inline(never)]
 fn take_other(
     alloc: Global,
     inside: &mut Inside,

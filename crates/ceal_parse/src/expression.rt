@@ -1,7 +1,7 @@
 // Whole expressions. A `take_..` takes one token: it moves the place within the expression, or answers that no program
 // goes on so. Operators wait on a stack until one of a lower level comes (operator precedence; Floyd, JACM 1963).
 
-ghost use Rattle.std.specs.Prelude.{◌≡◌, ◌∷◌, ◌<◌, ◌^◌, Some, [], IfOk, if◌then◌else◌};
+ghost use Rattle.std.specs.Prelude.{◌≡◌, ◌∷◌, ◌<◌, ◌^◌, Some, None, [], false, IsTrue, IfOk, IfSome, if◌then◌else◌};
 ghost use Rattle.ceal_grammar.specs.Machine.{single as single_piece, prefixed, addressed, element_of, joined, accessed, begun, operated, reduced, same_sign as same_signs, wants, within, operator_of, closes, at_prim, at_operand, at_access, at_sign_after, at_index, at_after, at_element, at_place};
 ghost use Rattle.ceal_grammar.specs.declared.state.Inside.{Inside};
 ghost use Rattle.ceal_parse.specs.Reading.{part_state};
@@ -435,8 +435,63 @@ fn going(on: bool) -> Part
     if on { Part::On } else { Part::Refused }
 }
 
+/// Whether the sign is one that no expression goes on with, where nothing waits in it.
+#[tactic(auto, unfolding(ceal_grammar::specs::Machine::same_sign))]
+fn is_last(sign: Sign) -> bool
+    ensures arrow { IsTrue result → same_signs sign Sign.Arrow ≡ false }
+    ensures index { IsTrue result → same_signs sign Sign.LeftBracket ≡ false }
+    ensures operator { IsTrue result → operator_of sign ≡ None }
+{
+    match sign {
+        Sign::Comma => true,
+        Sign::Semicolon => true,
+        Sign::RightParenthesis => true,
+        _ => false,
+    }
+}
+
+/// The sign, if it ends a whole expression in which nothing waits after an operand.
+#[tactic(auto, unfolding(ceal_grammar::specs::Machine::reduced))]
+fn last_sign(whole: &Whole, place: &Place, token: &Token) -> Option<Sign>
+    ensures value { IfSome result (λ sign. (i : Inside)
+        → part_state i whole.now place.now (Part.Ended sign)
+        ≡ at_place i whole.now place.now token.now.span token.now.kind) }
+{
+    match (place, &token.kind) {
+        (Place::Have(_), TokenKind::Sign(sign)) => {
+            if whole.frames.is_empty() && is_last(*sign) {
+                Some(*sign)
+            } else {
+                None
+            }
+        }
+        _ => None,
+    }
+}
+
 /// A token within a whole expression, or after it.
 pub fn take_place(
+    alloc: Global,
+    whole: &mut Whole,
+    place: &mut Place,
+    token: &Token,
+) -> Result<Part, NoMemory>
+    requires shallow { whole.old.nesting < 2 ^ 31 }
+    requires few { whole.old.operators < 2 ^ 31 }
+    ensures value { IfOk result (λ part. (i : Inside) → part_state i whole.new place.new part
+        ≡ at_place i whole.old place.old token.now.span token.now.kind) }
+{
+    match last_sign(whole, place, token) {
+        Some(sign) => Ok(Part::Ended(sign)),
+        None => {
+            let part = move_place(alloc, whole, place, token)?;
+            Ok(part)
+        }
+    }
+}
+
+/// A token within a whole expression, or after it, whatever it is.
+fn move_place(
     alloc: Global,
     whole: &mut Whole,
     place: &mut Place,

@@ -104,6 +104,7 @@ fn modref_shape(target: Target, at: Span, text: &Text, span: Span) -> Result<Opt
     }
 }
 
+#[inline(never)]
 fn take_modref(target: Target, at: Span, token: &Token) -> Result<Option<Mode>, NoMemory>
     ensures value { IfOk result (λ mode. mode ≡ at_modref target at token.now.span token.now.kind) }
 {
@@ -140,6 +141,7 @@ fn take_closing(statement: Stmt, token: &Token) -> Option<Mode>
 }
 
 /// An `alloc` or a `modref`.
+#[inline(never)]
 pub fn take_making(making: Making, token: &Token) -> Result<Option<Mode>, NoMemory>
     ensures value { IfOk result (λ mode. mode ≡ at_making making token.now.span token.now.kind) }
 {
@@ -153,6 +155,7 @@ pub fn take_making(making: Making, token: &Token) -> Result<Option<Mode>, NoMemo
 }
 
 /// What the target is given.
+#[inline(never)]
 pub fn take_value(
     alloc: Global,
     nesting: u32,

@@ -94,6 +94,14 @@ fn fault(code: FaultCode, token: &Token) -> FrontError
     })
 }
 
+/// The reading stands after these entries.
+#[inline(never)]
+fn stand_after(state: &mut State, entries: Items<Entry>)
+    ensures value { state.new ≡ State.Top entries }
+{
+    *state = State::Top(entries);
+}
+
 /// A program that is being read, token by token. After an error nothing is said of where the reading stands.
 #[derive(Drop)]
 pub struct Parser {
@@ -113,6 +121,7 @@ impl Parser {
     }
 
     /// A token within no body: whether a program goes on so.
+    #[inline(never)]
     fn step_outside(&mut self, token: &Token) -> Result<bool, NoMemory>
         requires outside { is_inside self.old.state ≡ false }
         requires room { Fits self.old.state }
@@ -144,7 +153,7 @@ impl Parser {
                 Turn::On => Ok(true),
                 Turn::Closed => {
                     let entries = mem::replace(&mut inside.entries, Items::empty(alloc));
-                    put(&mut self.state, State::Top(entries));
+                    stand_after(&mut self.state, entries);
                     Ok(true)
                 }
             },

@@ -51,14 +51,30 @@ fn wrap(alloc: Global, chain: &mut Stack<Chained>, statement: Stmt) -> Result<St
     }
 }
 
-/// Puts the statement, which has ended, after those of its block.
-pub fn end_statement(alloc: Global, inside: &mut Inside, statement: Stmt) -> Result<(), NoMemory>
+/// Puts the statement after those of its block, with each `if` that ends with it.
+#[inline(never)]
+fn end_chain(alloc: Global, inside: &mut Inside, statement: Stmt) -> Result<(), NoMemory>
     ensures value { IfOk result (λ _. inside.new ≡ with_statement inside.old statement) }
 {
     let whole = wrap(alloc, &mut inside.chain, statement)?;
     inside.done.push(whole)?;
     inside.nesting = inside.base;
     Ok(())
+}
+
+/// Puts the statement, which has ended, after those of its block.
+#[tactic(auto, unfolding(ceal_grammar::specs::Machine::wrapped))]
+pub fn end_statement(alloc: Global, inside: &mut Inside, statement: Stmt) -> Result<(), NoMemory>
+    ensures value { IfOk result (λ _. inside.new ≡ with_statement inside.old statement) }
+{
+    if inside.chain.is_empty() {
+        inside.done.push(statement)?;
+        inside.nesting = inside.base;
+        Ok(())
+    } else {
+        end_chain(alloc, inside, statement)?;
+        Ok(())
+    }
 }
 
 /// The statement at a sign that may be its semicolon.
@@ -81,6 +97,7 @@ pub fn take_end(
 }
 
 /// Opens a block.
+#[inline(never)]
 pub fn open_block(alloc: Global, inside: &mut Inside, owner: Owner) -> Result<(), NoMemory>
     requires shallow { inside.old.nesting < 2 ^ 31 }
     ensures value { IfOk result (λ _. State.In inside.new Mode.Body ≡ opened_by inside.old owner) }
@@ -131,6 +148,7 @@ pub fn take_word(at: Span, word: Reserved) -> Option<Mode>
     }
 }
 
+#[inline(never)]
 pub fn take_typing(at: Span, part: TypePart, token: &Token) -> Result<Option<Mode>, NoMemory>
     ensures value { IfOk result (λ mode. mode ≡ at_typing at part token.now.span token.now.kind) }
 {
@@ -141,6 +159,7 @@ pub fn take_typing(at: Span, part: TypePart, token: &Token) -> Result<Option<Mod
     }
 }
 
+#[inline(never)]
 pub fn take_declared(at: Span, form: TypeForm, name: Ident, token: &Token) -> Option<Mode>
     ensures value { result ≡ at_declared at form name token.now.kind }
 {
@@ -176,6 +195,7 @@ fn field(alloc: Global, path: Expr, name: Ident) -> Result<Expr, NoMemory>
 }
 
 /// A name at the beginning of a statement was read.
+#[inline(never)]
 pub fn take_named(name: Ident, token: &Token) -> Option<Mode>
     ensures value { result ≡ at_named name token.now.kind }
 {
@@ -192,6 +212,7 @@ pub fn take_named(name: Ident, token: &Token) -> Option<Mode>
 }
 
 /// `self` at the beginning of a statement was read.
+#[inline(never)]
 pub fn take_owned(at: Span, token: &Token) -> Option<Mode>
     ensures value { result ≡ at_owned at token.now.kind }
 {
@@ -206,6 +227,7 @@ pub fn take_owned(at: Span, token: &Token) -> Option<Mode>
     }
 }
 
+#[inline(never)]
 pub fn take_path(path: Expr, arrows: u32, token: &Token) -> Result<Option<Mode>, NoMemory>
     ensures value { IfOk result (λ mode. mode ≡ at_path path arrows token.now.span token.now.kind) }
 {
@@ -222,6 +244,7 @@ pub fn take_path(path: Expr, arrows: u32, token: &Token) -> Result<Option<Mode>,
     }
 }
 
+#[inline(never)]
 pub fn take_reached(
     alloc: Global,
     nesting: u32,
@@ -247,6 +270,7 @@ pub fn take_reached(
     }
 }
 
+#[inline(never)]
 pub fn take_calls(callee: Callee, token: &Token) -> Option<Mode>
     ensures value { result ≡ at_calls callee token.now.kind }
 {
@@ -275,6 +299,7 @@ fn first_argument(
 }
 
 /// The first argument, or `)`.
+#[inline(never)]
 pub fn take_first(
     alloc: Global,
     nesting: u32,
@@ -292,6 +317,7 @@ pub fn take_first(
     }
 }
 
+#[inline(never)]
 pub fn take_before(alloc: Global, nesting: u32, receiver: Receiver, token: &Token) -> Option<Mode>
     requires shallow { nesting < 2 ^ 31 }
     ensures value { result ≡ at_before nesting receiver token.now.kind }

@@ -4,8 +4,10 @@ ghost use Rattle.std.specs.Prelude.{◌≡◌, IfOk};
 
 use ceal_base::boxed::Boxed;
 use ceal_base::no_memory::NoMemory;
+use ceal_grammar::state::Mode;
 use ceal_lex::token::Sign;
 use std::alloc::Global;
+use std::mem;
 
 /// A token within a whole expression.
 #[derive(Clone, Copy)]
@@ -34,6 +36,23 @@ pub fn put<T: Drop>(place: &mut T, value: T)
     ensures value { place.new ≡ value }
 {
     *place = value;
+}
+
+#[cold]
+#[inline(never)]
+fn let_go(mode: Mode) {
+    drop(mode);
+}
+
+/// Puts the next place where the beginning of a statement stands, which holds nothing. Only the drop of another place
+/// goes through all that a place can hold.
+pub fn settle(mode: &mut Mode, next: Mode)
+    ensures value { mode.new ≡ next }
+{
+    match mem::replace(mode, next) {
+        Mode::Body => {}
+        old => let_go(old),
+    }
 }
 
 /// Both values on the heap.
