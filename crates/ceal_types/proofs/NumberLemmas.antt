@@ -174,6 +174,49 @@ module _ {A : Type 0} where
   pub leads-taken : (places : Places) (es : List (Name × A)) (k : ℕ) → LeadsTo places (keys_of es) → LeadsTo places (keys_of (take k es))
   leads-taken places es k leads i n at = leads i n (taken n es k i at)
 
+module _ {A : Type 0} where
+  key-at : (es : List (Name × A)) (i : ℕ) (e : Name × A) → slice_get es i ≡ Some e → slice_get (keys_of es) i ≡ Some e.0
+  key-at [] i e p = absurd (none-some p)
+  key-at (x ∷ xs) zero e p = ap (λ (y : Name × A). Some y.0) (same-some x e p)
+  key-at (x ∷ xs) (suc i) e p = key-at xs i e p
+
+  taken-next : (es : List (Name × A)) (i : ℕ) (e : Name × A) → slice_get es i ≡ Some e → take (suc i) es ≡ take i es ++ e ∷ []
+  taken-next [] i e p = absurd (none-some p)
+  taken-next (x ∷ []) zero e p = ap (λ (y : Name × A). y ∷ []) (same-some x e p)
+  taken-next (x ∷ y ∷ ys) zero e p = ap (λ (z : Name × A). z ∷ []) (same-some x e p)
+  taken-next (x ∷ xs) (suc i) e p = ap (λ (l : List (Name × A)). x ∷ l) (taken-next xs i e p)
+
+  taken-length : (es : List (Name × A)) (i : ℕ) (e : Name × A) → slice_get es i ≡ Some e → length (take i es) ≡ i
+  taken-length [] i e p = absurd (none-some p)
+  taken-length (x ∷ xs) zero e p = refl
+  taken-length (x ∷ xs) (suc i) e p = ap suc (taken-length xs i e p)
+
+  -- a name does not stand before its place
+  fresh : (places : Places) (es : List (Name × A)) (i : ℕ) (e : Name × A) → LeadsTo places (keys_of es) → slice_get es i ≡ Some e
+      → has (take i es) e.0 ≡ false
+  fresh places es i e leads at = has-number (take i es) e.0 ∙ by (position (bytes_eq e.0) (keys_of (take i es))) refl
+    where
+      twice : (j : ℕ) (x : Name) → slice_get (keys_of (take i es)) j ≡ Some x → bytes_eq e.0 x ≡ true → ⊥
+      twice j x there h =
+          let same : e.0 ≡ x = (bytes_eq-Decides e.0 x).0 h in
+          let second : place_of places e.0 ≡ Some i = leads i e.0 (key-at es i e at) in
+          let one : place_of places e.0 ≡ Some j = leads j e.0 (taken x es i j there ∙ ap (λ (y : Name). Some y) (sym same)) in
+          let equal : i ≡ j = same-some i j (sym second ∙ one) in
+          let below : j < length (take i es) = within (take i es) j x there in
+          let long : length (take i es) ≡ i = taken-length es i e at in
+          omega arith
+
+      by : (r : Option ℕ) → position (bytes_eq e.0) (keys_of (take i es)) ≡ r → is_some r ≡ false
+      by None h = refl
+      by (Some j) h = let f = found (bytes_eq e.0) (keys_of (take i es)) j h in absurd (twice j f.0 f.1 f.2)
+
+  pub leads-next : (led old new : Places) (es : List (Name × A)) (i : ℕ) (e : Name × A) → LeadsTo led (keys_of es) → slice_get es i ≡ Some e
+      → LeadsTo old (keys_of (take i es)) → place_of new e.0 ≡ Some i → Keeps old new e.0 i → LeadsTo new (keys_of (take (suc i) es))
+  leads-next led old new es i e leads at before here keeps =
+      let long : length (take i es) ≡ i = taken-length es i e at in
+      let kept : LeadsTo new (keys_of (take i es)) = leads-kept old new (take i es) e.0 before (fresh led es i e leads at) (rw long keeps) in
+      rw (taken-next es i e at) (leads-added new (take i es) e.0 e.1 kept (here ∙ ap (λ (k : ℕ). Some k) (sym long)))
+
 module _ {X : Type 0} (t : X → Bool) where
   mapped : (r : Option ℕ) → is_some (option_map suc r) ≡ is_some r
   mapped None = refl

@@ -1,6 +1,6 @@
 -- Where a name is looked for in a list.
-use Rattle.std.specs.Prelude.{◌≡◌, ℕ, Bool, true, false, Option, Some, None, List, slice_get, nat_le, if◌then◌else◌}
-use Rattle.std.specs.BTreeMap.{get, get_by}
+use Rattle.std.specs.Prelude.{◌≡◌, ◌==◌, ◌%◌, ℕ, Bool, true, false, Option, Some, None, List, length, slice_get, nat_le, if◌then◌else◌}
+use Rattle.std.specs.BTreeMap.{BTreeMap, get, get_by}
 use Rattle.std.specs.Cmp.Lexicographic.{slice_cmp}
 use Rattle.std.specs.Hash.FoldHasher as fold
 use Rattle.std.specs.Ordering.{nat_cmp}
@@ -20,9 +20,22 @@ or_second (Some place) other = Some place
 unfoldable pub place_by_name : Places → Name → Option ℕ
 place_by_name places name = get_by (λ k. slice_cmp nat_cmp name k.items) places.by_name
 
+-- the number of the tree where a hash is looked for, of so many trees
+unfoldable pub tree_number : ℕ → ℕ → ℕ
+tree_number hash count = if count == 0 then 0 else hash % count
+
+-- the tree, or else the first one
+abbrev pub tree_or : Option (BTreeMap ℕ ℕ) → BTreeMap ℕ ℕ → BTreeMap ℕ ℕ
+tree_or None first = first
+tree_or (Some tree) first = tree
+
+-- the place that stands under a hash
+unfoldable pub place_in : List (BTreeMap ℕ ℕ) → BTreeMap ℕ ℕ → ℕ → Option ℕ
+place_in trees first hash = get nat_cmp (tree_or (slice_get trees (tree_number hash (length trees))) first) hash
+
 -- the place that stands under the hash of the name
 unfoldable pub place_by_hash : Places → Name → Option ℕ
-place_by_hash places name = get nat_cmp places.by_hash (hash_of name)
+place_by_hash places name = place_in places.trees.items places.first (hash_of name)
 
 -- the one place where the name is looked for
 abbrev pub place_of : Places → Name → Option ℕ

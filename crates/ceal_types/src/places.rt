@@ -1,8 +1,10 @@
 // Where a name is looked for in a list.
 
-ghost use Rattle.std.specs.Prelude.{◌≡◌, ◌==◌, ◌<◌, ℕ, Some, None, false, OnOk, OnErr};
+ghost use Rattle.std.specs.Prelude.{◌≡◌, ◌==◌, ◌<◌, ℕ, Some, None, false, length, slice_get, OnOk, OnErr};
+ghost use Rattle.std.specs.BTreeMap.{get};
+ghost use Rattle.std.specs.Ordering.{nat_cmp};
 ghost use Rattle.std.specs.Str.{bytes_eq};
-ghost use Rattle.ceal_types.specs.Places.{hash_of, place_by_name, place_by_hash, place_of, is_free, put_at};
+ghost use Rattle.ceal_types.specs.Places.{hash_of, tree_number, tree_or, place_in, place_by_name, place_by_hash, place_of, is_free, put_at};
 ghost use Rattle.ceal_types.specs.Tables.{Name};
 
 use ceal_base::no_memory::NoMemory;
@@ -14,11 +16,13 @@ use std::hash::{FoldHasher, Hasher};
 /// Leads from a name to the one place of a list where it may stand, so that a look-up takes about the logarithm of the
 /// list's length, whatever the names are. The first of the names with one hash is found by that number, and another one
 /// by its bytes. What is found is compared with the name that stands there, so a place may be left behind when
-/// the list becomes shorter.
+/// the list becomes shorter. The hashes of many names are spread over many trees, each of which is then small; those of
+/// few names stand in the first tree.
 #[derive(Drop)]
 pub struct Places {
     alloc: Global,
-    by_hash: BTreeMap<u64, u32>,
+    first: BTreeMap<u64, u32>,
+    trees: Vec<BTreeMap<u64, u32>>,
     by_name: BTreeMap<Vec<u8>, u32>,
 }
 
@@ -31,16 +35,55 @@ fn hash(name: &Text) -> u64
     hasher.finish()
 }
 
+/// The number of the tree where a hash is looked for, of so many trees.
+#[tactic(auto, unfolding(crate::specs::Places::tree_number))]
+fn tree_number(hash: u64, count: usize) -> usize
+    ensures number { result ≡ tree_number hash count }
+    ensures within { 0 < count → result < count }
+{
+    if count == 0 {
+        return 0;
+    }
+    (hash % count as u64) as usize
+}
+
+/// Puts a place under a hash of a tree.
+fn put_in(tree: &mut BTreeMap<u64, u32>, hash: u64, place: u32) -> Result<(), NoMemory>
+    ensures ok { OnOk result ((h : ℕ) → get nat_cmp tree.new h
+        ≡ put_at (hash == h) place (get nat_cmp tree.old h)) }
+    ensures err { OnErr result ((h : ℕ) → get nat_cmp tree.new h ≡ get nat_cmp tree.old h) }
+{
+    tree.insert(hash, place)?;
+    Ok(())
+}
+
 impl Places {
-    #[tactic(auto, unfolding(crate::specs::Places::place_by_hash, crate::specs::Places::place_by_name))]
+    #[tactic(auto, unfolding(crate::specs::Places::place_by_hash, crate::specs::Places::place_in, crate::specs::Places::place_by_name))]
     pub fn new(alloc: Global) -> Places
         ensures empty { (name : Name) → place_of result name ≡ None }
     {
         Places {
             alloc,
-            by_hash: BTreeMap::new(alloc),
+            first: BTreeMap::new(alloc),
+            trees: Vec::new(alloc),
             by_name: BTreeMap::new(alloc),
         }
+    }
+
+    /// Places where so many names may stand, and some times as many, each in a small tree.
+    pub(crate) fn sized(alloc: Global, count: usize) -> Result<Places, NoMemory> {
+        let mut places = Places::new(alloc);
+        let trees = count / 2;
+        places.trees.reserve(trees)?;
+        for _ in 0..trees {
+            places.trees.push(BTreeMap::new(alloc))?;
+        }
+        Ok(places)
+    }
+
+    /// Whether so many names are too many for the trees.
+    pub(crate) fn is_full(&self, count: usize) -> bool {
+        count / 12 > self.trees.len()
     }
 
     #[tactic(auto, unfolding(crate::specs::Places::place_by_name))]
@@ -50,11 +93,22 @@ impl Places {
         self.by_name.get(name.items()).copied()
     }
 
-    #[tactic(auto, unfolding(crate::specs::Places::place_by_hash))]
+    fn tree(&self, hash: u64) -> &BTreeMap<u64, u32>
+        ensures tree { result.now ≡ tree_or (slice_get self.now.trees.items
+            (tree_number hash (length self.now.trees.items))) self.now.first }
+    {
+        match self.trees.get(tree_number(hash, self.trees.len())) {
+            Some(tree) => tree,
+            None => &self.first,
+        }
+    }
+
+    #[tactic(auto, unfolding(crate::specs::Places::place_by_hash, crate::specs::Places::place_in))]
     fn by_hash(&self, name: &Text) -> Option<u32>
         ensures value { result ≡ place_by_hash self.now name.now }
     {
-        self.by_hash.get(&hash(name)).copied()
+        let hash = hash(name);
+        self.tree(hash).get(&hash).copied()
     }
 
     /// Where the name is looked for.
@@ -78,6 +132,21 @@ impl Places {
         }
     }
 
+    fn put_hash(&mut self, hash: u64, place: u32) -> Result<(), NoMemory>
+        ensures names { self.new.by_name ≡ self.old.by_name }
+        ensures ok { OnOk result ((h : ℕ) → place_in self.new.trees.items self.new.first h
+            ≡ put_at (hash == h) place (place_in self.old.trees.items self.old.first h)) }
+        ensures err { OnErr result ((h : ℕ) → place_in self.new.trees.items self.new.first h
+            ≡ place_in self.old.trees.items self.old.first h) }
+    {
+        let count = self.trees.len();
+        if count == 0 {
+            return put_in(&mut self.first, hash, place);
+        }
+        let number = tree_number(hash, count);
+        put_in(&mut self.trees[number], hash, place)
+    }
+
     #[tactic(auto, unfolding(crate::specs::Places::place_by_hash, crate::specs::Places::place_by_name))]
     fn put_by_hash(&mut self, name: &Text, place: u32) -> Result<(), NoMemory>
         ensures names { (n : Name) → place_by_name self.new n ≡ place_by_name self.old n }
@@ -86,7 +155,7 @@ impl Places {
         ensures err { OnErr result
             ((n : Name) → place_by_hash self.new n ≡ place_by_hash self.old n) }
     {
-        self.by_hash.insert(hash(name), place)?;
+        self.put_hash(hash(name), place)?;
         Ok(())
     }
 

@@ -1,9 +1,10 @@
 // What stands under a name.
 
-ghost use Rattle.std.specs.Prelude.{◌≡◌, ◌<◌, ◌++◌, Some, ◌∷◌, [], Bool, ℕ, Option, List, length, take, slice_get, is_some, OnOk, OnErr, false, position};
+ghost use Rattle.std.specs.Prelude.{◌≡◌, ◌<◌, ◌^◌, ◌++◌, Some, ◌∷◌, [], Bool, ℕ, Option, List, length, take, slice_get, is_some, IfOk, OnOk, OnErr, false, position};
 ghost use Rattle.std.specs.Map.{keys_of, lookup};
 ghost use Rattle.std.specs.Option.{option_map};
 ghost use Rattle.std.specs.Str.{bytes_eq};
+ghost use Rattle.ceal_types.specs.Places.{LeadsTo};
 ghost use Rattle.ceal_types.specs.Tables.{has, find, value_at, stands_at};
 
 use crate::places::Places;
@@ -33,6 +34,19 @@ impl<V> Model for Table<V> {
 
     ghost invariant = { λ t. (length t.entries.items < 2 ^ 32)
         × LeadsTo t.places (keys_of t.entries.items) };
+}
+
+/// Other places for the names, for as many as they are now.
+fn placed<V>(alloc: Global, old: &Places, entries: &[(Text, V)]) -> Result<Places, NoMemory>
+    requires few { length entries.now < 2 ^ 32 }
+    requires led { LeadsTo old.now (keys_of entries.now) }
+    ensures leads { IfOk result (λ places. LeadsTo places (keys_of entries.now)) }
+{
+    let mut places = Places::sized(alloc, entries.len())?;
+    for i in 0..entries.len() {
+        places.put(&entries[i].0, i as u32)?;
+    }
+    Ok(places)
 }
 
 impl<V> Table<V> {
@@ -123,8 +137,30 @@ impl<V> Table<V> {
 }
 
 impl<V: Drop> Table<V> {
+    /// Makes the places larger, where the names are too many for them.
+    fn make_room(&mut self) -> Result<(), NoMemory>
+        ensures same { self.new ≡ self.old }
+    {
+        if !self.places.is_full(self.entries.len()) {
+            return Ok(());
+        }
+        let alloc = *self.entries.allocator();
+        let places = placed(alloc, &self.places, self.entries.as_slice())?;
+        self.places = places;
+        Ok(())
+    }
+
     /// Puts a value under a new name.
     pub fn add(&mut self, name: &Text, value: V) -> Result<(), NoMemory>
+        requires { has self.old name.now ≡ false }
+        ensures ok { OnOk result (self.new ≡ self.old ++ (name.now, value) ∷ []) }
+        ensures err { OnErr result (self.new ≡ self.old) }
+    {
+        self.make_room()?;
+        self.put(name, value)
+    }
+
+    fn put(&mut self, name: &Text, value: V) -> Result<(), NoMemory>
         requires { has self.old name.now ≡ false }
         ensures ok { OnOk result (self.new ≡ self.old ++ (name.now, value) ∷ []) }
         ensures err { OnErr result (self.new ≡ self.old) }

@@ -3,7 +3,7 @@ use Rattle.std.specs.Map.{keys_of}
 use Rattle.ceal_types.specs.Places.{LeadsTo, place_of}
 use Rattle.ceal_types.specs.Tables.{has}
 use Rattle.ceal_types.proofs.NumberLemmas.{Keeps, leads-kept, leads-added}
-use Rattle.ceal_types.proofs.table.Table.add.Goals as goal
+use Rattle.ceal_types.proofs.table.Table.put.Goals as goal
 
 pub invariant_of-self : goal.invariant_of-self
 invariant_of-self g c =
