@@ -2,6 +2,7 @@
 // rules of the language.
 
 use crate::edits::repaired;
+use crate::side_by_side::beside;
 use ceal_adjust::adjust::Adjusted;
 use ceal_base::kind::Shape;
 use ceal_base::memory::Inputs;
@@ -41,8 +42,19 @@ fn answers(alloc: Global, first: &Adjusted, second: &Adjusted) -> Result<Texts, 
     Ok(Texts { first, second })
 }
 
+/// The texts, where an engine has the work of the repair.
+fn checked(
+    texts: Result<Texts, AllocError>,
+    same: Result<bool, Fail>,
+) -> Result<Option<Texts>, Fail> {
+    if !same? {
+        return Err(Fail::from("the engine has another work"));
+    }
+    Ok(Some(texts?))
+}
+
 /// What is told of the first trace of a call, and of its repair after an edit; None where the call may not be run, or
-/// the edit is none.
+/// the edit is none. An engine that is driven through the same has the same work.
 fn story(
     alloc: Global,
     source: &[u8],
@@ -58,10 +70,12 @@ fn story(
     match repaired? {
         None => Ok(None),
         Some((first, second)) => {
+            let call = (function, args);
+            let same = beside(alloc, (source, fuel), call, (before, after), &second);
             let story = answers(alloc, &first, &second);
             drop(first);
             drop(second);
-            Ok(Some(story?))
+            checked(story, same)
         }
     }
 }

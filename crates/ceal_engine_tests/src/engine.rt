@@ -1,79 +1,19 @@
-// An engine runs MAP, a cell is put before the list, and the run is brought up to date. The answers were worked out by
-// hand from the rules of the language.
+// An engine runs MAP, inputs are edited, and the run is brought up to date. The answers were worked out by hand from the rules of
+// the language.
 
-ghost use Rattle.std.specs.Prelude.{◌≡◌, ◌<◌, ◌+◌, ◌^◌, true, length, IsTrue};
-ghost use Rattle.ceal_base.specs.Fitting.{block_fits};
-ghost use Rattle.ceal_code.specs.Fitting.{Fits};
-ghost use Rattle.ceal_engine.specs.Engine as state;
-ghost use Rattle.ceal_engine.specs.Engine.{alone};
-ghost use Rattle.ceal_engine.specs.declared.phase.Phase.TheVariants.{New};
+ghost use Rattle.std.specs.Prelude.{◌≤◌};
 
-use ceal_base::fitting::{field_fits, new_block_fits, place_kind};
-use ceal_base::kind::{FieldKind, Shape};
+use crate::drive::{add, edit, propagate, run};
+use ceal_base::kind::Shape;
 use ceal_base::word::{BlockId, Place, Word};
 use ceal_engine::engine::Engine;
 use ceal_engine::phase::Phase;
-use ceal_samples::calls::fits;
 use ceal_samples::inputs::{at, input};
 use ceal_samples::programs::{MAP, compiled};
 use ceal_samples::told::told;
 use std::alloc::Global;
 use std::process::Abort;
 use std::test::Fail;
-
-/// Whether an input with these words may be added.
-fn takes_input(engine: &Engine, shape: Shape, words: &[Word]) -> bool
-    ensures fits { IsTrue result
-        → block_fits engine.now.code.structs (alone engine.now.inputs)
-        (record { shape = shape; words = words.now }) ≡ true }
-    ensures room { IsTrue result → length engine.now.inputs + 1 < 2 ^ 32 }
-{
-    let inputs = engine.input_blocks();
-    inputs.items().len() < 100
-        && new_block_fits(engine.code().structs.items(), inputs, shape, words)
-}
-
-/// Whether the place is a modifiable that holds a pointer, and the word fits it.
-fn takes(engine: &Engine, place: Place, word: Word) -> bool
-    ensures { IsTrue result → state.takes engine.now place word ≡ true }
-{
-    let inputs = engine.input_blocks();
-    let structs = engine.code().structs.items();
-    match place_kind(structs, inputs, place) {
-        Some(FieldKind::CellPtr(number)) => {
-            field_fits(structs, inputs, FieldKind::CellPtr(number), word)
-        }
-        _ => false,
-    }
-}
-
-/// Whether nothing was called, and the call may be run.
-fn takes_call(engine: &Engine, function: u32, args: &[Word]) -> bool
-    ensures new { IsTrue result → engine.now.phase ≡ New }
-    ensures fits { IsTrue result → Fits engine.now.code engine.now.inputs function args.now }
-{
-    engine.phase() == Phase::New && fits(engine.code(), function, args, engine.input_blocks())
-}
-
-fn add<R: Abort>(rt: &R, engine: &mut Engine, shape: Shape, words: &[Word]) {
-    assert!(rt; takes_input(engine, shape, words));
-    assert!(rt; engine.add_input(shape, words).is_ok());
-}
-
-fn edit<R: Abort>(rt: &R, engine: &mut Engine, place: Place, word: Word) {
-    assert!(rt; takes(engine, place, word));
-    assert!(rt; engine.edit(place, word).is_ok());
-}
-
-fn run<R: Abort>(rt: &R, engine: &mut Engine, function: u32, args: &[Word]) {
-    assert!(rt; takes_call(engine, function, args));
-    assert!(rt; engine.run(function, args).is_ok());
-}
-
-fn propagate<R: Abort>(rt: &R, engine: &mut Engine) {
-    assert!(rt; engine.phase() != Phase::New);
-    assert!(rt; engine.propagate().is_ok());
-}
 
 /// The work, the steps, the number of core blocks, and the trace are these.
 fn is_at<R: Abort>(rt: &R, alloc: Global, engine: &Engine, counts: (u32, u32, u32), trace: &str) {
@@ -88,22 +28,26 @@ fn is_at<R: Abort>(rt: &R, alloc: Global, engine: &Engine, counts: (u32, u32, u3
 }
 
 /// The list 1, 2, 3 by its cells from the last one on, a modifiable that points to it, and one for its image.
-fn fill<R: Abort>(rt: &R, engine: &mut Engine) {
-    add(rt, engine, Shape::Struct(0), &[Word::Num(3), Word::Null]);
-    add(rt, engine, Shape::Struct(0), &[Word::Num(2), input(0)]);
-    add(rt, engine, Shape::Struct(0), &[Word::Num(1), input(1)]);
-    add(rt, engine, Shape::ModPtr(0), &[input(2)]);
-    add(rt, engine, Shape::ModPtr(0), &[Word::Null]);
+fn fill(engine: &mut Engine) -> Result<(), Fail> {
+    add(engine, Shape::Struct(0), &[Word::Num(3), Word::Null])?;
+    add(engine, Shape::Struct(0), &[Word::Num(2), input(0)])?;
+    add(engine, Shape::Struct(0), &[Word::Num(1), input(1)])?;
+    add(engine, Shape::ModPtr(0), &[input(2)])?;
+    add(engine, Shape::ModPtr(0), &[Word::Null])
+}
+
+/// A field of an input.
+fn field(n: u32, field: u32) -> Place {
+    Place {
+        block: BlockId::Input(n),
+        field,
+    }
 }
 
 /// Puts a cell before the list.
-fn put_before<R: Abort>(rt: &R, engine: &mut Engine) {
-    add(rt, engine, Shape::Struct(0), &[Word::Num(5), input(2)]);
-    let place = Place {
-        block: BlockId::Input(3),
-        field: 0,
-    };
-    edit(rt, engine, place, input(5));
+fn put_before(engine: &mut Engine) -> Result<(), Fail> {
+    add(engine, Shape::Struct(0), &[Word::Num(5), input(2)])?;
+    edit(engine, field(3, 0), input(5))
 }
 
 const MAPPED: &str = ".v2 = read(in3.0) u1(&in4.0): in2
@@ -145,23 +89,93 @@ end
 ";
 
 /// An engine for MAP, with no inputs.
-fn engine(alloc: Global) -> Result<Engine, Fail> {
+fn engine(alloc: Global, fuel: u32) -> Result<Engine, Fail> {
+    if fuel < 1 || fuel > 4_194_304 {
+        return Err(Fail::from("no such fuel"));
+    }
     let program = compiled(alloc, MAP)?;
-    let engine = Engine::new(alloc, program.code, 100)?;
-    Ok(engine)
+    Ok(Engine::new(alloc, program.code, fuel)?)
+}
+
+/// A cell is put before the list, and the run is brought up to date, twice.
+fn inserts<R: Abort>(rt: &R, alloc: Global, engine: &mut Engine) -> Result<(), Fail> {
+    fill(engine)?;
+    run(engine, 1, &[at(3), at(4)])?;
+    is_at(rt, alloc, engine, (18, 18, 3), MAPPED);
+    put_before(engine)?;
+    propagate(engine)?;
+    is_at(rt, alloc, engine, (10, 23, 4), INSERTED);
+    propagate(engine)?;
+    is_at(rt, alloc, engine, (0, 23, 4), INSERTED);
+    Ok(())
 }
 
 #[test]
-fn a_new_block_has_the_least_free_number(rt: HostRuntime) -> Result<(), Fail> {
+fn a_new_block_has_a_free_number(rt: HostRuntime) -> Result<(), Fail> {
     let alloc = rt.alloc();
-    let mut engine = engine(alloc)?;
-    fill(&rt, &mut engine);
-    run(&rt, &mut engine, 1, &[at(3), at(4)]);
-    is_at(&rt, alloc, &engine, (18, 18, 3), MAPPED);
-    put_before(&rt, &mut engine);
-    propagate(&rt, &mut engine);
-    is_at(&rt, alloc, &engine, (10, 23, 4), INSERTED);
-    propagate(&rt, &mut engine);
-    is_at(&rt, alloc, &engine, (0, 23, 4), INSERTED);
+    let mut engine = engine(alloc, 100)?;
+    let told = inserts(&rt, alloc, &mut engine);
+    drop(engine);
+    told
+}
+
+/// The list of the numbers from `count` down to 1, by its cells from the last one on, a modifiable that points to it, and one for
+/// its image.
+fn fill_long(engine: &mut Engine, count: u32) -> Result<(), Fail>
+    requires some { 1 ≤ count }
+{
+    add(engine, Shape::Struct(0), &[Word::Num(1), Word::Null])?;
+    for n in 1..count {
+        let words = [Word::Num(n as i64 + 1), input(n - 1)];
+        add(engine, Shape::Struct(0), &words)?;
+    }
+    add(engine, Shape::ModPtr(0), &[input(count - 1)])?;
+    add(engine, Shape::ModPtr(0), &[Word::Null])
+}
+
+/// Propagation has run so many steps anew, and has looked at some contents, but not at more than 100 since `before`.
+fn looked_at_few<R: Abort>(rt: &R, engine: &Engine, work: u32, before: u64) {
+    assert!(rt; engine.phase() == Phase::Finished);
+    assert_eq!(rt; engine.work(), work);
+    let looked = engine.mods().looked();
+    assert!(rt; looked > before);
+    assert!(rt; looked - before <= 100);
+}
+
+/// The run is finished, with so many steps.
+fn has_steps<R: Abort>(rt: &R, engine: &Engine, steps: u32) {
+    assert!(rt; engine.phase() == Phase::Finished);
+    assert_eq!(rt; engine.steps(), steps);
+}
+
+/// How many contents were looked at.
+fn looked<R: Abort>(rt: &R, engine: &Engine) -> u64 {
+    assert!(rt; engine.phase() == Phase::Finished);
+    engine.mods().looked()
+}
+
+/// A cell is put behind the last one of the list, and then one before the first one.
+fn extends<R: Abort>(rt: &R, engine: &mut Engine) -> Result<(), Fail> {
+    fill_long(engine, 40_000)?;
+    run(engine, 1, &[at(40_000), at(40_001)])?;
+    has_steps(rt, engine, 200_003);
+    let before = looked(rt, engine);
+    add(engine, Shape::Struct(0), &[Word::Num(7), Word::Null])?;
+    edit(engine, field(0, 1), input(40_002))?;
+    propagate(engine)?;
+    looked_at_few(rt, engine, 7, before);
+    let before = looked(rt, engine);
+    add(engine, Shape::Struct(0), &[Word::Num(8), input(39_999)])?;
+    edit(engine, field(40_000, 0), input(40_003))?;
+    propagate(engine)?;
+    looked_at_few(rt, engine, 10, before);
     Ok(())
+}
+
+#[test]
+fn an_update_looks_at_few_contents(rt: HostRuntime) -> Result<(), Fail> {
+    let mut engine = engine(rt.alloc(), 1_000_000)?;
+    let told = extends(&rt, &mut engine);
+    drop(engine);
+    told
 }

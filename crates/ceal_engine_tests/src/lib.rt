@@ -1,9 +1,12 @@
 //! The tests, by public calls, of what runs and repairs: repair over whole traces (`adjust`, with `edits`), the run over nodes
-//! (`nodes`), the engine, and the recorded traces (`dumps`). No crate stands on this one.
+//! (`nodes`), the engine (with `drive`; beside `adjust` in `side_by_side`, and where memory is refused in `refused`), and the recorded
+//! traces (`dumps`). No crate stands on this one.
 #![tactic(auto)]
 
 #[cfg(test)]
 mod adjust;
+#[cfg(test)]
+mod drive;
 #[cfg(test)]
 mod dumps;
 #[cfg(test)]
@@ -12,3 +15,7 @@ mod edits;
 mod engine;
 #[cfg(test)]
 mod nodes;
+#[cfg(test)]
+mod refused;
+#[cfg(test)]
+mod side_by_side;

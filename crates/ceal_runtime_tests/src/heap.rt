@@ -5,6 +5,7 @@ ghost use Rattle.ceal_heap.specs.Heap.{block_of};
 
 use ceal_base::forest::Key;
 use ceal_base::kind::Shape;
+use ceal_base::no_memory::NoMemory;
 use ceal_base::word::{BlockId, Place, Word};
 use ceal_heap::heap::Heap;
 use std::process::Abort;
@@ -37,7 +38,10 @@ fn a_block_is_read(rt: HostRuntime) -> Result<(), Fail> {
     assert_eq!(rt; heap.field(block, 4), Word::At(place));
     assert_eq!(rt; heap.field(block, 5), Word::Num(0));
     assert_eq!(rt; heap.shape(block), CELL);
-    assert!(rt; heap.key(block).same_as(&Key::ModInt));
+    let key = Key::ModInt;
+    assert!(rt; heap.key(block).same_as(&key));
+    drop(key);
+    drop(heap);
     Ok(())
 }
 
@@ -64,11 +68,12 @@ fn a_number_waits_for_its_shape(rt: HostRuntime) -> Result<(), Fail> {
     assert_eq!(rt; fourth, BlockId::Core(0));
     assert_eq!(rt; heap.field(fourth, 0), Word::Num(4));
     assert_eq!(rt; heap.live_count(), 3);
+    drop(heap);
     Ok(())
 }
 
 // Makes a block that stays, and one that is revoked at once.
-fn make_two(heap: &mut Heap, number: u32) -> Result<(), Fail> {
+fn make_two(heap: &mut Heap, number: u32) -> Result<(), NoMemory> {
     let words = [Word::Num(number as i64), Word::Null];
     heap.make(CELL, Key::ModInt, &words)?;
     let block = heap.make(CELL, Key::ModInt, &words)?;
@@ -87,7 +92,7 @@ fn is_below(block: BlockId, limit: u32) -> bool {
 fn a_hundred_thousand_blocks(rt: HostRuntime) -> Result<(), Fail> {
     let mut heap = Heap::new(rt.alloc()).expect(&rt, "memory");
     for number in 0..50_000 {
-        make_two(&mut heap, number)?;
+        make_two(&mut heap, number).expect(&rt, "memory");
     }
     heap.release_revoked();
     assert_eq!(rt; heap.live_count(), 50_000);
@@ -102,22 +107,21 @@ fn a_hundred_thousand_blocks(rt: HostRuntime) -> Result<(), Fail> {
         .expect(&rt, "memory");
     assert_eq!(rt; block, BlockId::Core(100_000));
     assert_eq!(rt; heap.live_count(), 100_001);
+    drop(heap);
     Ok(())
 }
 
 // Makes a block after another one; where it is refused, the heap is as it was.
-fn make_second<R: Abort>(rt: &R, heap: &mut Heap, first: BlockId) -> Result<BlockId, Fail>
+fn make_second<R: Abort>(rt: &R, heap: &mut Heap, first: BlockId) -> BlockId
     requires { IsSome (block_of heap.old first) }
 {
     if let Ok(second) = heap.make(NODE, Key::ModPtr(0), &[Word::Num(2)]) {
-        return Ok(second);
+        return second;
     }
     assert_eq!(rt; heap.live_count(), 1);
     assert_eq!(rt; heap.field(first, 0), Word::Num(1));
-    let second = heap
-        .make(NODE, Key::ModPtr(0), &[Word::Num(2)])
-        .expect(rt, "memory");
-    Ok(second)
+    heap.make(NODE, Key::ModPtr(0), &[Word::Num(2)])
+        .expect(rt, "memory")
 }
 
 #[test]
@@ -126,8 +130,9 @@ fn a_refused_block_changes_nothing(rt: HostRuntime) -> Result<(), Fail> {
     let first = heap
         .make(CELL, Key::ModInt, &[Word::Num(1)])
         .expect(&rt, "memory");
-    let second = make_second(&rt, &mut heap, first)?;
+    let second = make_second(&rt, &mut heap, first);
     assert_eq!(rt; second, BlockId::Core(1));
     assert_eq!(rt; heap.live_count(), 2);
+    drop(heap);
     Ok(())
 }

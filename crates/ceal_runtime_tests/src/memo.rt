@@ -33,22 +33,22 @@ fn the_earliest_read_between(rt: HostRuntime) -> Result<(), Fail> {
     let third = order.insert_after(first);
     let second = order.insert_after(first);
     let mut memo = Memo::new(alloc).expect(&rt, "memory");
-    assert!(rt; memo.add_read(&order, read_key(alloc, 3, 4)?, third).is_ok());
-    assert!(rt;
-        memo.add_read(&order, read_key(alloc, 3, 4)?, second)
-            .is_ok()
-    );
+    let earlier = read_key(alloc, 3, 4).expect(&rt, "memory");
+    let later = read_key(alloc, 3, 4).expect(&rt, "memory");
+    assert!(rt; memo.add_read(&order, later, third).is_ok());
+    assert!(rt; memo.add_read(&order, earlier, second).is_ok());
     let key = read_key(alloc, 3, 4).expect(&rt, "memory");
     assert_eq!(rt; memo.first_read(&order, &key, first, third), Some(second));
     assert_eq!(rt; memo.first_read(&order, &key, second, third), None);
-    assert_eq!(rt;
-        memo.first_read(&order, &read_key(alloc, 0, 4)?, first, third),
-        None
-    );
-    assert_eq!(rt;
-        memo.first_read(&order, &read_key(alloc, 3, 0)?, first, third),
-        None
-    );
+    let var = read_key(alloc, 0, 4).expect(&rt, "memory");
+    assert_eq!(rt; memo.first_read(&order, &var, first, third), None);
+    let argument = read_key(alloc, 3, 0).expect(&rt, "memory");
+    assert_eq!(rt; memo.first_read(&order, &argument, first, third), None);
+    drop(argument);
+    drop(var);
+    drop(key);
+    drop(memo);
+    drop(order);
     Ok(())
 }
 
@@ -61,11 +61,14 @@ fn a_removed_read_is_not_found(rt: HostRuntime) -> Result<(), Fail> {
     let third = order.insert_after(first);
     let second = order.insert_after(first);
     let mut memo = Memo::new(alloc).expect(&rt, "memory");
-    memo.add_read(&order, read_key(alloc, 3, 4)?, second)
-        .expect(&rt, "memory");
+    let key = read_key(alloc, 3, 4).expect(&rt, "memory");
+    memo.add_read(&order, key, second).expect(&rt, "memory");
     memo.remove(second);
     let key = read_key(alloc, 3, 4).expect(&rt, "memory");
     assert_eq!(rt; memo.first_read(&order, &key, first, third), None);
+    drop(key);
+    drop(memo);
+    drop(order);
     Ok(())
 }
 
@@ -79,14 +82,16 @@ fn the_earliest_allocation_between(rt: HostRuntime) -> Result<(), Fail> {
     let second = order.insert_after(first);
     let mut memo = Memo::new(alloc).expect(&rt, "memory");
     assert!(rt; memo.add_alloc(&order, Key::ModPtr(1), second).is_ok());
-    assert_eq!(rt;
-        memo.first_alloc(&order, &Key::ModPtr(1), first, third),
-        Some(second)
-    );
-    assert_eq!(rt;
-        memo.first_alloc(&order, &Key::ModPtr(2), first, third),
-        None
-    );
-    assert_eq!(rt; memo.first_alloc(&order, &Key::ModInt, first, third), None);
+    let key = Key::ModPtr(1);
+    assert_eq!(rt; memo.first_alloc(&order, &key, first, third), Some(second));
+    let other = Key::ModPtr(2);
+    assert_eq!(rt; memo.first_alloc(&order, &other, first, third), None);
+    let number = Key::ModInt;
+    assert_eq!(rt; memo.first_alloc(&order, &number, first, third), None);
+    drop(number);
+    drop(other);
+    drop(key);
+    drop(memo);
+    drop(order);
     Ok(())
 }

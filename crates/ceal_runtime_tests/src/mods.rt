@@ -24,6 +24,7 @@ fn a_base_holds_from_the_start(rt: HostRuntime) -> Result<(), Fail> {
     assert!(rt; mods.set_base(COUNTER, Word::Num(1)).is_ok());
     assert_eq!(rt; mods.last_value(COUNTER), Word::Num(1));
     assert_eq!(rt; mods.looked(), 0);
+    drop(mods);
     Ok(())
 }
 
@@ -40,6 +41,8 @@ fn a_write_holds_behind_its_stamp(rt: HostRuntime) -> Result<(), Fail> {
     assert_eq!(rt; mods.value_at(&order, COUNTER, first), Word::Num(0));
     assert_eq!(rt; mods.value_at(&order, COUNTER, second), Word::Num(2));
     assert_eq!(rt; mods.looked(), 2);
+    drop(mods);
+    drop(order);
     Ok(())
 }
 
@@ -56,6 +59,8 @@ fn a_removed_write_uncovers_the_base(rt: HostRuntime) -> Result<(), Fail> {
         .expect(&rt, "memory");
     mods.remove_write(&order, COUNTER, first);
     assert_eq!(rt; mods.value_at(&order, COUNTER, second), Word::Num(1));
+    drop(mods);
+    drop(order);
     Ok(())
 }
 
@@ -76,6 +81,8 @@ fn a_write_parts_a_read_from_what_stands_before(rt: HostRuntime) -> Result<(), F
     assert_eq!(rt; mods.affected(&order, COUNTER, second), Some(third));
     mods.remove_read(&order, COUNTER, third);
     assert_eq!(rt; mods.affected(&order, COUNTER, second), None);
+    drop(mods);
+    drop(order);
     Ok(())
 }
 
@@ -147,5 +154,7 @@ fn a_write_between_reads(rt: HostRuntime) -> Result<(), Fail> {
     mods.remove_write(&order, COUNTER, second);
     assert_eq!(rt; mods.affected(&order, COUNTER, first), Some(third));
     assert_eq!(rt; mods.last_value(COUNTER), Word::Num(1));
+    drop(mods);
+    drop(order);
     Ok(())
 }

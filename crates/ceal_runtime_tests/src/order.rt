@@ -68,6 +68,9 @@ fn each_after_the_first_comes_second(rt: HostRuntime) -> Result<(), Fail> {
     let stamps = walked(alloc, &order).expect(&rt, "memory");
     assert!(rt; stamps == made);
     assert!(rt; is_rising(&order));
+    drop(stamps);
+    drop(made);
+    drop(order);
     Ok(())
 }
 
@@ -87,6 +90,9 @@ fn each_after_the_last_comes_last(rt: HostRuntime) -> Result<(), Fail> {
     let stamps = walked(alloc, &order).expect(&rt, "memory");
     assert!(rt; stamps == made);
     assert!(rt; is_rising(&order));
+    drop(stamps);
+    drop(made);
+    drop(order);
     Ok(())
 }
 
@@ -120,6 +126,9 @@ fn at_random_as_a_list(rt: HostRuntime) -> Result<(), Fail> {
         let stamps = walked(alloc, &order).expect(&rt, "memory");
         assert!(rt; stamps == list, "among {places}");
         assert!(rt; is_rising(&order), "among {places}");
+        drop(stamps);
+        drop(list);
+        drop(order);
     }
     Ok(())
 }
@@ -133,9 +142,9 @@ fn in_and_out_by_time(rt: HostRuntime) -> Result<(), Fail> {
     let third = order.insert_after(first);
     let second = order.insert_after(first);
     let mut rising = Rising::new(alloc);
-    assert_eq!(rt; rising.insert(&order, third)?, 0);
-    assert_eq!(rt; rising.insert(&order, first)?, 0);
-    assert_eq!(rt; rising.insert(&order, second)?, 1);
+    assert_eq!(rt; rising.insert(&order, third).expect(&rt, "memory"), 0);
+    assert_eq!(rt; rising.insert(&order, first).expect(&rt, "memory"), 0);
+    assert_eq!(rt; rising.insert(&order, second).expect(&rt, "memory"), 1);
     assert_eq!(rt; rising.count_before(&order, third), 2);
     assert_eq!(rt; rising.first_after(&order, first), Some(second));
     assert_eq!(rt; rising.first_after(&order, third), None);
@@ -143,5 +152,7 @@ fn in_and_out_by_time(rt: HostRuntime) -> Result<(), Fail> {
     rising.take_out(first);
     assert_eq!(rt; rising.first_after(&order, first), Some(third));
     assert!(rt; !rising.is_empty());
+    drop(rising);
+    drop(order);
     Ok(())
 }

@@ -26,5 +26,7 @@ fn the_earliest_before_a_limit(rt: HostRuntime) -> Result<(), Fail> {
     queue.remove(&order, third);
     assert_eq!(rt; queue.pop_before(&order, None), Some(fourth));
     assert_eq!(rt; queue.pop_before(&order, None), None);
+    drop(queue);
+    drop(order);
     Ok(())
 }

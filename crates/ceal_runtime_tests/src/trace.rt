@@ -110,6 +110,8 @@ fn increment(rt: HostRuntime) -> Result<(), Fail> {
         Line::End,
     ];
     assert!(rt; lines.as_slice() == wanted.as_slice());
+    drop(lines);
+    drop(trace);
     Ok(())
 }
 
@@ -131,14 +133,18 @@ fn a_read_and_its_end_removed(rt: HostRuntime) -> Result<(), Fail> {
     assert!(rt; gone.steps == 7);
     assert!(rt; line_of(&gone.node) == Some(Line::Read(input(0, 0), Word::Num(9), to)));
     assert!(rt; trace.steps() == 5);
+    drop(gone);
     let gone = trace.remove(end);
     assert!(rt; gone.steps == 5);
     assert!(rt; line_of(&gone.node) == Some(Line::End));
+    drop(gone);
     assert!(rt; trace.steps() == 0);
     trace.insert_write(root, input(1, 0), Word::Null);
     let lines = forest(alloc, &trace).expect(&rt, "memory");
     let wanted = [Line::Write(input(1, 0), Word::Null)];
     assert!(rt; lines.as_slice() == wanted.as_slice());
+    drop(lines);
+    drop(trace);
     Ok(())
 }
 
@@ -248,5 +254,7 @@ fn map_of_three_cells(rt: HostRuntime) -> Result<(), Fail> {
         Line::End,
     ];
     assert!(rt; lines.as_slice() == wanted.as_slice());
+    drop(lines);
+    drop(trace);
     Ok(())
 }

@@ -23,6 +23,7 @@ fn writes_and_gives_back(rt: HostRuntime) -> Result<(), NoMemory> {
     assert_eq!(rt; region.get(&c, 1), 0);
     assert_eq!(rt; region.get(&c, 2), 0);
     assert_eq!(rt; region.get(&b, 1), 9);
+    drop(region);
     Ok(())
 }
 
@@ -60,5 +61,6 @@ fn a_thousand_slots(rt: HostRuntime) -> Result<(), NoMemory> {
     twice(&rt, &mut region, 8).expect(&rt, "memory");
     twice(&rt, &mut region, 17).expect(&rt, "memory");
     twice(&rt, &mut region, 100).expect(&rt, "memory");
+    drop(region);
     Ok(())
 }

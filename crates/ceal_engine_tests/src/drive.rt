@@ -1,0 +1,165 @@
+// An engine that is driven by calls which are asked whether they may be made.
+
+ghost use Rattle.std.specs.Prelude.{◌≡◌, ◌<◌, ◌+◌, ◌^◌, true, length, IsTrue};
+ghost use Rattle.ceal_base.specs.Fitting.{block_fits};
+ghost use Rattle.ceal_code.specs.Fitting.{Fits};
+ghost use Rattle.ceal_engine.specs.Engine as state;
+ghost use Rattle.ceal_engine.specs.Engine.{alone};
+ghost use Rattle.ceal_engine.specs.declared.phase.Phase.TheVariants.{New};
+
+use ceal_base::fitting::{field_fits, new_block_fits, place_kind};
+use ceal_base::kind::{FieldKind, Shape};
+use ceal_base::memory::{BlockWords, Inputs};
+use ceal_base::word::{BlockId, Place, Word};
+use ceal_engine::engine::Engine;
+use ceal_engine::phase::Phase;
+use ceal_engine::run_error::RunError;
+use ceal_samples::calls::do_args_fit;
+use std::test::Fail;
+
+/// Whether an input with these words may be added.
+pub(crate) fn takes_input(engine: &Engine, shape: Shape, words: &[Word]) -> bool
+    ensures fits { IsTrue result
+        → block_fits engine.now.code.structs (alone engine.now.inputs)
+        (record { shape = shape; words = words.now }) ≡ true }
+    ensures room { IsTrue result → length engine.now.inputs + 1 < 2 ^ 32 }
+{
+    let inputs = engine.input_blocks();
+    inputs.items().len() < 100_000
+        && new_block_fits(engine.code().structs.items(), inputs, shape, words)
+}
+
+/// Whether the place is a modifiable, and the word fits it.
+pub(crate) fn takes(engine: &Engine, place: Place, word: Word) -> bool
+    ensures { IsTrue result → state.takes engine.now place word ≡ true }
+{
+    let inputs = engine.input_blocks();
+    let structs = engine.code().structs.items();
+    match place_kind(structs, inputs, place) {
+        Some(FieldKind::CellPtr(number)) => {
+            field_fits(structs, inputs, FieldKind::CellPtr(number), word)
+        }
+        Some(FieldKind::CellInt) => field_fits(structs, inputs, FieldKind::CellInt, word),
+        _ => false,
+    }
+}
+
+/// Whether nothing was called, and the call may be run.
+pub(crate) fn takes_call(engine: &Engine, function: u32, args: &[Word]) -> bool
+    ensures new { IsTrue result → engine.now.phase ≡ New }
+    ensures fits { IsTrue result → Fits engine.now.code engine.now.inputs function args.now }
+{
+    engine.phase() == Phase::New
+        && do_args_fit(engine.code(), function, args, engine.input_blocks())
+}
+
+/// How a run failed.
+fn failed(error: RunError) -> Fail {
+    match error {
+        RunError::Memory => Fail::from("there was no memory"),
+        RunError::OutOfFuel => Fail::from("it is out of fuel"),
+    }
+}
+
+pub(crate) fn add(engine: &mut Engine, shape: Shape, words: &[Word]) -> Result<(), Fail> {
+    if !takes_input(engine, shape, words) {
+        return Err(Fail::from("it takes no such input"));
+    }
+    engine.add_input(shape, words)?;
+    Ok(())
+}
+
+pub(crate) fn edit(engine: &mut Engine, place: Place, word: Word) -> Result<(), Fail> {
+    if !takes(engine, place, word) {
+        return Err(Fail::from("it takes no such edit"));
+    }
+    engine.edit(place, word)?;
+    Ok(())
+}
+
+pub(crate) fn run(engine: &mut Engine, function: u32, args: &[Word]) -> Result<(), Fail> {
+    if !takes_call(engine, function, args) {
+        return Err(Fail::from("it takes no such call"));
+    }
+    engine.run(function, args).map_err(failed)
+}
+
+pub(crate) fn propagate(engine: &mut Engine) -> Result<(), Fail> {
+    if engine.phase() == Phase::New {
+        return Err(Fail::from("nothing was called"));
+    }
+    engine.propagate().map_err(failed)
+}
+
+/// The inputs with no pointer to a block: what is added first, since a pointer may lead to a later input.
+fn bare(inputs: &Inputs) -> Result<Inputs, Fail> {
+    let mut bare = inputs.copy()?;
+    let mut n = 0;
+    for block in inputs.items() {
+        let mut field = 0;
+        for word in block.items() {
+            if let Word::Block(_) = word {
+                bare.set(n, field, Word::Null);
+            }
+            field = next(field)?;
+        }
+        n = next(n)?;
+    }
+    Ok(bare)
+}
+
+/// Adds those of these inputs that are not there yet, with no pointer to a block.
+fn add_bare(engine: &mut Engine, inputs: &Inputs) -> Result<(), Fail> {
+    let bare = bare(inputs)?;
+    let there = engine.input_blocks().items().len();
+    for block in bare.items().iter().skip(there) {
+        add(engine, block.shape, block.items())?;
+    }
+    Ok(())
+}
+
+/// The word of an input.
+fn word_at(engine: &Engine, place: Place) -> Option<Word> {
+    match place.block {
+        BlockId::Core(_) => None,
+        BlockId::Input(n) => {
+            let block = engine.input_blocks().items().get(n as usize)?;
+            block.items().get(place.field as usize).copied()
+        }
+    }
+}
+
+/// Edits the fields of an input that differ.
+fn edit_input(engine: &mut Engine, n: u32, block: &BlockWords) -> Result<(), Fail> {
+    let mut field = 0;
+    for word in block.items() {
+        let place = Place {
+            block: BlockId::Input(n),
+            field,
+        };
+        if word_at(engine, place) != Some(*word) {
+            edit(engine, place, *word)?;
+        }
+        field = next(field)?;
+    }
+    Ok(())
+}
+
+/// The next number.
+fn next(n: u32) -> Result<u32, Fail> {
+    match n.checked_add(1) {
+        None => Err(Fail::from("there are too many")),
+        Some(m) => Ok(m),
+    }
+}
+
+/// Makes these the inputs: those that are not there yet are added, and what differs is edited.
+pub(crate) fn become_inputs(engine: &mut Engine, inputs: &Inputs) -> Result<(), Fail> {
+    add_bare(engine, inputs)?;
+    let mut n = 0;
+    for block in inputs.items() {
+        edit_input(engine, n, block)?;
+        n = next(n)?;
+    }
+    Ok(())
+}
