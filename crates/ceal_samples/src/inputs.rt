@@ -1,5 +1,7 @@
 // Words and input blocks.
 
+ghost use Rattle.std.specs.Prelude.{◌≡◌, ◌++◌, ◌∷◌, [], OnOk, OnErr};
+
 use ceal_base::kind::Shape;
 use ceal_base::memory::{BlockWords, Inputs};
 use ceal_base::no_memory::NoMemory;
@@ -7,17 +9,23 @@ use ceal_base::word::{BlockId, Place, Word};
 use std::alloc::Global;
 
 /// A pointer to an input.
-pub fn input(n: u32) -> Word {
+pub fn input(n: u32) -> Word
+    ensures value { result ≡ Word.Block (BlockId.Input n) }
+{
     Word::Block(BlockId::Input(n))
 }
 
 /// A pointer to a modifiable.
-pub fn place(block: BlockId, field: u32) -> Word {
+pub fn place(block: BlockId, field: u32) -> Word
+    ensures value { result ≡ Word.At (record { block = block; field = field }) }
+{
     Word::At(Place { block, field })
 }
 
 /// A pointer to the modifiable of an input that is one modifiable.
-pub fn at(n: u32) -> Word {
+pub fn at(n: u32) -> Word
+    ensures value { result ≡ Word.At (record { block = BlockId.Input n; field = 0 }) }
+{
     place(BlockId::Input(n), 0)
 }
 
@@ -27,7 +35,11 @@ pub fn add(
     inputs: &mut Inputs,
     shape: Shape,
     words: &[Word],
-) -> Result<(), NoMemory> {
+) -> Result<(), NoMemory>
+    ensures ok { OnOk result (inputs.new
+        ≡ inputs.old ++ record { shape = shape; words = words.now } ∷ []) }
+    ensures err { OnErr result (inputs.new ≡ inputs.old) }
+{
     inputs.push(BlockWords::new(shape, Vec::from_slice(alloc, words)?))
 }
 
