@@ -33,15 +33,22 @@ pub fn first(
 {
     chosen_law();
     known_law();
-    let running = Running::begin(alloc, code, inputs)?;
     let stack = Stack::call(alloc, code, function, args)?;
+    let running = Running::begin(alloc, code, inputs)?;
     let mut repair = Repair::first(code, inputs, running, stack);
-    if complete(&mut repair, fuel)? {
-        let mut running = repair.into_running();
-        running.heap.release_revoked();
-        Ok(Outcome::Done(running))
-    } else {
-        drop(repair);
-        Ok(Outcome::OutOfFuel)
+    match complete(&mut repair, fuel) {
+        Ok(true) => {
+            let mut running = repair.into_running();
+            running.heap.release_revoked();
+            Ok(Outcome::Done(running))
+        }
+        Ok(false) => {
+            drop(repair);
+            Ok(Outcome::OutOfFuel)
+        }
+        Err(error) => {
+            drop(repair);
+            Err(error)
+        }
     }
 }

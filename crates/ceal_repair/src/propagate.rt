@@ -41,11 +41,16 @@ pub fn propagate(
     let mut running = running;
     running.spent = 0;
     let mut repair = Repair::first(code, inputs, running, Stack::empty(alloc));
-    if repair.turns(fuel)? {
-        Ok(repair.into_running().finish(fuel))
-    } else {
-        drop(repair);
-        Ok(Outcome::OutOfFuel)
+    match repair.turns(fuel) {
+        Ok(true) => Ok(repair.into_running().finish(fuel)),
+        Ok(false) => {
+            drop(repair);
+            Ok(Outcome::OutOfFuel)
+        }
+        Err(error) => {
+            drop(repair);
+            Err(error)
+        }
     }
 }
 

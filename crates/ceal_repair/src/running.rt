@@ -69,13 +69,21 @@ impl Running {
         ensures kept { IfOk result (λ r. Kept r.tables) }
     {
         let mut tables = Tables::new(alloc)?;
-        set_inputs(&mut tables, code.structs.items(), inputs)?;
-        let heap = Heap::new(alloc)?;
-        Ok(Running {
-            tables,
-            heap,
-            spent: 0,
-        })
+        if let Err(error) = set_inputs(&mut tables, code.structs.items(), inputs) {
+            drop(tables);
+            return Err(error);
+        }
+        match Heap::new(alloc) {
+            Ok(heap) => Ok(Running {
+                tables,
+                heap,
+                spent: 0,
+            }),
+            Err(error) => {
+                drop(tables);
+                Err(error)
+            }
+        }
     }
 
     /// Makes the block of a key, with what its modifiables hold before any write. Reads of its places may be queued, no others.

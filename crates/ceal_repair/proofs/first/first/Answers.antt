@@ -13,14 +13,14 @@ complete-requires c =
     e.kept e.heap e.bases e.spent c.first-repair.result r.code r.inputs r.view r.heap r.spent r.frames r.limit (r.stack ∙ c.in_ok-stack.ensures.started) r.cursor in
     record { runs = (first_start c.args.code.now c.args.inputs.now c.args.function c.args.args.now, runs) }
 
-pub returns-then-branch : goal.returns-then-branch
-returns-then-branch c =
+pub returns-in-Ok-true : goal.returns-in-Ok-true
+returns-in-Ok-true c =
     let r = c.first-repair.ensures in
     let e = c.in_ok-running.ensures in
     let runs = begun c.args.code.now c.args.inputs.now c.args.function c.args.args.now c.requires.fits (c.chosen_law.ensures.law c.args.code.now) (c.known_law.ensures.law c.args.code.now) c.in_ok-running.running e.nodes e.queue
     e.kept e.heap e.bases e.spent c.first-repair.result r.code r.inputs r.view r.heap r.spent r.frames r.limit (r.stack ∙ c.in_ok-stack.ensures.started) r.cursor in
-    let done = rw c.if-branch.true at (c.in_ok-complete.ensures.done (first_start c.args.code.now c.args.inputs.now c.args.function c.args.args.now) runs) in
-    let same = c.in_ok-complete.ensures.call in
+    let done = rw c.in-Ok-true.field-0-test at (c.in-Ok-true.ensures.done (first_start c.args.code.now c.args.inputs.now c.args.function c.args.args.now) runs) in
+    let same = c.in-Ok-true.ensures.call in
     record {
       first =
           first-done c.args.code.now c.args.inputs.now c.args.function c.args.args.now c.requires.fits (c.chosen_law.ensures.law c.args.code.now) c.complete.new.repair (same.code ∙ r.code) (same.inputs ∙ r.inputs) c.args.fuel
@@ -28,14 +28,14 @@ returns-then-branch c =
           (ap (λ (run : Running). run.spent) c.into_running-running.ensures) (rw c.into_running-running.ensures at c.release_revoked.ensures.released) c.release_revoked.ensures.slots;
     }
 
-pub returns-else-branch : goal.returns-else-branch
-returns-else-branch c =
+pub returns-in-Ok-false : goal.returns-in-Ok-false
+returns-in-Ok-false c =
     let r = c.first-repair.ensures in
     let e = c.in_ok-running.ensures in
     let runs = begun c.args.code.now c.args.inputs.now c.args.function c.args.args.now c.requires.fits (c.chosen_law.ensures.law c.args.code.now) (c.known_law.ensures.law c.args.code.now) c.in_ok-running.running e.nodes e.queue
     e.kept e.heap e.bases e.spent c.first-repair.result r.code r.inputs r.view r.heap r.spent r.frames r.limit (r.stack ∙ c.in_ok-stack.ensures.started) r.cursor in
-    let done = rw c.if-branch.false at (c.in_ok-complete.ensures.done (first_start c.args.code.now c.args.inputs.now c.args.function c.args.args.now) runs) in
-    let same = c.in_ok-complete.ensures.call in
+    let done = rw c.in-Ok-false.field-0-test at (c.in-Ok-false.ensures.done (first_start c.args.code.now c.args.inputs.now c.args.function c.args.args.now) runs) in
+    let same = c.in-Ok-false.ensures.call in
     record {
       first = first-out c.args.code.now c.args.inputs.now c.args.function c.args.args.now c.requires.fits (c.chosen_law.ensures.law c.args.code.now) c.complete.new.repair (same.code ∙ r.code) (same.inputs ∙ r.inputs) c.args.fuel done.0 done.1;
     }

@@ -11,21 +11,21 @@ turns-requires-clause-comes c =
 pub turns-requires-clause-idle : goal.turns-requires-clause-idle
 turns-requires-clause-idle c = idle-first c.first-repair.result.frames.items c.first-repair.ensures.frames
 
-pub returns-in_err-turns-clause-sure : goal.returns-in_err-turns-clause-sure
-returns-in_err-turns-clause-sure c = λ f args l kept honest.
+pub returns-in-Err-clause-sure : goal.returns-in-Err-clause-sure
+returns-in-Err-clause-sure c = λ f args l kept honest.
     let r = c.first-repair.ensures in
     let come = has-come-in c.args.code.now c.args.inputs.now f args c.args.fuel l c.args.running kept c.first-repair.result r.code r.inputs r.view r.heap r.spent in
-    absurd (let no : false ≡ true = c.in_err-turns.ensures.sure f args l c.args.running come (rw (r.code, r.inputs) honest) in cc)
+    absurd (let no : false ≡ true = c.in-Err.ensures.sure f args l c.args.running come (rw (r.code, r.inputs) honest) in cc)
 
-pub returns-then-branch-clause-repaired : goal.returns-then-branch-clause-repaired
-returns-then-branch-clause-repaired c = λ f args l kept.
+pub returns-in-Ok-true-clause-repaired : goal.returns-in-Ok-true-clause-repaired
+returns-in-Ok-true-clause-repaired c = λ f args l kept.
     let r = c.first-repair.ensures in
     let come = has-come-in c.args.code.now c.args.inputs.now f args c.args.fuel l c.args.running kept c.first-repair.result r.code r.inputs r.view r.heap r.spent in
-    let done = rw (c.if-branch.true, r.code, r.inputs) at (c.in_ok-turns.ensures.done f args l c.args.running come) in
+    let done = rw (c.in-Ok-true.field-0-test, r.code, r.inputs) at (c.in-Ok-true.ensures.done f args l c.args.running come) in
     c.finish.ensures.answers c.args.code.now c.args.inputs.now f args l c.args.running (rw c.into_running.ensures done)
 
-pub returns-else-branch-clause-repaired : goal.returns-else-branch-clause-repaired
-returns-else-branch-clause-repaired c = λ f args l kept.
+pub returns-in-Ok-false-clause-repaired : goal.returns-in-Ok-false-clause-repaired
+returns-in-Ok-false-clause-repaired c = λ f args l kept.
     let r = c.first-repair.ensures in
     let come = has-come-in c.args.code.now c.args.inputs.now f args c.args.fuel l c.args.running kept c.first-repair.result r.code r.inputs r.view r.heap r.spent in
-    rw (c.if-branch.false, r.code, r.inputs) at (c.in_ok-turns.ensures.done f args l c.args.running come)
+    rw (c.in-Ok-false.field-0-test, r.code, r.inputs) at (c.in-Ok-false.ensures.done f args l c.args.running come)
