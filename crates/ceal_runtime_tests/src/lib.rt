@@ -3,6 +3,8 @@
 #![tactic(auto)]
 
 #[cfg(test)]
+mod asserts;
+#[cfg(test)]
 mod heap;
 #[cfg(test)]
 mod memo;
@@ -10,6 +12,8 @@ mod memo;
 mod mods;
 #[cfg(test)]
 mod order;
+#[cfg(test)]
+mod orders;
 #[cfg(test)]
 mod queue;
 #[cfg(test)]

@@ -1,17 +1,18 @@
 // One place, and a few stamps.
 
-ghost use Rattle.std.specs.Prelude.{◌≡◌, ◌<◌, ◌+◌, ℕ, IsTrue};
+ghost use Rattle.std.specs.Prelude.{◌≡◌, ◌<◌, ◌≤◌, ◌+◌, ℕ, List, IsTrue};
 ghost use Rattle.ceal_order.specs.Stamps.{is_in};
-ghost use Rattle.ceal_mods.specs.Mods.{cell_of, Follows};
+ghost use Rattle.ceal_mods.specs.Mods.{cell_of, Follows, IsUntouched};
 ghost use Rattle.ceal_mods.specs.Writes.{stamps_of};
 
+use crate::asserts::{equal, holds};
+use crate::orders::order_with_room;
 use ceal_base::word::{BlockId, Place, Word};
 use ceal_mods::laws::follows_still;
 use ceal_mods::mods::Mods;
 use ceal_order::order::Order;
 use ceal_order::stamp::Stamp;
 use std::process::Abort;
-use std::test::Fail;
 
 const COUNTER: Place = Place {
     block: BlockId::Input(0),
@@ -19,71 +20,85 @@ const COUNTER: Place = Place {
 };
 
 #[test]
-fn a_base_holds_from_the_start(rt: HostRuntime) -> Result<(), Fail> {
+fn a_base_holds_from_the_start(rt: HostRuntime) {
     let mut mods = Mods::new(rt.alloc()).expect(&rt, "memory");
-    assert!(rt; mods.set_base(COUNTER, Word::Num(1)).is_ok());
-    assert_eq!(rt; mods.last_value(COUNTER), Word::Num(1));
-    assert_eq!(rt; mods.looked(), 0);
+    holds(&rt, mods.set_base(COUNTER, Word::Num(1)).is_ok());
+    equal(&rt, mods.last_value(COUNTER), Word::Num(1));
+    equal(&rt, mods.looked(), 0);
     drop(mods);
-    Ok(())
 }
 
-#[test]
-fn a_write_holds_behind_its_stamp(rt: HostRuntime) -> Result<(), Fail> {
-    let alloc = rt.alloc();
-    let mut order = Order::new(alloc).expect(&rt, "memory");
-    order.reserve(1).expect(&rt, "memory");
+fn writes_at_the_start<R: Abort>(rt: &R, order: &mut Order, mods: &mut Mods)
+    requires room { 1 ≤ order.old.spare }
+    requires untouched { IsUntouched mods.old }
+    requires follows { (stamps : List ℕ) → Follows stamps mods.old }
+{
     let first = order.first();
     let second = order.insert_after(first);
-    let mut mods = Mods::new(alloc).expect(&rt, "memory");
-    mods.add_write(&order, COUNTER, first, Word::Num(2))
-        .expect(&rt, "memory");
-    assert_eq!(rt; mods.value_at(&order, COUNTER, first), Word::Num(0));
-    assert_eq!(rt; mods.value_at(&order, COUNTER, second), Word::Num(2));
-    assert_eq!(rt; mods.looked(), 2);
-    drop(mods);
-    drop(order);
-    Ok(())
+    mods.add_write(order, COUNTER, first, Word::Num(2))
+        .expect(rt, "memory");
+    equal(rt, mods.value_at(order, COUNTER, first), Word::Num(0));
+    equal(rt, mods.value_at(order, COUNTER, second), Word::Num(2));
+    equal(rt, mods.looked(), 2);
 }
 
 #[test]
-fn a_removed_write_uncovers_the_base(rt: HostRuntime) -> Result<(), Fail> {
-    let alloc = rt.alloc();
-    let mut order = Order::new(alloc).expect(&rt, "memory");
-    order.reserve(1).expect(&rt, "memory");
+fn a_write_holds_behind_its_stamp(rt: HostRuntime) {
+    let mut order = order_with_room(&rt, rt.alloc(), 1);
+    let mut mods = Mods::new(rt.alloc()).expect(&rt, "memory");
+    writes_at_the_start(&rt, &mut order, &mut mods);
+    drop(mods);
+    drop(order);
+}
+
+fn writes_over_a_base<R: Abort>(rt: &R, order: &mut Order, mods: &mut Mods)
+    requires room { 1 ≤ order.old.spare }
+    requires untouched { IsUntouched mods.old }
+    requires follows { (stamps : List ℕ) → Follows stamps mods.old }
+{
     let first = order.first();
     let second = order.insert_after(first);
-    let mut mods = Mods::new(alloc).expect(&rt, "memory");
-    assert!(rt; mods.set_base(COUNTER, Word::Num(1)).is_ok());
-    mods.add_write(&order, COUNTER, first, Word::Num(2))
-        .expect(&rt, "memory");
-    mods.remove_write(&order, COUNTER, first);
-    assert_eq!(rt; mods.value_at(&order, COUNTER, second), Word::Num(1));
-    drop(mods);
-    drop(order);
-    Ok(())
+    holds(rt, mods.set_base(COUNTER, Word::Num(1)).is_ok());
+    mods.add_write(order, COUNTER, first, Word::Num(2))
+        .expect(rt, "memory");
+    mods.remove_write(order, COUNTER, first);
+    equal(rt, mods.value_at(order, COUNTER, second), Word::Num(1));
 }
 
 #[test]
-fn a_write_parts_a_read_from_what_stands_before(rt: HostRuntime) -> Result<(), Fail> {
-    let alloc = rt.alloc();
-    let mut order = Order::new(alloc).expect(&rt, "memory");
-    order.reserve(2).expect(&rt, "memory");
+fn a_removed_write_uncovers_the_base(rt: HostRuntime) {
+    let mut order = order_with_room(&rt, rt.alloc(), 1);
+    let mut mods = Mods::new(rt.alloc()).expect(&rt, "memory");
+    writes_over_a_base(&rt, &mut order, &mut mods);
+    drop(mods);
+    drop(order);
+}
+
+fn reads_behind_a_write<R: Abort>(rt: &R, order: &mut Order, mods: &mut Mods)
+    requires room { 2 ≤ order.old.spare }
+    requires untouched { IsUntouched mods.old }
+    requires follows { (stamps : List ℕ) → Follows stamps mods.old }
+{
     let first = order.first();
     let third = order.insert_after(first);
     let second = order.insert_after(first);
-    let mut mods = Mods::new(alloc).expect(&rt, "memory");
-    mods.add_read(&order, COUNTER, third).expect(&rt, "memory");
-    assert_eq!(rt; mods.affected(&order, COUNTER, first), Some(third));
-    mods.add_write(&order, COUNTER, second, Word::Num(2))
-        .expect(&rt, "memory");
-    assert_eq!(rt; mods.affected(&order, COUNTER, first), None);
-    assert_eq!(rt; mods.affected(&order, COUNTER, second), Some(third));
-    mods.remove_read(&order, COUNTER, third);
-    assert_eq!(rt; mods.affected(&order, COUNTER, second), None);
+    mods.add_read(order, COUNTER, third).expect(rt, "memory");
+    equal(rt, mods.affected(order, COUNTER, first), Some(third));
+    mods.add_write(order, COUNTER, second, Word::Num(2))
+        .expect(rt, "memory");
+    equal(rt, mods.affected(order, COUNTER, first), None);
+    equal(rt, mods.affected(order, COUNTER, second), Some(third));
+    mods.remove_read(order, COUNTER, third);
+    equal(rt, mods.affected(order, COUNTER, second), None);
+}
+
+#[test]
+fn a_write_parts_a_read_from_what_stands_before(rt: HostRuntime) {
+    let mut order = order_with_room(&rt, rt.alloc(), 2);
+    let mut mods = Mods::new(rt.alloc()).expect(&rt, "memory");
+    reads_behind_a_write(&rt, &mut order, &mut mods);
     drop(mods);
     drop(order);
-    Ok(())
 }
 
 // Puts in a read of a place at a new stamp, directly behind another one.
@@ -135,26 +150,32 @@ fn write_behind<R: Abort>(
     stamp
 }
 
-#[test]
-fn a_write_between_reads(rt: HostRuntime) -> Result<(), Fail> {
-    let mut order = Order::new(rt.alloc()).expect(&rt, "memory");
-    order.reserve(4).expect(&rt, "memory");
-    let mut mods = Mods::new(rt.alloc()).expect(&rt, "memory");
-    assert!(rt; mods.set_base(COUNTER, Word::Num(1)).is_ok());
+// A place with a base, a read, a write behind it, and two reads behind that.
+fn writes_between_reads<R: Abort>(rt: &R, order: &mut Order, mods: &mut Mods)
+    requires room { 4 ≤ order.old.spare }
+    requires follows { (stamps : List ℕ) → Follows stamps mods.old }
+{
+    holds(rt, mods.set_base(COUNTER, Word::Num(1)).is_ok());
     let start = order.first();
-    let fourth = read_behind(&rt, &mut order, &mut mods, COUNTER, start);
-    let third = read_behind(&rt, &mut order, &mut mods, COUNTER, start);
-    let second = write_behind(&rt, &mut order, &mut mods, COUNTER, start);
-    let first = read_behind(&rt, &mut order, &mut mods, COUNTER, start);
-    assert_eq!(rt; mods.value_at(&order, COUNTER, first), Word::Num(1));
-    assert_eq!(rt; mods.value_at(&order, COUNTER, fourth), Word::Num(2));
-    assert_eq!(rt; mods.affected(&order, COUNTER, second), Some(third));
-    assert_eq!(rt; mods.affected(&order, COUNTER, start), Some(first));
-    assert_eq!(rt; mods.affected(&order, COUNTER, first), None);
-    mods.remove_write(&order, COUNTER, second);
-    assert_eq!(rt; mods.affected(&order, COUNTER, first), Some(third));
-    assert_eq!(rt; mods.last_value(COUNTER), Word::Num(1));
+    let fourth = read_behind(rt, order, mods, COUNTER, start);
+    let third = read_behind(rt, order, mods, COUNTER, start);
+    let second = write_behind(rt, order, mods, COUNTER, start);
+    let first = read_behind(rt, order, mods, COUNTER, start);
+    equal(rt, mods.value_at(order, COUNTER, first), Word::Num(1));
+    equal(rt, mods.value_at(order, COUNTER, fourth), Word::Num(2));
+    equal(rt, mods.affected(order, COUNTER, second), Some(third));
+    equal(rt, mods.affected(order, COUNTER, start), Some(first));
+    equal(rt, mods.affected(order, COUNTER, first), None);
+    mods.remove_write(order, COUNTER, second);
+    equal(rt, mods.affected(order, COUNTER, first), Some(third));
+    equal(rt, mods.last_value(COUNTER), Word::Num(1));
+}
+
+#[test]
+fn a_write_between_reads(rt: HostRuntime) {
+    let mut order = order_with_room(&rt, rt.alloc(), 4);
+    let mut mods = Mods::new(rt.alloc()).expect(&rt, "memory");
+    writes_between_reads(&rt, &mut order, &mut mods);
     drop(mods);
     drop(order);
-    Ok(())
 }

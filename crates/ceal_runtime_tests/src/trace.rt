@@ -1,17 +1,18 @@
 // Traces node by node, and their forests.
 
-ghost use Rattle.std.specs.Prelude.{◌≡◌, ◌≤◌, ◌+◌, IsTrue, IfOk, OnOk};
-ghost use Rattle.ceal_trace.specs.Nodes.{has_node, NoLooseEnd};
+ghost use Rattle.std.specs.Prelude.{◌≡◌, ◌≤◌, ◌+◌, ◌∷◌, [], IsTrue};
+ghost use Rattle.ceal_trace.specs.declared.node.Node.TheVariants.{Root};
+ghost use Rattle.ceal_trace.specs.Nodes.{has_node, new_entry, NoLooseEnd};
 
+use crate::asserts::{equal, holds};
 use ceal_base::forest::{Key, UnitId};
-use ceal_base::no_memory::NoMemory;
 use ceal_base::word::{BlockId, Place, Word};
 use ceal_base::words::Words;
 use ceal_order::stamp::Stamp;
-use ceal_trace::node::Node;
+use ceal_trace::node::{Gone, Node};
 use ceal_trace::trace::Trace;
 use std::alloc::Global;
-use std::test::Fail;
+use std::process::Abort;
 
 // An item of a forest, of whose arguments the first one is kept.
 #[derive(Clone, Copy, PartialEq)]
@@ -21,20 +22,6 @@ enum Line {
     Write(Place, Word),
     Read(Place, Word, Word),
     End,
-}
-
-fn input(n: u32, field: u32) -> Place {
-    Place {
-        block: BlockId::Input(n),
-        field,
-    }
-}
-
-fn core(n: u32, field: u32) -> Place {
-    Place {
-        block: BlockId::Core(n),
-        field,
-    }
 }
 
 fn first_of(words: &Words) -> Word {
@@ -59,202 +46,349 @@ fn line_of(node: &Node) -> Option<Line> {
     }
 }
 
-fn add_node(lines: &mut Vec<Line>, node: &Node, steps: u32) -> Result<(), NoMemory> {
+fn add_node<R: Abort>(rt: &R, lines: &mut Vec<Line>, node: &Node, steps: u32) {
     if let Some(line) = line_of(node) {
-        lines.push(line)?;
+        lines.push(line).expect(rt, "memory");
     }
     for step in 0..steps {
-        lines.push(Line::Step)?;
+        lines.push(Line::Step).expect(rt, "memory");
     }
-    Ok(())
 }
 
 // The forest of a trace.
-fn forest(alloc: Global, trace: &Trace) -> Result<Vec<Line>, NoMemory> {
+fn forest<R: Abort>(rt: &R, alloc: Global, trace: &Trace) -> Vec<Line> {
     let mut lines = Vec::new(alloc);
     let mut at = trace.root();
-    add_node(&mut lines, trace.node(at), trace.steps_at(at))?;
+    add_node(rt, &mut lines, trace.node(at), trace.steps_at(at));
     while let Some(next) = trace.order().next(at) {
-        add_node(&mut lines, trace.node(next), trace.steps_at(next))?;
+        add_node(rt, &mut lines, trace.node(next), trace.steps_at(next));
         at = next;
     }
-    Ok(lines)
+    lines
 }
 
-fn words(alloc: Global, word: Word) -> Result<Words, NoMemory> {
-    Words::from_slice(alloc, &[word])
+// The forest of a trace has these lines.
+fn has_lines<R: Abort>(rt: &R, alloc: Global, trace: &Trace, wanted: &[Line]) {
+    let lines = forest(rt, alloc, trace);
+    holds(rt, lines.as_slice() == wanted);
+    drop(lines);
 }
 
-#[test]
-fn increment(rt: HostRuntime) -> Result<(), Fail> {
-    let alloc = rt.alloc();
-    let to = Word::At(input(1, 0));
-    let mut trace = Trace::new(alloc).expect(&rt, "memory");
-    trace.reserve(3).expect(&rt, "memory");
+fn words<R: Abort>(rt: &R, alloc: Global, word: Word) -> Words {
+    Words::from_slice(alloc, &[word]).expect(rt, "memory")
+}
+
+// The places of a number and of the number after it.
+
+const NUMBER: Place = Place {
+    block: BlockId::Input(0),
+    field: 0,
+};
+
+const NEXT: Place = Place {
+    block: BlockId::Input(1),
+    field: 0,
+};
+
+const INCREMENTED: [Line; 5] = [
+    Line::Step,
+    Line::Read(NUMBER, Word::Num(4), Word::At(NEXT)),
+    Line::Step,
+    Line::Write(NEXT, Word::Num(5)),
+    Line::End,
+];
+
+fn reads_and_writes<R: Abort>(rt: &R, alloc: Global, trace: &mut Trace)
+    requires room { 3 ≤ trace.old.spare }
+    requires closed { NoLooseEnd trace.old.nodes }
+{
     let root = trace.root();
     trace.set_steps(root, 1);
-    let args = words(alloc, to).expect(&rt, "memory");
-    let read = trace.begin_read(root, input(0, 0), Word::Num(4), UnitId(1), 2, args);
+    let args = words(rt, alloc, Word::At(NEXT));
+    let read = trace.begin_read(root, NUMBER, Word::Num(4), UnitId(1), 2, args);
     trace.set_steps(read, 1);
-    let write = trace.insert_write(read, input(1, 0), Word::Num(5));
-    assert!(rt; trace.end_of(read) == None);
+    let write = trace.insert_write(read, NEXT, Word::Num(5));
+    holds(rt, trace.end_of(read) == None);
     let end = trace.finish_read(read, write);
-    assert!(rt; trace.end_of(read) == Some(end));
-    assert!(rt; trace.steps() == 2);
-    let lines = forest(alloc, &trace).expect(&rt, "memory");
-    let wanted = [
-        Line::Step,
-        Line::Read(input(0, 0), Word::Num(4), to),
-        Line::Step,
-        Line::Write(input(1, 0), Word::Num(5)),
-        Line::End,
-    ];
-    assert!(rt; lines.as_slice() == wanted.as_slice());
-    drop(lines);
-    drop(trace);
-    Ok(())
+    holds(rt, trace.end_of(read) == Some(end));
+    equal(rt, trace.steps(), 2);
+    has_lines(rt, alloc, trace, &INCREMENTED);
 }
 
 #[test]
-fn a_read_and_its_end_removed(rt: HostRuntime) -> Result<(), Fail> {
+fn increment(rt: HostRuntime) {
     let alloc = rt.alloc();
-    let to = Word::At(input(1, 0));
     let mut trace = Trace::new(alloc).expect(&rt, "memory");
-    trace.reserve(2).expect(&rt, "memory");
+    trace.reserve(3).expect(&rt, "memory");
+    reads_and_writes(&rt, alloc, &mut trace);
+    drop(trace);
+}
+
+// What was removed had so many steps and stands for this line.
+fn was<R: Abort>(rt: &R, gone: Gone, steps: u32, line: Line) {
+    holds(rt, gone.steps == steps);
+    holds(rt, line_of(&gone.node) == Some(line));
+    drop(gone);
+}
+
+fn removes_a_read<R: Abort>(rt: &R, alloc: Global, trace: &mut Trace)
+    requires nodes { trace.old.nodes ≡ new_entry 0 Root ∷ [] }
+    requires room { 2 ≤ trace.old.spare }
+    requires closed { NoLooseEnd trace.old.nodes }
+{
     let root = trace.root();
-    let args = words(alloc, to).expect(&rt, "memory");
-    let read = trace.begin_read(root, input(0, 0), Word::Num(4), UnitId(1), 2, args);
+    let args = words(rt, alloc, Word::At(NEXT));
+    let read = trace.begin_read(root, NUMBER, Word::Num(4), UnitId(1), 2, args);
     trace.set_steps(read, 7);
     let end = trace.finish_read(read, read);
     trace.set_steps(end, 5);
     trace.set_value(read, Word::Num(9));
-    assert!(rt; trace.steps() == 12);
+    equal(rt, trace.steps(), 12);
     let gone = trace.remove(read);
-    assert!(rt; gone.steps == 7);
-    assert!(rt; line_of(&gone.node) == Some(Line::Read(input(0, 0), Word::Num(9), to)));
-    assert!(rt; trace.steps() == 5);
-    drop(gone);
+    was(
+        rt,
+        gone,
+        7,
+        Line::Read(NUMBER, Word::Num(9), Word::At(NEXT)),
+    );
+    equal(rt, trace.steps(), 5);
     let gone = trace.remove(end);
-    assert!(rt; gone.steps == 5);
-    assert!(rt; line_of(&gone.node) == Some(Line::End));
-    drop(gone);
-    assert!(rt; trace.steps() == 0);
-    trace.insert_write(root, input(1, 0), Word::Null);
-    let lines = forest(alloc, &trace).expect(&rt, "memory");
-    let wanted = [Line::Write(input(1, 0), Word::Null)];
-    assert!(rt; lines.as_slice() == wanted.as_slice());
-    drop(lines);
-    drop(trace);
-    Ok(())
+    was(rt, gone, 5, Line::End);
+    equal(rt, trace.steps(), 0);
+    trace.insert_write(root, NEXT, Word::Null);
+    has_lines(rt, alloc, trace, &[Line::Write(NEXT, Word::Null)]);
 }
 
-// What the map of a list puts behind a node for one cell: the read of the cell with its end, and inside it the new
-// block and the write. The read of the next cell comes behind the write.
-fn add_cell(
-    alloc: Global,
-    trace: &mut Trace,
-    after: Stamp,
+#[test]
+fn a_read_and_its_end_removed(rt: HostRuntime) {
+    let alloc = rt.alloc();
+    let mut trace = Trace::new(alloc).expect(&rt, "memory");
+    trace.reserve(2).expect(&rt, "memory");
+    removes_a_read(&rt, alloc, &mut trace);
+    drop(trace);
+}
+
+// The list that MAP reads: a modifiable with its first cell, and three cells, of which each holds the next one in field 1.
+
+const FIRST: BlockId = BlockId::Input(2);
+
+const SECOND: BlockId = BlockId::Input(1);
+
+const THIRD: BlockId = BlockId::Input(0);
+
+const HEAD: Place = Place {
+    block: BlockId::Input(3),
+    field: 0,
+};
+
+const BEHIND_FIRST: Place = Place {
+    block: FIRST,
+    field: 1,
+};
+
+const BEHIND_SECOND: Place = Place {
+    block: SECOND,
+    field: 1,
+};
+
+const BEHIND_THIRD: Place = Place {
+    block: THIRD,
+    field: 1,
+};
+
+// The list that it makes, which begins at a modifiable too.
+
+const FIRST_MADE: BlockId = BlockId::Core(0);
+
+const SECOND_MADE: BlockId = BlockId::Core(1);
+
+const THIRD_MADE: BlockId = BlockId::Core(2);
+
+const IMAGE: Place = Place {
+    block: BlockId::Input(4),
+    field: 0,
+};
+
+const BEHIND_FIRST_MADE: Place = Place {
+    block: FIRST_MADE,
+    field: 1,
+};
+
+const BEHIND_SECOND_MADE: Place = Place {
+    block: SECOND_MADE,
+    field: 1,
+};
+
+const BEHIND_THIRD_MADE: Place = Place {
+    block: THIRD_MADE,
+    field: 1,
+};
+
+// What a read of the map finds at a place, and the place that it writes to.
+#[derive(Clone, Copy)]
+struct Found {
+    from: Place,
+    word: Word,
+    to: Place,
+}
+
+// A cell that the map reads, and the block that it makes for it.
+#[derive(Clone, Copy)]
+struct Mapped {
     from: Place,
     cell: BlockId,
     made: BlockId,
     to: Place,
-) -> Result<Stamp, NoMemory>
-    requires here { IsTrue (has_node after.0 trace.old.nodes) }
-    requires room { 4 ≤ trace.old.spare }
-    requires closed { NoLooseEnd trace.old.nodes }
-    ensures here { IfOk result (λ write. IsTrue (has_node write.0 trace.new.nodes)) }
-    ensures room { OnOk result (trace.new.spare + 4 ≡ trace.old.spare) }
-    ensures closed { OnOk result (NoLooseEnd trace.new.nodes) }
-{
-    let args = words(alloc, Word::At(to))?;
-    let key = Key::Init {
-        function: 0,
-        args: words(alloc, Word::Block(cell))?,
-    };
-    let read = trace.begin_read(after, from, Word::Block(cell), UnitId(1), 2, args);
-    trace.finish_read(read, read);
-    trace.set_steps(read, 2);
-    let alloc = trace.insert_alloc(read, made, key);
-    trace.set_steps(alloc, 1);
-    let write = trace.insert_write(alloc, to, Word::Block(made));
-    trace.set_steps(write, 2);
-    Ok(write)
 }
 
-// The same for the end of the list.
-fn add_last(
+// A read of the map with its end, behind a node.
+fn add_read<R: Abort>(rt: &R, alloc: Global, trace: &mut Trace, after: Stamp, found: Found) -> Stamp
+    requires here { IsTrue (has_node after.0 trace.old.nodes) }
+    requires room { 2 ≤ trace.old.spare }
+    requires closed { NoLooseEnd trace.old.nodes }
+    ensures here { IsTrue (has_node result.0 trace.new.nodes) }
+    ensures room { trace.new.spare + 2 ≡ trace.old.spare }
+    ensures closed { NoLooseEnd trace.new.nodes }
+{
+    let args = words(rt, alloc, Word::At(found.to));
+    let read = trace.begin_read(after, found.from, found.word, UnitId(1), 2, args);
+    trace.finish_read(read, read);
+    trace.set_steps(read, 2);
+    read
+}
+
+// What the map of a list puts behind a node for one cell: the read of the cell with its end, and inside it the new
+// block and the write. The read of the next cell comes behind the write.
+fn add_cell<R: Abort>(
+    rt: &R,
     alloc: Global,
     trace: &mut Trace,
     after: Stamp,
-    from: Place,
-    to: Place,
-) -> Result<(), NoMemory>
+    mapped: Mapped,
+) -> Stamp
+    requires here { IsTrue (has_node after.0 trace.old.nodes) }
+    requires room { 4 ≤ trace.old.spare }
+    requires closed { NoLooseEnd trace.old.nodes }
+    ensures here { IsTrue (has_node result.0 trace.new.nodes) }
+    ensures room { trace.new.spare + 4 ≡ trace.old.spare }
+    ensures closed { NoLooseEnd trace.new.nodes }
+{
+    let found = Found {
+        from: mapped.from,
+        word: Word::Block(mapped.cell),
+        to: mapped.to,
+    };
+    let read = add_read(rt, alloc, trace, after, found);
+    let key = Key::Init {
+        function: 0,
+        args: words(rt, alloc, Word::Block(mapped.cell)),
+    };
+    let made = trace.insert_alloc(read, mapped.made, key);
+    trace.set_steps(made, 1);
+    let write = trace.insert_write(made, mapped.to, Word::Block(mapped.made));
+    trace.set_steps(write, 2);
+    write
+}
+
+// The same for the end of the list.
+fn add_last<R: Abort>(rt: &R, alloc: Global, trace: &mut Trace, after: Stamp)
     requires here { IsTrue (has_node after.0 trace.old.nodes) }
     requires room { 3 ≤ trace.old.spare }
     requires closed { NoLooseEnd trace.old.nodes }
 {
-    let args = words(alloc, Word::At(to))?;
-    let read = trace.begin_read(after, from, Word::Null, UnitId(1), 2, args);
-    trace.finish_read(read, read);
-    trace.set_steps(read, 2);
-    trace.insert_write(read, to, Word::Null);
-    Ok(())
+    let found = Found {
+        from: BEHIND_THIRD,
+        word: Word::Null,
+        to: BEHIND_THIRD_MADE,
+    };
+    let read = add_read(rt, alloc, trace, after, found);
+    trace.insert_write(read, BEHIND_THIRD_MADE, Word::Null);
+}
+
+const MAPPED_FIRST: Mapped = Mapped {
+    from: HEAD,
+    cell: FIRST,
+    made: FIRST_MADE,
+    to: IMAGE,
+};
+
+const MAPPED_SECOND: Mapped = Mapped {
+    from: BEHIND_FIRST,
+    cell: SECOND,
+    made: SECOND_MADE,
+    to: BEHIND_FIRST_MADE,
+};
+
+const MAPPED_THIRD: Mapped = Mapped {
+    from: BEHIND_SECOND,
+    cell: THIRD,
+    made: THIRD_MADE,
+    to: BEHIND_SECOND_MADE,
+};
+
+const MAPPED: [Line; 33] = [
+    Line::Step,
+    Line::Read(HEAD, Word::Block(FIRST), Word::At(IMAGE)),
+    Line::Step,
+    Line::Step,
+    Line::Alloc(FIRST_MADE, Word::Block(FIRST)),
+    Line::Step,
+    Line::Write(IMAGE, Word::Block(FIRST_MADE)),
+    Line::Step,
+    Line::Step,
+    Line::Read(
+        BEHIND_FIRST,
+        Word::Block(SECOND),
+        Word::At(BEHIND_FIRST_MADE),
+    ),
+    Line::Step,
+    Line::Step,
+    Line::Alloc(SECOND_MADE, Word::Block(SECOND)),
+    Line::Step,
+    Line::Write(BEHIND_FIRST_MADE, Word::Block(SECOND_MADE)),
+    Line::Step,
+    Line::Step,
+    Line::Read(
+        BEHIND_SECOND,
+        Word::Block(THIRD),
+        Word::At(BEHIND_SECOND_MADE),
+    ),
+    Line::Step,
+    Line::Step,
+    Line::Alloc(THIRD_MADE, Word::Block(THIRD)),
+    Line::Step,
+    Line::Write(BEHIND_SECOND_MADE, Word::Block(THIRD_MADE)),
+    Line::Step,
+    Line::Step,
+    Line::Read(BEHIND_THIRD, Word::Null, Word::At(BEHIND_THIRD_MADE)),
+    Line::Step,
+    Line::Step,
+    Line::Write(BEHIND_THIRD_MADE, Word::Null),
+    Line::End,
+    Line::End,
+    Line::End,
+    Line::End,
+];
+
+fn maps_three_cells<R: Abort>(rt: &R, alloc: Global, trace: &mut Trace)
+    requires room { 15 ≤ trace.old.spare }
+    requires closed { NoLooseEnd trace.old.nodes }
+{
+    let root = trace.root();
+    trace.set_steps(root, 1);
+    let at = add_cell(rt, alloc, trace, root, MAPPED_FIRST);
+    let at = add_cell(rt, alloc, trace, at, MAPPED_SECOND);
+    let at = add_cell(rt, alloc, trace, at, MAPPED_THIRD);
+    add_last(rt, alloc, trace, at);
+    equal(rt, trace.steps(), 18);
+    has_lines(rt, alloc, trace, &MAPPED);
 }
 
 #[test]
-fn map_of_three_cells(rt: HostRuntime) -> Result<(), Fail> {
+fn map_of_three_cells(rt: HostRuntime) {
     let alloc = rt.alloc();
-    let (c1, c2, c3) = (BlockId::Input(2), BlockId::Input(1), BlockId::Input(0));
-    let (d1, d2, d3) = (BlockId::Core(0), BlockId::Core(1), BlockId::Core(2));
     let mut trace = Trace::new(alloc).expect(&rt, "memory");
     trace.reserve(15).expect(&rt, "memory");
-    let root = trace.root();
-    trace.set_steps(root, 1);
-    let at = add_cell(alloc, &mut trace, root, input(3, 0), c1, d1, input(4, 0)).expect(
-        &rt, "memory",
-    );
-    let at = add_cell(alloc, &mut trace, at, input(2, 1), c2, d2, core(0, 1)).expect(&rt, "memory");
-    let at = add_cell(alloc, &mut trace, at, input(1, 1), c3, d3, core(1, 1)).expect(&rt, "memory");
-    add_last(alloc, &mut trace, at, input(0, 1), core(2, 1)).expect(&rt, "memory");
-    assert!(rt; trace.steps() == 18);
-    let lines = forest(alloc, &trace).expect(&rt, "memory");
-    let wanted = [
-        Line::Step,
-        Line::Read(input(3, 0), Word::Block(c1), Word::At(input(4, 0))),
-        Line::Step,
-        Line::Step,
-        Line::Alloc(d1, Word::Block(c1)),
-        Line::Step,
-        Line::Write(input(4, 0), Word::Block(d1)),
-        Line::Step,
-        Line::Step,
-        Line::Read(input(2, 1), Word::Block(c2), Word::At(core(0, 1))),
-        Line::Step,
-        Line::Step,
-        Line::Alloc(d2, Word::Block(c2)),
-        Line::Step,
-        Line::Write(core(0, 1), Word::Block(d2)),
-        Line::Step,
-        Line::Step,
-        Line::Read(input(1, 1), Word::Block(c3), Word::At(core(1, 1))),
-        Line::Step,
-        Line::Step,
-        Line::Alloc(d3, Word::Block(c3)),
-        Line::Step,
-        Line::Write(core(1, 1), Word::Block(d3)),
-        Line::Step,
-        Line::Step,
-        Line::Read(input(0, 1), Word::Null, Word::At(core(2, 1))),
-        Line::Step,
-        Line::Step,
-        Line::Write(core(2, 1), Word::Null),
-        Line::End,
-        Line::End,
-        Line::End,
-        Line::End,
-    ];
-    assert!(rt; lines.as_slice() == wanted.as_slice());
-    drop(lines);
+    maps_three_cells(&rt, alloc, &mut trace);
     drop(trace);
-    Ok(())
 }

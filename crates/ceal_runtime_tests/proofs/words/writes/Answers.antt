@@ -1,7 +1,7 @@
 use Rattle.std.proofs.Common.{◌≢◌, ℕ, ◌∙◌, Option, List, [], ◌∷◌, IsSome, sym, ap, subst, refl, replicate}
 use Rattle.ceal_words.specs.SizeClass.{word_in, changed}
 use Rattle.ceal_runtime_tests.proofs.SlotFacts.{apart}
-use Rattle.ceal_runtime_tests.proofs.words.writes_and_gives_back.Goals as goal
+use Rattle.ceal_runtime_tests.proofs.words.writes.Goals as goal
 
 pub get-requires : goal.get-requires
 get-requires g c =
