@@ -103,7 +103,9 @@ fn run<K: Sink>(
     match Session::new(alloc, program, fuel) {
         Ok(session) => {
             let mut session = session;
-            reply_all(&mut session, script(input, &split(input)), sink)
+            let told = reply_all(&mut session, script(input, &split(input)), sink);
+            drop(session);
+            told
         }
         Err(NoMemory) => Err(Stopped::Memory),
     }

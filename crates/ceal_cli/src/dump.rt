@@ -116,7 +116,9 @@ pub fn dump<K: Sink>(
     match Session::new(alloc, program, fuel) {
         Ok(session) => {
             let mut session = session;
-            write_dump(alloc, &mut session, script(input, &split(input)), sink)
+            let told = write_dump(alloc, &mut session, script(input, &split(input)), sink);
+            drop(session);
+            told
         }
         Err(NoMemory) => Err(Stopped::Memory),
     }

@@ -54,7 +54,9 @@ fn run<K: Sink>(alloc: Global, text: &[u8], program: Program, sink: &mut K) -> R
     match Session::new(alloc, program, DEFAULT_FUEL) {
         Ok(session) => {
             let mut session = session;
-            reply_from_run(&mut session, script(text, &split(text)), sink)
+            let told = reply_from_run(&mut session, script(text, &split(text)), sink);
+            drop(session);
+            told
         }
         Err(NoMemory) => Err(Stopped::Memory),
     }
