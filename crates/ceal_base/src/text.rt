@@ -10,6 +10,7 @@ ghost use Rattle.std.specs.Cmp.Rules.{hashing};
 ghost use Rattle.std.proofs.Common.{rules};
 
 use crate::no_memory::NoMemory;
+use itoa::Buffer;
 use std::alloc::Global;
 use std::hash::{Hash, Hasher};
 use std::marker::Model;
@@ -95,8 +96,8 @@ impl Text {
         ensures ok { OnOk result (self.new ≡ self.old ++ decimal n) }
         ensures err { OnErr result (self.new ≡ self.old) }
     {
-        let digits = format!(in *self.bytes.allocator(); "{n}")?;
-        self.append(digits.as_bytes())
+        let mut digits = Buffer::new();
+        self.append_str(digits.format(n))
     }
 
     /// Puts the number at the end, in decimal, with its sign where it is below 0.
@@ -104,8 +105,8 @@ impl Text {
         ensures ok { OnOk result (self.new ≡ self.old ++ signed_decimal n) }
         ensures err { OnErr result (self.new ≡ self.old) }
     {
-        let digits = format!(in *self.bytes.allocator(); "{n}")?;
-        self.append(digits.as_bytes())
+        let mut digits = Buffer::new();
+        self.append_str(digits.format(n))
     }
 
     /// Whether both are the same bytes.

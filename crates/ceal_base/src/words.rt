@@ -51,6 +51,33 @@ impl Words {
     pub fn from_slice(alloc: Global, items: &[Word]) -> Result<Words, NoMemory>
         ensures equal { IfOk result (λ w. w ≡ items.now) }
     {
+        match items {
+            [] => Ok(Words::empty(alloc)),
+            [one] => Ok(Words::one(alloc, *one)),
+            [one, two] => Ok(Words::two(alloc, *one, *two)),
+            _ => Words::many(alloc, items),
+        }
+    }
+
+    // One word, in the value itself.
+    fn one(alloc: Global, word: Word) -> Words
+        ensures { result ≡ word ∷ [] }
+    {
+        let items = SmallVec::from_buf_and_len(alloc, [word, Word::Null], 1);
+        Words { items }
+    }
+
+    // Two words, in the value itself.
+    fn two(alloc: Global, first: Word, second: Word) -> Words
+        ensures { result ≡ first ∷ second ∷ [] }
+    {
+        let items = SmallVec::from_buf(alloc, [first, second]);
+        Words { items }
+    }
+
+    fn many(alloc: Global, items: &[Word]) -> Result<Words, NoMemory>
+        ensures { IfOk result (λ w. w ≡ items.now) }
+    {
         let items = SmallVec::from_slice(alloc, items)?;
         Ok(Words { items })
     }
