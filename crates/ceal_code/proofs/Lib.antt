@@ -43,3 +43,4 @@ pub mod TypedCommands
 pub mod ValueSteps
 pub mod InitSteps
 pub mod StackSteps
+pub mod GivenSteps

@@ -22,3 +22,4 @@ pub mod After
 -- what its own functions say of each other
 pub mod Parts
 pub mod Branches
+pub mod Weaving

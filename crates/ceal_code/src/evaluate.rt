@@ -1,6 +1,6 @@
 // The values of the expressions of trace code.
 
-ghost use Rattle.std.specs.Prelude.{◌≡◌, is_some, Option, IfOk};
+ghost use Rattle.std.specs.Prelude.{◌≡◌, is_some, Option, IfOk, IfSome};
 ghost use Rattle.ceal_base.specs.Access.{place_in};
 ghost use Rattle.ceal_base.specs.declared.kind.Shape.TheVariants.{Struct};
 ghost use Rattle.ceal_code.specs.Init.{arguments};
@@ -120,28 +120,57 @@ impl<'a, P: PlainWords> Scope<'a, P> {
         }
     }
 
-    /// What an expression gives. It recurses as deep as the expression is.
+    /// What an expression without parts gives, and None of any other.
     #[tactic(auto, using(crate::proofs::ValueSteps::value_steps))]
+    fn leaf(&self, e: &CodeExpr) -> Option<Word>
+        ensures { IfSome result (λ word. word ≡ expr_value self.now.structs.now
+            (P.plain self.now.plain.now) (arguments self.now.env.now) e.now) }
+    {
+        match e {
+            CodeExpr::Num(n) => Some(Word::Num(*n)),
+            CodeExpr::Null => Some(Word::Null),
+            CodeExpr::Var(v) => Some(variable(self.env, v.0)),
+            CodeExpr::Unary(_, _) => None,
+            CodeExpr::Binary(_, _, _) => None,
+            CodeExpr::Field(_, _, _) => None,
+            CodeExpr::Address(_, _, _) => None,
+        }
+    }
+
+    /// What an expression gives. Most have no parts, and are read at once.
     pub fn value(&self, e: &CodeExpr) -> Word
         ensures value { result ≡ expr_value self.now.structs.now
+            (P.plain self.now.plain.now) (arguments self.now.env.now) e.now }
+    {
+        match self.leaf(e) {
+            Some(word) => word,
+            None => self.whole(e),
+        }
+    }
+
+    /// The same, part by part. It recurses as deep as the expression is.
+    #[inline(never)]
+    #[tactic(auto, using(crate::proofs::ValueSteps::value_steps))]
+    fn whole(&self, e: &CodeExpr) -> Word
+        ensures { result ≡ expr_value self.now.structs.now
             (P.plain self.now.plain.now) (arguments self.now.env.now) e.now }
     {
         match e {
             CodeExpr::Num(n) => Word::Num(*n),
             CodeExpr::Null => Word::Null,
             CodeExpr::Var(v) => variable(self.env, v.0),
-            CodeExpr::Unary(op, a) => apply_unary(*op, self.value(a.get())),
+            CodeExpr::Unary(op, a) => apply_unary(*op, self.whole(a.get())),
             CodeExpr::Binary(op, a, b) => {
-                let left = self.value(a.get());
-                let right = self.value(b.get());
+                let left = self.whole(a.get());
+                let right = self.whole(b.get());
                 apply_binary(*op, left, right)
             }
             CodeExpr::Field(a, s, field) => {
-                let base = self.value(a.get());
+                let base = self.whole(a.get());
                 self.field(base, *s, *field)
             }
             CodeExpr::Address(a, s, field) => {
-                let base = self.value(a.get());
+                let base = self.whole(a.get());
                 self.address(base, *s, *field)
             }
         }
@@ -151,6 +180,20 @@ impl<'a, P: PlainWords> Scope<'a, P> {
     #[tactic(auto, using(crate::proofs::ValueSteps::values_steps))]
     pub fn values(&self, alloc: Global, es: &[CodeExpr]) -> Result<Words, NoMemory>
         ensures value { IfOk result (λ words. words ≡ values self.now.structs.now
+            (P.plain self.now.plain.now) (arguments self.now.env.now) es.now) }
+    {
+        match es {
+            [] => Ok(Words::empty(alloc)),
+            [one] => Words::from_slice(alloc, &[self.value(one)]),
+            [one, two] => Words::from_slice(alloc, &[self.value(one), self.value(two)]),
+            _ => self.many_values(alloc, es),
+        }
+    }
+
+    /// The same, one by one.
+    #[tactic(auto, using(crate::proofs::ValueSteps::values_steps))]
+    fn many_values(&self, alloc: Global, es: &[CodeExpr]) -> Result<Words, NoMemory>
+        ensures { IfOk result (λ words. words ≡ values self.now.structs.now
             (P.plain self.now.plain.now) (arguments self.now.env.now) es.now) }
     {
         let mut words = Words::empty(alloc);

@@ -1,12 +1,13 @@
 // Units still to do, and the words that they begin with.
 
-ghost use Rattle.std.specs.Prelude.{◌≡◌, ◌∷◌, [], ◌++◌, ◌-◌, ◌+◌, ◌<◌, ◌==◌, length, replicate, min, slice_get, unwrap_or, Some, if◌then◌else◌, IfOk, OnOk};
+ghost use Rattle.std.specs.Prelude.{◌≡◌, ◌∷◌, [], ◌++◌, ◌-◌, ◌+◌, ◌<◌, ◌≤◌, ◌==◌, length, replicate, min, slice_get, unwrap_or, Some, if◌then◌else◌, IfOk, OnOk};
 ghost use Rattle.std.specs.declared.alloc.Global.{Global as Allocator};
 ghost use Rattle.ceal_base.specs.declared.word.Word.{Word};
 ghost use Rattle.ceal_code.specs.Init.{arguments};
 ghost use Rattle.ceal_code.specs.Stacks.{over, units_in, stack_in, arrived};
 ghost use Rattle.ceal_code.specs.Step.{Empty, unit_at, bound, entered, chosen, started, first_word, later_words, woven, given, settled};
 ghost use Rattle.ceal_code.specs.Value.{set, expr_value, values};
+ghost use Rattle.ceal_code.specs.Weaving.{one_other, others};
 
 use crate::code::Code;
 use crate::evaluate::Scope;
@@ -169,6 +170,65 @@ pub fn weave(
     Ok(words)
 }
 
+fn other(p: VarId, v: u32) -> usize
+    ensures value { result ≡ one_other v p }
+    ensures small { result ≤ 1 }
+{
+    if p.0 == v { 0 } else { 1 }
+}
+
+/// How many of the parameters are not the variable.
+fn count_others(params: &[VarId], v: u32) -> usize
+    ensures { result ≡ others v params.now }
+{
+    let mut count = 0;
+    for i in 0..params.len() {
+        let p = param_at(params, i);
+        let one = other(p, v);
+        count += one;
+    }
+    count
+}
+
+/// The value for the variable, and the argument at an index for any other parameter.
+fn given_word(p: VarId, v: u32, value: Word, args: &[Word], at: usize) -> Word
+    ensures { result ≡ (if p.0 == v then value else unwrap_or (slice_get args.now at) Word.Null) }
+{
+    if p.0 == v {
+        return value;
+    }
+    match args.get(at) {
+        None => Word::Null,
+        Some(word) => *word,
+    }
+}
+
+/// The words of the parameters of a unit that goes on after a read. The last ones come first, as the last variable makes
+/// room for all.
+fn bind_given(
+    alloc: Global,
+    params: &[VarId],
+    v: u32,
+    value: Word,
+    args: &[Word],
+) -> Result<Vec<Word>, NoMemory>
+    ensures { IfOk result
+        (λ env. arguments env.items ≡ bound params.now (woven params.now v value args.now)) }
+{
+    let mut env = Vec::new(alloc);
+    let mut at = count_others(params, v);
+    let mut i = params.len();
+    while i > 0 {
+        i -= 1;
+        let p = param_at(params, i);
+        let one = other(p, v);
+        at -= one;
+        let word = given_word(p, v, value, args, at);
+        set_variable(&mut env, p.0, word)?;
+    }
+    Ok(env)
+}
+
 impl Activation {
     /// What an expression gives in the unit.
     pub fn value<P: PlainWords>(&self, code: &Code, plain: &P, e: &CodeExpr) -> Word
@@ -221,6 +281,29 @@ impl Activation {
         })
     }
 
+    /// The unit that goes on after a read, at its beginning, with the content that was read.
+    fn resumed(
+        alloc: Global,
+        code: &Code,
+        closure: &Closure,
+        value: Word,
+    ) -> Result<Activation, NoMemory>
+        ensures unit { IfOk result (λ a. a.unit ≡ closure.now.unit.0) }
+        ensures index { IfOk result (λ a. a.index ≡ 0) }
+        ensures env { IfOk result (λ a. arguments a.env.items
+            ≡ bound (unit_at code.now closure.now.unit.0).params (given code.now closure.now.unit.0
+            closure.now.var closure.now.args value)) }
+    {
+        let unit = closure.unit.0 as usize;
+        let params = code.params_of(unit);
+        let env = bind_given(alloc, params, closure.var, value, closure.args.items())?;
+        Ok(Activation {
+            unit,
+            index: 0,
+            env,
+        })
+    }
+
     /// Gives a variable a word.
     pub fn set(&mut self, v: u32, word: Word) -> Result<(), NoMemory>
         ensures unit { self.new.unit ≡ self.old.unit }
@@ -255,7 +338,8 @@ impl Stack {
     pub fn push(&mut self, unit: Activation) -> Result<(), NoMemory>
         ensures pushed { OnOk result (stack_in self.new ≡ over unit (stack_in self.old)) }
     {
-        self.units.push(unit)?;
+        self.units.reserve(1)?;
+        self.units.push_reserved(unit);
         Ok(())
     }
 
@@ -276,10 +360,8 @@ impl Stack {
             (stack_in self.old)) }
     {
         let alloc = *self.units.allocator();
-        let unit = closure.unit.0 as usize;
-        let params = code.params_of(unit);
-        let words = weave(alloc, params, closure.var, value, closure.args.items())?;
-        self.enter(code, unit, words.as_slice())
+        let unit = Activation::resumed(alloc, code, closure, value)?;
+        self.push(unit)
     }
 
     /// A call of the function by itself, on words for all its parameters.

@@ -1,7 +1,7 @@
 use Rattle.std.proofs.Common.{◌≡◌, take}
 use Rattle.ceal_code.specs.Init.{arguments}
 use Rattle.ceal_code.specs.Value.{values}
-use Rattle.ceal_code.proofs.evaluate.Scope.values.Given as goal
+use Rattle.ceal_code.proofs.evaluate.Scope.many_values.Given as goal
 
 abbrev pub invariant-loop-e : goal.invariant-loop-e
 invariant-loop-e g l =
