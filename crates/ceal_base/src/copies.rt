@@ -1,6 +1,6 @@
 // Copies of the trees of a program, each equal to what it copies. The recursion is as deep as the tree.
 
-ghost use Rattle.std.specs.Prelude.{◌≡◌, IfOk};
+ghost use Rattle.std.specs.Prelude.{◌≡◌, Ok, IfOk};
 
 use crate::boxed::Boxed;
 use crate::items::Items;
@@ -10,6 +10,29 @@ use crate::typed::{
     FieldInfo, StructInfo, TypedExpr, TypedForm, TypedFunction, TypedStmt, TypedValue,
 };
 use std::alloc::Global;
+
+/// Two copies, if there was memory for both. No value is let go in the callers.
+fn both<A: Drop, B: Drop>(
+    first: Result<A, NoMemory>,
+    second: Result<B, NoMemory>,
+) -> Result<(A, B), NoMemory>
+    ensures first { IfOk result (λ pair. first ≡ Ok pair.0) }
+    ensures second { IfOk result (λ pair. second ≡ Ok pair.1) }
+{
+    match first {
+        Err(error) => {
+            drop(second);
+            Err(error)
+        }
+        Ok(first) => match second {
+            Err(error) => {
+                drop(first);
+                Err(error)
+            }
+            Ok(second) => Ok((first, second)),
+        },
+    }
+}
 
 /// An equal expression.
 #[cycle(copied)]
@@ -118,13 +141,11 @@ pub fn copied_stmt(alloc: Global, s: &TypedStmt) -> Result<TypedStmt, NoMemory>
             Ok(TypedStmt::Assign(*at, *n, value))
         }
         TypedStmt::SetField(at, left, shape, field, right) => {
-            let left = copied_expr(alloc, left)?;
-            let right = copied_expr(alloc, right)?;
+            let (left, right) = both(copied_expr(alloc, left), copied_expr(alloc, right))?;
             Ok(TypedStmt::SetField(*at, left, *shape, *field, right))
         }
         TypedStmt::Write(at, place, value) => {
-            let place = copied_expr(alloc, place)?;
-            let value = copied_expr(alloc, value)?;
+            let (place, value) = both(copied_expr(alloc, place), copied_expr(alloc, value))?;
             Ok(TypedStmt::Write(*at, place, value))
         }
         TypedStmt::Call(at, n, args) => {
@@ -132,14 +153,15 @@ pub fn copied_stmt(alloc: Global, s: &TypedStmt) -> Result<TypedStmt, NoMemory>
             Ok(TypedStmt::Call(*at, *n, args))
         }
         TypedStmt::If(at, test, first, second) => {
-            let test = copied_expr(alloc, test)?;
-            let first = copied_stmts(alloc, first.items())?;
-            let second = copied_stmts(alloc, second.items())?;
+            let first = copied_stmts(alloc, first.items());
+            let second = copied_stmts(alloc, second.items());
+            let (test, parts) = both(copied_expr(alloc, test), both(first, second))?;
+            let (first, second) = parts;
             Ok(TypedStmt::If(*at, test, first, second))
         }
         TypedStmt::While(at, test, body) => {
-            let test = copied_expr(alloc, test)?;
-            let body = copied_stmts(alloc, body.items())?;
+            let body = copied_stmts(alloc, body.items());
+            let (test, body) = both(copied_expr(alloc, test), body)?;
             Ok(TypedStmt::While(*at, test, body))
         }
         TypedStmt::Return(at) => Ok(TypedStmt::Return(*at)),

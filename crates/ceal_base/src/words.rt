@@ -78,8 +78,17 @@ impl Words {
     fn many(alloc: Global, items: &[Word]) -> Result<Words, NoMemory>
         ensures { IfOk result (λ w. w ≡ items.now) }
     {
-        let items = SmallVec::from_slice(alloc, items)?;
-        Ok(Words { items })
+        let items = Vec::from_slice(alloc, items)?;
+        Ok(Words::from_vec(items))
+    }
+
+    /// The words of a vector, whose memory is kept where they are more than a few.
+    pub fn from_vec(items: Vec<Word>) -> Words
+        ensures value { result ≡ items.items }
+    {
+        Words {
+            items: SmallVec::from_vec(items),
+        }
     }
 
     pub fn push(&mut self, item: Word) -> Result<(), NoMemory>
