@@ -55,14 +55,35 @@ fn fill(env: &mut Vec<Word>, count: usize) -> Result<(), NoMemory>
     Ok(())
 }
 
-/// Gives a variable a word.
-fn set_variable(env: &mut Vec<Word>, v: u32, word: Word) -> Result<(), NoMemory>
+/// Gives a variable a word, behind those that there are.
+#[inline(never)]
+fn set_beyond(env: &mut Vec<Word>, v: u32, word: Word) -> Result<(), NoMemory>
     ensures { OnOk result (arguments env.new.items ≡ set (arguments env.old.items) v word) }
 {
     let at = v as usize;
     fill(env, at + 1)?;
     env[at] = word;
     Ok(())
+}
+
+/// Gives a variable a word where there is one.
+fn set_there(env: &mut Vec<Word>, at: usize, word: Word)
+    requires { at < length env.old.items }
+    ensures { arguments env.new.items ≡ set (arguments env.old.items) at word }
+{
+    env[at] = word;
+}
+
+/// Gives a variable a word.
+fn set_variable(env: &mut Vec<Word>, v: u32, word: Word) -> Result<(), NoMemory>
+    ensures { OnOk result (arguments env.new.items ≡ set (arguments env.old.items) v word) }
+{
+    let at = v as usize;
+    if at < env.len() {
+        set_there(env, at, word);
+        return Ok(());
+    }
+    set_beyond(env, v, word)
 }
 
 fn param_at(params: &[VarId], i: usize) -> VarId

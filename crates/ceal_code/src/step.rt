@@ -1,6 +1,6 @@
 // The next step of a stack.
 
-ghost use Rattle.std.specs.Prelude.{◌≡◌, ◌<◌, ◌^◌, true, if◌then◌else◌, IfOk};
+ghost use Rattle.std.specs.Prelude.{◌≡◌, ◌<◌, ◌^◌, true, if◌then◌else◌, IfOk, OnOk};
 ghost use Rattle.ceal_base.specs.Access.{holds};
 ghost use Rattle.ceal_code.specs.Stacks.{stack_in, act_in, act_on, ends, Does};
 ghost use Rattle.ceal_code.specs.Step.{Quiet, variable_default, entered, given, key_of, place_of, next};
@@ -14,6 +14,7 @@ use ceal_base::forest::Key;
 use ceal_base::kind::Shape;
 use ceal_base::no_memory::NoMemory;
 use ceal_base::word::{Place, Word};
+use ceal_base::words::Words;
 
 /// What the next step is; the stack is that after it.
 #[derive(Drop)]
@@ -83,13 +84,19 @@ fn null_read(
     stack: &mut Stack,
     unit: usize,
     v: u32,
-    args: &[Word],
+    args: Words,
 ) -> Result<Act, NoMemory>
     ensures { IfOk result (λ a. act_in a (stack_in stack.new) ≡ Quiet (entered code.now unit
-        (given code.now unit v args.now (variable_default code.now unit v)) (stack_in stack.old))) }
+        (given code.now unit v args (variable_default code.now unit v)) (stack_in stack.old))) }
 {
     let value = null_content(code, unit, v);
-    let words = weave(stack.allocator(), code.params_of(unit), v, value, args)?;
+    let words = weave(
+        stack.allocator(),
+        code.params_of(unit),
+        v,
+        value,
+        args.items(),
+    )?;
     stack.enter(code, unit, words.as_slice())?;
     Ok(Act::Quiet)
 }
@@ -168,6 +175,15 @@ fn go_on<P: PlainWords>(
     }
 }
 
+/// Puts a unit on the stack at its beginning, with these words for its parameters.
+fn enter_with(code: &Code, stack: &mut Stack, unit: usize, words: Words) -> Result<(), NoMemory>
+    ensures { OnOk result (stack_in stack.new ≡ entered code.now unit words (stack_in stack.old)) }
+{
+    let entered = stack.enter(code, unit, words.items());
+    drop(words);
+    entered
+}
+
 /// Does a command that ends the unit's path; the unit is no more on the stack.
 fn leave<P: PlainWords>(
     code: &Code,
@@ -190,7 +206,7 @@ fn leave<P: PlainWords>(
             let at = top.value(code, plain, place);
             let args = top.values(code, plain, args.items())?;
             match place_at(at) {
-                None => null_read(code, stack, unit.0 as usize, var.0, args.items()),
+                None => null_read(code, stack, unit.0 as usize, var.0, args),
                 Some(place) => Ok(Act::Reads(Closure {
                     place,
                     unit: *unit,
@@ -206,9 +222,9 @@ fn leave<P: PlainWords>(
             rest,
         } => {
             let rest = top.values(code, plain, rest.items())?;
-            stack.enter(code, unit.0 as usize, rest.items())?;
+            enter_with(code, stack, unit.0 as usize, rest)?;
             let args = top.values(code, plain, args.items())?;
-            stack.enter(code, code.entry_of(*function), args.items())?;
+            enter_with(code, stack, code.entry_of(*function), args)?;
             Ok(Act::Quiet)
         }
         Cmd::Done => Ok(Act::Over),
