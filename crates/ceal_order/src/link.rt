@@ -121,11 +121,11 @@ pub fn add_spares(links: &mut Vec<Link>, free: u32, more: usize) -> Result<u32, 
     let mut first = free;
     for added in 0..more {
         let at = links.len();
-        links.push(Link {
+        links.push_reserved(Link {
             label: 0,
             prev: NO_LINK,
             next: first,
-        })?;
+        });
         first = at as u32;
     }
     Ok(first)

@@ -72,6 +72,9 @@ impl Order {
         ensures err { OnErr result (self.new ≡ self.old) }
         ensures whole { IsOrder self.new }
     {
+        if n <= self.spare {
+            return Ok(());
+        }
         let more = n.saturating_sub(self.spare);
         if more as usize > NO_LINK as usize - self.links.len() {
             return Err(NoMemory);

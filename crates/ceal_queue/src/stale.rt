@@ -59,6 +59,9 @@ impl Stale {
         ensures follows { (order : List ℕ) → Follows order self.old → Follows order self.new }
     {
         let spare = self.spares.len() as u32;
+        if n <= spare {
+            return Ok(());
+        }
         let more = n.saturating_sub(spare);
         if more > u32::MAX - self.count - spare {
             return Err(NoMemory);

@@ -15,11 +15,7 @@ loop-added-preserved c =
     let at_is : c.len-at.result ≡ length mid.items = c.len-at.ensures ∙ mid.ok.0 in
     let room : length mid.items + 1 < 2 ^ 32 = omega (arith, grown.long, c.requires, c.loop-added-test.true) in
     record {
-      grown = rw (c.in_ok-push.ensures.items, at_is)
+      grown = rw (c.push_reserved.ensures.items, at_is)
           (grown_one c.args.links.now.items mid.items (record { label = 0; prev = 4294967295; next = c.loop-added.first }) c.args.free c.loop-added.first c.loop-added.added grown refl room);
-      room = omega (arith, c.in_ok-push.ensures.len, c.in_ok-push.ensures.capacity, c.loop-added.invariant.room, c.loop-added-test.true);
+      room = omega (arith, c.push_reserved.ensures.len, c.push_reserved.ensures.capacity, c.loop-added.invariant.room, c.loop-added-test.true);
     }
-
-pub returns-in_err-push-clause-err : goal.returns-in_err-push-clause-err
-returns-in_err-push-clause-err c =
-    absurd (omega (arith, c.in_err-push.ensures.full, c.loop-added.invariant.room, c.loop-added-test.true))

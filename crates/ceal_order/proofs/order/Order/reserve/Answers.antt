@@ -9,3 +9,6 @@ returns-in_err-self-inside-clause-whole c = rw c.in_err-self-inside.ensures.err 
 
 pub returns-clause-whole : goal.returns-clause-whole
 returns-clause-whole c = order_is _ _ _ _ _ (c.in_ok-self-inside.ensures.ok.sound _ c.self.invariant)
+
+pub returns-then-n-self-clause-whole : goal.returns-then-n-self-clause-whole
+returns-then-n-self-clause-whole c = rw (← c.self.view_is) (order_is _ _ _ _ _ c.self.invariant)
