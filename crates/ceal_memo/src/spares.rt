@@ -41,16 +41,17 @@ impl Spares {
         self.numbers.len()
     }
 
-    /// Makes room for the numbers of so many lists, so that none is lost later for want of memory.
+    /// Makes room for the numbers of so many lists, and of some beyond, so that none is lost later for want of memory.
     pub fn make_room(&mut self, count: usize) -> Result<(), NoMemory>
         ensures same { self.new ≡ self.old }
     {
-        if self.noted.len() < count {
-            self.noted
-                .resize(count.saturating_add(LISTS_BEYOND), false)?;
+        if count <= self.noted.len() {
+            return Ok(());
         }
+        let lists = count.saturating_add(LISTS_BEYOND);
         self.numbers
-            .reserve(count.saturating_sub(self.numbers.len()))?;
+            .reserve(lists.saturating_sub(self.numbers.len()))?;
+        self.noted.resize(lists, false)?;
         Ok(())
     }
 
