@@ -69,13 +69,14 @@ pub fn lengthen(rows: &mut Vec<Row>, count: usize) -> Result<(), NoMemory>
     ensures enough { OnOk result (count ≤ length rows.new.items) }
 {
     let more = count.saturating_sub(rows.len());
+    rows.reserve(more)?;
     for added in 0..more {
         let row = Row {
             node: None,
             steps: 0,
             end: NO_STAMP,
         };
-        rows.push(row)?;
+        rows.push_reserved(row);
     }
     Ok(())
 }
