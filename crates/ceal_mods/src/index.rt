@@ -3,7 +3,7 @@
 ghost use Rattle.std.specs.Prelude.{◌≡◌, ◌≢◌, OnOk, OnErr};
 ghost use Rattle.ceal_base.specs.declared.word.Place.{Place as PlaceOf};
 ghost use Rattle.ceal_mods.specs.Slots.{no_slot};
-ghost use Rattle.ceal_mods.specs.Index.{near_of, slot_of};
+ghost use Rattle.ceal_mods.specs.Index.{near_of, far_of, slot_of};
 
 use crate::slots::{NO_SLOT, Sheet};
 use ceal_base::no_memory::NoMemory;
@@ -46,6 +46,14 @@ impl Index {
         if near != NO_SLOT || self.far.is_empty() {
             return near;
         }
+        self.far(place)
+    }
+
+    // The slot of a place that is found by hashing. It stands apart, so that the others are found without it at little cost.
+    #[inline(never)]
+    fn far(&self, place: Place) -> u32
+        ensures { result ≡ far_of self.now place }
+    {
         match self.far.get(&place) {
             None => NO_SLOT,
             Some(slot) => *slot,
