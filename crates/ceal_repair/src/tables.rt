@@ -88,15 +88,15 @@ impl Tables {
     }
 
     /// Puts an allocation directly after a node.
-    pub fn put_alloc(&mut self, after: Stamp, block: BlockId, key: &Key) -> Result<Stamp, NoMemory>
+    pub fn put_alloc(&mut self, after: Stamp, block: BlockId, key: Key) -> Result<Stamp, NoMemory>
         requires kept { Kept self.old }
         requires here { IsTrue (has_node after.0 self.old.trace.nodes) }
         ensures nodes { IfOk result (λ s.
             self.new.trace.nodes
-            ≡ with_entry_after after.0 (new_entry s.0 (Alloc block key.now)) self.old.trace.nodes) }
+            ≡ with_entry_after after.0 (new_entry s.0 (Alloc block key)) self.old.trace.nodes) }
         ensures inserted { IfOk result
             (λ s. Inserted after.0 s.0
-            (Alloc block key.now) self.old.trace.nodes self.new.trace.nodes) }
+            (Alloc block key) self.old.trace.nodes self.new.trace.nodes) }
         ensures mods { OnOk result (self.new.mods ≡ self.old.mods) }
         ensures queue { OnOk result (self.new.stale ≡ self.old.stale) }
         ensures behind { IfOk result
@@ -109,8 +109,7 @@ impl Tables {
         self.trace.reserve(1)?;
         let own = key.copy()?;
         let alloc = self.trace.insert_alloc(after, block, own);
-        let entry = key.copy()?;
-        self.memo.add_alloc(self.trace.order(), entry, alloc)?;
+        self.memo.add_alloc(self.trace.order(), key, alloc)?;
         Ok(alloc)
     }
 
@@ -161,19 +160,19 @@ impl Tables {
     }
 
     /// Puts a read directly after a node, with what its place holds there. It has no end yet.
-    pub fn begin_read(&mut self, after: Stamp, key: &ReadKey) -> Result<Begun, NoMemory>
+    pub fn begin_read(&mut self, after: Stamp, key: ReadKey) -> Result<Begun, NoMemory>
         requires kept { Kept self.old }
         requires here { IsTrue (has_node after.0 self.old.trace.nodes) }
         ensures value { IfOk result (λ b.
             b.value ≡ contents_after (base_in self.old.mods)
-            (up_to after.0 self.old.trace.nodes) key.now.place) }
+            (up_to after.0 self.old.trace.nodes) key.place) }
         ensures nodes { IfOk result (λ b. self.new.trace.nodes
             ≡ with_entry_after after.0
-            (new_entry b.read.0 (Read key.now.place b.value key.now.unit key.now.var key.now.args))
+            (new_entry b.read.0 (Read key.place b.value key.unit key.var key.args))
             self.old.trace.nodes) }
         ensures inserted { IfOk result (λ b.
             Inserted after.0 b.read.0
-            (Read key.now.place b.value key.now.unit key.now.var key.now.args) self.old.trace.nodes
+            (Read key.place b.value key.unit key.var key.args) self.old.trace.nodes
             self.new.trace.nodes) }
         ensures open { IfOk result (λ b. end_in b.read.0 self.new.trace.nodes ≡ None) }
         ensures bases { OnOk result
@@ -187,14 +186,13 @@ impl Tables {
         queue_follows();
         memo_follows();
         self.trace.reserve(1)?;
-        let entry = key.copy()?;
         let args = key.args.copy()?;
         let value = self.value_behind(key.place, after);
         let read = self
             .trace
             .begin_read(after, key.place, value, key.unit, key.var, args);
         self.mods.add_read(self.trace.order(), key.place, read)?;
-        self.memo.add_read(self.trace.order(), entry, read)?;
+        self.memo.add_read(self.trace.order(), key, read)?;
         Ok(Begun { read, value })
     }
 

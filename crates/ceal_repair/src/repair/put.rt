@@ -69,17 +69,18 @@ impl<'a> Repair<'a> {
     {
         self.step()?;
         let block = self.running.make(self.alloc, self.code, self.inputs, &key)?;
-        self.cursor = self.running.tables.put_alloc(self.cursor, block, &key)?;
+        let pointer = pointer_to(&key, block);
+        self.cursor = self.running.tables.put_alloc(self.cursor, block, key)?;
         let mut unit = unit;
-        unit.set(var, pointer_to(&key, block))?;
+        unit.set(var, pointer)?;
         self.stack.push(unit)?;
         Ok(())
     }
 
     /// A new read, which no read that is left over is: its unit runs on the content of its place, with what is left over.
-    pub fn begin(&mut self, closure: Closure, key: &ReadKey) -> Result<(), NoMemory>
+    pub fn begin(&mut self, closure: Closure, key: ReadKey) -> Result<(), NoMemory>
         requires acts { (start : Start) × Acts start (act.Reads closure) self.old }
-        requires key { key.now ≡ key_in closure }
+        requires key { key ≡ key_in closure }
         requires absent { head_of (stamps_where (recalls (key_in closure)) (left_nodes self.old))
             ≡ None }
         ensures call { OnOk result (SameCall self.old self.new) }

@@ -66,8 +66,9 @@ impl<'a> Repair<'a> {
     {
         let key = key_of(&closure)?;
         match self.find_read(&key) {
-            None => self.begin(closure, &key)?,
+            None => self.begin(closure, key)?,
             Some(found) => {
+                drop(key);
                 if !self.take_read(found, closure)? {
                     self.pass()?;
                 }

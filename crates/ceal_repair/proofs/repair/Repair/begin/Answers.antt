@@ -36,7 +36,7 @@ returns-clause-runs c = λ start a.
     let p = c.args.closure.place in
     let word = c.in_ok-begun.begun.value in
     let node : Node = Read p word c.args.closure.unit c.args.closure.var c.args.closure.args in
-    let key = c.args.key.now in
+    let key = c.args.key in
     let put : NodeMore new.cursor.0 read.0 (Read key.place word key.unit key.var key.args) new.running.tables c.begin_read.new.self = record { nodes = f.nodes; inserted = f.inserted; bases = f.bases; behind = f.behind; kept = f.kept } in
     let k : NodeMore new.cursor.0 read.0 node new.running.tables c.begin_read.new.self = rw c.requires.key at put in
     let below : CodeStack = c.replace-below.result in

@@ -43,7 +43,7 @@ returns-clause-runs c = λ start a.
     record { nodes = g.nodes; inserted = g.inserted; bases = λ p. rw g.mods refl; behind = g.behind; kept = g.kept } in
     let unit : Activation = c.args.unit in
     let env : arguments c.set.new.self.env.items ≡ set (arguments unit.env.items) c.args.var (pointer c.args.key (Core b)) =
-    c.in_ok-set.ensures.env ∙ ap (λ w. set (arguments unit.env.items) c.args.var w) (c.pointer_to.ensures.value ∙ ap (pointer c.args.key) f.core.1) in
+    c.in_ok-set.ensures.env ∙ ap (λ w. set (arguments unit.env.items) c.args.var w) (c.pointer_to-pointer.ensures.value ∙ ap (pointer c.args.key) f.core.1) in
     let stack : stack_in c.push.new.self ≡ Run unit.unit unit.index (set (arguments unit.env.items) c.args.var (pointer c.args.key (Core b))) (stack_in old.stack) =
     c.in_ok-push.ensures.pushed ∙ (ap (λ u. Run u c.set.new.self.index (arguments c.set.new.self.env.items) (stack_in new.stack)) c.set.ensures.unit
     ∙ (ap (λ i. Run unit.unit i (arguments c.set.new.self.env.items) (stack_in new.stack)) c.set.ensures.index

@@ -18,10 +18,10 @@ pub returns-clause-kept : goal.returns-clause-kept
 returns-clause-kept c =
     let s : ℕ = c.insert_alloc-alloc.result.0 in
     let more = rw c.reserve.ensures.nodes at c.insert_alloc-alloc.ensures.inserted in
-    alloc-kept c.args.self.now c.requires.kept c.args.after.0 s (Alloc c.args.block c.args.key.now) c.insert_alloc-alloc.new.self c.requires.here
+    alloc-kept c.args.self.now c.requires.kept c.args.after.0 s (Alloc c.args.block c.args.key) c.insert_alloc-alloc.new.self c.requires.here
     (rw (c.reserve.ensures.nodes, c.in_ok-own.ensures.equal) at c.insert_alloc-alloc.ensures.nodes) (rw (c.reserve.ensures.nodes, c.in_ok-own.ensures.equal) at c.insert_alloc-alloc.ensures.inserted)
-    c.insert_alloc-alloc.ensures.whole c.insert_alloc-alloc.ensures.closed c.args.block c.args.key.now refl c.add_alloc.new.self
-    (rw (c.in_ok-entry.ensures.equal, c.order.ensures) at c.in_ok-add_alloc.ensures.ok)
+    c.insert_alloc-alloc.ensures.whole c.insert_alloc-alloc.ensures.closed c.args.block c.args.key refl c.add_alloc.new.self
+    (rw c.order.ensures at c.in_ok-add_alloc.ensures.ok)
     (c.follows_still.ensures.inserted s c.args.self.now.mods (stamps_in c.args.self.now.trace.nodes) (stamps_in c.insert_alloc-alloc.new.self.nodes) c.requires.kept.step.mods more.others.stamps)
     (rw c.order.ensures at c.add_alloc.ensures.follows)
     (c.follows_still-2.ensures.inserted s c.args.self.now.stale (stamps_in c.args.self.now.trace.nodes) (stamps_in c.insert_alloc-alloc.new.self.nodes) c.requires.kept.step.stale more.others.stamps)
