@@ -75,6 +75,9 @@ impl Cell {
         ensures here { IfSome result (λ read. IsTrue (is_in read.0 order.now.stamps)) }
         ensures none { IfNone result ((read : ℕ) → ¬ Sees order.now.stamps self.now after.0 read) }
     {
+        if self.reads.is_empty() {
+            return None;
+        }
         let read = self.reads.first_after(order, after)?;
         match self.writes.first_after(order, after) {
             None => Some(read),

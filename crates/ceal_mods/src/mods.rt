@@ -1,13 +1,13 @@
 // The modifiables of all places.
 
-ghost use Rattle.std.specs.Prelude.{◌≡◌, ℕ, ◌+◌, ◌-◌, ◌^◌, ◌++◌, ◌∷◌, [], List, None, Some, false, min, IsTrue, IfSome, IfNone, IfOk, IsOk, OnOk, OnErr};
+ghost use Rattle.std.specs.Prelude.{◌≡◌, ◌≢◌, ℕ, ◌<◌, ◌+◌, ◌-◌, ◌^◌, ◌++◌, ◌∷◌, [], List, None, Some, false, length, min, IsTrue, IfSome, IfNone, IfOk, IsOk, OnOk, OnErr, vec_len, vec_capacity};
 ghost use Rattle.std.specs.Map.{lookup};
 ghost use Rattle.ceal_base.specs.contracts.word.PlacePartialEq.TheImpl.{ghosts};
 ghost use Rattle.ceal_base.specs.declared.word.Place.{Place as PlaceOf};
 ghost use Rattle.ceal_order.specs.Stamps.{is_in};
 ghost use Rattle.ceal_mods.specs.Writes.{stamps_of};
 ghost use Rattle.ceal_mods.specs.Cell.{value_before, latest_value, with_base, with_write, without_write, with_read, without_read, Sees, IsAffected};
-ghost use Rattle.ceal_mods.specs.Index.{where_from, Indexes};
+ghost use Rattle.ceal_mods.specs.Index.{where_from, slot_of, Indexes};
 ghost use Rattle.ceal_mods.specs.Mods.{cell_of, HasCell, IsUntouched, Changes, Follows};
 ghost use Rattle.ceal_mods.specs.Slots.{no_slot};
 
@@ -237,17 +237,37 @@ fn enter(
     ensures err { OnErr result (cells.new.items ≡ cells.old.items) }
     ensures indexed { Indexes index.new cells.new.items }
 {
-    let slot = cells.len();
-    if slot >= NO_SLOT as usize {
-        drop(cell);
-        return Err(NoMemory);
-    }
-    cells.push((place, cell))?;
-    match index.put(place, slot as u32) {
-        Ok(()) => Ok(()),
+    match make_slot(cells, index, place) {
+        Ok(()) => {
+            cells.push_reserved((place, cell));
+            Ok(())
+        }
         Err(error) => {
-            drop(cells.pop());
+            drop(cell);
             Err(error)
         }
     }
+}
+
+// Makes room for one more cell, to which the index then leads from a place that has none.
+fn make_slot(
+    cells: &mut Vec<(Place, Cell)>,
+    index: &mut Index,
+    place: Place,
+) -> Result<(), NoMemory>
+    requires absent { slot_of index.old place ≡ no_slot }
+    ensures same { cells.new.items ≡ cells.old.items }
+    ensures room { OnOk result (vec_len cells.new < vec_capacity cells.new) }
+    ensures few { OnOk result (length cells.old.items < no_slot) }
+    ensures here { OnOk result (slot_of index.new place ≡ length cells.old.items) }
+    ensures others { (p : PlaceOf) → p ≢ place → slot_of index.new p ≡ slot_of index.old p }
+    ensures err { OnErr result ((p : PlaceOf) → slot_of index.new p ≡ slot_of index.old p) }
+{
+    let slot = cells.len();
+    if slot >= NO_SLOT as usize {
+        return Err(NoMemory);
+    }
+    cells.reserve(1)?;
+    index.put(place, slot as u32)?;
+    Ok(())
 }
