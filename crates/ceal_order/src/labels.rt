@@ -76,7 +76,9 @@ fn free_step(room: u64, shares: u64) -> Option<u64>
     Some((room / shares).min(room - 1).max(1))
 }
 
-// Gives labels anew round a link, and a label that is then free directly after it.
+// Gives labels anew round a link, and a label that is then free directly after it. It is called seldom, and stands apart, so that
+// the common way is short.
+#[inline(never)]
 fn relabel(links: &mut [Link], at: u32) -> u64
     requires line { IsLine links.old (stamps_of links.old) }
     requires here { IsTrue (is_in at (stamps_of links.old)) }

@@ -63,7 +63,8 @@ pub fn set_end(rows: &mut [Row], at: u32, end: u32)
     row.end = end;
 }
 
-/// Adds rows until there are so many.
+/// Adds rows until there are so many. It is called seldom, and stands apart, so that the common way is short.
+#[inline(never)]
 pub fn lengthen(rows: &mut Vec<Row>, count: usize) -> Result<(), NoMemory>
     ensures longer { Longer rows.old.items rows.new.items }
     ensures enough { OnOk result (count ≤ length rows.new.items) }

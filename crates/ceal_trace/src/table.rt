@@ -12,8 +12,8 @@ use ceal_base::word::Word;
 use ceal_order::stamp::Stamp;
 use std::alloc::Global;
 
-// How many rows are added beyond those that are asked for.
-const ROWS_BEYOND: usize = 15;
+// For how many nodes room is made beyond those that are asked for.
+const NODES_BEYOND: u32 = 63;
 
 /// A row for each stamp and each spare place of the order, by its number, a few more, and how many nodes there are.
 #[derive(Drop)]
@@ -33,7 +33,19 @@ impl Table {
         }
     }
 
-    /// Makes room for so many more nodes, and some beyond, so that rows are added a few at a time.
+    /// For how many more nodes room is to be made where there has to be room for so many: for some beyond where there are no rows
+    /// for them, so that rows are added a few at a time.
+    pub fn wanted(&self, more: u32) -> u32
+        ensures { more ≤ result }
+    {
+        if self.count as usize + more as usize <= self.rows.len() {
+            more
+        } else {
+            more.saturating_add(NODES_BEYOND)
+        }
+    }
+
+    /// Makes room for so many more nodes.
     pub fn reserve(&mut self, more: u32) -> Result<(), NoMemory>
         ensures rows { OnOk result (self.new.count + more ≤ length self.new.rows.items) }
         ensures kept { Wider self.old self.new }
@@ -42,7 +54,7 @@ impl Table {
         if count <= self.rows.len() {
             return Ok(());
         }
-        lengthen(&mut self.rows, count + ROWS_BEYOND)
+        lengthen(&mut self.rows, count)
     }
 
     /// Puts a node without steps at a stamp that has none.

@@ -94,8 +94,9 @@ impl Trace {
         ensures err { OnErr result (self.new ≡ self.old) }
         ensures whole { IsTrace self.new }
     {
-        self.table.reserve(nodes)?;
-        self.order.reserve(nodes)
+        let room = self.table.wanted(nodes);
+        self.table.reserve(room)?;
+        self.order.reserve(room)
     }
 
     /// Puts an allocation directly after a node.

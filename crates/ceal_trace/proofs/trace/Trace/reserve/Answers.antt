@@ -23,17 +23,17 @@ returns-in_err-reserve-clause-whole c =
 
 pub invariant_of-self-2 : goal.invariant_of-self-2
 invariant_of-self-2 c =
-    let most = spare_most c.self.inside.order c.reserve-2.new.self c.args.nodes c.reserve-2.result c.reserve-2.ensures.exact c.reserve-2.ensures.err in
+    let most = spare_most c.self.inside.order c.reserve-2.new.self c.wanted-room.result c.reserve-2.result c.reserve-2.ensures.exact c.reserve-2.ensures.err in
     (reserved _ _ _ _ _ _ c.self.invariant c.reserve-2.ensures.stamps c.reserve-2.ensures.whole c.in_ok-reserve.ensures.kept c.in_ok-reserve.ensures.rows most).0
 
 pub returns-clause-nodes : goal.returns-clause-nodes
 returns-clause-nodes c =
-    let most = spare_most c.self.inside.order c.reserve-2.new.self c.args.nodes c.reserve-2.result c.reserve-2.ensures.exact c.reserve-2.ensures.err in
+    let most = spare_most c.self.inside.order c.reserve-2.new.self c.wanted-room.result c.reserve-2.result c.reserve-2.ensures.exact c.reserve-2.ensures.err in
     rw (← c.self.view_is) (reserved _ _ _ _ _ _ c.self.invariant c.reserve-2.ensures.stamps c.reserve-2.ensures.whole c.in_ok-reserve.ensures.kept c.in_ok-reserve.ensures.rows most).1
 
 pub returns-clause-err : goal.returns-clause-err
 returns-clause-err c =
-    let most = spare_most c.self.inside.order c.reserve-2.new.self c.args.nodes c.reserve-2.result c.reserve-2.ensures.exact c.reserve-2.ensures.err in
+    let most = spare_most c.self.inside.order c.reserve-2.new.self c.wanted-room.result c.reserve-2.result c.reserve-2.ensures.exact c.reserve-2.ensures.err in
     on_err_map c.reserve-2.result
     (λ same. rw (← c.self.view_is) (ap (λ (l : List Entry). record { nodes = l; spare = c.reserve-2.new.self.spare }) (reserved _ _ _ _ _ _ c.self.invariant c.reserve-2.ensures.stamps c.reserve-2.ensures.whole c.in_ok-reserve.ensures.kept c.in_ok-reserve.ensures.rows most).1
     ∙ ap (λ (o : Listing). record { nodes = (timeline c.self.inside.order c.self.inside.table).nodes; spare = o.spare }) same))
@@ -41,5 +41,5 @@ returns-clause-err c =
 
 pub returns-clause-whole : goal.returns-clause-whole
 returns-clause-whole c =
-    let most = spare_most c.self.inside.order c.reserve-2.new.self c.args.nodes c.reserve-2.result c.reserve-2.ensures.exact c.reserve-2.ensures.err in
+    let most = spare_most c.self.inside.order c.reserve-2.new.self c.wanted-room.result c.reserve-2.result c.reserve-2.ensures.exact c.reserve-2.ensures.err in
     (reserved _ _ _ _ _ _ c.self.invariant c.reserve-2.ensures.stamps c.reserve-2.ensures.whole c.in_ok-reserve.ensures.kept c.in_ok-reserve.ensures.rows most).0.is_trace
