@@ -1,11 +1,15 @@
 -- Where the parser's answers leave a reading.
 use Rattle.std.specs.Prelude.{ℕ, suc, ◌≤◌, ◌≡◌, Bool, true, false, Option, Some, None}
 use Rattle.ceal_lex.specs.declared.token.Sign.{Sign}
+use Rattle.ceal_grammar.specs.declared.state.HeadPlace.{HeadPlace}
+use Rattle.ceal_grammar.specs.declared.state.HeadPlace.TheVariants as Heads
 use Rattle.ceal_grammar.specs.declared.state.Inside.{Inside}
 use Rattle.ceal_grammar.specs.declared.state.Mode.{Mode}
 use Rattle.ceal_grammar.specs.declared.state.Mode.TheVariants as Modes
 use Rattle.ceal_grammar.specs.declared.state.Place.{Place}
 use Rattle.ceal_grammar.specs.declared.state.Place.TheVariants.{Have}
+use Rattle.ceal_grammar.specs.declared.state.Receiver.{Receiver}
+use Rattle.ceal_grammar.specs.declared.state.Receiver.TheVariants as To
 use Rattle.ceal_grammar.specs.declared.state.State.{State}
 use Rattle.ceal_grammar.specs.declared.state.State.TheVariants.{Top, Struct, In}
 use Rattle.ceal_grammar.specs.declared.state.StructPlace.{StructPlace}
@@ -36,10 +40,31 @@ abbrev pub mode_ended : Inside → Mode → Sign → Option State
 mode_ended i (Modes.Within w p) c = ended i w p c
 mode_ended i _ c = None
 
--- The place is within a whole expression.
-abbrev pub is_within : Mode → Bool
-is_within (Modes.Within w p) = true
-is_within _ = false
+-- The place is within a statement and in no whole expression, and parts of the statement were read.
+abbrev pub has_parts : Mode → Bool
+has_parts Modes.Body = false
+has_parts (Modes.Owned at) = false
+has_parts (Modes.Within w p) = false
+has_parts _ = true
+
+-- What the expression is wanted for has no part that was read.
+abbrev pub is_plain : Receiver → Bool
+is_plain (To.Write at) = true
+is_plain (To.If at) = true
+is_plain (To.While at) = true
+is_plain _ = false
+
+-- The head of a function has ended.
+abbrev pub is_done : HeadPlace → Bool
+is_done (Heads.Done h) = true
+is_done _ = false
+
+-- The function of the head has a name, and the head has not ended.
+abbrev pub is_named : HeadPlace → Bool
+is_named Heads.Ceal = false
+is_named Heads.Init = false
+is_named (Heads.Done h) = false
+is_named _ = true
 
 -- The place is within the body of a function.
 abbrev pub is_inside : State → Bool

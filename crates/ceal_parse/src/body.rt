@@ -1,22 +1,23 @@
 // Bodies of functions. A `take_..` takes one token: it moves the reading, or answers that no program goes on so.
 
-ghost use Rattle.std.specs.Prelude.{◌≡◌, ◌∷◌, ◌++◌, ◌<◌, ◌≤◌, ◌^◌, [], Some, false, IfOk};
+ghost use Rattle.std.specs.Prelude.{◌≡◌, ◌∷◌, ◌++◌, ◌<◌, ◌≤◌, ◌^◌, [], Some, true, IfOk};
 ghost use Rattle.ceal_grammar.specs.Machine.{same_sign as same_signs, wants, placed, given, begun, ends_at, at_argument, received, with_statement, owned, block_closed, chained_in, at_body, at_ends, at_opens, at_closed, at_otherwise, moved, mode_nesting, operators_in};
-ghost use Rattle.ceal_parse.specs.Reading.{ended, is_within, mode_ended, turn_state};
+ghost use Rattle.ceal_parse.specs.Reading.{ended, has_parts, is_plain, mode_ended, turn_state};
 
 use crate::expression::{begin, take_place};
+use crate::head::no_head;
 use crate::making::{call, give, take_making, take_value};
 use crate::marks::{is_sign, is_word, same_sign};
 use crate::statement::{
     end_statement, open_block, take_before, take_calls, take_declared, take_end, take_first,
     take_named, take_owned, take_path, take_reached, take_typing, take_word,
 };
-use crate::turn::{Part, Turn, put, settle};
+use crate::turn::{Part, Turn, begin_statement, put, stand};
 use ceal_base::fault::Span;
 use ceal_base::items::Items;
 use ceal_base::no_memory::NoMemory;
 use ceal_base::syntax::{Entry, Expr, Exprs, FunctionDecl, Ident, Stmt, Stmts, Value};
-use ceal_base::text::Text;
+use ceal_grammar::stack::Stack;
 use ceal_grammar::state::{
     Callee, Chained, Head, Inside, Mode, Opened, Owner, Place, Receiver, State, Target, Whole,
 };
@@ -24,15 +25,70 @@ use ceal_lex::token::{Reserved, Sign, Token, TokenKind};
 use std::alloc::Global;
 use std::mem;
 
-/// The place if the sign is this one.
-fn wanted(found: Sign, sign: Sign, mode: Mode) -> Option<Mode>
-    ensures value { result ≡ wants (same_signs found sign) mode }
+/// The sign is this one, and the reading goes on at the place.
+fn wanted(mode: &mut Mode, found: Sign, sign: Sign, next: Mode) -> Turn
+    ensures value { (i : Inside) → turn_state i mode.new result
+        ≡ placed i (wants (same_signs found sign) next) }
 {
     if same_sign(found, sign) {
-        Some(mode)
+        stand(mode, next)
     } else {
-        drop(mode);
-        None
+        drop(next);
+        Turn::Refused
+    }
+}
+
+/// A whole expression begins anew, for the same.
+fn begin_again(alloc: Global, whole: &mut Whole)
+    ensures value { whole.new ≡ begun whole.old.nesting whole.old.receiver }
+{
+    put(&mut whole.frames, Stack::new(alloc));
+    whole.operators = 0;
+}
+
+/// What the next whole expression is for, once the one at a `,` has ended.
+#[tactic(auto, unfolding(ceal_grammar::specs::Machine::same_sign))]
+fn next_operand(alloc: Global, whole: &mut Whole, expr: Expr) -> Result<Turn, NoMemory>
+    ensures value { IfOk result (λ turn. (i : Inside)
+        → turn_state i (Mode.Within whole.new Place.Want) turn
+        ≡ received i whole.old.nesting whole.old.receiver expr Sign.Comma) }
+{
+    match &mut whole.receiver {
+        Receiver::Argument(_, arguments) => {
+            arguments.push(expr)?;
+            begin_again(alloc, whole);
+            Ok(Turn::On)
+        }
+        Receiver::Write(at) => {
+            let at = *at;
+            put(&mut whole.receiver, Receiver::Store(at, expr));
+            begin_again(alloc, whole);
+            Ok(Turn::On)
+        }
+        _ => {
+            drop(expr);
+            Ok(Turn::Refused)
+        }
+    }
+}
+
+/// The whole expression that was read has ended at a `,`.
+fn end_at_comma(alloc: Global, mode: &mut Mode) -> Result<Turn, NoMemory>
+    ensures value { IfOk result (λ turn. (i : Inside) → turn_state i mode.new turn
+        ≡ mode_ended i mode.old Sign.Comma) }
+{
+    match mode {
+        Mode::Within(whole, place) => match mem::replace(place, Place::Want) {
+            Place::Have(piece) => {
+                let turn = next_operand(alloc, whole, piece.expr)?;
+                Ok(turn)
+            }
+            other => {
+                drop(other);
+                Ok(Turn::Refused)
+            }
+        },
+        _ => Ok(Turn::Refused),
     }
 }
 
@@ -40,17 +96,20 @@ fn wanted(found: Sign, sign: Sign, mode: Mode) -> Option<Mode>
 fn take_argument(
     alloc: Global,
     nesting: u32,
-    callee: Callee,
-    arguments: Exprs,
+    mode: &mut Mode,
+    call_of: (Callee, Exprs),
     sign: Sign,
-) -> Option<Mode>
-    ensures value { result ≡ at_argument nesting callee arguments sign }
+) -> Turn
+    ensures value { (i : Inside) → turn_state i mode.new result
+        ≡ placed i (at_argument nesting call_of.0 call_of.1 sign) }
 {
+    let (callee, arguments) = call_of;
     if same_sign(sign, Sign::Comma) {
         let whole = begin(alloc, nesting, Receiver::Argument(callee, arguments));
-        Some(Mode::Within(whole, Place::Want))
+        stand(mode, Mode::Within(whole, Place::Want))
     } else {
         wanted(
+            mode,
             sign,
             Sign::RightParenthesis,
             Mode::Ends(call(callee, arguments)),
@@ -63,24 +122,28 @@ fn take_argument(
 fn end_value(
     alloc: Global,
     inside: &mut Inside,
-    target: Target,
-    expr: Expr,
+    mode: &mut Mode,
+    given_to: (Target, Expr),
     sign: Sign,
-) -> Result<Option<Mode>, NoMemory>
-    ensures value { IfOk result (λ mode.
-        ends_at inside.old (given target (Value.Plain expr)) sign ≡ placed inside.new mode) }
+) -> Result<Turn, NoMemory>
+    ensures value { IfOk result (λ turn. turn_state inside.new mode.new turn
+        ≡ ends_at inside.old (given given_to.0 (Value.Plain given_to.1)) sign) }
 {
-    take_end(alloc, inside, give(target, Value::Plain(expr)), sign)
+    let (target, expr) = given_to;
+    let statement = give(target, Value::Plain(expr));
+    let turn = take_end(alloc, inside, mode, statement, sign)?;
+    Ok(turn)
 }
 
 /// The modifiable that a `read` names has ended.
 #[inline(never)]
-fn end_read(target: Target, at: Span, expr: Expr, sign: Sign) -> Option<Mode>
-    ensures value { result ≡ wants (same_signs sign Sign.RightParenthesis)
-        (Mode.Ends (given target (Value.Read at expr))) }
+fn end_read(mode: &mut Mode, target: Target, at: Span, expr: Expr, sign: Sign) -> Turn
+    ensures value { (i : Inside) → turn_state i mode.new result
+        ≡ placed i (wants (same_signs sign Sign.RightParenthesis)
+        (Mode.Ends (given target (Value.Read at expr)))) }
 {
     let statement = give(target, Value::Read(at, expr));
-    wanted(sign, Sign::RightParenthesis, Mode::Ends(statement))
+    wanted(mode, sign, Sign::RightParenthesis, Mode::Ends(statement))
 }
 
 /// The value of a field has ended.
@@ -88,66 +151,46 @@ fn end_read(target: Target, at: Span, expr: Expr, sign: Sign) -> Option<Mode>
 fn end_set(
     alloc: Global,
     inside: &mut Inside,
-    path: Expr,
-    name: Ident,
-    expr: Expr,
+    mode: &mut Mode,
+    field: (Expr, Ident, Expr),
     sign: Sign,
-) -> Result<Option<Mode>, NoMemory>
-    ensures value { IfOk result (λ mode.
-        ends_at inside.old (Stmt.SetField path.span path name expr) sign ≡ placed inside.new mode) }
+) -> Result<Turn, NoMemory>
+    ensures value { IfOk result (λ turn. turn_state inside.new mode.new turn
+        ≡ ends_at inside.old (Stmt.SetField field.0.span field.0 field.1 field.2) sign) }
 {
-    take_end(
-        alloc,
-        inside,
-        Stmt::SetField(path.span, path, name, expr),
-        sign,
-    )
-}
-
-/// The first operand of a `write` has ended.
-#[inline(never)]
-fn end_target(alloc: Global, nesting: u32, at: Span, expr: Expr, sign: Sign) -> Option<Mode>
-    ensures value { result ≡ wants (same_signs sign Sign.Comma)
-        (Mode.Within (begun nesting (Receiver.Store at expr)) Place.Want) }
-{
-    let whole = begin(alloc, nesting, Receiver::Store(at, expr));
-    wanted(sign, Sign::Comma, Mode::Within(whole, Place::Want))
+    let (path, name, expr) = field;
+    let statement = Stmt::SetField(path.span, path, name, expr);
+    let turn = take_end(alloc, inside, mode, statement, sign)?;
+    Ok(turn)
 }
 
 /// The second operand of a `write` has ended.
 #[inline(never)]
-fn end_store(at: Span, target: Expr, expr: Expr, sign: Sign) -> Option<Mode>
-    ensures value { result ≡ wants (same_signs sign Sign.RightParenthesis)
-        (Mode.Ends (Stmt.Write at target expr)) }
+fn end_store(mode: &mut Mode, at: Span, target: Expr, expr: Expr, sign: Sign) -> Turn
+    ensures value { (i : Inside) → turn_state i mode.new result
+        ≡ placed i (wants (same_signs sign Sign.RightParenthesis)
+        (Mode.Ends (Stmt.Write at target expr))) }
 {
     let statement = Stmt::Write(at, target, expr);
-    wanted(sign, Sign::RightParenthesis, Mode::Ends(statement))
-}
-
-/// The test of an `if` or a `while` has ended.
-#[inline(never)]
-fn end_test(owner: Owner, sign: Sign) -> Option<Mode>
-    ensures value { result ≡ wants (same_signs sign Sign.RightParenthesis) (Mode.Opens owner) }
-{
-    wanted(sign, Sign::RightParenthesis, Mode::Opens(owner))
+    wanted(mode, sign, Sign::RightParenthesis, Mode::Ends(statement))
 }
 
 /// The argument, at the sign after it.
 #[inline(never)]
-fn receive_argument(
+fn end_argument(
     alloc: Global,
     nesting: u32,
-    callee: Callee,
-    arguments: Exprs,
-    expr: Expr,
+    mode: &mut Mode,
+    call_of: (Callee, Exprs, Expr),
     sign: Sign,
-) -> Result<Option<Mode>, NoMemory>
-    ensures value { IfOk result
-        (λ mode. mode ≡ at_argument nesting callee (arguments ++ expr ∷ []) sign) }
+) -> Result<Turn, NoMemory>
+    ensures value { IfOk result (λ turn. (i : Inside) → turn_state i mode.new turn
+        ≡ placed i (at_argument nesting call_of.0 (call_of.1 ++ call_of.2 ∷ []) sign)) }
 {
+    let (callee, arguments, expr) = call_of;
     let mut arguments = arguments;
     match arguments.push(expr) {
-        Ok(()) => Ok(take_argument(alloc, nesting, callee, arguments, sign)),
+        Ok(()) => Ok(take_argument(alloc, nesting, mode, (callee, arguments), sign)),
         Err(NoMemory) => {
             drop(callee);
             Err(NoMemory)
@@ -155,36 +198,69 @@ fn receive_argument(
     }
 }
 
+/// The expression of something that has no other part, at the sign after it.
+fn receive_first(
+    alloc: Global,
+    nesting: u32,
+    mode: &mut Mode,
+    receiver: &Receiver,
+    ended: (Expr, Sign),
+) -> Turn
+    requires plain { is_plain receiver.now ≡ true }
+    ensures value { (i : Inside) → turn_state i mode.new result
+        ≡ received i nesting receiver.now ended.0 ended.1 }
+{
+    let (expr, sign) = ended;
+    match receiver {
+        Receiver::Write(at) => {
+            let whole = begin(alloc, nesting, Receiver::Store(*at, expr));
+            wanted(mode, sign, Sign::Comma, Mode::Within(whole, Place::Want))
+        }
+        Receiver::If(at) => {
+            let next = Mode::Opens(Owner::Then(*at, expr));
+            wanted(mode, sign, Sign::RightParenthesis, next)
+        }
+        Receiver::While(at) => {
+            let next = Mode::Opens(Owner::While(*at, expr));
+            wanted(mode, sign, Sign::RightParenthesis, next)
+        }
+        _ => unreachable!(),
+    }
+}
+
 /// Where the reading stands after a whole expression, at the sign after it.
 fn receive(
     alloc: Global,
     inside: &mut Inside,
-    nesting: u32,
-    receiver: Receiver,
-    expr: Expr,
-    sign: Sign,
-) -> Result<Option<Mode>, NoMemory>
-    ensures value { IfOk result
-        (λ mode. received inside.old nesting receiver expr sign ≡ placed inside.new mode) }
+    mode: &mut Mode,
+    receiver: (u32, Receiver),
+    ended: (Expr, Sign),
+) -> Result<Turn, NoMemory>
+    ensures value { IfOk result (λ turn. turn_state inside.new mode.new turn
+        ≡ received inside.old receiver.0 receiver.1 ended.0 ended.1) }
 {
+    let (expr, sign) = ended;
+    let (nesting, receiver) = receiver;
     match receiver {
         Receiver::Value(target) => {
-            let mode = end_value(alloc, inside, target, expr, sign)?;
-            Ok(mode)
+            let turn = end_value(alloc, inside, mode, (target, expr), sign)?;
+            Ok(turn)
         }
-        Receiver::Read(target, at) => Ok(end_read(target, at, expr, sign)),
+        Receiver::Read(target, at) => Ok(end_read(mode, target, at, expr, sign)),
         Receiver::Argument(callee, arguments) => {
-            let mode = receive_argument(alloc, nesting, callee, arguments, expr, sign)?;
-            Ok(mode)
+            let turn = end_argument(alloc, nesting, mode, (callee, arguments, expr), sign)?;
+            Ok(turn)
         }
         Receiver::Set(path, name) => {
-            let mode = end_set(alloc, inside, path, name, expr, sign)?;
-            Ok(mode)
+            let turn = end_set(alloc, inside, mode, (path, name, expr), sign)?;
+            Ok(turn)
         }
-        Receiver::Write(at) => Ok(end_target(alloc, nesting, at, expr, sign)),
-        Receiver::Store(at, target) => Ok(end_store(at, target, expr, sign)),
-        Receiver::If(at) => Ok(end_test(Owner::Then(at, expr), sign)),
-        Receiver::While(at) => Ok(end_test(Owner::While(at, expr), sign)),
+        Receiver::Store(at, target) => Ok(end_store(mode, at, target, expr, sign)),
+        plain => {
+            let turn = receive_first(alloc, nesting, mode, &plain, (expr, sign));
+            drop(plain);
+            Ok(turn)
+        }
     }
 }
 
@@ -192,29 +268,25 @@ fn receive(
 fn take_ended(
     alloc: Global,
     inside: &mut Inside,
-    whole: Whole,
-    place: Place,
+    mode: &mut Mode,
+    within: (Whole, Place),
     sign: Sign,
-) -> Result<Option<Mode>, NoMemory>
-    ensures value { IfOk result
-        (λ mode. ended inside.old whole place sign ≡ placed inside.new mode) }
+) -> Result<Turn, NoMemory>
+    ensures value { IfOk result (λ turn. turn_state inside.new mode.new turn
+        ≡ ended inside.old within.0 within.1 sign) }
 {
+    let (whole, place) = within;
     match place {
         Place::Have(piece) => {
-            let mode = receive(
-                alloc,
-                inside,
-                whole.nesting,
-                whole.receiver,
-                piece.expr,
-                sign,
-            )?;
-            Ok(mode)
+            drop(whole.frames);
+            let receiver = (whole.nesting, whole.receiver);
+            let turn = receive(alloc, inside, mode, receiver, (piece.expr, sign))?;
+            Ok(turn)
         }
         other => {
             drop(other);
             drop(whole);
-            Ok(None)
+            Ok(Turn::Refused)
         }
     }
 }
@@ -226,18 +298,6 @@ fn owner_mode(owner: Owner, body: Stmts) -> Mode
         Owner::While(at, test) => Mode::Ended(Stmt::While(at, test, body)),
         Owner::Then(at, test) => Mode::Closed(at, test, body),
         Owner::Else(at, test, first) => Mode::Ended(Stmt::If(at, test, first, body)),
-    }
-}
-
-/// The head of no function, which stands where one was taken away.
-fn no_head(alloc: Global, at: Span) -> Head {
-    Head {
-        initialiser: None,
-        name: Ident {
-            text: Text::new(Vec::new(alloc)),
-            span: at,
-        },
-        params: Items::empty(alloc),
     }
 }
 
@@ -290,10 +350,7 @@ fn close_block(
             close_function(alloc, inside, at)?;
             Ok(Turn::Closed)
         }
-        Some(outer) => {
-            settle(mode, leave_block(inside, outer));
-            Ok(Turn::On)
-        }
+        Some(outer) => { Ok(stand(mode, leave_block(inside, outer))) }
     }
 }
 
@@ -302,10 +359,7 @@ fn go_on(mode: &mut Mode, next: Option<Mode>) -> Turn
     ensures value { (i : Inside) → turn_state i mode.new result ≡ placed i next }
 {
     match next {
-        Some(next) => {
-            settle(mode, next);
-            Turn::On
-        }
+        Some(next) => stand(mode, next),
         None => Turn::Refused,
     }
 }
@@ -325,10 +379,9 @@ fn take_body(
     match &token.kind {
         TokenKind::Name(text) => {
             let text = text.copy()?;
-            settle(mode, Mode::Named(Ident { text, span: at }));
-            Ok(Turn::On)
+            Ok(stand(mode, Mode::Named(Ident { text, span: at })))
         }
-        TokenKind::Reserved(word) => Ok(go_on(mode, take_word(at, *word))),
+        TokenKind::Reserved(word) => Ok(take_word(mode, at, *word)),
         TokenKind::Sign(sign) => {
             if same_sign(*sign, Sign::RightBrace) {
                 let turn = close_block(alloc, inside, mode, at)?;
@@ -345,18 +398,19 @@ fn take_body(
 fn take_ends(
     alloc: Global,
     inside: &mut Inside,
+    mode: &mut Mode,
     statement: Stmt,
     token: &Token,
-) -> Result<Option<Mode>, NoMemory>
-    ensures value { IfOk result
-        (λ mode. at_ends inside.old statement token.now.kind ≡ placed inside.new mode) }
+) -> Result<Turn, NoMemory>
+    ensures value { IfOk result (λ turn. turn_state inside.new mode.new turn
+        ≡ at_ends inside.old statement token.now.kind) }
 {
     if is_sign(token, Sign::Semicolon) {
         end_statement(alloc, inside, statement)?;
-        Ok(Some(Mode::Body))
+        Ok(begin_statement(mode))
     } else {
         drop(statement);
-        Ok(None)
+        Ok(Turn::Refused)
     }
 }
 
@@ -381,19 +435,20 @@ fn take_behind(
 fn take_opens(
     alloc: Global,
     inside: &mut Inside,
+    mode: &mut Mode,
     owner: Owner,
     token: &Token,
-) -> Result<Option<Mode>, NoMemory>
+) -> Result<Turn, NoMemory>
     requires shallow { inside.old.nesting < 2 ^ 31 }
-    ensures value { IfOk result
-        (λ mode. at_opens inside.old owner token.now.kind ≡ placed inside.new mode) }
+    ensures value { IfOk result (λ turn. turn_state inside.new mode.new turn
+        ≡ at_opens inside.old owner token.now.kind) }
 {
     if is_sign(token, Sign::LeftBrace) {
         open_block(alloc, inside, owner)?;
-        Ok(Some(Mode::Body))
+        Ok(begin_statement(mode))
     } else {
         drop(owner);
-        Ok(None)
+        Ok(Turn::Refused)
     }
 }
 
@@ -410,11 +465,8 @@ fn take_closed(
         ≡ at_closed inside.old branch.span branch.test branch.first token.now.span token.now.kind) }
 {
     if is_word(token, Reserved::Else) {
-        settle(
-            mode,
-            Mode::Otherwise(branch.span, branch.test, branch.first),
-        );
-        Ok(Turn::On)
+        let next = Mode::Otherwise(branch.span, branch.test, branch.first);
+        Ok(stand(mode, next))
     } else {
         let statement = Stmt::If(branch.span, branch.test, branch.first, Items::empty(alloc));
         let turn = take_behind(alloc, inside, mode, statement, token)?;
@@ -423,15 +475,14 @@ fn take_closed(
 }
 
 /// The `if` waits for the one that is its else part, and which `at` begins.
-fn chain(inside: &mut Inside, branch: Chained, at: Span) -> Result<Mode, NoMemory>
+fn chain(inside: &mut Inside, mode: &mut Mode, branch: Chained, at: Span) -> Result<Turn, NoMemory>
     requires shallow { inside.old.nesting < 2 ^ 31 }
-    ensures value { IfOk result
-        (λ mode. State.In inside.new mode
-        ≡ State.In (chained_in inside.old branch) (Mode.Before (Receiver.If at))) }
+    ensures value { IfOk result (λ turn. turn_state inside.new mode.new turn
+        ≡ Some (State.In (chained_in inside.old branch) (Mode.Before (Receiver.If at)))) }
 {
     inside.chain.push(branch)?;
     inside.nesting += 1;
-    Ok(Mode::Before(Receiver::If(at)))
+    Ok(stand(mode, Mode::Before(Receiver::If(at))))
 }
 
 /// The token after `else`.
@@ -439,26 +490,26 @@ fn chain(inside: &mut Inside, branch: Chained, at: Span) -> Result<Mode, NoMemor
 fn take_otherwise(
     alloc: Global,
     inside: &mut Inside,
+    mode: &mut Mode,
     branch: Chained,
     token: &Token,
-) -> Result<Option<Mode>, NoMemory>
+) -> Result<Turn, NoMemory>
     requires shallow { inside.old.nesting < 2 ^ 31 }
-    ensures value { IfOk result (λ mode.
-        at_otherwise inside.old branch.span branch.test branch.first token.now.span
-        token.now.kind
-        ≡ placed inside.new mode) }
+    ensures value { IfOk result (λ turn. turn_state inside.new mode.new turn
+        ≡ at_otherwise inside.old branch.span branch.test branch.first token.now.span
+        token.now.kind) }
 {
     if is_word(token, Reserved::If) {
-        let mode = chain(inside, branch, token.span)?;
-        Ok(Some(mode))
+        let turn = chain(inside, mode, branch, token.span)?;
+        Ok(turn)
     } else {
         let owner = Owner::Else(branch.span, branch.test, branch.first);
-        let mode = take_opens(alloc, inside, owner, token)?;
-        Ok(mode)
+        let turn = take_opens(alloc, inside, mode, owner, token)?;
+        Ok(turn)
     }
 }
 
-/// A token within a body, and within no whole expression.
+/// A token within a statement of which parts were read, and within no whole expression.
 #[inline(never)]
 fn take_other(
     alloc: Global,
@@ -468,24 +519,19 @@ fn take_other(
 ) -> Result<Turn, NoMemory>
     requires shallow { mode_nesting mode.old inside.old.nesting ≤ 64 }
     requires few { operators_in mode.old ≤ 255 }
-    requires other { is_within mode.old ≡ false }
+    requires parts { has_parts mode.old ≡ true }
     ensures value { IfOk result
         (λ turn. turn_state inside.new mode.new turn
         ≡ moved inside.old mode.old token.now.span token.now.kind) }
 {
     let nesting = inside.nesting;
     match mem::replace(mode, Mode::Body) {
-        Mode::Body => {
-            let turn = take_body(alloc, inside, mode, token)?;
+        Mode::Typing(at, part) => {
+            let turn = take_typing(mode, at, part, token)?;
             Ok(turn)
         }
-        Mode::Typing(at, part) => {
-            let next = take_typing(at, part, token)?;
-            Ok(go_on(mode, next))
-        }
-        Mode::Declared(at, form, name) => Ok(go_on(mode, take_declared(at, form, name, token))),
+        Mode::Declared(at, form, name) => Ok(take_declared(mode, at, form, name, token)),
         Mode::Named(name) => Ok(go_on(mode, take_named(name, token))),
-        Mode::Owned(at) => Ok(go_on(mode, take_owned(at, token))),
         Mode::Path(path, arrows) => {
             let next = take_path(path, arrows, token)?;
             Ok(go_on(mode, next))
@@ -495,8 +541,8 @@ fn take_other(
             Ok(go_on(mode, next))
         }
         Mode::Value(target) => {
-            let next = take_value(alloc, nesting, target, token)?;
-            Ok(go_on(mode, next))
+            let turn = take_value(alloc, nesting, mode, target, token)?;
+            Ok(turn)
         }
         Mode::Making(making) => {
             let next = take_making(making, token)?;
@@ -504,22 +550,21 @@ fn take_other(
         }
         Mode::Calls(callee) => Ok(go_on(mode, take_calls(callee, token))),
         Mode::First(callee) => {
-            let next = take_first(alloc, nesting, callee, token)?;
-            Ok(go_on(mode, next))
+            let turn = take_first(alloc, nesting, mode, callee, token)?;
+            Ok(turn)
         }
-        Mode::Before(receiver) => Ok(go_on(mode, take_before(alloc, nesting, receiver, token))),
-        Mode::Within(_, _) => unreachable!(),
+        Mode::Before(receiver) => Ok(take_before(alloc, nesting, mode, receiver, token)),
         Mode::Ends(statement) => {
-            let next = take_ends(alloc, inside, statement, token)?;
-            Ok(go_on(mode, next))
+            let turn = take_ends(alloc, inside, mode, statement, token)?;
+            Ok(turn)
         }
         Mode::Ended(statement) => {
             let turn = take_behind(alloc, inside, mode, statement, token)?;
             Ok(turn)
         }
         Mode::Opens(owner) => {
-            let next = take_opens(alloc, inside, owner, token)?;
-            Ok(go_on(mode, next))
+            let turn = take_opens(alloc, inside, mode, owner, token)?;
+            Ok(turn)
         }
         Mode::Closed(span, test, first) => {
             let branch = Chained { span, test, first };
@@ -528,8 +573,12 @@ fn take_other(
         }
         Mode::Otherwise(span, test, first) => {
             let branch = Chained { span, test, first };
-            let next = take_otherwise(alloc, inside, branch, token)?;
-            Ok(go_on(mode, next))
+            let turn = take_otherwise(alloc, inside, mode, branch, token)?;
+            Ok(turn)
+        }
+        other => {
+            drop(other);
+            unreachable!()
         }
     }
 }
@@ -546,12 +595,29 @@ fn end_whole(
 {
     match mem::replace(mode, Mode::Body) {
         Mode::Within(whole, place) => {
-            let next = take_ended(alloc, inside, whole, place, sign)?;
-            Ok(go_on(mode, next))
+            let turn = take_ended(alloc, inside, mode, (whole, place), sign)?;
+            Ok(turn)
         }
         other => {
             drop(other);
             Ok(Turn::Refused)
+        }
+    }
+}
+
+/// The whole expression that was read has ended at the sign.
+fn end_at(alloc: Global, inside: &mut Inside, mode: &mut Mode, sign: Sign) -> Result<Turn, NoMemory>
+    ensures value { IfOk result
+        (λ turn. turn_state inside.new mode.new turn ≡ mode_ended inside.old mode.old sign) }
+{
+    match sign {
+        Sign::Comma => {
+            let turn = end_at_comma(alloc, mode)?;
+            Ok(turn)
+        }
+        _ => {
+            let turn = end_whole(alloc, inside, mode, sign)?;
+            Ok(turn)
         }
     }
 }
@@ -574,13 +640,17 @@ pub fn take_mode(
             Part::Refused => Ok(Turn::Refused),
             Part::On => Ok(Turn::On),
             Part::Ended(sign) => {
-                let turn = end_whole(alloc, inside, mode, sign)?;
+                let turn = end_at(alloc, inside, mode, sign)?;
                 Ok(turn)
             }
         },
         Mode::Body => {
             let turn = take_body(alloc, inside, mode, token)?;
             Ok(turn)
+        }
+        Mode::Owned(at) => {
+            let at = *at;
+            Ok(go_on(mode, take_owned(at, token)))
         }
         _ => {
             let turn = take_other(alloc, inside, mode, token)?;

@@ -1,13 +1,15 @@
 // Whole expressions. A `take_..` takes one token: it moves the place within the expression, or answers that no program
 // goes on so. Operators wait on a stack until one of a lower level comes (operator precedence; Floyd, JACM 1963).
 
-ghost use Rattle.std.specs.Prelude.{◌≡◌, ◌∷◌, ◌<◌, ◌^◌, Some, None, [], false, IsTrue, IfOk, IfSome, if◌then◌else◌};
-ghost use Rattle.ceal_grammar.specs.Machine.{single as single_piece, prefixed, addressed, element_of, joined, accessed, begun, operated, reduced, same_sign as same_signs, wants, within, operator_of, closes, at_prim, at_operand, at_access, at_sign_after, at_index, at_after, at_element, at_place};
+ghost use Rattle.std.specs.Prelude.{◌≡◌, ◌∷◌, ◌<◌, ◌^◌, Some, None, [], false, IsTrue, IfOk, IfSome, MatchOption, if◌then◌else◌};
+ghost use Rattle.ceal_grammar.specs.Machine.{single as single_piece, prefixed, addressed, element_of, joined, accessed, begun, operated, reduced, same_sign as same_signs, wants, within, operator_of, closes, at_prim, at_operand, at_access, at_sign_after, at_index, at_after, at_element, at_place, placed};
+ghost use Rattle.ceal_grammar.specs.declared.state.Frame.TheVariants.{Address};
 ghost use Rattle.ceal_grammar.specs.declared.state.Inside.{Inside};
-ghost use Rattle.ceal_parse.specs.Reading.{part_state};
+ghost use Rattle.ceal_grammar.specs.declared.state.Piece.{Piece as PieceOf};
+ghost use Rattle.ceal_parse.specs.Reading.{part_state, turn_state};
 
 use crate::marks::{is_sign, level, name, operator, same_sign, same_word};
-use crate::turn::{Part, boxed, put};
+use crate::turn::{Part, Turn, boxed, going as turn_of, put, settle};
 use ceal_base::boxed::Boxed;
 use ceal_base::fault::Span;
 use ceal_base::no_memory::NoMemory;
@@ -345,6 +347,21 @@ fn take_sign(
     }
 }
 
+/// Where the `&` stands that waits for the operand at once, taken off the stack. Another frame is let go.
+fn take_address(frames: &mut Stack<Frame>) -> Option<Span>
+    ensures value { MatchOption result ((p : PieceOf) (i : Inside) (w : Whole)
+        → at_index i w p frames.old ≡ None)
+        (λ at. frames.old ≡ Address at ∷ frames.new) }
+{
+    let top = frames.pop();
+    let at = match &top {
+        Some(Frame::Address(at)) => Some(*at),
+        _ => None,
+    };
+    drop(top);
+    at
+}
+
 /// The `[` of an index, which stands after the operand of an `&` alone.
 fn take_index(whole: &mut Whole, place: &mut Place, piece: Piece) -> Result<Part, NoMemory>
     requires shallow { whole.old.nesting < 2 ^ 31 }
@@ -353,18 +370,17 @@ fn take_index(whole: &mut Whole, place: &mut Place, piece: Piece) -> Result<Part
         (λ part. (i : Inside)
         → part_state i whole.new place.new part ≡ at_index i whole.old piece whole.old.frames) }
 {
-    match whole.frames.pop() {
-        Some(Frame::Address(at)) => {
+    match take_address(&mut whole.frames) {
+        Some(at) => {
+            put(place, Place::Want);
             whole
                 .frames
                 .push(Frame::Index(at, piece.expr, whole.nesting))?;
             whole.nesting += 1;
             whole.operators += 1;
-            put(place, Place::Want);
             Ok(Part::On)
         }
-        other => {
-            drop(other);
+        None => {
             drop(piece);
             Ok(Part::Refused)
         }
@@ -542,26 +558,23 @@ pub fn begin(alloc: Global, nesting: u32, receiver: Receiver) -> Whole
 pub fn take_whole(
     alloc: Global,
     nesting: u32,
+    mode: &mut Mode,
     receiver: Receiver,
     token: &Token,
-) -> Result<Option<Mode>, NoMemory>
+) -> Result<Turn, NoMemory>
     requires shallow { nesting < 2 ^ 31 }
-    ensures value { IfOk result
-        (λ mode. mode ≡ at_operand (begun nesting receiver) token.now.span token.now.kind) }
+    ensures value { IfOk result (λ turn. (i : Inside) → turn_state i mode.new turn
+        ≡ placed i (at_operand (begun nesting receiver) token.now.span token.now.kind)) }
 {
-    let mut whole = begin(alloc, nesting, receiver);
-    let mut place = Place::Want;
-    match take_operand(&mut whole, &mut place, token) {
-        Ok(true) => Ok(Some(Mode::Within(whole, place))),
-        Ok(false) => {
-            drop(whole);
-            drop(place);
-            Ok(None)
+    settle(
+        mode,
+        Mode::Within(begin(alloc, nesting, receiver), Place::Want),
+    );
+    match mode {
+        Mode::Within(whole, place) => {
+            let on = take_operand(whole, place, token)?;
+            Ok(turn_of(on))
         }
-        Err(NoMemory) => {
-            drop(whole);
-            drop(place);
-            Err(NoMemory)
-        }
+        _ => unreachable!(),
     }
 }

@@ -1,43 +1,59 @@
-// Heads of functions. A `take_..` takes one token, the entries before the function given.
+// Heads of functions. A `take_..` takes one token: it moves the place within the head, or answers that no program goes on
+// so.
 
-ghost use Rattle.std.specs.Prelude.{◌≡◌, IfOk};
-ghost use Rattle.ceal_grammar.specs.Machine.{at_head, body_of, with_parameter};
+ghost use Rattle.std.specs.Prelude.{◌≡◌, List, false, true, IfOk};
+ghost use Rattle.ceal_base.specs.declared.syntax.Entry.{Entry as EntryOf};
+ghost use Rattle.ceal_grammar.specs.Machine.{at_head, body_of, wants, with_parameter};
+ghost use Rattle.ceal_parse.specs.Reading.{is_done, is_named};
 
 use crate::marks::{is_sign, is_word, name};
+use crate::turn::put;
 use crate::typing::{start_type, take_type};
+use ceal_base::fault::Span;
 use ceal_base::items::Items;
 use ceal_base::no_memory::NoMemory;
 use ceal_base::syntax::{Entry, FieldDecl, Ident};
+use ceal_base::text::Text;
 use ceal_grammar::stack::Stack;
 use ceal_grammar::state::{Head, HeadPlace, Inside, Mode, State, TypePart, Typing};
 use ceal_lex::token::{Reserved, Sign, Token};
 use std::alloc::Global;
+use std::mem;
 
-fn take_ceal(entries: Items<Entry>, token: &Token) -> Result<Option<State>, NoMemory>
-    ensures value { IfOk result
-        (λ next. next ≡ at_head entries HeadPlace.Ceal token.now.span token.now.kind) }
-{
-    match name(token) {
-        Ok(Some(name)) => Ok(Some(State::Head(entries, HeadPlace::CealNamed(name)))),
-        Ok(None) => {
-            drop(entries);
-            Ok(None)
-        }
-        Err(NoMemory) => {
-            drop(entries);
-            Err(NoMemory)
-        }
+/// The head of no function, which stands where one was taken away.
+pub fn no_head(alloc: Global, at: Span) -> Head {
+    Head {
+        initialiser: None,
+        name: Ident {
+            text: Text::new(Vec::new(alloc)),
+            span: at,
+        },
+        params: Items::empty(alloc),
     }
 }
 
-fn take_ceal_named(
-    alloc: Global,
-    entries: Items<Entry>,
-    name: Ident,
-    token: &Token,
-) -> Option<State>
-    ensures value { result
-        ≡ at_head entries (HeadPlace.CealNamed name) token.now.span token.now.kind }
+/// The head goes on at this place.
+fn stand(place: &mut HeadPlace, next: HeadPlace) -> bool
+    ensures place { place.new ≡ next }
+    ensures on { result ≡ true }
+{
+    put(place, next);
+    true
+}
+
+fn take_ceal(place: &mut HeadPlace, token: &Token) -> Result<bool, NoMemory>
+    ensures value { IfOk result (λ on. (es : List EntryOf) → wants on (State.Head es place.new)
+        ≡ at_head es HeadPlace.Ceal token.now.span token.now.kind) }
+{
+    match name(token)? {
+        Some(name) => Ok(stand(place, HeadPlace::CealNamed(name))),
+        None => Ok(false),
+    }
+}
+
+fn take_ceal_named(alloc: Global, place: &mut HeadPlace, name: Ident, token: &Token) -> bool
+    ensures value { (es : List EntryOf) → wants result (State.Head es place.new)
+        ≡ at_head es (HeadPlace.CealNamed name) token.now.span token.now.kind }
 {
     if is_sign(token, Sign::LeftParenthesis) {
         let head = Head {
@@ -45,66 +61,55 @@ fn take_ceal_named(
             name,
             params: Items::empty(alloc),
         };
-        Some(State::Head(entries, HeadPlace::First(head)))
+        stand(place, HeadPlace::First(head))
     } else {
-        drop(entries);
         drop(name);
-        None
+        false
     }
 }
 
-fn take_init(entries: Items<Entry>, token: &Token) -> Result<Option<State>, NoMemory>
-    ensures value { IfOk result
-        (λ next. next ≡ at_head entries HeadPlace.Init token.now.span token.now.kind) }
+fn take_init(place: &mut HeadPlace, token: &Token) -> Result<bool, NoMemory>
+    ensures value { IfOk result (λ on. (es : List EntryOf) → wants on (State.Head es place.new)
+        ≡ at_head es HeadPlace.Init token.now.span token.now.kind) }
 {
-    match name(token) {
-        Ok(Some(name)) => Ok(Some(State::Head(entries, HeadPlace::InitNamed(name)))),
-        Ok(None) => {
-            drop(entries);
-            Ok(None)
-        }
-        Err(NoMemory) => {
-            drop(entries);
-            Err(NoMemory)
-        }
+    match name(token)? {
+        Some(name) => Ok(stand(place, HeadPlace::InitNamed(name))),
+        None => Ok(false),
     }
 }
 
-fn take_init_named(entries: Items<Entry>, name: Ident, token: &Token) -> Option<State>
-    ensures value { result
-        ≡ at_head entries (HeadPlace.InitNamed name) token.now.span token.now.kind }
+fn take_init_named(place: &mut HeadPlace, name: Ident, token: &Token) -> bool
+    ensures value { (es : List EntryOf) → wants result (State.Head es place.new)
+        ≡ at_head es (HeadPlace.InitNamed name) token.now.span token.now.kind }
 {
     if is_sign(token, Sign::LeftParenthesis) {
-        Some(State::Head(entries, HeadPlace::InitOpened(name)))
+        stand(place, HeadPlace::InitOpened(name))
     } else {
-        drop(entries);
         drop(name);
-        None
+        false
     }
 }
 
-fn take_init_opened(entries: Items<Entry>, name: Ident, token: &Token) -> Option<State>
-    ensures value { result
-        ≡ at_head entries (HeadPlace.InitOpened name) token.now.span token.now.kind }
+fn take_init_opened(place: &mut HeadPlace, name: Ident, token: &Token) -> bool
+    ensures value { (es : List EntryOf) → wants result (State.Head es place.new)
+        ≡ at_head es (HeadPlace.InitOpened name) token.now.span token.now.kind }
 {
     if is_word(token, Reserved::Struct) {
-        Some(State::Head(entries, HeadPlace::InitStruct(name)))
+        stand(place, HeadPlace::InitStruct(name))
     } else {
-        drop(entries);
         drop(name);
-        None
+        false
     }
 }
 
 fn take_init_struct(
     alloc: Global,
-    entries: Items<Entry>,
+    place: &mut HeadPlace,
     function: Ident,
     token: &Token,
-) -> Result<Option<State>, NoMemory>
-    ensures value { IfOk result
-        (λ next. next
-        ≡ at_head entries (HeadPlace.InitStruct function) token.now.span token.now.kind) }
+) -> Result<bool, NoMemory>
+    ensures value { IfOk result (λ on. (es : List EntryOf) → wants on (State.Head es place.new)
+        ≡ at_head es (HeadPlace.InitStruct function) token.now.span token.now.kind) }
 {
     match name(token) {
         Ok(Some(shape)) => {
@@ -113,68 +118,66 @@ fn take_init_struct(
                 name: function,
                 params: Items::empty(alloc),
             };
-            Ok(Some(State::Head(entries, HeadPlace::Shaped(head))))
+            Ok(stand(place, HeadPlace::Shaped(head)))
         }
         Ok(None) => {
-            drop(entries);
             drop(function);
-            Ok(None)
+            Ok(false)
         }
         Err(NoMemory) => {
-            drop(entries);
             drop(function);
             Err(NoMemory)
         }
     }
 }
 
-fn take_shaped(entries: Items<Entry>, head: Head, token: &Token) -> Option<State>
-    ensures value { result ≡ at_head entries (HeadPlace.Shaped head) token.now.span token.now.kind }
+fn take_shaped(place: &mut HeadPlace, head: Head, token: &Token) -> bool
+    ensures value { (es : List EntryOf) → wants result (State.Head es place.new)
+        ≡ at_head es (HeadPlace.Shaped head) token.now.span token.now.kind }
 {
     if is_sign(token, Sign::Star) {
-        Some(State::Head(entries, HeadPlace::Starred(head)))
+        stand(place, HeadPlace::Starred(head))
     } else {
-        drop(entries);
         drop(head);
-        None
+        false
     }
 }
 
-fn take_starred(entries: Items<Entry>, head: Head, token: &Token) -> Option<State>
-    ensures value { result
-        ≡ at_head entries (HeadPlace.Starred head) token.now.span token.now.kind }
+fn take_starred(place: &mut HeadPlace, head: Head, token: &Token) -> bool
+    ensures value { (es : List EntryOf) → wants result (State.Head es place.new)
+        ≡ at_head es (HeadPlace.Starred head) token.now.span token.now.kind }
 {
     if is_word(token, Reserved::Own) {
-        Some(State::Head(entries, HeadPlace::Named(head)))
+        stand(place, HeadPlace::Named(head))
     } else {
-        drop(entries);
         drop(head);
-        None
+        false
     }
 }
 
 /// A parameter.
-fn take_next(entries: Items<Entry>, head: Head, token: &Token) -> Option<State>
-    ensures value { result ≡ at_head entries (HeadPlace.Next head) token.now.span token.now.kind }
+fn take_next(place: &mut HeadPlace, head: Head, token: &Token) -> bool
+    ensures value { (es : List EntryOf) → wants result (State.Head es place.new)
+        ≡ at_head es (HeadPlace.Next head) token.now.span token.now.kind }
 {
     match start_type(token) {
-        Some(part) => Some(State::Head(entries, HeadPlace::Typing(head, part))),
+        Some(part) => stand(place, HeadPlace::Typing(head, part)),
         None => {
-            drop(entries);
             drop(head);
-            None
+            false
         }
     }
 }
 
 /// The first parameter, or `)`.
-fn take_first(entries: Items<Entry>, head: Head, token: &Token) -> Option<State>
-    ensures value { result ≡ at_head entries (HeadPlace.First head) token.now.span token.now.kind }
+fn take_first(place: &mut HeadPlace, head: Head, token: &Token) -> bool
+    ensures value { (es : List EntryOf) → wants result (State.Head es place.new)
+        ≡ at_head es (HeadPlace.First head) token.now.span token.now.kind }
 {
     if is_sign(token, Sign::RightParenthesis) {
-        Some(State::Head(entries, HeadPlace::Done(head)))
+        stand(place, HeadPlace::Done(head))
     } else {
-        take_next(entries, head, token)
+        take_next(place, head, token)
     }
 }
 
@@ -187,48 +190,42 @@ fn parameter(head: Head, parameter: FieldDecl) -> Result<Head, NoMemory>
 }
 
 fn take_typing(
-    entries: Items<Entry>,
+    place: &mut HeadPlace,
     head: Head,
     part: TypePart,
     token: &Token,
-) -> Result<Option<State>, NoMemory>
-    ensures value { IfOk result
-        (λ next. next
-        ≡ at_head entries (HeadPlace.Typing head part) token.now.span token.now.kind) }
+) -> Result<bool, NoMemory>
+    ensures value { IfOk result (λ on. (es : List EntryOf) → wants on (State.Head es place.new)
+        ≡ at_head es (HeadPlace.Typing head part) token.now.span token.now.kind) }
 {
     match take_type(false, part, token) {
-        Ok(Some(Typing::More(part))) => Ok(Some(State::Head(
-            entries,
-            HeadPlace::Typing(head, part),
-        ))),
+        Ok(Some(Typing::More(part))) => Ok(stand(place, HeadPlace::Typing(head, part))),
         Ok(Some(Typing::Named(form, name))) => {
             let head = parameter(head, FieldDecl { form, name })?;
-            Ok(Some(State::Head(entries, HeadPlace::Named(head))))
+            Ok(stand(place, HeadPlace::Named(head)))
         }
         Ok(None) => {
-            drop(entries);
             drop(head);
-            Ok(None)
+            Ok(false)
         }
         Err(NoMemory) => {
-            drop(entries);
             drop(head);
             Err(NoMemory)
         }
     }
 }
 
-fn take_named(entries: Items<Entry>, head: Head, token: &Token) -> Option<State>
-    ensures value { result ≡ at_head entries (HeadPlace.Named head) token.now.span token.now.kind }
+fn take_named(place: &mut HeadPlace, head: Head, token: &Token) -> bool
+    ensures value { (es : List EntryOf) → wants result (State.Head es place.new)
+        ≡ at_head es (HeadPlace.Named head) token.now.span token.now.kind }
 {
     if is_sign(token, Sign::Comma) {
-        Some(State::Head(entries, HeadPlace::Next(head)))
+        stand(place, HeadPlace::Next(head))
     } else if is_sign(token, Sign::RightParenthesis) {
-        Some(State::Head(entries, HeadPlace::Done(head)))
+        stand(place, HeadPlace::Done(head))
     } else {
-        drop(entries);
         drop(head);
-        None
+        false
     }
 }
 
@@ -248,7 +245,8 @@ fn body(alloc: Global, entries: Items<Entry>, head: Head) -> State
     State::In(inside, Mode::Body)
 }
 
-fn take_done(alloc: Global, entries: Items<Entry>, head: Head, token: &Token) -> Option<State>
+/// The token after the head, the entries before the function given.
+pub fn take_done(alloc: Global, entries: Items<Entry>, head: Head, token: &Token) -> Option<State>
     ensures value { result ≡ at_head entries (HeadPlace.Done head) token.now.span token.now.kind }
 {
     if is_sign(token, Sign::LeftBrace) {
@@ -260,29 +258,54 @@ fn take_done(alloc: Global, entries: Items<Entry>, head: Head, token: &Token) ->
     }
 }
 
-/// A token within the head of a function, the entries before it given.
-pub fn take_head(
-    alloc: Global,
-    entries: Items<Entry>,
-    place: HeadPlace,
-    token: &Token,
-) -> Result<Option<State>, NoMemory>
-    ensures value { IfOk result
-        (λ next. next ≡ at_head entries place token.now.span token.now.kind) }
+/// A token within the head of a function that has a name.
+fn take_rest(alloc: Global, place: &mut HeadPlace, token: &Token) -> Result<bool, NoMemory>
+    requires named { is_named place.old ≡ true }
+    ensures value { IfOk result (λ on. (es : List EntryOf) → wants on (State.Head es place.new)
+        ≡ at_head es place.old token.now.span token.now.kind) }
+{
+    match mem::replace(place, HeadPlace::Ceal) {
+        HeadPlace::CealNamed(name) => Ok(take_ceal_named(alloc, place, name, token)),
+        HeadPlace::InitNamed(name) => Ok(take_init_named(place, name, token)),
+        HeadPlace::InitOpened(name) => Ok(take_init_opened(place, name, token)),
+        HeadPlace::InitStruct(name) => {
+            let on = take_init_struct(alloc, place, name, token)?;
+            Ok(on)
+        }
+        HeadPlace::Shaped(head) => Ok(take_shaped(place, head, token)),
+        HeadPlace::Starred(head) => Ok(take_starred(place, head, token)),
+        HeadPlace::First(head) => Ok(take_first(place, head, token)),
+        HeadPlace::Next(head) => Ok(take_next(place, head, token)),
+        HeadPlace::Typing(head, part) => {
+            let on = take_typing(place, head, part, token)?;
+            Ok(on)
+        }
+        HeadPlace::Named(head) => Ok(take_named(place, head, token)),
+        other => {
+            drop(other);
+            unreachable!()
+        }
+    }
+}
+
+/// A token within the head of a function.
+pub fn take_head(alloc: Global, place: &mut HeadPlace, token: &Token) -> Result<bool, NoMemory>
+    requires open { is_done place.old ≡ false }
+    ensures value { IfOk result (λ on. (es : List EntryOf) → wants on (State.Head es place.new)
+        ≡ at_head es place.old token.now.span token.now.kind) }
 {
     match place {
-        HeadPlace::Ceal => take_ceal(entries, token),
-        HeadPlace::CealNamed(name) => Ok(take_ceal_named(alloc, entries, name, token)),
-        HeadPlace::Init => take_init(entries, token),
-        HeadPlace::InitNamed(name) => Ok(take_init_named(entries, name, token)),
-        HeadPlace::InitOpened(name) => Ok(take_init_opened(entries, name, token)),
-        HeadPlace::InitStruct(name) => take_init_struct(alloc, entries, name, token),
-        HeadPlace::Shaped(head) => Ok(take_shaped(entries, head, token)),
-        HeadPlace::Starred(head) => Ok(take_starred(entries, head, token)),
-        HeadPlace::First(head) => Ok(take_first(entries, head, token)),
-        HeadPlace::Next(head) => Ok(take_next(entries, head, token)),
-        HeadPlace::Typing(head, part) => take_typing(entries, head, part, token),
-        HeadPlace::Named(head) => Ok(take_named(entries, head, token)),
-        HeadPlace::Done(head) => Ok(take_done(alloc, entries, head, token)),
+        HeadPlace::Ceal => {
+            let on = take_ceal(place, token)?;
+            Ok(on)
+        }
+        HeadPlace::Init => {
+            let on = take_init(place, token)?;
+            Ok(on)
+        }
+        _ => {
+            let on = take_rest(alloc, place, token)?;
+            Ok(on)
+        }
     }
 }

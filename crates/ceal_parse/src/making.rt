@@ -1,10 +1,13 @@
 // What a variable is given. A `take_..` takes one token.
 
 ghost use Rattle.std.specs.Prelude.{◌≡◌, ◌<◌, ◌^◌, IfOk};
-ghost use Rattle.ceal_grammar.specs.Machine.{given, called, at_modref, at_making, at_value};
+ghost use Rattle.ceal_grammar.specs.Machine.{given, called, at_modref, at_making, at_value, placed};
+ghost use Rattle.ceal_grammar.specs.declared.state.Inside.{Inside};
+ghost use Rattle.ceal_parse.specs.Reading.{turn_state};
 
 use crate::expression::take_whole;
 use crate::marks::{is_sign, is_word, name, same_word};
+use crate::turn::{Turn, stand};
 use ceal_base::fault::Span;
 use ceal_base::no_memory::NoMemory;
 use ceal_base::syntax::{Exprs, Ident, Stmt, Value};
@@ -159,21 +162,23 @@ pub fn take_making(making: Making, token: &Token) -> Result<Option<Mode>, NoMemo
 pub fn take_value(
     alloc: Global,
     nesting: u32,
+    mode: &mut Mode,
     target: Target,
     token: &Token,
-) -> Result<Option<Mode>, NoMemory>
+) -> Result<Turn, NoMemory>
     requires shallow { nesting < 2 ^ 31 }
-    ensures value { IfOk result
-        (λ mode. mode ≡ at_value nesting target token.now.span token.now.kind) }
+    ensures value { IfOk result (λ turn. (i : Inside) → turn_state i mode.new turn
+        ≡ placed i (at_value nesting target token.now.span token.now.kind)) }
 {
     let at = token.span;
     if is_word(token, Reserved::Read) {
-        Ok(Some(Mode::Before(Receiver::Read(target, at))))
+        Ok(stand(mode, Mode::Before(Receiver::Read(target, at))))
     } else if is_word(token, Reserved::Alloc) {
-        Ok(Some(Mode::Making(Making::Alloc(target, at))))
+        Ok(stand(mode, Mode::Making(Making::Alloc(target, at))))
     } else if is_word(token, Reserved::Modref) {
-        Ok(Some(Mode::Making(Making::Modref(target, at))))
+        Ok(stand(mode, Mode::Making(Making::Modref(target, at))))
     } else {
-        take_whole(alloc, nesting, Receiver::Value(target), token)
+        let turn = take_whole(alloc, nesting, mode, Receiver::Value(target), token)?;
+        Ok(turn)
     }
 }

@@ -7,7 +7,7 @@ ghost use Rattle.ceal_grammar.specs.Machine.{at_part, at_top, nesting_of, operat
 ghost use Rattle.ceal_parse.specs.Reading.{is_inside, Fits};
 
 use crate::body::take_mode;
-use crate::head::take_head;
+use crate::head::{no_head, take_done, take_head};
 use crate::limits::{item, nesting, operators};
 use crate::marks::same_word;
 use crate::structs::take_struct;
@@ -50,30 +50,6 @@ fn take_top(entries: Items<Entry>, token: &Token) -> Option<State>
     }
 }
 
-/// A token within no body.
-fn take_outside(alloc: Global, state: State, token: &Token) -> Result<Option<State>, NoMemory>
-    requires outside { is_inside state ≡ false }
-    requires room { Fits state }
-    ensures value { IfOk result (λ next. next ≡ step state token.now) }
-{
-    match state {
-        State::Top(entries) => Ok(take_top(entries, token)),
-        State::Struct(entries, place) => {
-            let next = take_struct(alloc, entries, place, token)?;
-            Ok(next)
-        }
-        State::Head(entries, place) => {
-            let next = take_head(alloc, entries, place, token)?;
-            Ok(next)
-        }
-        State::In(_, _) => unreachable!(),
-        State::Finished(entries) => {
-            drop(entries);
-            Ok(None)
-        }
-    }
-}
-
 /// The fault at a token with which no program goes on.
 fn code(token: &Token) -> FaultCode
     ensures value { result ≡ code_at token.now.kind }
@@ -92,6 +68,19 @@ fn fault(code: FaultCode, token: &Token) -> FrontError
         code,
         span: token.span,
     })
+}
+
+/// The reading goes on at this state, or no program goes on so.
+fn stand(state: &mut State, next: Option<State>) -> bool
+    ensures value { wants result state.new ≡ next }
+{
+    match next {
+        Some(next) => {
+            put(state, next);
+            true
+        }
+        None => false,
+    }
 }
 
 /// The reading stands after these entries.
@@ -128,13 +117,31 @@ impl Parser {
         ensures value { IfOk result
             (λ on. wants on self.new.state ≡ step self.old.state token.now) }
     {
-        let state = mem::replace(&mut self.state, State::Top(Items::empty(self.alloc)));
-        match take_outside(self.alloc, state, token)? {
-            Some(next) => {
-                put(&mut self.state, next);
-                Ok(true)
+        let alloc = self.alloc;
+        match &mut self.state {
+            State::Top(entries) => {
+                let entries = mem::replace(entries, Items::empty(alloc));
+                Ok(stand(&mut self.state, take_top(entries, token)))
             }
-            None => Ok(false),
+            State::Struct(entries, place) => {
+                let entries = mem::replace(entries, Items::empty(alloc));
+                let place = mem::replace(place, StructPlace::Begun);
+                let next = take_struct(alloc, entries, place, token)?;
+                Ok(stand(&mut self.state, next))
+            }
+            State::Head(entries, place) => match place {
+                HeadPlace::Done(head) => {
+                    let entries = mem::replace(entries, Items::empty(alloc));
+                    let head = mem::replace(head, no_head(alloc, token.span));
+                    Ok(stand(&mut self.state, take_done(alloc, entries, head, token)))
+                }
+                _ => {
+                    let on = take_head(alloc, place, token)?;
+                    Ok(on)
+                }
+            },
+            State::In(_, _) => unreachable!(),
+            State::Finished(_) => Ok(false),
         }
     }
 

@@ -4,10 +4,12 @@
 ghost use Rattle.std.specs.Prelude.{◌≡◌, ◌∷◌, ◌<◌, ◌^◌, [], IfOk};
 ghost use Rattle.ceal_base.specs.declared.syntax.Stmt.TheViews.{If};
 ghost use Rattle.ceal_grammar.specs.Machine.{placed, begun, at_operand, type_begin, wrapped, with_statement, ends_at, opened_by, at_word, at_statement, at_typing, at_declared, at_owned, at_path, at_calls, at_before, at_named, at_reached, at_first, path_of, field_of};
+ghost use Rattle.ceal_parse.specs.Reading.{turn_state};
 
 use crate::expression::{begin, take_whole};
 use crate::making::call;
 use crate::marks::{is_sign, name, same_sign, same_word};
+use crate::turn::{Turn, begin_statement, stand};
 use crate::typing::{begin_type, take_type};
 use ceal_base::boxed::Boxed;
 use ceal_base::fault::Span;
@@ -81,18 +83,19 @@ pub fn end_statement(alloc: Global, inside: &mut Inside, statement: Stmt) -> Res
 pub fn take_end(
     alloc: Global,
     inside: &mut Inside,
+    mode: &mut Mode,
     statement: Stmt,
     sign: Sign,
-) -> Result<Option<Mode>, NoMemory>
+) -> Result<Turn, NoMemory>
     ensures value { IfOk result
-        (λ mode. ends_at inside.old statement sign ≡ placed inside.new mode) }
+        (λ turn. turn_state inside.new mode.new turn ≡ ends_at inside.old statement sign) }
 {
     if same_sign(sign, Sign::Semicolon) {
         end_statement(alloc, inside, statement)?;
-        Ok(Some(Mode::Body))
+        Ok(begin_statement(mode))
     } else {
         drop(statement);
-        Ok(None)
+        Ok(Turn::Refused)
     }
 }
 
@@ -116,59 +119,67 @@ pub fn open_block(alloc: Global, inside: &mut Inside, owner: Owner) -> Result<()
     Ok(())
 }
 
-fn take_statement(at: Span, word: Reserved) -> Option<Mode>
-    ensures value { result ≡ at_statement at word }
+fn take_statement(mode: &mut Mode, at: Span, word: Reserved) -> Turn
+    ensures value { (i : Inside) → turn_state i mode.new result ≡ placed i (at_statement at word) }
 {
     if same_word(word, Reserved::If) {
-        Some(Mode::Before(Receiver::If(at)))
+        stand(mode, Mode::Before(Receiver::If(at)))
     } else if same_word(word, Reserved::While) {
-        Some(Mode::Before(Receiver::While(at)))
+        stand(mode, Mode::Before(Receiver::While(at)))
     } else if same_word(word, Reserved::Return) {
-        Some(Mode::Ends(Stmt::Return(at)))
+        stand(mode, Mode::Ends(Stmt::Return(at)))
     } else if same_word(word, Reserved::Break) {
-        Some(Mode::Ends(Stmt::Break(at)))
+        stand(mode, Mode::Ends(Stmt::Break(at)))
     } else if same_word(word, Reserved::Continue) {
-        Some(Mode::Ends(Stmt::Continue(at)))
+        stand(mode, Mode::Ends(Stmt::Continue(at)))
     } else if same_word(word, Reserved::Write) {
-        Some(Mode::Before(Receiver::Write(at)))
+        stand(mode, Mode::Before(Receiver::Write(at)))
     } else if same_word(word, Reserved::Own) {
-        Some(Mode::Owned(at))
+        stand(mode, Mode::Owned(at))
     } else {
-        None
+        Turn::Refused
     }
 }
 
 /// A reserved word at the beginning of a statement.
-pub fn take_word(at: Span, word: Reserved) -> Option<Mode>
-    ensures value { result ≡ at_word at word (type_begin word) }
+pub fn take_word(mode: &mut Mode, at: Span, word: Reserved) -> Turn
+    ensures value { (i : Inside) → turn_state i mode.new result
+        ≡ placed i (at_word at word (type_begin word)) }
 {
     match begin_type(word) {
-        Some(part) => Some(Mode::Typing(at, part)),
-        None => take_statement(at, word),
+        Some(part) => stand(mode, Mode::Typing(at, part)),
+        None => take_statement(mode, at, word),
     }
 }
 
 #[inline(never)]
-pub fn take_typing(at: Span, part: TypePart, token: &Token) -> Result<Option<Mode>, NoMemory>
-    ensures value { IfOk result (λ mode. mode ≡ at_typing at part token.now.span token.now.kind) }
+pub fn take_typing(
+    mode: &mut Mode,
+    at: Span,
+    part: TypePart,
+    token: &Token,
+) -> Result<Turn, NoMemory>
+    ensures value { IfOk result (λ turn. (i : Inside) → turn_state i mode.new turn
+        ≡ placed i (at_typing at part token.now.span token.now.kind)) }
 {
     match take_type(false, part, token)? {
-        Some(Typing::More(part)) => Ok(Some(Mode::Typing(at, part))),
-        Some(Typing::Named(form, name)) => Ok(Some(Mode::Declared(at, form, name))),
-        None => Ok(None),
+        Some(Typing::More(part)) => Ok(stand(mode, Mode::Typing(at, part))),
+        Some(Typing::Named(form, name)) => Ok(stand(mode, Mode::Declared(at, form, name))),
+        None => Ok(Turn::Refused),
     }
 }
 
 #[inline(never)]
-pub fn take_declared(at: Span, form: TypeForm, name: Ident, token: &Token) -> Option<Mode>
-    ensures value { result ≡ at_declared at form name token.now.kind }
+pub fn take_declared(mode: &mut Mode, at: Span, form: TypeForm, name: Ident, token: &Token) -> Turn
+    ensures value { (i : Inside) → turn_state i mode.new result
+        ≡ placed i (at_declared at form name token.now.kind) }
 {
     if is_sign(token, Sign::Equals) {
-        Some(Mode::Value(Target::Declare(at, form, name)))
+        stand(mode, Mode::Value(Target::Declare(at, form, name)))
     } else {
         drop(form);
         drop(name);
-        None
+        Turn::Refused
     }
 }
 
@@ -286,16 +297,18 @@ pub fn take_calls(callee: Callee, token: &Token) -> Option<Mode>
 fn first_argument(
     alloc: Global,
     nesting: u32,
+    mode: &mut Mode,
     callee: Callee,
     token: &Token,
-) -> Result<Option<Mode>, NoMemory>
+) -> Result<Turn, NoMemory>
     requires shallow { nesting < 2 ^ 31 }
-    ensures value { IfOk result
-        (λ mode. mode
-        ≡ at_operand (begun nesting (Receiver.Argument callee [])) token.now.span token.now.kind) }
+    ensures value { IfOk result (λ turn. (i : Inside) → turn_state i mode.new turn
+        ≡ placed i
+        (at_operand (begun nesting (Receiver.Argument callee [])) token.now.span token.now.kind)) }
 {
     let receiver = Receiver::Argument(callee, Items::empty(alloc));
-    take_whole(alloc, nesting, receiver, token)
+    let turn = take_whole(alloc, nesting, mode, receiver, token)?;
+    Ok(turn)
 }
 
 /// The first argument, or `)`.
@@ -303,30 +316,39 @@ fn first_argument(
 pub fn take_first(
     alloc: Global,
     nesting: u32,
+    mode: &mut Mode,
     callee: Callee,
     token: &Token,
-) -> Result<Option<Mode>, NoMemory>
+) -> Result<Turn, NoMemory>
     requires shallow { nesting < 2 ^ 30 }
-    ensures value { IfOk result
-        (λ mode. mode ≡ at_first nesting callee token.now.span token.now.kind) }
+    ensures value { IfOk result (λ turn. (i : Inside) → turn_state i mode.new turn
+        ≡ placed i (at_first nesting callee token.now.span token.now.kind)) }
 {
     if is_sign(token, Sign::RightParenthesis) {
-        Ok(Some(Mode::Ends(call(callee, Items::empty(alloc)))))
+        Ok(stand(mode, Mode::Ends(call(callee, Items::empty(alloc)))))
     } else {
-        first_argument(alloc, nesting + 1, callee, token)
+        let turn = first_argument(alloc, nesting + 1, mode, callee, token)?;
+        Ok(turn)
     }
 }
 
 #[inline(never)]
-pub fn take_before(alloc: Global, nesting: u32, receiver: Receiver, token: &Token) -> Option<Mode>
+pub fn take_before(
+    alloc: Global,
+    nesting: u32,
+    mode: &mut Mode,
+    receiver: Receiver,
+    token: &Token,
+) -> Turn
     requires shallow { nesting < 2 ^ 31 }
-    ensures value { result ≡ at_before nesting receiver token.now.kind }
+    ensures value { (i : Inside) → turn_state i mode.new result
+        ≡ placed i (at_before nesting receiver token.now.kind) }
 {
     if is_sign(token, Sign::LeftParenthesis) {
         let whole = begin(alloc, nesting + 1, receiver);
-        Some(Mode::Within(whole, Place::Want))
+        stand(mode, Mode::Within(whole, Place::Want))
     } else {
         drop(receiver);
-        None
+        Turn::Refused
     }
 }

@@ -1,6 +1,6 @@
 // What the parser answers of a token, and how values change places.
 
-ghost use Rattle.std.specs.Prelude.{◌≡◌, IfOk};
+ghost use Rattle.std.specs.Prelude.{◌≡◌, IfOk, if◌then◌else◌};
 
 use ceal_base::boxed::Boxed;
 use ceal_base::no_memory::NoMemory;
@@ -49,10 +49,41 @@ fn let_go(mode: Mode) {
 pub fn settle(mode: &mut Mode, next: Mode)
     ensures value { mode.new ≡ next }
 {
-    match mem::replace(mode, next) {
-        Mode::Body => {}
-        old => let_go(old),
+    match mode {
+        Mode::Body => match mem::replace(mode, next) {
+            Mode::Body => {}
+            old => let_go(old),
+        },
+        _ => let_go(mem::replace(mode, next)),
     }
+}
+
+/// The body goes on at this place.
+pub fn stand(mode: &mut Mode, next: Mode) -> Turn
+    ensures place { mode.new ≡ next }
+    ensures on { result ≡ Turn.On }
+{
+    settle(mode, next);
+    Turn::On
+}
+
+/// The body goes on at the beginning of a statement.
+pub fn begin_statement(mode: &mut Mode) -> Turn
+    ensures place { mode.new ≡ Mode.Body }
+    ensures on { result ≡ Turn.On }
+{
+    match mode {
+        Mode::Body => {}
+        _ => let_go(mem::replace(mode, Mode::Body)),
+    }
+    Turn::On
+}
+
+/// The body goes on, or no program goes on so.
+pub fn going(on: bool) -> Turn
+    ensures value { result ≡ (if on then Turn.On else Turn.Refused) }
+{
+    if on { Turn::On } else { Turn::Refused }
 }
 
 /// Both values on the heap.
