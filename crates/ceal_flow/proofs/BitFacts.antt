@@ -1,11 +1,12 @@
 -- Sets of numbers as words of bits.
-use Rattle.std.proofs.Common.{◌≡◌, ◌≢◌, ◌⊎◌, inl, inr, ℕ, zero, suc, ◌+◌, ◌*◌, ◌/◌, ◌%◌, ◌^◌, ◌<◌, ◌≤◌, max, Bool, true, false, ◌==◌, ◌||◌, ◌&&◌, not, Option, Some, Result, Ok, Err, OnErr, List, [], ◌∷◌, ◌++◌, length, if◌then◌else◌, refl, ap, sym, ◌∙◌, subst, arith, w64, add-one, ltb, length-append, add-zero, add-suc}
+use Rattle.std.proofs.Common.{◌≡◌, ◌≢◌, ◌⊎◌, inl, inr, ℕ, zero, suc, ◌+◌, ◌-◌, ◌*◌, ◌/◌, ◌%◌, ◌^◌, ◌<◌, ◌≤◌, max, Bool, true, false, ◌==◌, ◌||◌, ◌&&◌, not, Option, Some, Result, Ok, Err, OnErr, List, [], ◌∷◌, ◌++◌, length, if◌then◌else◌, refl, ap, sym, ◌∙◌, subst, arith, w64, add-one, ltb, length-append, add-zero, add-suc}
 use Rattle.std.specs.Int.{bit_at, bit_not}
 use Rattle.std.specs.Prelude.{bit_and, bit_or}
-use Rattle.std.proofs.lemmas.Nat.Bits.{bit_at-lt, bit_at-zero, bit_at_or, bit_at_clear_same, bit_at_clear_other, bit_at_set_same, bit_at_set_other, same_from_bits_below}
+use Rattle.std.proofs.lemmas.Nat.Bits.{bit_at-lt, bit_at-zero, bit_at_or, bit_at_clear_same, bit_at_clear_other, bit_at_set_same, bit_at_set_other, bit_at_above, same_from_bits_below}
 use Rattle.std.proofs.lemmas.Bool.Decides.{eqb_tells, leb_tells}
 use Rattle.std.proofs.lemmas.Bool.{lt-ltb, le-ltb}
-use Rattle.std.proofs.lemmas.Nat.{le_or_l}
+use Rattle.std.proofs.lemmas.Nat.{le_or_l, leading_length}
+use Rattle.std.specs.Int.Count.{count_leading_zeros}
 use Rattle.std.proofs.Math.Bool.{or_assoc}
 use Rattle.std.proofs.lemmas.List.{append-nil}
 use mir.Val.{bits}
@@ -315,6 +316,33 @@ below-few words (suc n) =
 
 pub members-few : (words : List ℕ) → length words ≤ 2 ^ 26 → length (members words) ≤ 2 ^ 32
 members-few words l = let h = below-few words (64 * length words) in omega (arith, l, h)
+
+-- no number is in the set from n on
+below-same : (words : List ℕ) (n k : ℕ) → ((v : ℕ) → n ≤ v → v < n + k → has_bit words v ≡ false) → members_below words (n + k) ≡ members_below words n
+unfolding members_below
+below-same words n zero h = rw add-zero refl
+below-same words n (suc k) h =
+    rw (add-suc, h (n + k) (omega arith) (omega arith), append-nil) (below-same words n k (λ v a b. h v a (omega (arith, b))))
+
+above-bit : (words : List ℕ) (c w m v : ℕ) → word_at words c ≡ w → w < 2 ^ m → 64 * c + m ≤ v → v < 64 * (c + 1) → has_bit words v ≡ false
+above-bit words c w m v e lw lo hi =
+    let q : v / 64 ≡ c = omega (arith, lo, hi) in
+    let r : m ≤ v % 64 = omega (arith, lo, hi, q) in
+    let none : bit_at w (v % 64) ≡ 0 = bit_at_above w m (v % 64) lw r in
+    rw (q, e, none) refl
+
+-- the last word has no bit above its highest
+pub end-members : (words : List ℕ) (w : ℕ) → 0 < length words → word_at words (length words - 1) ≡ w → w < 2 ^ 64
+    → members_below words (length words * 64 - count_leading_zeros 64 w) ≡ members words
+end-members words w some e lw =
+    let c = length words - 1 in
+    let z = count_leading_zeros 64 w in
+    let top = leading_length 64 w lw in
+    let m = top.0 in
+    let all : z + m ≡ 64 = top.1 in
+    let start : length words * 64 - z ≡ 64 * c + m = omega (arith, all, some) in
+    let finish : 64 * length words ≡ (64 * c + m) + z = omega (arith, all, some) in
+    rw (start, finish) (sym (below-same words (64 * c + m) z (λ v lo hi. above-bit words c w m v e top.2 lo (omega (arith, hi, all)))))
 
 -- a set that has all numbers of another has as many, and more where it has one more
 less-by : (a b : Bool) → (a ≡ true → b ≡ true) → count-by a ≤ count-by b

@@ -2,7 +2,7 @@
 
 ghost use Rattle.std.specs.Prelude.{◌≡◌, ◌≢◌, ◌<◌, ◌≤◌, ◌^◌, ◌*◌, ◌+◌, ◌||◌, ◌&&◌, not, true, false, ℕ, [], ◌∷◌, ◌++◌, length, max, bit_or, if◌then◌else◌, IfOk, OnOk};
 ghost use Rattle.std.specs.Int.{bit_at};
-ghost use Rattle.ceal_flow.specs.Bits.{word_at, has_bit, members};
+ghost use Rattle.ceal_flow.specs.Bits.{word_at, has_bit, members, members_below};
 ghost use Rattle.ceal_flow.specs.Sets.{is_that};
 
 use ceal_base::no_memory::NoMemory;
@@ -110,13 +110,27 @@ fn push_if(numbers: &mut Vec<u32>, is_there: bool, v: u32) -> Result<(), NoMemor
     Ok(())
 }
 
+/// A number above all that are in the set.
+fn end(words: &[u64]) -> usize
+    requires { length words.now ≤ 2 ^ 26 }
+    ensures small { result ≤ 64 * length words.now }
+    ensures all { members_below words.now result ≡ members words.now }
+{
+    let count = words.len();
+    if count == 0 {
+        return 0;
+    }
+    let last = word(words, count - 1);
+    count * 64 - last.leading_zeros() as usize
+}
+
 /// The numbers, ascending.
 pub fn numbers(alloc: Global, words: &[u64]) -> Result<Vec<u32>, NoMemory>
     requires { length words.now ≤ 2 ^ 26 }
     ensures value { IfOk result (λ vs. vs.items ≡ members words.now) }
 {
     let mut numbers = Vec::new(alloc);
-    let end = words.len() as u64 * 64;
+    let end = end(words) as u64;
     for v in 0..end {
         let v = v as u32;
         push_if(&mut numbers, has(words, v), v)?;
