@@ -1,6 +1,9 @@
 // What is known of variables at a point of a path.
 
-ghost use Rattle.std.specs.Prelude.{◌≡◌, ◌<◌, ◌≤◌, ℕ, [], unwrap_or, IfOk};
+ghost use Rattle.std.specs.Prelude.{◌≡◌, ◌<◌, ◌≤◌, ℕ, [], Some, if◌then◌else◌, IfOk};
+ghost use Rattle.std.specs.BTreeMap.{is_at};
+ghost use Rattle.std.specs.Map.{lookup};
+ghost use Rattle.std.specs.Ordering.{nat_cmp};
 ghost use Rattle.ceal_fold.specs.Folding.{assigned, copy_without, copies_after};
 ghost use Rattle.ceal_fold.specs.States.{last_of, time, still, copy_at};
 
@@ -12,7 +15,6 @@ use ceal_code::expr::VarId;
 use std::alloc::Global;
 use std::collections::BTreeMap;
 use std::marker::Model;
-use std::mem;
 
 /// The last assignment of a variable: when it was, and what it made the variable a copy of.
 #[derive(Clone, Copy, PartialEq, Eq, Debug)]
@@ -39,17 +41,14 @@ impl Model for Known {
     ghost view = { λ k. unwrap_or k.shared [] };
 }
 
-/// Takes the map out; where another path has it too, a copy of it.
-fn own(alloc: Global, shared: Option<Shared>) -> Result<BTreeMap<u32, Assigned>, NoMemory>
-    ensures { IfOk result (λ map. map.entries ≡ unwrap_or shared []) }
+/// One assignment alone.
+fn begun(alloc: Global, v: VarId, last: Assigned) -> Result<Shared, NoMemory>
+    ensures value { IfOk result (λ shared. (u : ℕ) → lookup (is_at (nat_cmp u)) shared
+        ≡ (if is_at (nat_cmp v.0) u then Some last else lookup (is_at (nat_cmp u)) [])) }
 {
-    match shared {
-        None => Ok(BTreeMap::new(alloc)),
-        Some(shared) => {
-            let map = shared.into_map()?;
-            Ok(map)
-        }
-    }
+    let mut shared = Shared::new(alloc, BTreeMap::new(alloc))?;
+    shared.put(v.0, last)?;
+    Ok(shared)
 }
 
 impl Known {
@@ -132,10 +131,17 @@ impl Known {
         ensures value { IfOk result (λ _. copy_at self.new ≡ assigned (copy_at self.old) v.0 copy) }
         ensures times { IfOk result (λ _. (u : ℕ) → time (last_of self.new u) ≤ at) }
     {
-        let mut map = own(self.alloc, mem::replace(&mut self.shared, None))?;
-        map.insert(v.0, Assigned { at, copy })?;
-        self.shared = Some(Shared::new(self.alloc, map)?);
-        Ok(())
+        let last = Assigned { at, copy };
+        match &mut self.shared {
+            Some(shared) => {
+                shared.put(v.0, last)?;
+                Ok(())
+            }
+            None => {
+                self.shared = Some(begun(self.alloc, v, last)?);
+                Ok(())
+            }
+        }
     }
 
     /// Goes over a command at a time.

@@ -1,6 +1,9 @@
 // What several paths know.
 
-ghost use Rattle.std.specs.Prelude.{◌≡◌, IfOk};
+ghost use Rattle.std.specs.Prelude.{◌≡◌, ℕ, Some, if◌then◌else◌, IfOk, OnOk};
+ghost use Rattle.std.specs.BTreeMap.{is_at};
+ghost use Rattle.std.specs.Map.{lookup};
+ghost use Rattle.std.specs.Ordering.{nat_cmp};
 ghost use Rattle.ceal_fold.specs.States.{last_of};
 
 use crate::known::Assigned;
@@ -41,12 +44,14 @@ impl Shared {
         Ok(Shared { map })
     }
 
-    /// The map; where another path has it too, a copy of it.
-    pub fn into_map(self) -> Result<BTreeMap<u32, Assigned>, NoMemory>
-        ensures value { IfOk result (λ map. map.entries ≡ self) }
+    /// Puts the last assignment of a variable. Where another path has the map too, this one gets a copy of it first.
+    pub fn put(&mut self, v: u32, last: Assigned) -> Result<(), NoMemory>
+        ensures value { OnOk result ((u : ℕ) → lookup (is_at (nat_cmp u)) self.new
+            ≡ (if is_at (nat_cmp v) u then Some last else lookup (is_at (nat_cmp u)) self.old)) }
     {
-        let map = Rc::unwrap_or_clone(self.map)?;
-        Ok(map)
+        let map = Rc::make_mut(&mut self.map)?;
+        map.insert(v, last)?;
+        Ok(())
     }
 
     #[tactic(auto, unfolding(crate::specs::States::last_of))]
