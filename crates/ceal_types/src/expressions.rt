@@ -58,7 +58,9 @@ fn type_unary(alloc: Global, at: Span, op: Unary, a: TypedExpr) -> Result<TypedE
         let e = unary(alloc, at, op, a)?;
         Ok(e)
     } else {
-        Err(fault(FaultCode::T1, a.span))
+        let wrong = a.span;
+        drop(a);
+        Err(fault(FaultCode::T1, wrong))
     }
 }
 
@@ -91,6 +93,8 @@ fn type_compared(
         let e = binary(alloc, at, op, sign, a, b)?;
         Ok(e)
     } else {
+        drop(a);
+        drop(b);
         Err(fault(FaultCode::T1, sign))
     }
 }
@@ -106,10 +110,16 @@ fn type_computed(
     ensures { Gives result (computed at op sign a b) }
 {
     if !suits(Kind::Int, a.kind) {
-        return Err(fault(FaultCode::T1, a.span));
+        let wrong = a.span;
+        drop(a);
+        drop(b);
+        return Err(fault(FaultCode::T1, wrong));
     }
     if !suits(Kind::Int, b.kind) {
-        return Err(fault(FaultCode::T1, b.span));
+        let wrong = b.span;
+        drop(a);
+        drop(b);
+        return Err(fault(FaultCode::T1, wrong));
     }
     let e = binary(alloc, at, op, sign, a, b)?;
     Ok(e)
@@ -139,7 +149,7 @@ fn type_binary(
         Binary::MoreEq => type_computed(alloc, at, op, sign, a, b),
         Binary::And => type_computed(alloc, at, op, sign, a, b),
         Binary::Or => type_computed(alloc, at, op, sign, a, b),
-        Binary::Pick(_) => Err(fault(FaultCode::T3, a.span)),
+        Binary::Pick(_) => no_row(a, b),
     }
 }
 
@@ -147,7 +157,10 @@ fn type_binary(
 fn no_row(a: TypedExpr, index: TypedExpr) -> Result<TypedExpr, FrontError>
     ensures { Gives result (no_pick a index) }
 {
-    Err(fault(FaultCode::T3, a.span))
+    let at = a.span;
+    drop(a);
+    drop(index);
+    Err(fault(FaultCode::T3, at))
 }
 
 /// The type of an expression, where these variables are in scope. It recurses as deep as the expression.

@@ -118,8 +118,14 @@ fn plain_field(
                 form: TypedForm::Field(e, member.shape, member.field),
             })
         }
-        FieldKind::CellInt => Err(fault(FaultCode::T1, name.span)),
-        FieldKind::CellPtr(_) => Err(fault(FaultCode::T1, name.span)),
+        FieldKind::CellInt => {
+            drop(e);
+            Err(fault(FaultCode::T1, name.span))
+        }
+        FieldKind::CellPtr(_) => {
+            drop(e);
+            Err(fault(FaultCode::T1, name.span))
+        }
     }
 }
 
@@ -166,10 +172,14 @@ fn cell(
     ensures { Gives result (address_of at name.now e member) }
 {
     if member.row != 0 {
+        drop(e);
         return Err(fault(FaultCode::T1, name.span));
     }
     match member.kind {
-        FieldKind::Plain(_) => Err(fault(FaultCode::T3, name.span)),
+        FieldKind::Plain(_) => {
+            drop(e);
+            Err(fault(FaultCode::T3, name.span))
+        }
         FieldKind::CellInt => {
             let place = place(alloc, at, Kind::ModInt, e, member)?;
             Ok(place)
@@ -196,6 +206,27 @@ pub fn type_address(
     cell(alloc, at, name, e, member)
 }
 
+/// Both expressions on the heap.
+fn both(
+    alloc: Global,
+    first: TypedExpr,
+    second: TypedExpr,
+) -> Result<(Boxed<TypedExpr>, Boxed<TypedExpr>), NoMemory>
+    ensures first { IfOk result (λ both. both.0 ≡ first) }
+    ensures second { IfOk result (λ both. both.1 ≡ second) }
+{
+    match Boxed::new(alloc, first) {
+        Ok(first) => {
+            let second = Boxed::new(alloc, second)?;
+            Ok((first, second))
+        }
+        Err(NoMemory) => {
+            drop(second);
+            Err(NoMemory)
+        }
+    }
+}
+
 /// The index after a row's address, and what they make.
 fn element(
     alloc: Global,
@@ -209,10 +240,12 @@ fn element(
     ensures { Gives result (element_of at name.now kind place index row) }
 {
     if !suits(Kind::Int, index.kind) {
-        return Err(fault(FaultCode::T1, index.span));
+        let wrong = index.span;
+        drop(place);
+        drop(index);
+        return Err(fault(FaultCode::T1, wrong));
     }
-    let place = Boxed::new(alloc, place)?;
-    let index = Boxed::new(alloc, index)?;
+    let (place, index) = both(alloc, place, index)?;
     Ok(TypedExpr {
         span: at,
         kind: Some(kind),
@@ -232,6 +265,8 @@ fn element_of_row(
     ensures { Gives result (element_of_row at name.now kind e index member) }
 {
     if member.row == 0 {
+        drop(e);
+        drop(index);
         return Err(fault(FaultCode::T1, name.span));
     }
     let place = place(alloc, at, kind, e, member)?;
@@ -249,7 +284,11 @@ fn element_of_member(
     ensures { Gives result (pick_of at name.now e index member) }
 {
     match member.kind {
-        FieldKind::Plain(_) => Err(fault(FaultCode::T3, name.span)),
+        FieldKind::Plain(_) => {
+            drop(e);
+            drop(index);
+            Err(fault(FaultCode::T3, name.span))
+        }
         FieldKind::CellInt => element_of_row(alloc, at, name, Kind::ModInt, e, index, member),
         FieldKind::CellPtr(s) => {
             element_of_row(alloc, at, name, Kind::ModPtr(s), e, index, member)

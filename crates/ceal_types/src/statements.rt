@@ -97,7 +97,10 @@ fn type_set(
     if suits(kind, e.kind) {
         Ok(TypedStmt::SetField(at, left, member.shape, member.field, e))
     } else {
-        Err(fault(FaultCode::T1, e.span))
+        let wrong = e.span;
+        drop(left);
+        drop(e);
+        Err(fault(FaultCode::T1, wrong))
     }
 }
 
@@ -109,10 +112,18 @@ fn type_written(at: Span, place: TypedExpr, e: TypedExpr) -> Result<TypedStmt, F
             if suits(kind, e.kind) {
                 Ok(TypedStmt::Write(at, place, e))
             } else {
-                Err(fault(FaultCode::T1, e.span))
+                let wrong = e.span;
+                drop(place);
+                drop(e);
+                Err(fault(FaultCode::T1, wrong))
             }
         }
-        None => Err(fault(FaultCode::T3, place.span)),
+        None => {
+            let wrong = place.span;
+            drop(place);
+            drop(e);
+            Err(fault(FaultCode::T3, wrong))
+        }
     }
 }
 
