@@ -115,8 +115,9 @@ pub fn used_sets(alloc: Global, blocks: &[GraphBlock]) -> Result<Vec<LiveSet>, N
     ensures begun { IfOk result (λ sets. Begun blocks.now sets.items) }
 {
     let mut sets = Vec::new(alloc);
+    let mut used = Vec::new(alloc);
     for block in blocks {
-        let mut used = Vec::new(alloc);
+        used.clear();
         put_uses(&mut used, block)?;
         sets.push(set_of(alloc, used.as_slice())?)?;
     }

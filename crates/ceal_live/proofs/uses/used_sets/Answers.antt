@@ -11,7 +11,7 @@ loop-block-preserved c =
     let i = c.loop-block.block-index in
     let block = c.block-item.result in
     let within : c.loop-block.block-index < length c.args.blocks.now = omega arith in
-    let used_is = c.as_slice.ensures.value ∙ c.in_ok-put_uses.ensures ∙ ap (λ ns. ns ++ uses block) c.new-used.ensures.items in
+    let used_is = c.as_slice.ensures.value ∙ c.in_ok-put_uses.ensures ∙ ap (λ ns. ns ++ uses block) c.clear.ensures.items in
     rw (take_more blocks i block within, ← c.block-item.is, c.in_ok-push.ensures.items)
     (begun-push (take i blocks) c.loop-block.sets.items block _ c.loop-block.invariant c.in_ok-set_of.ensures.ascending c.in_ok-set_of.ensures.few
     (λ v. c.in_ok-set_of.ensures.all v ∙ ap (is_in v) used_is))
