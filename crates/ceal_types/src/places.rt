@@ -73,9 +73,8 @@ impl Places {
     /// Places where so many names may stand, and some times as many, each in a small tree.
     pub(crate) fn sized(alloc: Global, count: usize) -> Result<Places, NoMemory> {
         let mut places = Places::new(alloc);
-        let trees = count / 2;
-        places.trees.reserve(trees)?;
-        for _ in 0..trees {
+        places.trees.reserve(count)?;
+        for _ in 0..count {
             places.trees.push(BTreeMap::new(alloc))?;
         }
         Ok(places)
