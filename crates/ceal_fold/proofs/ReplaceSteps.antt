@@ -94,11 +94,11 @@ root-none (suc n) zero = refl
 root-none (suc n) (suc j) = root-none n j
 
 -- what the followers of a command are handed
-pub handed-is : (states : List (List (ℕ × Assigned))) (i : ℕ) (c : Cmd) (state : List (ℕ × Assigned)) (j : ℕ) (new : Copies)
-    → new ≡ (if is_among j (followers c i) then copy_at state else copies_at (slice_set states i []) j)
-    → copy_at state ≡ copies_after (copies_at states i) c → i < j → new ≡ handed (copies_at states) i c j
+pub handed-is : (states : List (List (ℕ × Assigned))) (i : ℕ) (c : Cmd) (known : Copies) (j : ℕ) (new : Copies)
+    → new ≡ (if is_among j (followers c i) then known else copies_at (slice_set states i []) j)
+    → known ≡ copies_after (copies_at states i) c → i < j → new ≡ handed (copies_at states) i c j
 unfolding handed
-handed-is states i c state j new e k lo =
+handed-is states i c known j new e k lo =
     e ∙ ap₂ (λ a b. if is_among j (followers c i) then a else b) k (states-other states i [] j (λ h. omega (arith, lo, h)))
 
 module _ (structs : List StructInfo) where

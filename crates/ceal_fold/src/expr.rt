@@ -217,6 +217,65 @@ fn fold_exprs(
     Ok(Items::new(list))
 }
 
+fn fold_two(
+    alloc: Global,
+    structs: &[StructInfo],
+    known: &Known,
+    a: &CodeExpr,
+    b: &CodeExpr,
+) -> Result<(CodeExpr, CodeExpr), NoMemory>
+    ensures value { IfOk result
+        (λ both. both ≡ (
+          folded_expr structs.now (copy_at known.now) a.now,
+          folded_expr structs.now (copy_at known.now) b.now,
+        )) }
+{
+    let a = fold_expr(alloc, structs, known, a)?;
+    match fold_expr(alloc, structs, known, b) {
+        Ok(b) => Ok((a, b)),
+        Err(error) => {
+            drop(a);
+            Err(error)
+        }
+    }
+}
+
+fn fold_call(
+    alloc: Global,
+    structs: &[StructInfo],
+    known: &Known,
+    args: &[CodeExpr],
+    rest: &[CodeExpr],
+) -> Result<(CodeExprs, CodeExprs), NoMemory>
+    ensures value { IfOk result
+        (λ both. both ≡ (
+          folded_exprs structs.now (copy_at known.now) args.now,
+          folded_exprs structs.now (copy_at known.now) rest.now,
+        )) }
+{
+    let args = fold_exprs(alloc, structs, known, args)?;
+    let rest = fold_exprs(alloc, structs, known, rest)?;
+    Ok((args, rest))
+}
+
+fn fold_read(
+    alloc: Global,
+    structs: &[StructInfo],
+    known: &Known,
+    place: &CodeExpr,
+    args: &[CodeExpr],
+) -> Result<(CodeExpr, CodeExprs), NoMemory>
+    ensures value { IfOk result
+        (λ both. both ≡ (
+          folded_expr structs.now (copy_at known.now) place.now,
+          folded_exprs structs.now (copy_at known.now) args.now,
+        )) }
+{
+    let args = fold_exprs(alloc, structs, known, args)?;
+    let place = fold_expr(alloc, structs, known, place)?;
+    Ok((place, args))
+}
+
 /// A command with its expressions folded.
 pub fn fold_command(
     alloc: Global,
@@ -250,8 +309,7 @@ pub fn fold_command(
             shape: *shape,
         }),
         Cmd::Write { place, value } => {
-            let place = fold_expr(alloc, structs, known, place)?;
-            let value = fold_expr(alloc, structs, known, value)?;
+            let (place, value) = fold_two(alloc, structs, known, place, value)?;
             Ok(Cmd::Write { place, value })
         }
         Cmd::If { test, yes, no } => {
@@ -273,8 +331,7 @@ pub fn fold_command(
             unit,
             args,
         } => {
-            let place = fold_expr(alloc, structs, known, place)?;
-            let args = fold_exprs(alloc, structs, known, args.items())?;
+            let (place, args) = fold_read(alloc, structs, known, place, args.items())?;
             Ok(Cmd::Read {
                 var: *var,
                 place,
@@ -288,8 +345,7 @@ pub fn fold_command(
             unit,
             rest,
         } => {
-            let args = fold_exprs(alloc, structs, known, args.items())?;
-            let rest = fold_exprs(alloc, structs, known, rest.items())?;
+            let (args, rest) = fold_call(alloc, structs, known, args.items(), rest.items())?;
             Ok(Cmd::Call {
                 function: *function,
                 args,

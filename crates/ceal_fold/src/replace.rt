@@ -3,7 +3,7 @@
 ghost use Rattle.std.specs.Prelude.{◌≡◌, ◌<◌, ◌+◌, ◌^◌, ℕ, [], length, slice_get, slice_set, replicate, if◌then◌else◌, IfOk};
 ghost use Rattle.ceal_code.specs.Valid.{followers};
 ghost use Rattle.ceal_fold.specs.Folding.{at_root, copies_after, is_among, folded_command, handed, replaced};
-ghost use Rattle.ceal_fold.specs.States.{copy_at, state_at, copies_at, Until, AllUntil};
+ghost use Rattle.ceal_fold.specs.States.{last_of, time, copy_at, state_at, copies_at, Until, AllUntil};
 
 use crate::expr::fold_command;
 use crate::known::Known;
@@ -75,6 +75,29 @@ fn hand_on(
     }
 }
 
+/// Goes over a command, and hands what is known after it to its followers.
+fn pass_on(
+    states: &mut Vec<Known>,
+    known: Known,
+    command: &Cmd,
+    index: usize,
+) -> Result<(), NoMemory>
+    requires room { index < 2 ^ 63 }
+    requires state { (u : ℕ) → time (last_of known u) < index + 1 }
+    requires earlier { AllUntil (index + 1) states.old.items }
+    ensures times { IfOk result (λ _. AllUntil (index + 1) states.new.items) }
+    ensures length { IfOk result (λ _. length states.new.items ≡ length states.old.items) }
+    ensures value { IfOk result
+        (λ _. (j : ℕ) → j < length states.old.items → copies_at states.new.items j
+        ≡ (if is_among j (followers command.now index)
+        then copies_after (copy_at known) command.now else copies_at states.old.items j)) }
+{
+    let mut known = known;
+    known.pass(command, index + 1)?;
+    hand_on(states, known, command, index)?;
+    Ok(())
+}
+
 /// Folds the command at an index, and hands what is known after it to its followers.
 fn replace_at(
     alloc: Global,
@@ -93,11 +116,15 @@ fn replace_at(
     ensures handed { IfOk result (λ c. (j : ℕ) → index < j → j < length states.old.items
         → copies_at states.new.items j ≡ handed (copies_at states.old.items) index c j) }
 {
-    let mut known = take_state(alloc, states, index);
+    let known = take_state(alloc, states, index);
     let command = fold_command(alloc, structs, &known, command)?;
-    known.pass(&command, index + 1)?;
-    hand_on(states, known, &command, index)?;
-    Ok(command)
+    match pass_on(states, known, &command, index) {
+        Ok(()) => Ok(command),
+        Err(error) => {
+            drop(command);
+            Err(error)
+        }
+    }
 }
 
 /// The commands of a body, each with its expressions folded.

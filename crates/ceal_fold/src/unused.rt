@@ -1,8 +1,8 @@
 // From the leaves of a body up: each move that nothing later uses becomes a step that does nothing.
 
-ghost use Rattle.std.specs.Prelude.{◌≡◌, ◌<◌, ◌≤◌, ◌^◌, ◌||◌, ℕ, [], true, false, length, replicate, slice_set, IfOk};
+ghost use Rattle.std.specs.Prelude.{◌≡◌, ◌<◌, ◌≤◌, ◌^◌, ◌||◌, ◌&&◌, not, ℕ, [], true, false, length, replicate, slice_set, IfOk};
 ghost use Rattle.ceal_code.specs.Valid.{followers, is_tree};
-ghost use Rattle.ceal_fold.specs.Folding.{is_among, ticked, used_in, used_by, without_unused};
+ghost use Rattle.ceal_fold.specs.Folding.{is_among, ticked, uses, assigns, used_in, used_by, without_unused};
 ghost use Rattle.ceal_fold.specs.States.{has, has_at};
 
 use crate::uses::pass_back;
@@ -70,7 +70,12 @@ fn tick_unused(command: Cmd, later: &Vars) -> Cmd
         Cmd::Move { var, .. } => !later.has(*var),
         _ => false,
     };
-    if is_unused { Cmd::Tick } else { command }
+    if is_unused {
+        drop(command);
+        Cmd::Tick
+    } else {
+        command
+    }
 }
 
 fn put_set(sets: &mut Vec<Vars>, at: usize, set: Vars)
@@ -78,6 +83,46 @@ fn put_set(sets: &mut Vec<Vars>, at: usize, set: Vars)
     ensures { sets.new.items ≡ slice_set sets.old.items at set }
 {
     sets[at] = set;
+}
+
+/// Goes back over a command: from what is used after it to what is used from its index on.
+fn put_back(sets: &mut Vec<Vars>, later: Vars, command: &Cmd, index: usize) -> Result<(), NoMemory>
+    requires there { index < length sets.old.items }
+    ensures length { IfOk result (λ _. length sets.new.items ≡ length sets.old.items) }
+    ensures here { IfOk result (λ _. (u : ℕ) → has_at sets.new.items index u
+        ≡ (uses command.now u || (not (assigns command.now u) && has later u))) }
+    ensures left { IfOk result (λ _. (j u : ℕ) → (j ≡ index → ⊥)
+        → has_at sets.new.items j u ≡ has_at sets.old.items j u) }
+{
+    let mut vars = later;
+    pass_back(&mut vars, command)?;
+    put_set(sets, index, vars);
+    Ok(())
+}
+
+/// The command, ticked by what is used later; what is used from its index on is put there.
+fn tick_before(
+    sets: &mut Vec<Vars>,
+    later: Vars,
+    command: Cmd,
+    index: usize,
+) -> Result<Cmd, NoMemory>
+    requires there { index < length sets.old.items }
+    ensures command { IfOk result (λ c. c ≡ ticked (has later) command) }
+    ensures length { IfOk result (λ _. length sets.new.items ≡ length sets.old.items) }
+    ensures here { IfOk result (λ c. (u : ℕ) → has_at sets.new.items index u
+        ≡ (uses c u || (not (assigns c u) && has later u))) }
+    ensures left { IfOk result (λ _. (j u : ℕ) → (j ≡ index → ⊥)
+        → has_at sets.new.items j u ≡ has_at sets.old.items j u) }
+{
+    let command = tick_unused(command, &later);
+    match put_back(sets, later, &command, index) {
+        Ok(()) => Ok(command),
+        Err(error) => {
+            drop(command);
+            Err(error)
+        }
+    }
 }
 
 /// The last command of those that are still to be gone over, at its index.
@@ -93,11 +138,16 @@ fn tick_at(alloc: Global, sets: &mut Vec<Vars>, command: Cmd, index: usize) -> R
         (λ c. (j u : ℕ) → (j ≡ index → ⊥) → is_among j (followers command index) ≡ false
         → has_at sets.new.items j u ≡ has_at sets.old.items j u) }
 {
-    let mut vars = take_later(alloc, sets, &command, index)?;
-    let command = tick_unused(command, &vars);
-    pass_back(&mut vars, &command)?;
-    put_set(sets, index, vars);
-    Ok(command)
+    match take_later(alloc, sets, &command, index) {
+        Ok(later) => {
+            let command = tick_before(sets, later, command, index)?;
+            Ok(command)
+        }
+        Err(error) => {
+            drop(command);
+            Err(error)
+        }
+    }
 }
 
 /// The commands of a body, each move that nothing later uses a tick.
