@@ -5,7 +5,7 @@ ghost use Rattle.ceal_print.specs.PrintWords.{texts, field_kinds, other_kinds, p
 
 use crate::expressions::{put_size, put_type};
 use crate::statements::put_block;
-use crate::text::put_name;
+use crate::text::{put_name, put_named};
 use ceal_base::no_memory::NoMemory;
 use ceal_base::syntax::{Entry, FieldDecl, FunctionDecl, Ident};
 use ceal_base::text::Text;
@@ -76,17 +76,14 @@ fn put_head(
 {
     match initialiser {
         None => {
-            out.append_str("ceal ")?;
-            put_name(out, name)?;
+            put_named(out, "ceal ", name)?;
             out.append_str("( ")?;
             put_parameters(out, params)?;
             Ok(())
         }
         Some(shape) => {
-            out.append_str("init ")?;
-            put_name(out, name)?;
-            out.append_str("( struct ")?;
-            put_name(out, shape)?;
+            put_named(out, "init ", name)?;
+            put_named(out, "( struct ", shape)?;
             out.append_str("* self ")?;
             put_others(out, params)?;
             Ok(())
@@ -101,8 +98,7 @@ fn put_entry(out: &mut Text, entry: &Entry) -> Result<(), NoMemory>
 {
     match entry {
         Entry::Struct(shape) => {
-            out.append_str("struct ")?;
-            put_name(out, &shape.name)?;
+            put_named(out, "struct ", &shape.name)?;
             out.append_str("{\n")?;
             put_members(out, shape.fields.items())?;
             out.append_str("}\n;\n")?;

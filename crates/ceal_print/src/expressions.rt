@@ -1,11 +1,14 @@
 // Expressions, types and values of a text.
 
 ghost use Rattle.std.specs.Prelude.{◌≡◌, ◌++◌, ◌∷◌, [], codes, IfOk};
+ghost use Rattle.ceal_lex.specs.declared.token.TokenKind.TheVariants.{Name};
 ghost use Rattle.ceal_print.specs.PrintWords.{texts, expr_kinds, form_level, raised, more_kinds, argument_kinds, type_kinds, size_kinds, value_kinds};
 
-use crate::text::{binary_level, put_binary, put_length, put_name, put_number, put_unary};
+use crate::text::{
+    binary_level, put_binary, put_length, put_name, put_named, put_number, put_unary,
+};
 use ceal_base::no_memory::NoMemory;
-use ceal_base::syntax::{Expr, ExprForm, TypeForm, Value};
+use ceal_base::syntax::{Expr, ExprForm, Ident, TypeForm, Value};
 use ceal_base::text::Text;
 
 /// The level of an expression, parentheses left out.
@@ -50,8 +53,7 @@ pub fn put_expr(out: &mut Text, e: &Expr) -> Result<(), NoMemory>
         }
         ExprForm::Field(a, x) => {
             put_operand(out, 8, a.get())?;
-            out.append_str("-> ")?;
-            put_name(out, x)?;
+            put_named(out, "-> ", x)?;
             Ok(())
         }
         ExprForm::Address(a) => {
@@ -62,9 +64,7 @@ pub fn put_expr(out: &mut Text, e: &Expr) -> Result<(), NoMemory>
         ExprForm::Pick(row, index) => {
             out.append_str("& ")?;
             put_operand(out, 8, row.get())?;
-            out.append_str("[ ")?;
-            put_expr(out, index.get())?;
-            out.append_str("] ")?;
+            put_within(out, "[ ", index.get(), "] ")?;
             Ok(())
         }
     }
@@ -81,11 +81,22 @@ fn put_operand(out: &mut Text, asked: u8, e: &Expr) -> Result<(), NoMemory>
     if asked <= level(e) {
         put_expr(out, e)
     } else {
-        out.append_str("( ")?;
-        put_expr(out, e)?;
-        out.append_str(") ")?;
+        put_within(out, "( ", e, ") ")?;
         Ok(())
     }
+}
+
+/// Adds an expression between two texts.
+#[cycle(expr)]
+#[tactic(auto, using(crate::proofs::PrintSteps::expr_steps))]
+pub fn put_within(out: &mut Text, before: &str, e: &Expr, after: &str) -> Result<(), NoMemory>
+    ensures { IfOk result
+        (λ _. out.new ≡ out.old ++ before.now ++ texts (expr_kinds e.now) ++ after.now) }
+{
+    out.append_str(before)?;
+    put_expr(out, e)?;
+    out.append_str(after)?;
+    Ok(())
 }
 
 #[tactic(auto, using(crate::proofs::PrintSteps::list_steps))]
@@ -116,6 +127,20 @@ pub fn put_arguments(out: &mut Text, es: &[Expr]) -> Result<(), NoMemory>
     }
 }
 
+/// Adds a name with arguments, and what ends them.
+#[tactic(auto, using(crate::proofs::PrintSteps::list_steps))]
+pub fn put_applied(out: &mut Text, x: &Ident, es: &[Expr], end: &str) -> Result<(), NoMemory>
+    ensures { IfOk result
+        (λ _. out.new ≡ out.old ++ texts (Name x.now.text ∷ []) ++ codes "( "
+        ++ texts (argument_kinds es.now) ++ end.now) }
+{
+    put_name(out, x)?;
+    out.append_str("( ")?;
+    put_arguments(out, es)?;
+    out.append_str(end)?;
+    Ok(())
+}
+
 /// Adds a type, without the length of a row.
 #[tactic(auto, using(crate::proofs::PrintSteps::type_steps))]
 pub fn put_type(out: &mut Text, form: &TypeForm) -> Result<(), NoMemory>
@@ -124,30 +149,20 @@ pub fn put_type(out: &mut Text, form: &TypeForm) -> Result<(), NoMemory>
     match form {
         TypeForm::Int => out.append_str("int "),
         TypeForm::Ptr(x) => {
-            out.append_str("struct ")?;
-            put_name(out, x)?;
+            put_named(out, "struct ", x)?;
             out.append_str("* ")?;
             Ok(())
         }
         TypeForm::ModInt => out.append_str("mod int * "),
         TypeForm::ModPtr(x) => {
-            out.append_str("mod struct ")?;
-            put_name(out, x)?;
+            put_named(out, "mod struct ", x)?;
             out.append_str("* ")?;
             Ok(())
         }
         TypeForm::CellInt => out.append_str("mod int "),
-        TypeForm::CellPtr(x) => {
-            out.append_str("mod struct ")?;
-            put_name(out, x)?;
-            Ok(())
-        }
+        TypeForm::CellPtr(x) => put_named(out, "mod struct ", x),
         TypeForm::CellRow(_) => out.append_str("mod int "),
-        TypeForm::CellPtrRow(x, _) => {
-            out.append_str("mod struct ")?;
-            put_name(out, x)?;
-            Ok(())
-        }
+        TypeForm::CellPtrRow(x, _) => put_named(out, "mod struct ", x),
     }
 }
 
@@ -170,25 +185,15 @@ pub fn put_value(out: &mut Text, value: &Value) -> Result<(), NoMemory>
 {
     match value {
         Value::Plain(e) => put_expr(out, e),
-        Value::Read(_, e) => {
-            out.append_str("read ( ")?;
-            put_expr(out, e)?;
-            out.append_str(") ")?;
-            Ok(())
-        }
+        Value::Read(_, e) => put_within(out, "read ( ", e, ") "),
         Value::Alloc(_, shape, function, args) => {
-            out.append_str("alloc ")?;
-            put_name(out, shape)?;
-            put_name(out, function)?;
-            out.append_str("( ")?;
-            put_arguments(out, args.items())?;
-            out.append_str(") ")?;
+            put_named(out, "alloc ", shape)?;
+            put_applied(out, function, args.items(), ") ")?;
             Ok(())
         }
         Value::ModrefInt(_) => out.append_str("modref int ( ) "),
         Value::Modref(_, shape) => {
-            out.append_str("modref ")?;
-            put_name(out, shape)?;
+            put_named(out, "modref ", shape)?;
             out.append_str("( ) ")?;
             Ok(())
         }

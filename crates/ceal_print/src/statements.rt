@@ -1,13 +1,28 @@
 // Statements of a text.
 
 ghost use Rattle.std.specs.Prelude.{◌≡◌, ◌++◌, ◌∷◌, [], codes, if◌then◌else◌, IfOk};
-ghost use Rattle.ceal_print.specs.PrintWords.{texts, is_branch, is_chain, braced, stmt_kinds, stmts_kinds, second_kinds};
+ghost use Rattle.ceal_lex.specs.declared.token.TokenKind.TheVariants.{Name};
+ghost use Rattle.ceal_print.specs.PrintWords.{texts, value_kinds, is_branch, is_chain, braced, stmt_kinds, stmts_kinds, second_kinds};
 
-use crate::expressions::{put_arguments, put_expr, put_type, put_value};
-use crate::text::put_name;
+use crate::expressions::{put_applied, put_expr, put_type, put_value, put_within};
+use crate::text::{put_name, put_named};
 use ceal_base::no_memory::NoMemory;
-use ceal_base::syntax::Stmt;
+use ceal_base::syntax::{Ident, Stmt, Value};
 use ceal_base::text::Text;
+
+/// Adds a variable, what it is given, and the end of the statement.
+#[tactic(auto, using(crate::proofs::PrintSteps::stmt_steps))]
+fn put_given(out: &mut Text, x: &Ident, value: &Value) -> Result<(), NoMemory>
+    ensures { IfOk result
+        (λ _. out.new ≡ out.old ++ texts (Name x.now.text ∷ []) ++ codes "= "
+        ++ texts (value_kinds value.now) ++ codes ";\n") }
+{
+    put_name(out, x)?;
+    out.append_str("= ")?;
+    put_value(out, value)?;
+    out.append_str(";\n")?;
+    Ok(())
+}
 
 /// Adds a statement.
 #[cycle(lines)]
@@ -18,55 +33,31 @@ fn put_stmt(out: &mut Text, s: &Stmt) -> Result<(), NoMemory>
     match s {
         Stmt::Declare(_, form, x, value) => {
             put_type(out, form)?;
-            put_name(out, x)?;
-            out.append_str("= ")?;
-            put_value(out, value)?;
-            out.append_str(";\n")?;
+            put_given(out, x, value)?;
             Ok(())
         }
-        Stmt::Assign(x, value) => {
-            put_name(out, x)?;
-            out.append_str("= ")?;
-            put_value(out, value)?;
-            out.append_str(";\n")?;
-            Ok(())
-        }
+        Stmt::Assign(x, value) => put_given(out, x, value),
         Stmt::SetField(_, left, field, right) => {
             put_expr(out, left)?;
-            out.append_str("-> ")?;
-            put_name(out, field)?;
-            out.append_str("= ")?;
-            put_expr(out, right)?;
-            out.append_str(";\n")?;
+            put_named(out, "-> ", field)?;
+            put_within(out, "= ", right, ";\n")?;
             Ok(())
         }
         Stmt::Write(_, place, value) => {
-            out.append_str("write ( ")?;
-            put_expr(out, place)?;
-            out.append_str(", ")?;
+            put_within(out, "write ( ", place, ", ")?;
             put_expr(out, value)?;
             out.append_str(") ;\n")?;
             Ok(())
         }
-        Stmt::Call(x, args) => {
-            put_name(out, x)?;
-            out.append_str("( ")?;
-            put_arguments(out, args.items())?;
-            out.append_str(") ;\n")?;
-            Ok(())
-        }
+        Stmt::Call(x, args) => put_applied(out, x, args.items(), ") ;\n"),
         Stmt::If(_, test, first, second) => {
-            out.append_str("if ( ")?;
-            put_expr(out, test)?;
-            out.append_str(") ")?;
+            put_within(out, "if ( ", test, ") ")?;
             put_block(out, first.items())?;
             put_second(out, second.items())?;
             Ok(())
         }
         Stmt::While(_, test, body) => {
-            out.append_str("while ( ")?;
-            put_expr(out, test)?;
-            out.append_str(") ")?;
+            put_within(out, "while ( ", test, ") ")?;
             put_block(out, body.items())?;
             Ok(())
         }

@@ -22,6 +22,17 @@ pub fn put_name(out: &mut Text, name: &Ident) -> Result<(), NoMemory>
     Ok(())
 }
 
+/// Adds a word and a name.
+#[tactic(auto, using(crate::proofs::PrintSteps::kind_steps))]
+pub fn put_named(out: &mut Text, word: &str, name: &Ident) -> Result<(), NoMemory>
+    ensures { IfOk result
+        (λ _. out.new ≡ out.old ++ word.now ++ texts (Name name.now.text ∷ [])) }
+{
+    out.append_str(word)?;
+    put_name(out, name)?;
+    Ok(())
+}
+
 /// Adds a number in decimal.
 #[tactic(auto, using(crate::proofs::PrintSteps::kind_steps))]
 pub fn put_number(out: &mut Text, n: i64) -> Result<(), NoMemory>
