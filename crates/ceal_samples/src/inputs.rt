@@ -30,12 +30,7 @@ pub fn at(n: u32) -> Word
 }
 
 /// Adds an input block.
-pub fn add(
-    alloc: Global,
-    inputs: &mut Inputs,
-    shape: Shape,
-    words: &[Word],
-) -> Result<(), NoMemory>
+pub fn add(alloc: Global, inputs: &mut Inputs, shape: Shape, words: &[Word]) -> Result<(), NoMemory>
     ensures ok { OnOk result (inputs.new
         ≡ inputs.old ++ record { shape = shape; words = words.now } ∷ []) }
     ensures err { OnErr result (inputs.new ≡ inputs.old) }
