@@ -3,6 +3,7 @@
 
 ghost use Rattle.std.specs.Prelude.{◌≤◌};
 
+use crate::asserts::{equal, holds};
 use crate::drive::{add, edit, propagate, run};
 use ceal_base::kind::Shape;
 use ceal_base::word::{BlockId, Place, Word};
@@ -17,14 +18,14 @@ use std::test::Fail;
 
 /// The work, the steps, the number of core blocks, and the trace are these.
 fn is_at<R: Abort>(rt: &R, alloc: Global, engine: &Engine, counts: (u32, u32, u32), trace: &str) {
-    assert!(rt; engine.phase() == Phase::Finished);
-    assert_eq!(rt;
-        (engine.work(), engine.steps(), engine.live_blocks()),
-        counts
-    );
+    holds(rt, engine.phase() == Phase::Finished);
+    let found = (engine.work(), engine.steps(), engine.live_blocks());
+    equal(rt, found, counts);
     let forest = engine.forest().expect(rt, "memory");
     let text = told(alloc, forest.items()).expect(rt, "memory");
-    assert_eq!(rt; text.as_str(), trace);
+    drop(forest);
+    equal(rt, text.as_str(), trace);
+    drop(text);
 }
 
 /// The list 1, 2, 3 by its cells from the last one on, a modifiable that points to it, and one for its image.
@@ -135,22 +136,22 @@ fn fill_long(engine: &mut Engine, count: u32) -> Result<(), Fail>
 
 /// Propagation has run so many steps anew, and has looked at some contents, but not at more than 100 since `before`.
 fn looked_at_few<R: Abort>(rt: &R, engine: &Engine, work: u32, before: u64) {
-    assert!(rt; engine.phase() == Phase::Finished);
-    assert_eq!(rt; engine.work(), work);
+    holds(rt, engine.phase() == Phase::Finished);
+    equal(rt, engine.work(), work);
     let looked = engine.mods().looked();
-    assert!(rt; looked > before);
-    assert!(rt; looked - before <= 100);
+    holds(rt, looked > before);
+    holds(rt, looked - before <= 100);
 }
 
 /// The run is finished, with so many steps.
 fn has_steps<R: Abort>(rt: &R, engine: &Engine, steps: u32) {
-    assert!(rt; engine.phase() == Phase::Finished);
-    assert_eq!(rt; engine.steps(), steps);
+    holds(rt, engine.phase() == Phase::Finished);
+    equal(rt, engine.steps(), steps);
 }
 
 /// How many contents were looked at.
 fn looked<R: Abort>(rt: &R, engine: &Engine) -> u64 {
-    assert!(rt; engine.phase() == Phase::Finished);
+    holds(rt, engine.phase() == Phase::Finished);
     engine.mods().looked()
 }
 

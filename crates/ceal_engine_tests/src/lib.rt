@@ -6,6 +6,8 @@
 #[cfg(test)]
 mod adjust;
 #[cfg(test)]
+mod asserts;
+#[cfg(test)]
 mod drive;
 #[cfg(test)]
 mod dumps;

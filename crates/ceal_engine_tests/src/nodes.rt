@@ -1,9 +1,15 @@
 // A call is run over nodes, from nothing. The answers were worked out by hand from the rules of the language.
 
+ghost use Rattle.std.specs.Prelude.{◌≡◌, true};
+ghost use Rattle.ceal_code.specs.Valid.{valid};
+
+use crate::asserts::{equal, holds};
 use ceal_base::forest::Item;
+use ceal_base::memory::Inputs;
 use ceal_base::no_memory::NoMemory;
+use ceal_code::code::Code;
 use ceal_repair::first::first;
-use ceal_repair::running::Outcome;
+use ceal_repair::running::{Outcome, Running};
 use ceal_samples::calls::fits;
 use ceal_samples::inputs::{at, list};
 use ceal_samples::programs::{MAP, compiled};
@@ -11,6 +17,7 @@ use ceal_samples::told::told;
 use ceal_trace::node::Node;
 use ceal_trace::trace::Trace;
 use std::alloc::Global;
+use std::process::Abort;
 use std::test::Fail;
 
 /// A node as an item; the root is none.
@@ -67,19 +74,28 @@ fn items_of(alloc: Global, trace: &Trace) -> Result<Vec<Item>, NoMemory> {
     Ok(items)
 }
 
-/// MAP over the list 1, 2, 3.
-fn mapped(alloc: Global, fuel: u32) -> Result<Outcome, Fail> {
-    let program = compiled(alloc, MAP)?;
-    let inputs = list(alloc, &[1, 2, 3])?;
+/// MAP over these inputs.
+fn run_of(alloc: Global, code: &Code, inputs: &Inputs, fuel: u32) -> Result<Outcome, Fail>
+    requires valid { valid code.now ≡ true }
+{
     let args = [at(0), at(1)];
     if inputs.items().len() > 100 {
         return Err(Fail::from("too many inputs"));
     }
-    if !fits(&program.code, 1, &args, &inputs) {
+    if !fits(code, 1, &args, inputs) {
         return Err(Fail::from("the call does not fit"));
     }
-    let outcome = first(alloc, &program.code, 1, &args, &inputs, fuel)?;
-    Ok(outcome)
+    Ok(first(alloc, code, 1, &args, inputs, fuel)?)
+}
+
+/// MAP over the list 1, 2, 3.
+fn mapped(alloc: Global, fuel: u32) -> Result<Outcome, Fail> {
+    let inputs = list(alloc, &[1, 2, 3])?;
+    let program = compiled(alloc, MAP)?;
+    let outcome = run_of(alloc, &program.code, &inputs, fuel);
+    drop(program);
+    drop(inputs);
+    outcome
 }
 
 const MAPPED: &str = ".v2 = read(in0.0) u1(&in1.0): in2
@@ -99,24 +115,33 @@ end
 end
 ";
 
-#[test]
-fn a_run_from_nothing_leaves_its_nodes(rt: HostRuntime) -> Result<(), Fail> {
-    let alloc = rt.alloc();
-    let Outcome::Done(run) = mapped(alloc, 18)? else {
-        return Err(Fail::from("it is out of fuel"));
-    };
+/// The nodes, the work and the number of blocks of the run.
+fn is_mapped<R: Abort>(rt: &R, alloc: Global, run: &Running) -> Result<(), Fail> {
+    equal(rt, (run.spent, run.heap.live_count()), (18, 3));
     let items = items_of(alloc, &run.tables.trace)?;
-    let text = told(alloc, items.as_slice())?;
-    assert_eq!(rt; (run.spent, run.heap.live_count()), (18, 3));
-    assert_eq!(rt; text.as_str(), MAPPED);
+    let text = told(alloc, items.as_slice());
+    drop(items);
+    let text = text?;
+    equal(rt, text.as_str(), MAPPED);
     Ok(())
 }
 
 #[test]
+fn a_run_from_nothing_leaves_its_nodes(rt: HostRuntime) -> Result<(), Fail> {
+    let outcome = mapped(rt.alloc(), 18)?;
+    let told = match &outcome {
+        Outcome::Done(run) => is_mapped(&rt, rt.alloc(), run),
+        Outcome::OutOfFuel => Err(Fail::from("it is out of fuel")),
+    };
+    drop(outcome);
+    told
+}
+
+#[test]
 fn a_run_from_nothing_is_out_of_fuel(rt: HostRuntime) -> Result<(), Fail> {
-    let alloc = rt.alloc();
-    match mapped(alloc, 17)? {
-        Outcome::OutOfFuel => Ok(()),
-        Outcome::Done(_run) => Err(Fail::from("it is not out of fuel")),
-    }
+    let outcome = mapped(rt.alloc(), 17)?;
+    let is_out = matches!(&outcome, Outcome::OutOfFuel);
+    drop(outcome);
+    holds(&rt, is_out);
+    Ok(())
 }

@@ -4,6 +4,7 @@
 ghost use Rattle.std.specs.Prelude.{IfSome};
 ghost use Rattle.ceal_compile.specs.Compiled.{IsCompiled};
 
+use crate::asserts::{equal, holds};
 use crate::drive::{takes, takes_call, takes_input};
 use ceal_base::kind::Shape;
 use ceal_base::no_memory::NoMemory;
@@ -94,7 +95,7 @@ const LINES: [(&str, &str); 19] = [
 fn replies<R: Abort>(rt: &R, session: &mut Session) -> Result<(), Fail> {
     for (line, wanted) in LINES {
         let text = reply(session, line, wanted)?;
-        assert_eq!(rt; text.items(), wanted.as_bytes());
+        equal(rt, text.items(), wanted.as_bytes());
         drop(text);
     }
     Ok(())
@@ -112,23 +113,23 @@ fn a_line_may_be_given_again(rt: HostRuntime) -> Result<(), Fail> {
 
 /// Adds an input, also where memory is refused once: then nothing has changed.
 fn add<R: Abort>(rt: &R, engine: &mut Engine, shape: Shape, words: &[Word]) {
-    assert!(rt; takes_input(engine, shape, words));
+    holds(rt, takes_input(engine, shape, words));
     let count = engine.input_blocks().items().len();
     if engine.add_input(shape, words).is_err() {
-        assert_eq!(rt; engine.input_blocks().items().len(), count);
-        assert!(rt; takes_input(engine, shape, words));
-        assert!(rt; engine.add_input(shape, words).is_ok());
+        equal(rt, engine.input_blocks().items().len(), count);
+        holds(rt, takes_input(engine, shape, words));
+        holds(rt, engine.add_input(shape, words).is_ok());
     }
 }
 
 /// Edits a modifiable, also where memory is refused once: then the phase is as it was.
 fn edit<R: Abort>(rt: &R, engine: &mut Engine, place: Place, word: Word) {
-    assert!(rt; takes(engine, place, word));
+    holds(rt, takes(engine, place, word));
     let phase = engine.phase();
     if engine.edit(place, word).is_err() {
-        assert!(rt; engine.phase() == phase);
-        assert!(rt; takes(engine, place, word));
-        assert!(rt; engine.edit(place, word).is_ok());
+        holds(rt, engine.phase() == phase);
+        holds(rt, takes(engine, place, word));
+        holds(rt, engine.edit(place, word).is_ok());
     }
 }
 
@@ -138,16 +139,16 @@ fn recovers<R: Abort>(rt: &R, engine: &mut Engine, answer: Result<(), RunError>)
         Ok(()) => {}
         Err(RunError::OutOfFuel) => panic!(rt; "it is out of fuel"),
         Err(RunError::Memory) => {
-            assert!(rt; engine.phase() == Phase::Dropped);
-            assert!(rt; engine.propagate().is_ok());
+            holds(rt, engine.phase() == Phase::Dropped);
+            holds(rt, engine.propagate().is_ok());
         }
     }
 }
 
 /// The run has so many steps and core blocks.
 fn has<R: Abort>(rt: &R, engine: &Engine, steps: u32, blocks: u32) {
-    assert!(rt; engine.phase() == Phase::Finished);
-    assert_eq!(rt; (engine.steps(), engine.live_blocks()), (steps, blocks));
+    holds(rt, engine.phase() == Phase::Finished);
+    equal(rt, (engine.steps(), engine.live_blocks()), (steps, blocks));
 }
 
 /// An engine over MAP; None where there was no memory for it.
@@ -164,7 +165,7 @@ fn calls<R: Abort>(rt: &R, engine: &mut Engine) {
     add(rt, engine, Shape::ModPtr(0), &[input(2)]);
     add(rt, engine, Shape::ModPtr(0), &[Word::Null]);
     let args = [at(3), at(4)];
-    assert!(rt; takes_call(engine, 1, &args));
+    holds(rt, takes_call(engine, 1, &args));
     let answer = engine.run(1, &args);
     recovers(rt, engine, answer);
     has(rt, engine, 18, 3);
@@ -174,7 +175,7 @@ fn calls<R: Abort>(rt: &R, engine: &mut Engine) {
         field: 0,
     };
     edit(rt, engine, place, input(5));
-    assert!(rt; engine.phase() != Phase::New);
+    holds(rt, engine.phase() != Phase::New);
     let answer = engine.propagate();
     recovers(rt, engine, answer);
     has(rt, engine, 23, 4);
