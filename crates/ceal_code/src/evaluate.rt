@@ -137,7 +137,8 @@ impl<'a, P: PlainWords> Scope<'a, P> {
         }
     }
 
-    /// What an expression gives. Most have no parts, and are read at once.
+    /// What an expression gives. Most have no parts, and are read at once. It recurses as deep as the expression is.
+    #[cycle(value)]
     pub fn value(&self, e: &CodeExpr) -> Word
         ensures value { result ≡ expr_value self.now.structs.now
             (P.plain self.now.plain.now) (arguments self.now.env.now) e.now }
@@ -148,7 +149,8 @@ impl<'a, P: PlainWords> Scope<'a, P> {
         }
     }
 
-    /// The same, part by part. It recurses as deep as the expression is.
+    /// The same, part by part.
+    #[cycle(value)]
     #[inline(never)]
     #[tactic(auto, using(crate::proofs::ValueSteps::value_steps))]
     fn whole(&self, e: &CodeExpr) -> Word
@@ -159,18 +161,18 @@ impl<'a, P: PlainWords> Scope<'a, P> {
             CodeExpr::Num(n) => Word::Num(*n),
             CodeExpr::Null => Word::Null,
             CodeExpr::Var(v) => variable(self.env, v.0),
-            CodeExpr::Unary(op, a) => apply_unary(*op, self.whole(a.get())),
+            CodeExpr::Unary(op, a) => apply_unary(*op, self.value(a.get())),
             CodeExpr::Binary(op, a, b) => {
-                let left = self.whole(a.get());
-                let right = self.whole(b.get());
+                let left = self.value(a.get());
+                let right = self.value(b.get());
                 apply_binary(*op, left, right)
             }
             CodeExpr::Field(a, s, field) => {
-                let base = self.whole(a.get());
+                let base = self.value(a.get());
                 self.field(base, *s, *field)
             }
             CodeExpr::Address(a, s, field) => {
-                let base = self.whole(a.get());
+                let base = self.value(a.get());
                 self.address(base, *s, *field)
             }
         }
