@@ -16,7 +16,7 @@ use std::mem;
 fn no_states(alloc: Global, n: usize) -> Result<Vec<Known>, NoMemory>
     ensures { IfOk result (λ v. v.items ≡ replicate n []) }
 {
-    let mut states = Vec::new(alloc);
+    let mut states = Vec::with_capacity(alloc, n)?;
     for i in 0..n {
         states.push(Known::new(alloc))?;
     }
@@ -137,7 +137,7 @@ pub fn replace_all(
     ensures value { IfOk result (λ done. done.items ≡ replaced structs.now at_root 0 body.now) }
 {
     let mut states = no_states(alloc, body.len())?;
-    let mut done = Vec::new(alloc);
+    let mut done = Vec::with_capacity(alloc, body.len())?;
     let mut rest = body;
     let mut index = 0;
     while let Some((command, more)) = rest.split_first() {

@@ -15,7 +15,7 @@ use std::mem;
 fn no_sets(alloc: Global, n: usize) -> Result<Vec<Vars>, NoMemory>
     ensures { IfOk result (λ v. v.items ≡ replicate n []) }
 {
-    let mut sets = Vec::new(alloc);
+    let mut sets = Vec::with_capacity(alloc, n)?;
     for i in 0..n {
         sets.push(Vars::new(alloc))?;
     }
@@ -158,7 +158,7 @@ pub fn tick_all(alloc: Global, body: Vec<Cmd>) -> Result<Vec<Cmd>, NoMemory>
 {
     let mut sets = no_sets(alloc, body.len())?;
     let mut left = body;
-    let mut done = Vec::new(alloc);
+    let mut done = Vec::with_capacity(alloc, left.len())?;
     while let Some(command) = left.pop() {
         let command = tick_at(alloc, &mut sets, command, left.len())?;
         done.push(command)?;

@@ -5,7 +5,7 @@ use Rattle.ceal_fold.proofs.unused.tick_all.Goals as goal
 pub loop-command-init : goal.loop-command-init
 loop-command-init c =
     let n : c.len.result ≡ length c.args.body.items = search rules in
-    underway-begun c.args.body.items c.new-done.result.items c.in_ok-sets.sets.items _ c.new-done.ensures.items c.in_ok-sets.ensures n c.requires.tree
+    underway-begun c.args.body.items c.in_ok-done.done.items c.in_ok-sets.sets.items _ c.in_ok-done.ensures.items c.in_ok-sets.ensures n c.requires.tree
 
 pub loop-command-preserved : goal.loop-command-preserved
 loop-command-preserved c =
