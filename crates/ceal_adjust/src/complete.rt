@@ -58,6 +58,14 @@ pub fn complete(alloc: Global, repair: Repair<'_>, fuel: u32) -> Result<Adjusted
     ensures { IfOk result (λ a. Answered (code_of repair.entry) fuel (machine_in repair.entry) a) }
 {
     let mut repair = repair;
+    let answer = turn_to_end(alloc, &mut repair, fuel);
+    drop(repair);
+    answer
+}
+
+fn turn_to_end(alloc: Global, repair: &mut Repair<'_>, fuel: u32) -> Result<Adjusted, NoMemory>
+    ensures { IfOk result (λ a. Answered (code_of repair.old) fuel (machine_in repair.old) a) }
+{
     let mut out = Vec::new(alloc);
     let mut steps: u32 = 0;
     for _turn in 0..u64::MAX {
@@ -72,6 +80,7 @@ pub fn complete(alloc: Global, repair: Repair<'_>, fuel: u32) -> Result<Adjusted
             Turn::Went { stepped, item } => {
                 let more = steps_among(stepped, &item);
                 if u64::from(fuel) < u64::from(steps) + u64::from(more) {
+                    drop(item);
                     return Ok(Adjusted::OutOfFuel);
                 }
                 write(&mut out, stepped, item)?;

@@ -1,6 +1,7 @@
 // Units run anew, and take what the old items have left over.
 
-ghost use Rattle.std.specs.Prelude.{◌≡◌, ◌+◌, drop, IfOk, OnOk};
+ghost use Rattle.std.specs.Prelude.{◌≡◌, ◌+◌, true, drop, Option, IfOk, OnOk};
+ghost use Rattle.ceal_base.specs.declared.forest.Item.TheVariants.{Alloc as AllocItem, Read as ReadItem};
 ghost use Rattle.ceal_code.specs.Init.{arguments, pointer};
 ghost use Rattle.ceal_code.specs.Stacks.{stack_in, act_in};
 ghost use Rattle.ceal_code.specs.Step.{Run};
@@ -16,7 +17,7 @@ use crate::frame::{Frame, Mode, Turn};
 use crate::search::{find_block, find_value};
 use ceal_base::forest::{Item, Key};
 use ceal_base::no_memory::NoMemory;
-use ceal_base::word::BlockId;
+use ceal_base::word::{BlockId, Word};
 use ceal_code::initialise::pointer_to;
 use ceal_code::stack::{Activation, Closure, Stack};
 use ceal_code::step::Act;
@@ -55,8 +56,38 @@ impl<'a> Repair<'a> {
         Ok(())
     }
 
-    /// The unit makes a block: one that is left over with its key, or a new one.
+    /// The unit goes on with a block of the key: one that is left over, or a new one. It answers which.
     #[tactic(auto, using(crate::proofs::MachineSteps::frame_steps), unfolding(crate::specs::Machines::machine_of))]
+    fn make_block(&mut self, key: &Key, var: u32, unit: Activation) -> Result<BlockId, NoMemory>
+        requires running { self.old.mode ≡ Mode.Running }
+        ensures code { OnOk result (code_of self.new ≡ code_of self.old) }
+        ensures turn { IfOk result (λ block.
+            turn_in (Turn.Went true (Option.Some (AllocItem block key.now))) (machine_in self.new)
+            ≡ making (code_of self.old) own (state_in self.old)
+            (after self.old self.old.levels) key.now var unit.unit unit.index
+            (arguments unit.env.items) (stack_in self.old.stack) (left_over self.old)
+            (taken_alloc
+            (find_alloc key.now self.old.levels (drop self.old.rest self.old.items)))) }
+    {
+        self.step()?;
+        match find_block(&self.items, self.rest, self.levels, key)? {
+            Some(found) => {
+                self.rest = found.rest;
+                self.levels = found.levels;
+                self.go_on_with(key, var, unit, found.block)?;
+                Ok(found.block)
+            }
+            None => {
+                let block = BlockId::Core(self.number);
+                self.memory.learn(block, key)?;
+                self.number = one_more(self.number)?;
+                self.go_on_with(key, var, unit, block)?;
+                Ok(block)
+            }
+        }
+    }
+
+    /// The unit makes a block: one that is left over with its key, or a new one.
     fn make(&mut self, key: Key, var: u32, unit: Activation) -> Result<Turn, NoMemory>
         requires running { self.old.mode ≡ Mode.Running }
         ensures code { OnOk result (code_of self.new ≡ code_of self.old) }
@@ -66,32 +97,51 @@ impl<'a> Repair<'a> {
             (arguments unit.env.items) (stack_in self.old.stack) (left_over self.old)
             (taken_alloc (find_alloc key self.old.levels (drop self.old.rest self.old.items)))) }
     {
+        match self.make_block(&key, var, unit) {
+            Ok(block) => Ok(wrote(true, Item::Alloc { block, key })),
+            Err(error) => {
+                drop(key);
+                Err(error)
+            }
+        }
+    }
+
+    /// The unit goes into a read: one that is left over is taken with the items inside it, or the unit of the read runs
+    /// anew. It answers the content that is read.
+    #[tactic(auto, using(crate::proofs::MachineSteps::frame_steps), unfolding(crate::specs::Machines::machine_of))]
+    fn read_in(&mut self, closure: &Closure) -> Result<Word, NoMemory>
+        requires running { self.old.mode ≡ Mode.Running }
+        ensures code { OnOk result (code_of self.new ≡ code_of self.old) }
+        ensures turn { IfOk result (λ now.
+            turn_in (Turn.Went true (Option.Some (ReadItem closure.now.place now
+            closure.now.unit closure.now.var closure.now.args))) (machine_in self.new)
+            ≡ reading (code_of self.old) (state_in self.old) (after self.old self.old.levels)
+            closure.now.place closure.now.unit closure.now.var closure.now.args
+            (stack_in self.old.stack) (left_over self.old)
+            (taken_read
+            (find_closure closure.now self.old.levels (drop self.old.rest self.old.items)))) }
+    {
+        let now = self.memory.value(closure.place);
         self.step()?;
-        match find_block(&self.items, self.rest, self.levels, &key)? {
+        let found = find_value(&self.items, self.rest, self.levels, closure)?;
+        let below = mem::replace(&mut self.stack, Stack::empty(self.alloc));
+        match found {
             Some(found) => {
                 self.rest = found.rest;
-                self.levels = found.levels;
-                self.go_on_with(&key, var, unit, found.block)?;
-                Ok(wrote(
-                    true,
-                    Item::Alloc {
-                        block: found.block,
-                        key,
-                    },
-                ))
+                let levels = found.levels;
+                self.frames.push(Frame::Mend { below, levels })?;
+                self.open(closure, is_same(now, found.value), now)?;
+                Ok(now)
             }
             None => {
-                let block = BlockId::Core(self.number);
-                self.memory.learn(block, &key)?;
-                self.number = one_more(self.number)?;
-                self.go_on_with(&key, var, unit, block)?;
-                Ok(wrote(true, Item::Alloc { block, key }))
+                self.frames.push(Frame::Run { below })?;
+                self.stack.resume(self.memory.code(), closure, now)?;
+                Ok(now)
             }
         }
     }
 
     /// The unit reads: a read that is left over is taken with the items inside it, or the unit of the read runs anew.
-    #[tactic(auto, using(crate::proofs::MachineSteps::frame_steps), unfolding(crate::specs::Machines::machine_of))]
     fn read(&mut self, closure: Closure) -> Result<Turn, NoMemory>
         requires running { self.old.mode ≡ Mode.Running }
         ensures code { OnOk result (code_of self.new ≡ code_of self.old) }
@@ -103,21 +153,11 @@ impl<'a> Repair<'a> {
             (taken_read
             (find_closure closure self.old.levels (drop self.old.rest self.old.items)))) }
     {
-        let now = self.memory.value(closure.place);
-        self.step()?;
-        let below = mem::replace(&mut self.stack, Stack::empty(self.alloc));
-        match find_value(&self.items, self.rest, self.levels, &closure)? {
-            Some(found) => {
-                self.rest = found.rest;
-                let levels = found.levels;
-                self.frames.push(Frame::Mend { below, levels })?;
-                self.open(&closure, is_same(now, found.value), now)?;
-                Ok(wrote(true, read_item(closure, now)))
-            }
-            None => {
-                self.frames.push(Frame::Run { below })?;
-                self.stack.resume(self.memory.code(), &closure, now)?;
-                Ok(wrote(true, read_item(closure, now)))
+        match self.read_in(&closure) {
+            Ok(now) => Ok(wrote(true, read_item(closure, now))),
+            Err(error) => {
+                drop(closure);
+                Err(error)
             }
         }
     }

@@ -1,7 +1,7 @@
 use Rattle.std.proofs.Common.{◌≡◌}
 use Rattle.ceal_adjust.specs.Answers.{Comes}
 use Rattle.ceal_adjust.specs.Machines.{code_of, machine_in}
-use Rattle.ceal_adjust.proofs.complete.complete.Given as goal
+use Rattle.ceal_adjust.proofs.complete.turn_to_end.Given as goal
 
 abbrev pub invariant-loop-turn : goal.invariant-loop-turn
 invariant-loop-turn l = record {

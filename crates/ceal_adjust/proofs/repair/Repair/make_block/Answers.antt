@@ -1,12 +1,9 @@
-use Rattle.std.proofs.Common.{ap, ◌∙◌}
 use Rattle.ceal_code.specs.Init.{arguments}
 use Rattle.ceal_adjust.proofs.MachineSteps.{make-some}
-use Rattle.ceal_adjust.specs.Machines.{machine_in, turn_in}
-use Rattle.ceal_adjust.proofs.repair.Repair.make.Goals as goal
+use Rattle.ceal_adjust.proofs.repair.Repair.make_block.Goals as goal
 
 pub returns-in_ok-go_on_with-in-Some-clause-turn : goal.returns-in_ok-go_on_with-in-Some-clause-turn
 returns-in_ok-go_on_with-in-Some-clause-turn c =
-    ap (λ t. turn_in t (machine_in c.go_on_with.new.self)) c.wrote.ensures
-    ∙ make-some c.args.self.now c.step.new.self c.go_on_with.new.self c.args.key c.args.var c.args.unit.unit c.args.unit.index (arguments c.args.unit.env.items)
+    make-some c.args.self.now c.step.new.self c.go_on_with.new.self c.args.key.now c.args.var c.args.unit.unit c.args.unit.index (arguments c.args.unit.env.items)
     c.in-Some.found.block c.in-Some.found.rest c.in-Some.found.levels c.requires.running c.in_ok-step.ensures.work
     c.in_ok-go_on_with-in-Some.ensures.rest c.in_ok-go_on_with-in-Some.ensures.state c.in_ok-go_on_with-in-Some.ensures.stack (rw c.in-Some.is at c.in_ok-found.ensures.value)
