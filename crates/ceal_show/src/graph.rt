@@ -23,7 +23,9 @@ pub fn graph_text<V: View>(alloc: Global, view: &V, root: BlockId) -> Result<Tex
 {
     let met = reach(alloc, view, root)?;
     let mut out = Text::empty(alloc);
-    put_lines(&mut out, view, &met)?;
+    let written = put_lines(&mut out, view, &met);
+    drop(met);
+    written?;
     out.append_str("end\n")?;
     Ok(out)
 }
