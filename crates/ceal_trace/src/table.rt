@@ -1,6 +1,6 @@
 // The nodes of a trace by the numbers of their stamps.
 
-ghost use Rattle.std.specs.Prelude.{◌≡◌, ◌≢◌, ◌<◌, ◌≤◌, ◌+◌, ◌^◌, ℕ, length, [], Some, None, IsSome, IfSome, IfNone, OnOk, true};
+ghost use Rattle.std.specs.Prelude.{◌≡◌, ◌≢◌, ◌<◌, ◌≤◌, ◌+◌, ◌^◌, ℕ, length, [], Some, None, IsSome, IfSome, IfNone, OnOk, IsTrue, true};
 ghost use Rattle.ceal_trace.specs.Nodes.{is_read, ends, valued};
 ghost use Rattle.ceal_trace.specs.Rows.{Reopened, Valued};
 ghost use Rattle.ceal_trace.specs.Keeping.{kept, steps_of, end_of, noted, PutAt, TakenFrom, Wider, ValueSet, StepsSet, EndSet};
@@ -11,9 +11,6 @@ use ceal_base::no_memory::NoMemory;
 use ceal_base::word::Word;
 use ceal_order::stamp::Stamp;
 use std::alloc::Global;
-
-// For how many nodes room is made beyond those that are asked for.
-const NODES_BEYOND: u32 = 63;
 
 /// A row for each stamp and each spare place of the order, by its number, a few more, and how many nodes there are.
 #[derive(Drop)]
@@ -33,16 +30,11 @@ impl Table {
         }
     }
 
-    /// For how many more nodes room is to be made where there has to be room for so many: for some beyond where there are no rows
-    /// for them, so that rows are added a few at a time.
-    pub fn wanted(&self, more: u32) -> u32
-        ensures { more ≤ result }
+    /// Whether there are rows for so many more nodes.
+    pub fn has_room(&self, more: u32) -> bool
+        ensures { IsTrue result → self.now.count + more ≤ length self.now.rows.items }
     {
-        if self.count as usize + more as usize <= self.rows.len() {
-            more
-        } else {
-            more.saturating_add(NODES_BEYOND)
-        }
+        self.count as usize + more as usize <= self.rows.len()
     }
 
     /// Makes room for so many more nodes.

@@ -18,6 +18,9 @@ use ceal_order::stamp::Stamp;
 use std::alloc::Global;
 use std::marker::Model;
 
+// For how many nodes room is made beyond those that are asked for, so that it is made some at a time.
+const NODES_BEYOND: u32 = 63;
+
 /// The nodes of a run in the order of time, and room for more. Contracts see `nodes`, the list of the nodes with their
 /// stamps and steps, and `spare`, how many may be inserted without taking memory.
 ///
@@ -94,7 +97,10 @@ impl Trace {
         ensures err { OnErr result (self.new ≡ self.old) }
         ensures whole { IsTrace self.new }
     {
-        let room = self.table.wanted(nodes);
+        if self.table.has_room(nodes) {
+            return self.order.reserve(nodes);
+        }
+        let room = nodes.saturating_add(NODES_BEYOND);
         self.table.reserve(room)?;
         self.order.reserve(room)
     }
