@@ -1,9 +1,10 @@
 // The text of the parts of a record.
 
-ghost use Rattle.std.specs.Prelude.{◌≡◌, ◌++◌, OnOk};
+ghost use Rattle.std.specs.Prelude.{◌≡◌, ◌++◌, codes, OnOk};
+ghost use Rattle.std.specs.Fmt.{decimal};
 ghost use Rattle.ceal_dump.specs.DumpText.{block_text, place_text, word_text, words_text, shape_text, block_line, block_lines, key_text, item_line, item_lines};
 
-use ceal_base::forest::{Item, Key};
+use ceal_base::forest::{Item, Key, UnitId};
 use ceal_base::kind::Shape;
 use ceal_base::memory::BlockWords;
 use ceal_base::no_memory::NoMemory;
@@ -110,6 +111,30 @@ fn put_key(out: &mut Text, key: &Key) -> Result<(), NoMemory>
     }
 }
 
+/// The letter of an item, a modifiable and its content.
+fn put_access(out: &mut Text, letter: &[u8], place: Place, value: Word) -> Result<(), NoMemory>
+    ensures { OnOk result (out.new
+        ≡ out.old ++ letter.now ++ place_text place ++ codes " " ++ word_text value) }
+{
+    out.append(letter)?;
+    put_place(out, place)?;
+    out.append(b" ")?;
+    put_word(out, value)
+}
+
+/// The unit of a read, its variable and its arguments.
+fn put_unit(out: &mut Text, unit: UnitId, var: u32, args: &[Word]) -> Result<(), NoMemory>
+    ensures { OnOk result (out.new
+        ≡ out.old ++ codes " u" ++ decimal unit.0 ++ codes " v" ++ decimal var
+        ++ words_text args.now) }
+{
+    out.append(b" u")?;
+    out.append_number(unit.0 as usize)?;
+    out.append(b" v")?;
+    out.append_number(var as usize)?;
+    put_words(out, args)
+}
+
 fn put_item(out: &mut Text, item: &Item) -> Result<(), NoMemory>
     ensures { OnOk result (out.new ≡ out.old ++ item_line item.now) }
 {
@@ -123,10 +148,7 @@ fn put_item(out: &mut Text, item: &Item) -> Result<(), NoMemory>
             out.append(b"\n")
         }
         Item::Write { place, value } => {
-            out.append(b"w ")?;
-            put_place(out, *place)?;
-            out.append(b" ")?;
-            put_word(out, *value)?;
+            put_access(out, b"w ", *place, *value)?;
             out.append(b"\n")
         }
         Item::Read {
@@ -136,15 +158,8 @@ fn put_item(out: &mut Text, item: &Item) -> Result<(), NoMemory>
             var,
             args,
         } => {
-            out.append(b"r ")?;
-            put_place(out, *place)?;
-            out.append(b" ")?;
-            put_word(out, *value)?;
-            out.append(b" u")?;
-            out.append_number(unit.0 as usize)?;
-            out.append(b" v")?;
-            out.append_number(*var as usize)?;
-            put_words(out, args.items())?;
+            put_access(out, b"r ", *place, *value)?;
+            put_unit(out, *unit, *var, args.items())?;
             out.append(b"\n")
         }
         Item::End => out.append(b"e\n"),
