@@ -359,8 +359,7 @@ impl Stack {
     pub fn push(&mut self, unit: Activation) -> Result<(), NoMemory>
         ensures pushed { OnOk result (stack_in self.new ≡ over unit (stack_in self.old)) }
     {
-        self.units.reserve(1)?;
-        self.units.push_reserved(unit);
+        self.units.push(unit)?;
         Ok(())
     }
 
