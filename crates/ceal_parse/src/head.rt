@@ -245,16 +245,24 @@ fn body(alloc: Global, entries: Items<Entry>, head: Head) -> State
     State::In(inside, Mode::Body)
 }
 
-/// The token after the head, the entries before the function given.
-pub fn take_done(alloc: Global, entries: Items<Entry>, head: Head, token: &Token) -> Option<State>
-    ensures value { result ≡ at_head entries (HeadPlace.Done head) token.now.span token.now.kind }
+/// The token after the head of a function, the entries before the function given.
+pub fn take_done(
+    alloc: Global,
+    state: &mut State,
+    function: (Items<Entry>, Head),
+    token: &Token,
+) -> bool
+    ensures value { wants result state.new
+        ≡ at_head function.0 (HeadPlace.Done function.1) token.now.span token.now.kind }
 {
+    let (entries, head) = function;
     if is_sign(token, Sign::LeftBrace) {
-        Some(body(alloc, entries, head))
+        put(state, body(alloc, entries, head));
+        true
     } else {
         drop(entries);
         drop(head);
-        None
+        false
     }
 }
 

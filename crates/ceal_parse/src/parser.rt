@@ -21,31 +21,40 @@ use ceal_lex::token::{Reserved, Token, TokenKind};
 use std::alloc::Global;
 use std::mem;
 
-fn take_part(entries: Items<Entry>, word: Reserved) -> Option<State>
-    ensures value { result ≡ at_part entries word }
+/// The reading goes on at this state.
+fn stand(state: &mut State, next: State) -> bool
+    ensures state { state.new ≡ next }
+    ensures on { result ≡ true }
+{
+    put(state, next);
+    true
+}
+
+fn take_part(state: &mut State, entries: Items<Entry>, word: Reserved) -> bool
+    ensures value { wants result state.new ≡ at_part entries word }
 {
     if same_word(word, Reserved::Struct) {
-        Some(State::Struct(entries, StructPlace::Begun))
+        stand(state, State::Struct(entries, StructPlace::Begun))
     } else if same_word(word, Reserved::Ceal) {
-        Some(State::Head(entries, HeadPlace::Ceal))
+        stand(state, State::Head(entries, HeadPlace::Ceal))
     } else if same_word(word, Reserved::Init) {
-        Some(State::Head(entries, HeadPlace::Init))
+        stand(state, State::Head(entries, HeadPlace::Init))
     } else {
         drop(entries);
-        None
+        false
     }
 }
 
 /// The beginning of an entry, or the end of the program.
-fn take_top(entries: Items<Entry>, token: &Token) -> Option<State>
-    ensures value { result ≡ at_top entries token.now.kind }
+fn take_top(state: &mut State, entries: Items<Entry>, token: &Token) -> bool
+    ensures value { wants result state.new ≡ at_top entries token.now.kind }
 {
     match token.kind {
-        TokenKind::End => Some(State::Finished(entries)),
-        TokenKind::Reserved(word) => take_part(entries, word),
+        TokenKind::End => stand(state, State::Finished(entries)),
+        TokenKind::Reserved(word) => take_part(state, entries, word),
         _ => {
             drop(entries);
-            None
+            false
         }
     }
 }
@@ -68,19 +77,6 @@ fn fault(code: FaultCode, token: &Token) -> FrontError
         code,
         span: token.span,
     })
-}
-
-/// The reading goes on at this state, or no program goes on so.
-fn stand(state: &mut State, next: Option<State>) -> bool
-    ensures value { wants result state.new ≡ next }
-{
-    match next {
-        Some(next) => {
-            put(state, next);
-            true
-        }
-        None => false,
-    }
 }
 
 /// The reading stands after these entries.
@@ -121,19 +117,21 @@ impl Parser {
         match &mut self.state {
             State::Top(entries) => {
                 let entries = mem::replace(entries, Items::empty(alloc));
-                Ok(stand(&mut self.state, take_top(entries, token)))
+                Ok(take_top(&mut self.state, entries, token))
             }
             State::Struct(entries, place) => {
                 let entries = mem::replace(entries, Items::empty(alloc));
                 let place = mem::replace(place, StructPlace::Begun);
-                let next = take_struct(alloc, entries, place, token)?;
-                Ok(stand(&mut self.state, next))
+                match take_struct(alloc, entries, place, token)? {
+                    Some(next) => Ok(stand(&mut self.state, next)),
+                    None => Ok(false),
+                }
             }
             State::Head(entries, place) => match place {
                 HeadPlace::Done(head) => {
                     let entries = mem::replace(entries, Items::empty(alloc));
                     let head = mem::replace(head, no_head(alloc, token.span));
-                    Ok(stand(&mut self.state, take_done(alloc, entries, head, token)))
+                    Ok(take_done(alloc, &mut self.state, (entries, head), token))
                 }
                 _ => {
                     let on = take_head(alloc, place, token)?;

@@ -72,10 +72,7 @@ pub fn begin_statement(mode: &mut Mode) -> Turn
     ensures place { mode.new ≡ Mode.Body }
     ensures on { result ≡ Turn.On }
 {
-    match mode {
-        Mode::Body => {}
-        _ => let_go(mem::replace(mode, Mode::Body)),
-    }
+    settle(mode, Mode::Body);
     Turn::On
 }
 
