@@ -21,7 +21,7 @@ use std::alloc::Global;
 use std::mem;
 
 /// The head of no function, which stands where one was taken away.
-pub fn no_head(alloc: Global, at: Span) -> Head {
+pub(crate) fn no_head(alloc: Global, at: Span) -> Head {
     Head {
         initialiser: None,
         name: Ident {
