@@ -1,7 +1,6 @@
 // A small program, with the live variables that the language's description gives for it.
 
-use ceal_base::fault::FrontError;
-use ceal_base::no_memory::NoMemory;
+use crate::asserts::same_items;
 use ceal_base::typed::Typed;
 use ceal_flow::live_set::LiveSet;
 use ceal_flow::live_sets::LiveSets;
@@ -9,6 +8,7 @@ use ceal_flow::lower::lower;
 use ceal_live::live::live;
 use ceal_samples::programs::compiled;
 use std::alloc::Global;
+use std::process::Abort;
 use std::test::Fail;
 
 const LOOP: &[u8] = b"
@@ -20,47 +20,52 @@ ceal f(mod int *o, int n) {
 %%
 ";
 
-/// Adds the variables of a set, and then 9.
-fn push_set(alloc: Global, all: &mut Vec<u32>, set: &LiveSet) -> Result<(), NoMemory> {
-    for v in &set.variables(alloc)? {
-        all.push(*v)?;
+fn push_each<R: Abort>(rt: &R, all: &mut Vec<u32>, variables: &[u32]) {
+    for v in variables {
+        all.push(*v).expect(rt, "memory");
     }
-    all.push(9)?;
-    Ok(())
+}
+
+/// Adds the variables of a set, and then 9.
+fn push_set<R: Abort>(rt: &R, alloc: Global, all: &mut Vec<u32>, set: &LiveSet) {
+    let variables = set.variables(alloc).expect(rt, "memory");
+    push_each(rt, all, variables.as_slice());
+    drop(variables);
+    all.push(9).expect(rt, "memory");
 }
 
 /// The variables of all sets, each list behind the one before.
-fn all_of(alloc: Global, sets: &[LiveSet]) -> Result<Vec<u32>, NoMemory> {
+fn all_of<R: Abort>(rt: &R, alloc: Global, sets: &[LiveSet]) -> Vec<u32> {
     let mut all = Vec::new(alloc);
     for set in sets {
-        push_set(alloc, &mut all, set)?;
+        push_set(rt, alloc, &mut all, set);
     }
-    Ok(all)
+    all
 }
 
 /// The sets of live variables of a program's blocks.
-fn sets_of(alloc: Global, program: &Typed) -> Result<LiveSets, FrontError> {
-    let graph = lower(alloc, program)?;
-    let sets = live(alloc, &graph);
+fn sets_of<R: Abort>(rt: &R, alloc: Global, program: &Typed) -> LiveSets {
+    let graph = lower(alloc, program).expect(rt, "a graph");
+    let sets = live(alloc, &graph).expect(rt, "memory");
     drop(graph);
-    Ok(sets?)
+    sets
 }
 
-/// The live variables of a program's blocks, one block behind another; each list ends by 9.
-fn all_live(alloc: Global, source: &[u8]) -> Result<Vec<u32>, Fail> {
-    let program = compiled(alloc, source)?;
-    let sets = sets_of(alloc, &program.typed);
-    drop(program);
-    let sets = sets?;
-    let all = all_of(alloc, sets.items());
+/// The live variables of a program's blocks are these, one block behind another; each list ends by 9.
+fn are_live<R: Abort>(rt: &R, alloc: Global, program: &Typed, wanted: &[u32]) {
+    let sets = sets_of(rt, alloc, program);
+    let all = all_of(rt, alloc, sets.items());
     drop(sets);
-    Ok(all?)
+    same_items(rt, all.as_slice(), wanted);
+    drop(all);
 }
+
+const LIVE_IN_LOOP: [u32; 18] = [0, 1, 9, 0, 1, 2, 9, 0, 1, 2, 9, 0, 1, 2, 9, 1, 9, 9];
 
 #[test]
 fn a_variable_is_live_round_a_loop(rt: HostRuntime) -> Result<(), Fail> {
-    let found = all_live(rt.alloc(), LOOP)?;
-    let wanted = [0, 1, 9, 0, 1, 2, 9, 0, 1, 2, 9, 0, 1, 2, 9, 1, 9, 9];
-    assert_eq!(rt; found.as_slice(), wanted.as_slice());
+    let program = compiled(rt.alloc(), LOOP)?;
+    are_live(&rt, rt.alloc(), &program.typed, &LIVE_IN_LOOP);
+    drop(program);
     Ok(())
 }

@@ -1,7 +1,8 @@
 // Whole programs, with the numbers that the language's description gives for them.
 
+use crate::asserts::equal;
 use ceal_base::access::content;
-use ceal_base::memory::Inputs;
+use ceal_base::typed::Typed;
 use ceal_base::word::{BlockId, Word};
 use ceal_mean::run::{Outcome, interpret};
 use ceal_samples::inputs::{at, list, numbers, operators, place};
@@ -26,83 +27,122 @@ fn content_after(outcome: &Outcome, at: Word) -> Option<Word> {
     }
 }
 
-/// Runs a function of a program.
-fn run(
-    alloc: Global,
-    source: &[u8],
-    function: u32,
-    args: &[Word],
-    inputs: &Inputs,
-    fuel: u32,
-) -> Result<Outcome, Fail> {
-    let program = compiled(alloc, source)?;
-    let outcome = interpret(alloc, &program.typed, function, args, inputs, fuel);
-    drop(program);
-    Ok(outcome?)
-}
-
 /// A finished run has these steps and core blocks, and leaves this content at a place.
 fn ends<R: Abort>(rt: &R, outcome: &Outcome, taken: (u32, u32), at: Word, value: Word) {
-    assert_eq!(rt; counts(outcome), Some(taken));
-    assert_eq!(rt; content_after(outcome, at), Some(value));
+    equal(rt, counts(outcome), Some(taken));
+    equal(rt, content_after(outcome, at), Some(value));
 }
 
 /// Runs the first function on two modifiables with these numbers.
-fn of_numbers(alloc: Global, source: &[u8], list: &[i64], fuel: u32) -> Result<Outcome, Fail> {
-    let inputs = numbers(alloc, list)?;
-    let outcome = run(alloc, source, 0, &[at(0), at(1)], &inputs, fuel);
+fn of_numbers<R: Abort>(
+    rt: &R,
+    alloc: Global,
+    program: &Typed,
+    list: &[i64],
+    fuel: u32,
+) -> Outcome {
+    let inputs = numbers(alloc, list).expect(rt, "memory");
+    let outcome = interpret(alloc, program, 0, &[at(0), at(1)], &inputs, fuel);
     drop(inputs);
-    outcome
+    outcome.expect(rt, "memory")
+}
+
+fn increments<R: Abort>(rt: &R, alloc: Global, program: &Typed) {
+    let done = of_numbers(rt, alloc, program, &[4, 0], 2);
+    ends(rt, &done, (2, 0), at(1), Word::Num(5));
+    drop(done);
+    let short = of_numbers(rt, alloc, program, &[4, 0], 1);
+    equal(rt, counts(&short), None);
+    drop(short);
+}
+
+fn counts_down<R: Abort>(rt: &R, alloc: Global, program: &Typed) {
+    let done = of_numbers(rt, alloc, program, &[3, 0], 1000);
+    ends(rt, &done, (9, 0), at(1), Word::Num(7));
+    drop(done);
 }
 
 #[test]
 fn reads_and_loops_take_their_steps(rt: HostRuntime) -> Result<(), Fail> {
-    let done = of_numbers(rt.alloc(), INC, &[4, 0], 2)?;
-    ends(&rt, &done, (2, 0), at(1), Word::Num(5));
-    drop(done);
-    let short = of_numbers(rt.alloc(), INC, &[4, 0], 1)?;
-    assert_eq!(rt; counts(&short), None);
-    drop(short);
-    let done = of_numbers(rt.alloc(), LOOP, &[3, 0], 1000)?;
-    ends(&rt, &done, (9, 0), at(1), Word::Num(7));
-    drop(done);
+    let program = compiled(rt.alloc(), INC)?;
+    increments(&rt, rt.alloc(), &program.typed);
+    drop(program);
+    let program = compiled(rt.alloc(), LOOP)?;
+    counts_down(&rt, rt.alloc(), &program.typed);
+    drop(program);
     Ok(())
+}
+
+/// Maps the list of 1, 2 and 3.
+fn mapped<R: Abort>(rt: &R, alloc: Global, program: &Typed) -> Outcome {
+    let inputs = list(alloc, &[1, 2, 3]).expect(rt, "memory");
+    let outcome = interpret(alloc, program, 1, &[at(0), at(1)], &inputs, 18);
+    drop(inputs);
+    outcome.expect(rt, "memory")
+}
+
+/// The heads of the image are 10, 20 and 30.
+fn has_the_image<R: Abort>(rt: &R, outcome: &Outcome) {
+    for n in 0..3 {
+        let head = content_after(outcome, place(BlockId::Core(n), 0));
+        equal(rt, head, Some(Word::Num(10 * (i64::from(n) + 1))));
+    }
+}
+
+fn maps<R: Abort>(rt: &R, alloc: Global, program: &Typed) {
+    let done = mapped(rt, alloc, program);
+    ends(rt, &done, (18, 3), at(1), Word::Block(BlockId::Core(0)));
+    has_the_image(rt, &done);
+    drop(done);
 }
 
 #[test]
 fn a_list_of_three_cells_is_mapped(rt: HostRuntime) -> Result<(), Fail> {
-    let inputs = list(rt.alloc(), &[1, 2, 3]).expect(&rt, "memory");
-    let done = run(rt.alloc(), MAP, 1, &[at(0), at(1)], &inputs, 18);
-    drop(inputs);
-    let done = done?;
-    ends(&rt, &done, (18, 3), at(1), Word::Block(BlockId::Core(0)));
-    for n in 0..3 {
-        let head = content_after(&done, place(BlockId::Core(n), 0));
-        assert_eq!(rt; head, Some(Word::Num(10 * (i64::from(n) + 1))));
-    }
-    drop(done);
+    let program = compiled(rt.alloc(), MAP)?;
+    maps(&rt, rt.alloc(), &program.typed);
+    drop(program);
     Ok(())
+}
+
+fn evaluated<R: Abort>(rt: &R, alloc: Global, program: &Typed) -> Outcome {
+    let inputs = operators(alloc).expect(rt, "memory");
+    let outcome = interpret(alloc, program, 0, &[at(10), at(11)], &inputs, 102);
+    drop(inputs);
+    outcome.expect(rt, "memory")
+}
+
+fn evaluates<R: Abort>(rt: &R, alloc: Global, program: &Typed) {
+    let done = evaluated(rt, alloc, program);
+    ends(rt, &done, (102, 10), at(11), Word::Num(-12));
+    drop(done);
 }
 
 #[test]
 fn a_tree_of_operators_is_evaluated(rt: HostRuntime) -> Result<(), Fail> {
-    let inputs = operators(rt.alloc()).expect(&rt, "memory");
-    let done = run(rt.alloc(), EVAL, 0, &[at(10), at(11)], &inputs, 102);
-    drop(inputs);
-    let done = done?;
-    ends(&rt, &done, (102, 10), at(11), Word::Num(-12));
-    drop(done);
+    let program = compiled(rt.alloc(), EVAL)?;
+    evaluates(&rt, rt.alloc(), &program.typed);
+    drop(program);
     Ok(())
+}
+
+fn nested<R: Abort>(rt: &R, alloc: Global, program: &Typed) -> Outcome {
+    let inputs = numbers(alloc, &[0]).expect(rt, "memory");
+    let args = [Word::Num(333332), at(0)];
+    let outcome = interpret(alloc, program, 0, &args, &inputs, 1000000);
+    drop(inputs);
+    outcome.expect(rt, "memory")
+}
+
+fn nests<R: Abort>(rt: &R, alloc: Global, program: &Typed) {
+    let done = nested(rt, alloc, program);
+    ends(rt, &done, (999998, 0), at(0), Word::Num(333332));
+    drop(done);
 }
 
 #[test]
 fn calls_nest_without_the_host_stack(rt: HostRuntime) -> Result<(), Fail> {
-    let inputs = numbers(rt.alloc(), &[0]).expect(&rt, "memory");
-    let args = [Word::Num(333332), at(0)];
-    let done = run(rt.alloc(), DEEP, 0, &args, &inputs, 1000000);
-    drop(inputs);
-    let done = done?;
-    ends(&rt, &done, (999998, 0), at(0), Word::Num(333332));
-    drop(done);
+    let program = compiled(rt.alloc(), DEEP)?;
+    nests(&rt, rt.alloc(), &program.typed);
+    drop(program);
     Ok(())
 }

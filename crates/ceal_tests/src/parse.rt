@@ -1,9 +1,9 @@
 // Printed programs: where parentheses stand, how an else part of one `if` is printed, and that what is printed reads
 // back.
 
-ghost use Rattle.std.specs.Prelude.{IfOk};
 ghost use Rattle.ceal_print.specs.Print.{IsParsed};
 
+use crate::asserts::{holds, same_items};
 use ceal_base::syntax::Tree;
 use ceal_base::text::Text;
 use ceal_lex::lex::lex;
@@ -12,27 +12,27 @@ use ceal_parse::parse::parse;
 use ceal_print::print::print_tree;
 use ceal_samples::programs::EVAL;
 use std::alloc::Global;
-use std::test::Fail;
+use std::process::Abort;
 
 /// The tree of an input of at most 4,194,304 bytes.
-fn tree_of(alloc: Global, input: &[u8]) -> Result<Tree, Fail>
-    ensures parsed { IfOk result IsParsed }
+fn tree_of<R: Abort>(rt: &R, alloc: Global, input: &[u8]) -> Tree
+    ensures parsed { IsParsed result }
 {
-    if input.len() > 4_194_304 {
-        return Err(Fail::from("too long an input"));
-    }
+    holds(rt, input.len() <= 4_194_304);
     let part = split(input);
-    let tokens = lex(alloc, input, &part)?;
-    let tree = parse(alloc, &tokens)?;
-    Ok(tree)
+    let tokens = lex(alloc, input, &part).expect(rt, "tokens");
+    let tree = parse(alloc, &tokens).expect(rt, "a tree");
+    drop(tokens);
+    tree
 }
 
 /// The printed program of an input, and a line `%%`.
-fn printed(alloc: Global, input: &[u8]) -> Result<Text, Fail> {
-    let tree = tree_of(alloc, input)?;
-    let mut text = print_tree(alloc, &tree)?;
-    text.append(b"%%\n")?;
-    Ok(text)
+fn printed<R: Abort>(rt: &R, alloc: Global, input: &[u8]) -> Text {
+    let tree = tree_of(rt, alloc, input);
+    let mut text = print_tree(alloc, &tree).expect(rt, "memory");
+    drop(tree);
+    text.append(b"%%\n").expect(rt, "memory");
+    text
 }
 
 const PARENTHESES: &[u8] = b"
@@ -43,10 +43,7 @@ ceal f(int a) {
 %%
 ";
 
-#[test]
-fn parentheses_stand_where_they_are_needed(rt: HostRuntime) -> Result<(), Fail> {
-    let text = printed(rt.alloc(), PARENTHESES)?;
-    let wanted = b"ceal f ( int a ) {
+const PRINTED: &[u8] = b"ceal f ( int a ) {
 a = a - 1 - ( 2 - a ) ;
 if ( a ) {
 return ;
@@ -56,14 +53,19 @@ else if ( ! a ) {
 }
 %%
 ";
-    assert_eq!(rt; text.items(), wanted.as_slice());
-    Ok(())
+
+#[test]
+fn parentheses_stand_where_they_are_needed(rt: HostRuntime) {
+    let text = printed(&rt, rt.alloc(), PARENTHESES);
+    same_items(&rt, text.items(), PRINTED);
+    drop(text);
 }
 
 #[test]
-fn a_printed_program_reads_back(rt: HostRuntime) -> Result<(), Fail> {
-    let first = printed(rt.alloc(), EVAL)?;
-    let second = printed(rt.alloc(), first.items())?;
-    assert!(rt; second.same_as(&first));
-    Ok(())
+fn a_printed_program_reads_back(rt: HostRuntime) {
+    let first = printed(&rt, rt.alloc(), EVAL);
+    let second = printed(&rt, rt.alloc(), first.items());
+    holds(&rt, second.same_as(&first));
+    drop(second);
+    drop(first);
 }

@@ -1,14 +1,13 @@
 // Workloads as text.
 
+use crate::asserts::{equal, holds, same_items};
 use ceal_gen::kind::Workload;
 use ceal_gen::text::workload;
-use std::test::Fail;
+use std::alloc::Global;
+use std::process::Abort;
 
 // A list of one cell, whole.
-#[test]
-fn a_list_of_one(rt: HostRuntime) -> Result<(), Fail> {
-    let text = workload(rt.alloc(), Workload::List, 1, 1)?;
-    let wanted = "struct cell { int head; mod struct cell tail; };
+const LIST_OF_ONE: &str = "struct cell { int head; mod struct cell tail; };
 init mk(struct cell *self, struct cell *from) { self->head = from->head * 10; }
 ceal map(mod struct cell *from, mod struct cell *to) {
   struct cell *c = read(from);
@@ -41,15 +40,16 @@ work
 steps
 blocks
 ";
-    assert_eq!(rt; text.items(), wanted.as_bytes());
-    Ok(())
+
+#[test]
+fn a_list_of_one(rt: HostRuntime) {
+    let text = workload(rt.alloc(), Workload::List, 1, 1).expect(&rt, "memory");
+    same_items(&rt, text.items(), LIST_OF_ONE.as_bytes());
+    drop(text);
 }
 
 // The script of a tree of one operator.
-#[test]
-fn a_tree_of_one(rt: HostRuntime) -> Result<(), Fail> {
-    let text = workload(rt.alloc(), Workload::Tree, 1, 1)?;
-    let wanted = "}
+const TREE_OF_ONE: &str = "}
 %%
 new n3 node 0 838 null null
 new n2 node 0 758 null null
@@ -72,16 +72,24 @@ work
 steps
 blocks
 ";
-    assert!(rt; text.items().ends_with(wanted.as_bytes()));
-    Ok(())
+
+#[test]
+fn a_tree_of_one(rt: HostRuntime) {
+    let text = workload(rt.alloc(), Workload::Tree, 1, 1).expect(&rt, "memory");
+    holds(&rt, text.items().ends_with(TREE_OF_ONE.as_bytes()));
+    drop(text);
+}
+
+// The workload has so many bytes.
+fn has_length<R: Abort>(rt: &R, alloc: Global, kind: Workload, length: usize) {
+    let text = workload(alloc, kind, 1, 40_000).expect(rt, "memory");
+    equal(rt, text.items().len(), length);
+    drop(text);
 }
 
 // The largest workloads of the command line: how many bytes they have.
 #[test]
-fn large_workloads(rt: HostRuntime) -> Result<(), Fail> {
-    let list = workload(rt.alloc(), Workload::List, 1, 40_000)?;
-    assert_eq!(rt; list.items().len(), 1_053_793);
-    let tree = workload(rt.alloc(), Workload::Tree, 1, 40_000)?;
-    assert_eq!(rt; tree.items().len(), 2_614_076);
-    Ok(())
+fn large_workloads(rt: HostRuntime) {
+    has_length(&rt, rt.alloc(), Workload::List, 1_053_793);
+    has_length(&rt, rt.alloc(), Workload::Tree, 2_614_076);
 }
