@@ -6,7 +6,7 @@ use std::fmt::Debug;
 use std::process::Abort;
 
 /// Ends the test and shows both values, unless they are equal.
-pub fn equal<R: Abort, T: Copy + PartialEq + Debug>(rt: &R, found: T, wanted: T) {
+pub(crate) fn equal<R: Abort, T: Copy + PartialEq + Debug>(rt: &R, found: T, wanted: T) {
     assert_eq!(rt; found, wanted);
 }
 
@@ -16,7 +16,7 @@ pub fn same_items<R: Abort, T: PartialEq + Debug>(rt: &R, found: &[T], wanted: &
 }
 
 /// Ends the test unless this is so.
-pub fn holds<R: Abort>(rt: &R, fact: bool)
+pub(crate) fn holds<R: Abort>(rt: &R, fact: bool)
     ensures { IsTrue fact }
 {
     assert!(rt; fact);
