@@ -19,7 +19,7 @@ use ceal_base::fault::{Fault, FrontError};
 use ceal_base::no_memory::NoMemory;
 use ceal_base::typed::Typed;
 use ceal_code::listing::listing;
-use ceal_compile::compile::{compile, one_answer};
+use ceal_compile::compile::{check_source, compile, one_answer};
 use ceal_compile::fault_line::fault_line;
 use ceal_compile::program::Program;
 use ceal_io::{Sink, Stopped, write_all};
@@ -27,6 +27,7 @@ use ceal_lex::split::split;
 use ceal_session::laws::{kept_line, some_reply};
 use ceal_session::session::Session;
 use std::alloc::Global;
+use std::mem::forget;
 
 // Writes the line of the first fault.
 fn refuse<K: Sink>(
@@ -104,7 +105,8 @@ fn run<K: Sink>(
         Ok(session) => {
             let mut session = session;
             let told = reply_all(&mut session, script(input, &split(input)), sink);
-            drop(session);
+            // The program ends behind this: its memory goes back with the process, and not piece by piece.
+            forget(session);
             told
         }
         Err(NoMemory) => Err(Stopped::Memory),
@@ -139,8 +141,34 @@ fn answer<K: Sink>(
     }
 }
 
-/// Writes the output for an input in a mode that reads, and says whether the input is accepted.
-pub fn write_answer<K: Sink>(
+// Writes whether the input is accepted, without its code.
+fn check<K: Sink>(alloc: Global, input: &[u8], sink: &mut K) -> Result<bool, Stopped>
+    requires small { length input.now < 2 ^ 32 }
+    ensures accepted { IfOk result (λ accepted. IsTrue accepted ↔ IsAccepted input.now) }
+    ensures all { OnOk result
+        (WritesOutput (K.written sink.old) (K.written sink.new) Mode.Check input.now) }
+    ensures part { WritesPrefix (K.written sink.old) (K.written sink.new) Mode.Check input.now }
+    ensures fault { IsErrOf result Stopped.Failed → Rose (K.faults sink.old) (K.faults sink.new) }
+{
+    one_answer();
+    match check_source(alloc, input) {
+        Ok(program) => {
+            let told = accept(input, &program, sink);
+            // The program ends behind this: its memory goes back with the process, and not piece by piece.
+            forget(program);
+            told?;
+            Ok(true)
+        }
+        Err(FrontError::Memory) => Err(Stopped::Memory),
+        Err(FrontError::Fault(fault)) => {
+            refuse(alloc, Mode::Check, input, fault, sink)?;
+            Ok(false)
+        }
+    }
+}
+
+// Writes the output for an input in a mode that takes its code, and says whether the input is accepted.
+fn compiled<K: Sink>(
     alloc: Global,
     mode: Mode,
     input: &[u8],
@@ -167,4 +195,26 @@ pub fn write_answer<K: Sink>(
             Ok(false)
         }
     }
+}
+
+/// Writes the output for an input in a mode that reads, and says whether the input is accepted.
+pub fn write_answer<K: Sink>(
+    alloc: Global,
+    mode: Mode,
+    input: &[u8],
+    sink: &mut K,
+) -> Result<bool, Stopped>
+    requires small { length input.now < 2 ^ 32 }
+    requires reads { ReadsInput mode }
+    requires limits { KeepsLimits mode }
+    ensures accepted { IfOk result (λ accepted. IsTrue accepted ↔ IsAccepted input.now) }
+    ensures all { OnOk result
+        (WritesOutput (K.written sink.old) (K.written sink.new) mode input.now) }
+    ensures part { WritesPrefix (K.written sink.old) (K.written sink.new) mode input.now }
+    ensures fault { IsErrOf result Stopped.Failed → Rose (K.faults sink.old) (K.faults sink.new) }
+{
+    if let Mode::Check = mode {
+        return check(alloc, input, sink);
+    }
+    compiled(alloc, mode, input, sink)
 }

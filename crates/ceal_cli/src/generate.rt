@@ -22,6 +22,7 @@ use ceal_lex::split::split;
 use ceal_session::laws::{kept_line, some_reply};
 use ceal_session::session::Session;
 use std::alloc::Global;
+use std::mem::forget;
 
 /// The program of a text that is accepted.
 pub fn program(alloc: Global, text: &[u8]) -> Result<Program, NoMemory>
@@ -55,7 +56,8 @@ fn run<K: Sink>(alloc: Global, text: &[u8], program: Program, sink: &mut K) -> R
         Ok(session) => {
             let mut session = session;
             let told = reply_from_run(&mut session, script(text, &split(text)), sink);
-            drop(session);
+            // The program ends behind this: its memory goes back with the process, and not piece by piece.
+            forget(session);
             told
         }
         Err(NoMemory) => Err(Stopped::Memory),

@@ -1,5 +1,7 @@
 -- What the phases after the grammar make of a tree, and what all make of tokens.
 use Rattle.std.specs.Prelude.{◌≡◌, ◌⊎◌, Result, Ok, Err, List}
+use Rattle.ceal_base.specs.Usage.{KeepsUsage}
+use Rattle.ceal_base.specs.WellTyped.{WellTyped}
 use Rattle.ceal_base.specs.declared.fault.Fault.{Fault}
 use Rattle.ceal_base.specs.declared.syntax.Tree.{Tree}
 use Rattle.ceal_base.specs.declared.typed.Typed.{Typed}
@@ -21,6 +23,12 @@ ruled p = elim (verdict (usage_faults p)) [ Ok u ↦ counted p | Err f ↦ Err f
 -- names and types first, then the rules of usage, then the limit
 abbrev pub settled : Tree → Result Typed Fault
 settled tree = elim (checked tree) [ Ok p ↦ ruled p | Err f ↦ Err f ]
+
+-- The program has passed all checks: its names and types are right, it keeps the rules of usage, and the limit.
+pub record IsChecked (p : Typed) : Type 0 where
+  pub typed : WellTyped p
+  pub usage : KeepsUsage p
+  pub limit : counted p ≡ Ok p
 
 -- The tokens have this first fault of the grammar.
 pub record IsMisplaced (ts : List Token) (r : Result Typed Fault) : Type 0 where

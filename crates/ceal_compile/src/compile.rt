@@ -1,23 +1,26 @@
 // The phases, one after the other.
 
-ghost use Rattle.std.specs.Prelude.{◌≡◌, ◌<◌, ◌^◌, Result as ResultOf, Ok as OkOf, Err as ErrOf, List, ℕ, length, IfOk};
+ghost use Rattle.std.specs.Prelude.{◌≡◌, ◌<◌, ◌^◌, Result as ResultOf, Ok as OkOf, Err as ErrOf, List, ℕ, true, length, IfOk};
 ghost use Rattle.ceal_base.specs.Answers.{Gives, IfFault};
 ghost use Rattle.ceal_base.specs.Usage.{KeepsUsage};
 ghost use Rattle.ceal_base.specs.WellTyped.{WellTyped};
 ghost use Rattle.ceal_base.specs.declared.fault.Fault.{Fault as FaultRecord};
 ghost use Rattle.ceal_base.specs.declared.typed.Typed.{Typed as TypedRecord};
+ghost use Rattle.ceal_code.specs.Valid.{valid};
 ghost use Rattle.ceal_lex.specs.Parts.{IsSplit};
 ghost use Rattle.ceal_lex.specs.Tokens.{IsEnded};
 ghost use Rattle.ceal_types.specs.Limits.{HasShortLists};
-ghost use Rattle.ceal_compile.specs.Compiled.{IsCompiled, typed_of};
-ghost use Rattle.ceal_compile.specs.Phases.{counted, ruled, settled, TokensCome};
+ghost use Rattle.ceal_compile.specs.Compiled.{IsCodeOf, IsCompiled, Means, typed_of};
+ghost use Rattle.ceal_compile.specs.Phases.{counted, ruled, settled, IsChecked, TokensCome};
 ghost use Rattle.ceal_compile.specs.Source.{Comes, IsFirstFault, IsProgram, PartComes};
 
 use crate::program::Program;
 use ceal_base::fault::FrontError;
+use ceal_base::no_memory::NoMemory;
 use ceal_base::syntax::Tree;
 use ceal_base::typed::Typed;
-use ceal_flow::lower::lower;
+use ceal_code::code::Code;
+use ceal_flow::lower::{check_limit, lower};
 use ceal_fold::fold::fold;
 use ceal_lex::lex::lex;
 use ceal_lex::parts::Split;
@@ -30,74 +33,76 @@ use ceal_types::check::check;
 use ceal_usage::check::check_usage;
 use std::alloc::Global;
 
-/// The program with its code, where its graph has no more blocks than are allowed.
-fn coded(alloc: Global, program: Typed) -> Result<Program, FrontError>
+/// The program, where its graph has no more blocks than are allowed.
+fn limited(program: Typed) -> Result<Typed, FrontError>
     requires typed { WellTyped program }
     requires usage { KeepsUsage program }
-    ensures value { Gives (typed_of result) (counted program) }
-    ensures compiled { IfOk result IsCompiled }
+    ensures value { Gives result (counted program) }
+    ensures checked { IfOk result IsChecked }
 {
-    match lower(alloc, &program) {
-        Ok(graph) => {
-            let live = live(alloc, &graph)?;
-            let units = normalise(alloc, &graph, &live)?;
-            let code = fold(alloc, units)?;
-            Ok(Program {
-                typed: program,
-                code,
-            })
+    match check_limit(&program) {
+        Ok(()) => Ok(program),
+        Err(fault) => {
+            drop(program);
+            Err(FrontError::Fault(fault))
         }
-        Err(error) => Err(error),
     }
 }
 
 /// The program, where it keeps the rules of usage, and then the limit.
-fn kept(alloc: Global, program: Typed) -> Result<Program, FrontError>
+fn kept(program: Typed) -> Result<Typed, FrontError>
     requires { WellTyped program }
-    ensures value { Gives (typed_of result) (ruled program) }
-    ensures compiled { IfOk result IsCompiled }
+    ensures value { Gives result (ruled program) }
+    ensures checked { IfOk result IsChecked }
 {
     match check_usage(&program) {
-        Ok(()) => coded(alloc, program),
-        Err(fault) => Err(FrontError::Fault(fault)),
+        Ok(()) => limited(program),
+        Err(fault) => {
+            drop(program);
+            Err(FrontError::Fault(fault))
+        }
     }
 }
 
 /// Names and types, then the rules of usage, then the limit.
-fn settle(alloc: Global, tree: &Tree) -> Result<Program, FrontError>
+fn settle(alloc: Global, tree: &Tree) -> Result<Typed, FrontError>
     requires { HasShortLists tree.now }
-    ensures value { Gives (typed_of result) (settled tree.now) }
-    ensures compiled { IfOk result IsCompiled }
+    ensures value { Gives result (settled tree.now) }
+    ensures checked { IfOk result IsChecked }
 {
     match check(alloc, tree) {
-        Ok(program) => kept(alloc, program),
+        Ok(program) => kept(program),
         Err(error) => Err(error),
     }
 }
 
 /// All that comes after the tokens.
-fn read_tokens(alloc: Global, tokens: &Tokens) -> Result<Program, FrontError>
+fn read_tokens(alloc: Global, tokens: &Tokens) -> Result<Typed, FrontError>
     requires { IsEnded tokens.now }
-    ensures found { IfOk result (λ program. TokensCome tokens.now (OkOf program.typed)) }
-    ensures compiled { IfOk result IsCompiled }
+    ensures found { IfOk result (λ program. TokensCome tokens.now (OkOf program)) }
+    ensures checked { IfOk result IsChecked }
     ensures fault { IfFault result (λ fault. TokensCome tokens.now (ErrOf fault)) }
     ensures only { (r : ResultOf TypedRecord FaultRecord) → TokensCome tokens.now r
-        → Gives (typed_of result) r }
+        → Gives result r }
 {
     match parse(alloc, tokens) {
-        Ok(tree) => settle(alloc, &tree),
+        Ok(tree) => {
+            let settled = settle(alloc, &tree);
+            drop(tree);
+            settled
+        }
         Err(error) => Err(error),
     }
 }
 
 /// What a part of an input comes to.
-fn read_part(alloc: Global, input: &[u8], part: &Split) -> Result<Program, FrontError>
+fn read_part(alloc: Global, input: &[u8], part: &Split) -> Result<Typed, FrontError>
     requires { IsSplit input.now part.now }
-    ensures found { IfOk result (λ program. PartComes input.now part.now (OkOf program.typed)) }
-    ensures compiled { IfOk result IsCompiled }
+    ensures found { IfOk result (λ program. PartComes input.now part.now (OkOf program)) }
+    ensures checked { IfOk result IsChecked }
     ensures fault { IfFault result (λ fault. PartComes input.now part.now (ErrOf fault)) }
     ensures only { (r : ResultOf TypedRecord FaultRecord) → PartComes input.now part.now r
-        → Gives (typed_of result) r }
+        → Gives result r }
 {
     match lex(alloc, input, part) {
         Ok(tokens) => read_tokens(alloc, &tokens),
@@ -105,9 +110,40 @@ fn read_part(alloc: Global, input: &[u8], part: &Split) -> Result<Program, Front
     }
 }
 
-/// The program of the source part of an input with its trace code, or its first fault: of characters, else of the
+/// The program of the source part of an input, without its code, or its first fault: of characters, else of the
 /// grammar, else of names and types, else of usage, else of the limit on blocks. The script after the source part
-/// is not looked at.
+/// is not looked at. Whether an input is accepted is so told without any code generation.
+pub fn check_source(alloc: Global, input: &[u8]) -> Result<Typed, FrontError>
+    requires { length input.now < 2 ^ 32 }
+    ensures found { IfOk result (λ program. IsProgram input.now program) }
+    ensures checked { IfOk result IsChecked }
+    ensures fault { IfFault result (λ fault. IsFirstFault input.now fault) }
+    ensures only { (r : ResultOf TypedRecord FaultRecord) → Comes input.now r → Gives result r }
+{
+    one_split();
+    read_part(alloc, input, &split(input))
+}
+
+/// The code of a program: its graph, the units of that with their live variables, and those folded.
+fn code_of(alloc: Global, program: &Typed) -> Result<Code, NoMemory>
+    requires { IsChecked program.now }
+    ensures code { IfOk result (IsCodeOf program.now) }
+    ensures valid { IfOk result (λ code. valid code ≡ true) }
+    ensures means { IfOk result (λ code. Means code program.now) }
+{
+    match lower(alloc, program) {
+        Ok(graph) => {
+            let live = live(alloc, &graph)?;
+            let units = normalise(alloc, &graph, &live)?;
+            let code = fold(alloc, units)?;
+            Ok(code)
+        }
+        Err(FrontError::Memory) => Err(NoMemory),
+        Err(FrontError::Fault(_)) => unreachable!(),
+    }
+}
+
+/// The program of the source part of an input with its trace code, or its first fault, as `check_source` tells it.
 pub fn compile(alloc: Global, input: &[u8]) -> Result<Program, FrontError>
     requires { length input.now < 2 ^ 32 }
     ensures found { IfOk result (λ program. IsProgram input.now program.typed) }
@@ -116,8 +152,16 @@ pub fn compile(alloc: Global, input: &[u8]) -> Result<Program, FrontError>
     ensures only { (r : ResultOf TypedRecord FaultRecord) → Comes input.now r
         → Gives (typed_of result) r }
 {
-    one_split();
-    read_part(alloc, input, &split(input))
+    match check_source(alloc, input) {
+        Ok(typed) => match code_of(alloc, &typed) {
+            Ok(code) => Ok(Program { typed, code }),
+            Err(NoMemory) => {
+                drop(typed);
+                Err(FrontError::Memory)
+            }
+        },
+        Err(error) => Err(error),
+    }
 }
 
 /// A law: an input comes to one program or one first fault at most.

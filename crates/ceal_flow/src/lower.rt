@@ -1,6 +1,6 @@
 // A program into its graph.
 
-ghost use Rattle.std.specs.Prelude.{◌≡◌, ◌≤◌, ◌+◌, ◌++◌, length, IfOk, OnOk, IfErr};
+ghost use Rattle.std.specs.Prelude.{◌≡◌, ◌≤◌, ◌+◌, ◌++◌, Ok as OkOf, Err as ErrOf, length, IsOk, IfOk, OnOk, IfErr};
 ghost use Rattle.ceal_base.specs.Answers.{Gives};
 ghost use Rattle.ceal_base.specs.Usage.{KeepsUsage};
 ghost use Rattle.ceal_flow.specs.Blocks.{sizes};
@@ -103,6 +103,22 @@ fn graph(alloc: Global, program: &Typed) -> Result<Graph, NoMemory>
     Ok(Graph::new(structs, functions, blocks))
 }
 
+/// Whether the graph of a program keeps the limit, without making it; or L1 at the first block past the limit, as `lower`
+/// tells it.
+pub fn check_limit(program: &Typed) -> Result<(), Fault>
+    ensures within { IsOk result → lowered program.now ≡ OkOf (graph_of program.now) }
+    ensures few { IsOk result → function_sizes program.now.functions ≤ BLOCK_LIMIT }
+    ensures past { IfErr result (λ fault. lowered program.now ≡ ErrOf fault) }
+{
+    match count_functions(program.functions.items()) {
+        Ok(_) => Ok(()),
+        Err(span) => Err(Fault {
+            code: FaultCode::L1,
+            span,
+        }),
+    }
+}
+
 /// The graph of a program; or L1 at the first block past the limit, which is a statement's first token, or the closing
 /// brace of a function whose end it is. It recurses as deep as statements and expressions are nested.
 pub fn lower(alloc: Global, program: &Typed) -> Result<Graph, FrontError>
@@ -110,14 +126,11 @@ pub fn lower(alloc: Global, program: &Typed) -> Result<Graph, FrontError>
     ensures few { IfOk result (λ g. length g.blocks ≤ BLOCK_LIMIT) }
     ensures same_run { KeepsUsage program.now → IfOk result (λ g. RunsAs g program.now) }
 {
-    match count_functions(program.functions.items()) {
-        Ok(_) => match graph(alloc, program) {
+    match check_limit(program) {
+        Ok(()) => match graph(alloc, program) {
             Ok(graph) => Ok(graph),
             Err(NoMemory) => Err(FrontError::Memory),
         },
-        Err(span) => Err(FrontError::Fault(Fault {
-            code: FaultCode::L1,
-            span,
-        })),
+        Err(fault) => Err(FrontError::Fault(fault)),
     }
 }

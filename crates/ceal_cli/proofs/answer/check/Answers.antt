@@ -1,5 +1,5 @@
 use Rattle.ceal_cli.proofs.OutputLaws.{not_accepted}
-use Rattle.ceal_cli.proofs.answer.write_answer.Goals as goal
+use Rattle.ceal_cli.proofs.answer.check.Goals as goal
 
 pub returns-in_ok-refuse-in-Err-Fault-clause-accepted : goal.returns-in_ok-refuse-in-Err-Fault-clause-accepted
 returns-in_ok-refuse-in-Err-Fault-clause-accepted g c =
