@@ -168,12 +168,7 @@ fn check<K: Sink>(alloc: Global, input: &[u8], sink: &mut K) -> Result<bool, Sto
 }
 
 // Writes the output for an input in a mode that takes its code, and says whether the input is accepted.
-fn compiled<K: Sink>(
-    alloc: Global,
-    mode: Mode,
-    input: &[u8],
-    sink: &mut K,
-) -> Result<bool, Stopped>
+fn compiled<K: Sink>(alloc: Global, mode: Mode, input: &[u8], sink: &mut K) -> Result<bool, Stopped>
     requires small { length input.now < 2 ^ 32 }
     requires reads { ReadsInput mode }
     requires limits { KeepsLimits mode }
