@@ -1,9 +1,11 @@
 // The programs of the tests, and what the compiler makes of them.
 
 ghost use Rattle.std.specs.Prelude.{◌≡◌, true, IfOk};
+ghost use Rattle.ceal_base.specs.WellTyped.{WellTyped};
 ghost use Rattle.ceal_code.specs.Valid.{valid};
 
-use ceal_compile::compile::compile;
+use ceal_base::typed::Typed;
+use ceal_compile::compile::{check_source, compile};
 use ceal_compile::program::Program;
 use std::alloc::Global;
 use std::test::Fail;
@@ -141,5 +143,16 @@ pub fn compiled(alloc: Global, source: &[u8]) -> Result<Program, Fail>
         return Err(Fail::from("too long a source"));
     }
     let program = compile(alloc, source)?;
+    Ok(program)
+}
+
+/// The program of such a source, without its code.
+pub fn checked(alloc: Global, source: &[u8]) -> Result<Typed, Fail>
+    ensures typed { IfOk result WellTyped }
+{
+    if source.len() > 4_194_304 {
+        return Err(Fail::from("too long a source"));
+    }
+    let program = check_source(alloc, source)?;
     Ok(program)
 }

@@ -3,7 +3,7 @@
 use crate::asserts::{equal, same_items};
 use ceal_base::kind::{FieldKind, Kind};
 use ceal_base::typed::{StructInfo, Typed, TypedFunction};
-use ceal_samples::programs::compiled;
+use ceal_samples::programs::{checked, compiled};
 use std::process::Abort;
 use std::test::Fail;
 
@@ -38,6 +38,14 @@ fn is_resolved<R: Abort>(rt: &R, typed: &Typed) {
 fn a_program_with_its_names_resolved(rt: HostRuntime) -> Result<(), Fail> {
     let program = compiled(rt.alloc(), SCOPES)?;
     is_resolved(&rt, &program.typed);
+    drop(program);
+    Ok(())
+}
+
+#[test]
+fn a_source_that_is_checked_without_its_code(rt: HostRuntime) -> Result<(), Fail> {
+    let program = checked(rt.alloc(), SCOPES)?;
+    is_resolved(&rt, &program);
     drop(program);
     Ok(())
 }
