@@ -49,12 +49,7 @@ fn take_shape(target: Target, at: Span, token: &mut Token) -> Option<Mode>
     }
 }
 
-fn take_initialiser(
-    target: Target,
-    at: Span,
-    shape: Ident,
-    token: &mut Token,
-) -> Option<Mode>
+fn take_initialiser(target: Target, at: Span, shape: Ident, token: &mut Token) -> Option<Mode>
     ensures value { result ≡ at_making (Making.Shape target at shape) token.old.span token.old.kind }
 {
     match name(token) {

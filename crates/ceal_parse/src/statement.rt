@@ -153,12 +153,7 @@ pub fn take_word(mode: &mut Mode, at: Span, word: Reserved) -> Turn
 }
 
 #[inline(never)]
-pub fn take_typing(
-    mode: &mut Mode,
-    at: Span,
-    part: TypePart,
-    token: &mut Token,
-) -> Turn
+pub fn take_typing(mode: &mut Mode, at: Span, part: TypePart, token: &mut Token) -> Turn
     ensures value { (i : Inside) → turn_state i mode.new result
         ≡ placed i (at_typing at part token.old.span token.old.kind) }
 {

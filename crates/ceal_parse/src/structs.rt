@@ -74,12 +74,7 @@ fn take_member(place: &mut StructPlace, layout: Layout, token: &Token) -> bool
     }
 }
 
-fn take_typing(
-    place: &mut StructPlace,
-    layout: Layout,
-    part: TypePart,
-    token: &mut Token,
-) -> bool
+fn take_typing(place: &mut StructPlace, layout: Layout, part: TypePart, token: &mut Token) -> bool
     ensures value { (es : List EntryOf) → wants result (State.Struct es place.new)
         ≡ at_struct es (StructPlace.Typing layout part) token.old.span token.old.kind }
 {
@@ -153,12 +148,7 @@ fn take_end(
 }
 
 /// The length of a row.
-fn take_length(
-    place: &mut StructPlace,
-    layout: Layout,
-    member: FieldDecl,
-    token: &Token,
-) -> bool
+fn take_length(place: &mut StructPlace, layout: Layout, member: FieldDecl, token: &Token) -> bool
     ensures value { (es : List EntryOf) → wants result (State.Struct es place.new)
         ≡ at_length es layout member (length_of token.now.kind) }
 {
