@@ -19,8 +19,8 @@ use ceal_base::no_memory::NoMemory;
 use ceal_base::syntax::{Entry, Expr, Exprs, FunctionDecl, Ident, Stmt, Stmts, TypeForm, Value};
 use ceal_grammar::stack::Stack;
 use ceal_grammar::state::{
-    Callee, Chained, Head, Inside, Making, Mode, Opened, Owner, Place, Receiver, State, Target,
-    TypePart, Whole,
+    Callee, Chained, Inside, Making, Mode, Opened, Owner, Place, Receiver, State, Target, TypePart,
+    Whole,
 };
 use ceal_lex::token::{Reserved, Sign, Token, TokenKind};
 use std::alloc::Global;

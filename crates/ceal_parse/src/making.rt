@@ -50,7 +50,8 @@ fn take_shape(target: Target, at: Span, token: &mut Token) -> Option<Mode>
 }
 
 fn take_initialiser(target: Target, at: Span, shape: Ident, token: &mut Token) -> Option<Mode>
-    ensures value { result ≡ at_making (Making.Shape target at shape) token.old.span token.old.kind }
+    ensures value { result
+        ≡ at_making (Making.Shape target at shape) token.old.span token.old.kind }
 {
     match name(token) {
         Some(name) => Some(Mode::Calls(Callee::Alloc(target, at, shape, name))),

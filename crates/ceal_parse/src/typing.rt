@@ -58,7 +58,8 @@ fn take_mod(token: &Token) -> Option<Typing>
 }
 
 fn take_mod_int(cells: bool, token: &mut Token) -> Option<Typing>
-    ensures value { result ≡ star_or cells TypeForm.ModInt TypeForm.CellInt token.old.span token.old.kind }
+    ensures value { result
+        ≡ star_or cells TypeForm.ModInt TypeForm.CellInt token.old.span token.old.kind }
 {
     if is_sign(token, Sign::Star) {
         Some(Typing::More(TypePart::Done(TypeForm::ModInt)))
