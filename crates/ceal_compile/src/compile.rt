@@ -77,12 +77,12 @@ fn settle(alloc: Global, tree: &Tree) -> Result<Typed, FrontError>
 }
 
 /// All that comes after the tokens.
-fn read_tokens(alloc: Global, tokens: &Tokens) -> Result<Typed, FrontError>
-    requires { IsEnded tokens.now }
-    ensures found { IfOk result (λ program. TokensCome tokens.now (OkOf program)) }
+fn read_tokens(alloc: Global, tokens: Tokens) -> Result<Typed, FrontError>
+    requires { IsEnded tokens }
+    ensures found { IfOk result (λ program. TokensCome tokens (OkOf program)) }
     ensures checked { IfOk result IsChecked }
-    ensures fault { IfFault result (λ fault. TokensCome tokens.now (ErrOf fault)) }
-    ensures only { (r : ResultOf TypedRecord FaultRecord) → TokensCome tokens.now r
+    ensures fault { IfFault result (λ fault. TokensCome tokens (ErrOf fault)) }
+    ensures only { (r : ResultOf TypedRecord FaultRecord) → TokensCome tokens r
         → Gives result r }
 {
     match parse(alloc, tokens) {
@@ -105,7 +105,7 @@ fn read_part(alloc: Global, input: &[u8], part: &Split) -> Result<Typed, FrontEr
         → Gives result r }
 {
     match lex(alloc, input, part) {
-        Ok(tokens) => read_tokens(alloc, &tokens),
+        Ok(tokens) => read_tokens(alloc, tokens),
         Err(error) => Err(error),
     }
 }

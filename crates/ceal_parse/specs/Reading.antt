@@ -1,6 +1,10 @@
 -- Where the parser's answers leave a reading.
 use Rattle.std.specs.Prelude.{ℕ, suc, ◌≤◌, ◌≡◌, Bool, true, false, Option, Some, None}
+use Rattle.ceal_base.specs.declared.fault.Span.{Span}
 use Rattle.ceal_lex.specs.declared.token.Sign.{Sign}
+use Rattle.ceal_lex.specs.declared.token.Token.{Token}
+use Rattle.ceal_lex.specs.declared.token.TokenKind.{TokenKind}
+use Rattle.ceal_lex.specs.declared.token.TokenKind.TheVariants.{Name, Cut}
 use Rattle.ceal_grammar.specs.declared.state.HeadPlace.{HeadPlace}
 use Rattle.ceal_grammar.specs.declared.state.HeadPlace.TheVariants as Heads
 use Rattle.ceal_grammar.specs.declared.state.Inside.{Inside}
@@ -24,6 +28,15 @@ use Rattle.ceal_parse.specs.declared.turn.Part.TheVariants as Parts
 use Rattle.ceal_parse.specs.declared.turn.Turn.{Turn}
 use Rattle.ceal_parse.specs.declared.turn.Turn.TheVariants as Turns
 
+-- The token is a name.
+abbrev pub is_name : TokenKind → Bool
+is_name (Name x) = true
+is_name _ = false
+
+-- A token at this place. The limits look at the place of a token alone.
+abbrev pub cut_at : Span → Token
+cut_at s = record { kind = Cut; span = s }
+
 -- Where the reading stands after the sign c, at which the whole expression w has ended with the operand at p.
 abbrev pub ended : Inside → Whole → Place → Sign → Option State
 ended i w (Have p) c = received i w.nesting w.receiver p.expr c
@@ -40,6 +53,15 @@ abbrev pub mode_ended : Inside → Mode → Sign → Option State
 mode_ended i (Modes.Within w p) c = ended i w p c
 mode_ended i _ c = None
 
+-- The place is within a path, an allocation or a call.
+abbrev pub is_aside : Mode → Bool
+is_aside (Modes.Path e n) = true
+is_aside (Modes.Reached e x n) = true
+is_aside (Modes.Making m) = true
+is_aside (Modes.Calls f) = true
+is_aside (Modes.First f) = true
+is_aside _ = false
+
 -- The place is within a statement and in no whole expression, and parts of the statement were read.
 abbrev pub has_parts : Mode → Bool
 has_parts Modes.Body = false
@@ -47,12 +69,31 @@ has_parts (Modes.Owned at) = false
 has_parts (Modes.Within w p) = false
 has_parts _ = true
 
+-- Such a statement has not ended, and waits for no parenthesis before an expression.
+abbrev pub is_begun : Mode → Bool
+is_begun (Modes.Ends st) = false
+is_begun (Modes.Before r) = false
+is_begun m = has_parts m
+
+-- It is at a block, or within a path, an allocation or a call.
+abbrev pub is_later : Mode → Bool
+is_later (Modes.Opens o) = true
+is_later (Modes.Ended st) = true
+is_later (Modes.Closed at e first) = true
+is_later (Modes.Otherwise at e first) = true
+is_later m = is_aside m
+
 -- What the expression is wanted for has no part that was read.
 abbrev pub is_plain : Receiver → Bool
 is_plain (To.Write at) = true
 is_plain (To.If at) = true
 is_plain (To.While at) = true
 is_plain _ = false
+
+-- The struct has ended.
+abbrev pub is_closed : StructPlace → Bool
+is_closed (Structs.Closed x) = true
+is_closed _ = false
 
 -- The head of a function has ended.
 abbrev pub is_done : HeadPlace → Bool

@@ -2,24 +2,25 @@
 
 ghost use Rattle.std.specs.Prelude.{◌≡◌, ◌∷◌, ◌++◌, ◌<◌, ◌≤◌, ◌^◌, [], Some, true, IfOk};
 ghost use Rattle.ceal_grammar.specs.Machine.{same_sign as same_signs, wants, placed, given, begun, ends_at, at_argument, received, with_statement, owned, block_closed, chained_in, at_body, at_ends, at_opens, at_closed, at_otherwise, moved, mode_nesting, operators_in};
-ghost use Rattle.ceal_parse.specs.Reading.{ended, has_parts, is_plain, mode_ended, turn_state};
+ghost use Rattle.ceal_parse.specs.Reading.{has_parts, is_aside, is_begun, is_later, is_name, is_plain, mode_ended, turn_state};
 
 use crate::expression::{begin, take_place};
 use crate::head::no_head;
 use crate::making::{call, give, take_making, take_value};
-use crate::marks::{is_sign, is_word, same_sign};
+use crate::marks::{is_sign, is_word, name, same_sign};
 use crate::statement::{
     end_statement, open_block, take_before, take_calls, take_declared, take_end, take_first,
     take_named, take_owned, take_path, take_reached, take_typing, take_word,
 };
-use crate::turn::{Part, Turn, begin_statement, put, stand};
+use crate::turn::{Part, Turn, begin_statement, leave, no_expr, no_name, put, stand};
 use ceal_base::fault::Span;
 use ceal_base::items::Items;
 use ceal_base::no_memory::NoMemory;
-use ceal_base::syntax::{Entry, Expr, Exprs, FunctionDecl, Ident, Stmt, Stmts, Value};
+use ceal_base::syntax::{Entry, Expr, Exprs, FunctionDecl, Ident, Stmt, Stmts, TypeForm, Value};
 use ceal_grammar::stack::Stack;
 use ceal_grammar::state::{
-    Callee, Chained, Head, Inside, Mode, Opened, Owner, Place, Receiver, State, Target, Whole,
+    Callee, Chained, Inside, Making, Mode, Opened, Owner, Place, Receiver, State, Target, TypePart,
+    Whole,
 };
 use ceal_lex::token::{Reserved, Sign, Token, TokenKind};
 use std::alloc::Global;
@@ -264,33 +265,6 @@ fn receive(
     }
 }
 
-/// The whole expression has ended with the operand at this place.
-fn take_ended(
-    alloc: Global,
-    inside: &mut Inside,
-    mode: &mut Mode,
-    within: (Whole, Place),
-    sign: Sign,
-) -> Result<Turn, NoMemory>
-    ensures value { IfOk result (λ turn. turn_state inside.new mode.new turn
-        ≡ ended inside.old within.0 within.1 sign) }
-{
-    let (whole, place) = within;
-    match place {
-        Place::Have(piece) => {
-            drop(whole.frames);
-            let receiver = (whole.nesting, whole.receiver);
-            let turn = receive(alloc, inside, mode, receiver, (piece.expr, sign))?;
-            Ok(turn)
-        }
-        other => {
-            drop(other);
-            drop(whole);
-            Ok(Turn::Refused)
-        }
-    }
-}
-
 fn owner_mode(owner: Owner, body: Stmts) -> Mode
     ensures value { result ≡ owned owner body }
 {
@@ -364,23 +338,32 @@ fn go_on(mode: &mut Mode, next: Option<Mode>) -> Turn
     }
 }
 
+/// The name that a statement begins with.
+fn take_subject(mode: &mut Mode, token: &mut Token) -> Turn
+    requires named { is_name token.old.kind ≡ true }
+    ensures value { (i : Inside) → turn_state i mode.new result
+        ≡ at_body i token.old.span token.old.kind }
+{
+    match name(token) {
+        Some(name) => stand(mode, Mode::Named(name)),
+        None => Turn::Refused,
+    }
+}
+
 /// The beginning of a statement, or the end of a block.
 fn take_body(
     alloc: Global,
     inside: &mut Inside,
     mode: &mut Mode,
-    token: &Token,
+    token: &mut Token,
 ) -> Result<Turn, NoMemory>
     ensures value { IfOk result
         (λ turn. turn_state inside.new mode.new turn
-        ≡ at_body inside.old token.now.span token.now.kind) }
+        ≡ at_body inside.old token.old.span token.old.kind) }
 {
     let at = token.span;
     match &token.kind {
-        TokenKind::Name(text) => {
-            let text = text.copy()?;
-            Ok(stand(mode, Mode::Named(Ident { text, span: at })))
-        }
+        TokenKind::Name(_) => Ok(take_subject(mode, token)),
         TokenKind::Reserved(word) => Ok(take_word(mode, at, *word)),
         TokenKind::Sign(sign) => {
             if same_sign(*sign, Sign::RightBrace) {
@@ -421,10 +404,10 @@ fn take_behind(
     inside: &mut Inside,
     mode: &mut Mode,
     statement: Stmt,
-    token: &Token,
+    token: &mut Token,
 ) -> Result<Turn, NoMemory>
     ensures value { IfOk result (λ turn. turn_state inside.new mode.new turn
-        ≡ at_body (with_statement inside.old statement) token.now.span token.now.kind) }
+        ≡ at_body (with_statement inside.old statement) token.old.span token.old.kind) }
 {
     end_statement(alloc, inside, statement)?;
     let turn = take_body(alloc, inside, mode, token)?;
@@ -452,6 +435,17 @@ fn take_opens(
     }
 }
 
+/// The `if` whose first block was read, taken out of where it stands.
+fn take_branch(alloc: Global, span: Span, test: &mut Expr, first: &mut Stmts) -> Chained
+    ensures value { result ≡ record { span = span; test = test.old; first = first.old } }
+{
+    Chained {
+        span,
+        test: mem::replace(test, no_expr(span)),
+        first: mem::replace(first, Items::empty(alloc)),
+    }
+}
+
 /// The token after the first block of an `if`.
 #[inline(never)]
 fn take_closed(
@@ -459,10 +453,10 @@ fn take_closed(
     inside: &mut Inside,
     mode: &mut Mode,
     branch: Chained,
-    token: &Token,
+    token: &mut Token,
 ) -> Result<Turn, NoMemory>
     ensures value { IfOk result (λ turn. turn_state inside.new mode.new turn
-        ≡ at_closed inside.old branch.span branch.test branch.first token.now.span token.now.kind) }
+        ≡ at_closed inside.old branch.span branch.test branch.first token.old.span token.old.kind) }
 {
     if is_word(token, Reserved::Else) {
         let next = Mode::Otherwise(branch.span, branch.test, branch.first);
@@ -509,76 +503,187 @@ fn take_otherwise(
     }
 }
 
-/// A token within a statement of which parts were read, and within no whole expression.
+/// A token within a path, an `alloc`, a `modref` or a call.
 #[inline(never)]
-fn take_other(
+fn take_aside(
     alloc: Global,
     inside: &mut Inside,
     mode: &mut Mode,
-    token: &Token,
+    token: &mut Token,
+) -> Result<Turn, NoMemory>
+    requires shallow { mode_nesting mode.old inside.old.nesting ≤ 64 }
+    requires few { operators_in mode.old ≤ 255 }
+    requires aside { is_aside mode.old ≡ true }
+    ensures value { IfOk result
+        (λ turn. turn_state inside.new mode.new turn
+        ≡ moved inside.old mode.old token.old.span token.old.kind) }
+{
+    let nesting = inside.nesting;
+    let at = token.span;
+    match mode {
+        Mode::Path(path, arrows) => {
+            let arrows = *arrows;
+            let path = mem::replace(path, no_expr(at));
+            leave(mode);
+            Ok(go_on(mode, take_path(path, arrows, token)))
+        }
+        Mode::Reached(path, name, arrows) => {
+            let arrows = *arrows;
+            let path = mem::replace(path, no_expr(at));
+            let name = mem::replace(name, no_name(alloc, at));
+            leave(mode);
+            let next = take_reached(alloc, nesting, path, name, arrows, token)?;
+            Ok(go_on(mode, next))
+        }
+        Mode::Making(making) => {
+            let making = mem::replace(making, Making::Typed(Stmt::Return(at)));
+            leave(mode);
+            Ok(go_on(mode, take_making(making, token)))
+        }
+        Mode::Calls(callee) => {
+            let callee = mem::replace(callee, Callee::Call(no_name(alloc, at)));
+            leave(mode);
+            Ok(go_on(mode, take_calls(callee, token)))
+        }
+        Mode::First(callee) => {
+            let callee = mem::replace(callee, Callee::Call(no_name(alloc, at)));
+            leave(mode);
+            let turn = take_first(alloc, nesting, mode, callee, token)?;
+            Ok(turn)
+        }
+        _ => unreachable!(),
+    }
+}
+
+/// A token before a block or after one, or a rarer one.
+#[inline(never)]
+fn take_block(
+    alloc: Global,
+    inside: &mut Inside,
+    mode: &mut Mode,
+    token: &mut Token,
+) -> Result<Turn, NoMemory>
+    requires shallow { mode_nesting mode.old inside.old.nesting ≤ 64 }
+    requires few { operators_in mode.old ≤ 255 }
+    requires later { is_later mode.old ≡ true }
+    ensures value { IfOk result
+        (λ turn. turn_state inside.new mode.new turn
+        ≡ moved inside.old mode.old token.old.span token.old.kind) }
+{
+    let at = token.span;
+    match mode {
+        Mode::Opens(owner) => {
+            let owner = mem::replace(owner, Owner::While(at, no_expr(at)));
+            leave(mode);
+            let turn = take_opens(alloc, inside, mode, owner, token)?;
+            Ok(turn)
+        }
+        Mode::Ended(statement) => {
+            let statement = mem::replace(statement, Stmt::Return(at));
+            leave(mode);
+            let turn = take_behind(alloc, inside, mode, statement, token)?;
+            Ok(turn)
+        }
+        Mode::Closed(span, test, first) => {
+            let branch = take_branch(alloc, *span, test, first);
+            leave(mode);
+            let turn = take_closed(alloc, inside, mode, branch, token)?;
+            Ok(turn)
+        }
+        Mode::Otherwise(span, test, first) => {
+            let branch = take_branch(alloc, *span, test, first);
+            leave(mode);
+            let turn = take_otherwise(alloc, inside, mode, branch, token)?;
+            Ok(turn)
+        }
+        _ => {
+            let turn = take_aside(alloc, inside, mode, token)?;
+            Ok(turn)
+        }
+    }
+}
+
+/// A token of a declaration, of an assignment or after a name, or a rarer one.
+#[inline(never)]
+fn take_begun(
+    alloc: Global,
+    inside: &mut Inside,
+    mode: &mut Mode,
+    token: &mut Token,
+) -> Result<Turn, NoMemory>
+    requires shallow { mode_nesting mode.old inside.old.nesting ≤ 64 }
+    requires few { operators_in mode.old ≤ 255 }
+    requires begun { is_begun mode.old ≡ true }
+    ensures value { IfOk result
+        (λ turn. turn_state inside.new mode.new turn
+        ≡ moved inside.old mode.old token.old.span token.old.kind) }
+{
+    let at = token.span;
+    match mode {
+        Mode::Value(target) => {
+            let target = mem::replace(target, Target::Assign(no_name(alloc, at)));
+            leave(mode);
+            let turn = take_value(alloc, inside.nesting, mode, target, token)?;
+            Ok(turn)
+        }
+        Mode::Named(name) => {
+            let name = mem::replace(name, no_name(alloc, at));
+            leave(mode);
+            Ok(take_named(mode, name, token))
+        }
+        Mode::Typing(begin, part) => {
+            let begin = *begin;
+            let part = mem::replace(part, TypePart::Struct);
+            leave(mode);
+            Ok(take_typing(mode, begin, part, token))
+        }
+        Mode::Declared(begin, form, name) => {
+            let begin = *begin;
+            let form = mem::replace(form, TypeForm::Int);
+            let name = mem::replace(name, no_name(alloc, at));
+            leave(mode);
+            Ok(take_declared(mode, begin, form, name, token))
+        }
+        _ => {
+            let turn = take_block(alloc, inside, mode, token)?;
+            Ok(turn)
+        }
+    }
+}
+
+/// A token within a statement of which parts were read, and within no whole expression. What was read is taken out of
+/// the place, each part for itself, and a little function has few places to clear: most tokens end a statement or begin
+/// what stands in parentheses, so they come first.
+#[inline(never)]
+fn take_part(
+    alloc: Global,
+    inside: &mut Inside,
+    mode: &mut Mode,
+    token: &mut Token,
 ) -> Result<Turn, NoMemory>
     requires shallow { mode_nesting mode.old inside.old.nesting ≤ 64 }
     requires few { operators_in mode.old ≤ 255 }
     requires parts { has_parts mode.old ≡ true }
     ensures value { IfOk result
         (λ turn. turn_state inside.new mode.new turn
-        ≡ moved inside.old mode.old token.now.span token.now.kind) }
+        ≡ moved inside.old mode.old token.old.span token.old.kind) }
 {
-    let nesting = inside.nesting;
-    match mem::replace(mode, Mode::Body) {
-        Mode::Typing(at, part) => {
-            let turn = take_typing(mode, at, part, token)?;
-            Ok(turn)
-        }
-        Mode::Declared(at, form, name) => Ok(take_declared(mode, at, form, name, token)),
-        Mode::Named(name) => Ok(go_on(mode, take_named(name, token))),
-        Mode::Path(path, arrows) => {
-            let next = take_path(path, arrows, token)?;
-            Ok(go_on(mode, next))
-        }
-        Mode::Reached(path, name, arrows) => {
-            let next = take_reached(alloc, nesting, path, name, arrows, token)?;
-            Ok(go_on(mode, next))
-        }
-        Mode::Value(target) => {
-            let turn = take_value(alloc, nesting, mode, target, token)?;
-            Ok(turn)
-        }
-        Mode::Making(making) => {
-            let next = take_making(making, token)?;
-            Ok(go_on(mode, next))
-        }
-        Mode::Calls(callee) => Ok(go_on(mode, take_calls(callee, token))),
-        Mode::First(callee) => {
-            let turn = take_first(alloc, nesting, mode, callee, token)?;
-            Ok(turn)
-        }
-        Mode::Before(receiver) => Ok(take_before(alloc, nesting, mode, receiver, token)),
+    let at = token.span;
+    match mode {
         Mode::Ends(statement) => {
+            let statement = mem::replace(statement, Stmt::Return(at));
+            leave(mode);
             let turn = take_ends(alloc, inside, mode, statement, token)?;
             Ok(turn)
         }
-        Mode::Ended(statement) => {
-            let turn = take_behind(alloc, inside, mode, statement, token)?;
-            Ok(turn)
+        Mode::Before(receiver) => {
+            let receiver = mem::replace(receiver, Receiver::If(at));
+            leave(mode);
+            Ok(take_before(alloc, inside.nesting, mode, receiver, token))
         }
-        Mode::Opens(owner) => {
-            let turn = take_opens(alloc, inside, mode, owner, token)?;
+        _ => {
+            let turn = take_begun(alloc, inside, mode, token)?;
             Ok(turn)
-        }
-        Mode::Closed(span, test, first) => {
-            let branch = Chained { span, test, first };
-            let turn = take_closed(alloc, inside, mode, branch, token)?;
-            Ok(turn)
-        }
-        Mode::Otherwise(span, test, first) => {
-            let branch = Chained { span, test, first };
-            let turn = take_otherwise(alloc, inside, mode, branch, token)?;
-            Ok(turn)
-        }
-        other => {
-            drop(other);
-            unreachable!()
         }
     }
 }
@@ -593,15 +698,22 @@ fn end_whole(
     ensures value { IfOk result
         (λ turn. turn_state inside.new mode.new turn ≡ mode_ended inside.old mode.old sign) }
 {
-    match mem::replace(mode, Mode::Body) {
-        Mode::Within(whole, place) => {
-            let turn = take_ended(alloc, inside, mode, (whole, place), sign)?;
-            Ok(turn)
-        }
-        other => {
-            drop(other);
-            Ok(Turn::Refused)
-        }
+    match mode {
+        Mode::Within(whole, place) => match mem::replace(place, Place::Want) {
+            Place::Have(piece) => {
+                let nesting = whole.nesting;
+                let receiver = mem::replace(&mut whole.receiver, Receiver::If(piece.from));
+                put(&mut whole.frames, Stack::new(alloc));
+                leave(mode);
+                let turn = receive(alloc, inside, mode, (nesting, receiver), (piece.expr, sign))?;
+                Ok(turn)
+            }
+            other => {
+                drop(other);
+                Ok(Turn::Refused)
+            }
+        },
+        _ => Ok(Turn::Refused),
     }
 }
 
@@ -627,13 +739,13 @@ pub fn take_mode(
     alloc: Global,
     inside: &mut Inside,
     mode: &mut Mode,
-    token: &Token,
+    token: &mut Token,
 ) -> Result<Turn, NoMemory>
     requires shallow { mode_nesting mode.old inside.old.nesting ≤ 64 }
     requires few { operators_in mode.old ≤ 255 }
     ensures value { IfOk result
         (λ turn. turn_state inside.new mode.new turn
-        ≡ moved inside.old mode.old token.now.span token.now.kind) }
+        ≡ moved inside.old mode.old token.old.span token.old.kind) }
 {
     match mode {
         Mode::Within(whole, place) => match take_place(alloc, whole, place, token)? {
@@ -653,7 +765,7 @@ pub fn take_mode(
             Ok(go_on(mode, take_owned(at, token)))
         }
         _ => {
-            let turn = take_other(alloc, inside, mode, token)?;
+            let turn = take_part(alloc, inside, mode, token)?;
             Ok(turn)
         }
     }

@@ -1,12 +1,12 @@
 // Whole expressions. A `take_..` takes one token: it moves the place within the expression, or answers that no program
 // goes on so. Operators wait on a stack until one of a lower level comes (operator precedence; Floyd, JACM 1963).
 
-ghost use Rattle.std.specs.Prelude.{◌≡◌, ◌∷◌, ◌<◌, ◌^◌, Some, None, [], false, IsTrue, IfOk, IfSome, MatchOption, if◌then◌else◌};
+ghost use Rattle.std.specs.Prelude.{◌≡◌, ◌∷◌, ◌<◌, ◌^◌, Some, None, [], false, true, IsTrue, IfOk, IfSome, MatchOption, if◌then◌else◌};
 ghost use Rattle.ceal_grammar.specs.Machine.{single as single_piece, prefixed, addressed, element_of, joined, accessed, begun, operated, reduced, same_sign as same_signs, wants, within, operator_of, closes, at_prim, at_operand, at_access, at_sign_after, at_index, at_after, at_element, at_place, placed};
 ghost use Rattle.ceal_grammar.specs.declared.state.Frame.TheVariants.{Address};
 ghost use Rattle.ceal_grammar.specs.declared.state.Inside.{Inside};
 ghost use Rattle.ceal_grammar.specs.declared.state.Piece.{Piece as PieceOf};
-ghost use Rattle.ceal_parse.specs.Reading.{part_state, turn_state};
+ghost use Rattle.ceal_parse.specs.Reading.{is_name, part_state, turn_state};
 
 use crate::marks::{is_sign, level, name, operator, same_sign, same_word};
 use crate::turn::{Part, Turn, boxed, going as turn_of, put, settle};
@@ -177,23 +177,32 @@ fn take_prim_sign(
     }
 }
 
+/// A variable.
+fn take_variable(place: &mut Place, token: &mut Token) -> bool
+    requires named { is_name token.old.kind ≡ true }
+    ensures value { (w : Whole)
+        → wants result (Mode.Within w place.new) ≡ at_prim w token.old.span token.old.kind }
+{
+    let at = token.span;
+    match name(token) {
+        Some(variable) => {
+            put(place, Place::Have(single(at, ExprForm::Var(variable))));
+            true
+        }
+        None => false,
+    }
+}
+
 /// An operand without a sign before it.
-fn take_prim(whole: &mut Whole, place: &mut Place, token: &Token) -> Result<bool, NoMemory>
+fn take_prim(whole: &mut Whole, place: &mut Place, token: &mut Token) -> Result<bool, NoMemory>
     requires shallow { whole.old.nesting < 2 ^ 31 }
     ensures value { IfOk result
         (λ on. wants on (Mode.Within whole.new place.new)
-        ≡ at_prim whole.old token.now.span token.now.kind) }
+        ≡ at_prim whole.old token.old.span token.old.kind) }
 {
     let at = token.span;
     match &token.kind {
-        TokenKind::Name(text) => {
-            let text = text.copy()?;
-            put(
-                place,
-                Place::Have(single(at, ExprForm::Var(Ident { text, span: at }))),
-            );
-            Ok(true)
-        }
+        TokenKind::Name(_) => Ok(take_variable(place, token)),
         TokenKind::Number(value) => {
             put(place, Place::Have(single(at, ExprForm::Num(*value))));
             Ok(true)
@@ -208,12 +217,12 @@ fn take_prim(whole: &mut Whole, place: &mut Place, token: &Token) -> Result<bool
 }
 
 /// An operand.
-fn take_operand(whole: &mut Whole, place: &mut Place, token: &Token) -> Result<bool, NoMemory>
+fn take_operand(whole: &mut Whole, place: &mut Place, token: &mut Token) -> Result<bool, NoMemory>
     requires shallow { whole.old.nesting < 2 ^ 31 }
     requires few { whole.old.operators < 2 ^ 31 }
     ensures value { IfOk result
         (λ on. wants on (Mode.Within whole.new place.new)
-        ≡ at_operand whole.old token.now.span token.now.kind) }
+        ≡ at_operand whole.old token.old.span token.old.kind) }
 {
     let at = token.span;
     if is_sign(token, Sign::Minus) {
@@ -236,25 +245,21 @@ fn take_access(
     alloc: Global,
     place: &mut Place,
     piece: Piece,
-    token: &Token,
+    token: &mut Token,
 ) -> Result<bool, NoMemory>
     ensures value { IfOk result
         (λ on. (w : Whole)
-        → wants on (Mode.Within w place.new) ≡ at_access w piece token.now.span token.now.kind) }
+        → wants on (Mode.Within w place.new) ≡ at_access w piece token.old.span token.old.kind) }
 {
     match name(token) {
-        Ok(Some(field)) => {
+        Some(field) => {
             let piece = access(alloc, piece, field)?;
             put(place, Place::Have(piece));
             Ok(true)
         }
-        Ok(None) => {
+        None => {
             drop(piece);
             Ok(false)
-        }
-        Err(NoMemory) => {
-            drop(piece);
-            Err(NoMemory)
         }
     }
 }
@@ -490,12 +495,12 @@ pub fn take_place(
     alloc: Global,
     whole: &mut Whole,
     place: &mut Place,
-    token: &Token,
+    token: &mut Token,
 ) -> Result<Part, NoMemory>
     requires shallow { whole.old.nesting < 2 ^ 31 }
     requires few { whole.old.operators < 2 ^ 31 }
     ensures value { IfOk result (λ part. (i : Inside) → part_state i whole.new place.new part
-        ≡ at_place i whole.old place.old token.now.span token.now.kind) }
+        ≡ at_place i whole.old place.old token.old.span token.old.kind) }
 {
     match last_sign(whole, place, token) {
         Some(sign) => Ok(Part::Ended(sign)),
@@ -511,12 +516,12 @@ fn move_place(
     alloc: Global,
     whole: &mut Whole,
     place: &mut Place,
-    token: &Token,
+    token: &mut Token,
 ) -> Result<Part, NoMemory>
     requires shallow { whole.old.nesting < 2 ^ 31 }
     requires few { whole.old.operators < 2 ^ 31 }
     ensures value { IfOk result (λ part. (i : Inside) → part_state i whole.new place.new part
-        ≡ at_place i whole.old place.old token.now.span token.now.kind) }
+        ≡ at_place i whole.old place.old token.old.span token.old.kind) }
 {
     match mem::replace(place, Place::Want) {
         Place::Want => {
@@ -560,11 +565,11 @@ pub fn take_whole(
     nesting: u32,
     mode: &mut Mode,
     receiver: Receiver,
-    token: &Token,
+    token: &mut Token,
 ) -> Result<Turn, NoMemory>
     requires shallow { nesting < 2 ^ 31 }
     ensures value { IfOk result (λ turn. (i : Inside) → turn_state i mode.new turn
-        ≡ placed i (at_operand (begun nesting receiver) token.now.span token.now.kind)) }
+        ≡ placed i (at_operand (begun nesting receiver) token.old.span token.old.kind)) }
 {
     settle(
         mode,

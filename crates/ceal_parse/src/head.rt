@@ -7,13 +7,12 @@ ghost use Rattle.ceal_grammar.specs.Machine.{at_head, body_of, wants, with_param
 ghost use Rattle.ceal_parse.specs.Reading.{is_done, is_named};
 
 use crate::marks::{is_sign, is_word, name};
-use crate::turn::put;
+use crate::turn::{no_name, put};
 use crate::typing::{start_type, take_type};
 use ceal_base::fault::Span;
 use ceal_base::items::Items;
 use ceal_base::no_memory::NoMemory;
 use ceal_base::syntax::{Entry, FieldDecl, Ident};
-use ceal_base::text::Text;
 use ceal_grammar::stack::Stack;
 use ceal_grammar::state::{Head, HeadPlace, Inside, Mode, State, TypePart, Typing};
 use ceal_lex::token::{Reserved, Sign, Token};
@@ -24,10 +23,7 @@ use std::mem;
 pub(crate) fn no_head(alloc: Global, at: Span) -> Head {
     Head {
         initialiser: None,
-        name: Ident {
-            text: Text::new(Vec::new(alloc)),
-            span: at,
-        },
+        name: no_name(alloc, at),
         params: Items::empty(alloc),
     }
 }
@@ -41,13 +37,13 @@ fn stand(place: &mut HeadPlace, next: HeadPlace) -> bool
     true
 }
 
-fn take_ceal(place: &mut HeadPlace, token: &Token) -> Result<bool, NoMemory>
-    ensures value { IfOk result (λ on. (es : List EntryOf) → wants on (State.Head es place.new)
-        ≡ at_head es HeadPlace.Ceal token.now.span token.now.kind) }
+fn take_ceal(place: &mut HeadPlace, token: &mut Token) -> bool
+    ensures value { (es : List EntryOf) → wants result (State.Head es place.new)
+        ≡ at_head es HeadPlace.Ceal token.old.span token.old.kind }
 {
-    match name(token)? {
-        Some(name) => Ok(stand(place, HeadPlace::CealNamed(name))),
-        None => Ok(false),
+    match name(token) {
+        Some(name) => stand(place, HeadPlace::CealNamed(name)),
+        None => false,
     }
 }
 
@@ -68,13 +64,13 @@ fn take_ceal_named(alloc: Global, place: &mut HeadPlace, name: Ident, token: &To
     }
 }
 
-fn take_init(place: &mut HeadPlace, token: &Token) -> Result<bool, NoMemory>
-    ensures value { IfOk result (λ on. (es : List EntryOf) → wants on (State.Head es place.new)
-        ≡ at_head es HeadPlace.Init token.now.span token.now.kind) }
+fn take_init(place: &mut HeadPlace, token: &mut Token) -> bool
+    ensures value { (es : List EntryOf) → wants result (State.Head es place.new)
+        ≡ at_head es HeadPlace.Init token.old.span token.old.kind }
 {
-    match name(token)? {
-        Some(name) => Ok(stand(place, HeadPlace::InitNamed(name))),
-        None => Ok(false),
+    match name(token) {
+        Some(name) => stand(place, HeadPlace::InitNamed(name)),
+        None => false,
     }
 }
 
@@ -106,27 +102,23 @@ fn take_init_struct(
     alloc: Global,
     place: &mut HeadPlace,
     function: Ident,
-    token: &Token,
-) -> Result<bool, NoMemory>
-    ensures value { IfOk result (λ on. (es : List EntryOf) → wants on (State.Head es place.new)
-        ≡ at_head es (HeadPlace.InitStruct function) token.now.span token.now.kind) }
+    token: &mut Token,
+) -> bool
+    ensures value { (es : List EntryOf) → wants result (State.Head es place.new)
+        ≡ at_head es (HeadPlace.InitStruct function) token.old.span token.old.kind }
 {
     match name(token) {
-        Ok(Some(shape)) => {
+        Some(shape) => {
             let head = Head {
                 initialiser: Some(shape),
                 name: function,
                 params: Items::empty(alloc),
             };
-            Ok(stand(place, HeadPlace::Shaped(head)))
+            stand(place, HeadPlace::Shaped(head))
         }
-        Ok(None) => {
+        None => {
             drop(function);
-            Ok(false)
-        }
-        Err(NoMemory) => {
-            drop(function);
-            Err(NoMemory)
+            false
         }
     }
 }
@@ -193,24 +185,20 @@ fn take_typing(
     place: &mut HeadPlace,
     head: Head,
     part: TypePart,
-    token: &Token,
+    token: &mut Token,
 ) -> Result<bool, NoMemory>
     ensures value { IfOk result (λ on. (es : List EntryOf) → wants on (State.Head es place.new)
-        ≡ at_head es (HeadPlace.Typing head part) token.now.span token.now.kind) }
+        ≡ at_head es (HeadPlace.Typing head part) token.old.span token.old.kind) }
 {
     match take_type(false, part, token) {
-        Ok(Some(Typing::More(part))) => Ok(stand(place, HeadPlace::Typing(head, part))),
-        Ok(Some(Typing::Named(form, name))) => {
+        Some(Typing::More(part)) => Ok(stand(place, HeadPlace::Typing(head, part))),
+        Some(Typing::Named(form, name)) => {
             let head = parameter(head, FieldDecl { form, name })?;
             Ok(stand(place, HeadPlace::Named(head)))
         }
-        Ok(None) => {
+        None => {
             drop(head);
             Ok(false)
-        }
-        Err(NoMemory) => {
-            drop(head);
-            Err(NoMemory)
         }
     }
 }
@@ -267,19 +255,16 @@ pub fn take_done(
 }
 
 /// A token within the head of a function that has a name.
-fn take_rest(alloc: Global, place: &mut HeadPlace, token: &Token) -> Result<bool, NoMemory>
+fn take_rest(alloc: Global, place: &mut HeadPlace, token: &mut Token) -> Result<bool, NoMemory>
     requires named { is_named place.old ≡ true }
     ensures value { IfOk result (λ on. (es : List EntryOf) → wants on (State.Head es place.new)
-        ≡ at_head es place.old token.now.span token.now.kind) }
+        ≡ at_head es place.old token.old.span token.old.kind) }
 {
     match mem::replace(place, HeadPlace::Ceal) {
         HeadPlace::CealNamed(name) => Ok(take_ceal_named(alloc, place, name, token)),
         HeadPlace::InitNamed(name) => Ok(take_init_named(place, name, token)),
         HeadPlace::InitOpened(name) => Ok(take_init_opened(place, name, token)),
-        HeadPlace::InitStruct(name) => {
-            let on = take_init_struct(alloc, place, name, token)?;
-            Ok(on)
-        }
+        HeadPlace::InitStruct(name) => Ok(take_init_struct(alloc, place, name, token)),
         HeadPlace::Shaped(head) => Ok(take_shaped(place, head, token)),
         HeadPlace::Starred(head) => Ok(take_starred(place, head, token)),
         HeadPlace::First(head) => Ok(take_first(place, head, token)),
@@ -297,20 +282,14 @@ fn take_rest(alloc: Global, place: &mut HeadPlace, token: &Token) -> Result<bool
 }
 
 /// A token within the head of a function.
-pub fn take_head(alloc: Global, place: &mut HeadPlace, token: &Token) -> Result<bool, NoMemory>
+pub fn take_head(alloc: Global, place: &mut HeadPlace, token: &mut Token) -> Result<bool, NoMemory>
     requires open { is_done place.old ≡ false }
     ensures value { IfOk result (λ on. (es : List EntryOf) → wants on (State.Head es place.new)
-        ≡ at_head es place.old token.now.span token.now.kind) }
+        ≡ at_head es place.old token.old.span token.old.kind) }
 {
     match place {
-        HeadPlace::Ceal => {
-            let on = take_ceal(place, token)?;
-            Ok(on)
-        }
-        HeadPlace::Init => {
-            let on = take_init(place, token)?;
-            Ok(on)
-        }
+        HeadPlace::Ceal => Ok(take_ceal(place, token)),
+        HeadPlace::Init => Ok(take_init(place, token)),
         _ => {
             let on = take_rest(alloc, place, token)?;
             Ok(on)

@@ -1,9 +1,9 @@
 // What a variable is given. A `take_..` takes one token.
 
-ghost use Rattle.std.specs.Prelude.{◌≡◌, ◌<◌, ◌^◌, IfOk};
+ghost use Rattle.std.specs.Prelude.{◌≡◌, ◌<◌, ◌^◌, true, IfOk};
 ghost use Rattle.ceal_grammar.specs.Machine.{given, called, at_modref, at_making, at_value, placed};
 ghost use Rattle.ceal_grammar.specs.declared.state.Inside.{Inside};
-ghost use Rattle.ceal_parse.specs.Reading.{turn_state};
+ghost use Rattle.ceal_parse.specs.Reading.{is_name, turn_state};
 
 use crate::expression::take_whole;
 use crate::marks::{is_sign, is_word, name, same_word};
@@ -11,7 +11,6 @@ use crate::turn::{Turn, stand};
 use ceal_base::fault::Span;
 use ceal_base::no_memory::NoMemory;
 use ceal_base::syntax::{Exprs, Ident, Stmt, Value};
-use ceal_base::text::Text;
 use ceal_grammar::state::{Callee, Making, Mode, Receiver, Target};
 use ceal_lex::token::{Reserved, Sign, Token, TokenKind};
 use std::alloc::Global;
@@ -38,43 +37,28 @@ pub fn call(callee: Callee, arguments: Exprs) -> Stmt
     }
 }
 
-fn take_shape(target: Target, at: Span, token: &Token) -> Result<Option<Mode>, NoMemory>
-    ensures value { IfOk result
-        (λ mode. mode ≡ at_making (Making.Alloc target at) token.now.span token.now.kind) }
+fn take_shape(target: Target, at: Span, token: &mut Token) -> Option<Mode>
+    ensures value { result ≡ at_making (Making.Alloc target at) token.old.span token.old.kind }
 {
     match name(token) {
-        Ok(Some(shape)) => Ok(Some(Mode::Making(Making::Shape(target, at, shape)))),
-        Ok(None) => {
+        Some(shape) => Some(Mode::Making(Making::Shape(target, at, shape))),
+        None => {
             drop(target);
-            Ok(None)
-        }
-        Err(NoMemory) => {
-            drop(target);
-            Err(NoMemory)
+            None
         }
     }
 }
 
-fn take_initialiser(
-    target: Target,
-    at: Span,
-    shape: Ident,
-    token: &Token,
-) -> Result<Option<Mode>, NoMemory>
-    ensures value { IfOk result
-        (λ mode. mode ≡ at_making (Making.Shape target at shape) token.now.span token.now.kind) }
+fn take_initialiser(target: Target, at: Span, shape: Ident, token: &mut Token) -> Option<Mode>
+    ensures value { result
+        ≡ at_making (Making.Shape target at shape) token.old.span token.old.kind }
 {
     match name(token) {
-        Ok(Some(name)) => Ok(Some(Mode::Calls(Callee::Alloc(target, at, shape, name)))),
-        Ok(None) => {
+        Some(name) => Some(Mode::Calls(Callee::Alloc(target, at, shape, name))),
+        None => {
             drop(target);
             drop(shape);
-            Ok(None)
-        }
-        Err(NoMemory) => {
-            drop(target);
-            drop(shape);
-            Err(NoMemory)
+            None
         }
     }
 }
@@ -91,32 +75,32 @@ fn modref_int(target: Target, at: Span, word: Reserved) -> Option<Mode>
     }
 }
 
-fn modref_shape(target: Target, at: Span, text: &Text, span: Span) -> Result<Option<Mode>, NoMemory>
-    ensures value { IfOk result
-        (λ mode. mode ≡ at_modref target at span (TokenKind.Name text.now)) }
+fn modref_shape(target: Target, at: Span, token: &mut Token) -> Option<Mode>
+    requires named { is_name token.old.kind ≡ true }
+    ensures value { result ≡ at_modref target at token.old.span token.old.kind }
 {
-    match text.copy() {
-        Ok(text) => {
-            let statement = give(target, Value::Modref(at, Ident { text, span }));
-            Ok(Some(Mode::Making(Making::Typed(statement))))
+    match name(token) {
+        Some(shape) => {
+            let statement = give(target, Value::Modref(at, shape));
+            Some(Mode::Making(Making::Typed(statement)))
         }
-        Err(NoMemory) => {
+        None => {
             drop(target);
-            Err(NoMemory)
+            None
         }
     }
 }
 
 #[inline(never)]
-fn take_modref(target: Target, at: Span, token: &Token) -> Result<Option<Mode>, NoMemory>
-    ensures value { IfOk result (λ mode. mode ≡ at_modref target at token.now.span token.now.kind) }
+fn take_modref(target: Target, at: Span, token: &mut Token) -> Option<Mode>
+    ensures value { result ≡ at_modref target at token.old.span token.old.kind }
 {
     match &token.kind {
-        TokenKind::Name(text) => modref_shape(target, at, text, token.span),
-        TokenKind::Reserved(word) => Ok(modref_int(target, at, *word)),
+        TokenKind::Name(_) => modref_shape(target, at, token),
+        TokenKind::Reserved(word) => modref_int(target, at, *word),
         _ => {
             drop(target);
-            Ok(None)
+            None
         }
     }
 }
@@ -145,15 +129,15 @@ fn take_closing(statement: Stmt, token: &Token) -> Option<Mode>
 
 /// An `alloc` or a `modref`.
 #[inline(never)]
-pub fn take_making(making: Making, token: &Token) -> Result<Option<Mode>, NoMemory>
-    ensures value { IfOk result (λ mode. mode ≡ at_making making token.now.span token.now.kind) }
+pub fn take_making(making: Making, token: &mut Token) -> Option<Mode>
+    ensures value { result ≡ at_making making token.old.span token.old.kind }
 {
     match making {
         Making::Alloc(target, at) => take_shape(target, at, token),
         Making::Shape(target, at, shape) => take_initialiser(target, at, shape, token),
         Making::Modref(target, at) => take_modref(target, at, token),
-        Making::Typed(statement) => Ok(take_opening(statement, token)),
-        Making::Opened(statement) => Ok(take_closing(statement, token)),
+        Making::Typed(statement) => take_opening(statement, token),
+        Making::Opened(statement) => take_closing(statement, token),
     }
 }
 
@@ -164,11 +148,11 @@ pub fn take_value(
     nesting: u32,
     mode: &mut Mode,
     target: Target,
-    token: &Token,
+    token: &mut Token,
 ) -> Result<Turn, NoMemory>
     requires shallow { nesting < 2 ^ 31 }
     ensures value { IfOk result (λ turn. (i : Inside) → turn_state i mode.new turn
-        ≡ placed i (at_value nesting target token.now.span token.now.kind)) }
+        ≡ placed i (at_value nesting target token.old.span token.old.kind)) }
 {
     let at = token.span;
     if is_word(token, Reserved::Read) {

@@ -1,13 +1,13 @@
 // What a token is, and which operator a sign is.
 
-ghost use Rattle.std.specs.Prelude.{◌≡◌, ◌<◌, ◌^◌, IfOk, IfSome};
+ghost use Rattle.std.specs.Prelude.{◌≡◌, ◌<◌, ◌^◌, IfSome};
 ghost use Rattle.ceal_grammar.specs.Grammar.{level as level_of_operator};
 ghost use Rattle.ceal_grammar.specs.Machine.{same_sign as same_signs, same_word as same_words, is_sign as is_sign_kind, is_word as is_word_kind, operator_of, length_of, ident_of};
 
-use ceal_base::no_memory::NoMemory;
 use ceal_base::operators::Binary;
 use ceal_base::syntax::Ident;
 use ceal_lex::token::{Reserved, Sign, Token, TokenKind};
+use std::mem;
 
 pub fn same_sign(a: Sign, b: Sign) -> bool
     ensures value { result ≡ same_signs a b }
@@ -94,18 +94,16 @@ pub fn length(token: &Token) -> Option<u64>
     }
 }
 
-/// The name that the token is, with its own text.
-pub fn name(token: &Token) -> Result<Option<Ident>, NoMemory>
-    ensures value { IfOk result (λ x. x ≡ ident_of token.now.span token.now.kind) }
+/// The name that the token is, with the text, which is taken out of the token.
+pub fn name(token: &mut Token) -> Option<Ident>
+    ensures value { result ≡ ident_of token.old.span token.old.kind }
 {
-    match &token.kind {
-        TokenKind::Name(text) => {
-            let text = text.copy()?;
-            Ok(Some(Ident {
-                text,
-                span: token.span,
-            }))
+    let span = token.span;
+    match mem::replace(&mut token.kind, TokenKind::Cut) {
+        TokenKind::Name(text) => Some(Ident { text, span }),
+        other => {
+            drop(other);
+            None
         }
-        _ => Ok(None),
     }
 }

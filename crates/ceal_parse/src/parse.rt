@@ -17,11 +17,11 @@ use ceal_lex::token::{Token, Tokens};
 use std::alloc::Global;
 
 /// What a reading of the tokens comes to.
-fn read(alloc: Global, tokens: &[Token]) -> Result<Tree, FrontError>
-    ensures value { Gives result (judged (Top []) tokens.now) }
+fn read(alloc: Global, tokens: &mut [Token]) -> Result<Tree, FrontError>
+    ensures value { Gives result (judged (Top []) tokens.old) }
 {
     let mut parser = Parser::new(alloc);
-    for token in tokens {
+    for token in tokens.iter_mut() {
         match parser.advance(token) {
             Ok(()) => {}
             Err(error) => {
@@ -49,14 +49,17 @@ fn read(alloc: Global, tokens: &[Token]) -> Result<Tree, FrontError>
 /// The time is linear in the tokens. The stack does not grow with their number: an expression's operators take their
 /// operands one in another, so 255 calls deep at most, and a statement ends at most 64 `if`s. A tree is dropped and
 /// copied by recursion, which the nesting of 64 and the 255 operators of an expression bound.
-pub fn parse(alloc: Global, tokens: &Tokens) -> Result<Tree, FrontError>
-    requires ended { IsEnded tokens.now }
-    ensures found { IfOk result (λ tree. Accepts tokens.now tree) }
-    ensures all { (tree : TreeRecord) → Accepts tokens.now tree → Gives result (Ok tree) }
-    ensures fault { IfFault result (λ fault. IsFirstFault tokens.now fault) }
-    ensures only { (fault : FaultRecord) → IsFirstFault tokens.now fault
+pub fn parse(alloc: Global, tokens: Tokens) -> Result<Tree, FrontError>
+    requires ended { IsEnded tokens }
+    ensures found { IfOk result (λ tree. Accepts tokens tree) }
+    ensures all { (tree : TreeRecord) → Accepts tokens tree → Gives result (Ok tree) }
+    ensures fault { IfFault result (λ fault. IsFirstFault tokens fault) }
+    ensures only { (fault : FaultRecord) → IsFirstFault tokens fault
         → Gives result (Err fault) }
 {
     judges();
-    read(alloc, tokens.items())
+    let mut tokens = tokens.into_vec();
+    let tree = read(alloc, tokens.as_mut_slice());
+    drop(tokens);
+    tree
 }

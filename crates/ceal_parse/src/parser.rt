@@ -2,17 +2,17 @@
 
 ghost use Rattle.std.specs.Prelude.{◌≡◌, ◌≤◌, [], true, false, IfOk, MatchResult, Ok};
 ghost use Rattle.ceal_base.specs.Answers.{Fails};
-ghost use Rattle.ceal_grammar.specs.Judged.{advanced, tested, entries_of, code_at, fault_at};
+ghost use Rattle.ceal_grammar.specs.Judged.{advanced, tested, entries_of, code_at};
 ghost use Rattle.ceal_grammar.specs.Machine.{at_part, at_top, nesting_of, operators_of, step, wants};
-ghost use Rattle.ceal_parse.specs.Reading.{is_inside, Fits};
+ghost use Rattle.ceal_parse.specs.Reading.{cut_at, is_inside, Fits};
 
 use crate::body::take_mode;
 use crate::head::{no_head, take_done, take_head};
 use crate::limits::{item, nesting, operators};
 use crate::marks::same_word;
-use crate::structs::take_struct;
+use crate::structs::{take_closed, take_struct};
 use crate::turn::{Turn, put};
-use ceal_base::fault::{Fault, FaultCode, FrontError};
+use ceal_base::fault::{Fault, FaultCode, FrontError, Span};
 use ceal_base::items::Items;
 use ceal_base::no_memory::NoMemory;
 use ceal_base::syntax::Entry;
@@ -70,13 +70,10 @@ fn code(token: &Token) -> FaultCode
     }
 }
 
-fn fault(code: FaultCode, token: &Token) -> FrontError
-    ensures value { result ≡ FrontError.Fault (fault_at code token.now) }
+fn fault(code: FaultCode, at: Span) -> FrontError
+    ensures value { result ≡ FrontError.Fault (record { code = code; span = at }) }
 {
-    FrontError::Fault(Fault {
-        code,
-        span: token.span,
-    })
+    FrontError::Fault(Fault { code, span: at })
 }
 
 /// The reading stands after these entries.
@@ -107,11 +104,11 @@ impl Parser {
 
     /// A token within no body: whether a program goes on so.
     #[inline(never)]
-    fn step_outside(&mut self, token: &Token) -> Result<bool, NoMemory>
+    fn step_outside(&mut self, token: &mut Token) -> Result<bool, NoMemory>
         requires outside { is_inside self.old.state ≡ false }
         requires room { Fits self.old.state }
         ensures value { IfOk result
-            (λ on. wants on self.new.state ≡ step self.old.state token.now) }
+            (λ on. wants on self.new.state ≡ step self.old.state token.old) }
     {
         let alloc = self.alloc;
         match &mut self.state {
@@ -119,14 +116,22 @@ impl Parser {
                 let entries = mem::replace(entries, Items::empty(alloc));
                 Ok(take_top(&mut self.state, entries, token))
             }
-            State::Struct(entries, place) => {
-                let entries = mem::replace(entries, Items::empty(alloc));
-                let place = mem::replace(place, StructPlace::Begun);
-                match take_struct(alloc, entries, place, token)? {
-                    Some(next) => Ok(stand(&mut self.state, next)),
-                    None => Ok(false),
+            State::Struct(entries, place) => match place {
+                StructPlace::Closed(shape) => {
+                    let on = take_closed(alloc, entries, shape, token)?;
+                    if on {
+                        let entries = mem::replace(entries, Items::empty(alloc));
+                        stand_after(&mut self.state, entries);
+                        Ok(true)
+                    } else {
+                        Ok(false)
+                    }
                 }
-            }
+                _ => {
+                    let on = take_struct(alloc, place, token)?;
+                    Ok(on)
+                }
+            },
             State::Head(entries, place) => match place {
                 HeadPlace::Done(head) => {
                     let entries = mem::replace(entries, Items::empty(alloc));
@@ -144,12 +149,12 @@ impl Parser {
     }
 
     /// Takes a token: whether a program goes on so.
-    fn step(&mut self, token: &Token) -> Result<bool, NoMemory>
+    fn step(&mut self, token: &mut Token) -> Result<bool, NoMemory>
         requires shallow { nesting_of self.old.state ≤ 64 }
         requires few { operators_of self.old.state ≤ 255 }
         requires room { Fits self.old.state }
         ensures value { IfOk result
-            (λ on. wants on self.new.state ≡ step self.old.state token.now) }
+            (λ on. wants on self.new.state ≡ step self.old.state token.old) }
     {
         let alloc = self.alloc;
         match &mut self.state {
@@ -169,41 +174,43 @@ impl Parser {
         }
     }
 
-    /// Whether the token, which was taken last and begins the item of this number, keeps the limits.
-    fn test(&self, item: usize, token: &Token) -> Result<(), FrontError>
+    /// Whether the token at this place, which was taken last and begins the item of this number, keeps the limits.
+    fn test(&self, item: usize, at: Span) -> Result<(), FrontError>
         ensures value { MatchResult result
-            (λ _. tested item token.now self.now.state ≡ Ok self.now.state)
-            (λ error. Fails error (tested item token.now self.now.state)) }
+            (λ _. tested item (cut_at at) self.now.state ≡ Ok self.now.state)
+            (λ error. Fails error (tested item (cut_at at) self.now.state)) }
     {
         if nesting(&self.state) >= 65 {
-            Err(fault(FaultCode::S4, token))
+            Err(fault(FaultCode::S4, at))
         } else if item >= 256 {
-            Err(fault(FaultCode::S6, token))
+            Err(fault(FaultCode::S6, at))
         } else if operators(&self.state) >= 256 {
-            Err(fault(FaultCode::S6, token))
+            Err(fault(FaultCode::S6, at))
         } else {
             Ok(())
         }
     }
 
     /// Takes a token, or answers the fault at it.
-    pub fn advance(&mut self, token: &Token) -> Result<(), FrontError>
+    pub fn advance(&mut self, token: &mut Token) -> Result<(), FrontError>
         requires shallow { nesting_of self.old.state ≤ 64 }
         requires few { operators_of self.old.state ≤ 255 }
         requires room { Fits self.old.state }
         ensures value { MatchResult result
-            (λ _. advanced self.old.state token.now (step self.old.state token.now)
+            (λ _. advanced self.old.state token.old (step self.old.state token.old)
             ≡ Ok self.new.state)
             (λ error. Fails error
-            (advanced self.old.state token.now (step self.old.state token.now))) }
+            (advanced self.old.state token.old (step self.old.state token.old))) }
     {
+        let at = token.span;
         let item = item(&self.state, token);
+        let code = code(token);
         match self.step(token) {
             Ok(true) => {
-                self.test(item, token)?;
+                self.test(item, at)?;
                 Ok(())
             }
-            Ok(false) => Err(fault(code(token), token)),
+            Ok(false) => Err(fault(code, at)),
             Err(NoMemory) => Err(FrontError::Memory),
         }
     }

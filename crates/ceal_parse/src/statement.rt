@@ -153,19 +153,14 @@ pub fn take_word(mode: &mut Mode, at: Span, word: Reserved) -> Turn
 }
 
 #[inline(never)]
-pub fn take_typing(
-    mode: &mut Mode,
-    at: Span,
-    part: TypePart,
-    token: &Token,
-) -> Result<Turn, NoMemory>
-    ensures value { IfOk result (λ turn. (i : Inside) → turn_state i mode.new turn
-        ≡ placed i (at_typing at part token.now.span token.now.kind)) }
+pub fn take_typing(mode: &mut Mode, at: Span, part: TypePart, token: &mut Token) -> Turn
+    ensures value { (i : Inside) → turn_state i mode.new result
+        ≡ placed i (at_typing at part token.old.span token.old.kind) }
 {
-    match take_type(false, part, token)? {
-        Some(Typing::More(part)) => Ok(stand(mode, Mode::Typing(at, part))),
-        Some(Typing::Named(form, name)) => Ok(stand(mode, Mode::Declared(at, form, name))),
-        None => Ok(Turn::Refused),
+    match take_type(false, part, token) {
+        Some(Typing::More(part)) => stand(mode, Mode::Typing(at, part)),
+        Some(Typing::Named(form, name)) => stand(mode, Mode::Declared(at, form, name)),
+        None => Turn::Refused,
     }
 }
 
@@ -207,18 +202,19 @@ fn field(alloc: Global, path: Expr, name: Ident) -> Result<Expr, NoMemory>
 
 /// A name at the beginning of a statement was read.
 #[inline(never)]
-pub fn take_named(name: Ident, token: &Token) -> Option<Mode>
-    ensures value { result ≡ at_named name token.now.kind }
+pub fn take_named(mode: &mut Mode, name: Ident, token: &Token) -> Turn
+    ensures value { (i : Inside) → turn_state i mode.new result
+        ≡ placed i (at_named name token.now.kind) }
 {
     if is_sign(token, Sign::Equals) {
-        Some(Mode::Value(Target::Assign(name)))
+        stand(mode, Mode::Value(Target::Assign(name)))
     } else if is_sign(token, Sign::LeftParenthesis) {
-        Some(Mode::First(Callee::Call(name)))
+        stand(mode, Mode::First(Callee::Call(name)))
     } else if is_sign(token, Sign::Arrow) {
-        Some(Mode::Path(path(name), 1))
+        stand(mode, Mode::Path(path(name), 1))
     } else {
         drop(name);
-        None
+        Turn::Refused
     }
 }
 
@@ -239,18 +235,14 @@ pub fn take_owned(at: Span, token: &Token) -> Option<Mode>
 }
 
 #[inline(never)]
-pub fn take_path(path: Expr, arrows: u32, token: &Token) -> Result<Option<Mode>, NoMemory>
-    ensures value { IfOk result (λ mode. mode ≡ at_path path arrows token.now.span token.now.kind) }
+pub fn take_path(path: Expr, arrows: u32, token: &mut Token) -> Option<Mode>
+    ensures value { result ≡ at_path path arrows token.old.span token.old.kind }
 {
     match name(token) {
-        Ok(Some(name)) => Ok(Some(Mode::Reached(path, name, arrows))),
-        Ok(None) => {
+        Some(name) => Some(Mode::Reached(path, name, arrows)),
+        None => {
             drop(path);
-            Ok(None)
-        }
-        Err(NoMemory) => {
-            drop(path);
-            Err(NoMemory)
+            None
         }
     }
 }
@@ -299,12 +291,12 @@ fn first_argument(
     nesting: u32,
     mode: &mut Mode,
     callee: Callee,
-    token: &Token,
+    token: &mut Token,
 ) -> Result<Turn, NoMemory>
     requires shallow { nesting < 2 ^ 31 }
     ensures value { IfOk result (λ turn. (i : Inside) → turn_state i mode.new turn
         ≡ placed i
-        (at_operand (begun nesting (Receiver.Argument callee [])) token.now.span token.now.kind)) }
+        (at_operand (begun nesting (Receiver.Argument callee [])) token.old.span token.old.kind)) }
 {
     let receiver = Receiver::Argument(callee, Items::empty(alloc));
     let turn = take_whole(alloc, nesting, mode, receiver, token)?;
@@ -318,11 +310,11 @@ pub fn take_first(
     nesting: u32,
     mode: &mut Mode,
     callee: Callee,
-    token: &Token,
+    token: &mut Token,
 ) -> Result<Turn, NoMemory>
     requires shallow { nesting < 2 ^ 30 }
     ensures value { IfOk result (λ turn. (i : Inside) → turn_state i mode.new turn
-        ≡ placed i (at_first nesting callee token.now.span token.now.kind)) }
+        ≡ placed i (at_first nesting callee token.old.span token.old.kind)) }
 {
     if is_sign(token, Sign::RightParenthesis) {
         Ok(stand(mode, Mode::Ends(call(callee, Items::empty(alloc)))))

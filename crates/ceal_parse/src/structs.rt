@@ -1,39 +1,45 @@
-// Structs. A `take_..` takes one token.
+// Structs. A `take_..` takes one token: it moves the place within the struct, or answers that no program goes on so.
 
-ghost use Rattle.std.specs.Prelude.{◌≡◌, ◌≤◌, IfOk};
-ghost use Rattle.ceal_grammar.specs.Machine.{at_struct, at_member, at_member_end, at_length, at_sized, widened, with_member, is_cell, length_of};
+ghost use Rattle.std.specs.Prelude.{◌≡◌, ◌≤◌, List, false, true, IfOk};
+ghost use Rattle.ceal_base.specs.declared.syntax.Entry.{Entry as EntryOf};
+ghost use Rattle.ceal_grammar.specs.Machine.{at_struct, at_member, at_member_end, at_length, at_sized, widened, with_member, is_cell, length_of, wants};
 ghost use Rattle.ceal_grammar.specs.Trees.{row_form};
-ghost use Rattle.ceal_parse.specs.Reading.{PlaceFits};
+ghost use Rattle.ceal_parse.specs.Reading.{is_closed, PlaceFits};
 
 use crate::marks::{is_sign, length, name};
+use crate::turn::{no_name, put};
 use crate::typing::{start_type, take_type};
+use ceal_base::fault::Span;
 use ceal_base::items::Items;
 use ceal_base::no_memory::NoMemory;
 use ceal_base::syntax::{Entry, FieldDecl, Ident, StructDecl, TypeForm};
 use ceal_grammar::state::{Layout, State, StructPlace, TypePart, Typing};
 use ceal_lex::token::{Sign, Token};
 use std::alloc::Global;
+use std::mem;
 
-fn take_begun(entries: Items<Entry>, token: &Token) -> Result<Option<State>, NoMemory>
-    ensures value { IfOk result
-        (λ next. next ≡ at_struct entries StructPlace.Begun token.now.span token.now.kind) }
+/// The struct goes on at this place.
+fn stand(place: &mut StructPlace, next: StructPlace) -> bool
+    ensures place { place.new ≡ next }
+    ensures on { result ≡ true }
+{
+    put(place, next);
+    true
+}
+
+fn take_begun(place: &mut StructPlace, token: &mut Token) -> bool
+    ensures value { (es : List EntryOf) → wants result (State.Struct es place.new)
+        ≡ at_struct es StructPlace.Begun token.old.span token.old.kind }
 {
     match name(token) {
-        Ok(Some(name)) => Ok(Some(State::Struct(entries, StructPlace::Named(name)))),
-        Ok(None) => {
-            drop(entries);
-            Ok(None)
-        }
-        Err(NoMemory) => {
-            drop(entries);
-            Err(NoMemory)
-        }
+        Some(name) => stand(place, StructPlace::Named(name)),
+        None => false,
     }
 }
 
-fn take_named(alloc: Global, entries: Items<Entry>, name: Ident, token: &Token) -> Option<State>
-    ensures value { result
-        ≡ at_struct entries (StructPlace.Named name) token.now.span token.now.kind }
+fn take_named(alloc: Global, place: &mut StructPlace, name: Ident, token: &Token) -> bool
+    ensures value { (es : List EntryOf) → wants result (State.Struct es place.new)
+        ≡ at_struct es (StructPlace.Named name) token.now.span token.now.kind }
 {
     if is_sign(token, Sign::LeftBrace) {
         let layout = Layout {
@@ -43,59 +49,43 @@ fn take_named(alloc: Global, entries: Items<Entry>, name: Ident, token: &Token) 
             },
             count: 0,
         };
-        Some(State::Struct(entries, StructPlace::Members(layout)))
+        stand(place, StructPlace::Members(layout))
     } else {
-        drop(entries);
         drop(name);
-        None
+        false
     }
 }
 
 /// A field, or `}`.
-fn take_member(entries: Items<Entry>, layout: Layout, token: &Token) -> Option<State>
-    ensures value { result ≡ at_member entries layout token.now.kind }
+fn take_member(place: &mut StructPlace, layout: Layout, token: &Token) -> bool
+    ensures value { (es : List EntryOf) → wants result (State.Struct es place.new)
+        ≡ at_member es layout token.now.kind }
 {
     if is_sign(token, Sign::RightBrace) {
-        Some(State::Struct(entries, StructPlace::Closed(layout.decl)))
+        stand(place, StructPlace::Closed(layout.decl))
     } else {
         match start_type(token) {
-            Some(part) => Some(State::Struct(entries, StructPlace::Typing(layout, part))),
+            Some(part) => stand(place, StructPlace::Typing(layout, part)),
             None => {
-                drop(entries);
                 drop(layout);
-                None
+                false
             }
         }
     }
 }
 
-fn take_typing(
-    entries: Items<Entry>,
-    layout: Layout,
-    part: TypePart,
-    token: &Token,
-) -> Result<Option<State>, NoMemory>
-    ensures value { IfOk result
-        (λ next. next
-        ≡ at_struct entries (StructPlace.Typing layout part) token.now.span token.now.kind) }
+fn take_typing(place: &mut StructPlace, layout: Layout, part: TypePart, token: &mut Token) -> bool
+    ensures value { (es : List EntryOf) → wants result (State.Struct es place.new)
+        ≡ at_struct es (StructPlace.Typing layout part) token.old.span token.old.kind }
 {
     match take_type(true, part, token) {
-        Ok(Some(Typing::More(part))) => {
-            Ok(Some(State::Struct(entries, StructPlace::Typing(layout, part))))
+        Some(Typing::More(part)) => stand(place, StructPlace::Typing(layout, part)),
+        Some(Typing::Named(form, name)) => {
+            stand(place, StructPlace::Ends(layout, FieldDecl { form, name }))
         }
-        Ok(Some(Typing::Named(form, name))) => {
-            let member = FieldDecl { form, name };
-            Ok(Some(State::Struct(entries, StructPlace::Ends(layout, member))))
-        }
-        Ok(None) => {
-            drop(entries);
+        None => {
             drop(layout);
-            Ok(None)
-        }
-        Err(NoMemory) => {
-            drop(entries);
-            drop(layout);
-            Err(NoMemory)
+            false
         }
     }
 }
@@ -112,14 +102,15 @@ fn widen(count: u32, form: &TypeForm) -> u32
     }
 }
 
-/// Puts the member, which has ended, after those before it.
-fn end_member(layout: &mut Layout, member: FieldDecl) -> Result<(), NoMemory>
-    requires room { widened layout.old.count member.form ≤ 255 }
-    ensures value { IfOk result (λ _. layout.new ≡ with_member layout.old member) }
+/// The members with this one, which has ended.
+fn end_member(layout: Layout, member: FieldDecl) -> Result<Layout, NoMemory>
+    requires room { widened layout.count member.form ≤ 255 }
+    ensures value { IfOk result (λ l. l ≡ with_member layout member) }
 {
+    let mut layout = layout;
     layout.count = widen(layout.count, &member.form);
     layout.decl.fields.push(member)?;
-    Ok(())
+    Ok(layout)
 }
 
 /// Whether the member is a modifiable, so that it may be a row of them.
@@ -135,48 +126,38 @@ fn may_be_row(member: &FieldDecl) -> bool
 
 /// The token after a member.
 fn take_end(
-    entries: Items<Entry>,
+    place: &mut StructPlace,
     layout: Layout,
     member: FieldDecl,
     token: &Token,
-) -> Result<Option<State>, NoMemory>
+) -> Result<bool, NoMemory>
     requires room { widened layout.count member.form ≤ 255 }
-    ensures value { IfOk result
-        (λ next. next ≡ at_member_end entries layout member token.now.kind) }
+    ensures value { IfOk result (λ on. (es : List EntryOf) → wants on (State.Struct es place.new)
+        ≡ at_member_end es layout member token.now.kind) }
 {
     if is_sign(token, Sign::Semicolon) {
-        let mut layout = layout;
-        end_member(&mut layout, member)?;
-        Ok(Some(State::Struct(entries, StructPlace::Members(layout))))
+        let layout = end_member(layout, member)?;
+        Ok(stand(place, StructPlace::Members(layout)))
     } else if may_be_row(&member) && is_sign(token, Sign::LeftBracket) {
-        Ok(Some(State::Struct(entries, StructPlace::Length(layout, member))))
+        Ok(stand(place, StructPlace::Length(layout, member)))
     } else {
-        drop(entries);
         drop(layout);
         drop(member);
-        Ok(None)
+        Ok(false)
     }
 }
 
 /// The length of a row.
-fn take_length(
-    entries: Items<Entry>,
-    layout: Layout,
-    member: FieldDecl,
-    token: &Token,
-) -> Option<State>
-    ensures value { result ≡ at_length entries layout member (length_of token.now.kind) }
+fn take_length(place: &mut StructPlace, layout: Layout, member: FieldDecl, token: &Token) -> bool
+    ensures value { (es : List EntryOf) → wants result (State.Struct es place.new)
+        ≡ at_length es layout member (length_of token.now.kind) }
 {
     match length(token) {
-        Some(length) => {
-            let place = StructPlace::Sized(layout, member, length);
-            Some(State::Struct(entries, place))
-        }
+        Some(length) => stand(place, StructPlace::Sized(layout, member, length)),
         None => {
-            drop(entries);
             drop(layout);
             drop(member);
-            None
+            false
         }
     }
 }
@@ -195,69 +176,81 @@ fn row(form: TypeForm, length: u64) -> TypeForm
 
 /// The `]` after the length of a row.
 fn take_sized(
-    entries: Items<Entry>,
+    place: &mut StructPlace,
     layout: Layout,
     member: FieldDecl,
     length: u64,
     token: &Token,
-) -> Option<State>
+) -> bool
     requires small { length ≤ 255 }
-    ensures value { result ≡ at_sized entries layout member length token.now.kind }
+    ensures value { (es : List EntryOf) → wants result (State.Struct es place.new)
+        ≡ at_sized es layout member length token.now.kind }
 {
     if is_sign(token, Sign::RightBracket) {
         let form = row(member.form, length);
         let name = member.name;
-        let place = StructPlace::Ends(layout, FieldDecl { form, name });
-        Some(State::Struct(entries, place))
+        stand(place, StructPlace::Ends(layout, FieldDecl { form, name }))
     } else {
-        drop(entries);
         drop(layout);
         drop(member);
-        None
+        false
     }
 }
 
-fn take_closed(
-    entries: Items<Entry>,
-    shape: StructDecl,
+/// The struct of no program, which stands where one was taken away.
+fn no_struct(alloc: Global, at: Span) -> StructDecl {
+    StructDecl {
+        name: no_name(alloc, at),
+        fields: Items::empty(alloc),
+    }
+}
+
+/// The token after a struct, which is put after the entries before it.
+pub fn take_closed(
+    alloc: Global,
+    entries: &mut Items<Entry>,
+    shape: &mut StructDecl,
     token: &Token,
-) -> Result<Option<State>, NoMemory>
-    ensures value { IfOk result
-        (λ next. next
-        ≡ at_struct entries (StructPlace.Closed shape) token.now.span token.now.kind) }
+) -> Result<bool, NoMemory>
+    ensures value { IfOk result (λ on. wants on (State.Top entries.new)
+        ≡ at_struct entries.old (StructPlace.Closed shape.old) token.now.span token.now.kind) }
 {
     if is_sign(token, Sign::Semicolon) {
-        let mut entries = entries;
+        let shape = mem::replace(shape, no_struct(alloc, token.span));
         entries.push(Entry::Struct(shape))?;
-        Ok(Some(State::Top(entries)))
+        Ok(true)
     } else {
-        drop(entries);
-        drop(shape);
-        Ok(None)
+        Ok(false)
     }
 }
 
-/// A token within a struct, the entries before it given.
+/// A token within a struct that has not ended.
 pub fn take_struct(
     alloc: Global,
-    entries: Items<Entry>,
-    place: StructPlace,
-    token: &Token,
-) -> Result<Option<State>, NoMemory>
-    requires room { PlaceFits place }
-    ensures value { IfOk result
-        (λ next. next ≡ at_struct entries place token.now.span token.now.kind) }
+    place: &mut StructPlace,
+    token: &mut Token,
+) -> Result<bool, NoMemory>
+    requires open { is_closed place.old ≡ false }
+    requires room { PlaceFits place.old }
+    ensures value { IfOk result (λ on. (es : List EntryOf) → wants on (State.Struct es place.new)
+        ≡ at_struct es place.old token.old.span token.old.kind) }
 {
-    match place {
-        StructPlace::Begun => take_begun(entries, token),
-        StructPlace::Named(name) => Ok(take_named(alloc, entries, name, token)),
-        StructPlace::Members(layout) => Ok(take_member(entries, layout, token)),
-        StructPlace::Typing(layout, part) => take_typing(entries, layout, part, token),
-        StructPlace::Ends(layout, member) => take_end(entries, layout, member, token),
-        StructPlace::Length(layout, member) => Ok(take_length(entries, layout, member, token)),
-        StructPlace::Sized(layout, member, length) => {
-            Ok(take_sized(entries, layout, member, length, token))
+    match mem::replace(place, StructPlace::Begun) {
+        StructPlace::Begun => Ok(take_begun(place, token)),
+        StructPlace::Named(name) => Ok(take_named(alloc, place, name, token)),
+        StructPlace::Members(layout) => Ok(take_member(place, layout, token)),
+        StructPlace::Typing(layout, part) => Ok(take_typing(place, layout, part, token)),
+        StructPlace::Ends(layout, member) => {
+            let on = take_end(place, layout, member, token)?;
+            Ok(on)
         }
-        StructPlace::Closed(shape) => take_closed(entries, shape, token),
+        StructPlace::Length(layout, member) => Ok(take_length(place, layout, member, token)),
+        StructPlace::Sized(layout, member, length) => {
+            Ok(take_sized(place, layout, member, length, token))
+        }
+        StructPlace::Closed(shape) => {
+            drop(shape);
+            unreachable!()
+        }
     }
 }

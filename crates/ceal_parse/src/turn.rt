@@ -3,7 +3,10 @@
 ghost use Rattle.std.specs.Prelude.{◌≡◌, IfOk, if◌then◌else◌};
 
 use ceal_base::boxed::Boxed;
+use ceal_base::fault::Span;
 use ceal_base::no_memory::NoMemory;
+use ceal_base::syntax::{Expr, ExprForm, Ident};
+use ceal_base::text::Text;
 use ceal_grammar::state::Mode;
 use ceal_lex::token::Sign;
 use std::alloc::Global;
@@ -44,6 +47,14 @@ fn let_go(mode: Mode) {
     drop(mode);
 }
 
+/// Leaves a place whose parts were all taken out of it. Nothing is lost when it is forgotten, and a drop would go
+/// through all that a place can hold.
+pub fn leave(mode: &mut Mode)
+    ensures value { mode.new ≡ Mode.Body }
+{
+    mem::forget(mem::replace(mode, Mode::Body));
+}
+
 /// Puts the next place where the beginning of a statement stands, which holds nothing. Only the drop of another place
 /// goes through all that a place can hold.
 pub fn settle(mode: &mut Mode, next: Mode)
@@ -55,6 +66,22 @@ pub fn settle(mode: &mut Mode, next: Mode)
             old => let_go(old),
         },
         _ => let_go(mem::replace(mode, next)),
+    }
+}
+
+/// No name, which stands where one was taken away.
+pub fn no_name(alloc: Global, at: Span) -> Ident {
+    Ident {
+        text: Text::empty(alloc),
+        span: at,
+    }
+}
+
+/// An expression that holds nothing, which stands where another was taken away.
+pub fn no_expr(at: Span) -> Expr {
+    Expr {
+        span: at,
+        form: ExprForm::Own,
     }
 }
 

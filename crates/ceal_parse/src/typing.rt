@@ -1,10 +1,9 @@
 // Types. A `take_..` takes one token.
 
-ghost use Rattle.std.specs.Prelude.{◌≡◌, false, IfOk};
+ghost use Rattle.std.specs.Prelude.{◌≡◌, false};
 ghost use Rattle.ceal_grammar.specs.Machine.{type_begin, type_starts, star_or, at_mod, at_type};
 
 use crate::marks::{is_sign, is_word, name, same_word};
-use ceal_base::no_memory::NoMemory;
 use ceal_base::syntax::{Ident, TypeForm};
 use ceal_grammar::state::{TypePart, Typing};
 use ceal_lex::token::{Reserved, Sign, Token, TokenKind};
@@ -34,19 +33,14 @@ pub fn start_type(token: &Token) -> Option<TypePart>
 }
 
 /// A type that has ended, and the name after it.
-fn named(form: TypeForm, token: &Token) -> Result<Option<Typing>, NoMemory>
-    ensures value { IfOk result
-        (λ next. next ≡ at_type false (TypePart.Done form) token.now.span token.now.kind) }
+fn named(form: TypeForm, token: &mut Token) -> Option<Typing>
+    ensures value { result ≡ at_type false (TypePart.Done form) token.old.span token.old.kind }
 {
     match name(token) {
-        Ok(Some(name)) => Ok(Some(Typing::Named(form, name))),
-        Ok(None) => {
+        Some(name) => Some(Typing::Named(form, name)),
+        None => {
             drop(form);
-            Ok(None)
-        }
-        Err(NoMemory) => {
-            drop(form);
-            Err(NoMemory)
+            None
         }
     }
 }
@@ -63,43 +57,39 @@ fn take_mod(token: &Token) -> Option<Typing>
     }
 }
 
-fn take_mod_int(cells: bool, token: &Token) -> Result<Option<Typing>, NoMemory>
-    ensures value { IfOk result
-        (λ next. next
-        ≡ star_or cells TypeForm.ModInt TypeForm.CellInt token.now.span token.now.kind) }
+fn take_mod_int(cells: bool, token: &mut Token) -> Option<Typing>
+    ensures value { result
+        ≡ star_or cells TypeForm.ModInt TypeForm.CellInt token.old.span token.old.kind }
 {
     if is_sign(token, Sign::Star) {
-        Ok(Some(Typing::More(TypePart::Done(TypeForm::ModInt))))
+        Some(Typing::More(TypePart::Done(TypeForm::ModInt)))
     } else if cells {
         named(TypeForm::CellInt, token)
     } else {
-        Ok(None)
+        None
     }
 }
 
-fn take_mod_named(cells: bool, shape: Ident, token: &Token) -> Result<Option<Typing>, NoMemory>
-    ensures value { IfOk result
-        (λ next. next
-        ≡ star_or cells (TypeForm.ModPtr shape)
-        (TypeForm.CellPtr shape) token.now.span token.now.kind) }
+fn take_mod_named(cells: bool, shape: Ident, token: &mut Token) -> Option<Typing>
+    ensures value { result ≡ star_or cells (TypeForm.ModPtr shape)
+        (TypeForm.CellPtr shape) token.old.span token.old.kind }
 {
     if is_sign(token, Sign::Star) {
-        Ok(Some(Typing::More(TypePart::Done(TypeForm::ModPtr(shape)))))
+        Some(Typing::More(TypePart::Done(TypeForm::ModPtr(shape))))
     } else if cells {
         named(TypeForm::CellPtr(shape), token)
     } else {
         drop(shape);
-        Ok(None)
+        None
     }
 }
 
-fn take_struct(token: &Token) -> Result<Option<Typing>, NoMemory>
-    ensures value { IfOk result
-        (λ next. next ≡ at_type false TypePart.Struct token.now.span token.now.kind) }
+fn take_struct(token: &mut Token) -> Option<Typing>
+    ensures value { result ≡ at_type false TypePart.Struct token.old.span token.old.kind }
 {
-    match name(token)? {
-        Some(name) => Ok(Some(Typing::More(TypePart::StructNamed(name)))),
-        None => Ok(None),
+    match name(token) {
+        Some(name) => Some(Typing::More(TypePart::StructNamed(name))),
+        None => None,
     }
 }
 
@@ -115,24 +105,23 @@ fn take_struct_star(shape: Ident, token: &Token) -> Option<Typing>
     }
 }
 
-fn take_mod_struct(token: &Token) -> Result<Option<Typing>, NoMemory>
-    ensures value { IfOk result
-        (λ next. next ≡ at_type false TypePart.ModStruct token.now.span token.now.kind) }
+fn take_mod_struct(token: &mut Token) -> Option<Typing>
+    ensures value { result ≡ at_type false TypePart.ModStruct token.old.span token.old.kind }
 {
-    match name(token)? {
-        Some(name) => Ok(Some(Typing::More(TypePart::ModNamed(name)))),
-        None => Ok(None),
+    match name(token) {
+        Some(name) => Some(Typing::More(TypePart::ModNamed(name))),
+        None => None,
     }
 }
 
 /// What one more token makes of a type. `cells`: a modifiable within a struct may stand here.
-pub fn take_type(cells: bool, part: TypePart, token: &Token) -> Result<Option<Typing>, NoMemory>
-    ensures value { IfOk result (λ next. next ≡ at_type cells part token.now.span token.now.kind) }
+pub fn take_type(cells: bool, part: TypePart, token: &mut Token) -> Option<Typing>
+    ensures value { result ≡ at_type cells part token.old.span token.old.kind }
 {
     match part {
         TypePart::Struct => take_struct(token),
-        TypePart::StructNamed(shape) => Ok(take_struct_star(shape, token)),
-        TypePart::Mod => Ok(take_mod(token)),
+        TypePart::StructNamed(shape) => take_struct_star(shape, token),
+        TypePart::Mod => take_mod(token),
         TypePart::ModInt => take_mod_int(cells, token),
         TypePart::ModStruct => take_mod_struct(token),
         TypePart::ModNamed(shape) => take_mod_named(cells, shape, token),

@@ -7,12 +7,12 @@ use Rattle.ceal_parse.proofs.parse.parse.Goals as goal
 
 pub returns : goal.returns
 returns c =
-    let tokens = c.args.tokens.now in
+    let tokens = c.args.tokens in
     let law = c.judges.ensures in
-    let gives : Gives c.read.result (judged (Top []) tokens) = rw c.items.ensures.value at c.read.ensures.value in
+    let gives : Gives c.read-tree.result (judged (Top []) tokens) = rw (c.as_mut_slice.ensures.value, c.into_vec-tokens.ensures.value) at c.read-tree.ensures.value in
     record {
-      found = found_from tokens (law.accepted tokens) c.read.result gives;
-      all = all_from tokens (law.complete tokens) c.read.result gives;
-      fault = fault_from tokens (law.faulty tokens) c.read.result c.requires.ended gives;
-      only = only_from tokens (law.first tokens) c.read.result gives;
+      found = found_from tokens (law.accepted tokens) c.read-tree.result gives;
+      all = all_from tokens (law.complete tokens) c.read-tree.result gives;
+      fault = fault_from tokens (law.faulty tokens) c.read-tree.result c.requires.ended gives;
+      only = only_from tokens (law.first tokens) c.read-tree.result gives;
     }

@@ -7,7 +7,7 @@ use Rattle.ceal_parse.proofs.parse.read.Given as goal
 
 abbrev pub invariant-loop-token : goal.invariant-loop-token
 invariant-loop-token l = record {
-  same : judged l.parser.state (drop l.token-index l.tokens) ≡ judged (Top []) l.tokens;
+  same : judged l.parser.state (drop l.token-index l.tokens) ≡ judged (Top []) l.initial.tokens;
   shallow : nesting_of l.parser.state ≤ 64;
   few : operators_of l.parser.state ≤ 255;
   room : Fits l.parser.state;
