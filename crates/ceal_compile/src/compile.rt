@@ -28,7 +28,7 @@ use ceal_lex::split::{one_split, split};
 use ceal_lex::token::Tokens;
 use ceal_live::live::live;
 use ceal_norm::normalise::normalise;
-use ceal_parse::parse::parse;
+use ceal_parse::parse::parse_owned;
 use ceal_types::check::check;
 use ceal_usage::check::check_usage;
 use std::alloc::Global;
@@ -85,7 +85,7 @@ fn read_tokens(alloc: Global, tokens: Tokens) -> Result<Typed, FrontError>
     ensures only { (r : ResultOf TypedRecord FaultRecord) → TokensCome tokens r
         → Gives result r }
 {
-    match parse(alloc, tokens) {
+    match parse_owned(alloc, tokens) {
         Ok(tree) => {
             let settled = settle(alloc, &tree);
             drop(tree);

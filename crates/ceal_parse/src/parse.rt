@@ -9,8 +9,10 @@ ghost use Rattle.ceal_grammar.specs.Faults.{Accepts, IsFirstFault};
 ghost use Rattle.ceal_grammar.specs.Judged.{judged};
 ghost use Rattle.ceal_grammar.specs.declared.state.State.TheVariants.{Top};
 
+use crate::copies::copied_tokens;
 use crate::parser::Parser;
 use ceal_base::fault::{Fault, FaultCode, FrontError, Span};
+use ceal_base::no_memory::NoMemory;
 use ceal_base::syntax::Tree;
 use ceal_grammar::laws::judges;
 use ceal_lex::token::{Token, Tokens};
@@ -49,7 +51,22 @@ fn read(alloc: Global, tokens: &mut [Token]) -> Result<Tree, FrontError>
 /// The time is linear in the tokens. The stack does not grow with their number: an expression's operators take their
 /// operands one in another, so 255 calls deep at most, and a statement ends at most 64 `if`s. A tree is dropped and
 /// copied by recursion, which the nesting of 64 and the 255 operators of an expression bound.
-pub fn parse(alloc: Global, tokens: Tokens) -> Result<Tree, FrontError>
+pub fn parse(alloc: Global, tokens: &Tokens) -> Result<Tree, FrontError>
+    requires ended { IsEnded tokens.now }
+    ensures found { IfOk result (λ tree. Accepts tokens.now tree) }
+    ensures all { (tree : TreeRecord) → Accepts tokens.now tree → Gives result (Ok tree) }
+    ensures fault { IfFault result (λ fault. IsFirstFault tokens.now fault) }
+    ensures only { (fault : FaultRecord) → IsFirstFault tokens.now fault
+        → Gives result (Err fault) }
+{
+    match copied_tokens(alloc, tokens.items()) {
+        Ok(own) => parse_owned(alloc, own),
+        Err(NoMemory) => Err(FrontError::Memory),
+    }
+}
+
+/// As `parse`, of tokens that are not needed any more: their names go into the tree and are not copied.
+pub fn parse_owned(alloc: Global, tokens: Tokens) -> Result<Tree, FrontError>
     requires ended { IsEnded tokens }
     ensures found { IfOk result (λ tree. Accepts tokens tree) }
     ensures all { (tree : TreeRecord) → Accepts tokens tree → Gives result (Ok tree) }

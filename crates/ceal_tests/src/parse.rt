@@ -21,7 +21,9 @@ fn tree_of<R: Abort>(rt: &R, alloc: Global, input: &[u8]) -> Tree
     holds(rt, input.len() <= 4_194_304);
     let part = split(input);
     let tokens = lex(alloc, input, &part).expect(rt, "tokens");
-    parse(alloc, tokens).expect(rt, "a tree")
+    let tree = parse(alloc, &tokens).expect(rt, "a tree");
+    drop(tokens);
+    tree
 }
 
 /// The printed program of an input, and a line `%%`.

@@ -3,7 +3,7 @@ use Rattle.ceal_base.specs.Answers.{Gives}
 use Rattle.ceal_grammar.specs.declared.state.State.TheVariants.{Top}
 use Rattle.ceal_grammar.specs.Judged.{judged}
 use Rattle.ceal_parse.proofs.Outcomes.{found_from, all_from, fault_from, only_from}
-use Rattle.ceal_parse.proofs.parse.parse.Goals as goal
+use Rattle.ceal_parse.proofs.parse.parse_owned.Goals as goal
 
 pub returns : goal.returns
 returns c =
