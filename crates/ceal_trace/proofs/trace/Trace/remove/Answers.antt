@@ -8,11 +8,6 @@ take-gone-requires-clause-row c =
     let here = there_is c.self.inside.order c.self.inside.table c.args.stamp.0 (rw (← c.self.view_is) at c.requires.here) in
     row_bound _ _ _ c.self.invariant.is_order c.self.invariant.has_nodes here
 
-pub take-gone-requires-clause-there : goal.take-gone-requires-clause-there
-take-gone-requires-clause-there c =
-    let here = there_is c.self.inside.order c.self.inside.table c.args.stamp.0 (rw (← c.self.view_is) at c.requires.here) in
-    rw (c.self.invariant.has_nodes.found _ here) refl
-
 pub take-gone-requires-clause-some : goal.take-gone-requires-clause-some
 take-gone-requires-clause-some c =
     let here = there_is c.self.inside.order c.self.inside.table c.args.stamp.0 (rw (← c.self.view_is) at c.requires.here) in
