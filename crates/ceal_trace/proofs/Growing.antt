@@ -9,7 +9,7 @@ use Rattle.ceal_trace.specs.declared.row.Row.{Row}
 use Rattle.ceal_trace.specs.declared.table.Table.{Table}
 use Rattle.ceal_trace.specs.Nodes.{Entry, stamps_in, has_node, position, node_at, steps_sum, is_plain, is_read, end_in, with_entry_after, new_entry, IsTrace, NoLooseEnd, Inserted}
 use Rattle.ceal_trace.specs.Rows.{row_of}
-use Rattle.ceal_trace.specs.Keeping.{end_of, node_of, entry_of, timeline, noted, HasNodes, KnowsEnds, Sound, PutAt, EndSet}
+use Rattle.ceal_trace.specs.Keeping.{end_of, entry_of, timeline, noted, HasNodes, KnowsEnds, Sound, PutAt, EndSet}
 use Rattle.ceal_trace.proofs.Entries.{has-read, is_some_of, stamps-after, sum-after}
 use Rattle.ceal_trace.proofs.Listings.{listed_same}
 use Rattle.ceal_trace.proofs.Shapes.{inserted_as, other_than_new, new_open, ends_same, plain_trace, plain_closed, end_now, ends_others, end_trace, end_closed}

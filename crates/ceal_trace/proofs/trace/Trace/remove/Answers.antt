@@ -1,4 +1,4 @@
-use Rattle.std.proofs.Common.{refl, sym, ◌∙◌}
+use Rattle.std.proofs.Common.{sym, ◌∙◌}
 use Rattle.ceal_trace.proofs.Keeps.{there_is, row_bound, some_count}
 use Rattle.ceal_trace.proofs.Removing.{shrank, end_row, steps_within, steps_are}
 use Rattle.ceal_trace.proofs.trace.Trace.remove.Goals as goal
