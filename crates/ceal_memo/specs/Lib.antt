@@ -4,3 +4,4 @@ pub mod Memo
 -- what its own functions say of each other
 pub mod Homes
 pub mod Numbers
+pub mod Mixing

@@ -6,7 +6,7 @@
 //!
 //! `key` is what a read is found again by, `memo` the tables with their calls; `laws` says along which orders a memo
 //! still follows. Inside, `lists` has the stamps of each key, in lists that have numbers, `home` the list of each stamp, by
-//! which an entry is taken out without an order or a key, and `spares` the lists that have become empty.
+//! which an entry is taken out without an order or a key, `spares` the lists that have become empty, and `mixer` hashes keys.
 #![tactic(auto)]
 
 mod home;
@@ -14,4 +14,5 @@ pub mod key;
 pub mod laws;
 mod lists;
 pub mod memo;
+mod mixer;
 mod spares;

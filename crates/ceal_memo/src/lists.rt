@@ -8,6 +8,7 @@ ghost use Rattle.ceal_order.specs.Rising.{IsRising, IsFirstAfter};
 ghost use Rattle.ceal_memo.specs.Lists.{stamps_at, with_stamp, NoneBetween};
 ghost use Rattle.ceal_memo.specs.Numbers.{list_at, keys_in, IsEntered, IsEmptyAt, IsFound};
 
+use crate::mixer::Mixer;
 use crate::spares::Spares;
 use ceal_base::no_memory::NoMemory;
 use ceal_order::order::Order;
@@ -15,7 +16,7 @@ use ceal_order::rising::Rising;
 use ceal_order::stamp::Stamp;
 use indexmap::IndexMap;
 use std::alloc::Global;
-use std::hash::Hash;
+use std::hash::{BuildHasherDefault, Hash};
 use std::marker::Model;
 
 // There are fewer lists than this.
@@ -25,7 +26,7 @@ const MOST_LISTS: usize = 4294967295;
 /// place of a list that has become empty go to the next new key.
 #[derive(Drop)]
 pub struct Lists<K: Eq + Hash> {
-    by_key: IndexMap<K, Rising>,
+    by_key: IndexMap<K, Rising, BuildHasherDefault<Mixer>>,
     spares: Spares,
 }
 
@@ -45,7 +46,7 @@ impl<K: Eq + Hash + Drop> Lists<K> {
         ensures { result ≡ [] }
     {
         Lists {
-            by_key: IndexMap::new(alloc),
+            by_key: IndexMap::with_hasher(alloc, BuildHasherDefault::new()),
             spares: Spares::new(alloc),
         }
     }
@@ -112,7 +113,7 @@ impl<K: Eq + Hash + Drop> Lists<K> {
 
 // Puts a stamp into the list with a number.
 fn insert_at<K: Eq + Hash>(
-    lists: &mut IndexMap<K, Rising>,
+    lists: &mut IndexMap<K, Rising, BuildHasherDefault<Mixer>>,
     number: usize,
     order: &Order,
     stamp: Stamp,
@@ -135,7 +136,11 @@ fn insert_at<K: Eq + Hash>(
 }
 
 // Takes a stamp out of the list with a number, and says whether that list is there and empty now.
-fn take_at<K: Eq + Hash>(lists: &mut IndexMap<K, Rising>, number: usize, stamp: Stamp) -> bool
+fn take_at<K: Eq + Hash>(
+    lists: &mut IndexMap<K, Rising, BuildHasherDefault<Mixer>>,
+    number: usize,
+    stamp: Stamp,
+) -> bool
     requires once { Distinct (list_at lists.old.entries number) }
     ensures { lists.new.entries
         ≡ set_value_at lists.old.entries number
@@ -159,7 +164,11 @@ fn alone(alloc: Global, order: &Order, stamp: Stamp) -> Result<Rising, NoMemory>
 }
 
 // Puts a list in the place of the one with a number.
-fn put_at<K: Eq + Hash>(lists: &mut IndexMap<K, Rising>, number: usize, list: Rising)
+fn put_at<K: Eq + Hash>(
+    lists: &mut IndexMap<K, Rising, BuildHasherDefault<Mixer>>,
+    number: usize,
+    list: Rising,
+)
     ensures { lists.new.entries ≡ set_value_at lists.old.entries number list }
 {
     if let Some(place) = lists.get_index_mut(number) {
@@ -170,7 +179,7 @@ fn put_at<K: Eq + Hash>(lists: &mut IndexMap<K, Rising>, number: usize, list: Ri
 // Enters a list under a key that has none, behind the others. Where the key has one, nothing has changed: it gives the number of
 // that list. A key is hashed once.
 fn enter<K: Eq + Hash + Drop>(
-    lists: &mut IndexMap<K, Rising>,
+    lists: &mut IndexMap<K, Rising, BuildHasherDefault<Mixer>>,
     key: K,
     list: Rising,
 ) -> Result<Option<usize>, NoMemory>
@@ -194,7 +203,10 @@ fn enter<K: Eq + Hash + Drop>(
 }
 
 // What was entered last goes into the place of a list that is empty, if one is known. It says where it is then.
-fn settle<K: Eq + Hash + Drop>(lists: &mut IndexMap<K, Rising>, spares: &mut Spares) -> u32
+fn settle<K: Eq + Hash + Drop>(
+    lists: &mut IndexMap<K, Rising, BuildHasherDefault<Mixer>>,
+    spares: &mut Spares,
+) -> u32
     requires some { 0 < length lists.old.entries }
     requires few { length lists.old.entries < 2 ^ 32 }
     ensures entered { (before : List (K × List ℕ)) (key : K) (list : List ℕ)
@@ -211,7 +223,10 @@ fn settle<K: Eq + Hash + Drop>(lists: &mut IndexMap<K, Rising>, spares: &mut Spa
 }
 
 // The number of a list that is empty, if one is known.
-fn empty_list<K: Eq + Hash>(lists: &IndexMap<K, Rising>, spares: &mut Spares) -> Option<u32>
+fn empty_list<K: Eq + Hash>(
+    lists: &IndexMap<K, Rising, BuildHasherDefault<Mixer>>,
+    spares: &mut Spares,
+) -> Option<u32>
     ensures { IfSome result (λ n. IsEmptyAt lists.now.entries n) }
 {
     for _ in 0..spares.len() {

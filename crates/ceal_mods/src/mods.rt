@@ -6,7 +6,7 @@ ghost use Rattle.ceal_base.specs.contracts.word.PlacePartialEq.TheImpl.{ghosts};
 ghost use Rattle.ceal_base.specs.declared.word.Place.{Place as PlaceOf};
 ghost use Rattle.ceal_order.specs.Stamps.{is_in};
 ghost use Rattle.ceal_mods.specs.Writes.{stamps_of};
-ghost use Rattle.ceal_mods.specs.Cell.{value_before, latest_value, with_base, with_write, without_write, with_read, without_read, Sees, IsAffected};
+ghost use Rattle.ceal_mods.specs.Cell.{untouched, value_before, latest_value, with_base, with_write, without_write, with_read, without_read, Sees, IsAffected};
 ghost use Rattle.ceal_mods.specs.Index.{where_from, slot_of, Indexes};
 ghost use Rattle.ceal_mods.specs.Mods.{cell_of, HasCell, IsUntouched, Changes, Follows};
 ghost use Rattle.ceal_mods.specs.Slots.{no_slot};
@@ -78,8 +78,7 @@ impl Mods {
             set_base_at(&mut self.cells, slot, value);
             return Ok(());
         }
-        let cell = Cell::new(self.alloc, value);
-        enter(&mut self.cells, &mut self.index, place, cell)?;
+        enter_base(&mut self.cells, &mut self.index, place, value)?;
         Ok(())
     }
 
@@ -247,6 +246,27 @@ fn enter(
             Err(error)
         }
     }
+}
+
+// Gives a place that has no cell one with this base. Most cells begin so; it is made when it has its slot, so that it is
+// moved once.
+fn enter_base(
+    cells: &mut Vec<(Place, Cell)>,
+    index: &mut Index,
+    place: Place,
+    value: Word,
+) -> Result<(), NoMemory>
+    requires indexed { Indexes index.old cells.old.items }
+    requires absent { where_from 0 place cells.old.items ≡ no_slot }
+    ensures ok { OnOk result (cells.new.items
+        ≡ cells.old.items ++ (place, with_base value untouched) ∷ []) }
+    ensures err { OnErr result (cells.new.items ≡ cells.old.items) }
+    ensures indexed { Indexes index.new cells.new.items }
+{
+    make_slot(cells, index, place)?;
+    let cell = Cell::new(*cells.allocator(), value);
+    cells.push_reserved((place, cell));
+    Ok(())
 }
 
 // Makes room for one more cell, to which the index then leads from a place that has none.

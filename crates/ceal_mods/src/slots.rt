@@ -42,15 +42,19 @@ impl Row {
         }
     }
 
-    /// Sets a slot; the row grows up to it.
+    /// Sets a slot; the row grows up to it. Numbers mostly come one after another, so the next one is put at the end.
     pub fn set(&mut self, at: u32, slot: u32) -> Result<(), NoMemory>
         ensures here { OnOk result (slot_at self.new at ≡ slot) }
         ensures others { (n : ℕ) → n ≢ at → slot_at self.new n ≡ slot_at self.old n }
         ensures err { OnErr result (self.new ≡ self.old) }
     {
-        let count = at as usize + 1;
-        if self.slots.len() < count {
-            self.slots.resize(count, NO_SLOT)?;
+        let len = self.slots.len();
+        if at as usize == len {
+            self.slots.push(slot)?;
+            return Ok(());
+        }
+        if len < at as usize {
+            self.slots.resize(at as usize + 1, NO_SLOT)?;
         }
         self.slots[at as usize] = slot;
         Ok(())

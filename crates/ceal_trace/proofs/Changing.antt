@@ -1,6 +1,6 @@
 -- A trace with a node changed, and one with more room.
 use Rattle.std.proofs.Common.{◌≡◌, ◌≢◌, ℕ, inl, inr, ◌⊎◌, ◌+◌, ◌-◌, ◌*◌, ◌<◌, ◌≤◌, ◌^◌, max, true, List, [], ◌∷◌, length, refl, sym, ap, subst, ◌∙◌, arith, Option, Some, None}
-use Rattle.std.specs.Prelude.{unwrap_or, option_map, Result, Ok, Err, OnOk, OnErr}
+use Rattle.std.specs.Prelude.{option_map, Result, Ok, Err, OnOk, OnErr}
 use Rattle.std.proofs.lemmas.Bool.Decides.{eqb_tells}
 use Rattle.ceal_base.specs.declared.word.Word.{Word}
 use Rattle.ceal_order.specs.Stamps.{Listing, IsOrder, is_in}
@@ -10,12 +10,12 @@ use Rattle.ceal_trace.specs.declared.row.Row.{Row}
 use Rattle.ceal_trace.specs.declared.table.Table.{Table}
 use Rattle.ceal_trace.specs.Nodes.{Entry, stamps_in, entry_at, held_by, steps_on, node_at, steps_at, steps_sum, is_read, ends, changed_at, valued, value_set, steps_set, with_value, with_steps, IsTrace, NoLooseEnd, SameBut}
 use Rattle.ceal_trace.specs.Rows.{row_of}
-use Rattle.ceal_trace.specs.Keeping.{kept, steps_of, end_of, node_of, entry_of, listed, timeline, noted, HasNodes, KnowsEnds, Sound, Wider, ValueSet, StepsSet}
+use Rattle.ceal_trace.specs.Keeping.{steps_of, end_of, node_of, entry_of, listed, timeline, noted, HasNodes, KnowsEnds, Sound, Wider, ValueSet, StepsSet}
 use Rattle.ceal_trace.proofs.Entries.{has-read, stamps-changed, entry-changed, entry-unchanged, sum-changed, ends-changed}
 use Rattle.ceal_trace.proofs.Stamped.{in_head, in_tail}
 use Rattle.ceal_trace.proofs.Listings.{listed_same, listed_changed}
 use Rattle.ceal_trace.proofs.Shapes.{changed_closed, changed_trace}
-use Rattle.ceal_trace.proofs.Keeps.{entry_eq, found_is, stamps_are, there_is, is_there, entry_found}
+use Rattle.ceal_trace.proofs.Keeps.{entry_eq, stamps_are, there_is, is_there, entry_found}
 use Rattle.ceal_trace.proofs.Removing.{steps_are, steps_within}
 
 -- ---- values
@@ -133,28 +133,17 @@ module _ (order : Listing) (t t' : Table) (s steps : ℕ) (value : Word)
   read_here : is_in s order.stamps ≡ true
   read_here = there_is order t s (has-read s (timeline order t).nodes reads)
 
-  kept_same : (u : ℕ) → is_in u order.stamps ≡ true → u ≢ s → kept t' u ≡ kept t u
-  kept_same u found other = set.others u other
-
-  kept_now : kept t' s ≡ Some (valued value (node_of t s))
-  kept_now = set.changed ∙ ap (λ (o : Option Node). option_map (valued value) o) (sound.has_nodes.found s read_here)
-
   value_has : HasNodes order t'
   value_has = record {
     rows = let rows = sound.has_nodes.rows in let long = set.long in omega arith;
     count = set.count ∙ sound.has_nodes.count;
-    found = λ u found. elim (eqb_tells u s) [
-      | inl p ↦ subst (λ (k : ℕ). kept t' k ≡ Some (node_of t' k)) (sym p.1) (found_is t' s (valued value (node_of t s)) kept_now)
-      | inr p ↦ found_is t' u (node_of t u) (kept_same u found p.1 ∙ sound.has_nodes.found u found)
-    ];
     low = λ u found. let low = sound.has_nodes.low u found in let same = set.steps u in omega arith;
   }
 
   value_entry : entry_of t' s ≡ value_set value (entry_of t s)
   value_entry =
-      let node : node_of t' s ≡ valued value (node_of t s) = ap (λ (o : Option Node). unwrap_or o Root) kept_now in
       let count : steps_of t' s ≡ steps_of t s = set.steps s in
-      ap (λ (n : Node). record { stamp = s; node = n; steps = steps_of t' s }) node ∙ ap (λ (k : ℕ). record { stamp = s; node = valued value (node_of t s); steps = k }) count
+      ap (λ (n : Node). record { stamp = s; node = n; steps = steps_of t' s }) set.changed ∙ ap (λ (k : ℕ). record { stamp = s; node = valued value (node_of t s); steps = k }) count
 
   abbrev before : List Entry
   before = (timeline order t).nodes
@@ -170,7 +159,7 @@ module _ (order : Listing) (t t' : Table) (s steps : ℕ) (value : Word)
 
   pub value_changed : Changed order t t' s steps (value_set value)
   value_changed = changed_as order t t' s steps steps (value_set value) (λ e. refl) (λ read e. value_ends value read e.node) sound read_here value_has value_entry
-      (λ u found other. entry_eq t t' u (kept_same u found other) (set.steps u))
+      (λ u found other. entry_eq t t' u (set.others u other) (set.steps u))
       set.long set.ends
       (sound.sum ∙ value_sum)
       (inr (ap is_read value_node ∙ (option_reads value (node_at s before) ∙ reads), reads))
@@ -200,14 +189,10 @@ module _ (order : Listing) (t t' : Table) (s n steps was_on now_on : ℕ)
     (small : n < 2 ^ 32)
     (set : StepsSet s n t t')
     (was_is : was_on ≡ steps_of t s) (now_is : now_on ≡ n) where
-  kept_still : (u : ℕ) → kept t' u ≡ kept t u
-  kept_still u = set.nodes u
-
   steps_has : HasNodes order t'
   steps_has = record {
     rows = let rows = sound.has_nodes.rows in let long = set.long in omega arith;
     count = set.count ∙ sound.has_nodes.count;
-    found = λ u found. found_is t' u (node_of t u) (kept_still u ∙ sound.has_nodes.found u found);
     low = λ u found. elim (eqb_tells u s) [
       | inl p ↦ let same : steps_of t' u ≡ n = ap (λ (k : ℕ). steps_of t' k) p.1 ∙ set.changed in omega arith
       | inr p ↦ let low = sound.has_nodes.low u found in let same = set.others u p.1 in omega arith
@@ -216,8 +201,7 @@ module _ (order : Listing) (t t' : Table) (s n steps was_on now_on : ℕ)
 
   steps_entry : entry_of t' s ≡ steps_set n (entry_of t s)
   steps_entry =
-      let node : node_of t' s ≡ node_of t s = ap (λ (o : Option Node). unwrap_or o Root) (kept_still s) in
-      ap (λ (m : Node). record { stamp = s; node = m; steps = steps_of t' s }) node ∙ ap (λ (k : ℕ). record { stamp = s; node = node_of t s; steps = k }) set.changed
+      ap (λ (m : Node). record { stamp = s; node = m; steps = steps_of t' s }) (set.nodes s) ∙ ap (λ (k : ℕ). record { stamp = s; node = node_of t s; steps = k }) set.changed
 
   abbrev earlier : List Entry
   earlier = (timeline order t).nodes
@@ -230,7 +214,7 @@ module _ (order : Listing) (t t' : Table) (s n steps was_on now_on : ℕ)
 
   pub steps_changed : Changed order t t' s (steps - was_on + now_on) (steps_set n)
   steps_changed = changed_as order t t' s steps (steps - was_on + now_on) (steps_set n) (λ e. refl) (λ read e. refl) sound here steps_has steps_entry
-      (λ u found other. entry_eq t t' u (kept_still u) (set.others u other))
+      (λ u found other. entry_eq t t' u (set.nodes u) (set.others u other))
       set.long set.ends
       (let sum = sum-changed s (steps_set n) (λ e. refl) earlier (is_there order t s here) in
       let was = sound.sum in
@@ -265,7 +249,7 @@ widened order order' t t' steps sound stamps whole wider rows =
     let was_in : (u : ℕ) → is_in u order'.stamps ≡ true → is_in u order.stamps ≡ true = λ u found. ap (λ (l : List ℕ). is_in u l) (sym stamps) ∙ found in
     let row : (u : ℕ) → is_in u order.stamps ≡ true → row_of t'.rows.items u ≡ row_of t.rows.items u =
     λ u found. wider.rows u in
-    let same : (u : ℕ) → is_in u order.stamps ≡ true → kept t' u ≡ kept t u =
+    let same : (u : ℕ) → is_in u order.stamps ≡ true → node_of t' u ≡ node_of t u =
     λ u found. ap (λ (r : Row). r.node) (row u found) in
     let nodes : (timeline order' t').nodes ≡ (timeline order t).nodes =
     ap (λ (l : List ℕ). listed (entry_of t') l) stamps
@@ -276,7 +260,6 @@ widened order order' t t' steps sound stamps whole wider rows =
     let has : HasNodes order' t' = record {
       rows = subst (λ (l : List ℕ). length l + order'.spare ≤ length t'.rows.items) (sym stamps) rows;
       count = wider.count ∙ (sound.has_nodes.count ∙ ap (λ (l : List ℕ). length l) (sym stamps));
-      found = λ u found. let was = was_in u found in found_is t' u (node_of t u) (same u was ∙ sound.has_nodes.found u was);
       low = λ u found. let was = was_in u found in subst (λ (r : Row). r.steps < 2 ^ 32) (sym (row u was)) (sound.has_nodes.low u was);
     } in
     let knows : KnowsEnds t' es = record {

@@ -9,11 +9,11 @@ use Rattle.ceal_trace.specs.declared.row.Row.{Row}
 use Rattle.ceal_trace.specs.declared.table.Table.{Table}
 use Rattle.ceal_trace.specs.Nodes.{Entry, stamps_in, has_node, position, node_at, steps_sum, is_plain, is_read, end_in, with_entry_after, new_entry, IsTrace, NoLooseEnd, Inserted}
 use Rattle.ceal_trace.specs.Rows.{row_of}
-use Rattle.ceal_trace.specs.Keeping.{kept, end_of, node_of, entry_of, timeline, noted, HasNodes, KnowsEnds, Sound, PutAt, EndSet}
+use Rattle.ceal_trace.specs.Keeping.{end_of, entry_of, timeline, noted, HasNodes, KnowsEnds, Sound, PutAt, EndSet}
 use Rattle.ceal_trace.proofs.Entries.{has-read, is_some_of, stamps-after, sum-after}
 use Rattle.ceal_trace.proofs.Listings.{listed_same}
 use Rattle.ceal_trace.proofs.Shapes.{inserted_as, other_than_new, new_open, ends_same, plain_trace, plain_closed, end_now, ends_others, end_trace, end_closed}
-use Rattle.ceal_trace.proofs.Keeps.{entry_eq, found_is, stamps_are, there_is, is_there, noted_stamp, row_bound, nodes_put, has_put}
+use Rattle.ceal_trace.proofs.Keeps.{entry_eq, stamps_are, there_is, is_there, noted_stamp, row_bound, nodes_put, has_put}
 
 module _ (order order' : Listing) (t : Table) (s f : ℕ) (node : Node)
     (here : is_in s order.stamps ≡ true)
@@ -156,11 +156,8 @@ module _ (order order' : Listing) (t t' : Table) (s f steps : ℕ) (node : Node)
     other_ends : (u : ℕ) → u ≢ read.0 → end_in u now ≡ end_in u es
     other_ends u other = ends_others es order.spare order'.spare s f node sound.is_trace here_es one_es order_es closed read is reads unfinished up after_es u other
 
-    kept_set : (u : ℕ) → kept t'' u ≡ kept t' u
-    kept_set u = set.nodes u
-
     entries_set : (timeline order' t'').nodes ≡ (timeline order' t').nodes
-    entries_set = listed_same (entry_of t') (entry_of t'') order'.stamps (λ u found. entry_eq t' t'' u (kept_set u) (set.steps u))
+    entries_set = listed_same (entry_of t') (entry_of t'') order'.stamps (λ u found. entry_eq t' t'' u (set.nodes u) (set.steps u))
 
     nodes_set : (timeline order' t'').nodes ≡ now
     nodes_set = entries_set ∙ nodes_are
@@ -169,7 +166,6 @@ module _ (order order' : Listing) (t t' : Table) (s f steps : ℕ) (node : Node)
     has_set = record {
       rows = let rows = has.rows in let long = set.long in omega arith;
       count = set.count ∙ has.count;
-      found = λ u there. found_is t'' u (node_of t' u) (kept_set u ∙ has.found u there);
       low = λ u there. let low = has.low u there in let same = set.steps u in omega arith;
     }
 

@@ -1,31 +1,26 @@
 -- A table keeps a trace while nodes are put into it and taken out.
-use Rattle.std.proofs.Common.{◌≡◌, ◌≢◌, ℕ, suc, inl, inr, ◌+◌, ◌<◌, ◌^◌, true, List, [], ◌∷◌, length, refl, sym, ap, subst, ◌∙◌, arith, Option, Some}
-use Rattle.std.specs.Prelude.{unwrap_or}
+use Rattle.std.proofs.Common.{◌≡◌, ◌≢◌, ℕ, suc, inl, inr, ◌+◌, ◌<◌, ◌^◌, true, List, [], ◌∷◌, length, refl, sym, ap, ◌∙◌, arith, Some}
 use Rattle.std.proofs.lemmas.Bool.Decides.{eqb_tells}
 use Rattle.ceal_order.specs.Stamps.{Listing, IsOrder, OneMore, is_in, with_after}
 use Rattle.ceal_trace.specs.declared.node.Node.{Node}
-use Rattle.ceal_trace.specs.declared.node.Node.TheVariants.{Root}
 use Rattle.ceal_trace.specs.declared.row.Row.{Row}
 use Rattle.ceal_trace.specs.declared.table.Table.{Table}
 use Rattle.ceal_trace.specs.Nodes.{Entry, stamps_in, has_node, entry_at, with_entry_after, new_entry}
 use Rattle.ceal_trace.specs.Rows.{row_of, no_stamp}
-use Rattle.ceal_trace.specs.Keeping.{kept, steps_of, node_of, entry_of, listed, timeline, noted, HasNodes, PutAt}
+use Rattle.ceal_trace.specs.Keeping.{steps_of, node_of, entry_of, listed, timeline, noted, HasNodes, PutAt}
 use Rattle.ceal_trace.proofs.Stamped.{apart, below_of, length-after}
 use Rattle.ceal_trace.proofs.Listings.{stamps_listed, entry_listed, listed_after}
 
 -- ---- what a table keeps of a stamp
 
-abbrev made : ℕ → Option Node → ℕ → Entry
-made s node steps = record { stamp = s; node = unwrap_or node Root; steps = steps }
+abbrev made : ℕ → Node → ℕ → Entry
+made s node steps = record { stamp = s; node = node; steps = steps }
 
-pub entry_eq : (t t' : Table) (s : ℕ) → kept t' s ≡ kept t s → steps_of t' s ≡ steps_of t s → entry_of t' s ≡ entry_of t s
-entry_eq t t' s same_node same_steps = ap (λ (o : Option Node). made s o (steps_of t' s)) same_node ∙ ap (λ (k : ℕ). made s (kept t s) k) same_steps
+pub entry_eq : (t t' : Table) (s : ℕ) → node_of t' s ≡ node_of t s → steps_of t' s ≡ steps_of t s → entry_of t' s ≡ entry_of t s
+entry_eq t t' s same_node same_steps = ap (λ (n : Node). made s n (steps_of t' s)) same_node ∙ ap (λ (k : ℕ). made s (node_of t s) k) same_steps
 
-pub entry_is : (t : Table) (s : ℕ) (node : Node) → kept t s ≡ Some node → steps_of t s ≡ 0 → entry_of t s ≡ new_entry s node
-entry_is t s node is none = ap (λ (o : Option Node). made s o (steps_of t s)) is ∙ ap (λ (k : ℕ). made s (Some node) k) none
-
-pub found_is : (t : Table) (s : ℕ) (node : Node) → kept t s ≡ Some node → kept t s ≡ Some (node_of t s)
-found_is t s node is = is ∙ ap (λ (o : Option Node). Some (unwrap_or o Root)) (sym is)
+pub entry_is : (t : Table) (s : ℕ) (node : Node) → node_of t s ≡ node → steps_of t s ≡ 0 → entry_of t s ≡ new_entry s node
+entry_is t s node is none = ap (λ (n : Node). made s n (steps_of t s)) is ∙ ap (λ (k : ℕ). made s node k) none
 
 module _ (order : Listing) (t : Table) where
   pub stamps_are : stamps_in (timeline order t).nodes ≡ order.stamps
@@ -93,14 +88,14 @@ module _ (order order' : Listing) (t t' : Table) (s f : ℕ) (node : Node)
   old_apart : (u : ℕ) → is_in u order.stamps ≡ true → u ≢ f
   old_apart u found = apart u f order.stamps found one.absent
 
-  kept_put : (u : ℕ) → is_in u order.stamps ≡ true → kept t' u ≡ kept t u
-  kept_put u found = ap (λ (r : Row). r.node) (put.rows u (old_apart u found))
+  node_put : (u : ℕ) → is_in u order.stamps ≡ true → node_of t' u ≡ node_of t u
+  node_put u found = ap (λ (r : Row). r.node) (put.rows u (old_apart u found))
 
   row_put : (u : ℕ) → is_in u order.stamps ≡ true → row_of t'.rows.items u ≡ row_of t.rows.items u
   row_put u found = put.rows u (old_apart u found)
 
   entry_put : (u : ℕ) → is_in u order.stamps ≡ true → entry_of t' u ≡ entry_of t u
-  entry_put u found = entry_eq t t' u (kept_put u found) (ap (λ (r : Row). r.steps) (row_put u found))
+  entry_put u found = entry_eq t t' u (node_put u found) (ap (λ (r : Row). r.steps) (row_put u found))
 
   pub nodes_put : (timeline order' t').nodes ≡ with_entry_after s (new_entry f node) (timeline order t).nodes
   nodes_put =
@@ -115,10 +110,6 @@ module _ (order order' : Listing) (t t' : Table) (s f : ℕ) (node : Node)
   has_put = record {
     rows = let long = put.long in let rows = has.rows in omega (arith, longer, spare, long, rows);
     count = let more = put.count in let count = has.count in omega (arith, longer, more, count);
-    found = λ u found. elim (eqb_tells u f) [
-      | inl p ↦ found_is t' u node (subst (λ (k : ℕ). kept t' k ≡ Some node) (sym p.1) put.there)
-      | inr p ↦ let old = one.only u found p.1 in found_is t' u (node_of t u) (kept_put u old ∙ has.found u old)
-    ];
     low = λ u found. elim (eqb_tells u f) [
       | inl p ↦ let none : steps_of t' u ≡ 0 = ap (λ (k : ℕ). steps_of t' k) p.1 ∙ put.steps in omega arith
       | inr p ↦

@@ -5,12 +5,12 @@ use Rattle.ceal_order.specs.Stamps.{Listing, IsOrder, OneMore, is_in, head_of, w
 use Rattle.ceal_trace.specs.declared.node.Node.{Node}
 use Rattle.ceal_trace.specs.declared.table.Table.{Table}
 use Rattle.ceal_trace.specs.Nodes.{Entry, stamps_in, held_by, steps_on, node_at, steps_at, steps_sum, ends, end_in, without_entry, IsTrace, NoLooseEnd, LooseEndOf, OneMoreNode}
-use Rattle.ceal_trace.specs.Keeping.{kept, steps_of, node_of, entry_of, listed, timeline, noted, HasNodes, KnowsEnds, Sound, TakenFrom}
+use Rattle.ceal_trace.specs.Keeping.{steps_of, node_of, entry_of, listed, timeline, noted, HasNodes, KnowsEnds, Sound, TakenFrom}
 use Rattle.ceal_trace.proofs.Stamped.{apart, length-without}
 use Rattle.ceal_trace.proofs.Entries.{ends_is, stamps-without, sum-without}
 use Rattle.ceal_trace.proofs.Listings.{listed_without}
 use Rattle.ceal_trace.proofs.Shapes.{one_less_node, ends_but, end_gone, end_left, less_trace, less_loose, less_closed, less_still, less_mended}
-use Rattle.ceal_trace.proofs.Keeps.{entry_eq, found_is, stamps_are, is_there, entry_found}
+use Rattle.ceal_trace.proofs.Keeps.{entry_eq, stamps_are, is_there, entry_found}
 
 -- the node that a table keeps is that of the trace
 pub held_is : (order : Listing) (t : Table) (s : ℕ) → is_in s order.stamps ≡ true → node_at s (timeline order t).nodes ≡ Some (node_of t s)
@@ -21,10 +21,9 @@ steps_are order t s found = ap steps_on (entry_found order t s found)
 
 -- the read that a node ends has a row
 pub end_row : (order : Listing) (t : Table) (s steps : ℕ) → Sound order t steps → is_in s order.stamps ≡ true
-    → (read : ℕ) (node : Node) → kept t s ≡ Some node → ends read node ≡ true → read < length t.rows.items
-end_row order t s steps sound found read node is does =
-    let held : node_at s (timeline order t).nodes ≡ Some node = held_is order t s found ∙ (sym (sound.has_nodes.found s found) ∙ is) in
-    let end = sound.is_trace.one_end s (record { 0 = read }) (held ∙ ap (λ (n : Node). Some n) (ends_is read node does)) in
+    → (read : ℕ) → ends read (node_of t s) ≡ true → read < length t.rows.items
+end_row order t s steps sound found read does =
+    let end = sound.is_trace.one_end s (record { 0 = read }) (held_is order t s found ∙ ap (λ (n : Node). Some n) (ends_is read (node_of t s) does)) in
     (sound.knows_ends.end_noted s read end).0
 
 -- what a call says that took the node at s out
@@ -65,15 +64,12 @@ module _ (order order' : Listing) (t t' : Table) (s steps : ℕ) (node : Node)
   order_es = subst (λ (l : List ℕ). IsOrder (record { stamps = l; spare = order'.spare })) (sym stamps_rest) whole
 
   held : node_at s es ≡ Some node
-  held = held_is order t s here ∙ (sym (sound.has_nodes.found s here) ∙ taken.was)
-
-  kept_taken : (u : ℕ) → is_in u order.stamps ≡ true → u ≢ s → kept t' u ≡ kept t u
-  kept_taken u found other = taken.others u other
+  held = held_is order t s here ∙ ap (λ (n : Node). Some n) taken.was
 
   nodes_are : (timeline order' t').nodes ≡ rest
   nodes_are =
       ap (λ (l : List ℕ). listed (entry_of t') l) stamps
-      ∙ listed_without (entry_of t) (entry_of t') (λ k. refl) s order.stamps sound.is_order.distinct (λ u found other. entry_eq t t' u (kept_taken u found other) (taken.steps u))
+      ∙ listed_without (entry_of t) (entry_of t') (λ k. refl) s order.stamps sound.is_order.distinct (λ u found other. entry_eq t t' u (taken.others u other) (taken.steps u))
 
   shorter : suc (length order'.stamps) ≡ length order.stamps
   shorter = ap (λ (l : List ℕ). suc (length l)) stamps ∙ length-without s order.stamps here
@@ -86,9 +82,6 @@ module _ (order order' : Listing) (t t' : Table) (s steps : ℕ) (node : Node)
   has = record {
     rows = let rows = sound.has_nodes.rows in let long = taken.long in omega (arith, shorter, spare);
     count = let less = taken.count in let count = sound.has_nodes.count in omega (arith, shorter);
-    found = λ u found.
-        let was = was_there u found in
-        found_is t' u (node_of t u) (kept_taken u was.0 was.1 ∙ sound.has_nodes.found u was.0);
     low = λ u found. let low = sound.has_nodes.low u (was_there u found).0 in let same = taken.steps u in omega arith;
   }
 

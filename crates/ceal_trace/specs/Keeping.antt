@@ -1,9 +1,8 @@
 -- How a table keeps the nodes of a trace.
-use Rattle.std.specs.Prelude.{◌≡◌, ◌≢◌, ◌<◌, ◌≤◌, ◌^◌, ℕ, ◌+◌, List, [], ◌∷◌, length, Option, None, Some, option_map, unwrap_or, true, false, ◌==◌, if◌then◌else◌}
+use Rattle.std.specs.Prelude.{◌≡◌, ◌≢◌, ◌<◌, ◌≤◌, ◌^◌, ℕ, ◌+◌, List, [], ◌∷◌, length, Option, None, Some, true, false, ◌==◌, if◌then◌else◌}
 use Rattle.ceal_base.specs.declared.word.Word.{Word}
 use Rattle.ceal_order.specs.Stamps.{Listing, IsOrder, is_in}
 use Rattle.ceal_trace.specs.declared.node.Node.{Node}
-use Rattle.ceal_trace.specs.declared.node.Node.TheVariants.{Root}
 use Rattle.ceal_trace.specs.declared.table.Table.{Table}
 use Rattle.ceal_trace.specs.Nodes.{Entry, Timeline, IsTrace, has_node, end_in, steps_sum, ends, valued}
 use Rattle.ceal_trace.specs.Rows.{row_of, no_stamp}
@@ -14,12 +13,9 @@ steps_of t s = (row_of t.rows.items s).steps
 abbrev pub end_of : Table → ℕ → ℕ
 end_of t s = (row_of t.rows.items s).end
 
--- the node that is kept of a stamp
-abbrev pub kept : Table → ℕ → Option Node
-kept t s = (row_of t.rows.items s).node
-
+-- the node of a stamp; the root, where there is none
 abbrev pub node_of : Table → ℕ → Node
-node_of t s = unwrap_or (kept t s) Root
+node_of t s = (row_of t.rows.items s).node
 
 abbrev pub entry_of : Table → ℕ → Entry
 entry_of t s = record { stamp = s; node = node_of t s; steps = steps_of t s }
@@ -37,11 +33,10 @@ timeline order t = record { nodes = listed (entry_of t) order.stamps; spare = or
 abbrev pub noted : ℕ → Option ℕ
 noted s = if s == no_stamp then None else Some s
 
--- the table has a node for each stamp, and room for each spare one
+-- the table has a row for each stamp, and for each spare one
 pub record HasNodes (order : Listing) (t : Table) : Type 0 where
   pub rows : length order.stamps + order.spare ≤ length t.rows.items
   pub count : t.count ≡ length order.stamps
-  pub found : (s : ℕ) → is_in s order.stamps ≡ true → kept t s ≡ Some (node_of t s)
   pub low : (s : ℕ) → is_in s order.stamps ≡ true → steps_of t s < 2 ^ 32
 
 -- the table knows the end of each read
@@ -59,7 +54,7 @@ pub record Sound (order : Listing) (t : Table) (steps : ℕ) : Type 0 where
 
 -- a node was put at a stamp
 pub record PutAt (s : ℕ) (node : Node) (old new : Table) : Type 0 where
-  pub there : kept new s ≡ Some node
+  pub there : node_of new s ≡ node
   pub steps : steps_of new s ≡ 0
   pub end : end_of new s ≡ no_stamp
   pub rows : (u : ℕ) → u ≢ s → row_of new.rows.items u ≡ row_of old.rows.items u
@@ -68,8 +63,8 @@ pub record PutAt (s : ℕ) (node : Node) (old new : Table) : Type 0 where
 
 -- the node at a stamp was taken out, and the read that it ends is not finished any more
 pub record TakenFrom (s : ℕ) (node : Node) (old new : Table) : Type 0 where
-  pub was : kept old s ≡ Some node
-  pub others : (u : ℕ) → u ≢ s → kept new u ≡ kept old u
+  pub was : node_of old s ≡ node
+  pub others : (u : ℕ) → u ≢ s → node_of new u ≡ node_of old u
   pub steps : (u : ℕ) → steps_of new u ≡ steps_of old u
   pub opened : (u : ℕ) → ends u node ≡ true → end_of new u ≡ no_stamp
   pub ends : (u : ℕ) → ends u node ≡ false → end_of new u ≡ end_of old u
@@ -84,8 +79,8 @@ pub record Wider (old new : Table) : Type 0 where
 
 -- the read at a stamp has another value
 pub record ValueSet (s : ℕ) (value : Word) (old new : Table) : Type 0 where
-  pub changed : kept new s ≡ option_map (valued value) (kept old s)
-  pub others : (u : ℕ) → u ≢ s → kept new u ≡ kept old u
+  pub changed : node_of new s ≡ valued value (node_of old s)
+  pub others : (u : ℕ) → u ≢ s → node_of new u ≡ node_of old u
   pub steps : (u : ℕ) → steps_of new u ≡ steps_of old u
   pub ends : (u : ℕ) → end_of new u ≡ end_of old u
   pub long : length new.rows.items ≡ length old.rows.items
@@ -93,7 +88,7 @@ pub record ValueSet (s : ℕ) (value : Word) (old new : Table) : Type 0 where
 
 -- the node at a stamp has so many steps
 pub record StepsSet (s n : ℕ) (old new : Table) : Type 0 where
-  pub nodes : (u : ℕ) → kept new u ≡ kept old u
+  pub nodes : (u : ℕ) → node_of new u ≡ node_of old u
   pub changed : steps_of new s ≡ n
   pub others : (u : ℕ) → u ≢ s → steps_of new u ≡ steps_of old u
   pub ends : (u : ℕ) → end_of new u ≡ end_of old u
@@ -102,7 +97,7 @@ pub record StepsSet (s n : ℕ) (old new : Table) : Type 0 where
 
 -- the read at a stamp has this end
 pub record EndSet (s end : ℕ) (old new : Table) : Type 0 where
-  pub nodes : (u : ℕ) → kept new u ≡ kept old u
+  pub nodes : (u : ℕ) → node_of new u ≡ node_of old u
   pub steps : (u : ℕ) → steps_of new u ≡ steps_of old u
   pub changed : end_of new s ≡ end
   pub others : (u : ℕ) → u ≢ s → end_of new u ≡ end_of old u

@@ -1,7 +1,8 @@
 -- Rows by the numbers of their stamps.
-use Rattle.std.specs.Prelude.{◌≡◌, ◌≢◌, ◌≤◌, ℕ, List, Option, None, Some, option_map, length, slice_index_or, true, false}
+use Rattle.std.specs.Prelude.{◌≡◌, ◌≢◌, ◌≤◌, ℕ, List, length, slice_index_or, true, false}
 use Rattle.ceal_base.specs.declared.word.Word.{Word}
 use Rattle.ceal_trace.specs.declared.node.Node.{Node}
+use Rattle.ceal_trace.specs.declared.node.Node.TheVariants.{Root}
 use Rattle.ceal_trace.specs.declared.row.Row.{Row}
 use Rattle.ceal_trace.specs.Nodes.{ends, valued}
 
@@ -10,7 +11,7 @@ abbrev pub no_stamp : ℕ
 no_stamp = 4294967295
 
 abbrev pub blank : Row
-blank = record { node = None; steps = 0; end = no_stamp }
+blank = record { node = Root; steps = 0; end = no_stamp }
 
 abbrev pub row_of : List Row → ℕ → Row
 row_of rows s = slice_index_or rows s blank
@@ -23,12 +24,12 @@ pub record RowSet (old new : List Row) (at : ℕ) (row : Row) : Type 0 where
 
 -- a row has a node without steps
 abbrev pub RowPut : List Row → List Row → ℕ → Node → Type 0
-RowPut old new at node = RowSet old new at (record { node = Some node; steps = 0; end = no_stamp })
+RowPut old new at node = RowSet old new at (record { node = node; steps = 0; end = no_stamp })
 
 -- a row has its node no more, which is answered
-pub record NodeTaken (old new : List Row) (at : ℕ) (node : Option Node) : Type 0 where
+pub record NodeTaken (old new : List Row) (at : ℕ) (node : Node) : Type 0 where
   pub was : (row_of old at).node ≡ node
-  pub set : RowSet old new at (record { node = None; steps = (row_of old at).steps; end = (row_of old at).end })
+  pub set : RowSet old new at (record { node = Root; steps = (row_of old at).steps; end = (row_of old at).end })
 
 abbrev pub StepsPut : List Row → List Row → ℕ → ℕ → Type 0
 StepsPut old new at steps = RowSet old new at (record { node = (row_of old at).node; steps = steps; end = (row_of old at).end })
@@ -37,7 +38,7 @@ abbrev pub EndPut : List Row → List Row → ℕ → ℕ → Type 0
 EndPut old new at end = RowSet old new at (record { node = (row_of old at).node; steps = (row_of old at).steps; end = end })
 
 abbrev pub Valued : List Row → List Row → ℕ → Word → Type 0
-Valued old new at value = RowSet old new at (record { node = option_map (valued value) (row_of old at).node; steps = (row_of old at).steps; end = (row_of old at).end })
+Valued old new at value = RowSet old new at (record { node = valued value (row_of old at).node; steps = (row_of old at).steps; end = (row_of old at).end })
 
 -- rows without nodes were added
 pub record Longer (old new : List Row) : Type 0 where

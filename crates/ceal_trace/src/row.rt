@@ -1,6 +1,6 @@
 // What a table keeps of a stamp.
 
-ghost use Rattle.std.specs.Prelude.{◌≡◌, ◌<◌, ◌≤◌, None, length, slice_set, slice_index_or, IfOk, OnOk, OnErr};
+ghost use Rattle.std.specs.Prelude.{◌≡◌, ◌<◌, ◌≤◌, length, OnOk};
 ghost use Rattle.ceal_trace.specs.Rows.{row_of, RowPut, NodeTaken, StepsPut, EndPut, Longer};
 
 use crate::node::Node;
@@ -10,10 +10,11 @@ use std::mem;
 /// Stands for no stamp: no order has a stamp of this number.
 pub const NO_STAMP: u32 = u32::MAX;
 
-/// The node of a stamp, where it has one, its steps, and the stamp of its end where it is a finished read.
+/// The node of a stamp, its steps, and the stamp of its end where it is a finished read. A number that is no stamp has the
+/// root in its row, which no other stamp has: nothing is asked of such a row, and an `Option` would make each one longer.
 #[derive(Drop)]
 pub struct Row {
-    pub node: Option<Node>,
+    pub node: Node,
     pub steps: u32,
     pub end: u32,
 }
@@ -31,20 +32,20 @@ pub fn put_node(rows: &mut [Row], at: u32, node: Node)
     ensures { RowPut rows.old rows.new at node }
 {
     let row = Row {
-        node: Some(node),
+        node,
         steps: 0,
         end: NO_STAMP,
     };
     put(&mut rows[at as usize], row);
 }
 
-/// Takes the node out of a row.
-pub fn take_node(rows: &mut [Row], at: u32) -> Option<Node>
+/// Takes the node out of a row, which has the root then.
+pub fn take_node(rows: &mut [Row], at: u32) -> Node
     requires { at < length rows.old }
     ensures { NodeTaken rows.old rows.new at result }
 {
     let row = &mut rows[at as usize];
-    mem::replace(&mut row.node, None)
+    mem::replace(&mut row.node, Node::Root)
 }
 
 pub fn set_steps(rows: &mut [Row], at: u32, steps: u32)
@@ -73,7 +74,7 @@ pub fn lengthen(rows: &mut Vec<Row>, count: usize) -> Result<(), NoMemory>
     rows.reserve(more)?;
     for added in 0..more {
         let row = Row {
-            node: None,
+            node: Node::Root,
             steps: 0,
             end: NO_STAMP,
         };

@@ -1,9 +1,9 @@
 // The nodes of a trace by the numbers of their stamps.
 
-ghost use Rattle.std.specs.Prelude.{◌≡◌, ◌≢◌, ◌<◌, ◌≤◌, ◌+◌, ◌^◌, ℕ, length, [], Some, None, IsSome, IfSome, IfNone, OnOk, IsTrue, true};
-ghost use Rattle.ceal_trace.specs.Nodes.{is_read, ends, valued};
+ghost use Rattle.std.specs.Prelude.{◌≡◌, ◌<◌, ◌≤◌, ◌+◌, ◌^◌, ℕ, length, [], Some, None, IfSome, IfNone, OnOk, IsTrue, true};
+ghost use Rattle.ceal_trace.specs.Nodes.{ends, valued};
 ghost use Rattle.ceal_trace.specs.Rows.{Reopened, Valued};
-ghost use Rattle.ceal_trace.specs.Keeping.{kept, steps_of, end_of, noted, PutAt, TakenFrom, Wider, ValueSet, StepsSet, EndSet};
+ghost use Rattle.ceal_trace.specs.Keeping.{node_of, steps_of, end_of, noted, PutAt, TakenFrom, Wider, ValueSet, StepsSet, EndSet};
 
 use crate::node::{Gone, Node};
 use crate::row::{NO_STAMP, Row, lengthen, put_node, row_at, set_end, set_steps, take_node};
@@ -62,34 +62,25 @@ impl Table {
     /// Takes the node at a stamp out.
     pub fn take(&mut self, at: Stamp) -> Gone
         requires row { at.0 < length self.old.rows.items }
-        requires there { IsSome (kept self.old at.0) }
         requires some { 0 < self.old.count }
-        requires read { (read : ℕ) (node : Node) → kept self.old at.0 ≡ Some node
-            → ends read node ≡ true → read < length self.old.rows.items }
+        requires read { (read : ℕ) → ends read (node_of self.old at.0) ≡ true
+            → read < length self.old.rows.items }
         ensures node { TakenFrom at.0 result.node self.old self.new }
         ensures steps { result.steps ≡ steps_of self.old at.0 }
     {
         let steps = row_at(&self.rows, at.0).steps;
-        match take_node(&mut self.rows, at.0) {
-            None => unreachable!(),
-            Some(node) => {
-                reopen(&mut self.rows, &node);
-                self.count -= 1;
-                Gone { node, steps }
-            }
-        }
+        let node = take_node(&mut self.rows, at.0);
+        reopen(&mut self.rows, &node);
+        self.count -= 1;
+        Gone { node, steps }
     }
 
     pub fn node(&self, at: Stamp) -> &Node
-        requires row { at.0 < length self.now.rows.items }
-        requires there { IsSome (kept self.now at.0) }
-        ensures { kept self.now at.0 ≡ Some result.now }
+        requires { at.0 < length self.now.rows.items }
+        ensures { result.now ≡ node_of self.now at.0 }
     {
         let row = row_at(&self.rows, at.0);
-        match &row.node {
-            None => unreachable!(),
-            Some(node) => node,
-        }
+        &row.node
     }
 
     /// Gives a read another value.
@@ -142,9 +133,7 @@ fn value_row(rows: &mut [Row], at: u32, value: Word)
     ensures { Valued rows.old rows.new at value }
 {
     let row = &mut rows[at as usize];
-    if let Some(node) = &mut row.node {
-        give_value(node, value);
-    }
+    give_value(&mut row.node, value);
 }
 
 // Gives a read another value.

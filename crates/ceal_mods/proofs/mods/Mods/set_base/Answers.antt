@@ -30,19 +30,19 @@ returns-then-slot-clause-follows c = λ order follows.
     let rises = rises_here c.self.inside.index c.self.inside.cells.items c.args.place c.find-slot.result c.self.invariant c.find-slot.ensures c.if-slot.true order rise in
     follow c.self.inside.index c.self.inside.cells.items c.args.place c.find-slot.result c.self.invariant c.find-slot.ensures c.if-slot.true order _ _ rise (back ∙ cell) (record { writes = rises.writes; reads = rises.reads })
 
-pub returns-in_err-enter-clause-follows : goal.returns-in_err-enter-clause-follows
-returns-in_err-enter-clause-follows c = λ order follows.
+pub returns-in_err-enter_base-clause-follows : goal.returns-in_err-enter_base-clause-follows
+returns-in_err-enter_base-clause-follows c = λ order follows.
     let rise = rw (← c.self.view_is) at follows in
-    rise_same order c.self.inside.cells.items c.enter.new.cells.items rise c.in_err-enter.ensures.err
+    rise_same order c.self.inside.cells.items c.enter_base.new.cells.items rise c.in_err-enter_base.ensures.err
 
 pub returns-clause-ok : goal.returns-clause-ok
 returns-clause-ok c =
-    rw (← c.self.view_is, cell_none c.self.inside.index c.self.inside.cells.items c.args.place c.find-slot.result c.self.invariant c.find-slot.ensures c.if-slot.false) (rw c.new-cell.ensures at (added c.self.inside.index c.self.inside.cells.items c.args.place c.find-slot.result c.self.invariant c.find-slot.ensures c.if-slot.false c.self.inside.looked _ _ c.in_ok-enter.ensures.ok))
+    rw (← c.self.view_is, cell_none c.self.inside.index c.self.inside.cells.items c.args.place c.find-slot.result c.self.invariant c.find-slot.ensures c.if-slot.false) (added c.self.inside.index c.self.inside.cells.items c.args.place c.find-slot.result c.self.invariant c.find-slot.ensures c.if-slot.false c.self.inside.looked _ _ c.in_ok-enter_base.ensures.ok)
 
 pub returns-clause-follows : goal.returns-clause-follows
 returns-clause-follows c = λ order follows.
     let rise = rw (← c.self.view_is) at follows in
-    follow_added c.self.inside.index c.self.inside.cells.items c.args.place c.find-slot.result c.self.invariant c.find-slot.ensures c.if-slot.false order _ _ rise c.in_ok-enter.ensures.ok (rw c.new-cell.ensures (record { writes = tt; reads = tt }))
+    follow_added c.self.inside.index c.self.inside.cells.items c.args.place c.find-slot.result c.self.invariant c.find-slot.ensures c.if-slot.false order _ _ rise c.in_ok-enter_base.ensures.ok (record { writes = tt; reads = tt })
 
 pub returns-then-slot-clause-touched : goal.returns-then-slot-clause-touched
 returns-then-slot-clause-touched c =
@@ -58,16 +58,16 @@ returns-then-slot-clause-others_touched c = λ p h.
     let back = with_items_is c.self.inside.cells c.set_base_at.new.cells (long ∙ sym c.self.inside.cells.ok.0) in
     touched_too c.self.inside.index c.self.inside.cells.items c.args.place c.find-slot.result c.self.invariant c.find-slot.ensures c.if-slot.true _ _ (back ∙ cell) p (rw (← c.self.view_is) at h)
 
-pub returns-in_err-enter-clause-sure : goal.returns-in_err-enter-clause-sure
-returns-in_err-enter-clause-sure c = λ h.
+pub returns-in_err-enter_base-clause-sure : goal.returns-in_err-enter_base-clause-sure
+returns-in_err-enter_base-clause-sure c = λ h.
     let none = no_cell c.self.inside.index c.self.inside.cells.items c.args.place c.find-slot.result c.self.invariant c.find-slot.ensures c.if-slot.false in
     let there = rw (← c.self.view_is) at h in
     absurd (grind (arith, rw none at there))
 
 pub returns-clause-touched : goal.returns-clause-touched
 returns-clause-touched c =
-    added_touched c.self.inside.index c.self.inside.cells.items c.args.place c.find-slot.result c.self.invariant c.find-slot.ensures c.if-slot.false _ _ c.in_ok-enter.ensures.ok
+    added_touched c.self.inside.index c.self.inside.cells.items c.args.place c.find-slot.result c.self.invariant c.find-slot.ensures c.if-slot.false _ _ c.in_ok-enter_base.ensures.ok
 
 pub returns-clause-others_touched : goal.returns-clause-others_touched
 returns-clause-others_touched c = λ p h.
-    added_too c.self.inside.index c.self.inside.cells.items c.args.place c.find-slot.result c.self.invariant c.find-slot.ensures c.if-slot.false _ _ c.in_ok-enter.ensures.ok p (rw (← c.self.view_is) at h)
+    added_too c.self.inside.index c.self.inside.cells.items c.args.place c.find-slot.result c.self.invariant c.find-slot.ensures c.if-slot.false _ _ c.in_ok-enter_base.ensures.ok p (rw (← c.self.view_is) at h)

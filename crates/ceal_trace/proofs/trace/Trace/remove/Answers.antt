@@ -1,4 +1,4 @@
-use Rattle.std.proofs.Common.{refl, sym, ◌∙◌}
+use Rattle.std.proofs.Common.{sym, ◌∙◌}
 use Rattle.ceal_trace.proofs.Keeps.{there_is, row_bound, some_count}
 use Rattle.ceal_trace.proofs.Removing.{shrank, end_row, steps_within, steps_are}
 use Rattle.ceal_trace.proofs.trace.Trace.remove.Goals as goal
@@ -7,11 +7,6 @@ pub take-gone-requires-clause-row : goal.take-gone-requires-clause-row
 take-gone-requires-clause-row c =
     let here = there_is c.self.inside.order c.self.inside.table c.args.stamp.0 (rw (← c.self.view_is) at c.requires.here) in
     row_bound _ _ _ c.self.invariant.is_order c.self.invariant.has_nodes here
-
-pub take-gone-requires-clause-there : goal.take-gone-requires-clause-there
-take-gone-requires-clause-there c =
-    let here = there_is c.self.inside.order c.self.inside.table c.args.stamp.0 (rw (← c.self.view_is) at c.requires.here) in
-    rw (c.self.invariant.has_nodes.found _ here) refl
 
 pub take-gone-requires-clause-some : goal.take-gone-requires-clause-some
 take-gone-requires-clause-some c =
