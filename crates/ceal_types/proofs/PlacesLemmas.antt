@@ -1,9 +1,8 @@
 -- What stands under a key of a tree after a place was put there.
-use Rattle.std.proofs.Common.{◌≡◌, ℕ, zero, suc, Bool, true, false, cond, Option, Some, None, List, [], ◌∷◌, ◌++◌, length, length-set, slice_get, slice_index_or, slice_set, refl, sym, ◌∙◌, ap, ◌==◌, ◌<◌, arith, Result, BTreeMap, Ordering, Less, Equal, Greater, eqb-true, eq-eqb, ne_eqb, Ok, Err, OnOk, OnErr}
-use Rattle.std.proofs.lemmas.Bool.{true≢false}
+use Rattle.std.proofs.Common.{◌≡◌, ℕ, zero, suc, Bool, true, false, cond, Option, Some, None, List, [], ◌∷◌, ◌++◌, length, slice_get, slice_index_or, refl, sym, ◌∙◌, ap, ◌==◌, ◌<◌, arith, Result, Ordering, Less, Equal, Greater, eqb-true, Ok, Err, OnOk, OnErr}
 use Rattle.std.proofs.lemmas.List.{take_more}
 use Rattle.std.proofs.lemmas.Bool.Decides.{nat_tests}
-use Rattle.std.specs.BTreeMap.{get, insert_entry}
+use Rattle.std.specs.BTreeMap.{insert_entry}
 use Rattle.std.specs.Cmp.Lexicographic.{slice_cmp, texts_ties, nat_list_eq_equiv}
 use Rattle.std.specs.Map.{lookup}
 use Rattle.std.specs.Ordering.{nat_cmp, is_eq, match_ordering}

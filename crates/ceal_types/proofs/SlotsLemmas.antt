@@ -45,16 +45,6 @@ module _ (slots : List (Option Slot)) (old new : BTreeMap ℕ ℕ) (hash place :
   unfolding place_in
   others-same put h = rw (put h) refl
 
-  pub others-spare : ((h : ℕ) → get nat_cmp new h ≡ put_at (hash == h) place (get nat_cmp old h)) → HasSpare slots old → HasSpare slots new
-  others-spare put spare h empty = by (hash == h) refl (put h)
-    where
-      by : (b : Bool) → (hash == h) ≡ b → get nat_cmp new h ≡ put_at b place (get nat_cmp old h) → get nat_cmp new h ≡ None
-      by true e p = absurd (true≢false (sym taken ∙ ap (λ (k : ℕ). is_taken (slot_of slots k) hash) (eqb-true hash h e) ∙ ap (λ (o : Option (Option Slot)). is_taken o hash) empty))
-      by false e p = p ∙ spare h empty
-
-  pub same-spare : ((h : ℕ) → get nat_cmp new h ≡ get nat_cmp old h) → HasSpare slots old → HasSpare slots new
-  same-spare put spare h empty = put h ∙ spare h empty
-
 -- ---- a hash whose slot is its own, or empty, is put there
 module _ (slots : List (Option Slot)) (others : BTreeMap ℕ ℕ) (hash place : ℕ) (free : is_taken (slot_of slots hash) hash ≡ false)
     (within : hash % length slots < length slots) (spare : HasSpare slots others) where

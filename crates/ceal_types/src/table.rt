@@ -87,7 +87,9 @@ fn place_among<V>(entries: &[(Text, V)], name: &Text) -> Option<usize>
     ensures place { result ≡ position (λ e. bytes_eq name.now e.0) entries.now }
     ensures within { IfSome result (λ i. i < length entries.now) }
 {
-    entries.iter().position(|entry| same(name.items(), entry.0.items()))
+    entries
+        .iter()
+        .position(|entry| same(name.items(), entry.0.items()))
 }
 
 /// The number of a name, where each entry is looked at.

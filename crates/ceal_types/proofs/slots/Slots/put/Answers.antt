@@ -1,5 +1,5 @@
-use Rattle.std.proofs.Common.{rules, ◌≡◌, ◌<◌, ◌%◌, ◌∙◌, sym, true, false, length}
-use Rattle.ceal_types.specs.Slots.{slot_of, is_taken, HasSpare}
+use Rattle.std.proofs.Common.{rules, ◌≡◌, ◌<◌, ◌%◌, true, false, length}
+use Rattle.ceal_types.specs.Slots.{slot_of, is_taken}
 use Rattle.ceal_types.proofs.SlotsLemmas.{others-put, others-same, slot-put, slot-spare, on-ok, on-err}
 use Rattle.ceal_types.proofs.slots.Slots.put.Goals as goal
 

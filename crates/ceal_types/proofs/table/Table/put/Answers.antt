@@ -1,4 +1,4 @@
-use Rattle.std.proofs.Common.{◌≡◌, ◌<◌, ◌^◌, ◌++◌, ◌∷◌, [], length, rules, Some, false}
+use Rattle.std.proofs.Common.{◌≡◌, ◌<◌, ◌^◌, ◌++◌, ◌∷◌, [], length, rules, false}
 use Rattle.std.specs.Map.{keys_of}
 use Rattle.ceal_types.specs.Places.{Leads, IsAt}
 use Rattle.ceal_types.specs.Tables.{AreDistinct, has}
