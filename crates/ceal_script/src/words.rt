@@ -51,11 +51,14 @@ fn first_word(line: &[u8]) -> Option<(&[u8], &[u8])>
     Some(text.split_at(word_length(text)))
 }
 
+/// How many words most lines have at most.
+const FEW_WORDS: usize = 8;
+
 /// The words of a line.
 pub fn split_words<'a>(alloc: Global, line: &'a [u8]) -> Result<Vec<&'a [u8]>, NoMemory>
     ensures { IfOk result (λ words. HasWords line.now (texts words.items)) }
 {
-    let mut words = Vec::new(alloc);
+    let mut words = Vec::with_capacity(alloc, FEW_WORDS)?;
     let mut rest = line;
     loop {
         match first_word(rest) {

@@ -6,7 +6,8 @@ use Rattle.std.specs.Map.{lookup}
 use Rattle.std.specs.Option.{option_map}
 use Rattle.std.specs.Str.{bytes_eq}
 use Rattle.ceal_types.proofs.NumberLemmas.{hit, miss}
-use Rattle.ceal_types.specs.Places.{or_second, put_at}
+use Rattle.ceal_types.specs.Places.{or_second}
+use Rattle.ceal_types.specs.Slots.{put_at}
 use Rattle.ceal_types.specs.Tables.{Name}
 
 -- ---- a table with one name more

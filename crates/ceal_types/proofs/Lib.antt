@@ -18,5 +18,6 @@ pub mod Samples
 pub mod RowLemmas
 pub mod ElementLemmas
 pub mod PlacesLemmas
+pub mod SlotsLemmas
 pub mod NumberLemmas
 pub mod FirstLemmas

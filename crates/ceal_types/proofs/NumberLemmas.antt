@@ -1,5 +1,5 @@
 -- The number of a name in a table.
-use Rattle.std.proofs.Common.{◌≡◌, ℕ, zero, suc, ◌<◌, ◌+◌, Bool, true, false, ◌||◌, cond, not, nat_lt, Option, Some, None, List, [], ◌∷◌, ◌++◌, length, take, position, slice_get, refl, sym, ap, ◌∙◌, is_some, if◌then◌else◌, arith, subst, inl, inr, ◌⊎◌, ◌≤◌, lt-ltb, le-ltb, ltb-true, ltb-false}
+use Rattle.std.proofs.Common.{◌≡◌, ℕ, zero, suc, ◌<◌, ◌+◌, Bool, true, false, ◌||◌, cond, not, nat_lt, Option, Some, None, List, [], ◌∷◌, ◌++◌, length, take, take_all, position, slice_get, refl, sym, ap, ◌∙◌, is_some, if◌then◌else◌, arith, subst, inl, inr, ◌⊎◌, ◌≤◌, lt-ltb, le-ltb, ltb-true, ltb-false}
 use Rattle.std.proofs.lemmas.Bool.{true≢false}
 use Rattle.std.proofs.lemmas.Option.{slice_get-map}
 use Rattle.std.proofs.lemmas.Slice.Eq.{bytes_eq-Decides}
@@ -9,9 +9,9 @@ use Rattle.std.specs.Map.{keys_of, values_of, lookup}
 use Rattle.std.specs.Option.{option_map, IfSome}
 use Rattle.std.specs.Str.{bytes_eq}
 use Rattle.indexmap.proofs.MapLemmas.{value_index, some_index}
-use Rattle.ceal_types.specs.Places.{place_of, LeadsTo}
+use Rattle.ceal_types.specs.Places.{place_of, IsAt, LeadsTo, Leads}
 use Rattle.ceal_types.specs.declared.places.Places.{Places}
-use Rattle.ceal_types.specs.Tables.{Name, has, value_at, second, stands_at}
+use Rattle.ceal_types.specs.Tables.{Name, AreDistinct, has, value_at, second, stands_at}
 
 none-some : {A : Type 0} {x : A} → None ≡ Some x → ⊥
 none-some e = true≢false (sym (ap is_some e))
@@ -72,8 +72,8 @@ module _ {X : Type 0} (t : X → Bool) where
   missed (y ∷ ys) h i x p = missed-by y x ys (t y) i refl h p (λ k e q. missed ys e k x q)
 
 -- what is looked for below a place is looked for there still, but for this name
-abbrev pub Keeps : Places → Places → Name → ℕ → Type 0
-Keeps old new name place = (n : Name) (i : ℕ) → bytes_eq name n ≡ false → i < place → place_of old n ≡ Some i → place_of new n ≡ Some i
+abbrev pub Keeps : Option Places → Option Places → Name → ℕ → Type 0
+Keeps old new name place = (n : Name) (i : ℕ) → bytes_eq name n ≡ false → i < place → IsAt old n i → IsAt new n i
 
 module _ {A : Type 0} where
   no-stand : (es : List (Name × A)) (name : Name) → ((i : ℕ) (n : Name) → slice_get (keys_of es) i ≡ Some n → bytes_eq name n ≡ false)
@@ -143,8 +143,8 @@ module _ {A : Type 0} where
   within (e ∷ es) zero n p = omega arith
   within (e ∷ es) (suc i) n p = let r = within es i n p in omega arith
 
-  pub leads-kept : (old new : Places) (es : List (Name × A)) (name : Name) → LeadsTo old (keys_of es) → has es name ≡ false
-      → Keeps old new name (length es) → LeadsTo new (keys_of es)
+  pub leads-kept : (old new : Option Places) (es : List (Name × A)) (name : Name) → Leads old (keys_of es) → has es name ≡ false
+      → Keeps old new name (length es) → Leads new (keys_of es)
   leads-kept old new es name leads h keeps i n at = keeps n i (apart es name h i n at) (within es i n at) (leads i n at)
 
   last : (es : List (Name × A)) (name n : Name) (v : A) (i : ℕ) → slice_get (keys_of (es ++ (name, v) ∷ [])) i ≡ Some n
@@ -157,12 +157,26 @@ module _ {A : Type 0} where
     | inr q ↦ inr (ap suc q.0, q.1)
   ]
 
-  pub leads-added : (places : Places) (es : List (Name × A)) (name : Name) (v : A) → LeadsTo places (keys_of es) → place_of places name ≡ Some (length es)
-      → LeadsTo places (keys_of (es ++ (name, v) ∷ []))
+  pub leads-added : (places : Option Places) (es : List (Name × A)) (name : Name) (v : A) → Leads places (keys_of es) → IsAt places name (length es)
+      → Leads places (keys_of (es ++ (name, v) ∷ []))
   leads-added places es name v leads here i n at = elim (last es name n v i at) [
     | inl q ↦ leads i n q
-    | inr q ↦ ap (place_of places) (sym q.1) ∙ here ∙ ap (λ (k : ℕ). Some k) (sym q.0)
+    | inr q ↦ subst (IsAt places n) (sym q.0) (subst (λ (x : Name). IsAt places x (length es)) q.1 here)
   ]
+
+  -- a new name stands apart from those before it
+  pub distinct-added : (es : List (Name × A)) (name : Name) (v : A) → AreDistinct (keys_of es) → has es name ≡ false
+      → AreDistinct (keys_of (es ++ (name, v) ∷ []))
+  distinct-added es name v apart-all new i j n at there = by (last es name n v i at) (last es name n v j there)
+    where
+      never : (k : ℕ) → slice_get (keys_of es) k ≡ Some n → name ≡ n → ⊥
+      never k p same = true≢false (sym ((bytes_eq-Decides name n).1 same) ∙ apart es name new k n p)
+
+      by : (slice_get (keys_of es) i ≡ Some n) ⊎ ((i ≡ length es) × (name ≡ n)) → (slice_get (keys_of es) j ≡ Some n) ⊎ ((j ≡ length es) × (name ≡ n)) → i ≡ j
+      by (inl p) (inl q) = apart-all i j n p q
+      by (inl p) (inr q) = absurd (never i p q.1)
+      by (inr p) (inl q) = absurd (never j q p.1)
+      by (inr p) (inr q) = p.0 ∙ sym q.0
 
   taken : (n : Name) (es : List (Name × A)) (k i : ℕ) → slice_get (keys_of (take k es)) i ≡ Some n → slice_get (keys_of es) i ≡ Some n
   taken n [] zero i p = absurd (none-some p)
@@ -171,8 +185,11 @@ module _ {A : Type 0} where
   taken n (e ∷ es) (suc k) zero p = p
   taken n (e ∷ es) (suc k) (suc i) p = taken n es k i p
 
-  pub leads-taken : (places : Places) (es : List (Name × A)) (k : ℕ) → LeadsTo places (keys_of es) → LeadsTo places (keys_of (take k es))
+  pub leads-taken : (places : Option Places) (es : List (Name × A)) (k : ℕ) → Leads places (keys_of es) → Leads places (keys_of (take k es))
   leads-taken places es k leads i n at = leads i n (taken n es k i at)
+
+  pub distinct-taken : (es : List (Name × A)) (k : ℕ) → AreDistinct (keys_of es) → AreDistinct (keys_of (take k es))
+  distinct-taken es k distinct i j n at there = distinct i j n (taken n es k i at) (taken n es k j there)
 
 module _ {A : Type 0} where
   key-at : (es : List (Name × A)) (i : ℕ) (e : Name × A) → slice_get es i ≡ Some e → slice_get (keys_of es) i ≡ Some e.0
@@ -192,16 +209,14 @@ module _ {A : Type 0} where
   taken-length (x ∷ xs) (suc i) e p = ap suc (taken-length xs i e p)
 
   -- a name does not stand before its place
-  fresh : (places : Places) (es : List (Name × A)) (i : ℕ) (e : Name × A) → LeadsTo places (keys_of es) → slice_get es i ≡ Some e
-      → has (take i es) e.0 ≡ false
-  fresh places es i e leads at = has-number (take i es) e.0 ∙ by (position (bytes_eq e.0) (keys_of (take i es))) refl
+  fresh : (es : List (Name × A)) (i : ℕ) (e : Name × A) → AreDistinct (keys_of es) → slice_get es i ≡ Some e → has (take i es) e.0 ≡ false
+  fresh es i e distinct at = has-number (take i es) e.0 ∙ by (position (bytes_eq e.0) (keys_of (take i es))) refl
     where
       twice : (j : ℕ) (x : Name) → slice_get (keys_of (take i es)) j ≡ Some x → bytes_eq e.0 x ≡ true → ⊥
       twice j x there h =
           let same : e.0 ≡ x = (bytes_eq-Decides e.0 x).0 h in
-          let second : place_of places e.0 ≡ Some i = leads i e.0 (key-at es i e at) in
-          let one : place_of places e.0 ≡ Some j = leads j e.0 (taken x es i j there ∙ ap (λ (y : Name). Some y) (sym same)) in
-          let equal : i ≡ j = same-some i j (sym second ∙ one) in
+          let one : slice_get (keys_of es) j ≡ Some e.0 = taken x es i j there ∙ ap (λ (y : Name). Some y) (sym same) in
+          let equal : i ≡ j = distinct i j e.0 (key-at es i e at) one in
           let below : j < length (take i es) = within (take i es) j x there in
           let long : length (take i es) ≡ i = taken-length es i e at in
           omega arith
@@ -210,12 +225,12 @@ module _ {A : Type 0} where
       by None h = refl
       by (Some j) h = let f = found (bytes_eq e.0) (keys_of (take i es)) j h in absurd (twice j f.0 f.1 f.2)
 
-  pub leads-next : (led old new : Places) (es : List (Name × A)) (i : ℕ) (e : Name × A) → LeadsTo led (keys_of es) → slice_get es i ≡ Some e
-      → LeadsTo old (keys_of (take i es)) → place_of new e.0 ≡ Some i → Keeps old new e.0 i → LeadsTo new (keys_of (take (suc i) es))
-  leads-next led old new es i e leads at before here keeps =
+  pub leads-next : (old new : Places) (es : List (Name × A)) (i : ℕ) (e : Name × A) → AreDistinct (keys_of es) → slice_get es i ≡ Some e
+      → LeadsTo old (keys_of (take i es)) → place_of new e.0 ≡ Some i → Keeps (Some old) (Some new) e.0 i → LeadsTo new (keys_of (take (suc i) es))
+  leads-next old new es i e distinct at before here keeps =
       let long : length (take i es) ≡ i = taken-length es i e at in
-      let kept : LeadsTo new (keys_of (take i es)) = leads-kept old new (take i es) e.0 before (fresh led es i e leads at) (rw long keeps) in
-      rw (taken-next es i e at) (leads-added new (take i es) e.0 e.1 kept (here ∙ ap (λ (k : ℕ). Some k) (sym long)))
+      let kept : LeadsTo new (keys_of (take i es)) = leads-kept (Some old) (Some new) (take i es) e.0 before (fresh es i e distinct at) (rw long keeps) in
+      rw (taken-next es i e at) (leads-added (Some new) (take i es) e.0 e.1 kept (here ∙ ap (λ (k : ℕ). Some k) (sym long)))
 
 module _ {X : Type 0} (t : X → Bool) where
   mapped : (r : Option ℕ) → is_some (option_map suc r) ≡ is_some r
@@ -230,6 +245,21 @@ module _ {X : Type 0} (t : X → Bool) where
   pub any-position : (xs : List X) → list_any t xs ≡ is_some (position t xs)
   any-position [] = refl
   any-position (x ∷ xs) = any-by x xs (t x) refl (any-position xs)
+
+-- names are the same where all of them that was compared is
+pub same-when : (a b : Name) (i : ℕ) → length a ≡ length b → length a ≤ i → take i a ≡ take i b → bytes_eq a b ≡ true
+same-when a b i e h t = (bytes_eq-Decides a b).1 (sym (take_all i a h) ∙ t ∙ take_all i b (rw (← e) h))
+
+-- the first entry of a name stands where the first such name does
+pub scanned : {A : Type 0} (es : List (Name × A)) (name : Name) → position (λ e. bytes_eq name e.0) es ≡ position (bytes_eq name) (keys_of es)
+scanned [] name = refl
+scanned {A} (e ∷ es) name = by (bytes_eq name e.0) refl (scanned es name)
+  where
+    by : (b : Bool) → bytes_eq name e.0 ≡ b → position (λ (x : Name × A). bytes_eq name x.0) es ≡ position (bytes_eq name) (keys_of es)
+        → position (λ (x : Name × A). bytes_eq name x.0) (e ∷ es) ≡ position (bytes_eq name) (keys_of (e ∷ es))
+    by true h rest = hit (λ (x : Name × A). bytes_eq name x.0) e es h ∙ sym (hit (bytes_eq name) e.0 (keys_of es) h)
+    by false h rest =
+        miss (λ (x : Name × A). bytes_eq name x.0) e es h ∙ ap (option_map suc) rest ∙ sym (miss (bytes_eq name) e.0 (keys_of es) h)
 
 pub has-any : {A : Type 0} (es : List (Name × A)) (name : Name) → has es name ≡ list_any (bytes_eq name) (keys_of es)
 has-any es name = has-number es name ∙ sym (any-position (bytes_eq name) (keys_of es))

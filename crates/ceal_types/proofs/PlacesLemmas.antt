@@ -1,13 +1,14 @@
 -- What stands under a key of a tree after a place was put there.
-use Rattle.std.proofs.Common.{◌≡◌, ℕ, zero, suc, Bool, true, false, cond, Option, Some, None, List, [], ◌∷◌, length, length-set, slice_get, slice_index_or, slice_set, refl, sym, ◌∙◌, ap, ◌==◌, ◌<◌, arith, Result, BTreeMap, Ordering, Less, Equal, Greater, eqb-true, eq-eqb, ne_eqb, Ok, Err, OnOk, OnErr}
-use Rattle.std.proofs.lemmas.Bool.{true≢false}
+use Rattle.std.proofs.Common.{◌≡◌, ℕ, zero, suc, Bool, true, false, cond, Option, Some, None, List, [], ◌∷◌, ◌++◌, length, slice_get, slice_index_or, refl, sym, ◌∙◌, ap, ◌==◌, ◌<◌, arith, Result, Ordering, Less, Equal, Greater, eqb-true, Ok, Err, OnOk, OnErr}
+use Rattle.std.proofs.lemmas.List.{take_more}
 use Rattle.std.proofs.lemmas.Bool.Decides.{nat_tests}
-use Rattle.std.specs.BTreeMap.{get, insert_entry}
+use Rattle.std.specs.BTreeMap.{insert_entry}
 use Rattle.std.specs.Cmp.Lexicographic.{slice_cmp, texts_ties, nat_list_eq_equiv}
 use Rattle.std.specs.Map.{lookup}
 use Rattle.std.specs.Ordering.{nat_cmp, is_eq, match_ordering}
 use Rattle.std.specs.Str.{bytes_eq}
-use Rattle.ceal_types.specs.Places.{put_at, free, or_second, hash_of, tree_number, tree_or, place_in, place_by_hash}
+use Rattle.ceal_types.specs.Places.{free, or_second, hash_of, hashed, stirred, place_by_hash}
+use Rattle.ceal_types.specs.Slots.{put_at, place_in}
 use Rattle.ceal_types.specs.declared.places.Places.{Places}
 use Rattle.ceal_types.specs.Tables.{Name}
 
@@ -59,62 +60,24 @@ kept-place None b g f true place i h s l p = absurd (taken g f h (sym (s refl) �
 
 pub same-hash : (places : Places) (m n : Name) → (hash_of m == hash_of n) ≡ true → place_by_hash places n ≡ place_by_hash places m
 unfolding place_by_hash
-same-hash places m n h = ap (λ (k : ℕ). place_in places.trees.items places.first k) (sym (eqb-true (hash_of m) (hash_of n) h))
+same-hash places m n h = ap (λ (k : ℕ). place_in places.slots.slots.items places.slots.others k) (sym (eqb-true (hash_of m) (hash_of n) h))
 
 pub of-result : {A E P Q G : Type 0} (r : Result A E) → OnOk r P → OnErr r Q → (P → G) → (Q → G) → G
 of-result (Ok x) p q f g = f p
 of-result (Err x) p q f g = g q
 
-module _ {X : Type 0} where
-  set-here : (xs : List X) (i : ℕ) (x : X) → i < length xs → slice_get (slice_set xs i x) i ≡ Some x
-  set-here [] i x h = absurd (omega (arith, h))
-  set-here (y ∷ ys) zero x h = refl
-  set-here (y ∷ ys) (suc i) x h = set-here ys i x (omega arith)
+pub read-at : {X : Type 0} (xs : List X) (i : ℕ) (x : X) → i < length xs → slice_get xs i ≡ Some (slice_index_or xs i x)
+read-at [] i x h = absurd (omega (arith, h))
+read-at (y ∷ ys) zero x h = refl
+read-at (y ∷ ys) (suc i) x h = read-at ys i x (omega arith)
 
-  set-apart : (xs : List X) (i j : ℕ) (x : X) → (i ≡ j → ⊥) → slice_get (slice_set xs i x) j ≡ slice_get xs j
-  set-apart [] i j x h = refl
-  set-apart (y ∷ ys) zero zero x h = absurd (h refl)
-  set-apart (y ∷ ys) zero (suc j) x h = refl
-  set-apart (y ∷ ys) (suc i) zero x h = refl
-  set-apart (y ∷ ys) (suc i) (suc j) x h = set-apart ys i j x (λ e. h (ap suc e))
+pub hashed-more : (hash : ℕ) (bytes : Name) (byte : ℕ) → hashed hash (bytes ++ byte ∷ []) ≡ stirred (hashed hash bytes) byte
+unfolding hashed
+hashed-more hash [] byte = refl
+hashed-more hash (b ∷ bytes) byte = hashed-more (stirred hash b) bytes byte
 
-  pub read-at : (xs : List X) (i : ℕ) (x : X) → i < length xs → slice_get xs i ≡ Some (slice_index_or xs i x)
-  read-at [] i x h = absurd (omega (arith, h))
-  read-at (y ∷ ys) zero x h = refl
-  read-at (y ∷ ys) (suc i) x h = read-at ys i x (omega arith)
+pub hashed-none : (hash : ℕ) → hashed hash [] ≡ hash
+unfolding hashed
+hashed-none hash = refl
 
-module _ (f : ℕ → Option ℕ → Option ℕ) (trees : List (BTreeMap ℕ ℕ)) (first old new : BTreeMap ℕ ℕ) (h q : ℕ)
-    (put : get nat_cmp new q ≡ f q (get nat_cmp old q)) (rest : (o : Option ℕ) → (h ≡ q → ⊥) → f q o ≡ o) where
-  in-tree : (i j : ℕ) (b : Bool) → (i == j) ≡ b → (h ≡ q → i ≡ j) → i < length trees → old ≡ slice_index_or trees i old
-      → get nat_cmp (tree_or (slice_get (slice_set trees i new) j) first) q ≡ f q (get nat_cmp (tree_or (slice_get trees j) first) q)
-  in-tree i j true e tied within is =
-      let same : i ≡ j = eqb-true i j e in
-      rw (← same, set-here trees i new within, read-at trees i old within ∙ ap (λ (t : BTreeMap ℕ ℕ). Some t) (sym is)) put
-  in-tree i j false e tied within is =
-      let apart : i ≡ j → ⊥ = λ s. true≢false (sym (eq-eqb i j s) ∙ e) in
-      rw (set-apart trees i j new apart) (sym (rest (get nat_cmp (tree_or (slice_get trees j) first) q) (λ s. apart (tied s))))
-
-  -- what stands under each hash after one of the trees has changed
-  pub in-trees : tree_number h (length trees) < length trees → old ≡ slice_index_or trees (tree_number h (length trees)) old
-      → place_in (slice_set trees (tree_number h (length trees)) new) first q ≡ f q (place_in trees first q)
-  unfolding place_in
-  in-trees within is =
-      let i = tree_number h (length trees) in
-      let j = tree_number q (length trees) in
-      rw (length-set trees i new) (in-tree i j (i == j) refl (ap (λ (k : ℕ). tree_number k (length trees))) within is)
-
-pub others-stay : (h q place : ℕ) (o : Option ℕ) → (h ≡ q → ⊥) → put_at (h == q) place o ≡ o
-others-stay h q place o n = rw (ne_eqb h q n) refl
-
-pub in-first : (trees : List (BTreeMap ℕ ℕ)) (first : BTreeMap ℕ ℕ) (h : ℕ) → length trees ≡ 0 → place_in trees first h ≡ get nat_cmp first h
-unfolding place_in
-in-first [] first h e = refl
-in-first (t ∷ ts) first h e = absurd (omega (arith, e))
-
-pub on-ok : {A E P Q : Type 0} (r : Result A E) → (P → Q) → OnOk r P → OnOk r Q
-on-ok (Ok x) f p = f p
-on-ok (Err x) f p = p
-
-pub on-err : {A E P Q : Type 0} (r : Result A E) → (P → Q) → OnErr r P → OnErr r Q
-on-err (Ok x) f p = p
-on-err (Err x) f p = f p
+pub ruleset hash_steps = (hashed-more, hashed-none, take_more)

@@ -4,10 +4,10 @@ ghost use Rattle.std.specs.Prelude.{◌≡◌, Option, IfOk};
 ghost use Rattle.std.specs.Map.{lookup};
 ghost use Rattle.std.specs.Str.{bytes_eq};
 ghost use Rattle.ceal_base.specs.Answers.{Gives};
-ghost use Rattle.ceal_types.specs.Expressions.{expression, variable_at, own_at, unary_at, unary_of, binary_at, binary_of, compared, computed, no_pick, typed_expr, typed_exprs, condition};
+ghost use Rattle.ceal_types.specs.Expressions.{expression, variable_at, own_at, unary_at, unary_of, binary_at, compared, computed, no_pick, typed_expr, typed_exprs, condition};
 
 use crate::kinds::{comparable, suits};
-use crate::members::{fault, type_address, type_field, type_pick};
+use crate::members::{both, fault, type_address, type_field, type_pick};
 use crate::program::{Program, Variable};
 use crate::table::Table;
 use ceal_base::boxed::Boxed;
@@ -64,34 +64,17 @@ fn type_unary(alloc: Global, at: Span, op: Unary, a: TypedExpr) -> Result<TypedE
     }
 }
 
-fn binary(
-    alloc: Global,
-    at: Span,
-    op: Binary,
-    sign: Span,
-    a: TypedExpr,
-    b: TypedExpr,
-) -> Result<TypedExpr, NoMemory>
-    ensures { IfOk result (λ e. e ≡ binary_of at op sign a b) }
-{
-    let a = Boxed::new(alloc, a)?;
-    let b = Boxed::new(alloc, b)?;
-    Ok(expression(at, Some(Kind::Int), TypedForm::Binary(op, sign, a, b)))
-}
-
 fn type_compared(
-    alloc: Global,
     at: Span,
     op: Binary,
     sign: Span,
-    a: TypedExpr,
-    b: TypedExpr,
+    a: Boxed<TypedExpr>,
+    b: Boxed<TypedExpr>,
 ) -> Result<TypedExpr, FrontError>
     ensures { Gives result (compared at op sign a b) }
 {
-    if comparable(a.kind, b.kind) {
-        let e = binary(alloc, at, op, sign, a, b)?;
-        Ok(e)
+    if comparable(a.get().kind, b.get().kind) {
+        Ok(expression(at, Some(Kind::Int), TypedForm::Binary(op, sign, a, b)))
     } else {
         drop(a);
         drop(b);
@@ -100,29 +83,55 @@ fn type_compared(
 }
 
 fn type_computed(
-    alloc: Global,
     at: Span,
     op: Binary,
     sign: Span,
-    a: TypedExpr,
-    b: TypedExpr,
+    a: Boxed<TypedExpr>,
+    b: Boxed<TypedExpr>,
 ) -> Result<TypedExpr, FrontError>
     ensures { Gives result (computed at op sign a b) }
 {
-    if !suits(Kind::Int, a.kind) {
-        let wrong = a.span;
+    if !suits(Kind::Int, a.get().kind) {
+        let wrong = a.get().span;
         drop(a);
         drop(b);
         return Err(fault(FaultCode::T1, wrong));
     }
-    if !suits(Kind::Int, b.kind) {
-        let wrong = b.span;
+    if !suits(Kind::Int, b.get().kind) {
+        let wrong = b.get().span;
         drop(a);
         drop(b);
         return Err(fault(FaultCode::T1, wrong));
     }
-    let e = binary(alloc, at, op, sign, a, b)?;
-    Ok(e)
+    Ok(expression(at, Some(Kind::Int), TypedForm::Binary(op, sign, a, b)))
+}
+
+/// A binary operator after its operands, which stand on the heap already, so that they are not moved from call to call.
+fn type_operands(
+    at: Span,
+    op: Binary,
+    sign: Span,
+    a: Boxed<TypedExpr>,
+    b: Boxed<TypedExpr>,
+) -> Result<TypedExpr, FrontError>
+    ensures { Gives result (binary_at at op sign a b) }
+{
+    match op {
+        Binary::Same => type_compared(at, op, sign, a, b),
+        Binary::Differ => type_compared(at, op, sign, a, b),
+        Binary::Add => type_computed(at, op, sign, a, b),
+        Binary::Sub => type_computed(at, op, sign, a, b),
+        Binary::Mul => type_computed(at, op, sign, a, b),
+        Binary::Div => type_computed(at, op, sign, a, b),
+        Binary::Rem => type_computed(at, op, sign, a, b),
+        Binary::Less => type_computed(at, op, sign, a, b),
+        Binary::LessEq => type_computed(at, op, sign, a, b),
+        Binary::More => type_computed(at, op, sign, a, b),
+        Binary::MoreEq => type_computed(at, op, sign, a, b),
+        Binary::And => type_computed(at, op, sign, a, b),
+        Binary::Or => type_computed(at, op, sign, a, b),
+        Binary::Pick(_) => no_row(a, b),
+    }
 }
 
 fn type_binary(
@@ -135,26 +144,22 @@ fn type_binary(
 ) -> Result<TypedExpr, FrontError>
     ensures { Gives result (binary_at at op sign a b) }
 {
-    match op {
-        Binary::Same => type_compared(alloc, at, op, sign, a, b),
-        Binary::Differ => type_compared(alloc, at, op, sign, a, b),
-        Binary::Add => type_computed(alloc, at, op, sign, a, b),
-        Binary::Sub => type_computed(alloc, at, op, sign, a, b),
-        Binary::Mul => type_computed(alloc, at, op, sign, a, b),
-        Binary::Div => type_computed(alloc, at, op, sign, a, b),
-        Binary::Rem => type_computed(alloc, at, op, sign, a, b),
-        Binary::Less => type_computed(alloc, at, op, sign, a, b),
-        Binary::LessEq => type_computed(alloc, at, op, sign, a, b),
-        Binary::More => type_computed(alloc, at, op, sign, a, b),
-        Binary::MoreEq => type_computed(alloc, at, op, sign, a, b),
-        Binary::And => type_computed(alloc, at, op, sign, a, b),
-        Binary::Or => type_computed(alloc, at, op, sign, a, b),
-        Binary::Pick(_) => no_row(a, b),
-    }
+    let (a, b) = both(alloc, a, b)?;
+    type_operands(at, op, sign, a, b)
 }
 
 /// An index after what is no field access.
-fn no_row(a: TypedExpr, index: TypedExpr) -> Result<TypedExpr, FrontError>
+fn no_row(a: Boxed<TypedExpr>, index: Boxed<TypedExpr>) -> Result<TypedExpr, FrontError>
+    ensures { Gives result (no_pick a index) }
+{
+    let at = a.get().span;
+    drop(a);
+    drop(index);
+    Err(fault(FaultCode::T3, at))
+}
+
+/// An index after what is no field access, as both are typed.
+fn no_element(a: TypedExpr, index: TypedExpr) -> Result<TypedExpr, FrontError>
     ensures { Gives result (no_pick a index) }
 {
     let at = a.span;
@@ -211,7 +216,7 @@ pub fn type_expr(
             _ => {
                 let a = type_expr(alloc, program, own, scope, operand.get())?;
                 let index = type_expr(alloc, program, own, scope, index.get())?;
-                no_row(a, index)
+                no_element(a, index)
             }
         },
     }

@@ -19,6 +19,7 @@ pub mod names;
 pub mod numbers;
 mod places;
 mod program;
+mod slots;
 mod statements;
 mod table;
 mod values;

@@ -207,7 +207,7 @@ pub fn type_address(
 }
 
 /// Both expressions on the heap.
-fn both(
+pub fn both(
     alloc: Global,
     first: TypedExpr,
     second: TypedExpr,

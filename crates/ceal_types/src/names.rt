@@ -1,6 +1,6 @@
 // A set of names.
 
-ghost use Rattle.std.specs.Prelude.{◌≡◌, [], length, take, OnOk, OnErr, position, slice_get};
+ghost use Rattle.std.specs.Prelude.{◌≡◌, ◌++◌, ◌∷◌, [], false, length, take, OnOk, OnErr, position, slice_get};
 ghost use Rattle.std.specs.List.{list_any};
 ghost use Rattle.std.specs.Option.{option_map};
 ghost use Rattle.std.specs.Str.{bytes_eq};
@@ -45,6 +45,16 @@ impl Names {
         if self.has(name) {
             return Ok(());
         }
+        self.add_new(name)
+    }
+
+    /// Adds a name that is not there.
+    #[tactic(auto, using(crate::proofs::NumberLemmas::name_steps))]
+    pub fn add_new(&mut self, name: &Text) -> Result<(), NoMemory>
+        requires new { list_any (bytes_eq name.now) self.old ≡ false }
+        ensures ok { OnOk result (self.new ≡ self.old ++ name.now ∷ []) }
+        ensures err { OnErr result (self.new ≡ self.old) }
+    {
         self.table.add(name, ())?;
         Ok(())
     }

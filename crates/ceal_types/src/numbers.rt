@@ -3,7 +3,8 @@
 ghost use Rattle.std.specs.Prelude.{◌≡◌, IfOk, OnOk, bytes_eq, None};
 ghost use Rattle.std.specs.Map.{lookup};
 ghost use Rattle.ceal_types.specs.Numbers.{struct_numbered, function_numbered, Gives};
-ghost use Rattle.ceal_types.specs.Places.{or_second, put_at};
+ghost use Rattle.ceal_types.specs.Places.{or_second};
+ghost use Rattle.ceal_types.specs.Slots.{put_at};
 ghost use Rattle.ceal_types.specs.Tables.{Name};
 
 use crate::table::Table;

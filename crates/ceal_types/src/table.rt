@@ -1,11 +1,11 @@
 // What stands under a name.
 
-ghost use Rattle.std.specs.Prelude.{◌≡◌, ◌<◌, ◌^◌, ◌++◌, Some, ◌∷◌, [], Bool, ℕ, Option, List, length, take, slice_get, is_some, IfOk, OnOk, OnErr, false, position};
+ghost use Rattle.std.specs.Prelude.{◌≡◌, ◌<◌, ◌^◌, ◌++◌, Some, ◌∷◌, [], ℕ, length, take, slice_get, IfOk, IfSome, OnOk, OnErr, false, position};
 ghost use Rattle.std.specs.Map.{keys_of, lookup};
 ghost use Rattle.std.specs.Option.{option_map};
 ghost use Rattle.std.specs.Str.{bytes_eq};
-ghost use Rattle.ceal_types.specs.Places.{LeadsTo};
-ghost use Rattle.ceal_types.specs.Tables.{has, find, value_at, stands_at};
+ghost use Rattle.ceal_types.specs.Places.{IsAt, LeadsTo};
+ghost use Rattle.ceal_types.specs.Tables.{Name, AreDistinct, has, find, value_at, stands_at};
 
 use crate::places::Places;
 use ceal_base::no_memory::NoMemory;
@@ -13,17 +13,22 @@ use ceal_base::text::Text;
 use std::alloc::Global;
 use std::marker::Model;
 
-/// Values by their names, in the order in which they were added. A name's number is its place, from 0.
+/// How many names are looked at one by one.
+const FEW: usize = 8;
+
+/// Values by their names, in the order in which they were added. A name's number is its place, from 0. A few names have
+/// no places: there it takes less to look at each of them.
 #[derive(Drop)]
 pub struct Table<V> {
     entries: Vec<(Text, V)>,
-    places: Places,
+    places: Option<Places>,
 }
 
 impl<V> Model for Table<V> {
     ghost use Rattle.std.specs.Prelude.{List, ℕ, length, ◌<◌, ◌^◌};
     ghost use Rattle.std.specs.Map.{keys_of};
-    ghost use Rattle.ceal_types.specs.Places.{LeadsTo};
+    ghost use Rattle.ceal_types.specs.Places.{Leads};
+    ghost use Rattle.ceal_types.specs.Tables.{AreDistinct};
     ghost use Rattle.std.specs.Coded.{coded_list, coded×, coded_ℕ};
 
     ghost Value = { List (List ℕ × V) };
@@ -33,13 +38,14 @@ impl<V> Model for Table<V> {
     ghost view = { λ t. t.entries.items };
 
     ghost invariant = { λ t. (length t.entries.items < 2 ^ 32)
-        × LeadsTo t.places (keys_of t.entries.items) };
+        × AreDistinct (keys_of t.entries.items)
+        × Leads t.places (keys_of t.entries.items) };
 }
 
-/// Other places for the names, for as many as they are now.
-fn placed<V>(alloc: Global, old: &Places, entries: &[(Text, V)]) -> Result<Places, NoMemory>
+/// Places for the names.
+fn placed<V>(alloc: Global, entries: &[(Text, V)]) -> Result<Places, NoMemory>
     requires few { length entries.now < 2 ^ 32 }
-    requires led { LeadsTo old.now (keys_of entries.now) }
+    requires distinct { AreDistinct (keys_of entries.now) }
     ensures leads { IfOk result (λ places. LeadsTo places (keys_of entries.now)) }
 {
     let mut places = Places::sized(alloc, entries.len())?;
@@ -49,13 +55,83 @@ fn placed<V>(alloc: Global, old: &Places, entries: &[(Text, V)]) -> Result<Place
     Ok(places)
 }
 
+/// Leads from the name to the place, where there are places.
+fn put_place(places: &mut Option<Places>, name: &Text, place: u32) -> Result<(), NoMemory>
+    ensures put { OnOk result (IsAt places.new name.now place) }
+    ensures kept { (n : Name) (i : ℕ) → bytes_eq name.now n ≡ false → i < place
+        → IsAt places.old n i → IsAt places.new n i }
+{
+    match places {
+        None => Ok(()),
+        Some(places) => places.put(name, place),
+    }
+}
+
+/// Whether both are the same bytes.
+fn same(a: &[u8], b: &[u8]) -> bool
+    ensures same { result ≡ bytes_eq a.now b.now }
+{
+    if a.len() != b.len() {
+        return false;
+    }
+    for i in 0..a.len() {
+        if a[i] != b[i] {
+            return false;
+        }
+    }
+    true
+}
+
+/// Where the name stands, where each entry is looked at.
+fn place_among<V>(entries: &[(Text, V)], name: &Text) -> Option<usize>
+    ensures place { result ≡ position (λ e. bytes_eq name.now e.0) entries.now }
+    ensures within { IfSome result (λ i. i < length entries.now) }
+{
+    entries
+        .iter()
+        .position(|entry| same(name.items(), entry.0.items()))
+}
+
+/// The number of a name, where each entry is looked at.
+fn number_among<V>(entries: &[(Text, V)], name: &Text) -> Option<u32>
+    requires few { length entries.now < 2 ^ 32 }
+    ensures number { result ≡ position (bytes_eq name.now) (keys_of entries.now) }
+{
+    match place_among(entries, name) {
+        None => None,
+        Some(place) => Some(place as u32),
+    }
+}
+
+/// Whether the name stands at the place.
+fn stands<V>(entries: &[(Text, V)], name: &Text, place: u32) -> bool
+    ensures stands { result ≡ stands_at entries.now name.now place }
+{
+    match entries.get(place as usize) {
+        Some(entry) => same(entry.0.items(), name.items()),
+        None => false,
+    }
+}
+
+/// The number of a name, by its place.
+#[tactic(auto, using(crate::proofs::NumberLemmas::number_steps))]
+fn number_at<V>(entries: &[(Text, V)], places: &Places, name: &Text) -> Option<u32>
+    requires led { LeadsTo places.now (keys_of entries.now) }
+    ensures number { result ≡ position (bytes_eq name.now) (keys_of entries.now) }
+{
+    match places.place(name) {
+        Some(place) if stands(entries, name, place) => Some(place),
+        _ => None,
+    }
+}
+
 impl<V> Table<V> {
     pub fn new(alloc: Global) -> Table<V>
         ensures empty { result ≡ [] }
     {
         Table {
             entries: Vec::new(alloc),
-            places: Places::new(alloc),
+            places: None,
         }
     }
 
@@ -65,24 +141,13 @@ impl<V> Table<V> {
         self.entries.len()
     }
 
-    /// Whether the name stands at the place.
-    fn stands(&self, name: &Text, place: u32) -> bool
-        ensures stands { result ≡ stands_at self.now name.now place }
-    {
-        match self.entries.get(place as usize) {
-            Some(entry) => entry.0.items() == name.items(),
-            None => false,
-        }
-    }
-
     /// The name's number.
-    #[tactic(auto, using(crate::proofs::NumberLemmas::number_steps))]
     pub fn number(&self, name: &Text) -> Option<u32>
         ensures number { result ≡ position (bytes_eq name.now) (keys_of self.now) }
     {
-        match self.places.place(name) {
-            Some(place) if self.stands(name, place) => Some(place),
-            _ => None,
+        match &self.places {
+            None => number_among(self.entries.as_slice(), name),
+            Some(places) => number_at(self.entries.as_slice(), places, name),
         }
     }
 
@@ -137,16 +202,24 @@ impl<V> Table<V> {
 }
 
 impl<V: Drop> Table<V> {
-    /// Makes the places larger, where the names are too many for them.
+    /// Whether one more name wants places, or more of them.
+    fn is_full(&self) -> bool {
+        match &self.places {
+            None => self.entries.len() >= FEW,
+            Some(places) => places.is_full(self.entries.len()),
+        }
+    }
+
+    /// Makes the places, where the names are more than a few, and makes them more, where the names are too many for them.
     fn make_room(&mut self) -> Result<(), NoMemory>
         ensures same { self.new ≡ self.old }
     {
-        if !self.places.is_full(self.entries.len()) {
+        if !self.is_full() {
             return Ok(());
         }
         let alloc = *self.entries.allocator();
-        let places = placed(alloc, &self.places, self.entries.as_slice())?;
-        self.places = places;
+        let places = placed(alloc, self.entries.as_slice())?;
+        self.places = Some(places);
         Ok(())
     }
 
@@ -169,7 +242,8 @@ impl<V: Drop> Table<V> {
             return Err(NoMemory);
         }
         let copy = name.copy()?;
-        self.places.put(name, self.entries.len() as u32)?;
+        let place = self.entries.len() as u32;
+        put_place(&mut self.places, name, place)?;
         self.entries.push((copy, value))?;
         Ok(())
     }

@@ -11,8 +11,8 @@ loop-i-preserved g c =
     let e = slice_index_or es c.loop-i.i c.index-entries-i.result in
     let at : slice_get es c.loop-i.i ≡ Some e = read-at es c.loop-i.i c.index-entries-i.result within in
     let here : place_of c.put.new.self e.0 ≡ Some c.loop-i.i = search rules in
-    let keeps : Keeps c.loop-i.places c.put.new.self e.0 c.loop-i.i = search rules in
-    rw add-one (leads-next c.args.old.now c.loop-i.places c.put.new.self es c.loop-i.i e c.requires.led at c.loop-i.invariant here keeps)
+    let keeps : Keeps (Some c.loop-i.places) (Some c.put.new.self) e.0 c.loop-i.i = search rules in
+    rw add-one (leads-next c.loop-i.places c.put.new.self es c.loop-i.i e c.requires.distinct at c.loop-i.invariant here keeps)
 
 pub returns : goal.returns
 returns g c =

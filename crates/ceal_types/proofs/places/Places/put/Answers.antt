@@ -9,7 +9,7 @@ returns-then-is_free-clause-kept c = λ n i apart below found.
     let name = c.args.name.now in
     let e = c.put_by_hash.ensures in
     of-result c.put_by_hash.result e.ok e.err
-    (λ put. rw (e.names n, put n)
+    (λ put. rw (e.names n, put n, c.hash-hash.ensures.value)
     (kept-place (place_by_name old n) (place_by_hash old n) (place_by_name old name) (place_by_hash old name)
     (hash_of name == hash_of n) c.args.place i (sym c.is_free.ensures.free ∙ c.if-is_free.true) (same-hash old name n) below found))
     (λ kept. rw (e.names n, kept n) found)

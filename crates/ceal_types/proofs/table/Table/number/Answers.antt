@@ -1,43 +1,11 @@
-use Rattle.std.proofs.Common.{◌≡◌, ◌∙◌, sym, ap, Bool, Some, None, true, false, rules, if◌then◌else◌}
-use Rattle.ceal_types.specs.Places.{place_of}
-use Rattle.ceal_types.specs.Tables.{stands_at}
-use Rattle.ceal_types.proofs.NumberLemmas.{number-of, checked}
+use Rattle.std.proofs.Common.{Option, Some, subst}
+use Rattle.std.specs.Map.{keys_of}
+use Rattle.ceal_types.specs.Places.{Leads}
+use Rattle.ceal_types.specs.declared.places.Places.{Places}
 use Rattle.ceal_types.proofs.table.Table.number.Goals as goal
 
-pub returns-in-Some : goal.returns-in-Some
-returns-in-Some g c =
+pub number_at-requires : goal.number_at-requires
+number_at-requires g c =
     let es = c.self.inside.entries.items in
-    let name = c.args.name.now in
-    let place = c.in-Some.place in
-    let same : c.args.self.now ≡ es = search rules in
-    let at : place_of c.self.inside.places name ≡ Some place = search rules in
-    let stands : stands_at es name place ≡ true = search rules in
-    rw same
-    (record {
-      number = sym
-          (number-of c.self.inside.places es name c.self.invariant.1 ∙ ap (checked es name) at
-          ∙ ap (λ (b : Bool). if b then Some place else None) stands);
-    })
-
-pub returns-in_default : goal.returns-in_default
-returns-in_default g c =
-    let es = c.self.inside.entries.items in
-    let name = c.args.name.now in
-    let place = c.in-Some.place in
-    let same : c.args.self.now ≡ es = search rules in
-    let at : place_of c.self.inside.places name ≡ Some place = search rules in
-    let stands : stands_at es name place ≡ false = search rules in
-    rw same
-    (record {
-      number = sym
-          (number-of c.self.inside.places es name c.self.invariant.1 ∙ ap (checked es name) at
-          ∙ ap (λ (b : Bool). if b then Some place else None) stands);
-    })
-
-pub returns-in_default-2 : goal.returns-in_default-2
-returns-in_default-2 g c =
-    let es = c.self.inside.entries.items in
-    let name = c.args.name.now in
-    let same : c.args.self.now ≡ es = search rules in
-    let at : place_of c.self.inside.places name ≡ None = search rules in
-    rw same (record { number = sym (number-of c.self.inside.places es name c.self.invariant.1 ∙ ap (checked es name) at) })
+    let led : Leads (Some c.in-Some.places) (keys_of es) = subst (λ (p : Option Places). Leads p (keys_of es)) c.in-Some.is c.self.invariant.2 in
+    rw c.as_slice-in-Some.ensures.value (record { led = led })
