@@ -78,7 +78,7 @@ pub fn no_name(alloc: Global, at: Span) -> Ident {
 }
 
 /// An expression that holds nothing, which stands where another was taken away.
-pub fn no_expr(at: Span) -> Expr {
+pub(crate) fn no_expr(at: Span) -> Expr {
     Expr {
         span: at,
         form: ExprForm::Own,

@@ -46,7 +46,7 @@ fn put_in(tree: &mut BTreeMap<u32, u32>, hash: u32, place: u32) -> Result<(), No
 
 impl Slots {
     /// Slots without places, so many and one.
-    pub fn new(alloc: Global, count: usize) -> Result<Slots, NoMemory> {
+    pub(crate) fn new(alloc: Global, count: usize) -> Result<Slots, NoMemory> {
         let slots = empty_slots(alloc, count.saturating_add(1))?;
         Ok(Slots {
             slots,
