@@ -1,5 +1,5 @@
 -- Which questions come to be answered, and about what.
-use Rattle.std.proofs.Common.{◌≡◌, ℕ, ◌<◌, ◌||◌, Bool, true, false, Option, Some, None, Result, Ok, Err, IfOk, List, [], ◌∷◌, length, map, is_some, is_none, if◌then◌else◌, position, refl, sym, ap, ◌∙◌, subst, slice_get, arith}
+use Rattle.std.proofs.Common.{◌≡◌, ℕ, ◌<◌, ◌||◌, Bool, true, false, Option, Some, None, Result, Ok, Err, List, [], ◌∷◌, length, map, is_some, if◌then◌else◌, position, refl, ap, subst, slice_get, arith}
 use Rattle.std.specs.List.{list_any}
 use Rattle.std.specs.Option.{option_map}
 use Rattle.std.specs.Prelude.{bytes_eq}
@@ -7,7 +7,7 @@ use Rattle.std.proofs.lemmas.Option.{slice_get-map}
 use Rattle.ceal_base.specs.Block.{Block}
 use Rattle.ceal_base.specs.Finished.{Finished}
 use Rattle.ceal_base.specs.Fitting.{kind_in, kind_at, block_fits}
-use Rattle.ceal_base.specs.Shapes.{kinds_of_shape, field_kinds, kind_of_field}
+use Rattle.ceal_base.specs.Shapes.{field_kinds, kind_of_field}
 use Rattle.ceal_base.specs.declared.kind.FieldKind.{FieldKind}
 use Rattle.ceal_base.specs.declared.kind.FieldKind.TheVariants.{Plain as PlainField, CellInt, CellPtr}
 use Rattle.ceal_base.specs.declared.kind.Shape.{Shape}
@@ -15,7 +15,6 @@ use Rattle.ceal_base.specs.declared.kind.Shape.TheVariants.{Struct, ModInt, ModP
 use Rattle.ceal_base.specs.declared.typed.FieldInfo.{FieldInfo}
 use Rattle.ceal_base.specs.declared.typed.StructInfo.{StructInfo}
 use Rattle.ceal_base.specs.declared.typed.TypedFunction.{TypedFunction}
-use Rattle.ceal_base.specs.declared.word.Place.{Place}
 use Rattle.ceal_base.specs.declared.word.Word.{Word}
 use Rattle.ceal_base.specs.declared.word.Word.TheVariants.{Num, Null, Block as BlockWord, At}
 use Rattle.ceal_code.specs.Value.{is_cell}
@@ -23,16 +22,15 @@ use Rattle.ceal_base.specs.declared.call.Call.{Call}
 use Rattle.ceal_script.specs.declared.command.Command.{Command}
 use Rattle.ceal_script.specs.declared.command.Command.TheVariants.{Blank, Mod, New, Set, Run, Propagate, Get, Show, Blocks, Steps, Work}
 use Rattle.ceal_script.specs.declared.command.PlaceWord.{PlaceWord}
-use Rattle.ceal_session.specs.Asking.{IsReady, IsCellOf, IsCellSense, IsFor, CanTell}
-use Rattle.ceal_session.specs.Runs.{memory_of, run_of, with_run}
-use Rattle.ceal_session.specs.Senses.{fields_of, fields_numbered, field_named, input_named, block_sense, kind_sense, field_sense, member_sense, part_sense, shape_in, shape_at, input_sense, found_sense, place_sense, value_sense, is_unknown, words_of, mod_shape, struct_shape, struct_named, function_named}
+use Rattle.ceal_session.specs.Asking.{IsCellSense, IsFor, CanTell}
+use Rattle.ceal_session.specs.Runs.{memory_of, run_of}
+use Rattle.ceal_session.specs.Senses.{fields_of, fields_numbered, field_named, input_named, block_sense, kind_sense, field_sense, member_sense, part_sense, shape_in, found_sense, place_sense, value_sense, is_unknown, words_of, mod_shape, struct_shape, struct_named, function_named}
 use Rattle.ceal_session.specs.State.{State}
-use Rattle.ceal_session.specs.Steps.{Step, stays, refuses, made_if, made_with, made, made_of, fits_cell, set_base, set_word, set, fits_function, IsCall, IsFirst, called_with, called_function, called, called_again, run_reply, runs, has_no_run, asked, got, shown, answered, answered_line, block_of}
+use Rattle.ceal_session.specs.Steps.{Step, refuses, made_with, made_of, fits_cell, set_word, set, fits_function, IsFirst, called_with, called_function, called, called_again, run_reply, runs, has_no_run, asked, got, shown, answered, answered_line, block_of}
 use Rattle.ceal_session.specs.declared.refusal.Refusal.{Refusal}
 use Rattle.ceal_session.specs.declared.refusal.Refusal.TheVariants.{C2, C3, C4, C5, C6, C7, C8}
 use Rattle.ceal_session.specs.declared.reply.Query.{Query}
 use Rattle.ceal_session.specs.declared.reply.Query.TheVariants.{Get as GetOf, Show as ShowOf, Blocks as BlocksOf, Steps as StepsOf, Work as WorkOf}
-use Rattle.ceal_session.specs.declared.reply.Reply.{Reply}
 use Rattle.ceal_session.specs.declared.reply.Reply.TheVariants.{Refused, Told}
 use Rattle.ceal_session.specs.declared.sense.Sense.{Sense}
 use Rattle.ceal_session.specs.declared.sense.Sense.TheVariants.{Unknown, Plain, Word as IsWord}

@@ -1,5 +1,5 @@
 -- The functions of a program and those of its code.
-use Rattle.std.proofs.Common.{◌≡◌, ℕ, ◌&&◌, Bool, true, false, Option, Some, None, List, take, is_none, refl, sym, ap, ◌∙◌, subst, slice_get, arith}
+use Rattle.std.proofs.Common.{◌≡◌, ℕ, true, Option, Some, None, List, take, is_none, refl, sym, ap, ◌∙◌, slice_get, arith}
 use Rattle.ceal_base.specs.Block.{Blocks}
 use Rattle.ceal_base.specs.Fitting.{words_fit, inputs_fit}
 use Rattle.ceal_base.specs.Usage.{IsCore}
@@ -16,7 +16,7 @@ use Rattle.ceal_compile.specs.Compiled.{IsCodeOf}
 use Rattle.ceal_compile.specs.Laws.{call_fits}
 use Rattle.ceal_session.specs.Runs.{inputs_alone}
 use Rattle.ceal_session.specs.State.{State}
-use Rattle.ceal_session.specs.Steps.{fits_function, is_call_of}
+use Rattle.ceal_session.specs.Steps.{is_call_of}
 
 module _ (p : Typed) (code : Code) (c : IsCodeOf p code) where
   pub same-structs : code.structs ≡ p.structs

@@ -1,17 +1,17 @@
 -- The inputs after one more and after an edit extend those before.
 use Rattle.std.proofs.Common.{◌≡◌, ℕ, zero, suc, Bool, true, false, if◌then◌else◌, Option, Some, None, List, [], ◌∷◌, ◌++◌, refl, sym, ap, ◌∙◌, subst, slice_get, slice_set, arith}
 use Rattle.std.specs.Option.{option_map}
-use Rattle.ceal_base.specs.Block.{Block, Blocks, alone, block_at, written_at}
+use Rattle.ceal_base.specs.Block.{Block, alone, block_at, written_at}
 use Rattle.ceal_base.specs.Fitting.{kind_in, kind_at}
 use Rattle.ceal_base.specs.Operators.{same_block}
 use Rattle.ceal_base.specs.Shapes.{kinds_of_shape, default_of_field}
 use Rattle.ceal_base.specs.declared.kind.FieldKind.{FieldKind}
 use Rattle.ceal_base.specs.declared.word.BlockId.{BlockId}
-use Rattle.ceal_base.specs.declared.word.BlockId.TheVariants.{Input, Core}
+use Rattle.ceal_base.specs.declared.word.BlockId.TheVariants.{Input}
 use Rattle.ceal_base.specs.declared.word.Place.{Place}
 use Rattle.ceal_base.specs.declared.word.Word.{Word}
 use Rattle.ceal_code.proofs.Memory.{altered, get-before, get-within, written-here, written-other}
-use Rattle.ceal_code.proofs.Same.{block-same, none-some, some-same}
+use Rattle.ceal_code.proofs.Same.{block-same, some-same}
 use Rattle.ceal_code.specs.Program.{Code}
 use Rattle.ceal_code.specs.Replay.{plain_words, plain_block}
 use Rattle.ceal_code.specs.Value.{is_cell}

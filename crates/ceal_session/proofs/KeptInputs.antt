@@ -1,5 +1,5 @@
 -- A run changes nothing of an input but what its modifiables hold.
-use Rattle.std.proofs.Common.{◌≡◌, ℕ, ◌==◌, Bool, true, false, Option, Some, None, List, [], ◌∷◌, length, refl, sym, ap, ◌∙◌, subst, slice_get, slice_set, arith}
+use Rattle.std.proofs.Common.{◌≡◌, ℕ, ◌==◌, Bool, true, false, Option, Some, None, List, [], refl, sym, ap, ◌∙◌, subst, slice_get, slice_set, arith}
 use Rattle.ceal_base.specs.Block.{Block, Blocks, block_at, written_at}
 use Rattle.ceal_base.specs.Finished.{Finished}
 use Rattle.ceal_base.specs.Fitting.{kind_in, kind_at}
@@ -9,20 +9,19 @@ use Rattle.ceal_base.specs.declared.forest.UnitId.{UnitId}
 use Rattle.ceal_base.specs.declared.kind.FieldKind.{FieldKind}
 use Rattle.ceal_base.specs.declared.kind.FieldKind.TheVariants.{Plain, CellInt, CellPtr}
 use Rattle.ceal_base.specs.declared.typed.StructInfo.{StructInfo}
-use Rattle.ceal_base.specs.declared.word.BlockId.{BlockId}
-use Rattle.ceal_base.specs.declared.word.BlockId.TheVariants.{Input, Core}
+use Rattle.ceal_base.specs.declared.word.BlockId.TheVariants.{Input}
 use Rattle.ceal_base.specs.declared.word.Place.{Place}
 use Rattle.ceal_base.specs.declared.word.Word.{Word}
 use Rattle.ceal_base.specs.declared.word.Word.TheVariants.{Num, Null, Block as BlockWord, At}
 use Rattle.ceal_code.proofs.Ends.{fresh-ends}
 use Rattle.ceal_code.proofs.Memory.{altered, get-set_other, written-here, written-other}
-use Rattle.ceal_code.proofs.Same.{nat-same, none-some, some-same, block-same}
+use Rattle.ceal_code.proofs.Same.{nat-same, some-same, block-same}
 use Rattle.ceal_code.specs.Fitting.{Fits}
 use Rattle.ceal_code.specs.Fresh.{fresh}
 use Rattle.ceal_code.specs.Laws.{ProgressLaw}
 use Rattle.ceal_code.specs.Program.{Code}
 use Rattle.ceal_code.specs.Running.{Steps, Reaches, Modifiable, CommandThere, StackThere, NotStuck}
-use Rattle.ceal_code.specs.Step.{Stack, Empty, Run, Act, Over, Quiet, Makes, Writes, Reads, command_at, place_of, writes_at, reads_at, settled, act, acted, started, next}
+use Rattle.ceal_code.specs.Step.{Stack, Empty, Run, Writes, command_at, place_of, writes_at, reads_at, settled, act, acted, started, next}
 use Rattle.ceal_code.specs.Valid.{valid}
 use Rattle.ceal_code.specs.Value.{Variables, is_cell, expr_value}
 use Rattle.ceal_code.specs.declared.command.Cmd.{Cmd}

@@ -1,5 +1,5 @@
 -- A line of a session whose trace is the definition's up to the numbers of core blocks is answered as the definition says.
-use Rattle.std.proofs.Common.{◌≡◌, ◌⊎◌, inl, inr, ℕ, Bool, true, false, ◌||◌, if◌then◌else◌, Option, Some, None, Result, Ok, Err, List, is_some, is_none, refl, sym, ap, ◌∙◌, subst, arith}
+use Rattle.std.proofs.Common.{◌≡◌, ◌⊎◌, inl, inr, ℕ, Bool, true, false, if◌then◌else◌, Option, Some, None, Result, Ok, Err, List, is_some, refl, sym, ◌∙◌, subst, arith}
 use Rattle.ceal_base.specs.Finished.{Finished}
 use Rattle.ceal_base.specs.declared.call.Call.{Call}
 use Rattle.ceal_code.proofs.Same.{none-some}
@@ -7,23 +7,21 @@ use Rattle.ceal_code.specs.Fitting.{Fits}
 use Rattle.ceal_code.specs.Laws.{ProgressLaw}
 use Rattle.ceal_code.specs.Program.{Code}
 use Rattle.ceal_code.specs.Replay.{Replays}
-use Rattle.ceal_script.specs.declared.command.Command.{Command}
 use Rattle.ceal_session.proofs.Answering.{can-tell-line}
 use Rattle.ceal_session.proofs.Composed.{renamed-composed}
 use Rattle.ceal_session.proofs.SomeReply.{Accepted, RepairLaws, LineLaw, WholeLaw, TextLaw, accepted-in, behind, fits-call}
 use Rattle.ceal_session.proofs.Tracing.{is-above, on-itself, above}
 use Rattle.ceal_session.specs.Asking.{CanTell, IsReady}
-use Rattle.ceal_session.specs.Following.{Goes, Repairs}
-use Rattle.ceal_session.specs.Laws.{Kept, KeptLaw, OneCommandLaw}
+use Rattle.ceal_session.specs.Following.{Goes}
+use Rattle.ceal_session.specs.Laws.{KeptLaw, OneCommandLaw}
 use Rattle.ceal_session.specs.Runs.{present_run, run_of}
 use Rattle.ceal_session.specs.Standing.{IsTraceOf, IsWorkOf, Stands}
 use Rattle.ceal_session.specs.State.{State, Situation, last}
-use Rattle.ceal_session.specs.Steps.{IsCall, answered_line, has_no_run}
+use Rattle.ceal_session.specs.Steps.{answered_line}
 use Rattle.ceal_session.specs.Texts.{TellsOf, IsText}
 use Rattle.ceal_session.specs.Works.{call_in, latest_work, traced, trace_behind}
 use Rattle.ceal_session.specs.declared.refusal.Refusal.{Refusal}
 use Rattle.ceal_session.specs.declared.reply.Query.{Query}
-use Rattle.ceal_session.specs.declared.reply.Query.TheVariants.{Get, Show, Blocks, Steps, Work}
 use Rattle.ceal_session.specs.declared.reply.Reply.{Reply}
 use Rattle.ceal_session.specs.declared.reply.Reply.TheVariants.{Nothing, Ok as Done, OutOfFuel, Refused, Told}
 use Rattle.ceal_theory.specs.Computed.{Repaired}

@@ -8,7 +8,7 @@ use Rattle.ceal_base.specs.declared.word.BlockId.TheVariants.{Input}
 use Rattle.ceal_script.specs.Lines.{IsLineOf}
 use Rattle.ceal_script.specs.declared.command.Command.{Command}
 use Rattle.ceal_session.specs.Laws.{OneCommandLaw, OneReplyLaw, OneStateLaw, OneScriptLaw, OneWorksLaw}
-use Rattle.ceal_session.specs.Replies.{Reads, Works, taken, AreReplies, AreWorks}
+use Rattle.ceal_session.specs.Replies.{taken, AreReplies, AreWorks}
 use Rattle.ceal_session.specs.Runs.{present_run}
 use Rattle.ceal_session.specs.State.{State}
 use Rattle.ceal_session.specs.Steps.{answered_line}

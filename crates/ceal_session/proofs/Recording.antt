@@ -1,5 +1,5 @@
 -- The record of an engine's run is that of the session's trace.
-use Rattle.std.proofs.Common.{◌≡◌, ℕ, Bool, true, Option, Some, None, List, refl, sym, ap, ◌∙◌, subst, arith}
+use Rattle.std.proofs.Common.{◌≡◌, ℕ, Bool, Option, Some, None, List, refl, sym, ap, ◌∙◌, subst}
 use Rattle.std.specs.Option.{option_map}
 use Rattle.std.specs.Prelude.{IfSome}
 use Rattle.ceal_base.specs.Trace.{Trace, flat}
@@ -8,16 +8,13 @@ use Rattle.ceal_base.specs.declared.forest.Item.{Item}
 use Rattle.ceal_base.specs.declared.recorded.Record.{Record}
 use Rattle.ceal_base.specs.declared.typed.Typed.{Typed}
 use Rattle.ceal_engine.specs.Engine.{EngineState, IsEngine, ReplaysCall, trace}
-use Rattle.ceal_engine.specs.declared.phase.Phase.TheVariants.{Finished as IsFinished}
 use Rattle.ceal_code.specs.Fitting.{Fits}
 use Rattle.ceal_code.specs.Replay.{Replays}
 use Rattle.ceal_record.specs.Recorded.{IsRecordOf, IsTraceOf}
-use Rattle.ceal_session.proofs.SourceRun.{last-is, ready-finished, worked}
+use Rattle.ceal_session.proofs.SourceRun.{last-is, worked}
 use Rattle.ceal_session.specs.Asking.{IsReady}
 use Rattle.ceal_session.specs.Keeping.{state_of, situation_of, Holds}
 use Rattle.ceal_session.specs.Recording.{IsRecorded}
-use Rattle.ceal_session.specs.State.{State}
-use Rattle.ceal_session.specs.Steps.{has_no_run}
 
 module _ (p : Typed) (names : List (List ℕ)) (e : EngineState) (pending : Bool) (h : Holds p names e pending) (k : IsEngine e) (ready : IsReady (state_of p names e pending)) where
   module _ (items : List Item) (forest : e.forest ≡ Some items) (call : Call) (called : e.call ≡ Some call) (r : Record)

@@ -1,13 +1,13 @@
 -- What an engine tells of a finished run by its inputs and by its memory.
-use Rattle.std.proofs.Common.{◌≡◌, ℕ, ◌<◌, Bool, true, false, Option, Some, None, List, length, map, is_some, unwrap_or, if◌then◌else◌, refl, sym, ap, ◌∙◌, subst, slice_get, arith}
-use Rattle.std.proofs.lemmas.Option.{slice_get-map, slice_get_within}
+use Rattle.std.proofs.Common.{◌≡◌, ℕ, ◌<◌, Bool, true, false, Option, Some, None, List, length, is_some, unwrap_or, if◌then◌else◌, refl, sym, ap, ◌∙◌, subst, slice_get, arith}
+use Rattle.std.proofs.lemmas.Option.{slice_get_within}
 use Rattle.std.specs.Option.{option_map}
 use Rattle.std.specs.Prelude.{IsSome, IfSome}
 use Rattle.ceal_base.specs.Access.{word_in}
-use Rattle.ceal_base.specs.Block.{Block, Blocks, block_at}
+use Rattle.ceal_base.specs.Block.{Block}
 use Rattle.ceal_base.specs.Finished.{Finished}
-use Rattle.ceal_base.specs.Fitting.{kind_in, memory_fits}
-use Rattle.ceal_base.specs.Same.{renamed_id, renamed_word, renamed_block}
+use Rattle.ceal_base.specs.Fitting.{kind_in}
+use Rattle.ceal_base.specs.Same.{renamed_block}
 use Rattle.ceal_base.specs.Shapes.{kinds_of_shape}
 use Rattle.ceal_base.specs.declared.kind.FieldKind.{FieldKind}
 use Rattle.ceal_base.specs.declared.kind.FieldKind.TheVariants.{Plain, CellInt, CellPtr}
@@ -24,14 +24,14 @@ use Rattle.ceal_code.proofs.Same.{none-some, some-same}
 use Rattle.ceal_code.specs.Fitting.{Fits}
 use Rattle.ceal_code.specs.Laws.{ProgressLaw}
 use Rattle.ceal_code.specs.Value.{is_cell}
-use Rattle.ceal_engine.specs.Engine.{EngineState, IsRun, IsPresent, IsEngine, Shows, block_in, stored_at, fresh_call, is_plain}
+use Rattle.ceal_engine.specs.Engine.{EngineState, IsEngine, Shows, block_in, stored_at, fresh_call, is_plain}
 use Rattle.ceal_base.specs.declared.call.Call.{Call}
 use Rattle.ceal_engine.specs.declared.phase.Phase.{Phase}
 use Rattle.ceal_engine.specs.declared.phase.Phase.TheVariants.{New, Finished as IsFinished, Pending, Dropped}
 use Rattle.ceal_session.proofs.KeptInputs.{Kept, kept-fresh}
 use Rattle.ceal_session.proofs.Store.{input-renamed, plain-back}
 use Rattle.ceal_session.specs.Shown.{is_finished, seen}
-use Rattle.ceal_show.specs.Shown.{IsWhole, shape_in, words_in, shape_at, word_at}
+use Rattle.ceal_show.specs.Shown.{IsWhole, words_in, word_at}
 
 finished-is : (phase : Phase) → is_finished phase ≡ true → phase ≡ IsFinished
 finished-is New h = absurd (grind (arith, h))

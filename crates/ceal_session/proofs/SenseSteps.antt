@@ -4,7 +4,7 @@ use Rattle.std.proofs.lemmas.List.{drop_more, drop_all}
 use Rattle.ceal_base.specs.declared.word.Word.{Word}
 use Rattle.ceal_session.specs.Senses.{words_of, more_words}
 use Rattle.ceal_session.specs.declared.sense.Sense.{Sense}
-use Rattle.ceal_session.specs.declared.sense.Sense.TheVariants.{Unknown, Plain, Word as IsWord}
+use Rattle.ceal_session.specs.declared.sense.Sense.TheVariants.{Unknown, Word as IsWord}
 
 -- these words, and then those
 abbrev pub behind : List Word → Option (List Word) → Option (List Word)

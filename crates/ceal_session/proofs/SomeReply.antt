@@ -1,9 +1,7 @@
 -- In a session each line has a reply.
-use Rattle.std.proofs.Common.{◌≡◌, ◌⊎◌, inl, inr, ℕ, ◌+◌, ◌<◌, ◌||◌, ◌&&◌, Bool, true, false, Option, Some, None, Result, Ok, Err, List, [], ◌∷◌, ◌++◌, length, map, is_none, is_some, if◌then◌else◌, refl, sym, ap, ◌∙◌, subst, slice_get, take, length-append, arith}
+use Rattle.std.proofs.Common.{◌≡◌, ◌⊎◌, inl, inr, ℕ, ◌<◌, ◌||◌, Bool, true, false, Option, Some, None, Result, Ok, Err, List, [], ◌∷◌, ◌++◌, length, map, is_none, is_some, if◌then◌else◌, refl, sym, ap, ◌∙◌, subst, slice_get, take, length-append, arith}
 use Rattle.std.specs.List.{list_any}
 use Rattle.std.specs.Prelude.{IsSome, IsTrue, IfSome, bytes_eq, codes}
-use Rattle.std.proofs.lemmas.Bool.{cases_Bool}
-use Rattle.ceal_base.specs.Access.{content_of}
 use Rattle.ceal_base.specs.Block.{Block, Blocks, block_at}
 use Rattle.ceal_base.specs.Finished.{Finished}
 use Rattle.ceal_base.specs.Fitting.{kind_at, words_fit, block_fits, memory_fits, inputs_fit}
@@ -38,13 +36,13 @@ use Rattle.ceal_session.proofs.Tracing.{Found, first-found, repair-found}
 use Rattle.ceal_session.specs.Asking.{CanTell, IsCellOf, IsCellSense}
 use Rattle.ceal_session.specs.Laws.{Behind, Answered, BegunLaw, SomeReplyLaw, SomeScriptLaw, DroppedLaw}
 use Rattle.ceal_session.specs.Refusals.{refusal_text}
-use Rattle.ceal_session.specs.Replies.{Works, taken, AreReplies, AreWorks}
+use Rattle.ceal_session.specs.Replies.{taken, AreReplies, AreWorks}
 use Rattle.ceal_session.specs.Runs.{memory_of, present_run, run_of, with_run}
 use Rattle.ceal_session.specs.Senses.{is_unknown, words_of, mod_shape, struct_shape, struct_named, function_named, place_sense, value_sense}
 use Rattle.ceal_session.specs.Standing.{IsTraceOf, IsWorkOf, Stands}
 use Rattle.ceal_session.specs.State.{State}
-use Rattle.ceal_session.specs.Steps.{Step, stays, refuses, with_input, block_of, made_with, made_of, with_base, fits_cell, set_word, set, fits_function, is_call_of, IsCall, called, called_again, run_reply, runs, call_of, answered, answered_line}
-use Rattle.ceal_session.specs.Texts.{input_name, value_text, TellsOf, IsText}
+use Rattle.ceal_session.specs.Steps.{Step, stays, refuses, with_input, block_of, made_with, made_of, with_base, fits_cell, set_word, set, is_call_of, IsCall, called, called_again, run_reply, runs, call_of, answered, answered_line}
+use Rattle.ceal_session.specs.Texts.{input_name, TellsOf, IsText}
 use Rattle.ceal_session.specs.Works.{call_in, ends, completes, traced, trace_behind, number_of}
 use Rattle.ceal_theory.specs.Adjust.{Extended}
 use Rattle.ceal_theory.specs.Computed.{Repaired}
@@ -60,7 +58,6 @@ use Rattle.ceal_session.specs.declared.sense.Sense.{Sense}
 use Rattle.ceal_session.specs.declared.sense.Sense.TheVariants.{Unknown, Plain, Word as IsWord}
 use Rattle.ceal_show.specs.Graph.{IsGraphText}
 use Rattle.ceal_show.specs.Shown.{IsWhole}
-use Rattle.std.specs.Fmt.{decimal}
 
 -- the laws that a line is a command's or none's, that a memory whose words fit is whole, and that a whole memory has texts
 abbrev pub LineLaw : Type 0

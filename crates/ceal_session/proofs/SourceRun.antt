@@ -1,9 +1,8 @@
 -- The run that an engine has is the source's.
-use Rattle.std.proofs.Common.{◌≡◌, ◌⊎◌, inl, inr, ℕ, Bool, true, false, Option, Some, None, Result, Ok, Err, IfOk, IsSomeAnd, OnOk, List, length, is_some, refl, sym, ap, ◌∙◌, subst, arith}
+use Rattle.std.proofs.Common.{◌≡◌, inr, ℕ, Bool, true, false, Option, Some, None, Result, Ok, Err, IfOk, IsSomeAnd, OnOk, List, is_some, refl, sym, ap, ◌∙◌, subst, arith}
 use Rattle.std.specs.Option.{option_map}
-use Rattle.std.specs.Prelude.{IfSome, OnErr, slice_get, is_none}
+use Rattle.std.specs.Prelude.{IfSome, OnErr}
 use Rattle.ceal_base.specs.Finished.{Finished}
-use Rattle.ceal_base.specs.Usage.{IsCore}
 use Rattle.ceal_base.specs.declared.typed.Typed.{Typed}
 use Rattle.ceal_base.specs.Trace.{Trace, flat, steps_of}
 use Rattle.ceal_base.specs.declared.forest.Item.{Item}
@@ -21,13 +20,13 @@ use Rattle.ceal_session.proofs.Compiled.{core-of}
 use Rattle.ceal_session.proofs.Tracing.{above, is-above, first-trace}
 use Rattle.ceal_session.specs.Asking.{IsReady}
 use Rattle.ceal_session.specs.Keeping.{state_of, situation_of, work_of, Holds}
-use Rattle.ceal_session.specs.Runs.{run_of, run_of_call, present_run, with_run}
-use Rattle.ceal_session.specs.Following.{Goes, Retraces, dropped, IsLeftBy}
-use Rattle.ceal_session.specs.State.{State, Situation, last, repaired_of}
-use Rattle.ceal_session.specs.Works.{traced, trace_behind}
+use Rattle.ceal_session.specs.Runs.{run_of, run_of_call, present_run}
+use Rattle.ceal_session.specs.Following.{Goes, dropped, IsLeftBy}
+use Rattle.ceal_session.specs.State.{Situation, repaired_of}
+use Rattle.ceal_session.specs.Works.{traced}
 use Rattle.ceal_theory.specs.Computed.{Repaired, adjusted, first_of}
 use Rattle.ceal_theory.specs.Laws.{FirstLaw, RenamedRepair}
-use Rattle.ceal_session.specs.Steps.{Step, runs, called_again}
+use Rattle.ceal_session.specs.Steps.{runs, called_again}
 use Rattle.ceal_session.specs.declared.reply.Reply.{Reply}
 use Rattle.ceal_session.specs.declared.reply.Reply.TheVariants.{Ok as Done, OutOfFuel}
 

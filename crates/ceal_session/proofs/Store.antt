@@ -1,15 +1,13 @@
 -- What an engine shows of a finished run: its blocks are those of the run from scratch up to the numbers of core blocks.
-use Rattle.std.proofs.Common.{◌≡◌, ℕ, zero, suc, ◌+◌, ◌<◌, ◌==◌, ◌&&◌, nat_eq, Bool, true, false, if◌then◌else◌, Option, Some, None, List, [], ◌∷◌, map, length, is_some, unwrap_or, refl, sym, ap, ap₂, ◌∙◌, subst, slice_get, slice_index, arith}
-use Rattle.std.specs.List.{list_all}
+use Rattle.std.proofs.Common.{◌≡◌, ℕ, zero, suc, ◌+◌, ◌<◌, ◌==◌, Bool, true, false, Option, Some, None, List, [], ◌∷◌, map, length, is_some, unwrap_or, refl, sym, ap, ap₂, ◌∙◌, subst, slice_get, slice_index, arith}
 use Rattle.std.specs.Option.{option_map}
 use Rattle.std.specs.Prelude.{IsSome}
 use Rattle.std.proofs.lemmas.Option.{slice_get-map}
-use Rattle.ceal_base.specs.Access.{of_struct, word_in, content_of}
+use Rattle.ceal_base.specs.Access.{word_in, content_of}
 use Rattle.ceal_base.specs.Block.{Block, Blocks, block_at}
 use Rattle.ceal_base.specs.Finished.{Finished}
-use Rattle.ceal_base.specs.Fitting.{kind_in, kind_at, fits_kind, fits_field, fields_fit, block_fits, memory_fits, inputs_fit}
-use Rattle.ceal_base.specs.Same.{Same, index_of, renamed_id, renamed_word, renamed_block}
-use Rattle.ceal_base.specs.Shapes.{kinds_of_shape}
+use Rattle.ceal_base.specs.Fitting.{fits_kind, fits_field, fields_fit}
+use Rattle.ceal_base.specs.Same.{index_of, renamed_id, renamed_word, renamed_block}
 use Rattle.ceal_base.specs.declared.kind.FieldKind.{FieldKind}
 use Rattle.ceal_base.specs.declared.kind.FieldKind.TheVariants.{Plain, CellInt, CellPtr}
 use Rattle.ceal_base.specs.declared.kind.Kind.{Kind}
@@ -17,13 +15,11 @@ use Rattle.ceal_base.specs.declared.kind.Kind.TheVariants.{Int, Ptr, ModInt, Mod
 use Rattle.ceal_base.specs.declared.typed.StructInfo.{StructInfo}
 use Rattle.ceal_base.specs.declared.word.BlockId.{BlockId}
 use Rattle.ceal_base.specs.declared.word.BlockId.TheVariants.{Input, Core}
-use Rattle.ceal_base.specs.declared.word.Place.{Place}
 use Rattle.ceal_base.specs.declared.word.Word.{Word}
 use Rattle.ceal_base.specs.declared.word.Word.TheVariants.{Num, Null, Block as BlockWord, At}
-use Rattle.ceal_code.proofs.Memory.{get-within, got}
+use Rattle.ceal_code.proofs.Memory.{get-within}
 use Rattle.ceal_code.proofs.Same.{both, none-some, some-same}
 use Rattle.ceal_engine.specs.Engine.{EngineState, IsRun, core, stored_at}
-use Rattle.ceal_show.specs.Graph.{core_count}
 use Rattle.ceal_show.specs.Renaming.{IsRenaming, renamed_word as shown_word, renamed_block as shown_block}
 use Rattle.ceal_show.specs.Shown.{IsWhole, IsThere, words_in, word_at, target}
 

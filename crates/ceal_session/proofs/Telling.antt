@@ -1,10 +1,10 @@
 -- The source's run as an engine tells of it.
-use Rattle.std.proofs.Common.{◌≡◌, ℕ, ◌<◌, Bool, true, false, Option, Some, None, List, length, is_some, refl, sym, ap, ◌∙◌, subst, slice_get, arith}
+use Rattle.std.proofs.Common.{◌≡◌, ℕ, ◌<◌, Bool, true, Option, Some, None, List, length, is_some, refl, sym, ap, ◌∙◌, subst, arith}
 use Rattle.std.specs.Prelude.{IsSome, IsTrue}
 use Rattle.ceal_base.specs.Access.{word_in, content_of}
-use Rattle.ceal_base.specs.Block.{Block, Blocks, block_at}
+use Rattle.ceal_base.specs.Block.{Blocks, block_at}
 use Rattle.ceal_base.specs.Finished.{Finished}
-use Rattle.ceal_base.specs.Fitting.{kind_at, memory_fits}
+use Rattle.ceal_base.specs.Fitting.{memory_fits}
 use Rattle.ceal_base.specs.Same.{renamed_id, renamed_word}
 use Rattle.ceal_base.specs.Trace.{Trace}
 use Rattle.ceal_base.specs.declared.typed.StructInfo.{StructInfo}
@@ -16,17 +16,16 @@ use Rattle.ceal_base.specs.declared.word.Word.{Word}
 use Rattle.ceal_base.specs.declared.word.Word.TheVariants.{Num, Null, Block as BlockWord, At}
 use Rattle.ceal_code.proofs.Memory.{got}
 use Rattle.ceal_code.specs.Laws.{ProgressLaw}
-use Rattle.ceal_code.specs.Value.{is_cell}
-use Rattle.ceal_engine.specs.Engine.{EngineState, IsRun, IsEngine, has_run, stored_at, trace}
+use Rattle.ceal_engine.specs.Engine.{EngineState, IsEngine, has_run, stored_at, trace}
 use Rattle.ceal_engine.specs.declared.phase.Phase.TheVariants.{Finished as IsFinished}
 use Rattle.ceal_session.proofs.Compiled.{same-structs}
 use Rattle.ceal_session.proofs.Seen.{seen-is, seen-same, input-count}
-use Rattle.ceal_session.proofs.SourceRun.{HasRun, has-run, last-is, ready-finished, source-fresh, worked}
+use Rattle.ceal_session.proofs.SourceRun.{HasRun, has-run, last-is, ready-finished, worked}
 use Rattle.ceal_session.proofs.Store.{content-renamed, renaming, there-back, whole-store}
 use Rattle.ceal_session.specs.Asking.{IsReady, IsCellOf, steps_in, blocks_in, content_text}
 use Rattle.ceal_session.specs.Keeping.{state_of, situation_of, Holds}
 use Rattle.ceal_session.specs.Works.{latest_work}
-use Rattle.ceal_session.specs.Runs.{present_run, memory_of}
+use Rattle.ceal_session.specs.Runs.{present_run}
 use Rattle.ceal_session.specs.Shown.{seen, label}
 use Rattle.ceal_session.specs.State.{State, last}
 use Rattle.ceal_session.specs.Texts.{block_text, value_text, TellsOf}

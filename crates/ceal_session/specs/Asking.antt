@@ -15,7 +15,7 @@ use Rattle.ceal_session.specs.declared.reply.Query.TheVariants.{Get, Show, Block
 use Rattle.ceal_session.specs.declared.reply.Reply.{Reply}
 use Rattle.ceal_session.specs.declared.reply.Reply.TheVariants.{Nothing, Ok, OutOfFuel, Refused, Told}
 use Rattle.ceal_session.specs.declared.sense.Sense.{Sense}
-use Rattle.ceal_session.specs.declared.sense.Sense.TheVariants.{Unknown, Plain, Word as IsWord}
+use Rattle.ceal_session.specs.declared.sense.Sense.TheVariants.{Word as IsWord}
 
 -- there is a run that was not out of fuel, and no edit came after it
 pub record IsReady (s : State) : Type 0 where

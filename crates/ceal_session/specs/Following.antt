@@ -1,5 +1,5 @@
 -- What a session has behind a line.
-use Rattle.std.specs.Prelude.{◌≡◌, ◌⊎◌, ℕ, true, Option, Some, None, Result, Ok, Err, List}
+use Rattle.std.specs.Prelude.{◌≡◌, ◌⊎◌, ℕ, true, Option, None, Result, Ok, Err, List}
 use Rattle.ceal_base.specs.declared.call.Call.{Call}
 use Rattle.ceal_compile.specs.declared.program.Program.{Program}
 use Rattle.ceal_engine.specs.Engine.{InLimits}

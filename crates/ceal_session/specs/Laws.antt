@@ -1,5 +1,5 @@
 -- Laws of replies.
-use Rattle.std.specs.Prelude.{◌≡◌, ℕ, true, Option, Some, None, Ok, List, ◌++◌}
+use Rattle.std.specs.Prelude.{◌≡◌, ℕ, true, Option, None, Ok, List, ◌++◌}
 use Rattle.ceal_base.specs.declared.call.Call.{Call}
 use Rattle.ceal_code.specs.Program.{Code}
 use Rattle.ceal_compile.specs.Compiled.{IsCompiled}

@@ -1,7 +1,7 @@
 -- The replies to the lines of a script. Every line but `work` is answered by the plain meaning of the source, run anew
 -- from the edited inputs, and a line `work` by a number of a list (`AreReplies`); these numbers are the work of trace
 -- repair (`AreWorks`).
-use Rattle.std.specs.Prelude.{◌≡◌, ℕ, Bool, true, false, Option, Some, None, List, [], ◌∷◌, ◌++◌}
+use Rattle.std.specs.Prelude.{◌≡◌, ℕ, Bool, true, Option, Some, None, List, [], ◌∷◌, ◌++◌}
 use Rattle.ceal_code.specs.Program.{Code}
 use Rattle.ceal_script.specs.Lines.{IsLineOf}
 use Rattle.ceal_script.specs.declared.command.Command.{Command}

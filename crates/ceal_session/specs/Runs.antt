@@ -1,5 +1,5 @@
 -- A session that begins, and the run from scratch at each moment of it.
-use Rattle.std.specs.Prelude.{◌≡◌, ℕ, Bool, true, false, Option, Some, None, List, []}
+use Rattle.std.specs.Prelude.{ℕ, Bool, false, Option, Some, None, List, []}
 use Rattle.ceal_base.specs.Block.{Block, Blocks}
 use Rattle.ceal_base.specs.Finished.{Finished}
 use Rattle.ceal_base.specs.declared.typed.Typed.{Typed}

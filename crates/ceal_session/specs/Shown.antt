@@ -1,6 +1,5 @@
 -- What is shown of an engine.
-use Rattle.std.specs.Prelude.{ℕ, Bool, true, false, Option, Some, None, List, [], slice_get, unwrap_or, if◌then◌else◌}
-use Rattle.ceal_base.specs.Block.{Block}
+use Rattle.std.specs.Prelude.{ℕ, Bool, true, false, None, List, [], slice_get, unwrap_or, if◌then◌else◌}
 use Rattle.ceal_engine.specs.Engine.{EngineState, stored_at}
 use Rattle.ceal_engine.specs.declared.phase.Phase.{Phase}
 use Rattle.ceal_engine.specs.declared.phase.Phase.TheVariants.{New, Finished, Pending, Dropped}

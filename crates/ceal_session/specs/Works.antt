@@ -1,6 +1,6 @@
 -- The traces that runs and propagates leave, and their work: change propagation over the program's code.
 use Rattle.std.specs.Prelude.{ℕ, suc, max, Bool, true, false, Option, Some, None, is_some, Result, Ok, Err, List, [], ◌∷◌, if◌then◌else◌}
-use Rattle.ceal_base.specs.Trace.{Trace, blocks_of}
+use Rattle.ceal_base.specs.Trace.{blocks_of}
 use Rattle.ceal_base.specs.declared.call.Call.{Call}
 use Rattle.ceal_code.specs.Program.{Code}
 use Rattle.ceal_code.specs.Replay.{core_numbers}

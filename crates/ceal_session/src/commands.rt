@@ -56,8 +56,21 @@ fn make_block(
     ensures err { OnErr result (state.new ≡ state.old) }
 {
     let shape = struct_shape(state, shape);
-    let senses = value_senses(alloc, state, values)?;
-    make(alloc, state, name, shape, senses.as_slice())
+    match values {
+        [one] => {
+            let one = value_sense(state, one)?;
+            make(alloc, state, name, shape, &[one])
+        }
+        [one, two] => {
+            let one = value_sense(state, one)?;
+            let two = value_sense(state, two)?;
+            make(alloc, state, name, shape, &[one, two])
+        }
+        _ => {
+            let senses = value_senses(alloc, state, values)?;
+            make(alloc, state, name, shape, senses.as_slice())
+        }
+    }
 }
 
 /// `set`

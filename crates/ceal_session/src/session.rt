@@ -47,35 +47,38 @@ impl Model for Session {
     ghost view = { λ s. s.state };
 }
 
-/// The replies behind which a change stands. They are made before it.
-#[derive(Drop)]
-struct Ready {
-    done: Text,
-    out_of_fuel: Text,
+/// The memory of the replies behind which a change stands, which is taken before it: the longer one of them.
+fn prepare(alloc: Global) -> Result<Vec<u8>, NoMemory>
+    ensures ready { IfOk result (λ bytes. bytes.items ≡ codes "out of fuel\n") }
+{
+    let bytes = Vec::from_slice(alloc, b"out of fuel\n")?;
+    Ok(bytes)
 }
 
-fn prepare(alloc: Global) -> Result<Ready, NoMemory>
-    ensures done { IfOk result (λ ready. ready.done ≡ codes "ok\n") }
-    ensures out_of_fuel { IfOk result (λ ready. ready.out_of_fuel ≡ codes "out of fuel\n") }
+/// The shorter one, in the same memory.
+fn done(bytes: Vec<u8>) -> Text
+    requires ready { bytes.items ≡ codes "out of fuel\n" }
+    ensures done { result ≡ codes "ok\n" }
 {
-    let done = Text::from_slice(alloc, b"ok\n")?;
-    let out_of_fuel = Text::from_slice(alloc, b"out of fuel\n")?;
-    Ok(Ready { done, out_of_fuel })
+    let mut bytes = bytes;
+    bytes.truncate(3);
+    bytes[1] = b'k';
+    bytes[2] = b'\n';
+    Text::new(bytes)
 }
 
 /// The text of a reply.
-fn text(alloc: Global, state: &State, reply: Reply, ready: Ready) -> Result<Text, NoMemory>
+fn text(alloc: Global, state: &State, reply: Reply, ready: Vec<u8>) -> Result<Text, NoMemory>
     requires asked { CanTell state.now.state reply }
-    requires done { ready.done ≡ codes "ok\n" }
-    requires out_of_fuel { ready.out_of_fuel ≡ codes "out of fuel\n" }
+    requires ready { ready.items ≡ codes "out of fuel\n" }
     ensures ok { IfOk result
         (λ text. IsText state.now.state (latest_work (last state.now)) reply text) }
     ensures err { OnErr result (IsQuiet reply) }
 {
     match reply {
         Reply::Nothing => Ok(Text::empty(alloc)),
-        Reply::Ok => Ok(ready.done),
-        Reply::OutOfFuel => Ok(ready.out_of_fuel),
+        Reply::Ok => Ok(done(ready)),
+        Reply::OutOfFuel => Ok(Text::new(ready)),
         Reply::Refused(refusal) => Text::from_slice(alloc, refusal_line(refusal).as_bytes()),
         Reply::Told(query) => answer(alloc, state, query),
     }

@@ -196,7 +196,7 @@ impl State {
         if count >= 4_294_967_295 {
             return Err(NoMemory);
         }
-        self.names.add(name)?;
+        self.names.add_new(name)?;
         match self.engine.add_input(shape, words) {
             Ok(_) => Ok(()),
             Err(NoMemory) => {

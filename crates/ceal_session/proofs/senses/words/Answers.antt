@@ -1,10 +1,6 @@
-use Rattle.std.proofs.Common.{◌≡◌, ◌+◌, List, [], ◌∷◌, ◌++◌, drop, Option, Some, None, get_or, ap, sym, ◌∙◌, refl}
-use Rattle.std.proofs.lemmas.List.{drop_more, drop_all}
-use Rattle.ceal_base.specs.declared.word.Word.{Word}
-use Rattle.ceal_session.specs.Senses.{words_of, more_words}
-use Rattle.ceal_session.specs.declared.sense.Sense.{Sense}
-use Rattle.ceal_session.specs.declared.sense.Sense.TheVariants.{Unknown, Plain, Word as IsWord}
-use Rattle.ceal_session.proofs.SenseSteps.{behind, stopped, went, over}
+use Rattle.std.proofs.Common.{refl}
+use Rattle.ceal_session.specs.declared.sense.Sense.TheVariants.{Unknown, Plain}
+use Rattle.ceal_session.proofs.SenseSteps.{stopped, went, over}
 use Rattle.ceal_session.proofs.senses.words.Goals as goal
 
 pub returns-in-Unknown : goal.returns-in-Unknown

@@ -1,6 +1,5 @@
-use Rattle.std.proofs.Common.{◌≡◌, ◌∙◌, Some, sym, ap, subst, is_some}
+use Rattle.std.proofs.Common.{◌∙◌, Some, sym, ap, is_some}
 use Rattle.std.specs.Option.{option_map}
-use Rattle.ceal_code.proofs.Same.{some-same}
 use Rattle.ceal_session.proofs.Seen.{seen-block, seen-finished, shows-finished}
 use Rattle.ceal_show.specs.Shown.{shape_in}
 use Rattle.ceal_session.proofs.view.block_shape.Goals as goal

@@ -1,4 +1,4 @@
-use Rattle.std.proofs.Common.{◌≡◌, ◌∙◌, true, false, Some, sym, ap, subst, is_some, arith}
+use Rattle.std.proofs.Common.{◌≡◌, ◌∙◌, true, false, Some, sym, ap, is_some}
 use Rattle.ceal_base.specs.Fitting.{kind_in}
 use Rattle.ceal_engine.specs.Engine.{block_in, is_plain}
 use Rattle.ceal_session.proofs.Seen.{seen-block, seen-finished, shows-finished, word-seen, word-stored, word-plain, kind-there, kind-by}

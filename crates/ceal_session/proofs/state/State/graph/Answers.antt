@@ -1,4 +1,4 @@
-use Rattle.std.proofs.Common.{◌≡◌, ◌<◌, IfOk, length, sym, subst}
+use Rattle.std.proofs.Common.{◌<◌, IfOk, length, sym, subst}
 use Rattle.ceal_session.proofs.ReplySteps.{if-ok}
 use Rattle.ceal_session.proofs.Telling.{whole-seen, root-seen, told-graph}
 use Rattle.ceal_session.specs.Asking.{IsReady}

@@ -1,6 +1,6 @@
-use Rattle.std.proofs.Common.{◌≡◌, true, false, Option, Some, None, IfOk, OnOk, Result, Ok, Err, refl, sym, ap, ◌∙◌, subst, is_some, arith}
+use Rattle.std.proofs.Common.{◌≡◌, true, false, IfOk, OnOk, refl, sym, subst, is_some}
 use Rattle.std.specs.Prelude.{OnErr}
-use Rattle.ceal_session.proofs.SourceRun.{Settled, propagated, ran-again, reply-ok, reply-goes, reply-err}
+use Rattle.ceal_session.proofs.SourceRun.{propagated, ran-again, reply-ok, reply-goes, reply-err}
 use Rattle.ceal_session.specs.Following.{Goes, IsLeftBy}
 use Rattle.ceal_session.specs.Keeping.{situation_of}
 use Rattle.ceal_session.specs.Steps.{runs, called_again}
