@@ -4,6 +4,7 @@ pub mod Digits
 pub mod Hashing
 pub mod Operators
 pub mod Block
+pub mod Kinds
 pub mod Shapes
 pub mod Access
 pub mod Answers

@@ -19,6 +19,11 @@ default_of_kind (Ptr s) = Null
 default_of_kind ModInt = Null
 default_of_kind (ModPtr s) = Null
 
+-- the same where there may be no type; what has none starts as null
+abbrev pub default_of : Option Kind → Word
+default_of (Some kind) = default_of_kind kind
+default_of None = Null
+
 -- what a field starts as; of an embedded modifiable it is what the modifiable holds
 abbrev pub default_of_field : FieldKind → Word
 default_of_field (Plain kind) = default_of_kind kind

@@ -1,6 +1,6 @@
 // A list of words, of which a few stand in the value itself.
 
-ghost use Rattle.std.specs.Prelude.{◌≡◌, ◌∷◌, [], ◌++◌, ◌↔◌, IsTrue, IfOk, OnOk, OnErr};
+ghost use Rattle.std.specs.Prelude.{◌≡◌, ◌∷◌, [], ◌++◌, ◌↔◌, ◌≤◌, take, IsTrue, IfOk, OnOk, OnErr};
 ghost use Rattle.std.specs.Cmp.Lexicographic.{pointwise, lists_per, lists_equiv};
 ghost use Rattle.std.specs.Hash as fed;
 ghost use Rattle.ceal_base.specs.contracts.word.WordPartialEq.TheImpl.Laws as word_eq;
@@ -21,7 +21,7 @@ use std::marker::Model;
 /// Words, which contracts see as their list.
 #[derive(Drop)]
 pub struct Words {
-    items: SmallVec<Word, 2>,
+    items: SmallVec<Word, 6>,
 }
 
 impl Model for Words {
@@ -34,7 +34,7 @@ impl Model for Words {
 }
 
 impl Words {
-    pub fn new(items: SmallVec<Word, 2>) -> Words
+    pub fn new(items: SmallVec<Word, 6>) -> Words
         ensures value { result ≡ items.items }
     {
         Words { items }
@@ -53,8 +53,12 @@ impl Words {
     {
         match items {
             [] => Ok(Words::empty(alloc)),
-            [one] => Ok(Words::one(alloc, *one)),
-            [one, two] => Ok(Words::two(alloc, *one, *two)),
+            [a] => Ok(Words::one(alloc, *a)),
+            [a, b] => Ok(Words::two(alloc, *a, *b)),
+            [a, b, c] => Ok(Words::few(alloc, [*a, *b, *c, Word::Null, Word::Null, Word::Null], 3)),
+            [a, b, c, d] => Ok(Words::few(alloc, [*a, *b, *c, *d, Word::Null, Word::Null], 4)),
+            [a, b, c, d, e] => Ok(Words::few(alloc, [*a, *b, *c, *d, *e, Word::Null], 5)),
+            [a, b, c, d, e, f] => Ok(Words::few(alloc, [*a, *b, *c, *d, *e, *f], 6)),
             _ => Words::many(alloc, items),
         }
     }
@@ -63,15 +67,24 @@ impl Words {
     fn one(alloc: Global, word: Word) -> Words
         ensures { result ≡ word ∷ [] }
     {
-        let items = SmallVec::from_buf_and_len(alloc, [word, Word::Null], 1);
-        Words { items }
+        let null = Word::Null;
+        Words::few(alloc, [word, null, null, null, null, null], 1)
     }
 
     // Two words, in the value itself.
     fn two(alloc: Global, first: Word, second: Word) -> Words
         ensures { result ≡ first ∷ second ∷ [] }
     {
-        let items = SmallVec::from_buf(alloc, [first, second]);
+        let null = Word::Null;
+        Words::few(alloc, [first, second, null, null, null, null], 2)
+    }
+
+    // The first words of six, in the value itself.
+    fn few(alloc: Global, words: [Word; 6], count: usize) -> Words
+        requires { count ≤ 6 }
+        ensures { result ≡ take count words }
+    {
+        let items = SmallVec::from_buf_and_len(alloc, words, count);
         Words { items }
     }
 
