@@ -4,10 +4,10 @@ ghost use Rattle.std.specs.Prelude.{◌≡◌, ◌≢◌, ◌+◌, ◌<◌, ◌�
 ghost use Rattle.ceal_base.specs.Trace.{steps_in};
 ghost use Rattle.ceal_order.specs.Stamps.{head_of};
 ghost use Rattle.ceal_trace.specs.declared.node.Node.TheVariants.{Root, Alloc, Write, Read, End};
-ghost use Rattle.ceal_trace.specs.Nodes.{order_of, stamps_in, has_node, position, new_entry, node_at, steps_at, steps_sum, is_read, ends, end_in, with_entry_after, without_entry, valued, with_value, with_steps, IsTrace, NoLooseEnd, LooseEndOf, OneMoreNode, Inserted, SameBut, is_plain};
+ghost use Rattle.ceal_trace.specs.Nodes.{order_of, stamps_in, has_node, position, new_entry, node_at, steps_at, steps_sum, is_read, ends, end_in, with_entry_after, without_entry, valued, with_value, with_steps, IsTrace, NoLooseEnd, LooseEndOf, OneMoreNode, Inserted, SameBut, is_plain, seen};
 ghost use Rattle.ceal_trace.specs.Items.{forest_of};
 
-use crate::node::{Gone, Node};
+use crate::node::{Gone, Node, Seen};
 use crate::table::Table;
 use ceal_base::forest::{Key, UnitId};
 use ceal_base::no_memory::NoMemory;
@@ -251,9 +251,9 @@ impl Trace {
         self.steps = self.steps - u64::from(old) + u64::from(steps);
     }
 
-    pub fn node(&self, stamp: Stamp) -> &Node
+    pub fn node(&self, stamp: Stamp) -> Seen<'_>
         requires here { IsTrue (has_node stamp.0 self.now.nodes) }
-        ensures node { node_at stamp.0 self.now.nodes ≡ Some result.now }
+        ensures node { node_at stamp.0 self.now.nodes ≡ Some (seen result) }
     {
         self.table.node(stamp)
     }

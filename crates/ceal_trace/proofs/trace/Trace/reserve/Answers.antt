@@ -1,8 +1,8 @@
 use Rattle.std.proofs.Common.{ap, List, refl, arith, ◌∙◌}
 use Rattle.ceal_order.specs.Stamps.{Listing}
 use Rattle.ceal_trace.specs.Nodes.{Entry}
+use Rattle.ceal_trace.specs.Rows.{Table}
 use Rattle.ceal_trace.specs.Keeping.{timeline, Wider}
-use Rattle.ceal_trace.specs.declared.table.Table.{Table}
 use Rattle.ceal_trace.proofs.Changing.{spare_most, reserved, not_reserved, on_err_of, on_err_map}
 use Rattle.ceal_trace.proofs.trace.Trace.reserve.Goals as goal
 
