@@ -20,7 +20,7 @@ use ceal_code::stack::{Closure, Stack};
 use ceal_order::stamp::Stamp;
 use ceal_theory::courses::turn_known_law;
 use ceal_theory::slices::{listed_law, ready_law};
-use ceal_trace::node::Node;
+use ceal_trace::node::Seen;
 use ceal_trace::trace::Trace;
 use std::alloc::Global;
 
@@ -31,7 +31,7 @@ fn closure_at(trace: &Trace, read: Stamp) -> Result<Closure, NoMemory>
         ≡ Some (Read c.place v c.unit c.var c.args))) }
 {
     match trace.node(read) {
-        Node::Read {
+        Seen::Read {
             place,
             unit,
             var,
@@ -40,16 +40,16 @@ fn closure_at(trace: &Trace, read: Stamp) -> Result<Closure, NoMemory>
         } => {
             let args = args.copy()?;
             Ok(Closure {
-                place: *place,
-                unit: *unit,
-                var: *var,
+                place,
+                unit,
+                var,
                 args,
             })
         }
-        Node::Root => unreachable!(),
-        Node::Alloc { .. } => unreachable!(),
-        Node::Write { .. } => unreachable!(),
-        Node::End { .. } => unreachable!(),
+        Seen::Root => unreachable!(),
+        Seen::Alloc { .. } => unreachable!(),
+        Seen::Write { .. } => unreachable!(),
+        Seen::End { .. } => unreachable!(),
     }
 }
 
