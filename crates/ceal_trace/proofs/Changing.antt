@@ -1,5 +1,5 @@
 -- A trace with a node changed, and one with more room.
-use Rattle.std.proofs.Common.{◌≡◌, ◌≢◌, ℕ, inl, inr, ◌⊎◌, ◌+◌, ◌-◌, ◌*◌, ◌<◌, ◌≤◌, ◌^◌, max, true, List, [], ◌∷◌, length, refl, sym, ap, subst, ◌∙◌, arith, Option, Some, None}
+use Rattle.std.proofs.Common.{◌≡◌, ◌≢◌, ℕ, inl, inr, ◌⊎◌, ◌+◌, ◌-◌, ◌*◌, ◌<◌, ◌≤◌, ◌^◌, max, min, true, List, [], ◌∷◌, length, refl, sym, ap, subst, ◌∙◌, arith, Option, Some, None}
 use Rattle.std.specs.Prelude.{option_map, Result, Ok, Err, OnOk, OnErr}
 use Rattle.std.proofs.lemmas.Bool.Decides.{eqb_tells}
 use Rattle.ceal_base.specs.declared.word.Word.{Word}
@@ -290,11 +290,11 @@ widened order order' t t' steps sound stamps whole wider rows =
       nodes,
     )
 
--- how much room a call leaves that answers either way
-pub spare_most : {T E : Type 0} (order order' : Listing) (n : ℕ) (result : Result T E) → OnOk result (order'.spare ≡ max order.spare n) → OnErr result (order' ≡ order)
-    → order'.spare ≤ max order.spare n
-spare_most order order' n (Ok x) ok err = omega arith
-spare_most order order' n (Err x) ok err = let same : order'.spare ≡ order.spare = ap (λ (o : Listing). o.spare) err in omega arith
+-- how much room a call leaves that answers either way; no order has room for 2^32 stamps
+pub spare_most : {T E : Type 0} (order order' : Listing) (n room : ℕ) (result : Result T E) → OnOk result (order'.spare ≤ max order.spare n) → OnErr result (order' ≡ order) → IsOrder order'
+    → room ≡ min n 4294967295 → order'.spare ≤ max order.spare room
+spare_most order order' n room (Ok x) ok err whole is = let few = whole.few in omega (arith, ok, is)
+spare_most order order' n room (Err x) ok err whole is = let same : order'.spare ≡ order.spare = ap (λ (o : Listing). o.spare) err in omega arith
 
 pub reserved : (order order' : Listing) (t t' : Table) (steps n : ℕ) → Sound order t steps → order'.stamps ≡ order.stamps → IsOrder order' → Wider t t'
     → t'.count + n ≤ length t'.rows → order'.spare ≤ max order.spare n

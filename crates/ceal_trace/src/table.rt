@@ -44,8 +44,8 @@ impl Table {
         }
     }
 
-    /// Whether there is room for so many more nodes.
-    pub fn has_room(&self, more: u32) -> bool
+    // Whether there is room for so many more nodes.
+    fn has_room(&self, more: u32) -> bool
         ensures { IsTrue result → self.now.count + more ≤ length self.now.rows }
     {
         more as usize <= self.slots.len() - self.shelf.len()
