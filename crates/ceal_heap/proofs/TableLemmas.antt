@@ -127,5 +127,5 @@ module _ (t : Ledger) (sound : IsSound t) where
 pub entry_of : (numbers : List Number) (len n : ℕ) (entry x : Number) → len ≡ length numbers → slice_get numbers n ≡ Some x → entry ≡ get_or numbers n entry
     → (slice_get numbers n ≡ Some entry) × (entry ≡ x)
 entry_of numbers len n entry x counted some is =
-    let found = slice_get_read numbers len n entry counted (let within = slice_get_within numbers n x some in omega (arith, within, counted)) in
-    (found is, same_Some entry x (sym (found is) ∙ some))
+    let found = slice_get_read numbers len n entry counted (let within = slice_get_within numbers n x some in omega (arith, within, counted)) is in
+    (found, same_Some entry x (sym found ∙ some))
