@@ -2,32 +2,33 @@
 
 ghost use Rattle.std.specs.Prelude.{◌≡◌, ◌++◌, IfOk, OnOk};
 ghost use Rattle.ceal_trace.specs.Items.{forest_of, item_of, ticks};
+ghost use Rattle.ceal_trace.specs.Nodes.{seen};
 
 use ceal_base::forest::{Forest, Item};
 use ceal_base::no_memory::NoMemory;
-use ceal_trace::node::Node;
+use ceal_trace::node::Seen;
 use ceal_trace::trace::Trace;
 use std::alloc::Global;
 
 /// Adds the item of a node; the root has none.
-fn push_node(items: &mut Vec<Item>, node: &Node) -> Result<(), NoMemory>
-    ensures { OnOk result (items.new.items ≡ items.old.items ++ item_of node.now) }
+fn push_node(items: &mut Vec<Item>, node: Seen<'_>) -> Result<(), NoMemory>
+    ensures { OnOk result (items.new.items ≡ items.old.items ++ item_of (seen node)) }
 {
     match node {
-        Node::Root => Ok(()),
-        Node::Alloc { block, key } => {
+        Seen::Root => Ok(()),
+        Seen::Alloc { block, key } => {
             let key = key.copy()?;
-            items.push(Item::Alloc { block: *block, key })?;
+            items.push(Item::Alloc { block, key })?;
             Ok(())
         }
-        Node::Write { place, value } => {
+        Seen::Write { place, value } => {
             items.push(Item::Write {
-                place: *place,
-                value: *value,
+                place,
+                value,
             })?;
             Ok(())
         }
-        Node::Read {
+        Seen::Read {
             place,
             value,
             unit,
@@ -36,15 +37,15 @@ fn push_node(items: &mut Vec<Item>, node: &Node) -> Result<(), NoMemory>
         } => {
             let args = args.copy()?;
             items.push(Item::Read {
-                place: *place,
-                value: *value,
-                unit: *unit,
-                var: *var,
+                place,
+                value,
+                unit,
+                var,
                 args,
             })?;
             Ok(())
         }
-        Node::End { .. } => {
+        Seen::End { .. } => {
             items.push(Item::End)?;
             Ok(())
         }

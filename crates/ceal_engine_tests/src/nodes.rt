@@ -14,25 +14,25 @@ use ceal_samples::calls::fits;
 use ceal_samples::inputs::{at, list};
 use ceal_samples::programs::{MAP, compiled};
 use ceal_samples::told::told;
-use ceal_trace::node::Node;
+use ceal_trace::node::Seen;
 use ceal_trace::trace::Trace;
 use std::alloc::Global;
 use std::process::Abort;
 use std::test::Fail;
 
 /// A node as an item; the root is none.
-fn item_of(node: &Node) -> Result<Option<Item>, NoMemory> {
+fn item_of(node: Seen<'_>) -> Result<Option<Item>, NoMemory> {
     match node {
-        Node::Root => Ok(None),
-        Node::Alloc { block, key } => {
+        Seen::Root => Ok(None),
+        Seen::Alloc { block, key } => {
             let key = key.copy()?;
-            Ok(Some(Item::Alloc { block: *block, key }))
+            Ok(Some(Item::Alloc { block, key }))
         }
-        Node::Write { place, value } => Ok(Some(Item::Write {
-            place: *place,
-            value: *value,
+        Seen::Write { place, value } => Ok(Some(Item::Write {
+            place,
+            value,
         })),
-        Node::Read {
+        Seen::Read {
             place,
             value,
             unit,
@@ -41,18 +41,18 @@ fn item_of(node: &Node) -> Result<Option<Item>, NoMemory> {
         } => {
             let args = args.copy()?;
             Ok(Some(Item::Read {
-                place: *place,
-                value: *value,
-                unit: *unit,
-                var: *var,
+                place,
+                value,
+                unit,
+                var,
                 args,
             }))
         }
-        Node::End { .. } => Ok(Some(Item::End)),
+        Seen::End { .. } => Ok(Some(Item::End)),
     }
 }
 
-fn add_node(items: &mut Vec<Item>, node: &Node, steps: u32) -> Result<(), NoMemory> {
+fn add_node(items: &mut Vec<Item>, node: Seen<'_>, steps: u32) -> Result<(), NoMemory> {
     if let Some(item) = item_of(node)? {
         items.push(item)?;
     }

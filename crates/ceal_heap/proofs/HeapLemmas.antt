@@ -15,8 +15,8 @@ use Rattle.ceal_words.specs.Region.{words_of, KeepsAll, KeepsOthers}
 use Rattle.ceal_words.specs.SizeClass.{SizeClass}
 use Rattle.ceal_words.specs.declared.slot.Slot.{Slot}
 use Rattle.ceal_heap.specs.Cells.{words_read, cells_held, cell_count}
-use Rattle.ceal_heap.specs.Table.{held_in, held_of, held_at, is_live, is_revoked, tally, IsLiveAt, NoneRevoked, Reuses, Adds, GivesOut, Revokes, Releases}
-use Rattle.ceal_heap.specs.Heap.{Contents, Known, Live, Revoked, known_in, state_standing, number_standing, standing, known, block_of, plain_block, plain_of, word_at, revoked, released, IsLive, IsMade, KeepsBlocks, HasSlots, number_of, IsKept}
+use Rattle.ceal_heap.specs.Table.{held_in, held_of, held_at, is_live, is_revoked, tally, IsLiveAt, NoneFree, NoneRevoked, Reuses, Adds, GivesOut, Revokes, Releases}
+use Rattle.ceal_heap.specs.Heap.{Contents, Known, Standing, Unused, Live, Revoked, Released, known_in, state_standing, number_standing, standing, known, block_of, plain_block, plain_of, word_at, revoked, released, IsLive, IsMade, NoneReleased, IsFree, KeepsBlocks, HasSlots, number_of, IsKept}
 use Rattle.ceal_heap.specs.declared.number.Held.{Held}
 use Rattle.ceal_heap.specs.declared.number.Number.{Number}
 use Rattle.ceal_heap.specs.declared.number.State.{State}
@@ -205,9 +205,9 @@ pub record Given (before after : List Number) (shape : Shape) (h : Held) (n : �
   pub others : (m : ℕ) → m ≢ n → slice_get after m ≡ slice_get before m
   pub count : tally is_live after ≡ tally is_live before + 1
 
-reused_given : (before after : List Number) (shape : Shape) (h : Held) (n : ℕ) → Reuses before after shape h n → Given before after shape h n
-reused_given before after shape h n is =
-    let free : Number = record { shape = shape; state = ReleasedState } in let live : Number = record { shape = shape; state = LiveState h } in record {
+reused_given : (before after : List Number) (old shape : Shape) (h : Held) (n : ℕ) → Reuses before after old shape h n → Given before after shape h n
+reused_given before after old shape h n is =
+    let free : Number = record { shape = old; state = ReleasedState } in let live : Number = record { shape = shape; state = LiveState h } in record {
       none = ap held_of is.was;
       here = ap (λ (xs : List Number). slice_get xs n) is.now ∙ get_set_same before n free live is.was;
       others = λ m other. ap (λ (xs : List Number). slice_get xs m) is.now ∙ get_set_other before n m live other;
@@ -223,9 +223,34 @@ added_given before after shape h n is =
       count = let e = ap (tally is_live) is.now in let counted = tally_push is_live before live in omega (arith, e, counted);
     }
 
-pub given : (before after : List Number) (shape : Shape) (h : Held) (n : ℕ) → GivesOut before after shape h n → Given before after shape h n
-given before after shape h n (inl is) = reused_given before after shape h n is
-given before after shape h n (inr is) = added_given before after shape h n is
+pub given : (before after : List Number) (shape : Shape) (h : Held) (n : ℕ) (old : Option Shape) → GivesOut before after shape h n old → Given before after shape h n
+given before after shape h n (Some old) is = reused_given before after old shape h n is
+given before after shape h n None is = added_given before after shape h n is
+
+-- a number that is released
+state_free : (region : List SizeClass) (shape other : Shape) (s : State) → state_standing region shape s ≡ Released other → (shape ≡ other) × (s ≡ ReleasedState)
+state_free region shape other (LiveState held) e = absurd (search rules)
+state_free region shape other (RevokedState held) e = absurd (search rules)
+state_free region shape other ReleasedState e = (ap (shape_of shape) e, refl)
+  where
+    shape_of : Shape → Standing → Shape
+    shape_of s Unused = s
+    shape_of s (Live block) = s
+    shape_of s (Revoked block) = s
+    shape_of s (Released is) = is
+
+number_free : (region : List SizeClass) (o : Option Number) (shape : Shape) → number_standing region o ≡ Released shape → o ≡ Some (record { shape = shape; state = ReleasedState })
+number_free region None shape e = absurd (search rules)
+number_free region (Some x) shape e = let free = state_free region x.shape shape x.state e in ap Some (λ i. record { shape = free.0 i; state = free.1 i })
+
+none_released : (c : Contents) → NoneFree c.numbers → NoneReleased c
+none_released c none (Input n) shape e = absurd (search rules)
+none_released c none (Core n) shape e = none n shape (number_free c.region (slice_get c.numbers n) shape e)
+
+-- a number that was given out was free
+pub was_free : (c : Contents) (after : List Number) (shape : Shape) (h : Held) (n : ℕ) (old : Option Shape) → GivesOut c.numbers after shape h n old → IsFree c (Core n) old
+was_free c after shape h n (Some old) is = ap (number_standing c.region) is.was
+was_free c after shape h n None is = (ap Core is.next, none_released c is.none_free)
 
 -- a number was given out to a block whose words were written
 module _ (before after : List Number) (region region' : List SizeClass) (shape : Shape) (h : Held) (n : ℕ) (kept : IsKept (held_at before) region)

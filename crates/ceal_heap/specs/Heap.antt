@@ -1,5 +1,5 @@
 -- A heap: how each block stands, and the slots of the region.
-use Rattle.std.specs.Prelude.{◌≡◌, ◌≢◌, ◌⊎◌, ℕ, ◌≤◌, List, length, Option, Some, None, IsSome, option_map, pos, slice_get, slice_index_or}
+use Rattle.std.specs.Prelude.{◌≡◌, ◌≢◌, ℕ, ◌≤◌, List, length, Option, Some, None, IsSome, option_map, pos, slice_get, slice_index_or}
 use Rattle.ceal_base.specs.Block.{Block}
 use Rattle.ceal_base.specs.declared.forest.Key.{Key}
 use Rattle.ceal_base.specs.declared.kind.Shape.{Shape}
@@ -30,7 +30,7 @@ pub record Known : Type 0 where
   pub slot : Slot
 
 -- how a block stands: its number was never given out, it is live, it was revoked and can still be read, or it was
--- released and its number waits for another block of its shape
+-- released and its number waits for another block, of any shape
 pub data Standing : Type 0 where
   Unused : Standing
   Live : (block : Known) → Standing
@@ -119,9 +119,14 @@ IsLive heap b = (block : Known) × (standing heap b ≡ Live block)
 abbrev pub IsMade : Contents → BlockId → Shape → Key → List Word → Type 0
 IsMade heap b shape key words = (slot : Slot) × (standing heap b ≡ Live (record { shape = shape; key = key; words = words; slot = slot }))
 
--- a number that may be given out for a shape: a released one of the shape, or the next number where there is none
-abbrev pub IsFreeFor : Shape → Contents → BlockId → Type 0
-IsFreeFor shape heap b = (standing heap b ≡ Released shape) ⊎ ((b ≡ Core (next heap)) × ((other : BlockId) → standing heap other ≢ Released shape))
+-- no number waits for another block
+abbrev pub NoneReleased : Contents → Type 0
+NoneReleased heap = (b : BlockId) (shape : Shape) → standing heap b ≢ Released shape
+
+-- The number that a new block gets: a released one, whose last block had this shape, or the next number where none is released.
+abbrev pub IsFree : Contents → BlockId → Option Shape → Type 0
+IsFree heap b (Some shape) = standing heap b ≡ Released shape
+IsFree heap b None = (b ≡ Core (next heap)) × NoneReleased heap
 
 -- each block but this one stands as it did
 abbrev pub KeepsBlocks : BlockId → Contents → Contents → Type 0

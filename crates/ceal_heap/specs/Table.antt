@@ -1,27 +1,19 @@
--- The table of numbers: how each of them stands, those that were revoked, and for each shape those that are free.
-use Rattle.std.specs.Prelude.{◌≡◌, ◌≢◌, ◌⊎◌, ℕ, ◌+◌, ◌*◌, ◌<◌, ◌≤◌, ◌^◌, ◌==◌, ◌&&◌, Bool, true, false, List, [], ◌∷◌, ◌++◌, length, Option, Some, None, slice_get, slice_set, slice_index_or}
+-- The table of numbers: how each of them stands, those that were revoked, and those that are free.
+use Rattle.std.specs.Prelude.{◌≡◌, ◌≢◌, ◌⊎◌, ℕ, ◌+◌, ◌<◌, ◌≤◌, ◌^◌, ◌==◌, Bool, true, false, List, [], ◌∷◌, ◌++◌, length, Option, Some, None, slice_get, slice_set}
 use Rattle.ceal_base.specs.declared.kind.Shape.{Shape}
-use Rattle.ceal_base.specs.declared.kind.Shape.TheVariants.{Struct, ModInt, ModPtr}
 use Rattle.ceal_heap.specs.Stack.{Pile}
 use Rattle.ceal_heap.specs.declared.number.Held.{Held}
 use Rattle.ceal_heap.specs.declared.number.Number.{Number}
 use Rattle.ceal_heap.specs.declared.number.State.{State}
 use Rattle.ceal_heap.specs.declared.number.State.TheVariants.{Live, Revoked, Released}
-use Rattle.ceal_heap.specs.declared.shelf.Shelf.{Shelf}
 
--- what the table has: the numbers from 0 on and the room for them, those that were revoked, a shelf for each shape, and how many are live
+-- what the table has: the numbers from 0 on and the room for them, those that were revoked, those that are free, and how many are live
 pub record Ledger : Type 0 where
   pub numbers : List Number
   pub room : ℕ
   pub limbo : Pile
-  pub shelves : List Shelf
+  pub free : Pile
   pub live : ℕ
-
--- which shelf is that of a shape
-abbrev pub shelf_of : Shape → ℕ
-shelf_of ModInt = 0
-shelf_of (Struct s) = 2 * s + 1
-shelf_of (ModPtr s) = 2 * s + 2
 
 -- what is kept of a block, of a live one and of a revoked one alike
 abbrev pub held_in : State → Option Held
@@ -70,13 +62,9 @@ is_live number = state_is_live number.state
 abbrev pub is_revoked : Number → Bool
 is_revoked number = state_is_revoked number.state
 
--- a number of the shelf's shape, and one that is free besides
-abbrev pub is_shaped : ℕ → Number → Bool
-is_shaped k number = shelf_of number.shape == k
-
--- whether the number is free again for blocks of shape k
-abbrev pub is_released : ℕ → Number → Bool
-is_released k number = is_shaped k number && state_is_released number.state
+-- whether the number is free again
+abbrev pub is_released : Number → Bool
+is_released number = state_is_released number.state
 
 -- 1 for a number that passes the test
 abbrev pub one_if : Bool → ℕ
@@ -103,59 +91,50 @@ pub record Tracks (test : Number → Bool) (ns : List ℕ) (numbers : List Numbe
   pub each : (n : ℕ) → times n ns ≡ mark test (slice_get numbers n)
   pub all : length ns ≡ tally test numbers
 
--- a shelf that is not there has nothing
-abbrev pub bare : Shelf
-bare = record { free = record { items = []; room = 0 }; made = 0 }
-
--- the shelf of shape k; a bare one, where it is not there
-abbrev pub shelf_at : List Shelf → ℕ → Shelf
-shelf_at shelves k = slice_index_or shelves k bare
-
 -- how the parts of a table fit together
 pub record IsSound (t : Ledger) : Type 0 where
   pub few : length t.numbers < 2 ^ 32
   pub live : t.live ≡ tally is_live t.numbers
   pub limbo : Tracks is_revoked t.limbo.items t.numbers
   pub limbo_room : length t.numbers ≤ t.limbo.room
-  pub free : (k : ℕ) → Tracks (is_released k) (shelf_at t.shelves k).free.items t.numbers
-  pub made : (k : ℕ) → (shelf_at t.shelves k).made ≡ tally (is_shaped k) t.numbers
-  pub room : (k : ℕ) → (shelf_at t.shelves k).made ≤ (shelf_at t.shelves k).free.room
+  pub free : Tracks is_released t.free.items t.numbers
+  pub free_room : length t.numbers ≤ t.free.room
 
--- a number can be added for the shelf without taking memory
-pub record HasRoom (k : ℕ) (t : Ledger) : Type 0 where
+-- none is free, and a number can be added without taking memory
+pub record HasRoom (t : Ledger) : Type 0 where
   pub few : length t.numbers + 1 < 2 ^ 32
   pub numbers : length t.numbers < t.room
   pub limbo : length t.numbers < t.limbo.room
-  pub shelf : k < length t.shelves
-  pub free : (shelf_at t.shelves k).made < (shelf_at t.shelves k).free.room
-  pub none_free : (shelf_at t.shelves k).free.items ≡ []
+  pub free : length t.numbers < t.free.room
+  pub none_free : t.free.items ≡ []
 
--- a number can be given out for the shelf without taking memory
-abbrev pub IsReady : ℕ → Ledger → Type 0
-IsReady k t = (0 < length (shelf_at t.shelves k).free.items) ⊎ HasRoom k t
+-- a number can be given out without taking memory
+abbrev pub IsReady : Ledger → Type 0
+IsReady t = (0 < length t.free.items) ⊎ HasRoom t
 
 -- the number is that of a live block
 abbrev pub IsLiveAt : List Number → ℕ → Type 0
 IsLiveAt numbers n = (shape : Shape) × (held : Held) × (slice_get numbers n ≡ Some (record { shape = shape; state = Live held }))
 
--- no number of the shape is free
-abbrev pub NoneFree : List Number → Shape → Type 0
-NoneFree numbers shape = (n : ℕ) → slice_get numbers n ≢ Some (record { shape = shape; state = Released })
+-- no number is free
+abbrev pub NoneFree : List Number → Type 0
+NoneFree numbers = (n : ℕ) (shape : Shape) → slice_get numbers n ≢ Some (record { shape = shape; state = Released })
 
--- a free number of the shape was given to a block
-pub record Reuses (before after : List Number) (shape : Shape) (held : Held) (n : ℕ) : Type 0 where
-  pub was : slice_get before n ≡ Some (record { shape = shape; state = Released })
+-- a free number, whose last block had the old shape, was given to a block
+pub record Reuses (before after : List Number) (old shape : Shape) (held : Held) (n : ℕ) : Type 0 where
+  pub was : slice_get before n ≡ Some (record { shape = old; state = Released })
   pub now : after ≡ slice_set before n (record { shape = shape; state = Live held })
 
 -- a number more was given to a block
 pub record Adds (before after : List Number) (shape : Shape) (held : Held) (n : ℕ) : Type 0 where
   pub next : n ≡ length before
-  pub none_free : NoneFree before shape
+  pub none_free : NoneFree before
   pub now : after ≡ before ++ record { shape = shape; state = Live held } ∷ []
 
--- A number is given out: a free one again, or a new one.
-abbrev pub GivesOut : List Number → List Number → Shape → Held → ℕ → Type 0
-GivesOut before after shape held n = Reuses before after shape held n ⊎ Adds before after shape held n
+-- A number is given out: a free one again, with the shape of its last block, or a new one.
+abbrev pub GivesOut : List Number → List Number → Shape → Held → ℕ → Option Shape → Type 0
+GivesOut before after shape held n (Some old) = Reuses before after old shape held n
+GivesOut before after shape held n None = Adds before after shape held n
 
 -- a live number was revoked
 abbrev pub Revokes : List Number → List Number → ℕ → Type 0
@@ -170,7 +149,3 @@ Releases before after held = (n : ℕ) × (shape : Shape) × (slice_get before n
 -- No number's block is revoked.
 abbrev pub NoneRevoked : List Number → Type 0
 NoneRevoked numbers = (n : ℕ) (shape : Shape) (held : Held) → slice_get numbers n ≢ Some (record { shape = shape; state = Revoked held })
-
--- the shelves have the free numbers that they had, and as many numbers were made
-abbrev pub SameShelves : List Shelf → List Shelf → Type 0
-SameShelves before after = (k : ℕ) → ((shelf_at after k).free.items ≡ (shelf_at before k).free.items) × ((shelf_at after k).made ≡ (shelf_at before k).made)

@@ -2,7 +2,7 @@
 
 ghost use Rattle.std.specs.Prelude.{◌≡◌, ◌+◌, ◌≤◌, false, None, length, IsSome, IfSome, IfOk, OnOk, OnErr, IsTrue};
 ghost use Rattle.ceal_code.specs.PlainWords.{block_shape, block_word};
-ghost use Rattle.ceal_heap.specs.Heap.{standing, block_of, plain_of, word_at, live_count, revoked_count, revoked, next, number_of, IsLive, IsMade, IsFreeFor, KeepsBlocks, ReleasesRevoked, ReleasesAlike, IsUnchanged, HasSlots, IsNew};
+ghost use Rattle.ceal_heap.specs.Heap.{standing, block_of, plain_of, word_at, live_count, revoked_count, revoked, next, number_of, IsLive, IsMade, IsFree, KeepsBlocks, ReleasesRevoked, ReleasesAlike, IsUnchanged, HasSlots, IsNew};
 
 use crate::number::Held;
 use crate::pieces::Pieces;
@@ -15,8 +15,8 @@ use std::alloc::Global;
 use std::marker::Model;
 
 /// The core blocks, each with its shape, its key and its words. A live block that is revoked can be read until the
-/// revoked blocks are released; its number is given out again only then, and only to blocks of its shape. All memory
-/// is taken by `make`.
+/// revoked blocks are released; its number is given out again only then, to a block of any shape. So there are never more
+/// numbers than there were live and revoked blocks at a time. All memory is taken by `make`.
 #[derive(Drop)]
 pub struct Heap {
     table: Table,
@@ -34,6 +34,13 @@ impl Model for Heap {
     ghost invariant = { λ h. IsKept (held_at h.table.numbers) h.pieces };
 }
 
+/// A block that was made, and the shape of the block that had its number before, if there was one.
+#[derive(Clone, Copy)]
+pub struct NewBlock {
+    pub block: BlockId,
+    pub before: Option<Shape>,
+}
+
 impl Heap {
     /// No block was made.
     pub fn new(alloc: Global) -> Result<Heap, NoMemory>
@@ -45,23 +52,32 @@ impl Heap {
         Ok(Heap { table, pieces })
     }
 
-    /// Makes a block of at most 255 words. It gets the number of a released block of its shape, or else the next
-    /// number. `NoMemory` also comes where 2^32 - 1 numbers were given out and none of the shape is free.
-    pub fn make(&mut self, shape: Shape, key: Key, words: &[Word]) -> Result<BlockId, NoMemory>
+    /// Makes a block of at most 255 words. It gets the number of a released block, or else the next number. `NoMemory`
+    /// also comes where 2^32 - 1 numbers were given out and none is free.
+    pub fn make(
+        &mut self,
+        shape: Shape,
+        key: Key,
+        words: &[Word],
+    ) -> Result<NewBlock, NoMemory>
         requires few { length words.now ≤ 255 }
-        ensures new { IfOk result (λ block. block_of self.old block ≡ None) }
-        ensures free { IfOk result (λ block. IsFreeFor shape self.old block) }
-        ensures made { IfOk result (λ block. IsMade self.new block shape key words.now) }
-        ensures others { IfOk result (λ block. KeepsBlocks block self.old self.new) }
+        ensures new { IfOk result (λ made. block_of self.old made.block ≡ None) }
+        ensures free { IfOk result (λ made. IsFree self.old made.block made.before) }
+        ensures made { IfOk result (λ made. IsMade self.new made.block shape key words.now) }
+        ensures others { IfOk result (λ made. KeepsBlocks made.block self.old self.new) }
         ensures count { OnOk result (live_count self.new ≡ live_count self.old + 1) }
         ensures err { OnErr result (IsUnchanged self.old self.new) }
         ensures slots { HasSlots self.new }
     {
-        self.table.prepare(shape)?;
+        self.table.prepare()?;
         let slot = self.pieces.put(words)?;
         let fields = words.len() as u32;
         let held = Held { key, slot, fields };
-        Ok(BlockId::Core(self.table.give_out(shape, held)))
+        let given = self.table.give_out(shape, held);
+        Ok(NewBlock {
+            block: BlockId::Core(given.number),
+            before: given.before,
+        })
     }
 
     /// A word of a live or revoked block. Past its words it is the number 0.

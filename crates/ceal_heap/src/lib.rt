@@ -5,8 +5,8 @@
 //! the region of raw words, whose slots are exactly those of these blocks.
 //!
 //! `heap` has the calls, and `plain_words` reads blocks of a heap and of inputs alike, as the stepper of trace code does.
-//! `table` keeps how each number stands (`number`), those that were revoked, and for each shape
-//! those that are free (`shelf`, `stack`); `pieces` keeps the words of blocks in slots, two cells a word (`cells`).
+//! `table` keeps how each number stands (`number`), those that were revoked, and those that
+//! are free (`stack`); `pieces` keeps the words of blocks in slots, two cells a word (`cells`).
 #![tactic(auto)]
 
 mod cells;
@@ -14,6 +14,5 @@ pub mod heap;
 mod number;
 mod pieces;
 pub mod plain_words;
-mod shelf;
 mod stack;
 mod table;

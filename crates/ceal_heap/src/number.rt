@@ -33,7 +33,7 @@ pub enum State {
     Released,
 }
 
-/// A number that was given out, with the shape of its blocks, which stays.
+/// A number that was given out, with the shape of its block, or of its last one where it is free.
 #[derive(Drop)]
 pub struct Number {
     pub shape: Shape,
@@ -67,11 +67,12 @@ impl Number {
         self.state.held()
     }
 
-    /// The number is given to a block.
-    pub fn give(&mut self, held: Held)
-        ensures shape { self.new.shape ≡ self.old.shape }
+    /// The number is given to a block of this shape.
+    pub fn give(&mut self, shape: Shape, held: Held)
+        ensures shape { self.new.shape ≡ shape }
         ensures state { self.new.state ≡ Live held }
     {
+        self.shape = shape;
         self.state = State::Live(held);
     }
 }

@@ -1,10 +1,9 @@
 // The table of numbers.
 
 ghost use Rattle.std.specs.Prelude.{◌≡◌, ◌+◌, ◌-◌, ◌<◌, ◌≤◌, ◌↔◌, ◌∷◌, [], ◌++◌, Some, length, option_copied, option_map, slice_get, IsSome, IsTrue, IfSome, IfNone, OnOk, vec_len, vec_capacity};
-ghost use Rattle.ceal_heap.specs.Table.{shelf_of, shelf_at, held_at, IsReady, HasRoom, IsLiveAt, Revokes, Reuses, Adds, GivesOut, Releases, NoneRevoked, SameShelves, tally, is_live};
+ghost use Rattle.ceal_heap.specs.Table.{held_at, IsReady, HasRoom, IsLiveAt, Revokes, GivesOut, Releases, NoneRevoked, tally, is_live};
 
 use crate::number::{Held, Number, State};
-use crate::shelf::{Shelf, shelf_of};
 use crate::stack::Stack;
 use ceal_base::kind::Shape;
 use ceal_base::no_memory::NoMemory;
@@ -17,9 +16,15 @@ use std::marker::Model;
 pub struct Table {
     numbers: Vec<Number>,
     limbo: Stack,
-    shelves: Vec<Shelf>,
+    free: Stack,
     live: u32,
-    alloc: Global,
+}
+
+/// A number that was given out, and the shape of the block that had it before, if there was one.
+#[derive(Clone, Copy)]
+pub struct GivenOut {
+    pub number: u32,
+    pub before: Option<Shape>,
 }
 
 impl Model for Table {
@@ -28,9 +33,9 @@ impl Model for Table {
 
     ghost Value = { Ledger };
 
-    ghost view = { λ t. record { numbers = t.numbers.items; room = vec_capacity t.numbers; limbo = t.limbo; shelves = t.shelves.items; live = t.live } };
+    ghost view = { λ t. record { numbers = t.numbers.items; room = vec_capacity t.numbers; limbo = t.limbo; free = t.free; live = t.live } };
 
-    ghost invariant = { λ t. IsSound (record { numbers = t.numbers.items; room = vec_capacity t.numbers; limbo = t.limbo; shelves = t.shelves.items; live = t.live }) };
+    ghost invariant = { λ t. IsSound (record { numbers = t.numbers.items; room = vec_capacity t.numbers; limbo = t.limbo; free = t.free; live = t.live }) };
 }
 
 impl Table {
@@ -41,9 +46,8 @@ impl Table {
         Table {
             numbers: Vec::new(alloc),
             limbo: Stack::new(alloc),
-            shelves: Vec::new(alloc),
+            free: Stack::new(alloc),
             live: 0,
-            alloc,
         }
     }
 
@@ -87,62 +91,28 @@ impl Table {
         self.numbers[number as usize].shape
     }
 
-    fn has_free(&self, shelf: usize) -> bool
-        ensures { IsTrue result ↔ (0 < length (shelf_at self.now.shelves shelf).free.items) }
+    fn has_free(&self) -> bool
+        ensures { IsTrue result ↔ (0 < length self.now.free.items) }
     {
-        match self.shelves.get(shelf) {
-            Some(shelf) => !shelf.free.is_empty(),
-            None => false,
-        }
+        !self.free.is_empty()
     }
 
-    /// Makes sure that a number can be given out for the shape, without changing any.
-    pub fn prepare(&mut self, shape: Shape) -> Result<(), NoMemory>
+    /// Makes sure that a number can be given out, without changing any.
+    pub fn prepare(&mut self) -> Result<(), NoMemory>
         ensures numbers { self.new.numbers ≡ self.old.numbers }
-        ensures ready { OnOk result (IsReady (shelf_of shape) self.new) }
+        ensures ready { OnOk result (IsReady self.new) }
     {
-        let shelf = shelf_of(shape);
-        if self.has_free(shelf) {
+        if self.has_free() {
             return Ok(());
         }
-        self.add_shelves(shelf)?;
-        self.make_room(shelf)
+        self.make_room()
     }
 
-    fn shelf_count(&self) -> usize
-        ensures { result ≡ length self.now.shelves }
-    {
-        self.shelves.len()
-    }
-
-    fn add_shelf(&mut self) -> Result<(), NoMemory>
+    // Makes room for one more number, where none is free. The last of all numbers is not given out.
+    fn make_room(&mut self) -> Result<(), NoMemory>
+        requires none { self.old.free.items ≡ [] }
         ensures numbers { self.new.numbers ≡ self.old.numbers }
-        ensures shelves { SameShelves self.old.shelves self.new.shelves }
-        ensures more { OnOk result (length self.new.shelves ≡ length self.old.shelves + 1) }
-    {
-        let free = Stack::new(self.alloc);
-        self.shelves.push(Shelf { free, made: 0 })?;
-        Ok(())
-    }
-
-    // Makes sure that there is this shelf.
-    fn add_shelves(&mut self, shelf: usize) -> Result<(), NoMemory>
-        ensures numbers { self.new.numbers ≡ self.old.numbers }
-        ensures shelves { SameShelves self.old.shelves self.new.shelves }
-        ensures there { OnOk result (shelf < length self.new.shelves) }
-    {
-        while self.shelf_count() <= shelf {
-            self.add_shelf()?;
-        }
-        Ok(())
-    }
-
-    // Makes room for one more number of a shelf that has none free. The last of all numbers is not given out.
-    fn make_room(&mut self, shelf: usize) -> Result<(), NoMemory>
-        requires there { shelf < length self.old.shelves }
-        requires none { (shelf_at self.old.shelves shelf).free.items ≡ [] }
-        ensures numbers { self.new.numbers ≡ self.old.numbers }
-        ensures room { OnOk result (HasRoom shelf self.new) }
+        ensures room { OnOk result (HasRoom self.new) }
     {
         let count = self.numbers.len();
         if count >= u32::MAX as usize {
@@ -150,48 +120,55 @@ impl Table {
         }
         self.numbers.reserve(1)?;
         self.limbo.reserve(count + 1)?;
-        let shelf = &mut self.shelves[shelf];
-        shelf.free.reserve(shelf.made as usize + 1)
+        self.free.reserve(count + 1)
     }
 
-    /// Gives a number to a block: a free one of the shape, or else one more.
-    pub fn give_out(&mut self, shape: Shape, held: Held) -> u32
-        requires { IsReady (shelf_of shape) self.old }
-        ensures { GivesOut self.old.numbers self.new.numbers shape held result }
+    /// Gives a number to a block: a free one, or else one more.
+    pub fn give_out(&mut self, shape: Shape, held: Held) -> GivenOut
+        requires { IsReady self.old }
+        ensures { GivesOut self.old.numbers self.new.numbers shape held
+            result.number result.before }
     {
-        if self.has_free(shelf_of(shape)) {
+        if self.has_free() {
             self.reuse(shape, held)
         } else {
             self.add(shape, held)
         }
     }
 
-    fn reuse(&mut self, shape: Shape, held: Held) -> u32
-        requires { 0 < length (shelf_at self.old.shelves (shelf_of shape)).free.items }
-        ensures { Reuses self.old.numbers self.new.numbers shape held result }
+    fn reuse(&mut self, shape: Shape, held: Held) -> GivenOut
+        requires { 0 < length self.old.free.items }
+        ensures { GivesOut self.old.numbers self.new.numbers shape held
+            result.number result.before }
     {
-        let shelf = &mut self.shelves[shelf_of(shape)];
-        match shelf.free.pop() {
+        match self.free.pop() {
             None => unreachable!(),
             Some(number) => {
-                self.numbers[number as usize].give(held);
+                let entry = &mut self.numbers[number as usize];
+                let before = entry.shape;
+                entry.give(shape, held);
                 self.live += 1;
-                number
+                GivenOut {
+                    number,
+                    before: Some(before),
+                }
             }
         }
     }
 
-    fn add(&mut self, shape: Shape, held: Held) -> u32
-        requires { HasRoom (shelf_of shape) self.old }
-        ensures { Adds self.old.numbers self.new.numbers shape held result }
+    fn add(&mut self, shape: Shape, held: Held) -> GivenOut
+        requires { HasRoom self.old }
+        ensures { GivesOut self.old.numbers self.new.numbers shape held
+            result.number result.before }
     {
         let number = self.numbers.len() as u32;
-        let shelf = &mut self.shelves[shelf_of(shape)];
-        shelf.made += 1;
         let state = State::Live(held);
         append(&mut self.numbers, Number { shape, state });
         self.live += 1;
-        number
+        GivenOut {
+            number,
+            before: None,
+        }
     }
 
     /// Revokes a live block.
@@ -211,10 +188,8 @@ impl Table {
         ensures unchanged { IfNone result (self.new.numbers ≡ self.old.numbers) }
     {
         let number = self.limbo.pop()?;
-        let entry = &mut self.numbers[number as usize];
-        let shelf = shelf_of(entry.shape);
-        let held = entry.release();
-        self.shelves[shelf].free.push(number);
+        let held = self.numbers[number as usize].release();
+        self.free.push(number);
         held
     }
 }

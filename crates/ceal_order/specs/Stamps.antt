@@ -6,6 +6,10 @@ pub record Listing : Type 0 where
   pub stamps : List ℕ
   pub spare : ℕ
 
+-- for how many insertions room is made at most beyond those that are asked for
+abbrev pub room_beyond : ℕ
+room_beyond = 63
+
 -- a number is none of these
 abbrev pub NotIn : ℕ → List ℕ → Type 0
 NotIn s [] = Unit {0}

@@ -1,7 +1,7 @@
 // Stamps in an order.
 
 ghost use Rattle.std.specs.Prelude.{◌≡◌, ◌≢◌, ◌+◌, ◌<◌, ◌≤◌, ◌↔◌, [], ◌∷◌, length, max, false, Some, None, IfSome, IfNone, IfOk, OnOk, OnErr, IsTrue};
-ghost use Rattle.ceal_order.specs.Stamps.{is_in, head_of, IsOrder, place, successor, with_after, without, OneMore};
+ghost use Rattle.ceal_order.specs.Stamps.{is_in, head_of, IsOrder, place, successor, with_after, without, OneMore, room_beyond};
 
 use crate::labels::fresh_label;
 use crate::link::{FIRST, Link, NO_LINK, add_spares, label_at, next_at, splice, unlink};
@@ -9,6 +9,9 @@ use crate::stamp::Stamp;
 use ceal_base::no_memory::NoMemory;
 use std::alloc::Global;
 use std::marker::Model;
+
+/// For how many insertions room is made at most beyond those that are asked for, so that it is made some at a time.
+pub const ROOM_BEYOND: u32 = 63;
 
 /// Distinct stamps in an order, and room for more. Contracts see `stamps`, the list of their numbers, and `spare`,
 /// how many may be inserted without taking memory.
@@ -62,12 +65,22 @@ impl Order {
         Stamp(FIRST)
     }
 
-    /// Makes room for `n` insertions without taking memory. `NoMemory` also comes where there would be 2^32 - 1
-    /// stamps or more, the spare ones counted.
+    /// Whether `n` stamps may be inserted without taking memory.
+    pub fn has_room(&self, n: u32) -> bool
+        ensures room { IsTrue result ↔ (n ≤ self.now.spare) }
+    {
+        n <= self.spare
+    }
+
+    /// Makes room for `n` insertions without taking memory, and for some more. `NoMemory` also comes where there would
+    /// be 2^32 - 1 stamps or more, the spare ones counted.
+    ///
+    /// How many more is not told, but for a bound. Were it told, the numbers of the next stamps would follow, since each
+    /// lies below the number of stamps and spare places.
     pub fn reserve(&mut self, n: u32) -> Result<(), NoMemory>
         ensures stamps { self.new.stamps ≡ self.old.stamps }
         ensures room { OnOk result (n ≤ self.new.spare) }
-        ensures exact { OnOk result (self.new.spare ≡ max self.old.spare n) }
+        ensures few { OnOk result (self.new.spare ≤ max self.old.spare (n + room_beyond)) }
         ensures kept { self.old.spare ≤ self.new.spare }
         ensures err { OnErr result (self.new ≡ self.old) }
         ensures whole { IsOrder self.new }
@@ -75,7 +88,7 @@ impl Order {
         if n <= self.spare {
             return Ok(());
         }
-        let more = n.saturating_sub(self.spare);
+        let more = n.saturating_sub(self.spare).saturating_add(ROOM_BEYOND);
         if more as usize > NO_LINK as usize - self.links.len() {
             return Err(NoMemory);
         }

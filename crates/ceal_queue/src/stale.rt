@@ -92,6 +92,15 @@ impl Stale {
         self.count += 1;
     }
 
+    /// The earliest stamp, which stays.
+    pub fn first(&self) -> Option<Stamp>
+        ensures first { IfSome result (λ s. (order : List ℕ) → Follows order self.now
+            → IsEarliest order self.now.stamps s.0) }
+        ensures none { IfNone result ((s : ℕ) → is_in s self.now.stamps ≡ false) }
+    {
+        first_stamp(&self.tree)
+    }
+
     /// Takes out the earliest stamp before the limit, or the earliest of all where there is no limit. None where there
     /// is none. The room of what is taken out can be used again.
     pub fn pop_before(&mut self, order: &Order, limit: Option<Stamp>) -> Option<Stamp>

@@ -3,7 +3,7 @@ use Rattle.std.proofs.Common.{◌≡◌, ◌≢◌, ℕ, zero, suc, ◌<◌, ◌
 use Rattle.std.proofs.Math.Path.{fun_ext}
 use Rattle.std.specs.Prelude.{IfSome, IfNone}
 use Rattle.ceal_base.specs.Block.{Block}
-use Rattle.ceal_base.specs.Trace.{Trace, flat, blocks_of}
+use Rattle.ceal_base.specs.Trace.{Trace, flat}
 use Rattle.ceal_base.specs.declared.forest.Item.{Item}
 use Rattle.ceal_base.specs.declared.forest.Item.TheVariants as item
 use Rattle.ceal_base.specs.declared.forest.UnitId.{UnitId}
@@ -14,7 +14,7 @@ use Rattle.ceal_base.specs.declared.word.Word.{Word}
 use Rattle.ceal_code.specs.Program.{Code}
 use Rattle.ceal_code.specs.Stacks.{stack_in}
 use Rattle.ceal_code.specs.Step.{Stack, Empty, entered, given}
-use Rattle.ceal_code.specs.Replay.{Store, KnownBlock, core_numbers}
+use Rattle.ceal_code.specs.Replay.{Store, KnownBlock}
 use Rattle.ceal_code.specs.Value.{Plain}
 use Rattle.ceal_heap.specs.Heap.{Contents, plain_of}
 use Rattle.ceal_order.specs.Stamps.{Distinct, is_in, place}
@@ -36,7 +36,7 @@ use Rattle.ceal_repair.specs.Covered.{contents_after}
 use Rattle.ceal_repair.specs.Entries.{stamped, entry, closing, entries}
 use Rattle.ceal_repair.specs.Kept.{Kept, QueuedBehind, IsHonestRecord, Records, base_in, contents_at}
 use Rattle.ceal_repair.specs.Moment.{View, Start, CourseNow, RunningNow, through, state_at}
-use Rattle.ceal_repair.specs.Turning.{ReadAt, turn_start, FoundStale, TurnBegan, TurnRuns}
+use Rattle.ceal_repair.specs.Turning.{Since, ReadAt, turn_start, FoundStale, TurnBegan, TurnRuns}
 use Rattle.ceal_repair.specs.Words.{words_of}
 use Rattle.ceal_repair.specs.Repairs.{code_of, inputs_of}
 use Rattle.ceal_repair.specs.declared.frame.Frame.{Frame}
@@ -139,8 +139,8 @@ view-is : (t : Tables) (heap heap' : Contents) → heap ≡ heap' → (n n' : �
     → ◌≡◌ {A = View} (record { tables = t; heap = heap; spent = n; cursor = s; limit = o; frames = reverse fs }) (record { tables = t; heap = heap'; spent = n'; cursor = s'; limit = o'; frames = [] })
 view-is t heap heap' a n n' b s s' c o o' d fs e = rw (a, b, c, d, e) refl
 
-module _ (code : Code) (inputs : List Block) (f : ℕ) (args : List Word) (l : Trace) (read : ℕ) (run : Running) (listed : ListedLaw) (ready : ReadyLaw) (knowing : TurnKnownLaw)
-    (found : FoundStale code inputs f args l read run) where
+module _ (code : Code) (inputs : List Block) (f : ℕ) (args : List Word) (o : Since) (read : ℕ) (run : Running) (listed : ListedLaw) (ready : ReadyLaw) (knowing : TurnKnownLaw)
+    (found : FoundStale code inputs f args o read run) where
   abbrev old : Tables
   old = found.before.tables
 
@@ -254,9 +254,9 @@ module _ (code : Code) (inputs : List Block) (f : ℕ) (args : List Word) (l : T
   content-now = content-there ∙ sym (store-known at-place there.place)
 
   abbrev pub start : Start
-  start = turn_start code inputs r (core_numbers (blocks_of l)) found.so_far.chosen found.so_far.stands.sound.blocks (read ∷ opens.0) spot (store at-place)
+  start = turn_start code inputs r o.first found.so_far.chosen found.so_far.stands.sound.blocks (read ∷ opens.0) spot (store at-place)
 
-  pub began : TurnBegan code inputs f args l found.before start
+  pub began : TurnBegan code inputs f args o found.before start
   began = record { called = found.called; so_far = found.so_far; spot = spot; agrees = front-agrees; stale = store-differs; reads = opens.0; opened = opens.1; is = refl }
 
   -- the end of the read
@@ -362,8 +362,8 @@ module _ (code : Code) (inputs : List Block) (f : ℕ) (args : List Word) (l : T
       same = λ p k. store-known p (subst (λ bs. KnownBlock (length inputs) bs p.block) known-then k)
           ∙ (ap (λ s. contents_after s spot.before p) (sym (fun_ext (λ q. bases-then q)))
           ∙ sym (ap (λ (s : Store). s p) (contents-append (base_in t.mods) spot.before (valued-as (store at-place) 0 ∷ []))));
-      given = subst (λ heap. Given (core_numbers (blocks_of l)) (found.so_far.chosen ++ []) heap) (sym found.heap)
-          (subst (λ bs. Given (core_numbers (blocks_of l)) bs found.before.heap) (sym (append-nil found.so_far.chosen)) found.so_far.given);
+      given = subst (λ heap. Given o.first (found.so_far.chosen ++ []) heap) (sym found.heap)
+          (subst (λ bs. Given o.first bs found.before.heap) (sym (append-nil found.so_far.chosen)) found.so_far.given);
     }
 
     -- the unit of the read runs, with what is inside it left over
@@ -398,7 +398,7 @@ module _ (code : Code) (inputs : List Block) (f : ℕ) (args : List Word) (l : T
       → new.running.heap ≡ run.heap → new.running.spent ≡ run.spent → new.cursor.0 ≡ read → new.frames.items ≡ []
       → IfSome new.limit (λ end. end_in read run.tables.trace.nodes ≡ Some end.0) → IfNone new.limit (end_in read run.tables.trace.nodes ≡ None)
       → ((p : Place) (v : Word) (u : UnitId) (x : ℕ) (ws : List Word) → node_at read run.tables.trace.nodes ≡ Some (Read p v u x ws) → stack_in new.stack ≡ resumed code u x ws v)
-      → TurnRuns code inputs f args l found.before new
+      → TurnRuns code inputs f args o found.before new
   turn-runs new same_code same_inputs nodes mods queue kept heap spent cursor frames some none resumes = record {
     start = start;
     began = began;

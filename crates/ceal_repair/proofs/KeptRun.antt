@@ -11,12 +11,12 @@ use Rattle.ceal_base.specs.declared.word.Word.{Word}
 use Rattle.ceal_code.specs.Program.{Code}
 use Rattle.ceal_code.specs.Replay.{In, core_numbers}
 use Rattle.ceal_heap.specs.Heap.{Contents, block_of}
-use Rattle.ceal_repair.proofs.Continuing.{GoesOn, goes-on, begins-sound}
+use Rattle.ceal_repair.proofs.Continuing.{GoesOn, goes-on, begins-sound, is-origin}
 use Rattle.ceal_repair.proofs.Items.{allocs-append}
 use Rattle.ceal_repair.specs.Answers.{IsKeptRun}
 use Rattle.ceal_repair.specs.Propagation.{HasCome}
 use Rattle.ceal_repair.specs.Repairs.{code_of, inputs_of}
-use Rattle.ceal_repair.specs.Turning.{StandsFor, TurnedSoFar, IsCalled}
+use Rattle.ceal_repair.specs.Turning.{StandsFor, TurnedSoFar, IsOrigin, since_begun}
 use Rattle.ceal_repair.specs.declared.frame.Frame.{Frame}
 use Rattle.ceal_repair.specs.declared.repair.Repair.{Repair}
 use Rattle.ceal_repair.specs.declared.running.Running.{Running}
@@ -45,11 +45,11 @@ blocks-allocs (WasRead p value u v args inside rest) =
 -- ---- no turn was made yet
 
 module _ (code : Code) (inputs : List Block) (f : ℕ) (args : List Word) (fuel : ℕ) (l : Trace) (run : Running) (kept : IsKeptRun code inputs f args fuel l run) where
-  called : IsCalled code inputs f args l
-  called = record { fits = kept.fits; replays = kept.replays }
+  called : IsOrigin code inputs f args (since_begun code inputs l)
+  called = is-origin code inputs f args l kept.fits kept.replays
 
-  abbrev some_names : GoesOn [] l
-  some_names = goes-on l [] (λ b. omega arith) (λ b i. absurd (elim i [ ]))
+  abbrev some_names : GoesOn [] (core_numbers (blocks_of l))
+  some_names = goes-on (core_numbers (blocks_of l)) [] (λ b. omega arith) (λ b i. absurd (elim i [ ]))
 
   there : (b : ℕ) → In b (core_numbers (blocks_of l)) → IsSome (block_of run.heap (Core b))
   there b i =
@@ -65,10 +65,10 @@ module _ (code : Code) (inputs : List Block) (f : ℕ) (args : List Word) (fuel 
     blocks = kept.stands.blocks;
     spent = refl;
     names = some_names.names;
-    sound = begins-sound code inputs f args l called some_names.names some_names.single some_names.apart;
+    sound = begins-sound code inputs f args l kept.fits kept.replays some_names.names some_names.single some_names.apart;
   }
 
-  so_far : TurnedSoFar code inputs f args l (record run { spent = 0 })
+  so_far : TurnedSoFar code inputs f args (since_begun code inputs l) (record run { spent = 0 })
   so_far = record {
     repair = beginning code inputs l 0;
     stands = stands;
@@ -80,11 +80,10 @@ module _ (code : Code) (inputs : List Block) (f : ℕ) (args : List Word) (fuel 
       there = λ b i. absurd (elim i [ ]);
       still = there;
     };
-    turns = 0;
     history = λ names go. Turns.none;
   }
 
-  pub has-come : HasCome code inputs f args l run (record run { spent = 0 })
+  pub has-come : HasCome code inputs f args (since_begun code inputs l) run (record run { spent = 0 })
   has-come = record {
     called = called;
     items = kept.stands.items;
@@ -93,7 +92,7 @@ module _ (code : Code) (inputs : List Block) (f : ℕ) (args : List Word) (fuel 
     unchanged = λ h. (refl, refl);
   }
 
-same-running : (a b : Running) → a.tables ≡ b.tables → a.heap ≡ b.heap → a.spent ≡ b.spent → a ≡ b
+pub same-running : (a b : Running) → a.tables ≡ b.tables → a.heap ≡ b.heap → a.spent ≡ b.spent → a ≡ b
 same-running a b t h s =
     ap (λ (t : Tables). record { tables = t; heap = a.heap; spent = a.spent }) t
     ∙ (ap (λ (h : Contents). record { tables = b.tables; heap = h; spent = a.spent }) h
@@ -101,7 +100,7 @@ same-running a b t h s =
 
 -- a repair that begins on it
 pub has-come-in : (code : Code) (inputs : List Block) (f : ℕ) (args : List Word) (fuel : ℕ) (l : Trace) (run : Running) → IsKeptRun code inputs f args fuel l run
-    → (r : Repair) → code_of r ≡ code → inputs_of r ≡ inputs → r.running.tables ≡ run.tables → r.running.heap ≡ run.heap → r.running.spent ≡ 0 → HasCome (code_of r) (inputs_of r) f args l run r.running
+    → (r : Repair) → code_of r ≡ code → inputs_of r ≡ inputs → r.running.tables ≡ run.tables → r.running.heap ≡ run.heap → r.running.spent ≡ 0 → HasCome (code_of r) (inputs_of r) f args (since_begun code inputs l) run r.running
 has-come-in code inputs f args fuel l run kept r same_code same_inputs tables heap spent =
     let same : r.running ≡ record run { spent = 0 } = same-running r.running (record run { spent = 0 }) tables heap spent in
     rw (same_code, same_inputs, same) (has-come code inputs f args fuel l run kept)

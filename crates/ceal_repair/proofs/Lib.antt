@@ -48,6 +48,7 @@ pub mod AsGrove
 pub mod Front
 pub mod Beginning
 pub mod KeptRun
+pub mod StillStale
 pub mod TurnByTurn
 pub mod UpToDate
 pub mod Propagated
@@ -55,3 +56,4 @@ pub mod Continuing
 pub mod Spots
 pub mod TurnOver
 pub mod TurnEnding
+pub mod SlicingRuns

@@ -1,14 +1,13 @@
 -- Where no read is stale any more, all items are honest.
 use Rattle.std.proofs.Common.{◌≡◌, ℕ, List, [], sym, subst, ◌∙◌, append-nil}
 use Rattle.ceal_base.specs.Block.{Block}
-use Rattle.ceal_base.specs.Trace.{Trace}
 use Rattle.ceal_base.specs.declared.word.Word.{Word}
 use Rattle.ceal_code.specs.Program.{Code}
 use Rattle.ceal_repair.proofs.Front.{agrees-front, honest-front}
 use Rattle.ceal_repair.specs.Blocks.{HasBlocks}
 use Rattle.ceal_repair.specs.Kept.{Kept, IsHonestRecord}
 use Rattle.ceal_repair.specs.Propagation.{HasCome, IsUpToDate}
-use Rattle.ceal_repair.specs.Turning.{StandsFor, TurnedSoFar}
+use Rattle.ceal_repair.specs.Turning.{Since, StandsFor, TurnedSoFar}
 use Rattle.ceal_repair.specs.declared.running.Running.{Running}
 use Rattle.ceal_repair.specs.declared.tables.Tables.{Tables}
 use Rattle.ceal_theory.proofs.Listed.{listed-law}
@@ -16,7 +15,7 @@ use Rattle.ceal_theory.proofs.SliceLaws.{ready-law, start-law}
 use Rattle.ceal_theory.specs.Slices.{starting}
 use Rattle.ceal_theory.specs.Walk.{AgreesAll}
 
-module _ (code : Code) (inputs : List Block) (f : ℕ) (args : List Word) (l : Trace) (old before : Running) (come : HasCome code inputs f args l old before)
+module _ (code : Code) (inputs : List Block) (f : ℕ) (args : List Word) (o : Since) (old before : Running) (come : HasCome code inputs f args o old before)
     (t : Tables) (kept : Kept t) (trace : t.trace ≡ before.tables.trace) (cells : t.mods.cells ≡ before.tables.mods.cells) where
   abbrev now : Running
   now = record before { tables = t }
@@ -43,19 +42,18 @@ module _ (code : Code) (inputs : List Block) (f : ℕ) (args : List Word) (l : T
     sound = come.so_far.stands.sound;
   }
 
-  so_far : TurnedSoFar code inputs f args l now
+  so_far : TurnedSoFar code inputs f args o now
   so_far = record {
     repair = come.so_far.repair;
     stands = stands;
     chosen = come.so_far.chosen;
     number = come.so_far.number;
     given = come.so_far.given;
-    turns = come.so_far.turns;
     history = come.so_far.history;
   }
 
   -- only the queue is another one
-  pub come-now : HasCome code inputs f args l old now
+  pub come-now : HasCome code inputs f args o old now
   come-now = record {
     called = come.called;
     items = come.items;
@@ -65,7 +63,7 @@ module _ (code : Code) (inputs : List Block) (f : ℕ) (args : List Word) (l : T
   }
 
   -- each read has the content of its moment
-  pub up-to-date : ((s : ℕ) → IsHonestRecord s t) → IsUpToDate code inputs f args l old now
+  pub up-to-date : ((s : ℕ) → IsHonestRecord s t) → IsUpToDate code inputs f args o old now
   unfolding so_far come-now
   up-to-date all = record {
     come = come-now;

@@ -15,3 +15,4 @@ pub mod Reads
 pub mod Passing
 pub mod Turning
 pub mod Propagation
+pub mod Slicing

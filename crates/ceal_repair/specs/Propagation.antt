@@ -1,14 +1,17 @@
 -- Change propagation under way.
-use Rattle.std.specs.Prelude.{◌≡◌, Bool, true, false, ℕ, None, List, ◌++◌}
+use Rattle.std.specs.Prelude.{◌≡◌, ◌<◌, ◌≤◌, ⊤, Option, Bool, true, false, ℕ, Some, None, List, ◌++◌}
 use Rattle.ceal_base.specs.Block.{Block}
-use Rattle.ceal_base.specs.Trace.{Trace, flat}
+use Rattle.ceal_base.specs.Trace.{flat}
 use Rattle.ceal_base.specs.declared.word.Word.{Word}
-use Rattle.ceal_code.specs.Fresh.{fresh}
 use Rattle.ceal_code.specs.Program.{Code}
 use Rattle.ceal_code.specs.Replay.{IsHonest, bases}
 use Rattle.ceal_repair.specs.Moment.{Start}
-use Rattle.ceal_repair.specs.Turning.{IsCalled, TurnedSoFar, TurnBegan, TurnEnded}
+use Rattle.ceal_repair.specs.Turning.{Since, later, NamesOff, IsOrigin, TurnedSoFar, TurnBegan, TurnEnded}
+use Rattle.ceal_repair.specs.declared.repair.turns.Ending.{Ending}
+use Rattle.ceal_repair.specs.declared.repair.turns.Ending.TheVariants.{Done, More, Spent}
 use Rattle.ceal_repair.specs.declared.running.Running.{Running}
+use Rattle.ceal_theory.specs.Repair.{Single}
+use Rattle.ceal_theory.specs.Slices.{sliced}
 use Rattle.ceal_theory.specs.Walk.{AgreesAll}
 use Rattle.ceal_trace.specs.Items.{forest_of}
 use Rattle.ceal_trace.specs.Nodes.{Entry}
@@ -18,32 +21,56 @@ abbrev pub KeepsFront : Code → List Block → List Entry → List Entry → Ty
 KeepsFront code inputs old new = (front back : List Entry) → old ≡ front ++ back → AgreesAll code (bases code inputs) (forest_of front)
     → (later : List Entry) × (new ≡ front ++ later)
 
--- A run has come by turns from a run before it, whose nodes had the items of a trace of the call: a repair that goes on. What agreed
--- at the beginning is as it was.
-pub record HasCome (code : Code) (inputs : List Block) (f : ℕ) (args : List Word) (l : Trace) (before run : Running) : Type 0 where
-  pub called : IsCalled code inputs f args l
-  pub items : forest_of before.tables.trace.nodes ≡ flat l
-  pub so_far : TurnedSoFar code inputs f args l run
+-- A run has come by turns from a run before it, whose nodes had the items of the repair that the turns began from. What agreed at the
+-- beginning is as it was.
+pub record HasCome (code : Code) (inputs : List Block) (f : ℕ) (args : List Word) (o : Since) (before run : Running) : Type 0 where
+  pub called : IsOrigin code inputs f args o
+  pub items : forest_of before.tables.trace.nodes ≡ flat o.repair.items
+  pub so_far : TurnedSoFar code inputs f args o run
   pub front : KeepsFront code inputs before.tables.trace.nodes run.tables.trace.nodes
-  pub unchanged : IsHonest code inputs l → (run.tables.trace ≡ before.tables.trace) × (run.spent ≡ 0)
+  pub unchanged : IsHonest code inputs o.repair.items → (run.tables.trace ≡ before.tables.trace) × (run.spent ≡ o.repair.spent)
 
 -- and no read is stale any more
-pub record IsUpToDate (code : Code) (inputs : List Block) (f : ℕ) (args : List Word) (l : Trace) (before run : Running) : Type 0 where
-  pub come : HasCome code inputs f args l before run
+pub record IsUpToDate (code : Code) (inputs : List Block) (f : ℕ) (args : List Word) (o : Since) (before run : Running) : Type 0 where
+  pub come : HasCome code inputs f args o before run
   pub honest : IsHonest code inputs come.so_far.repair.items
 
--- a run is up to date, or the run from scratch needs more steps than the fuel allows
-abbrev pub Propagated : Bool → Code → List Block → ℕ → List Word → ℕ → Trace → Running → Running → Type 0
-Propagated true code inputs f args fuel l before run = IsUpToDate code inputs f args l before run
-Propagated false code inputs f args fuel l before run = fresh code f args inputs fuel ≡ None
+-- More steps were spent in the next turn than the fuel allows: no slice of more reads than there were turns, and none without a number
+-- of reads, comes to an end within it.
+pub record IsSpent (code : Code) (inputs : List Block) (fuel : ℕ) (o : Since) : Type 0 where
+  pub names : ℕ → ℕ
+  pub single : Single names
+  pub off : NamesOff names o.first
+  pub whole : sliced code names inputs None fuel o.repair ≡ None
+  pub part : (k : ℕ) → o.turns < k → sliced code names inputs (Some k) fuel o.repair ≡ None
+
+-- so many turns are fewer than there are to be, or no more than that
+abbrev pub IsLess : ℕ → Option ℕ → Type 0
+IsLess n None = ⊤
+IsLess n (Some k) = n < k
+
+abbrev pub IsWithin : ℕ → Option ℕ → Type 0
+IsWithin n None = ⊤
+IsWithin n (Some k) = n ≤ k
+
+-- as many turns were made as there are to be, and a read is stale still
+pub record IsUnderWay (code : Code) (inputs : List Block) (f : ℕ) (args : List Word) (o : Since) (before run : Running) : Type 0 where
+  pub come : HasCome code inputs f args o before run
+  pub stale : ¬ IsHonest code inputs come.so_far.repair.items
+
+-- after some turns more a run is up to date, or under way, or too many steps were spent
+abbrev pub Propagated : Ending → Code → List Block → ℕ → List Word → Option ℕ → ℕ → Since → Running → Running → Type 0
+Propagated Done code inputs f args reads fuel o before run = (n : ℕ) × IsWithin n reads × IsUpToDate code inputs f args (later n o) before run
+Propagated More code inputs f args reads fuel o before run = (n : ℕ) × (reads ≡ Some n) × IsUnderWay code inputs f args (later n o) before run
+Propagated Spent code inputs f args reads fuel o before run = (n : ℕ) × IsLess n reads × IsSpent code inputs fuel (later n o)
 
 -- one turn from a run to the next
-pub record TurnMade (code : Code) (inputs : List Block) (f : ℕ) (args : List Word) (l : Trace) (before run : Running) : Type 0 where
+pub record TurnMade (code : Code) (inputs : List Block) (f : ℕ) (args : List Word) (o : Since) (before run : Running) : Type 0 where
   pub start : Start
-  pub began : TurnBegan code inputs f args l before start
-  pub ended : TurnEnded code inputs f args l start run
+  pub began : TurnBegan code inputs f args o before start
+  pub ended : TurnEnded code inputs f args o start run
 
--- a turn is made, or the run from scratch needs more steps than the fuel allows
-abbrev pub AfterTurn : Bool → Code → List Block → ℕ → List Word → ℕ → Trace → Running → Running → Type 0
-AfterTurn true code inputs f args fuel l before run = TurnMade code inputs f args l before run
-AfterTurn false code inputs f args fuel l before run = fresh code f args inputs fuel ≡ None
+-- a turn is made, or too many steps were spent
+abbrev pub AfterTurn : Bool → Code → List Block → ℕ → List Word → ℕ → Since → Running → Running → Type 0
+AfterTurn true code inputs f args fuel o before run = TurnMade code inputs f args o before run
+AfterTurn false code inputs f args fuel o before run = IsSpent code inputs fuel o

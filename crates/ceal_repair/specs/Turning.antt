@@ -1,5 +1,5 @@
 -- A run that is repaired turn by turn, each turn the first stale read with what is inside it.
-use Rattle.std.specs.Prelude.{◌≡◌, ℕ, Some, List, [], ◌∷◌, ◌++◌, length}
+use Rattle.std.specs.Prelude.{◌≡◌, ℕ, zero, suc, Some, List, [], ◌∷◌, ◌++◌, length}
 use Rattle.ceal_base.specs.Block.{Block}
 use Rattle.ceal_base.specs.Trace.{Trace, flat, blocks_of}
 use Rattle.ceal_base.specs.declared.forest.UnitId.{UnitId}
@@ -8,7 +8,7 @@ use Rattle.ceal_base.specs.declared.word.Place.{Place}
 use Rattle.ceal_base.specs.declared.word.Word.{Word}
 use Rattle.ceal_code.specs.Fitting.{Fits}
 use Rattle.ceal_code.specs.Program.{Code}
-use Rattle.ceal_code.specs.Replay.{Replays, core_numbers}
+use Rattle.ceal_code.specs.Replay.{count, core_numbers}
 use Rattle.ceal_heap.specs.Heap.{plain_of}
 use Rattle.ceal_repair.specs.Blocks.{HasBlocks, Given}
 use Rattle.ceal_repair.specs.Entries.{stamped, entry, entries, closing}
@@ -19,6 +19,7 @@ use Rattle.ceal_repair.specs.declared.running.Running.{Running}
 use Rattle.ceal_repair.specs.Kept.{Kept, IsStale, Records, QueuedBehind, contents_at}
 use Rattle.ceal_theory.specs.Chosen.{Continues}
 use Rattle.ceal_theory.specs.Groves.{Grove, stepped, trace_in}
+use Rattle.ceal_theory.specs.Repair.{Single}
 use Rattle.ceal_theory.specs.SliceLaws.{unit_alone, Turns}
 use Rattle.ceal_theory.specs.Slices.{Repair, beginning, starting, Sound}
 use Rattle.ceal_theory.specs.Walk.{store_after, AgreesAll}
@@ -69,27 +70,49 @@ pub record StandsFor (code : Code) (inputs : List Block) (f : ℕ) (args : List 
   pub names : ℕ → ℕ
   pub sound : Sound code names inputs f args r
 
--- A repair of the trace that has come so far by turns, whatever the names of the new blocks to come.
-pub record TurnedSoFar (code : Code) (inputs : List Block) (f : ℕ) (args : List Word) (l : Trace) (run : Running) : Type 0 where
+-- A repair from which turns are made, the numbers of the blocks that it knows, and how many turns were made since.
+pub record Since : Type 0 where
+  pub repair : Repair
+  pub first : List ℕ
+  pub turns : ℕ
+
+-- the sum of two numbers of turns, by recursion
+abbrev pub turns_more : ℕ → ℕ → ℕ
+turns_more zero n = n
+turns_more (suc k) n = suc (turns_more k n)
+
+-- after so many turns more
+abbrev pub later : ℕ → Since → Since
+later n o = record { repair = o.repair; first = o.first; turns = turns_more n o.turns }
+
+-- the repair of a trace, from its beginning
+abbrev pub since_begun : Code → List Block → Trace → Since
+since_begun code inputs l = record { repair = beginning code inputs l 0; first = core_numbers (blocks_of l); turns = 0 }
+
+-- none of these numbers is a name
+abbrev pub NamesOff : (ℕ → ℕ) → List ℕ → Type 0
+NamesOff names first = (k : ℕ) → count (names k) first ≡ 0
+
+-- It is a repair of a call that fits, whatever the names of new blocks, if none is that of a known one.
+pub record IsOrigin (code : Code) (inputs : List Block) (f : ℕ) (args : List Word) (o : Since) : Type 0 where
+  pub fits : Fits code inputs f args
+  pub sound : (names : ℕ → ℕ) → Single names → NamesOff names o.first → Sound code names inputs f args o.repair
+
+-- A repair that has come so far by turns, whatever the names of the new blocks to come.
+pub record TurnedSoFar (code : Code) (inputs : List Block) (f : ℕ) (args : List Word) (o : Since) (run : Running) : Type 0 where
   pub repair : Repair
   pub stands : StandsFor code inputs f args repair run
   pub chosen : List ℕ
   pub number : repair.number ≡ length chosen
-  pub given : Given (core_numbers (blocks_of l)) chosen run.heap
-  pub turns : ℕ
-  pub history : (names : ℕ → ℕ) → Continues chosen names → Turns code names inputs turns (beginning code inputs l 0) repair
-
--- a trace of a call that fits
-pub record IsCalled (code : Code) (inputs : List Block) (f : ℕ) (args : List Word) (l : Trace) : Type 0 where
-  pub fits : Fits code inputs f args
-  pub replays : Replays code inputs f args l
+  pub given : Given o.first chosen run.heap
+  pub history : (names : ℕ → ℕ) → Continues chosen names → Turns code names inputs o.turns o.repair repair
 
 -- The first stale read of a run that has come so far was found, and has the content of its moment since then; what is queued stands
 -- behind it, and all else is as it was.
-pub record FoundStale (code : Code) (inputs : List Block) (f : ℕ) (args : List Word) (l : Trace) (read : ℕ) (run : Running) : Type 0 where
-  pub called : IsCalled code inputs f args l
+pub record FoundStale (code : Code) (inputs : List Block) (f : ℕ) (args : List Word) (o : Since) (read : ℕ) (run : Running) : Type 0 where
+  pub called : IsOrigin code inputs f args o
   pub before : Running
-  pub so_far : TurnedSoFar code inputs f args l before
+  pub so_far : TurnedSoFar code inputs f args o before
   pub stale : IsStale read before.tables
   pub place : Place
   pub value : Word
@@ -103,25 +126,25 @@ pub record FoundStale (code : Code) (inputs : List Block) (f : ℕ) (args : List
 
 -- A turn has begun at the first stale read of a run that has come so far: the items before the read agree with the store, its
 -- own content does not.
-pub record TurnBegan (code : Code) (inputs : List Block) (f : ℕ) (args : List Word) (l : Trace) (before : Running) (start : Start) : Type 0 where
-  pub called : IsCalled code inputs f args l
-  pub so_far : TurnedSoFar code inputs f args l before
+pub record TurnBegan (code : Code) (inputs : List Block) (f : ℕ) (args : List Word) (o : Since) (before : Running) (start : Start) : Type 0 where
+  pub called : IsOrigin code inputs f args o
+  pub so_far : TurnedSoFar code inputs f args o before
   pub spot : ReadAt before.tables.trace.nodes
   pub agrees : AgreesAll code (starting code inputs so_far.repair.known) (forest_of spot.before)
   pub stale : ¬ (store_after code (starting code inputs so_far.repair.known) (forest_of spot.before) spot.place ≡ spot.value)
   pub reads : List ℕ
   pub opened : unclosed (Some []) spot.before ≡ Some reads
-  pub is : start ≡ turn_start code inputs so_far.repair (core_numbers (blocks_of l)) so_far.chosen so_far.stands.sound.blocks (spot.read ∷ reads) spot
+  pub is : start ≡ turn_start code inputs so_far.repair o.first so_far.chosen so_far.stands.sound.blocks (spot.read ∷ reads) spot
       (store_after code (starting code inputs so_far.repair.known) (forest_of spot.before) spot.place)
 
 -- the unit of that read runs
-pub record TurnRuns (code : Code) (inputs : List Block) (f : ℕ) (args : List Word) (l : Trace) (before : Running) (r : RepairInCode) : Type 0 where
+pub record TurnRuns (code : Code) (inputs : List Block) (f : ℕ) (args : List Word) (o : Since) (before : Running) (r : RepairInCode) : Type 0 where
   pub start : Start
-  pub began : TurnBegan code inputs f args l before start
+  pub began : TurnBegan code inputs f args o before start
   pub runs : Runs start r
 
 -- the turn has ended: the run has come further, and the nodes before the read are as they were
-pub record TurnEnded (code : Code) (inputs : List Block) (f : ℕ) (args : List Word) (l : Trace) (start : Start) (run : Running) : Type 0 where
-  pub so_far : TurnedSoFar code inputs f args l run
-  pub later : List Entry
-  pub front : run.tables.trace.nodes ≡ start.before ++ later
+pub record TurnEnded (code : Code) (inputs : List Block) (f : ℕ) (args : List Word) (o : Since) (start : Start) (run : Running) : Type 0 where
+  pub so_far : TurnedSoFar code inputs f args (later 1 o) run
+  pub after : List Entry
+  pub front : run.tables.trace.nodes ≡ start.before ++ after

@@ -18,7 +18,7 @@ use crate::running::Running;
 use ceal_base::no_memory::NoMemory;
 use ceal_base::word::{BlockId, Place};
 use ceal_order::stamp::Stamp;
-use ceal_trace::node::Node;
+use ceal_trace::node::Seen;
 use ceal_trace::trace::Trace;
 
 /// What is to be done to revoke a node.
@@ -35,11 +35,11 @@ fn cut_of(trace: &Trace, node: Stamp) -> Cut
     ensures { Revokes result (node_at node.0 trace.now.nodes) }
 {
     match trace.node(node) {
-        Node::Alloc { block, .. } => Cut::Alloc(*block),
-        Node::Write { place, .. } => Cut::Write(*place),
-        Node::Read { .. } => Cut::Read,
-        Node::Root => unreachable!(),
-        Node::End { .. } => unreachable!(),
+        Seen::Alloc { block, .. } => Cut::Alloc(block),
+        Seen::Write { place, .. } => Cut::Write(place),
+        Seen::Read { .. } => Cut::Read,
+        Seen::Root => unreachable!(),
+        Seen::End { .. } => unreachable!(),
     }
 }
 

@@ -32,5 +32,6 @@ pub mod propagate;
 mod recorded;
 mod repair;
 pub mod running;
+pub mod slice;
 pub mod tables;
 mod words;

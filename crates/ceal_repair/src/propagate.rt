@@ -4,13 +4,16 @@ ghost use Rattle.std.specs.Prelude.{◌≡◌, ◌<◌, ◌^◌, ℕ, List, leng
 ghost use Rattle.ceal_base.specs.Block.{Block};
 ghost use Rattle.ceal_base.specs.Trace.{Trace};
 ghost use Rattle.ceal_base.specs.declared.word.Word.{Word};
-ghost use Rattle.ceal_code.specs.Replay.{IsHonest};
+ghost use Rattle.ceal_code.specs.Fitting.{Fits};
+ghost use Rattle.ceal_code.specs.Replay.{IsHonest, Replays};
 ghost use Rattle.ceal_code.specs.Program.{Code as CodeOf};
 ghost use Rattle.ceal_repair.specs.Answers.{IsKeptRun, IsRepaired};
 ghost use Rattle.ceal_repair.specs.Propagation.{IsUpToDate};
+ghost use Rattle.ceal_repair.specs.Turning.{later, since_begun};
 ghost use Rattle.ceal_repair.specs.declared.running.Running.{Running as RunningOf};
 
 use crate::repair::Repair;
+use crate::repair::turns::Ending;
 use crate::running::{Outcome, Running};
 use ceal_base::memory::Inputs;
 use ceal_base::no_memory::NoMemory;
@@ -41,9 +44,10 @@ pub fn propagate(
     let mut running = running;
     running.spent = 0;
     let mut repair = Repair::first(code, inputs, running, Stack::empty(alloc));
-    match repair.turns(fuel) {
-        Ok(true) => Ok(repair.into_running().finish(fuel)),
-        Ok(false) => {
+    match repair.turns(None, fuel) {
+        Ok(Ending::Done) => Ok(repair.into_running().finish(fuel)),
+        Ok(Ending::More) => unreachable!(),
+        Ok(Ending::Spent) => {
             drop(repair);
             Ok(Outcome::OutOfFuel)
         }
@@ -58,8 +62,9 @@ impl Running {
     /// What a run that is up to date comes to: it may have more steps than the fuel allows. Revoked blocks are released.
     fn finish(self, fuel: u32) -> Outcome
         ensures answers { (code : CodeOf) (inputs : List Block) (f : ℕ) (args : List Word)
-            (l : Trace) (before : RunningOf)
-            → IsUpToDate code inputs f args l before self
+            (l : Trace) → Fits code inputs f args → Replays code inputs f args l
+            → (n : ℕ) (before : RunningOf)
+            → IsUpToDate code inputs f args (later n (since_begun code inputs l)) before self
             → IsRepaired code inputs f args fuel l before result }
     {
         if self.tables.trace.steps() > u64::from(fuel) {

@@ -9,7 +9,7 @@ ghost use Rattle.ceal_repair.specs.Kept.{Records};
 
 use ceal_base::word::{Place, Word};
 use ceal_order::stamp::Stamp;
-use ceal_trace::node::Node;
+use ceal_trace::node::Seen;
 use ceal_trace::trace::Trace;
 
 /// The place and the value of a read.
@@ -18,11 +18,11 @@ pub fn recorded(trace: &Trace, read: Stamp) -> (Place, Word)
     ensures { Records result.0 result.1 (node_at read.0 trace.now.nodes) }
 {
     match trace.node(read) {
-        Node::Read { place, value, .. } => (*place, *value),
-        Node::Root => unreachable!(),
-        Node::Alloc { .. } => unreachable!(),
-        Node::Write { .. } => unreachable!(),
-        Node::End { .. } => unreachable!(),
+        Seen::Read { place, value, .. } => (place, value),
+        Seen::Root => unreachable!(),
+        Seen::Alloc { .. } => unreachable!(),
+        Seen::Write { .. } => unreachable!(),
+        Seen::End { .. } => unreachable!(),
     }
 }
 
@@ -33,11 +33,11 @@ pub fn written(trace: &Trace, write: Stamp) -> Word
     ensures { (p : PlaceOf) × (node_at write.0 trace.now.nodes ≡ Some (Write p result)) }
 {
     match trace.node(write) {
-        Node::Write { value, .. } => *value,
-        Node::Root => unreachable!(),
-        Node::Alloc { .. } => unreachable!(),
-        Node::Read { .. } => unreachable!(),
-        Node::End { .. } => unreachable!(),
+        Seen::Write { value, .. } => value,
+        Seen::Root => unreachable!(),
+        Seen::Alloc { .. } => unreachable!(),
+        Seen::Read { .. } => unreachable!(),
+        Seen::End { .. } => unreachable!(),
     }
 }
 

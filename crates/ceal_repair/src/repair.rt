@@ -28,7 +28,7 @@ mod put;
 mod read;
 mod take;
 mod turn;
-mod turns;
+pub mod turns;
 
 /// A repair that is under way, or a run from nothing. A unit runs; the nodes up to the cursor are final, and those behind it, up to
 /// the limit, are left over to the unit. The cursor only moves on.

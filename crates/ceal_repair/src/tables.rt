@@ -380,6 +380,48 @@ impl Tables {
         None
     }
 
+    /// Whether a read is stale. Queued reads before the first stale one are honest, and hand on to the next ones of their places; the
+    /// stale one stays queued, with the value that it has. No memory is taken.
+    pub fn has_stale(&mut self) -> bool
+        requires kept { Kept self.old }
+        ensures stale { IsTrue result → (s : ℕ) × IsStale s self.old }
+        ensures honest { result ≡ false → (s : ℕ) → IsHonestRecord s self.new }
+        ensures trace { self.new.trace ≡ self.old.trace }
+        ensures cells { self.new.mods.cells ≡ self.old.mods.cells }
+        ensures memo { self.new.memo ≡ self.old.memo }
+        ensures kept { Kept self.new }
+    {
+        for _looked in 0..u64::MAX {
+            match self.stale.first() {
+                None => return false,
+                Some(read) => {
+                    if self.differs(read) {
+                        return true;
+                    }
+                    self.look(read);
+                }
+            }
+        }
+        false
+    }
+
+    // Whether a read has not the content of its moment.
+    fn differs(&mut self, read: Stamp) -> bool
+        requires kept { Kept self.old }
+        requires here { IsTrue (is_read (node_at read.0 self.old.trace.nodes)) }
+        ensures stale { IsTrue result → IsStale read.0 self.old }
+        ensures honest { result ≡ false → IsHonestRecord read.0 self.old }
+        ensures trace { self.new.trace ≡ self.old.trace }
+        ensures cells { self.new.mods.cells ≡ self.old.mods.cells }
+        ensures memo { self.new.memo ≡ self.old.memo }
+        ensures queue { self.new.stale ≡ self.old.stale }
+        ensures kept { Kept self.new }
+    {
+        let (place, value) = recorded(&self.trace, read);
+        let now = self.mods.value_at(self.trace.order(), place, read);
+        !is_same(value, now)
+    }
+
     // Queues the read that a change of a place after a node affects; there is room for it.
     fn wake(&mut self, place: Place, after: Stamp)
         requires here { IsTrue (has_node after.0 self.old.trace.nodes) }

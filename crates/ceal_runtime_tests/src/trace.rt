@@ -9,7 +9,7 @@ use ceal_base::forest::{Key, UnitId};
 use ceal_base::word::{BlockId, Place, Word};
 use ceal_base::words::Words;
 use ceal_order::stamp::Stamp;
-use ceal_trace::node::{Gone, Node};
+use ceal_trace::node::{Gone, Node, Seen};
 use ceal_trace::trace::Trace;
 use std::alloc::Global;
 use std::process::Abort;
@@ -28,25 +28,25 @@ fn first_of(words: &Words) -> Word {
     words.items().first().copied().unwrap_or(Word::Null)
 }
 
-fn line_of(node: &Node) -> Option<Line> {
+fn line_of(node: Seen<'_>) -> Option<Line> {
     match node {
-        Node::Root => None,
-        Node::Alloc { block, key } => match key {
-            Key::Init { args, .. } => Some(Line::Alloc(*block, first_of(args))),
-            _ => Some(Line::Alloc(*block, Word::Null)),
+        Seen::Root => None,
+        Seen::Alloc { block, key } => match key {
+            Key::Init { args, .. } => Some(Line::Alloc(block, first_of(args))),
+            _ => Some(Line::Alloc(block, Word::Null)),
         },
-        Node::Write { place, value } => Some(Line::Write(*place, *value)),
-        Node::Read {
+        Seen::Write { place, value } => Some(Line::Write(place, value)),
+        Seen::Read {
             place,
             value,
             args,
             ..
-        } => Some(Line::Read(*place, *value, first_of(args))),
-        Node::End { .. } => Some(Line::End),
+        } => Some(Line::Read(place, value, first_of(args))),
+        Seen::End { .. } => Some(Line::End),
     }
 }
 
-fn add_node<R: Abort>(rt: &R, lines: &mut Vec<Line>, node: &Node, steps: u32) {
+fn add_node<R: Abort>(rt: &R, lines: &mut Vec<Line>, node: Seen<'_>, steps: u32) {
     if let Some(line) = line_of(node) {
         lines.push(line).expect(rt, "memory");
     }

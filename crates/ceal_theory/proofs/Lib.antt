@@ -29,6 +29,8 @@ pub mod KnownContent
 pub mod Listed
 pub mod SameStore
 pub mod SliceLaws
+pub mod CarriedLaws
+pub mod PastLaws
 pub mod Sound
 pub mod Walk
 -- The laws of repair.

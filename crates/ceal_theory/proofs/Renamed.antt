@@ -209,7 +209,7 @@ module _ (ps : Pairs) (one : OneToOne ps) where
       omega (arith, uses-renamed ki b c t, uses-renamed h b c t, times-append c (blocks_of j) (blocks_of m), times-append b (blocks_of i) (blocks_of l))
 
   -- and each that stands has one
-  uses-tied : {l m : Trace} → TraceAlike ps l m → (c : ℕ) → (uses c m ≡ 0) ⊎ ((b : ℕ) × Tied b c ps)
+  pub uses-tied : {l m : Trace} → TraceAlike ps l m → (c : ℕ) → (uses c m ≡ 0) ⊎ ((b : ℕ) × Tied b c ps)
   uses-tied TraceAlike.nothing c = inl refl
   uses-tied (TraceAlike.stepped h) c = uses-tied h c
   uses-tied (TraceAlike.allocated IdAlike.input k h) c = uses-tied h c

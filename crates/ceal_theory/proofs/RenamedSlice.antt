@@ -25,7 +25,7 @@ use Rattle.ceal_theory.proofs.Renamed.{honest-renamed}
 use Rattle.ceal_theory.proofs.SideBySide.{given-too, equal-too, apart-too, twin-clears, twin-puts, Sides, ComesFrom, Twin, RanToo, fix-too, anew-too}
 use Rattle.ceal_theory.specs.Repair.{Single, State, clears, puts, resumed}
 use Rattle.ceal_theory.proofs.SliceFunction.{sliced-sound, sliced-found}
-use Rattle.ceal_theory.specs.Slices.{Repair, with_inputs, default_in, starting_in, starting, goes_on, Part, Runs, repair_at, Slices, sliced, AlikeRepairs, RenamedSlices}
+use Rattle.ceal_theory.specs.Slices.{Repair, with_inputs, default_in, starting_in, starting, goes_on, Part, Runs, repair_at, Slices, sliced, AlikeRepairs, ComesBehind, RenamedSlices}
 
 module _ (code : Code) (sides : Sides) where
   pub record PartToo (ps : Pairs) (k j : ℕ) (s' : State) (new : Trace) (t : State) (old' : Trace) : Type 0 where
@@ -176,23 +176,29 @@ module _ (code : Code) (inputs : List Block) (fit : inputs_fit code.structs inpu
       pairs = λ b c t. ComesFrom.begun t;
     }
 
-    pub record SlicesToo (ps : Pairs) (k : Option ℕ) (r' q : Repair) : Type 0 where
+    pub record SlicesToo (ps : Pairs) (k : Option ℕ) (r r' q : Repair) : Type 0 where
       pub repair : Repair
       pub slice : Slices code names' inputs k q repair
       pub pairs : Pairs
       pub wider : Within ps pairs
       pub alike : AlikeRepairs code names names' inputs pairs r' repair
+      pub from : (b c : ℕ) → Tied b c pairs → ComesBehind names names' ps r q b c
 
-    pub slice-too : (ps : Pairs) (r q : Repair) → AlikeRepairs code names names' inputs ps r q → (k : Option ℕ) (r' : Repair) → Slices code names inputs k r r' → SlicesToo ps k r' q
-    slice-too ps r q h k r' s = subst (λ r'. SlicesToo ps k r' q) (sym s.is) (finish (runs-too code (sides ps r q) s.runs ps (goes_on code inputs q) h.items (twin ps r q h)))
+    behind : (ps : Pairs) (r q : Repair) (b c : ℕ) → ComesFrom (sides ps r q) b c → ComesBehind names names' ps r q b c
+    behind ps r q b c (ComesFrom.begun t) = ComesBehind.old t
+    behind ps r q b c (ComesFrom.grown k e e') = ComesBehind.new k e e'
+
+    pub slice-too : (ps : Pairs) (r q : Repair) → AlikeRepairs code names names' inputs ps r q → (k : Option ℕ) (r' : Repair) → Slices code names inputs k r r' → SlicesToo ps k r r' q
+    slice-too ps r q h k r' s = subst (λ r'. SlicesToo ps k r r' q) (sym s.is) (finish (runs-too code (sides ps r q) s.runs ps (goes_on code inputs q) h.items (twin ps r q h)))
       where
-        finish : RunsToo code (sides ps r q) ps k s.after s.items (goes_on code inputs q) q.items → SlicesToo ps k (repair_at s.after s.items) q
+        finish : RunsToo code (sides ps r q) ps k s.after s.items (goes_on code inputs q) q.items → SlicesToo ps k r (repair_at s.after s.items) q
         finish x = record {
           repair = repair_at x.state x.items;
           slice = record { after = x.state; items = x.items; runs = x.runs; is = refl };
           pairs = x.pairs;
           wider = x.wider;
           alike = record { one = x.twin.one; items = x.alike; known = with-alike x.pairs s.after.plain x.state.plain x.twin.plain; left = x.twin.left; right = x.twin.right; spent = x.twin.work };
+          from = λ b c t. behind ps r q b c (x.twin.pairs b c t);
         }
 
   -- what is done on the one side is done on the other
@@ -231,22 +237,22 @@ module _ (code : Code) (inputs : List Block) (fit : inputs_fit code.structs inpu
   }
 
   module _ (names names' : ℕ → ℕ) (single : Single names) (single' : Single names') (ps : Pairs) (r q : Repair) (h : AlikeRepairs code names names' inputs ps r q) (k : Option ℕ) (n : ℕ) where
-    there-too : (a : Repair) → sliced code names inputs k n r ≡ Some a → (b : Repair) × (sliced code names' inputs k n q ≡ Some b) × RenamedSlices code names names' inputs ps (Some a) (Some b)
+    there-too : (a : Repair) → sliced code names inputs k n r ≡ Some a → (b : Repair) × (sliced code names' inputs k n q ≡ Some b) × RenamedSlices code names names' inputs ps r q (Some a) (Some b)
     there-too a e =
         let s = sliced-sound code names inputs n r k a e in
         let t = slice-too code inputs fit names names' single single' ps r q h k a s.0 in
-        (t.repair, sliced-found code names' inputs n q k t.repair t.slice (subst (λ m. m ≤ n) t.alike.spent s.1), RenamedSlices.some t.pairs t.wider t.alike)
+        (t.repair, sliced-found code names' inputs n q k t.repair t.slice (subst (λ m. m ≤ n) t.alike.spent s.1), RenamedSlices.some t.pairs t.wider t.alike t.from)
 
   module _ (names names' : ℕ → ℕ) (single : Single names) (single' : Single names') (ps : Pairs) (r q : Repair) (h : AlikeRepairs code names names' inputs ps r q) (k : Option ℕ) (n : ℕ) where
-    by-cases : (o o' : Option Repair) → sliced code names inputs k n r ≡ o → sliced code names' inputs k n q ≡ o' → RenamedSlices code names names' inputs ps o o'
+    by-cases : (o o' : Option Repair) → sliced code names inputs k n r ≡ o → sliced code names' inputs k n q ≡ o' → RenamedSlices code names names' inputs ps r q o o'
     by-cases None None e e' = RenamedSlices.none
     by-cases None (Some b) e e' =
         let t = there-too names' names single' single (flipped ps) q r (repairs-flip ps r q h) k n b e' in none-some t.0 (sym e ∙ t.1)
     by-cases (Some a) None e e' = let t = there-too names names' single single' ps r q h k n a e in none-some t.0 (sym e' ∙ t.1)
     by-cases (Some a) (Some b) e e' =
         let t = there-too names names' single single' ps r q h k n a e in
-        subst (λ o. RenamedSlices code names names' inputs ps (Some a) o) (sym t.1 ∙ e') t.2
+        subst (λ o. RenamedSlices code names names' inputs ps r q (Some a) o) (sym t.1 ∙ e') t.2
 
     -- a slice of the renamed repair is there exactly where that of the repair is, and is that one renamed
-    pub slice-renamed : RenamedSlices code names names' inputs ps (sliced code names inputs k n r) (sliced code names' inputs k n q)
+    pub slice-renamed : RenamedSlices code names names' inputs ps r q (sliced code names inputs k n r) (sliced code names' inputs k n q)
     slice-renamed = by-cases (sliced code names inputs k n r) (sliced code names' inputs k n q) refl refl

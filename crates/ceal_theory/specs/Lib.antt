@@ -23,6 +23,8 @@ pub mod MoreInputs
 -- repairs that go on in slices, and their queue
 pub mod Slices
 pub mod SliceLaws
+pub mod Carried
+pub mod Pasts
 pub mod Cover
 pub mod Listed
 -- the course of a turn over nodes

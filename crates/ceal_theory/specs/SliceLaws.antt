@@ -120,7 +120,7 @@ BegunAdjustedLaw = (code : Code) (old new : List Block) (f : ℕ) (args : List W
 abbrev pub RenamedSliceLaw : Type 0
 RenamedSliceLaw = (code : Code) (names names' : ℕ → ℕ) → Single names → Single names' → (inputs : List Block) → inputs_fit code.structs inputs ≡ true
     → (ps : Pairs) (r q : Repair) → AlikeRepairs code names names' inputs ps r q
-    → ((k : Option ℕ) (n : ℕ) → RenamedSlices code names names' inputs ps (sliced code names inputs k n r) (sliced code names' inputs k n q)) × (IsHonest code inputs r.items → IsHonest code inputs q.items)
+    → ((k : Option ℕ) (n : ℕ) → RenamedSlices code names names' inputs ps r q (sliced code names inputs k n r) (sliced code names' inputs k n q)) × (IsHonest code inputs r.items → IsHonest code inputs q.items)
 
 -- what begins from one trace with two ways to name new blocks is one, each block for itself
 pub record NamedBeginning (code : Code) (names names' : ℕ → ℕ) (inputs : List Block) (l : Trace) (r q : Repair) : Type 0 where

@@ -180,10 +180,16 @@ pub record AlikeRepairs (code : Code) (names names' : ℕ → ℕ) (inputs : Lis
   pub right : (b c : ℕ) → Tied b c ps → (k : ℕ) → q.number ≤ k → ¬ (c ≡ names' k)
   pub spent : r.spent ≡ q.spent
 
--- both are not there, or the one is the other renamed
-pub data RenamedSlices (code : Code) (names names' : ℕ → ℕ) (inputs : List Block) (ps : Pairs) : Option Repair → Option Repair → Type 0 where
-  none : RenamedSlices code names names' inputs ps None None
-  some : {r q : Repair} (qs : Pairs) → Within ps qs → AlikeRepairs code names names' inputs qs r q → RenamedSlices code names names' inputs ps (Some r) (Some q)
+-- the pair is one of these, or that of the k-th new blocks
+pub data ComesBehind (names names' : ℕ → ℕ) (ps : Pairs) (r q : Repair) (b c : ℕ) : Type 0 where
+  old : Tied b c ps → ComesBehind names names' ps r q b c
+  new : (k : ℕ) → b ≡ names (r.number + k) → c ≡ names' (q.number + k) → ComesBehind names names' ps r q b c
+
+-- both are not there, or the one is the other renamed, where a further pair is one of new blocks
+pub data RenamedSlices (code : Code) (names names' : ℕ → ℕ) (inputs : List Block) (ps : Pairs) (r q : Repair) : Option Repair → Option Repair → Type 0 where
+  none : RenamedSlices code names names' inputs ps r q None None
+  some : {r' q' : Repair} (qs : Pairs) → Within ps qs → AlikeRepairs code names names' inputs qs r' q' → ((b c : ℕ) → Tied b c qs → ComesBehind names names' ps r q b c)
+      → RenamedSlices code names names' inputs ps r q (Some r') (Some q')
 
 -- after a slice of k reads a further one comes to what one slice of this repair comes to
 pub data Follows (code : Code) (names : ℕ → ℕ) (inputs : List Block) (k : ℕ) (r : Repair) : Option ℕ → Repair → Type 0 where

@@ -9,11 +9,13 @@
 //! - `machine`: the repair turn by turn, with a stack of its own (`Turns`), and over the flat list of old items.
 //! - `walks`: the store along flat items, counts of items and of kept steps, and what is known on the way.
 //! - `slices`: repairs that go on in slices with edits between them, and turns, each a slice of one read.
+//! - `carried`: such a repair with other numbers for its core blocks, as an engine has it from slice to slice.
 //! - `queue`: which reads of an unfinished repair a queue must hold, and what keeps that.
 //! - `courses`: inside a turn, what an engine does to its nodes is what the machine does in its turns.
 //! - `cost`: a bound of the work by two first traces side by side.
 #![tactic(auto)]
 
+pub mod carried;
 pub mod cost;
 pub mod courses;
 pub mod laws;

@@ -1,15 +1,13 @@
 -- A trace with a node changed, and one with more room.
-use Rattle.std.proofs.Common.{◌≡◌, ◌≢◌, ℕ, inl, inr, ◌⊎◌, ◌+◌, ◌-◌, ◌*◌, ◌<◌, ◌≤◌, ◌^◌, max, true, List, [], ◌∷◌, length, refl, sym, ap, subst, ◌∙◌, arith, Option, Some, None}
+use Rattle.std.proofs.Common.{◌≡◌, ◌≢◌, ℕ, inl, inr, ◌⊎◌, ◌+◌, ◌-◌, ◌*◌, ◌<◌, ◌≤◌, ◌^◌, max, min, true, List, [], ◌∷◌, length, refl, sym, ap, subst, ◌∙◌, arith, Option, Some, None}
 use Rattle.std.specs.Prelude.{option_map, Result, Ok, Err, OnOk, OnErr}
 use Rattle.std.proofs.lemmas.Bool.Decides.{eqb_tells}
 use Rattle.ceal_base.specs.declared.word.Word.{Word}
 use Rattle.ceal_order.specs.Stamps.{Listing, IsOrder, is_in}
 use Rattle.ceal_trace.specs.declared.node.Node.{Node}
 use Rattle.ceal_trace.specs.declared.node.Node.TheVariants.{Root, Alloc, Write, Read, End}
-use Rattle.ceal_trace.specs.declared.row.Row.{Row}
-use Rattle.ceal_trace.specs.declared.table.Table.{Table}
 use Rattle.ceal_trace.specs.Nodes.{Entry, stamps_in, entry_at, held_by, steps_on, node_at, steps_at, steps_sum, is_read, ends, changed_at, valued, value_set, steps_set, with_value, with_steps, IsTrace, NoLooseEnd, SameBut}
-use Rattle.ceal_trace.specs.Rows.{row_of}
+use Rattle.ceal_trace.specs.Rows.{Row, Table, row_of}
 use Rattle.ceal_trace.specs.Keeping.{steps_of, end_of, node_of, entry_of, listed, timeline, noted, HasNodes, KnowsEnds, Sound, Wider, ValueSet, StepsSet}
 use Rattle.ceal_trace.proofs.Entries.{has-read, stamps-changed, entry-changed, entry-unchanged, sum-changed, ends-changed}
 use Rattle.ceal_trace.proofs.Stamped.{in_head, in_tail}
@@ -64,7 +62,7 @@ module _ (s : ℕ) (change : Entry → Entry) (stamp_is : (e : Entry) → (chang
     ends = λ read. ends-changed s change stamp_is read es (ends_are read);
   }
 
-  knows_still : (t t' : Table) (es : List Entry) → length t'.rows.items ≡ length t.rows.items → ((u : ℕ) → end_of t' u ≡ end_of t u)
+  knows_still : (t t' : Table) (es : List Entry) → length t'.rows ≡ length t.rows → ((u : ℕ) → end_of t' u ≡ end_of t u)
       → KnowsEnds t es → KnowsEnds t' (changed_at s change es)
   knows_still t t' es long same knows =
       let but = same_but es in
@@ -93,7 +91,7 @@ module _ (order : Listing) (t t' : Table) (s steps steps' : ℕ) (change : Entry
     (has : HasNodes order t')
     (now : entry_of t' s ≡ change (entry_of t s))
     (same : (u : ℕ) → is_in u order.stamps ≡ true → u ≢ s → entry_of t' u ≡ entry_of t u)
-    (long : length t'.rows.items ≡ length t.rows.items)
+    (long : length t'.rows ≡ length t.rows)
     (same_ends : (u : ℕ) → end_of t' u ≡ end_of t u) where
   abbrev es : List Entry
   es = (timeline order t).nodes
@@ -137,6 +135,7 @@ module _ (order : Listing) (t t' : Table) (s steps : ℕ) (value : Word)
   value_has = record {
     rows = let rows = sound.has_nodes.rows in let long = set.long in omega arith;
     count = set.count ∙ sound.has_nodes.count;
+    held = λ u found. set.held u ∙ sound.has_nodes.held u found;
     low = λ u found. let low = sound.has_nodes.low u found in let same = set.steps u in omega arith;
   }
 
@@ -193,6 +192,7 @@ module _ (order : Listing) (t t' : Table) (s n steps was_on now_on : ℕ)
   steps_has = record {
     rows = let rows = sound.has_nodes.rows in let long = set.long in omega arith;
     count = set.count ∙ sound.has_nodes.count;
+    held = λ u found. set.held u ∙ sound.has_nodes.held u found;
     low = λ u found. elim (eqb_tells u s) [
       | inl p ↦ let same : steps_of t' u ≡ n = ap (λ (k : ℕ). steps_of t' k) p.1 ∙ set.changed in omega arith
       | inr p ↦ let low = sound.has_nodes.low u found in let same = set.others u p.1 in omega arith
@@ -243,11 +243,11 @@ sum_small order t steps sound =
 -- ---- more room
 
 pub widened : (order order' : Listing) (t t' : Table) (steps : ℕ) → Sound order t steps → order'.stamps ≡ order.stamps → IsOrder order' → Wider t t'
-    → length order.stamps + order'.spare ≤ length t'.rows.items
+    → length order.stamps + order'.spare ≤ length t'.rows
     → Sound order' t' steps × ((timeline order' t').nodes ≡ (timeline order t).nodes)
 widened order order' t t' steps sound stamps whole wider rows =
     let was_in : (u : ℕ) → is_in u order'.stamps ≡ true → is_in u order.stamps ≡ true = λ u found. ap (λ (l : List ℕ). is_in u l) (sym stamps) ∙ found in
-    let row : (u : ℕ) → is_in u order.stamps ≡ true → row_of t'.rows.items u ≡ row_of t.rows.items u =
+    let row : (u : ℕ) → is_in u order.stamps ≡ true → row_of t'.rows u ≡ row_of t.rows u =
     λ u found. wider.rows u in
     let same : (u : ℕ) → is_in u order.stamps ≡ true → node_of t' u ≡ node_of t u =
     λ u found. ap (λ (r : Row). r.node) (row u found) in
@@ -258,8 +258,9 @@ widened order order' t t' steps sound stamps whole wider rows =
     let order_es : IsOrder (record { stamps = stamps_in es; spare = order'.spare }) =
     subst (λ (l : List ℕ). IsOrder (record { stamps = l; spare = order'.spare })) (stamps ∙ sym (stamps_are order t)) whole in
     let has : HasNodes order' t' = record {
-      rows = subst (λ (l : List ℕ). length l + order'.spare ≤ length t'.rows.items) (sym stamps) rows;
+      rows = subst (λ (l : List ℕ). length l + order'.spare ≤ length t'.rows) (sym stamps) rows;
       count = wider.count ∙ (sound.has_nodes.count ∙ ap (λ (l : List ℕ). length l) (sym stamps));
+      held = λ u found. let was = was_in u found in ap (λ (r : Row). r.held) (row u was) ∙ sound.has_nodes.held u was;
       low = λ u found. let was = was_in u found in subst (λ (r : Row). r.steps < 2 ^ 32) (sym (row u was)) (sound.has_nodes.low u was);
     } in
     let knows : KnowsEnds t' es = record {
@@ -289,14 +290,14 @@ widened order order' t t' steps sound stamps whole wider rows =
       nodes,
     )
 
--- how much room a call leaves that answers either way
-pub spare_most : {T E : Type 0} (order order' : Listing) (n : ℕ) (result : Result T E) → OnOk result (order'.spare ≡ max order.spare n) → OnErr result (order' ≡ order)
-    → order'.spare ≤ max order.spare n
-spare_most order order' n (Ok x) ok err = omega arith
-spare_most order order' n (Err x) ok err = let same : order'.spare ≡ order.spare = ap (λ (o : Listing). o.spare) err in omega arith
+-- how much room a call leaves that answers either way; no order has room for 2^32 stamps
+pub spare_most : {T E : Type 0} (order order' : Listing) (n room : ℕ) (result : Result T E) → OnOk result (order'.spare ≤ max order.spare n) → OnErr result (order' ≡ order) → IsOrder order'
+    → room ≡ min n 4294967295 → order'.spare ≤ max order.spare room
+spare_most order order' n room (Ok x) ok err whole is = let few = whole.few in omega (arith, ok, is)
+spare_most order order' n room (Err x) ok err whole is = let same : order'.spare ≡ order.spare = ap (λ (o : Listing). o.spare) err in omega arith
 
 pub reserved : (order order' : Listing) (t t' : Table) (steps n : ℕ) → Sound order t steps → order'.stamps ≡ order.stamps → IsOrder order' → Wider t t'
-    → t'.count + n ≤ length t'.rows.items → order'.spare ≤ max order.spare n
+    → t'.count + n ≤ length t'.rows → order'.spare ≤ max order.spare n
     → Sound order' t' steps × ((timeline order' t').nodes ≡ (timeline order t).nodes)
 reserved order order' t t' steps n sound stamps whole wider rows most =
     let long = wider.long in

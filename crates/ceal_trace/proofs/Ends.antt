@@ -2,8 +2,8 @@
 use Rattle.std.proofs.Common.{◌≡◌, ℕ, ◌<◌, true, sym, ◌∙◌, Option, Some, None}
 use Rattle.std.specs.Prelude.{IfSome, IfNone}
 use Rattle.ceal_order.specs.Stamps.{Listing}
-use Rattle.ceal_trace.specs.declared.table.Table.{Table}
 use Rattle.ceal_trace.specs.Nodes.{has_node, position, node_at, is_read, end_in}
+use Rattle.ceal_trace.specs.Rows.{Table}
 use Rattle.ceal_trace.specs.Keeping.{end_of, timeline, noted, Sound}
 use Rattle.ceal_trace.proofs.Entries.{has-held, has-read}
 

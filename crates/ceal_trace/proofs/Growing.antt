@@ -5,10 +5,8 @@ use Rattle.ceal_order.specs.declared.stamp.Stamp.{Stamp}
 use Rattle.ceal_order.specs.Stamps.{Listing, IsOrder, OneMore, is_in, place, with_after}
 use Rattle.ceal_trace.specs.declared.node.Node.{Node}
 use Rattle.ceal_trace.specs.declared.node.Node.TheVariants.{End}
-use Rattle.ceal_trace.specs.declared.row.Row.{Row}
-use Rattle.ceal_trace.specs.declared.table.Table.{Table}
 use Rattle.ceal_trace.specs.Nodes.{Entry, stamps_in, has_node, position, node_at, steps_sum, is_plain, is_read, end_in, with_entry_after, new_entry, IsTrace, NoLooseEnd, Inserted}
-use Rattle.ceal_trace.specs.Rows.{row_of}
+use Rattle.ceal_trace.specs.Rows.{Row, Table, row_of}
 use Rattle.ceal_trace.specs.Keeping.{end_of, entry_of, timeline, noted, HasNodes, KnowsEnds, Sound, PutAt, EndSet}
 use Rattle.ceal_trace.proofs.Entries.{has-read, is_some_of, stamps-after, sum-after}
 use Rattle.ceal_trace.proofs.Listings.{listed_same}
@@ -92,11 +90,11 @@ module _ (order order' : Listing) (t t' : Table) (s f steps : ℕ) (node : Node)
   sum_now = let more = sum-after s (new_entry f node) es here_es in let sum = sound.sum in omega arith
 
   -- the end of another read was noted before
-  read_row : (x read : ℕ) → end_in read es ≡ Some x → row_of t'.rows.items read ≡ row_of t.rows.items read
+  read_row : (x read : ℕ) → end_in read es ≡ Some x → row_of t'.rows read ≡ row_of t.rows read
   read_row x read found = put.rows read
       (other_than_new es order.spare order'.spare s f node sound.is_trace here_es one_es order_es closed read (closed.read_there read (is_some_of (end_in read es) x found)))
 
-  noted_before : (x read : ℕ) → end_in read es ≡ Some x → (read < length t'.rows.items) × (end_of t' read ≡ x)
+  noted_before : (x read : ℕ) → end_in read es ≡ Some x → (read < length t'.rows) × (end_of t' read ≡ x)
   noted_before x read found =
       let was = sound.knows_ends.end_noted x read found in
       let low = was.0 in
@@ -166,6 +164,7 @@ module _ (order order' : Listing) (t t' : Table) (s f steps : ℕ) (node : Node)
     has_set = record {
       rows = let rows = has.rows in let long = set.long in omega arith;
       count = set.count ∙ has.count;
+      held = λ u there. set.held u ∙ has.held u there;
       low = λ u there. let low = has.low u there in let same = set.steps u in omega arith;
     }
 
@@ -187,7 +186,7 @@ module _ (order order' : Listing) (t t' : Table) (s f steps : ℕ) (node : Node)
             | inl p ↦
                 let both : Some f ≡ Some x = sym end_is_now ∙ subst (λ (k : ℕ). end_in k now ≡ Some x) p.1 found in
                 let same : f ≡ x = cc in
-                let low : read.0 < length t.rows.items = row_bound order t read.0 sound.is_order sound.has_nodes (there_is order t read.0 (has-read read.0 es reads)) in
+                let low : read.0 < length t.rows = row_bound order t read.0 sound.is_order sound.has_nodes (there_is order t read.0 (has-read read.0 es reads)) in
                 let long = put.long in
                 let long_set = set.long in
                 let at : r ≡ read.0 = p.1 in

@@ -1,13 +1,11 @@
 -- A table keeps a trace while nodes are put into it and taken out.
-use Rattle.std.proofs.Common.{◌≡◌, ◌≢◌, ℕ, suc, inl, inr, ◌+◌, ◌<◌, ◌^◌, true, List, [], ◌∷◌, length, refl, sym, ap, ◌∙◌, arith, Some}
+use Rattle.std.proofs.Common.{◌≡◌, ◌≢◌, ℕ, suc, inl, inr, ◌+◌, ◌<◌, true, List, length, refl, sym, ap, ◌∙◌, arith, Some}
 use Rattle.std.proofs.lemmas.Bool.Decides.{eqb_tells}
 use Rattle.ceal_order.specs.Stamps.{Listing, IsOrder, OneMore, is_in, with_after}
 use Rattle.ceal_trace.specs.declared.node.Node.{Node}
-use Rattle.ceal_trace.specs.declared.row.Row.{Row}
-use Rattle.ceal_trace.specs.declared.table.Table.{Table}
 use Rattle.ceal_trace.specs.Nodes.{Entry, stamps_in, has_node, entry_at, with_entry_after, new_entry}
-use Rattle.ceal_trace.specs.Rows.{row_of, no_stamp}
-use Rattle.ceal_trace.specs.Keeping.{steps_of, node_of, entry_of, listed, timeline, noted, HasNodes, PutAt}
+use Rattle.ceal_trace.specs.Rows.{Row, Table, row_of, no_stamp}
+use Rattle.ceal_trace.specs.Keeping.{held_at, steps_of, node_of, entry_of, listed, timeline, noted, HasNodes, PutAt}
 use Rattle.ceal_trace.proofs.Stamped.{apart, below_of, length-after}
 use Rattle.ceal_trace.proofs.Listings.{stamps_listed, entry_listed, listed_after}
 
@@ -43,7 +41,7 @@ noted_stamp order s is_order found =
     elim (eqb_tells s no_stamp) [ inl p ↦ absurd (let same = p.1 in omega arith) | inr p ↦ rw p.0 refl ]
 
 -- each stamp has a row
-pub row_bound : (order : Listing) (t : Table) (s : ℕ) → IsOrder order → HasNodes order t → is_in s order.stamps ≡ true → s < length t.rows.items
+pub row_bound : (order : Listing) (t : Table) (s : ℕ) → IsOrder order → HasNodes order t → is_in s order.stamps ≡ true → s < length t.rows
 row_bound order t s is_order has found =
     let low : s < length order.stamps + order.spare = below_of s (length order.stamps + order.spare) order.stamps found is_order.below in
     let rows = has.rows in
@@ -51,31 +49,18 @@ row_bound order t s is_order has found =
 
 -- a new stamp has a row
 pub new_row : (order order' : Listing) (t : Table) (s f : ℕ) → HasNodes order t → is_in s order.stamps ≡ true → order'.stamps ≡ with_after s f order.stamps
-    → order'.spare + 1 ≡ order.spare → f < length order'.stamps + order'.spare → f < length t.rows.items
+    → order'.spare + 1 ≡ order.spare → f < length order'.stamps + order'.spare → f < length t.rows
 new_row order order' t s f has here stamps spare below =
     let longer : length order'.stamps ≡ suc (length order.stamps) = ap (λ (l : List ℕ). length l) stamps ∙ length-after s f order.stamps here in
     let rows = has.rows in
     omega arith
 
--- there are few enough nodes for a new one
-pub new_count : (order order' : Listing) (t : Table) (s f : ℕ) → HasNodes order t → is_in s order.stamps ≡ true → order'.stamps ≡ with_after s f order.stamps
-    → IsOrder order' → t.count + 1 < 2 ^ 32
-new_count order order' t s f has here stamps whole =
-    let longer : length order'.stamps ≡ suc (length order.stamps) = ap (λ (l : List ℕ). length l) stamps ∙ length-after s f order.stamps here in
-    let count = has.count in
-    let few = whole.few in
-    omega arith
-
--- a table with a node of a stamp is not empty
-pub some_count : (order : Listing) (t : Table) (s : ℕ) → HasNodes order t → is_in s order.stamps ≡ true → 0 < t.count
-some_count order t s has here =
-    let long : 0 < length order.stamps = some order.stamps here in
+-- there are fewer nodes than rows, where a new one comes
+pub new_count : (order order' : Listing) (t : Table) → HasNodes order t → order'.spare + 1 ≡ order.spare → t.count < length t.rows
+new_count order order' t has spare =
+    let rows = has.rows in
     let count = has.count in
     omega arith
-  where
-    some : (ss : List ℕ) → is_in s ss ≡ true → 0 < length ss
-    some [] found = absurd (cc)
-    some (x ∷ xs) found = omega arith
 
 -- ---- a node more
 
@@ -91,7 +76,7 @@ module _ (order order' : Listing) (t t' : Table) (s f : ℕ) (node : Node)
   node_put : (u : ℕ) → is_in u order.stamps ≡ true → node_of t' u ≡ node_of t u
   node_put u found = ap (λ (r : Row). r.node) (put.rows u (old_apart u found))
 
-  row_put : (u : ℕ) → is_in u order.stamps ≡ true → row_of t'.rows.items u ≡ row_of t.rows.items u
+  row_put : (u : ℕ) → is_in u order.stamps ≡ true → row_of t'.rows u ≡ row_of t.rows u
   row_put u found = put.rows u (old_apart u found)
 
   entry_put : (u : ℕ) → is_in u order.stamps ≡ true → entry_of t' u ≡ entry_of t u
@@ -110,6 +95,10 @@ module _ (order order' : Listing) (t t' : Table) (s f : ℕ) (node : Node)
   has_put = record {
     rows = let long = put.long in let rows = has.rows in omega (arith, longer, spare, long, rows);
     count = let more = put.count in let count = has.count in omega (arith, longer, more, count);
+    held = λ u found. elim (eqb_tells u f) [
+      | inl p ↦ ap (λ (k : ℕ). held_at t' k) p.1 ∙ put.held
+      | inr p ↦ let old = one.only u found p.1 in ap (λ (r : Row). r.held) (row_put u old) ∙ has.held u old
+    ];
     low = λ u found. elim (eqb_tells u f) [
       | inl p ↦ let none : steps_of t' u ≡ 0 = ap (λ (k : ℕ). steps_of t' k) p.1 ∙ put.steps in omega arith
       | inr p ↦

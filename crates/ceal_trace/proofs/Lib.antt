@@ -8,6 +8,8 @@ pub mod Samples
 pub mod Listings
 pub mod Shapes
 pub mod Keeps
+pub mod Shelving
+pub mod Tabling
 pub mod Growing
 pub mod Removing
 pub mod Changing

@@ -3,8 +3,8 @@ use Rattle.std.proofs.Common.{◌≡◌, ◌≢◌, ℕ, suc, inl, inr, ◌+◌,
 use Rattle.std.proofs.lemmas.Bool.{cases_Bool}
 use Rattle.ceal_order.specs.Stamps.{Listing, IsOrder, OneMore, is_in, head_of, without}
 use Rattle.ceal_trace.specs.declared.node.Node.{Node}
-use Rattle.ceal_trace.specs.declared.table.Table.{Table}
 use Rattle.ceal_trace.specs.Nodes.{Entry, stamps_in, held_by, steps_on, node_at, steps_at, steps_sum, ends, end_in, without_entry, IsTrace, NoLooseEnd, LooseEndOf, OneMoreNode}
+use Rattle.ceal_trace.specs.Rows.{Table}
 use Rattle.ceal_trace.specs.Keeping.{steps_of, node_of, entry_of, listed, timeline, noted, HasNodes, KnowsEnds, Sound, TakenFrom}
 use Rattle.ceal_trace.proofs.Stamped.{apart, length-without}
 use Rattle.ceal_trace.proofs.Entries.{ends_is, stamps-without, sum-without}
@@ -21,7 +21,7 @@ steps_are order t s found = ap steps_on (entry_found order t s found)
 
 -- the read that a node ends has a row
 pub end_row : (order : Listing) (t : Table) (s steps : ℕ) → Sound order t steps → is_in s order.stamps ≡ true
-    → (read : ℕ) → ends read (node_of t s) ≡ true → read < length t.rows.items
+    → (read : ℕ) → ends read (node_of t s) ≡ true → read < length t.rows
 end_row order t s steps sound found read does =
     let end = sound.is_trace.one_end s (record { 0 = read }) (held_is order t s found ∙ ap (λ (n : Node). Some n) (ends_is read (node_of t s) does)) in
     (sound.knows_ends.end_noted s read end).0
@@ -82,6 +82,7 @@ module _ (order order' : Listing) (t t' : Table) (s steps : ℕ) (node : Node)
   has = record {
     rows = let rows = sound.has_nodes.rows in let long = taken.long in omega (arith, shorter, spare);
     count = let less = taken.count in let count = sound.has_nodes.count in omega (arith, shorter);
+    held = λ u found. taken.held u (was_there u found).1 ∙ sound.has_nodes.held u (was_there u found).0;
     low = λ u found. let low = sound.has_nodes.low u (was_there u found).0 in let same = taken.steps u in omega arith;
   }
 

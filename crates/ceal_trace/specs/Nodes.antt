@@ -4,7 +4,9 @@ use Rattle.ceal_base.specs.declared.word.Word.{Word}
 use Rattle.ceal_order.specs.Stamps.{Listing, IsOrder, OneMore, is_in, head_of, place}
 use Rattle.ceal_order.specs.declared.stamp.Stamp.{Stamp}
 use Rattle.ceal_trace.specs.declared.node.Node.{Node}
-use Rattle.ceal_trace.specs.declared.node.Node.TheVariants.{Root, Read, End}
+use Rattle.ceal_trace.specs.declared.node.Node.TheVariants.{Root, Alloc, Write, Read, End}
+use Rattle.ceal_trace.specs.declared.node.Seen.{Seen}
+use Rattle.ceal_trace.specs.declared.node.Seen.TheVariants as seen_node
 
 -- a node with its stamp and its steps, which are those between it and the next node
 pub record Entry : Type 0 where
@@ -60,6 +62,14 @@ steps_at s es = steps_on (entry_at s es)
 abbrev pub steps_sum : List Entry → ℕ
 steps_sum [] = 0
 steps_sum (e ∷ es) = e.steps + steps_sum es
+
+-- the node that is seen
+abbrev pub seen : Seen → Node
+seen seen_node.Root = Root
+seen (seen_node.Alloc block key) = Alloc block key.now
+seen (seen_node.Write place value) = Write place value
+seen (seen_node.Read place value unit var args) = Read place value unit var args.now
+seen (seen_node.End read) = End read
 
 -- whether a node is a read
 abbrev pub is_read : Option Node → Bool

@@ -5,11 +5,14 @@
 //! Read as items, each node followed by its steps, that list is the flat forest of the run.
 //!
 //! `node` is what a node holds, `trace` the list and its calls, `laws` what that list has to do with the forest.
-//! Inside, `table` finds the node of a stamp by its number, and `row` is what it keeps of a stamp.
+//! Inside, `table` finds the node of a stamp by its number, and `slot` is what it keeps of a stamp. The nodes stand in
+//! `shelf`, which is two slabs: of small parts, and of what stands apart, as `held` splits a node.
 #![tactic(auto)]
 
+mod held;
 pub mod laws;
 pub mod node;
-mod row;
+mod shelf;
+mod slot;
 mod table;
 pub mod trace;

@@ -32,6 +32,30 @@ pub enum Node {
     },
 }
 
+/// A node where it stands in a trace.
+#[derive(Clone, Copy)]
+pub enum Seen<'a> {
+    Root,
+    Alloc {
+        block: BlockId,
+        key: &'a Key,
+    },
+    Write {
+        place: Place,
+        value: Word,
+    },
+    Read {
+        place: Place,
+        value: Word,
+        unit: UnitId,
+        var: u32,
+        args: &'a Words,
+    },
+    End {
+        read: Stamp,
+    },
+}
+
 /// What a removed node held, and its steps.
 #[derive(Drop)]
 pub struct Gone {

@@ -1,117 +1,137 @@
 // The nodes of a trace by the numbers of their stamps.
 
-ghost use Rattle.std.specs.Prelude.{◌≡◌, ◌<◌, ◌≤◌, ◌+◌, ◌^◌, ℕ, length, [], Some, None, IfSome, IfNone, OnOk, IsTrue, true};
-ghost use Rattle.ceal_trace.specs.Nodes.{ends, valued};
-ghost use Rattle.ceal_trace.specs.Rows.{Reopened, Valued};
-ghost use Rattle.ceal_trace.specs.Keeping.{node_of, steps_of, end_of, noted, PutAt, TakenFrom, Wider, ValueSet, StepsSet, EndSet};
+ghost use Rattle.std.specs.Prelude.{◌≡◌, ◌<◌, ◌≤◌, ◌+◌, ℕ, length, [], Some, None, IfSome, IfNone, OnOk, IsTrue, true};
+ghost use Rattle.ceal_trace.specs.Nodes.{ends, seen};
+ghost use Rattle.ceal_trace.specs.Slots.{Reopened};
+ghost use Rattle.ceal_trace.specs.Keeping.{node_of, steps_of, end_of, noted, held_at, PutAt, TakenFrom, Wider, ValueSet, StepsSet, EndSet};
 
-use crate::node::{Gone, Node};
-use crate::row::{NO_STAMP, Row, lengthen, put_node, row_at, set_end, set_steps, take_node};
+use crate::node::{Gone, Node, Seen};
+use crate::shelf::Shelf;
+use crate::slot::{NO_STAMP, Slot, lengthen, put_key, set_end, set_steps, slot_at, take_key};
 use ceal_base::no_memory::NoMemory;
 use ceal_base::word::Word;
 use ceal_order::stamp::Stamp;
 use std::alloc::Global;
+use std::marker::Model;
 
-/// A row for each stamp and each spare place of the order, by its number, a few more, and how many nodes there are.
+/// A slot for each stamp and each spare place of the order, by its number, and a few more; and the nodes. Contracts see a
+/// row for each slot, with the node in it.
 #[derive(Drop)]
 pub struct Table {
-    rows: Vec<Row>,
-    count: u32,
+    slots: Vec<Slot>,
+    shelf: Shelf,
+}
+
+impl Model for Table {
+    ghost use Rattle.ceal_trace.specs.Rows.{Table};
+    ghost use Rattle.ceal_trace.specs.Slots.{table, IsTable};
+
+    ghost Value = { Table };
+
+    ghost view = { λ a. table a.slots.items a.shelf };
+
+    ghost invariant = { λ a. IsTable a.slots.items a.shelf };
 }
 
 impl Table {
     pub fn new(alloc: Global) -> Table
-        ensures rows { result.rows.items ≡ [] }
+        ensures rows { result.rows ≡ [] }
         ensures nodes { result.count ≡ 0 }
     {
         Table {
-            rows: Vec::new(alloc),
-            count: 0,
+            slots: Vec::new(alloc),
+            shelf: Shelf::new(alloc),
         }
     }
 
-    /// Whether there are rows for so many more nodes.
-    pub fn has_room(&self, more: u32) -> bool
-        ensures { IsTrue result → self.now.count + more ≤ length self.now.rows.items }
+    // Whether there is room for so many more nodes.
+    fn has_room(&self, more: u32) -> bool
+        ensures { IsTrue result → self.now.count + more ≤ length self.now.rows }
     {
-        self.count as usize + more as usize <= self.rows.len()
+        more as usize <= self.slots.len() - self.shelf.len()
     }
 
     /// Makes room for so many more nodes.
     pub fn reserve(&mut self, more: u32) -> Result<(), NoMemory>
-        ensures rows { OnOk result (self.new.count + more ≤ length self.new.rows.items) }
+        ensures rows { OnOk result (self.new.count + more ≤ length self.new.rows) }
         ensures kept { Wider self.old self.new }
     {
-        let count = self.count as usize + more as usize;
-        if count <= self.rows.len() {
+        if self.has_room(more) {
             return Ok(());
         }
-        lengthen(&mut self.rows, count)
+        let count = match self.shelf.len().checked_add(more as usize) {
+            Some(count) => count,
+            None => return Err(NoMemory),
+        };
+        self.shelf.reserve(count)?;
+        lengthen(&mut self.slots, count)
     }
 
     /// Puts a node without steps at a stamp that has none.
     pub fn put(&mut self, at: Stamp, node: Node)
-        requires row { at.0 < length self.old.rows.items }
-        requires few { self.old.count + 1 < 2 ^ 32 }
+        requires row { at.0 < length self.old.rows }
+        requires few { self.old.count < length self.old.rows }
         ensures { PutAt at.0 node self.old self.new }
     {
-        put_node(&mut self.rows, at.0, node);
-        self.count += 1;
+        let key = self.shelf.put(node);
+        put_key(&mut self.slots, at.0, key);
     }
 
     /// Takes the node at a stamp out.
     pub fn take(&mut self, at: Stamp) -> Gone
-        requires row { at.0 < length self.old.rows.items }
-        requires some { 0 < self.old.count }
+        requires some { IsTrue (held_at self.old at.0) }
         requires read { (read : ℕ) → ends read (node_of self.old at.0) ≡ true
-            → read < length self.old.rows.items }
+            → read < length self.old.rows }
         ensures node { TakenFrom at.0 result.node self.old self.new }
         ensures steps { result.steps ≡ steps_of self.old at.0 }
     {
-        let steps = row_at(&self.rows, at.0).steps;
-        let node = take_node(&mut self.rows, at.0);
-        reopen(&mut self.rows, &node);
-        self.count -= 1;
-        Gone { node, steps }
+        let slot = take_key(&mut self.slots, at.0);
+        let node = self.shelf.take(slot.key);
+        reopen(&mut self.slots, &node);
+        Gone {
+            node,
+            steps: slot.steps,
+        }
     }
 
-    pub fn node(&self, at: Stamp) -> &Node
-        requires { at.0 < length self.now.rows.items }
-        ensures { result.now ≡ node_of self.now at.0 }
+    pub fn node(&self, at: Stamp) -> Seen<'_>
+        requires { IsTrue (held_at self.now at.0) }
+        ensures { seen result ≡ node_of self.now at.0 }
     {
-        let row = row_at(&self.rows, at.0);
-        &row.node
+        let slot = slot_at(&self.slots, at.0);
+        self.shelf.node(slot.key)
     }
 
     /// Gives a read another value.
     pub fn set_value(&mut self, read: Stamp, value: Word)
-        requires { read.0 < length self.old.rows.items }
+        requires { IsTrue (held_at self.old read.0) }
         ensures { ValueSet read.0 value self.old self.new }
     {
-        value_row(&mut self.rows, read.0, value);
+        let slot = slot_at(&self.slots, read.0);
+        self.shelf.set_value(slot.key, value);
     }
 
     pub fn steps(&self, at: Stamp) -> u32
-        requires { at.0 < length self.now.rows.items }
+        requires { at.0 < length self.now.rows }
         ensures { result ≡ steps_of self.now at.0 }
     {
-        row_at(&self.rows, at.0).steps
+        slot_at(&self.slots, at.0).steps
     }
 
     pub fn set_steps(&mut self, at: Stamp, steps: u32)
-        requires { at.0 < length self.old.rows.items }
+        requires { at.0 < length self.old.rows }
         ensures { StepsSet at.0 steps self.old self.new }
     {
-        set_steps(&mut self.rows, at.0, steps);
+        set_steps(&mut self.slots, at.0, steps);
     }
 
     /// The end of a read, None where it is not finished.
     pub fn end(&self, read: Stamp) -> Option<Stamp>
-        requires { read.0 < length self.now.rows.items }
+        requires { read.0 < length self.now.rows }
         ensures some { IfSome result (λ end. noted (end_of self.now read.0) ≡ Some end.0) }
         ensures none { IfNone result (noted (end_of self.now read.0) ≡ None) }
     {
-        let end = row_at(&self.rows, read.0).end;
+        let end = slot_at(&self.slots, read.0).end;
         if end == NO_STAMP {
             None
         } else {
@@ -120,37 +140,19 @@ impl Table {
     }
 
     pub fn set_end(&mut self, read: Stamp, end: Stamp)
-        requires { read.0 < length self.old.rows.items }
+        requires { read.0 < length self.old.rows }
         ensures { EndSet read.0 end.0 self.old self.new }
     {
-        set_end(&mut self.rows, read.0, end.0);
-    }
-}
-
-// Gives the read of a row another value.
-fn value_row(rows: &mut [Row], at: u32, value: Word)
-    requires { at < length rows.old }
-    ensures { Valued rows.old rows.new at value }
-{
-    let row = &mut rows[at as usize];
-    give_value(&mut row.node, value);
-}
-
-// Gives a read another value.
-fn give_value(node: &mut Node, value: Word)
-    ensures { node.new ≡ valued value node.old }
-{
-    if let Node::Read { value: kept, .. } = node {
-        *kept = value;
+        set_end(&mut self.slots, read.0, end.0);
     }
 }
 
 // Where the node is an end, its read is not finished any more.
-fn reopen(rows: &mut [Row], node: &Node)
-    requires { (read : ℕ) → ends read node.now ≡ true → read < length rows.old }
-    ensures { Reopened rows.old rows.new node.now }
+fn reopen(slots: &mut Vec<Slot>, node: &Node)
+    requires { (read : ℕ) → ends read node.now ≡ true → read < length slots.old.items }
+    ensures { Reopened slots.old.items slots.new.items node.now }
 {
     if let Node::End { read } = node {
-        set_end(rows, read.0, NO_STAMP);
+        set_end(slots, read.0, NO_STAMP);
     }
 }

@@ -4,22 +4,19 @@ ghost use Rattle.std.specs.Prelude.{◌≡◌, ◌≢◌, ◌+◌, ◌<◌, ◌�
 ghost use Rattle.ceal_base.specs.Trace.{steps_in};
 ghost use Rattle.ceal_order.specs.Stamps.{head_of};
 ghost use Rattle.ceal_trace.specs.declared.node.Node.TheVariants.{Root, Alloc, Write, Read, End};
-ghost use Rattle.ceal_trace.specs.Nodes.{order_of, stamps_in, has_node, position, new_entry, node_at, steps_at, steps_sum, is_read, ends, end_in, with_entry_after, without_entry, valued, with_value, with_steps, IsTrace, NoLooseEnd, LooseEndOf, OneMoreNode, Inserted, SameBut, is_plain};
+ghost use Rattle.ceal_trace.specs.Nodes.{order_of, stamps_in, has_node, position, new_entry, node_at, steps_at, steps_sum, is_read, ends, end_in, with_entry_after, without_entry, valued, with_value, with_steps, IsTrace, NoLooseEnd, LooseEndOf, OneMoreNode, Inserted, SameBut, is_plain, seen};
 ghost use Rattle.ceal_trace.specs.Items.{forest_of};
 
-use crate::node::{Gone, Node};
+use crate::node::{Gone, Node, Seen};
 use crate::table::Table;
 use ceal_base::forest::{Key, UnitId};
 use ceal_base::no_memory::NoMemory;
 use ceal_base::word::{BlockId, Place, Word};
 use ceal_base::words::Words;
-use ceal_order::order::Order;
+use ceal_order::order::{Order, ROOM_BEYOND};
 use ceal_order::stamp::Stamp;
 use std::alloc::Global;
 use std::marker::Model;
-
-// For how many nodes room is made beyond those that are asked for, so that it is made some at a time.
-const NODES_BEYOND: u32 = 63;
 
 /// The nodes of a run in the order of time, and room for more. Contracts see `nodes`, the list of the nodes with their
 /// stamps and steps, and `spare`, how many may be inserted without taking memory.
@@ -87,9 +84,8 @@ impl Trace {
     /// Makes room for so many insertions without taking memory. `NoMemory` also comes where there would be 2^32 - 1
     /// nodes or more, the spare ones counted.
     ///
-    /// How many insertions there is room for beyond those is not told. Were it told, the numbers of the next stamps
-    /// would follow, all stamps lying below the number of nodes and spare places: a trace that is thrown away and built
-    /// anew would then provably have the stamps of the one before, as if it had been kept.
+    /// How many insertions there is room for beyond those is not told, as the order does not tell it: else a trace that
+    /// is thrown away and built anew would provably have the stamps of the one before, as if it had been kept.
     pub fn reserve(&mut self, nodes: u32) -> Result<(), NoMemory>
         ensures nodes { self.new.nodes ≡ self.old.nodes }
         ensures room { OnOk result (nodes ≤ self.new.spare) }
@@ -97,12 +93,12 @@ impl Trace {
         ensures err { OnErr result (self.new ≡ self.old) }
         ensures whole { IsTrace self.new }
     {
-        if self.table.has_room(nodes) {
-            return self.order.reserve(nodes);
+        if self.order.has_room(nodes) {
+            return Ok(());
         }
-        let room = nodes.saturating_add(NODES_BEYOND);
+        let room = nodes.saturating_add(ROOM_BEYOND);
         self.table.reserve(room)?;
-        self.order.reserve(room)
+        self.order.reserve(nodes)
     }
 
     /// Puts an allocation directly after a node.
@@ -251,9 +247,9 @@ impl Trace {
         self.steps = self.steps - u64::from(old) + u64::from(steps);
     }
 
-    pub fn node(&self, stamp: Stamp) -> &Node
+    pub fn node(&self, stamp: Stamp) -> Seen<'_>
         requires here { IsTrue (has_node stamp.0 self.now.nodes) }
-        ensures node { node_at stamp.0 self.now.nodes ≡ Some result.now }
+        ensures node { node_at stamp.0 self.now.nodes ≡ Some (seen result) }
     {
         self.table.node(stamp)
     }

@@ -1,11 +1,10 @@
 // The end of a turn of change propagation.
 
 ghost use Rattle.std.specs.Prelude.{◌≡◌, [], ℕ, List, OnOk};
-ghost use Rattle.ceal_base.specs.Trace.{Trace};
 ghost use Rattle.ceal_base.specs.declared.word.Word.{Word};
 ghost use Rattle.ceal_repair.specs.Moment.{Start};
 ghost use Rattle.ceal_repair.specs.Repairs.{code_of, inputs_of, IsOver, SameCall};
-ghost use Rattle.ceal_repair.specs.Turning.{TurnBegan, TurnEnded};
+ghost use Rattle.ceal_repair.specs.Turning.{Since, TurnBegan, TurnEnded};
 ghost use Rattle.ceal_repair.specs.declared.running.Running.{Running};
 
 use super::Repair;
@@ -14,17 +13,18 @@ use ceal_base::no_memory::NoMemory;
 impl<'a> Repair<'a> {
     /// The unit of the read that a turn runs anew is over: what is left over to it is revoked. No unit runs then.
     pub fn end_turn(&mut self) -> Result<(), NoMemory>
-        requires over { (f : ℕ) × (args : List Word) × (l : Trace) × (before : Running)
+        requires over { (f : ℕ) × (args : List Word) × (o : Since) × (before : Running)
             × (start : Start)
-            × TurnBegan (code_of self.old) (inputs_of self.old) f args l before start
+            × TurnBegan (code_of self.old) (inputs_of self.old) f args o before start
             × IsOver start self.old }
         ensures call { OnOk result (SameCall self.old self.new) }
         ensures idle { OnOk result (self.new.frames.items ≡ []) }
+        ensures spent { OnOk result (self.new.running.spent ≡ self.old.running.spent) }
         ensures ends { OnOk result
-            ((f : ℕ) (args : List Word) (l : Trace) (before : Running) (start : Start)
-            → TurnBegan (code_of self.old) (inputs_of self.old) f args l before start
+            ((f : ℕ) (args : List Word) (o : Since) (before : Running) (start : Start)
+            → TurnBegan (code_of self.old) (inputs_of self.old) f args o before start
             → IsOver start self.old
-            → TurnEnded (code_of self.old) (inputs_of self.old) f args l start self.new.running) }
+            → TurnEnded (code_of self.old) (inputs_of self.old) f args o start self.new.running) }
     {
         let end = match self.limit {
             Some(end) => end,

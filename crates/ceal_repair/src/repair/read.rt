@@ -24,7 +24,7 @@ use ceal_base::word::Word;
 use ceal_code::stack::{Closure, Stack};
 use ceal_memo::key::ReadKey;
 use ceal_order::stamp::Stamp;
-use ceal_trace::node::Node;
+use ceal_trace::node::Seen;
 use ceal_trace::trace::Trace;
 use std::mem;
 
@@ -47,11 +47,11 @@ pub fn value_at(trace: &Trace, node: Stamp) -> Word
     ensures { (p : PlaceOf) × Records p result (node_at node.0 trace.now.nodes) }
 {
     match trace.node(node) {
-        Node::Read { value, .. } => *value,
-        Node::Root => unreachable!(),
-        Node::Alloc { .. } => unreachable!(),
-        Node::Write { .. } => unreachable!(),
-        Node::End { .. } => unreachable!(),
+        Seen::Read { value, .. } => value,
+        Seen::Root => unreachable!(),
+        Seen::Alloc { .. } => unreachable!(),
+        Seen::Write { .. } => unreachable!(),
+        Seen::End { .. } => unreachable!(),
     }
 }
 

@@ -19,7 +19,7 @@ use ceal_base::word::BlockId;
 use ceal_code::initialise::pointer_to;
 use ceal_code::stack::Activation;
 use ceal_order::stamp::Stamp;
-use ceal_trace::node::Node;
+use ceal_trace::node::Seen;
 use ceal_trace::trace::Trace;
 
 /// The block of an allocation.
@@ -29,11 +29,11 @@ fn block_at(trace: &Trace, node: Stamp) -> BlockId
     ensures { (key : KeyOf) × (node_at node.0 trace.now.nodes ≡ Some (Alloc result key)) }
 {
     match trace.node(node) {
-        Node::Alloc { block, .. } => *block,
-        Node::Root => unreachable!(),
-        Node::Write { .. } => unreachable!(),
-        Node::Read { .. } => unreachable!(),
-        Node::End { .. } => unreachable!(),
+        Seen::Alloc { block, .. } => block,
+        Seen::Root => unreachable!(),
+        Seen::Write { .. } => unreachable!(),
+        Seen::Read { .. } => unreachable!(),
+        Seen::End { .. } => unreachable!(),
     }
 }
 

@@ -1,14 +1,13 @@
 // A turn of change propagation: the first stale read is run anew, by itself.
 
 ghost use Rattle.std.specs.Prelude.{◌≡◌, [], ℕ, List, Some, IfOk, OnOk};
-ghost use Rattle.ceal_base.specs.Trace.{Trace as TraceOf};
 ghost use Rattle.ceal_base.specs.declared.forest.UnitId.{UnitId as UnitOf};
 ghost use Rattle.ceal_base.specs.declared.word.Place.{Place as PlaceOf};
 ghost use Rattle.ceal_base.specs.declared.word.Word.{Word as WordOf};
 ghost use Rattle.ceal_code.specs.Stacks.{stack_in};
 ghost use Rattle.ceal_repair.specs.Kept.{Records};
 ghost use Rattle.ceal_repair.specs.Repairs.{code_of, inputs_of, SameCall};
-ghost use Rattle.ceal_repair.specs.Turning.{FoundStale, TurnRuns};
+ghost use Rattle.ceal_repair.specs.Turning.{Since as SinceOf, FoundStale, TurnRuns};
 ghost use Rattle.ceal_theory.specs.Repair.{resumed};
 ghost use Rattle.ceal_trace.specs.Nodes.{node_at};
 ghost use Rattle.ceal_trace.specs.declared.node.Node.TheVariants.{Read};
@@ -21,7 +20,7 @@ use ceal_code::stack::{Closure, Stack};
 use ceal_order::stamp::Stamp;
 use ceal_theory::courses::turn_known_law;
 use ceal_theory::slices::{listed_law, ready_law};
-use ceal_trace::node::Node;
+use ceal_trace::node::Seen;
 use ceal_trace::trace::Trace;
 use std::alloc::Global;
 
@@ -32,7 +31,7 @@ fn closure_at(trace: &Trace, read: Stamp) -> Result<Closure, NoMemory>
         ≡ Some (Read c.place v c.unit c.var c.args))) }
 {
     match trace.node(read) {
-        Node::Read {
+        Seen::Read {
             place,
             unit,
             var,
@@ -41,16 +40,16 @@ fn closure_at(trace: &Trace, read: Stamp) -> Result<Closure, NoMemory>
         } => {
             let args = args.copy()?;
             Ok(Closure {
-                place: *place,
-                unit: *unit,
-                var: *var,
+                place,
+                unit,
+                var,
                 args,
             })
         }
-        Node::Root => unreachable!(),
-        Node::Alloc { .. } => unreachable!(),
-        Node::Write { .. } => unreachable!(),
-        Node::End { .. } => unreachable!(),
+        Seen::Root => unreachable!(),
+        Seen::Alloc { .. } => unreachable!(),
+        Seen::Write { .. } => unreachable!(),
+        Seen::End { .. } => unreachable!(),
     }
 }
 
@@ -71,14 +70,14 @@ pub fn unit_at(alloc: Global, code: &Code, trace: &Trace, read: Stamp) -> Result
 impl<'a> Repair<'a> {
     /// The unit of a read that was found stale runs, with what is inside the read left over. The steps on the read are dropped.
     pub fn begin_turn(&mut self, read: Stamp) -> Result<(), NoMemory>
-        requires found { (f : ℕ) × (args : List WordOf) × (l : TraceOf)
-            × FoundStale (code_of self.old) (inputs_of self.old) f args l read.0 self.old.running }
+        requires found { (f : ℕ) × (args : List WordOf) × (o : SinceOf)
+            × FoundStale (code_of self.old) (inputs_of self.old) f args o read.0 self.old.running }
         requires idle { self.old.frames.items ≡ [] }
         ensures call { OnOk result (SameCall self.old self.new) }
-        ensures begins { OnOk result ((f : ℕ) (args : List WordOf) (l : TraceOf)
+        ensures begins { OnOk result ((f : ℕ) (args : List WordOf) (o : SinceOf)
             → (found : FoundStale (code_of self.old) (inputs_of self.old)
-            f args l read.0 self.old.running)
-            → TurnRuns (code_of self.old) (inputs_of self.old) f args l found.before self.new) }
+            f args o read.0 self.old.running)
+            → TurnRuns (code_of self.old) (inputs_of self.old) f args o found.before self.new) }
     {
         listed_law();
         ready_law();

@@ -1,12 +1,12 @@
 // Turns of change propagation, one after another.
 
-ghost use Rattle.std.specs.Prelude.{◌≡◌, [], ℕ, List, true, false, IfOk, IsOk, OnOk};
-ghost use Rattle.ceal_base.specs.Trace.{Trace};
+ghost use Rattle.std.specs.Prelude.{◌≡◌, ◌≢◌, ◌≤◌, [], ℕ, List, true, false, Some, IfOk, IfSome, IsOk, IsTrue, OnOk};
 ghost use Rattle.ceal_base.specs.declared.word.Word.{Word};
 ghost use Rattle.ceal_code.specs.Replay.{IsHonest};
 ghost use Rattle.ceal_repair.specs.Propagation.{HasCome, Propagated, AfterTurn};
 ghost use Rattle.ceal_repair.specs.Repairs.{code_of, inputs_of, SameCall};
-ghost use Rattle.ceal_repair.specs.Turning.{FoundStale};
+ghost use Rattle.ceal_repair.specs.Turning.{Since, FoundStale};
+ghost use Rattle.ceal_repair.specs.declared.repair.turns.Ending.TheVariants.{Spent};
 ghost use Rattle.ceal_repair.specs.declared.running.Running.{Running};
 
 use super::Repair;
@@ -14,30 +14,59 @@ use crate::complete::complete;
 use ceal_base::no_memory::NoMemory;
 use ceal_order::stamp::Stamp;
 
+/// How turns have come to an end.
+#[derive(Clone, Copy)]
+pub enum Ending {
+    /// no read is stale
+    Done,
+    /// as many reads were run anew as were to be, and one is stale still
+    More,
+    /// more steps were spent than the fuel allows
+    Spent,
+}
+
+/// Whether so many turns were made as there are to be.
+fn is_last(reads: Option<u32>, turns: u64) -> bool
+    ensures last { IsTrue result → reads ≡ Some turns }
+    ensures fewer { result ≡ false → reads ≢ Some turns }
+{
+    match reads {
+        None => false,
+        Some(reads) => u64::from(reads) == turns,
+    }
+}
+
 impl<'a> Repair<'a> {
-    /// Makes turns until no read is stale. It answers false where more steps were run anew than the fuel allows. Where no read was
-    /// stale at the beginning no memory is taken. No run that fits into memory comes to 2^64 turns; one that did would be told
-    /// as want of memory.
-    pub fn turns(&mut self, fuel: u32) -> Result<bool, NoMemory>
-        requires comes { (f : ℕ) × (args : List Word) × (l : Trace) × (before : Running)
-            × HasCome (code_of self.old) (inputs_of self.old) f args l before self.old.running }
+    /// Makes turns until no read is stale, or so many of them as there are to be. Where no read was stale at the beginning no memory is
+    /// taken. No run that fits into memory comes to 2^64 turns; one that did would be told as want of memory.
+    pub fn turns(&mut self, reads: Option<u32>, fuel: u32) -> Result<Ending, NoMemory>
+        requires comes { (f : ℕ) × (args : List Word) × (o : Since) × (before : Running)
+            × HasCome (code_of self.old) (inputs_of self.old) f args o before self.old.running }
         requires idle { self.old.frames.items ≡ [] }
         ensures call { OnOk result (SameCall self.old self.new) }
-        ensures done { IfOk result
-            (λ done. (f : ℕ) (args : List Word) (l : Trace) (before : Running)
-            → HasCome (code_of self.old) (inputs_of self.old) f args l before self.old.running
-            → Propagated done (code_of self.old) (inputs_of self.old)
-            f args fuel l before self.new.running) }
-        ensures sure { (f : ℕ) (args : List Word) (l : Trace) (before : Running)
-            → HasCome (code_of self.old) (inputs_of self.old) f args l before self.old.running
-            → IsHonest (code_of self.old) (inputs_of self.old) l → IsOk result }
+        ensures ended { IfOk result
+            (λ e. (f : ℕ) (args : List Word) (o : Since) (before : Running)
+            → HasCome (code_of self.old) (inputs_of self.old) f args o before self.old.running
+            → Propagated e (code_of self.old) (inputs_of self.old)
+            f args reads fuel o before self.new.running) }
+        ensures within { IfOk result (λ e. e ≢ Spent → self.old.running.spent ≤ fuel
+            → self.new.running.spent ≤ fuel) }
+        ensures sure { (f : ℕ) (args : List Word) (o : Since) (before : Running)
+            → HasCome (code_of self.old) (inputs_of self.old) f args o before self.old.running
+            → IsHonest (code_of self.old) (inputs_of self.old) o.repair.items → IsOk result }
     {
-        for _turn in 0..u64::MAX {
+        for turn in 0..u64::MAX {
+            if is_last(reads, turn) {
+                if self.running.tables.has_stale() {
+                    return Ok(Ending::More);
+                }
+                return Ok(Ending::Done);
+            }
             match self.running.tables.first_stale(None) {
-                None => return Ok(true),
+                None => return Ok(Ending::Done),
                 Some(read) => {
                     if !self.turn_from(read, fuel)? {
-                        return Ok(false);
+                        return Ok(Ending::Spent);
                     }
                 }
             }
@@ -47,16 +76,17 @@ impl<'a> Repair<'a> {
 
     /// Makes the turn of a read that was found stale. It answers false where more steps were run anew than the fuel allows.
     fn turn_from(&mut self, read: Stamp, fuel: u32) -> Result<bool, NoMemory>
-        requires found { (f : ℕ) × (args : List Word) × (l : Trace)
-            × FoundStale (code_of self.old) (inputs_of self.old) f args l read.0 self.old.running }
+        requires found { (f : ℕ) × (args : List Word) × (o : Since)
+            × FoundStale (code_of self.old) (inputs_of self.old) f args o read.0 self.old.running }
         requires idle { self.old.frames.items ≡ [] }
         ensures call { OnOk result (SameCall self.old self.new) }
         ensures idle { IfOk result (λ more. more ≡ true → self.new.frames.items ≡ []) }
-        ensures turn { IfOk result (λ more. (f : ℕ) (args : List Word) (l : Trace)
+        ensures within { IfOk result (λ more. more ≡ true → self.new.running.spent ≤ fuel) }
+        ensures turn { IfOk result (λ more. (f : ℕ) (args : List Word) (o : Since)
             → (found : FoundStale (code_of self.old) (inputs_of self.old)
-            f args l read.0 self.old.running)
+            f args o read.0 self.old.running)
             → AfterTurn more (code_of self.old) (inputs_of self.old)
-            f args fuel l found.before self.new.running) }
+            f args fuel o found.before self.new.running) }
     {
         self.begin_turn(read)?;
         if !complete(self, fuel)? {

@@ -26,10 +26,10 @@ set_steps-requires-clause-here c =
     has-held c.args.read.0 _ old.running.tables.trace.nodes held
 
 pub returns-clause-begins : goal.returns-clause-begins
-returns-clause-begins c = λ f args l found.
+returns-clause-begins c = λ f args o found.
     let old : Repair = c.args.self.now in
     let s = c.set_steps.ensures in
-    turn-runs (code_of old) (inputs_of old) f args l c.args.read.0 old.running c.listed_law.ensures.law c.ready_law.ensures.law c.turn_known_law.ensures.law found
+    turn-runs (code_of old) (inputs_of old) f args o c.args.read.0 old.running c.listed_law.ensures.law c.ready_law.ensures.law c.turn_known_law.ensures.law found
     (record old {
       running = record { tables = c.set_steps.new.self; heap = old.running.heap; spent = old.running.spent };
       cursor = c.args.read;

@@ -32,14 +32,14 @@ cut_until-requires-clause-lies c =
     )
 
 pub returns-clause-ends : goal.returns-clause-ends
-returns-clause-ends c = λ f args l before start b o.
+returns-clause-ends c = λ f args o before start b z.
     let old : Repair = c.args.self.now in
-    let now = now-there old f args l before start b o in
-    let none = ap reverse o.last in
-    let both : Some (stamped b.spot.end) ≡ Some c.in-Some.end = sym (limit-ended (code_of old) (inputs_of old) f args l before start b o.stack (view old) now none) ∙ c.in-Some.is in
+    let now = now-there old f args o before start b z in
+    let none = ap reverse z.last in
+    let both : Some (stamped b.spot.end) ≡ Some c.in-Some.end = sym (limit-ended (code_of old) (inputs_of old) f args o before start b z.stack (view old) now none) ∙ c.in-Some.is in
     let same : stamped b.spot.end ≡ c.in-Some.end = cc in
     let e = c.in_ok-cut_until.ensures in
-    turn-ends (code_of old) (inputs_of old) f args l before start b o.stack (view old) now none o.over c.cut_until.new.self
-    (e.all (through now.placed.done now.placed.last) now.left now.tail (lies-ended (code_of old) (inputs_of old) f args l before start b o.stack (view old) now none)
-    (first-ended (code_of old) (inputs_of old) f args l before start b o.stack (view old) now none ∙ ap (λ (s : Stamp). Some s.0) same))
+    turn-ends (code_of old) (inputs_of old) f args o before start b z.stack (view old) now none z.over c.cut_until.new.self
+    (e.all (through now.placed.done now.placed.last) now.left now.tail (lies-ended (code_of old) (inputs_of old) f args o before start b z.stack (view old) now none)
+    (first-ended (code_of old) (inputs_of old) f args o before start b z.stack (view old) now none ∙ ap (λ (s : Stamp). Some s.0) same))
     e.kept e.blocks (e.has (code_of old) (inputs_of old)) e.spent

@@ -1,44 +1,65 @@
+use Rattle.ceal_repair.specs.Turning.{later}
 use Rattle.std.proofs.Common.{arith}
-use Rattle.ceal_repair.proofs.TurnByTurn.{no-turns, is-up-to-date, found_by, found-never, turn-more}
+use Rattle.ceal_repair.proofs.TurnByTurn.{no-turns-in, not-last, one-more, less-within, is-under-way, is-done, is-up-to-date, found_by, found-never, turn-more}
 use Rattle.ceal_repair.proofs.repair.Repair.turns.Goals as goal
 
 pub loop-turn-init : goal.loop-turn-init
-loop-turn-init c = no-turns c.args.self.now c.requires.idle
+loop-turn-init c = no-turns-in c.args.self.now c.requires.idle c.args.reads c.args.fuel
 
 pub first_stale-requires-clause-kept : goal.first_stale-requires-clause-kept
-first_stale-requires-clause-kept c = let q = c.requires.comes in (c.loop-turn.invariant.come q.0 q.1 q.2 q.3 q.4).so_far.stands.kept
+first_stale-requires-clause-kept c = let q = c.requires.comes in (c.loop-turn.invariant.turning.come q.0 q.1 q.2 q.3 q.4).so_far.stands.kept
 
-pub returns-in-None-clause-done : goal.returns-in-None-clause-done
-returns-in-None-clause-done c =
+pub returns-in-None-clause-ended : goal.returns-in-None-clause-ended
+returns-in-None-clause-ended c =
     let e = c.in-None.ensures in
-    is-up-to-date c.args.self.now c.loop-turn.self c.loop-turn._turn c.loop-turn.invariant c.first_stale.new.self e.kept e.cells e.none (λ s i. e.left s i tt)
+    λ f args o before h. (c.loop-turn.turn, c.loop-turn.invariant.few, is-up-to-date c.args.self.now c.loop-turn.self c.loop-turn.turn c.loop-turn.invariant.turning c.first_stale.new.self e.kept e.cells e.none (λ s i. e.left s i tt) f args o before h)
 
 pub turn_from-requires-clause-found : goal.turn_from-requires-clause-found
 turn_from-requires-clause-found c =
     let e = c.in-Some.ensures in
     let q = c.requires.comes in
-    (q.0, q.1, q.2, found_by c.args.self.now c.loop-turn.self c.loop-turn._turn c.loop-turn.invariant c.first_stale.new.self e.kept e.cells c.in-Some.read.0 e.stale e.nodes e.behind q.0 q.1 q.2 q.3 q.4)
+    (q.0, q.1, later c.loop-turn.turn q.2, found_by c.args.self.now c.loop-turn.self c.loop-turn.turn c.loop-turn.invariant.turning c.first_stale.new.self e.kept e.cells c.in-Some.read.0 e.stale e.nodes e.behind q.0 q.1 q.2 q.3 q.4)
 
 pub returns-in_err-turn_from-in-Some-clause-sure : goal.returns-in_err-turn_from-in-Some-clause-sure
-returns-in_err-turn_from-in-Some-clause-sure c = λ f args l before h honest.
+returns-in_err-turn_from-in-Some-clause-sure c = λ f args o before h honest.
     let e = c.in-Some.ensures in
-    absurd (found-never c.args.self.now c.loop-turn.self c.loop-turn._turn c.loop-turn.invariant c.first_stale.new.self e.kept e.cells c.in-Some.read.0 e.stale e.nodes e.behind f args l before h honest)
+    absurd (found-never c.args.self.now c.loop-turn.self c.loop-turn.turn c.loop-turn.invariant.turning c.first_stale.new.self e.kept e.cells c.in-Some.read.0 e.stale e.nodes e.behind f args o before h honest)
 
-pub returns-then-not-branch-clause-done : goal.returns-then-not-branch-clause-done
-returns-then-not-branch-clause-done c = λ f args l before h.
+pub returns-then-not-branch-clause-ended : goal.returns-then-not-branch-clause-ended
+returns-then-not-branch-clause-ended c = λ f args o before h.
     let e = c.in-Some.ensures in
-    let found = found_by c.args.self.now c.loop-turn.self c.loop-turn._turn c.loop-turn.invariant c.first_stale.new.self e.kept e.cells c.in-Some.read.0 e.stale e.nodes e.behind f args l before h in
-    rw (c.if-not-branch.true, c.loop-turn.invariant.call.code, c.loop-turn.invariant.call.inputs) at (c.in_ok-turn_from-in-Some.ensures.turn f args l found)
+    let found = found_by c.args.self.now c.loop-turn.self c.loop-turn.turn c.loop-turn.invariant.turning c.first_stale.new.self e.kept e.cells c.in-Some.read.0 e.stale e.nodes e.behind f args o before h in
+    (c.loop-turn.turn, not-last c.loop-turn.turn c.args.reads c.loop-turn.invariant.few (c.is_last.ensures.fewer c.if-is_last.false), rw (c.if-not-branch.true, c.loop-turn.invariant.turning.call.code, c.loop-turn.invariant.turning.call.inputs) at (c.in_ok-turn_from-in-Some.ensures.turn f args (later c.loop-turn.turn o) found))
 
 pub loop-turn-preserved : goal.loop-turn-preserved
 loop-turn-preserved c =
     let e = c.in-Some.ensures in
     let g = c.in_ok-turn_from-in-Some.ensures in
-    turn-more c.args.self.now c.loop-turn.self c.loop-turn._turn c.loop-turn.invariant c.first_stale.new.self e.kept e.cells c.in-Some.read.0 e.stale e.nodes e.behind c.turn_from.new.self g.call.code g.call.inputs
-    (g.idle c.if-not-branch.false)
-    (λ f args l before h.
-    rw c.if-not-branch.false at (g.turn f args l
-    (found_by c.args.self.now c.loop-turn.self c.loop-turn._turn c.loop-turn.invariant c.first_stale.new.self e.kept e.cells c.in-Some.read.0 e.stale e.nodes e.behind f args l before h)))
+    record {
+      turning = turn-more c.args.self.now c.loop-turn.self c.loop-turn.turn c.loop-turn.invariant.turning c.first_stale.new.self e.kept e.cells c.in-Some.read.0 e.stale e.nodes e.behind c.turn_from.new.self g.call.code g.call.inputs
+          (g.idle c.if-not-branch.false)
+          (λ f args o before h.
+          rw c.if-not-branch.false at (g.turn f args (later c.loop-turn.turn o)
+          (found_by c.args.self.now c.loop-turn.self c.loop-turn.turn c.loop-turn.invariant.turning c.first_stale.new.self e.kept e.cells c.in-Some.read.0 e.stale e.nodes e.behind f args o before h)));
+      few = one-more c.loop-turn.turn c.args.reads (not-last c.loop-turn.turn c.args.reads c.loop-turn.invariant.few (c.is_last.ensures.fewer c.if-is_last.false));
+      within = λ h. g.within c.if-not-branch.false;
+    }
 
 pub returns-clause-sure : goal.returns-clause-sure
-returns-clause-sure c = λ f args l before h honest. absurd (omega (arith, c.loop-turn.invariant.sure f args l before h honest, c.loop-turn-test.false))
+returns-clause-sure c = λ f args o before h honest. absurd (omega (arith, c.loop-turn.invariant.turning.sure f args o before h honest, c.loop-turn-test.false))
+
+pub returns-then-has_stale-clause-ended : goal.returns-then-has_stale-clause-ended
+returns-then-has_stale-clause-ended c = λ f args o before h.
+    let s = c.has_stale.ensures.stale c.if-has_stale.true in
+    (
+      c.loop-turn.turn,
+      c.is_last.ensures.last c.if-is_last.true,
+      is-under-way c.args.self.now c.loop-turn.self c.loop-turn.turn c.loop-turn.invariant.turning c.has_stale.new.self c.has_stale.ensures.kept c.has_stale.ensures.cells c.has_stale.ensures.trace s.0 s.1 f args o before h,
+    )
+
+pub returns-then-is_last-clause-ended : goal.returns-then-is_last-clause-ended
+returns-then-is_last-clause-ended c = λ f args o before h. (
+  c.loop-turn.turn,
+  c.loop-turn.invariant.few,
+  is-done c.args.self.now c.loop-turn.self c.loop-turn.turn c.loop-turn.invariant.turning c.has_stale.new.self c.has_stale.ensures.kept c.has_stale.ensures.cells c.has_stale.ensures.trace (c.has_stale.ensures.honest c.if-has_stale.false) f args o before h,
+)

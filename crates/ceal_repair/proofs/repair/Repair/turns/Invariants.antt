@@ -1,5 +1,5 @@
-use Rattle.ceal_repair.proofs.TurnByTurn.{Turning}
+use Rattle.ceal_repair.proofs.TurnByTurn.{TurningIn}
 use Rattle.ceal_repair.proofs.repair.Repair.turns.Given as goal
 
 abbrev pub invariant-loop-turn : goal.invariant-loop-turn
-invariant-loop-turn l = Turning l.fn.self l.self l._turn
+invariant-loop-turn l = TurningIn l.fn.self l.self l.turn l.fn.reads l.fn.fuel

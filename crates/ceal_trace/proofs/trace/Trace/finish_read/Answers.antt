@@ -14,16 +14,13 @@ put-requires-clause-row c =
     new_row _ _ _ _ _ c.self.invariant.has_nodes here e.stamps e.spare e.below
 
 pub put-requires-clause-few : goal.put-requires-clause-few
-put-requires-clause-few c =
-    let here = there_is c.self.inside.order c.self.inside.table c.args.after.0 (rw (← c.self.view_is) at c.requires.here) in
-    let e = c.insert_after-end.ensures in
-    new_count _ _ _ _ _ c.self.invariant.has_nodes here e.stamps e.whole
+put-requires-clause-few c = new_count c.self.inside.order c.insert_after-end.new.self c.self.inside.table c.self.invariant.has_nodes c.insert_after-end.ensures.spare
 
 pub set_end-requires : goal.set_end-requires
 set_end-requires c =
     let reads = rw (← c.self.view_is) at c.requires.read in
     let there = there_is c.self.inside.order c.self.inside.table c.args.read.0 (has-read c.args.read.0 _ reads) in
-    let low : c.args.read.0 < length c.self.inside.table.rows.items = row_bound _ _ _ c.self.invariant.is_order c.self.invariant.has_nodes there in
+    let low : c.args.read.0 < length c.self.inside.table.rows = row_bound _ _ _ c.self.invariant.is_order c.self.invariant.has_nodes there in
     let long = c.put.ensures.long in
     omega arith
 

@@ -12,10 +12,7 @@ put-requires-clause-row c =
     new_row _ _ _ _ _ c.self.invariant.has_nodes here e.stamps e.spare e.below
 
 pub put-requires-clause-few : goal.put-requires-clause-few
-put-requires-clause-few c =
-    let here = there_is c.self.inside.order c.self.inside.table c.args.after.0 (rw (← c.self.view_is) at c.requires.here) in
-    let e = c.insert_after-new.ensures in
-    new_count _ _ _ _ _ c.self.invariant.has_nodes here e.stamps e.whole
+put-requires-clause-few c = new_count c.self.inside.order c.insert_after-new.new.self c.self.inside.table c.self.invariant.has_nodes c.insert_after-new.ensures.spare
 
 pub invariant_of-self : goal.invariant_of-self
 invariant_of-self c =

@@ -1,17 +1,12 @@
 use Rattle.std.proofs.Common.{sym, ◌∙◌}
-use Rattle.ceal_trace.proofs.Keeps.{there_is, row_bound, some_count}
+use Rattle.ceal_trace.proofs.Keeps.{there_is}
 use Rattle.ceal_trace.proofs.Removing.{shrank, end_row, steps_within, steps_are}
 use Rattle.ceal_trace.proofs.trace.Trace.remove.Goals as goal
-
-pub take-gone-requires-clause-row : goal.take-gone-requires-clause-row
-take-gone-requires-clause-row c =
-    let here = there_is c.self.inside.order c.self.inside.table c.args.stamp.0 (rw (← c.self.view_is) at c.requires.here) in
-    row_bound _ _ _ c.self.invariant.is_order c.self.invariant.has_nodes here
 
 pub take-gone-requires-clause-some : goal.take-gone-requires-clause-some
 take-gone-requires-clause-some c =
     let here = there_is c.self.inside.order c.self.inside.table c.args.stamp.0 (rw (← c.self.view_is) at c.requires.here) in
-    some_count _ _ _ c.self.invariant.has_nodes here
+    c.self.invariant.has_nodes.held _ here
 
 pub take-gone-requires-clause-read : goal.take-gone-requires-clause-read
 take-gone-requires-clause-read c =

@@ -1,13 +1,13 @@
 use Rattle.ceal_trace.specs.Keeping.{timeline}
 use Rattle.ceal_trace.proofs.Changing.{value_changed, value_now, value_steps_same, value_sum_same}
-use Rattle.ceal_trace.proofs.Keeps.{there_is, row_bound}
+use Rattle.ceal_trace.proofs.Keeps.{there_is}
 use Rattle.ceal_trace.proofs.Entries.{has-read}
 use Rattle.ceal_trace.proofs.trace.Trace.set_value.Goals as goal
 
 pub set_value-requires : goal.set_value-requires
 set_value-requires c =
     let reads = rw (← c.self.view_is) at c.requires.read in
-    row_bound _ _ _ c.self.invariant.is_order c.self.invariant.has_nodes (there_is c.self.inside.order c.self.inside.table c.args.read.0 (has-read c.args.read.0 (timeline c.self.inside.order c.self.inside.table).nodes reads))
+    c.self.invariant.has_nodes.held _ (there_is c.self.inside.order c.self.inside.table c.args.read.0 (has-read c.args.read.0 (timeline c.self.inside.order c.self.inside.table).nodes reads))
 
 pub invariant_of-self : goal.invariant_of-self
 invariant_of-self c =

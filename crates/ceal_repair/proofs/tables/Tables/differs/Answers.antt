@@ -1,0 +1,17 @@
+use Rattle.std.proofs.Common.{arith}
+use Rattle.ceal_repair.proofs.Changing.{read-has}
+use Rattle.ceal_repair.proofs.TakingOut.{honest-read, stale-read}
+use Rattle.ceal_repair.proofs.tables.Tables.differs.Goals as goal
+
+pub value_at-now-requires-clause-here : goal.value_at-now-requires-clause-here
+value_at-now-requires-clause-here c = rw c.order.ensures (read-has c.args.read.0 c.args.self.now.trace.nodes c.requires.here)
+
+pub returns-clause-stale : goal.returns-clause-stale
+returns-clause-stale c = λ told.
+    stale-read c.args.self.now c.requires.kept.step c.args.read.0 c.recorded-value.result.0 c.recorded-value.result.1 c.value_at-now.result c.recorded-value.ensures
+    (rw c.order.ensures at c.value_at-now.ensures.value) (c.is_same.ensures.differ (grind (arith, told)))
+
+pub returns-clause-honest : goal.returns-clause-honest
+returns-clause-honest c = λ told.
+    honest-read c.args.self.now c.requires.kept.step c.args.read.0 c.recorded-value.result.0 c.recorded-value.result.1 c.value_at-now.result c.recorded-value.ensures
+    (rw c.order.ensures at c.value_at-now.ensures.value) (c.is_same.ensures.same (grind (arith, told)))

@@ -1,0 +1,49 @@
+-- What slices of a repair that goes on come to.
+use Rattle.std.specs.Prelude.{◌≡◌, ◌≤◌, ℕ, Option, Some, None, List}
+use Rattle.ceal_base.specs.Block.{Block}
+use Rattle.ceal_base.specs.Trace.{Trace}
+use Rattle.ceal_base.specs.declared.word.BlockId.TheVariants.{Core}
+use Rattle.ceal_base.specs.declared.word.Word.{Word}
+use Rattle.ceal_code.specs.Fitting.{Fits}
+use Rattle.ceal_code.specs.Fresh.{fresh}
+use Rattle.ceal_code.specs.Program.{Code}
+use Rattle.ceal_code.specs.Replay.{IsHonest}
+use Rattle.ceal_repair.specs.Answers.{IsRunOf}
+use Rattle.ceal_repair.specs.Turning.{StandsFor}
+use Rattle.ceal_repair.specs.declared.running.Running.{Running}
+use Rattle.ceal_repair.specs.declared.slice.Sliced.{Sliced}
+use Rattle.ceal_repair.specs.declared.slice.Sliced.TheVariants.{More, Done, Spent, OutOfFuel}
+use Rattle.ceal_theory.specs.Carried.{counted_anew}
+use Rattle.ceal_theory.specs.Repair.{Single}
+use Rattle.ceal_theory.specs.Slices.{Repair, sliced}
+
+-- The nodes, the queue and the heap of a run stand for a repair of the call that goes on, with no more steps spent than the fuel.
+-- Revoked blocks can be read.
+pub record IsPartRun (code : Code) (inputs : List Block) (f : ℕ) (args : List Word) (fuel : ℕ) (r : Repair) (run : Running) : Type 0 where
+  pub fits : Fits code inputs f args
+  pub stands : StandsFor code inputs f args r run
+  pub few : run.spent ≤ fuel
+
+-- It is a slice of the repair, with some names for new blocks, none of them that of a known one.
+pub record IsSliceOf (code : Code) (inputs : List Block) (reads : Option ℕ) (fuel : ℕ) (r : Repair) (o : Option Repair) : Type 0 where
+  pub names : ℕ → ℕ
+  pub single : Single names
+  pub off : (k : ℕ) → r.known (Core (names k)) ≡ None
+  pub is : sliced code names inputs reads fuel (counted_anew r) ≡ o
+
+-- what a run that is up to date comes to, whose items are these
+abbrev pub IsConcluded : Code → List Block → ℕ → List Word → ℕ → Trace → ℕ → Sliced → Type 0
+IsConcluded code inputs f args fuel l spent (More run) = ⊥
+IsConcluded code inputs f args fuel l spent (Done run) = IsRunOf code inputs f args fuel l run × (run.spent ≡ spent)
+IsConcluded code inputs f args fuel l spent Spent = ⊥
+IsConcluded code inputs f args fuel l spent OutOfFuel = fresh code f args inputs fuel ≡ None
+
+-- what a slice comes to
+abbrev pub IsSliced : Code → List Block → ℕ → List Word → Option ℕ → ℕ → Repair → Sliced → Type 0
+IsSliced code inputs f args reads fuel r (More run) =
+    (r' : Repair) × IsSliceOf code inputs reads fuel r (Some r') × (¬ IsHonest code inputs r'.items) × IsPartRun code inputs f args fuel r' run
+IsSliced code inputs f args reads fuel r (Done run) =
+    (r' : Repair) × IsSliceOf code inputs reads fuel r (Some r') × IsRunOf code inputs f args fuel r'.items run × (run.spent ≡ r'.spent)
+IsSliced code inputs f args reads fuel r Spent = IsSliceOf code inputs reads fuel r None
+IsSliced code inputs f args reads fuel r OutOfFuel =
+    (r' : Repair) × IsSliceOf code inputs reads fuel r (Some r') × IsHonest code inputs r'.items × (fresh code f args inputs fuel ≡ None)

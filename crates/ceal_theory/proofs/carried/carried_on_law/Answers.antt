@@ -1,0 +1,5 @@
+use Rattle.ceal_theory.proofs.CarriedLaws.{carried-on-law}
+use Rattle.ceal_theory.proofs.carried.carried_on_law.Goals as goal
+
+pub returns : goal.returns
+returns c = record { law = carried-on-law }

@@ -1,0 +1,141 @@
+// A node in two parts: a small one, and what few nodes have.
+
+ghost use Rattle.std.specs.Prelude.{◌≡◌, Some, IsSome};
+ghost use Rattle.slab.specs.Slab.{get, HasRoomFor};
+ghost use Rattle.ceal_trace.specs.Nodes.{seen};
+ghost use Rattle.ceal_trace.specs.Shelves.{whole, Split, Joined, held_valued};
+
+use crate::node::{Node, Seen};
+use ceal_base::forest::{Key, UnitId};
+use ceal_base::word::{BlockId, Place, Word};
+use ceal_base::words::Words;
+use ceal_order::stamp::Stamp;
+use slab::Slab;
+
+/// A node but for its key or its closure, which stands apart under a key of a slab.
+#[derive(Drop)]
+pub enum Held {
+    Root,
+    Alloc { block: BlockId, apart: usize },
+    Write { place: Place, value: Word },
+    Read { value: Word, apart: usize },
+    End { read: Stamp },
+}
+
+/// What stands apart: the key of an allocation, or the closure of a read.
+#[derive(Drop)]
+pub enum Apart {
+    Key(Key),
+    Closure {
+        place: Place,
+        unit: UnitId,
+        var: u32,
+        args: Words,
+    },
+}
+
+/// Splits a node, and puts apart what does not stand in the small part.
+pub fn split(apart: &mut Slab<Apart>, node: Node) -> Held
+    requires { HasRoomFor apart.old 1 }
+    ensures { Split apart.old apart.new node result }
+{
+    match node {
+        Node::Root => Held::Root,
+        Node::Alloc { block, key } => {
+            let at = apart.insert_reserved(Apart::Key(key));
+            Held::Alloc { block, apart: at }
+        }
+        Node::Write { place, value } => Held::Write { place, value },
+        Node::Read {
+            place,
+            value,
+            unit,
+            var,
+            args,
+        } => {
+            let closure = Apart::Closure {
+                place,
+                unit,
+                var,
+                args,
+            };
+            let at = apart.insert_reserved(closure);
+            Held::Read { value, apart: at }
+        }
+        Node::End { read } => Held::End { read },
+    }
+}
+
+/// Joins a node, and takes out what stands apart.
+pub fn join(apart: &mut Slab<Apart>, held: Held) -> Node
+    requires { IsSome (whole apart.old held) }
+    ensures { Joined apart.old apart.new held result }
+{
+    match held {
+        Held::Root => Node::Root,
+        Held::Alloc { block, apart: at } => match apart.remove(at) {
+            Apart::Key(key) => Node::Alloc { block, key },
+            Apart::Closure { .. } => unreachable!(),
+        },
+        Held::Write { place, value } => Node::Write { place, value },
+        Held::Read { value, apart: at } => match apart.remove(at) {
+            Apart::Closure {
+                place,
+                unit,
+                var,
+                args,
+            } => Node::Read {
+                place,
+                value,
+                unit,
+                var,
+                args,
+            },
+            Apart::Key(_key) => unreachable!(),
+        },
+        Held::End { read } => Node::End { read },
+    }
+}
+
+/// A node as it stands.
+pub fn look<'a>(apart: &'a Slab<Apart>, held: &'a Held) -> Seen<'a>
+    requires { IsSome (whole apart.now held.now) }
+    ensures { whole apart.now held.now ≡ Some (seen result) }
+{
+    match held {
+        Held::Root => Seen::Root,
+        Held::Alloc { block, apart: at } => match &apart[*at] {
+            Apart::Key(key) => Seen::Alloc { block: *block, key },
+            Apart::Closure { .. } => unreachable!(),
+        },
+        Held::Write { place, value } => Seen::Write {
+            place: *place,
+            value: *value,
+        },
+        Held::Read { value, apart: at } => match &apart[*at] {
+            Apart::Closure {
+                place,
+                unit,
+                var,
+                args,
+            } => Seen::Read {
+                place: *place,
+                value: *value,
+                unit: *unit,
+                var: *var,
+                args,
+            },
+            Apart::Key(_key) => unreachable!(),
+        },
+        Held::End { read } => Seen::End { read: *read },
+    }
+}
+
+/// Gives a read another value.
+pub fn give_value(held: &mut Held, value: Word)
+    ensures { held.new ≡ held_valued value held.old }
+{
+    if let Held::Read { value: kept, .. } = held {
+        *kept = value;
+    }
+}
