@@ -3,7 +3,7 @@ use Rattle.std.proofs.Common.{◌≡◌, ℕ, zero, suc, ◌+◌, ◌^◌, nat_l
 use Rattle.ceal_base.specs.Access.{of_struct, is_struct, place_in, holds}
 use Rattle.ceal_base.specs.Block.{Block}
 use Rattle.ceal_base.specs.Operators.{number_of, unary_value, binary_value, element, picked, truth, same_block, same_place, same_word}
-use Rattle.ceal_base.specs.Shapes.{default_of_field, default_block, kinds_of_shape, default_of_kind}
+use Rattle.ceal_base.specs.Shapes.{default_of_field, default_block, kinds_of_shape, default_of_kind, default_of}
 use Rattle.ceal_base.specs.Trace.{Trace, steps_of}
 use Rattle.ceal_base.specs.declared.forest.Key.{Key}
 use Rattle.ceal_base.specs.declared.forest.UnitId.{UnitId}
@@ -26,7 +26,7 @@ use Rattle.ceal_code.proofs.Picks.{IfPick}
 use Rattle.ceal_code.specs.Alike.{Pairs, Tied, IdAlike, PlaceAlike, WordAlike, WordsAlike, KeyAlike, VariablesAlike, StackAlike, ActAlike, FieldsAlike, BlockAlike, MaybeAlike, PlainAlike, TraceAlike, Within, OneToOne}
 use Rattle.ceal_code.specs.Init.{set_plain, set_by, set_by_row, set_by_all, arguments, made_by, made, pointer}
 use Rattle.ceal_code.specs.Program.{Code}
-use Rattle.ceal_code.specs.Step.{Stack, Run, Quiet, unit_at, command_at, entry_of, variable_default, kind_default, kinds_of, bound, entered, first_word, later_words, woven, given, key_of, place_of, writes_at, reads_at, act, landed, settled_at, settled, acted, next}
+use Rattle.ceal_code.specs.Step.{Stack, Run, Quiet, unit_at, command_at, entry_of, variable_default, kinds_of, bound, entered, first_word, later_words, woven, given, key_of, place_of, writes_at, reads_at, act, landed, settled_at, settled, acted, next}
 use Rattle.ceal_code.specs.Value.{Plain, Variables, unset, set, field_kind, is_cell, field_default, plain_word, field_in, field_value, address_value, expr_value, operand_value, values}
 use Rattle.ceal_code.specs.declared.command.Cmd.{Cmd}
 use Rattle.ceal_code.specs.declared.command.Cmd.TheVariants.{Move, Tick, Alloc, Modref, Write, If, Done, Tail, Read, Call}
@@ -150,7 +150,7 @@ module _ (ps : Pairs) where
 
   -- numbers and null are like themselves
 
-  kind_default-self : (k : Option Kind) → WordAlike ps (kind_default k) (kind_default k)
+  kind_default-self : (k : Option Kind) → WordAlike ps (default_of k) (default_of k)
   kind_default-self k = kind_default-of (λ w. WordAlike ps w w) (λ n. WordAlike.num) WordAlike.null k
 
   default-self : (k : Kind) → WordAlike ps (default_of_kind k) (default_of_kind k)

@@ -5,7 +5,7 @@ use Rattle.std.specs.Prelude.{⊤}
 use Rattle.ceal_base.specs.Access.{holds}
 use Rattle.ceal_base.specs.Block.{Block}
 use Rattle.ceal_base.specs.Operators.{unary_value, binary_value, picked, truth}
-use Rattle.ceal_base.specs.Shapes.{default_of_kind}
+use Rattle.ceal_base.specs.Shapes.{default_of_kind, default_of}
 use Rattle.ceal_base.specs.declared.forest.Key.{Key}
 use Rattle.ceal_base.specs.declared.forest.Key.TheVariants.{Init, ModInt as IntKey, ModPtr as PtrKey}
 use Rattle.ceal_base.specs.declared.forest.UnitId.{UnitId}
@@ -26,7 +26,7 @@ use Rattle.ceal_base.specs.declared.word.Word.TheVariants.{Num, Null, Block as B
 use Rattle.ceal_code.proofs.Picks.{IfPick, PicksRow, Picks, PicksOperand, PicksAll, PicksCommand, PicksCode}
 use Rattle.ceal_code.proofs.Same.{some-same, none-some}
 use Rattle.ceal_code.specs.Program.{Code}
-use Rattle.ceal_code.specs.Step.{Stack, Empty, Run, Act, Over, Quiet, Makes, Writes, Reads, unit_at, command_at, entry_of, variable_default, kind_default, bound, entered, chosen, first_word, later_words, woven, given, key_of, place_of, writes_at, reads_at, act, landed, settled_at, settled, acted, next, kinds_of}
+use Rattle.ceal_code.specs.Step.{Stack, Empty, Run, Act, Over, Quiet, Makes, Writes, Reads, unit_at, command_at, entry_of, variable_default, bound, entered, chosen, first_word, later_words, woven, given, key_of, place_of, writes_at, reads_at, act, landed, settled_at, settled, acted, next, kinds_of}
 use Rattle.ceal_code.specs.Value.{Plain, Variables, unset, set, field_kind, field_default, plain_word, field_in, field_value, address_value, expr_value, operand_value, values}
 use Rattle.ceal_code.specs.declared.command.Cmd.{Cmd}
 use Rattle.ceal_code.specs.declared.command.Cmd.TheVariants.{Move, Tick, Alloc, Modref, Write, If, Done, Tail, Read, Call}
@@ -89,7 +89,7 @@ module _ (W : Word → Type 0) (num : (n : ℤ) → W (Num n)) (null : W Null) w
   field_default-of (Some CellInt) = num (pos 0)
   field_default-of (Some (CellPtr s)) = null
 
-  pub kind_default-of : (k : Option Kind) → W (kind_default k)
+  pub kind_default-of : (k : Option Kind) → W (default_of k)
   kind_default-of None = null
   kind_default-of (Some k) = default-of k
 

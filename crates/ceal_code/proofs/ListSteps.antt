@@ -1,11 +1,12 @@
 -- Lists of kinds, fields, structs, parameters and units, item by item.
 use Rattle.std.proofs.Common.{◌≡◌, ℕ, zero, suc, ◌+◌, ◌-◌, ◌<◌, true, false, ◌&&◌, List, [], ◌∷◌, refl, length, arith, nat_lt, nat_le, ◌==◌}
+use Rattle.ceal_base.specs.Kinds.{same_kind}
 use Rattle.ceal_base.specs.declared.kind.FieldKind.{FieldKind}
 use Rattle.ceal_base.specs.declared.kind.Kind.{Kind}
 use Rattle.ceal_base.specs.declared.typed.FieldInfo.{FieldInfo}
 use Rattle.ceal_base.specs.declared.typed.StructInfo.{StructInfo}
 use Rattle.ceal_code.specs.Program.{Unit, Code}
-use Rattle.ceal_code.specs.Valid.{kind_ok, kinds_ok, field_ok, fields_ok, same_field, row_goes_on, row_whole, rows_ok, structs_ok, same_kind, is_prefix, below, unit_ok, units_ok, function_ok, functions_ok}
+use Rattle.ceal_code.specs.Valid.{kind_ok, kinds_ok, field_ok, fields_ok, same_field, row_goes_on, row_whole, rows_ok, structs_ok, is_prefix, below, unit_ok, units_ok, function_ok, functions_ok}
 use Rattle.ceal_code.specs.declared.expr.VarId.{VarId}
 use Rattle.ceal_code.specs.declared.function.FunctionCode.{FunctionCode}
 

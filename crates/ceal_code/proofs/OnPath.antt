@@ -6,9 +6,9 @@ use Rattle.ceal_code.proofs.Memory.{get-within}
 use Rattle.ceal_code.proofs.Same.{both, some-same, none-some}
 use Rattle.ceal_code.proofs.TypedInit.{unit-valid}
 use Rattle.ceal_code.proofs.TypedStack.{known-set, unit-tree, unit-path}
-use Rattle.ceal_code.specs.OnPath.{IsOnPath, IsRight}
+use Rattle.ceal_code.specs.OnPath.{params_known, known_after, IsOnPath, IsReached}
 use Rattle.ceal_code.specs.Program.{Unit as CodeUnit, Code}
-use Rattle.ceal_code.specs.Valid.{command_ok, onward, path_ok, paths_ok, goes_forward, all_forward, followers, all_followers, reached, all_true, all_but_first, is_tree, valid}
+use Rattle.ceal_code.specs.Valid.{command_ok, onward, path_ok, paths_ok, goes_forward, all_forward, followers, all_followers, reached, all_true, all_but_first, is_tree, unit_ok, valid}
 use Rattle.ceal_code.specs.declared.command.Cmd.{Cmd}
 use Rattle.ceal_code.specs.declared.command.Cmd.TheVariants.{Move, Tick, Alloc, Modref, Write, If, Done, Tail, Read, Call}
 
@@ -127,80 +127,77 @@ behind (Tail w args) i j f h = absurd (contains-none j h)
 behind (Read v p w args) i j f h = absurd (contains-none j h)
 behind (Call g args w rest) i j f h = absurd (contains-none j h)
 
--- each index of a tree that goes forward is on a path from the first
-on-path : (body : List Cmd) → all_forward body 0 ≡ true → is_tree body ≡ true → (n j : ℕ) → j < n → j < length body → IsOnPath body j
-on-path body f t zero j l m = absurd (omega (arith, l))
-on-path body f t (suc n) zero l m = IsOnPath.first
-on-path body f t (suc n) (suc j) l m =
-    let r = from-in body 0 (suc j) (is-reached body j t m) in
-    let same : 0 + r.i ≡ r.i = omega arith in
-    let leads : Contains (followers r.c r.i) (suc j) = subst (λ k. Contains (followers r.c k) (suc j)) same r.leads in
-    let up : goes_forward r.c r.i ≡ true = subst (λ k. goes_forward r.c k ≡ true) same (forward-at body 0 r.i r.c f r.there) in
-    let before = behind r.c r.i (suc j) up leads in
-    IsOnPath.next (on-path body f t n r.i (omega (arith, before, l)) (get-within body r.i r.c r.there)) r.there leads
+module _ (code : Code) (unit : CodeUnit) where
+  -- some path comes to each index of a tree that goes forward
+  on-path : all_forward unit.body 0 ≡ true → is_tree unit.body ≡ true → (n j : ℕ) → j < n → j < length unit.body → IsReached code unit j
+  on-path f t zero j l m = absurd (omega (arith, l))
+  on-path f t (suc n) zero l m = record { known = params_known code unit; stepped = false; path = IsOnPath.first }
+  on-path f t (suc n) (suc j) l m =
+      let r = from-in unit.body 0 (suc j) (is-reached unit.body j t m) in
+      let same : 0 + r.i ≡ r.i = omega arith in
+      let leads : Contains (followers r.c r.i) (suc j) = subst (λ k. Contains (followers r.c k) (suc j)) same r.leads in
+      let up : goes_forward r.c r.i ≡ true = subst (λ k. goes_forward r.c k ≡ true) same (forward-at unit.body 0 r.i r.c f r.there) in
+      let before = behind r.c r.i (suc j) up leads in
+      let to = on-path f t n r.i (omega (arith, before, l)) (get-within unit.body r.i r.c r.there) in
+      record { known = known_after to.known r.c; stepped = true; path = IsOnPath.next to.path r.there leads }
 
 module _ (code : Code) (f : ℕ) (body : List Cmd) where
-  -- a path from the index is right
-  record PathAt (i : ℕ) : Type 0 where
+  -- a path that comes to the index goes on rightly
+  record PathAt (i : ℕ) (known : List Bool) (stepped : Bool) : Type 0 where
     fuel : ℕ
-    known : List Bool
-    stepped : Bool
     ok : paths_ok code f body fuel i known stepped ≡ true
 
-  record CommandAt (i : ℕ) (c : Cmd) : Type 0 where
+  record CommandAt (i : ℕ) (known : List Bool) (stepped : Bool) (c : Cmd) : Type 0 where
     fuel : ℕ
-    known : List Bool
-    stepped : Bool
     ok : command_ok code f known stepped c ≡ true
     on : onward (paths_ok code f body fuel) c i known ≡ true
 
-  command-of : (i : ℕ) (c : Cmd) → slice_get body i ≡ Some c → PathAt i → CommandAt i c
+  command-of : (i : ℕ) (known : List Bool) (stepped : Bool) (c : Cmd) → slice_get body i ≡ Some c → PathAt i known stepped → CommandAt i known stepped c
   unfolding paths_ok
-  command-of i c e p = go p.fuel p.ok
+  command-of i known stepped c e p = go p.fuel p.ok
     where
-      found : (n : ℕ) (o : Option Cmd) → slice_get body i ≡ o → path_ok code f (paths_ok code f body n) o i p.known p.stepped ≡ true → CommandAt i c
+      found : (n : ℕ) (o : Option Cmd) → slice_get body i ≡ o → path_ok code f (paths_ok code f body n) o i known stepped ≡ true → CommandAt i known stepped c
       found n None g h = none-some c (sym g ∙ e)
       found n (Some d) g h =
-          let k = both (command_ok code f p.known p.stepped d) (onward (paths_ok code f body n) d i p.known) h in
-          subst (CommandAt i) (some-same d c (sym g ∙ e)) (record { fuel = n; known = p.known; stepped = p.stepped; ok = k.0; on = k.1 })
+          let k = both (command_ok code f known stepped d) (onward (paths_ok code f body n) d i known) h in
+          subst (CommandAt i known stepped) (some-same d c (sym g ∙ e)) (record { fuel = n; ok = k.0; on = k.1 })
 
-      go : (n : ℕ) → paths_ok code f body n i p.known p.stepped ≡ true → CommandAt i c
+      go : (n : ℕ) → paths_ok code f body n i known stepped ≡ true → CommandAt i known stepped c
       go zero h = absurd (grind (arith, h))
       go (suc n) h = found n (slice_get body i) refl h
 
-  goes-on : (c : Cmd) (i j fuel : ℕ) (known : List Bool) → onward (paths_ok code f body fuel) c i known ≡ true → Contains (followers c i) j → PathAt j
-  goes-on (Move v e) i j fuel known h k =
-      subst PathAt (contains-one (i + 1) j k) (record { fuel = fuel; known = slice_set known v.0 true; stepped = true; ok = h })
-  goes-on Tick i j fuel known h k = subst PathAt (contains-one (i + 1) j k) (record { fuel = fuel; known = known; stepped = true; ok = h })
-  goes-on (Alloc v g args) i j fuel known h k =
-      subst PathAt (contains-one (i + 1) j k) (record { fuel = fuel; known = slice_set known v.0 true; stepped = true; ok = h })
-  goes-on (Modref v shape) i j fuel known h k =
-      subst PathAt (contains-one (i + 1) j k) (record { fuel = fuel; known = slice_set known v.0 true; stepped = true; ok = h })
-  goes-on (Write p e) i j fuel known h k = subst PathAt (contains-one (i + 1) j k) (record { fuel = fuel; known = known; stepped = true; ok = h })
+  goes-on : (c : Cmd) (i j fuel : ℕ) (known : List Bool) → onward (paths_ok code f body fuel) c i known ≡ true → Contains (followers c i) j
+      → PathAt j (known_after known c) true
+  goes-on (Move v e) i j fuel known h k = subst (λ j. PathAt j (slice_set known v.0 true) true) (contains-one (i + 1) j k) (record { fuel = fuel; ok = h })
+  goes-on Tick i j fuel known h k = subst (λ j. PathAt j known true) (contains-one (i + 1) j k) (record { fuel = fuel; ok = h })
+  goes-on (Alloc v g args) i j fuel known h k = subst (λ j. PathAt j (slice_set known v.0 true) true) (contains-one (i + 1) j k) (record { fuel = fuel; ok = h })
+  goes-on (Modref v shape) i j fuel known h k = subst (λ j. PathAt j (slice_set known v.0 true) true) (contains-one (i + 1) j k) (record { fuel = fuel; ok = h })
+  goes-on (Write p e) i j fuel known h k = subst (λ j. PathAt j known true) (contains-one (i + 1) j k) (record { fuel = fuel; ok = h })
   goes-on (If test first second) i j fuel known h k =
       let both' = both (paths_ok code f body fuel first known true) (paths_ok code f body fuel second known true) h in
       elim (contains-two first second j k) [
-        | inl e ↦ subst PathAt e (record { fuel = fuel; known = known; stepped = true; ok = both'.0 })
-        | inr e ↦ subst PathAt e (record { fuel = fuel; known = known; stepped = true; ok = both'.1 })
+        | inl e ↦ subst (λ j. PathAt j known true) e (record { fuel = fuel; ok = both'.0 })
+        | inr e ↦ subst (λ j. PathAt j known true) e (record { fuel = fuel; ok = both'.1 })
       ]
   goes-on Done i j fuel known h k = absurd (contains-none j k)
   goes-on (Tail w args) i j fuel known h k = absurd (contains-none j k)
   goes-on (Read v p w args) i j fuel known h k = absurd (contains-none j k)
   goes-on (Call g args w rest) i j fuel known h k = absurd (contains-none j k)
 
-  path-at : PathAt 0 → (j : ℕ) → IsOnPath body j → PathAt j
-  path-at start j IsOnPath.first = start
-  path-at start j (IsOnPath.next {i = i} {c = c} h e k) =
-      let at = command-of i c e (path-at start i h) in goes-on c i j at.fuel at.known at.on k
+module _ (code : Code) (unit : CodeUnit) (right : unit_ok code unit ≡ true) where
+  path-at : (j : ℕ) (known : List Bool) (stepped : Bool) → IsOnPath code unit j known stepped → PathAt code unit.function unit.body j known stepped
+  path-at j known stepped IsOnPath.first = record { fuel = length unit.body; ok = unit-path code unit right }
+  path-at j known stepped (IsOnPath.next {i = i} {known = k} {stepped = s} {c = c} h e leads) =
+      let at = command-of code unit.function unit.body i k s c e (path-at i k s h) in
+      goes-on code unit.function unit.body c i j at.fuel k at.on leads
 
--- each command of valid code is on a path, and is right there
+-- some path comes to each command of valid code, which is right for what is known on each path to it
 pub on-right-path : (code : Code) → valid code ≡ true → (u : ℕ) (unit : CodeUnit) → slice_get code.units u ≡ Some unit → (i : ℕ) (c : Cmd) → slice_get unit.body i ≡ Some c
-    → IsOnPath unit.body i × IsRight code unit.function c
+    → IsReached code unit i × ((known : List Bool) (stepped : Bool) → IsOnPath code unit i known stepped → command_ok code unit.function known stepped c ≡ true)
 on-right-path code ok u unit there i c e =
     let right = unit-valid code ok u unit there in
     let shape = unit-tree code unit right in
-    let within = get-within unit.body i c e in
-    let path = on-path unit.body shape.0 shape.1 (suc i) i (omega arith) within in
-    let start : PathAt code unit.function unit.body 0 = record { fuel = length unit.body; known = _; stepped = false; ok = unit-path code unit right } in
-    let at = command-of code unit.function unit.body i c e (path-at code unit.function unit.body start i path) in
-    (path, record { known = at.known; stepped = at.stepped; ok = at.ok })
+    let within = get-within unit.body i c e in (
+      on-path code unit shape.0 shape.1 (suc i) i (omega arith) within,
+      (λ known stepped path. (command-of code unit.function unit.body i known stepped c e (path-at code unit right i known stepped path)).ok),
+    )

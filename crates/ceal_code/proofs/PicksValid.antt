@@ -179,7 +179,7 @@ module _ (code : Code) (ok : valid code ≡ true) where
       → PicksCommand (Starts code.structs) (unwrap_or o Done)
   command-in u unit e i None k = tt
   command-in u unit e i (Some c) k =
-      let r = (on-right-path code ok u unit e i c k).1 in command-picks code unit.function r.known r.stepped c r.ok
+      let r = on-right-path code ok u unit e i c k in command-picks code unit.function r.0.known r.0.stepped c (r.1 r.0.known r.0.stepped r.0.path)
 
   unit-in : (u i : ℕ) (o : Option CodeUnit) → slice_get code.units u ≡ o
       → PicksCommand (Starts code.structs) (unwrap_or (slice_get (unwrap_or o (record { function = 0; params = []; body = [] })).body i) Done)

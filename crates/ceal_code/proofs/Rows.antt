@@ -1,5 +1,6 @@
 -- The elements of a whole row have one kind.
 use Rattle.std.proofs.Common.{◌≡◌, ℕ, zero, suc, ◌+◌, ◌<◌, ◌==◌, ◌&&◌, nat_lt, nat_le, true, Option, Some, None, List, [], ◌∷◌, length, map, refl, ap, subst, sym, slice_get, arith}
+use Rattle.ceal_base.specs.Kinds.{same_kind}
 use Rattle.ceal_base.specs.Shapes.{kind_of_field, field_kinds, row_of_field, field_rows, row_at}
 use Rattle.ceal_base.specs.declared.kind.FieldKind.{FieldKind}
 use Rattle.ceal_base.specs.declared.kind.FieldKind.TheVariants.{Plain as PlainField, CellInt, CellPtr}
@@ -9,7 +10,7 @@ use Rattle.ceal_base.specs.declared.kind.Shape.TheVariants.{Struct}
 use Rattle.ceal_base.specs.declared.typed.FieldInfo.{FieldInfo}
 use Rattle.ceal_base.specs.declared.typed.StructInfo.{StructInfo}
 use Rattle.ceal_code.proofs.Same.{both, nat-same, some-same, none-some}
-use Rattle.ceal_code.specs.Valid.{same_kind, is_row_of, same_field, fields_ok, row_goes_on, row_whole, rows_ok, structs_ok}
+use Rattle.ceal_code.specs.Valid.{is_row_of, same_field, fields_ok, row_goes_on, row_whole, rows_ok, structs_ok}
 use Rattle.ceal_code.specs.Value.{field_kind, is_cell}
 
 pub kind-same : (k l : Kind) → same_kind k l ≡ true → k ≡ l

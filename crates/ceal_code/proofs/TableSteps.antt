@@ -1,5 +1,5 @@
 -- The tables of a trace's memory, call by call.
-use Rattle.std.proofs.Common.{◌≡◌, ℕ, zero, suc, ◌+◌, ◌-◌, ◌==◌, ◌&&◌, Bool, true, false, cond, if◌then◌else◌, Option, Some, None, List, [], ◌∷◌, ◌++◌, length, append_assoc, append-nil, slice_get, refl, sym, ap, ◌∙◌, unwrap_or, arith}
+use Rattle.std.proofs.Common.{◌≡◌, ℕ, zero, suc, ◌+◌, ◌==◌, ◌&&◌, Bool, true, false, cond, if◌then◌else◌, Option, Some, None, List, [], ◌∷◌, ◌++◌, length, append_assoc, append-nil, slice_get, refl, sym, ap, ◌∙◌, unwrap_or, arith}
 use Rattle.std.specs.HashMap.{get}
 use Rattle.std.specs.Option.{option_map}
 use Rattle.std.proofs.Math.Path.{fun_ext}
@@ -23,7 +23,7 @@ use Rattle.ceal_code.specs.Init.{made}
 use Rattle.ceal_code.specs.PlainWords.{block_shape, block_word}
 use Rattle.ceal_code.specs.Program.{Code}
 use Rattle.ceal_code.specs.Replay.{Store, bases, learnt, input_plain, plain_words, plain_after, plain_of, cleared, stored, shape_of, cell_default, with_contents, block_after, filled}
-use Rattle.ceal_code.specs.Tables.{plain_field_word, code_in, inputs_in, made_or, plain_in, unwritten, word_in, store_in, plain_item, plain_flat, store_item, store_flat}
+use Rattle.ceal_code.specs.Tables.{plain_field_word, code_in, inputs_in, made_or, plain_in, unwritten, word_in, store_in, plain_item, plain_flat, store_item, store_flat, defaulted}
 use Rattle.ceal_code.specs.Value.{Plain, field_kind, is_cell}
 use Rattle.ceal_code.specs.declared.contents.Fields.{Fields}
 use Rattle.ceal_code.specs.declared.trace_memory.TraceMemory.{TraceMemory}
@@ -141,6 +141,22 @@ contents-clear old next fields id shape key e i fresh update k = fun_ext (λ q.
         → word_in (code_in old) (bases (code_in old) (inputs_in old)) (cond b (Some fields) (get ghosts.eq old.contents q.block)) q
         ≡ (if b then cell_default (field_kind (code_in old).structs (shape_of (code_in old) key) q.field) else word_in (code_in old) (bases (code_in old) (inputs_in old)) (get ghosts.eq old.contents q.block) q)
     go q true = fresh (code_in old) (bases (code_in old) (inputs_in old)) q ∙ rw k refl
+    go q false = refl
+
+-- a block is known
+pub contents-known : (old next : TraceMemory) (fields : Fields) (id : BlockId) (block : Block) → code_in next ≡ code_in old → inputs_in next ≡ inputs_in old
+    → ((code : Code) (s : Store) (p : Place) → word_in code s (Some fields) p ≡ unwritten code s (Some block.shape) p)
+    → ((b : BlockId) → get ghosts.eq next.contents b ≡ cond (ghosts.eq id b) (Some fields) (get ghosts.eq old.contents b))
+    → store_in next ≡ defaulted (code_in old) (store_in old) id block
+unfolding store_in defaulted
+contents-known old next fields id block e i fresh update = fun_ext (λ q.
+    ap (λ o. word_in (code_in next) (bases (code_in next) (inputs_in next)) o q) (update q.block ∙ ap (λ b. cond b (Some fields) (get ghosts.eq old.contents q.block)) (eq-block id q.block ∙ sym (block-flip id q.block)))
+    ∙ rw (e, i) (go q (same_block q.block id)))
+  where
+    go : (q : Place) (b : Bool)
+        → word_in (code_in old) (bases (code_in old) (inputs_in old)) (cond b (Some fields) (get ghosts.eq old.contents q.block)) q
+        ≡ (if b then cell_default (field_kind (code_in old).structs block.shape q.field) else word_in (code_in old) (bases (code_in old) (inputs_in old)) (get ghosts.eq old.contents q.block) q)
+    go q true = fresh (code_in old) (bases (code_in old) (inputs_in old)) q
     go q false = refl
 
 -- what was written of a block, where nothing is told as nothing written

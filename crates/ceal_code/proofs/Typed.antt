@@ -4,6 +4,7 @@ use Rattle.std.specs.Prelude.{⊤}
 use Rattle.ceal_base.specs.Access.{of_struct, is_struct}
 use Rattle.ceal_base.specs.Block.{Block, Blocks, block_at}
 use Rattle.ceal_base.specs.Fitting.{kind_in, kind_at, fits_kind, fits_field, fields_fit}
+use Rattle.ceal_base.specs.Kinds.{is_pointer}
 use Rattle.ceal_base.specs.Operators.{unary_value, binary_value, picked, truth}
 use Rattle.ceal_base.specs.Shapes.{default_of_kind, kinds_of_shape, row_at}
 use Rattle.ceal_base.specs.declared.kind.FieldKind.{FieldKind}
@@ -22,7 +23,7 @@ use Rattle.ceal_base.specs.declared.word.Word.TheVariants.{Num, Null, Block as B
 use Rattle.ceal_code.proofs.Rows.{RowsHold, kind-same}
 use Rattle.ceal_code.proofs.Same.{both, nat-refl, struct-shape}
 use Rattle.ceal_code.specs.Running.{Points, WordThere, ExprThere, OperandThere}
-use Rattle.ceal_code.specs.Valid.{Typing, is_pointer, is_place, fits, fits_maybe, one_type, place_fits, write_fits, int_if, element_type, binary_type, is_row_of, starts_row, operand_suits, variable_type, points_to, plain_type, cell_type, type_of, operand_type}
+use Rattle.ceal_code.specs.Valid.{Typing, is_place, fits, fits_maybe, one_type, place_fits, write_fits, int_if, element_type, binary_type, is_row_of, starts_row, operand_suits, variable_type, points_to, plain_type, cell_type, type_of, operand_type}
 use Rattle.ceal_code.specs.Value.{Variables, field_kind, is_cell, field_default, plain_word, field_in, field_value, address_value, expr_value, operand_value}
 use Rattle.ceal_code.specs.declared.typing.ExprType.{ExprType}
 use Rattle.ceal_code.specs.declared.typing.ExprType.TheVariants.{Of, AnyPointer, AnyPlace}

@@ -6,6 +6,7 @@ use Rattle.ceal_base.specs.Access.{word_in, content_of}
 use Rattle.ceal_base.specs.Block.{Block, Blocks, block_at, written_at}
 use Rattle.ceal_base.specs.Finished.{with_block}
 use Rattle.ceal_base.specs.Fitting.{kind_in, fits_kind, fits_field, words_fit, fields_fit, block_fits, memory_fits, inputs_fit}
+use Rattle.ceal_base.specs.Kinds.{same_kind}
 use Rattle.ceal_base.specs.Operators.{same_block}
 use Rattle.ceal_base.specs.Shapes.{kinds_of_shape}
 use Rattle.ceal_base.specs.declared.forest.Key.{Key}
@@ -37,7 +38,7 @@ use Rattle.ceal_code.specs.Program.{Unit as CodeUnit, Code}
 use Rattle.ceal_code.specs.Replay.{shape_of}
 use Rattle.ceal_code.specs.Running.{Steps, Reaches, GoesOn, NotStuck}
 use Rattle.ceal_code.specs.Step.{Stack, Empty, Run, Act, Over, Quiet, Makes, Writes, Reads, unit_at, command_at, entry_of, kinds_of, variable_default, entered, chosen, started, given, place_of, writes_at, reads_at, act, landed, settled_at, settled, acted, next}
-use Rattle.ceal_code.specs.Valid.{is_prefix, kinds_ok, same_kind, below as all_below, entry_ok, valid}
+use Rattle.ceal_code.specs.Valid.{is_prefix, kinds_ok, below as all_below, entry_ok, valid}
 use Rattle.ceal_code.specs.Value.{Plain, Variables, set, expr_value, values}
 use Rattle.ceal_code.specs.declared.command.Cmd.{Cmd}
 use Rattle.ceal_code.specs.declared.command.Cmd.TheVariants.{Move, Tick, Alloc, Modref, Write, If, Done, Tail, Read, Call}

@@ -1,5 +1,5 @@
 -- The states of a run from scratch, and when everything that a state names is there.
-use Rattle.std.specs.Prelude.{◌≡◌, ◌⊎◌, ℕ, ◌<◌, true, Option, Some, None, List, [], ◌∷◌, length, slice_get, is_some, ⊤}
+use Rattle.std.specs.Prelude.{◌≡◌, ◌⊎◌, ℕ, ◌+◌, ◌<◌, true, Option, Some, None, List, [], ◌∷◌, length, slice_get, is_some, ⊤}
 use Rattle.ceal_base.specs.Access.{pointed, content_of}
 use Rattle.ceal_base.specs.Block.{Blocks, block_at, written_at}
 use Rattle.ceal_base.specs.Finished.{with_block}
@@ -46,6 +46,11 @@ pub data Steps (code : Code) : Blocks → Stack → Blocks → Stack → Type 0 
 pub data Reaches (code : Code) (m : Blocks) (st : Stack) : Blocks → Stack → Type 0 where
   begin : Reaches code m st m st
   step : {m' m'' : Blocks} {st' st'' : Stack} → Reaches code m st m' st' → Steps code m' st' m'' st'' → Reaches code m st m'' st''
+
+-- that many steps
+pub data Takes (code : Code) (m : Blocks) (st : Stack) : (steps : ℕ) → Blocks → Stack → Type 0 where
+  none : Takes code m st 0 m st
+  more : {k : ℕ} {m' m'' : Blocks} {st' st'' : Stack} → Takes code m st k m' st' → Steps code m' st' m'' st'' → Takes code m st (k + 1) m'' st''
 
 -- null, or a block of the struct
 abbrev pub Points : Blocks → ℕ → Word → Type 0

@@ -1,7 +1,7 @@
 -- What the next step of trace code is. Running, replaying and repairing all go by this one function.
 use Rattle.std.specs.Prelude.{ℕ, ◌+◌, ◌==◌, Option, Some, None, List, [], ◌∷◌, length, slice_get, unwrap_or, if◌then◌else◌}
 use Rattle.ceal_base.specs.Access.{holds}
-use Rattle.ceal_base.specs.Shapes.{default_of_kind}
+use Rattle.ceal_base.specs.Shapes.{default_of}
 use Rattle.ceal_base.specs.declared.forest.Key.{Key}
 use Rattle.ceal_base.specs.declared.forest.Key.TheVariants.{Init, ModInt as IntKey, ModPtr as PtrKey}
 use Rattle.ceal_base.specs.declared.forest.UnitId.{UnitId}
@@ -41,14 +41,9 @@ entry_of code f = entry_in code (slice_get code.functions f)
 abbrev pub kinds_of : Code → ℕ → List Kind
 kinds_of code f = unwrap_or (slice_get code.kinds f) []
 
--- the default of a kind; null, where it is not there
-abbrev pub kind_default : Option Kind → Word
-kind_default (Some kind) = default_of_kind kind
-kind_default None = Null
-
 -- what a read through null gives to a variable of the unit's function
 abbrev pub variable_default : Code → ℕ → ℕ → Word
-variable_default code u v = kind_default (slice_get (kinds_of code (unit_at code u).function) v)
+variable_default code u v = default_of (slice_get (kinds_of code (unit_at code u).function) v)
 
 -- units still to do, each at an index of its body and with its variables; the running one first
 pub data Stack : Type 0 where

@@ -2,6 +2,7 @@
 use Rattle.std.specs.Prelude.{Option, Some, None, List, [], ◌∷◌, get_or, unwrap_or, if◌then◌else◌}
 use Rattle.std.specs.HashMap.{get}
 use Rattle.ceal_base.specs.Block.{Block}
+use Rattle.ceal_base.specs.Operators.{same_block}
 use Rattle.ceal_base.specs.Shapes.{default_of_field}
 use Rattle.ceal_base.specs.contracts.word.BlockIdPartialEq.TheImpl.{ghosts}
 use Rattle.ceal_base.specs.declared.forest.Item.{Item}
@@ -83,3 +84,7 @@ store_item code s End = s
 unfoldable pub store_flat : Code → Store → List Item → Store
 store_flat code s [] = s
 store_flat code s (i ∷ is) = store_flat code (store_item code s i) is
+
+-- the store where the modifiables of a block have their defaults
+unfoldable pub defaulted : Code → Store → BlockId → Block → Store
+defaulted code s id block = λ p. if same_block p.block id then cell_default (field_kind code.structs block.shape p.field) else s p

@@ -2,6 +2,7 @@
 -- command of it lies on a path from the first, a variable is used only where it has a word, and expressions have the
 -- types that are asked.
 use Rattle.std.specs.Prelude.{ℕ, zero, suc, ◌+◌, ◌==◌, ◌&&◌, nat_lt, nat_le, Bool, true, false, not, if◌then◌else◌, Option, Some, None, List, [], ◌∷◌, ◌++◌, length, replicate, slice_get, slice_set, unwrap_or}
+use Rattle.ceal_base.specs.Kinds.{same_kind, is_pointer}
 use Rattle.ceal_base.specs.Shapes.{row_at}
 use Rattle.ceal_base.specs.declared.kind.FieldKind.{FieldKind}
 use Rattle.ceal_base.specs.declared.kind.FieldKind.TheVariants.{Plain as PlainField, CellInt, CellPtr}
@@ -34,13 +35,6 @@ use Rattle.ceal_code.specs.declared.typing.ExprType.TheVariants.{Of, AnyPointer,
 abbrev pub Typing : Type 0
 Typing = Option ExprType
 
--- whether the kind has null
-abbrev pub is_pointer : Kind → Bool
-is_pointer Int = false
-is_pointer (Ptr s) = true
-is_pointer ModInt = true
-is_pointer (ModPtr s) = true
-
 -- a pointer to a modifiable
 abbrev pub is_place : Kind → Bool
 is_place Int = false
@@ -54,14 +48,6 @@ is_content Int = true
 is_content (Ptr s) = true
 is_content ModInt = false
 is_content (ModPtr s) = false
-
--- whether two kinds are one
-abbrev pub same_kind : Kind → Kind → Bool
-same_kind Int Int = true
-same_kind (Ptr s) (Ptr t) = s == t
-same_kind ModInt ModInt = true
-same_kind (ModPtr s) (ModPtr t) = s == t
-same_kind _ _ = false
 
 -- an expression of this type may stand where the kind is asked
 abbrev pub fits : Kind → Typing → Bool

@@ -1,7 +1,7 @@
 // Laws of trace code, each the contract of a function that does nothing.
 
 ghost use Rattle.ceal_code.specs.After.{StoreLaw, InputsLaw as Inputs_after_law};
-ghost use Rattle.ceal_code.specs.Laws.{StepLaw, BlockLaw, OverLaw, AlikeLaw, TraceLaw, PathLaw, ProgressLaw, EndedLaw, InputsLaw};
+ghost use Rattle.ceal_code.specs.Laws.{StepLaw, BlockLaw, OverLaw, AlikeLaw, TraceLaw, PathLaw, ProgressLaw, EndedLaw, StateLaw, InputsLaw};
 
 /// A step of trace code depends on the plain words of the blocks that its stack can reach, and on nothing else
 /// (our own).
@@ -31,7 +31,8 @@ pub fn trace_law()
     ensures law { TraceLaw }
 {}
 
-/// Each command of a unit of valid code lies on a path from the unit's first command, and is right there (our own).
+/// Each command of a unit of valid code lies on a path from the unit's first command, and is right for the variables that
+/// have a word on that path (our own).
 pub fn path_law()
     ensures law { PathLaw }
 {}
@@ -49,9 +50,11 @@ pub fn after_law()
     ensures inputs { Inputs_after_law }
 {}
 
-/// A run from scratch that ends is at a state that it came to.
+/// A run from scratch is after each number of steps at a state that it came to, and it ends at one from which no step goes
+/// on.
 pub fn ended_law()
     ensures law { EndedLaw }
+    ensures states { StateLaw }
 {}
 
 /// A run makes no input.

@@ -13,7 +13,7 @@ ghost use Rattle.ceal_code.specs.Init.{made};
 ghost use Rattle.ceal_code.specs.PlainWords.{block_shape, block_word};
 ghost use Rattle.ceal_code.specs.Program.{Code as Parts};
 ghost use Rattle.ceal_code.specs.Replay.{Store, learnt, input_plain, plain_of, bases, cleared, stored};
-ghost use Rattle.ceal_code.specs.Tables.{code_in, inputs_in, plain_in, store_in, word_in, memory_in, plain_item, plain_flat, store_item, store_flat, plain_field_word};
+ghost use Rattle.ceal_code.specs.Tables.{code_in, inputs_in, plain_in, store_in, word_in, memory_in, plain_item, plain_flat, store_item, store_flat, defaulted, plain_field_word};
 
 use crate::code::Code;
 use crate::contents::{Fields, base};
@@ -231,6 +231,20 @@ impl<'a> TraceMemory<'a> {
     {
         let block = make_block(self.alloc, self.code, self, key)?;
         self.made.insert(id, block)?;
+        Ok(())
+    }
+
+    /// Knows a block with these plain words, its modifiables at their defaults.
+    pub fn know(&mut self, id: BlockId, block: BlockWords) -> Result<(), NoMemory>
+        ensures code { OnOk result (code_in self.new ≡ code_in self.old) }
+        ensures plain { OnOk result (plain_in self.new ≡ learnt (plain_in self.old) id block) }
+        ensures store { OnOk result
+            (store_in self.new ≡ defaulted (code_in self.old) (store_in self.old) id block) }
+    {
+        let shape = block.shape;
+        self.made.insert(id, block)?;
+        self.contents
+            .insert(id, Fields::new(self.alloc, Some(shape)))?;
         Ok(())
     }
 

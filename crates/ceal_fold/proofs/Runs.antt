@@ -3,6 +3,7 @@ use Rattle.std.proofs.Common.{◌≡◌, ℕ, zero, suc, ◌+◌, ◌&&◌, Bool
 use Rattle.ceal_base.specs.Access.{holds, content_of}
 use Rattle.ceal_base.specs.Block.{Block, Blocks, block_at, written_at}
 use Rattle.ceal_base.specs.Finished.{Finished, with_block}
+use Rattle.ceal_base.specs.Shapes.{default_of}
 use Rattle.ceal_base.specs.declared.forest.Key.{Key}
 use Rattle.ceal_base.specs.declared.forest.Key.TheVariants.{Init, ModInt as IntKey, ModPtr as PtrKey}
 use Rattle.ceal_base.specs.declared.forest.UnitId.{UnitId}
@@ -16,7 +17,7 @@ use Rattle.ceal_code.proofs.TypedInit.{unit-valid}
 use Rattle.ceal_code.specs.Fresh.{ran, only_over, run, fresh}
 use Rattle.ceal_code.specs.Init.{made, pointer}
 use Rattle.ceal_code.specs.Program.{Unit as CodeUnit, Code}
-use Rattle.ceal_code.specs.Step.{Stack, Empty, Run, Act, Over, Quiet, Makes, Writes, Reads, unit_at, command_at, entry_of, entry_in, kinds_of, variable_default, kind_default, bound, entered, chosen, given, woven, started, place_of, writes_at, reads_at, act, landed, settled_at, settled, acted, next}
+use Rattle.ceal_code.specs.Step.{Stack, Empty, Run, Act, Over, Quiet, Makes, Writes, Reads, unit_at, command_at, entry_of, entry_in, kinds_of, variable_default, bound, entered, chosen, given, woven, started, place_of, writes_at, reads_at, act, landed, settled_at, settled, acted, next}
 use Rattle.ceal_code.specs.Valid.{command_ok, onward, path_ok, paths_ok, all_forward, is_tree, with_params, is_core, below as all_below, body_ok, unit_ok, valid, followers}
 use Rattle.ceal_code.specs.Value.{Plain, Variables, set, expr_value, values}
 use Rattle.ceal_code.specs.declared.command.Cmd.{Cmd}
@@ -84,7 +85,7 @@ module _ (code : Code) (ok : valid code ≡ true) where
       go (Some (InitFunction name s params body)) = units-length code.structs code.units
 
   default-is : (u v : ℕ) → variable_default after u v ≡ variable_default code u v
-  default-is u v = ap (λ unit. kind_default (slice_get (kinds_of code unit.function) v)) (unit-is u)
+  default-is u v = ap (λ unit. default_of (slice_get (kinds_of code unit.function) v)) (unit-is u)
 
   given-is : (u v : ℕ) (args : List Word) (w : Word) → given after u v args w ≡ given code u v args w
   given-is u v args w = ap (λ unit. woven unit.params v w args) (unit-is u)

@@ -1,6 +1,7 @@
 -- The type of a folded expression: that of the expression, or that of null where the expression is a pointer.
 use Rattle.std.proofs.Common.{◌≡◌, ℕ, ℤ, ◌==◌, ◌||◌, ◌&&◌, Bool, true, false, if◌then◌else◌, Option, Some, None, List, [], ◌∷◌, ◌⊎◌, inl, inr, refl, sym, ap, ap₂, subst, slice_get, unwrap_or, arith}
 use Rattle.std.specs.Prelude.{⊤}
+use Rattle.ceal_base.specs.Kinds.{is_pointer}
 use Rattle.ceal_base.specs.Operators.{unary_value, binary_value, picked, truth}
 use Rattle.ceal_base.specs.Shapes.{row_at}
 use Rattle.ceal_base.specs.declared.kind.FieldKind.{FieldKind}
@@ -19,7 +20,7 @@ use Rattle.ceal_code.proofs.Picks.{IfPick}
 use Rattle.ceal_code.proofs.Rows.{kind-same}
 use Rattle.ceal_code.proofs.Same.{both, both-true, some-same, none-some}
 use Rattle.ceal_code.proofs.TypeSteps.{type-unary, type-binary, type-field, type-address, row-address}
-use Rattle.ceal_code.specs.Valid.{Typing, is_pointer, is_place, is_content, fits, fits_maybe, one_type, int_if, element_type, binary_type, is_row_of, starts_row, left_suits, operand_suits, variable_type, points_to, plain_type, cell_type, type_of, operand_type, all_fit, params_fit, place_fits, content_fits, write_fits}
+use Rattle.ceal_code.specs.Valid.{Typing, is_place, is_content, fits, fits_maybe, one_type, int_if, element_type, binary_type, is_row_of, starts_row, left_suits, operand_suits, variable_type, points_to, plain_type, cell_type, type_of, operand_type, all_fit, params_fit, place_fits, content_fits, write_fits}
 use Rattle.ceal_code.specs.Value.{field_kind, field_default}
 use Rattle.ceal_code.specs.declared.expr.CodeExpr.{CodeExpr, Num as NumExpr, Null as NullExpr, Var, Unary', Binary', Field', Address', Row_of-CodeExpr, end_of-CodeExpr, more_of-CodeExpr}
 use Rattle.ceal_code.specs.declared.expr.CodeExpr.TheViews.{Binary, Field, Address}

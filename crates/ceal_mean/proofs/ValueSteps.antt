@@ -3,6 +3,7 @@ use Rattle.std.proofs.Common.{◌≡◌, ℕ, ℤ, Option, List, refl}
 use Rattle.ceal_base.specs.Access.{field_of, address_of}
 use Rattle.ceal_base.specs.Block.{Blocks}
 use Rattle.ceal_base.specs.Operators.{unary_value, binary_value}
+use Rattle.ceal_base.specs.Shapes.{default_of}
 use Rattle.ceal_base.specs.declared.kind.Kind.{Kind}
 use Rattle.ceal_base.specs.declared.fault.Span.{Span}
 use Rattle.ceal_base.specs.declared.operators.Binary.{Binary as BinaryOp}
@@ -13,7 +14,7 @@ use Rattle.ceal_base.specs.declared.typed.TypedForm.TheBlock.{hidden-the_row-Typ
 use Rattle.ceal_base.specs.declared.typed.TypedForm.TheViews.{Unary, Binary, Field, Address}
 use Rattle.ceal_base.specs.declared.word.Word.{Word}
 use Rattle.ceal_base.specs.declared.word.Word.TheVariants.{Num, Null}
-use Rattle.ceal_mean.specs.Value.{value_of, form_value, default_of, variable_of}
+use Rattle.ceal_mean.specs.Value.{value_of, form_value, variable_of}
 
 module _ (env : List Word) (m : Blocks) (kind : Option Kind) where
   pub value-unary : (op : UnaryOp) (a : TypedExpr) → form_value env m kind (Unary op a) ≡ unary_value op (value_of env m a)

@@ -3,18 +3,13 @@ use Rattle.std.specs.Prelude.{ℕ, Option, Some, None, List, slice_get, unwrap_o
 use Rattle.ceal_base.specs.Access.{field_of, address_of}
 use Rattle.ceal_base.specs.Block.{Blocks}
 use Rattle.ceal_base.specs.Operators.{unary_value, binary_value}
-use Rattle.ceal_base.specs.Shapes.{default_of_kind}
+use Rattle.ceal_base.specs.Shapes.{default_of}
 use Rattle.ceal_base.specs.declared.kind.Kind.{Kind}
 use Rattle.ceal_base.specs.declared.typed.TypedExpr.{TypedExpr}
 use Rattle.ceal_base.specs.declared.typed.TypedForm.TheBlock.{Row_of-TypedExpr, end_of-TypedExpr, more_of-TypedExpr}
 use Rattle.ceal_base.specs.declared.typed.TypedForm.{TypedForm, Num as NumForm, Null as NullForm, Var, Own, Unary', Binary', Field', Address'}
 use Rattle.ceal_base.specs.declared.word.Word.{Word}
 use Rattle.ceal_base.specs.declared.word.Word.TheVariants.{Num, Null}
-
--- the default of an expression's type; `null` alone has no type, and is null
-abbrev pub default_of : Option Kind → Word
-default_of (Some kind) = default_of_kind kind
-default_of None = Null
 
 -- the word of a variable
 abbrev pub variable_of : List Word → ℕ → Word

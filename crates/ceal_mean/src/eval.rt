@@ -1,8 +1,8 @@
 // The values of expressions.
 
 ghost use Rattle.std.specs.Prelude.{◌≡◌, slice_get, unwrap_or};
-ghost use Rattle.ceal_base.specs.Shapes.{default_of_kind};
-ghost use Rattle.ceal_mean.specs.Value.{default_of, variable_of, value_of, values_of};
+ghost use Rattle.ceal_base.specs.Shapes.{default_of_kind, default_of};
+ghost use Rattle.ceal_mean.specs.Value.{variable_of, value_of, values_of};
 
 use ceal_base::access::{address, field};
 use ceal_base::kind::Kind;

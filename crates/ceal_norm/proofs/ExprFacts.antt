@@ -2,6 +2,7 @@
 use Rattle.std.proofs.Common.{◌≡◌, inl, inr, ℕ, ◌<◌, ◌&&◌, Bool, true, false, Option, Some, None, IsSome, if◌then◌else◌, List, [], ◌∷◌, length, map, slice_get, unwrap_or, Contains, All, refl, sym, ap, ap₂, ◌∙◌, subst}
 use Rattle.std.proofs.lemmas.Bool.{lt-ltb}
 use Rattle.std.proofs.lemmas.List.Elements.{All-head, All-tail}
+use Rattle.ceal_base.specs.Kinds.{same_kind, is_pointer}
 use Rattle.ceal_base.specs.Usage.{WithoutOwn, OperandWithoutOwn}
 use Rattle.ceal_base.specs.WellTyped.{Context, FormTyped, OperandTyped, ExprTyped, OperandsSuit, LeftSuits, StartsRow, FormStartsRow, kind_given, Comparable, Suits, IsPointer, operand_kind, plain_kind, address_kind, ArgsSuit}
 use Rattle.ceal_base.specs.declared.kind.FieldKind.{FieldKind}
@@ -17,7 +18,7 @@ use Rattle.ceal_base.specs.declared.typed.TypedForm.TheBlock.{Row_of-TypedExpr, 
 use Rattle.ceal_base.specs.declared.typed.TypedForm.{TypedForm, Num, Null, Var, Own, Unary', Binary', Field', Address'}
 use Rattle.ceal_code.proofs.Same.{both-true, nat-refl}
 use Rattle.ceal_code.proofs.TypeSteps.{type-num, type-null, type-var, type-unary, type-binary, type-field, type-address, row-address}
-use Rattle.ceal_code.specs.Valid.{type_of, fits, int_if, one_type, same_kind, is_pointer, binary_type, is_row_of, starts_row, left_suits, variable_type, points_to, plain_type, cell_type, all_fit}
+use Rattle.ceal_code.specs.Valid.{type_of, fits, int_if, one_type, binary_type, is_row_of, starts_row, left_suits, variable_type, points_to, plain_type, cell_type, all_fit}
 use Rattle.ceal_code.specs.Value.{field_kind}
 use Rattle.ceal_code.specs.declared.typing.ExprType.{ExprType}
 use Rattle.ceal_code.specs.declared.typing.ExprType.TheVariants.{Of, AnyPointer}

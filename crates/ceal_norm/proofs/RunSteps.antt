@@ -5,7 +5,7 @@ use Rattle.std.proofs.lemmas.List.Elements.{Contains-push, Contains-append_left,
 use Rattle.ceal_base.specs.Access.{content_of, written, holds}
 use Rattle.ceal_base.specs.Block.{Blocks, block_at}
 use Rattle.ceal_base.specs.Finished.{Finished, with_block}
-use Rattle.ceal_base.specs.Shapes.{default_of_kind, default_block}
+use Rattle.ceal_base.specs.Shapes.{default_of_kind, default_block, default_of}
 use Rattle.ceal_base.specs.Usage.{CoreUsage, FunctionUsage, ValueUsage, KeepsUsage, IsCore, IsInitialiser}
 use Rattle.ceal_base.specs.WellTyped.{ExprTyped, ExprSuits, ValueTyped, StmtTyped, FunctionTyped, WellTyped, kind_held, numbers_below}
 use Rattle.ceal_base.specs.declared.forest.Key.TheVariants.{Init as InitKey, ModInt as IntKey, ModPtr as PtrKey}
@@ -25,7 +25,7 @@ use Rattle.ceal_base.specs.declared.word.Word.TheVariants.{Num, Null, Block as B
 use Rattle.ceal_code.specs.Fresh.{ran, only_over}
 use Rattle.ceal_code.specs.Init.{made, made_by as code_made_by, arguments}
 use Rattle.ceal_code.specs.Program.{Code}
-use Rattle.ceal_code.specs.Step.{Stack, Run, Act as CodeAct, command_at, entry_of, kind_default, variable_default, entered as code_entered, given as code_given, woven, place_of, reads_at, writes_at, act}
+use Rattle.ceal_code.specs.Step.{Stack, Run, Act as CodeAct, command_at, entry_of, variable_default, entered as code_entered, given as code_given, woven, place_of, reads_at, writes_at, act}
 use Rattle.ceal_code.specs.Value.{Variables, set as set_variable, expr_value, values}
 use Rattle.ceal_code.specs.declared.command.Cmd.{Cmd}
 use Rattle.ceal_code.specs.declared.command.Cmd.TheVariants.{Move, Alloc, Modref, Write as WriteCmd, If, Read, Call as CallCmd}
@@ -293,7 +293,7 @@ module _ (p : Typed) (sets : List (List ℕ)) (typed : WellTyped p) (kept : Keep
         -- what a read through null gives
         null-given : (held : Option Kind) → is_entry graph next ≡ true → kind_held held ≡ Some kind → variable_default the_code (entry_unit p sets next) n ≡ content_default held
         null-given held e h =
-            ap (λ ks. kind_default (slice_get ks n)) (unit-kinds p sets next e (spot-at next after stands)) ∙ ap kind_default has ∙ sym (content-default held kind h)
+            ap (λ ks. default_of (slice_get ks n)) (unit-kinds p sets next e (spot-at next after stands)) ∙ ap default_of has ∙ sym (content-default held kind h)
 
         read-along : (w w' : Word) (held : Option Kind) → is_entry graph next ≡ true → w ≡ w' → kind_held held ≡ Some kind
             → AllAlong p sets (record { block = next; env = slice_set q.env n (content_of m w' (content_default held)) } ∷ points)

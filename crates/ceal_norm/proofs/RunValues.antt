@@ -4,6 +4,7 @@ use Rattle.std.proofs.lemmas.List.Elements.{All-head, All-tail}
 use Rattle.ceal_base.specs.Access.{pointed, word_in, place_in}
 use Rattle.ceal_base.specs.Block.{Block, Blocks, block_at}
 use Rattle.ceal_base.specs.Operators.{unary_value, binary_value}
+use Rattle.ceal_base.specs.Shapes.{default_of}
 use Rattle.ceal_base.specs.WellTyped.{Context, FormTyped, OperandTyped, ExprTyped, plain_kind, address_kind}
 use Rattle.ceal_base.specs.declared.kind.FieldKind.{FieldKind}
 use Rattle.ceal_base.specs.declared.kind.FieldKind.TheVariants.{Plain as PlainField, CellInt, CellPtr}
@@ -25,7 +26,7 @@ use Rattle.ceal_code.specs.declared.expr.CodeExpr.TheViews as code
 use Rattle.ceal_code.specs.declared.expr.VarId.{VarId}
 use Rattle.ceal_flow.specs.Live.{form_mentions, operand_mentions, mentions, all_mentions}
 use Rattle.ceal_flow.specs.Sets.{is_in}
-use Rattle.ceal_mean.specs.Value.{default_of, variable_of, form_value, operand_value, value_of, values_of}
+use Rattle.ceal_mean.specs.Value.{variable_of, form_value, operand_value, value_of, values_of}
 use Rattle.ceal_norm.specs.Expressions.{variable, form_code, operand_code, expr_code}
 use Rattle.ceal_norm.specs.Units.{arg_at}
 use Rattle.ceal_norm.proofs.Facts.{in-first, in-left, in-right}

@@ -1,5 +1,5 @@
-use Rattle.ceal_code.proofs.Ends.{ended-law}
+use Rattle.ceal_code.proofs.Ends.{ended-law, state-law}
 use Rattle.ceal_code.proofs.laws.ended_law.Goals as goal
 
 pub returns : goal.returns
-returns c = record { law = ended-law }
+returns c = record { law = ended-law; states = state-law }

@@ -1,6 +1,5 @@
-use Rattle.std.proofs.Common.{◌≡◌, ◌-◌, ◌+◌, ◌≤◌, ◌∙◌, sym, length, drop, take, arith}
+use Rattle.std.proofs.Common.{◌-◌, ◌∙◌, sym, length, drop, arith}
 use Rattle.ceal_code.specs.Init.{arguments}
-use Rattle.ceal_code.specs.Weaving.{others}
 use Rattle.ceal_code.proofs.StackSteps.{no-arguments}
 use Rattle.ceal_code.proofs.GivenSteps.{others-all, others-next, given-none, given-next, given-all}
 use Rattle.ceal_code.proofs.stack.bind_given.Goals as goal

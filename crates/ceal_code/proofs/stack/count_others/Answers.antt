@@ -1,4 +1,4 @@
-use Rattle.std.proofs.Common.{◌≡◌, ◌+◌, ◌≤◌, ◌∙◌, sym, refl, arith}
+use Rattle.std.proofs.Common.{◌+◌, ◌∙◌, sym, refl, arith}
 use Rattle.ceal_code.proofs.GivenSteps.{others-none, others-next, others-all}
 use Rattle.ceal_code.proofs.stack.count_others.Goals as goal
 
