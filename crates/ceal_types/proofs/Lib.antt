@@ -19,3 +19,10 @@ pub mod RowLemmas
 pub mod ElementLemmas
 pub mod NumberLemmas
 pub mod FirstLemmas
+pub mod ResolveLemmas
+pub mod ExpressionResolved
+pub mod ExpressionComplete
+pub mod StatementResolved
+pub mod ProgramResolved
+pub mod StatementComplete
+pub mod ProgramComplete

@@ -36,18 +36,18 @@ use Rattle.ceal_types.proofs.StatementTyped.{NestedGood, nested-good, stmts-good
 use Rattle.ceal_types.proofs.ValueTyped.{HasHead, HeadsMatch}
 
 -- what a function shows of its head
-record View : Type 0 where
-  name : Name
-  own : Option ℕ
-  kinds : List Kind
+pub record View : Type 0 where
+  pub name : Name
+  pub own : Option ℕ
+  pub kinds : List Kind
 
-view : TypedFunction → View
+unfoldable pub view : TypedFunction → View
 view t = record { name = t.name.text; own = t.initialiser; kinds = param_kinds t }
 
-head_view : Name × Head → View
+unfoldable pub head_view : Name × Head → View
 head_view h = record { name = h.0; own = h.1.own; kinds = h.1.parameters.kinds }
 
-view_name : View → Name
+pub view_name : View → Name
 view_name v = v.name
 
 -- a function is typed with the head of its declaration
@@ -69,13 +69,13 @@ function-headed p f =
     }))
 
 -- one more function of the heads, and of the bodies
-record HeadAdded (f : FunctionDecl) (q r : Program) : Type 0 where
-  head : Head
-  is : head_of q.names f ≡ Ok head
-  names : r.names ≡ q.names
-  functions : r.functions ≡ q.functions ++ (f.name.text, head) ∷ []
+pub record HeadAdded (f : FunctionDecl) (q r : Program) : Type 0 where
+  pub head : Head
+  pub is : head_of q.names f ≡ Ok head
+  pub names : r.names ≡ q.names
+  pub functions : r.functions ≡ q.functions ++ (f.name.text, head) ∷ []
 
-head-added : (f : FunctionDecl) (q : Program) → IfOk (with_entry (Function f) q) (HeadAdded f q)
+pub head-added : (f : FunctionDecl) (q : Program) → IfOk (with_entry (Function f) q) (HeadAdded f q)
 unfolding with_entry
 head-added f q =
     if-keeps (HeadAdded f q) (has q.functions f.name.text) (fault N2 f.name.span) (mapped (with_function q f.name.text) (head_of q.names f)) (λ b. tt)
@@ -93,7 +93,7 @@ body-added p f gs =
     mapped-keeps (Headed p.names f) (BodyAdded p f gs) (at_end gs) (typed_function p f) (function-headed p f)
     (λ t h. record { function = t; headed = h; functions = refl })
 
-struct-added : (s : StructDecl) (q : Program) → IfOk (with_entry (Struct s) q) (λ r. (r.names ≡ q.names) × (r.functions ≡ q.functions))
+pub struct-added : (s : StructDecl) (q : Program) → IfOk (with_entry (Struct s) q) (λ r. (r.names ≡ q.names) × (r.functions ≡ q.functions))
 unfolding with_entry
 struct-added s q =
     if-keeps (λ r. (r.names ≡ q.names) × (r.functions ≡ q.functions)) (has q.structs s.name.text) (fault N2 s.name.span)
@@ -101,13 +101,13 @@ struct-added s q =
     (λ none. mapped-keeps (λ v. Unit {0}) (λ r. (r.names ≡ q.names) × (r.functions ≡ q.functions)) (with_struct q s.name.text) (in_turn (with_field q.names) s.fields [])
     (any-ok (in_turn (with_field q.names) s.fields [])) (λ v u. (refl, refl)))
 
-same-ok : {A : Type 0} (x y : A) → ◌≡◌ {A = Result A Fault} (Ok x) (Ok y) → x ≡ y
+pub same-ok : {A : Type 0} (x y : A) → ◌≡◌ {A = Result A Fault} (Ok x) (Ok y) → x ≡ y
 same-ok x y h = cc
 
 -- the functions so far show the heads so far
-record Shown (p q : Program) (gs : List TypedFunction) : Type 0 where
-  names : q.names ≡ p.names
-  views : map view gs ≡ map head_view q.functions
+pub record Shown (p q : Program) (gs : List TypedFunction) : Type 0 where
+  pub names : q.names ≡ p.names
+  pub views : map view gs ≡ map head_view q.functions
 
 shown-entry : (p : Program) (e : Entry) (q r : Program) (gs hs : List TypedFunction) → Shown p q gs → with_entry e q ≡ Ok r → with_body p e gs ≡ Ok hs → Shown p r hs
 unfolding with_body
@@ -129,7 +129,7 @@ shown-entry p (Function f) q r gs hs shown heads here =
       views = rw (body.functions, added.functions, map-append view gs (body.function ∷ []), map-append head_view q.functions ((f.name.text, added.head) ∷ []), shown.views, last) refl;
     }
 
-shown-all : (p : Program) (entries : List Entry) (q r : Program) (gs hs : List TypedFunction) → Shown p q gs
+pub shown-all : (p : Program) (entries : List Entry) (q r : Program) (gs hs : List TypedFunction) → Shown p q gs
     → in_turn with_entry entries q ≡ Ok r → in_turn (with_body p) entries gs ≡ Ok hs → Shown p r hs
 unfolding in_turn
 shown-all p [] q r gs hs shown heads here =
@@ -161,24 +161,24 @@ value-there heads n f (Some e) is h = (e.0, is ∙ ap (λ (g : Head). Some (e.0,
     some-same : (a b : Head) → Some a ≡ Some b → a ≡ b
     some-same a b p = cc
 
-heads-match : (heads : List (Name × Head)) (fs : List TypedFunction) → map view fs ≡ map head_view heads → HeadsMatch heads fs
+pub heads-match : (heads : List (Name × Head)) (fs : List TypedFunction) → map view fs ≡ map head_view heads → HeadsMatch heads fs
 heads-match heads fs views n f h =
     let there = value-there heads n f (slice_get heads n) refl h in
     let at : option_map view (slice_get fs n) ≡ Some (head_view (there.0, f)) =
     sym (slice_get-map view fs n) ∙ ap (λ (l : List View). slice_get l n) views ∙ slice_get-map head_view heads n ∙ ap (option_map head_view) there.1 in
     has-head fs n there.0 f (slice_get fs n) refl at
 
-names-of-functions : (fs : List TypedFunction) → map function_name fs ≡ map view_name (map view fs)
+pub names-of-functions : (fs : List TypedFunction) → map function_name fs ≡ map view_name (map view fs)
 unfolding view view_name
 names-of-functions [] = refl
 names-of-functions (f ∷ fs) = ap (λ (l : List Name). f.name.text ∷ l) (names-of-functions fs)
 
-names-of-heads : (heads : List (Name × Head)) → map view_name (map head_view heads) ≡ keys_of heads
+pub names-of-heads : (heads : List (Name × Head)) → map view_name (map head_view heads) ≡ keys_of heads
 unfolding head_view view_name
 names-of-heads [] = refl
 names-of-heads (h ∷ heads) = ap (λ (l : List Name). h.0 ∷ l) (names-of-heads heads)
 
-names-of-structs : (structs : List (Name × Fields)) → map struct_name (map struct_info structs) ≡ keys_of structs
+pub names-of-structs : (structs : List (Name × Fields)) → map struct_name (map struct_info structs) ≡ keys_of structs
 names-of-structs [] = refl
 names-of-structs (s ∷ structs) = ap (λ (l : List Name). s.0 ∷ l) (names-of-structs structs)
 

@@ -65,7 +65,7 @@ unfolding all_declarations
 declarations-push [] s = omega arith
 declarations-push (x ∷ xs) s = omega (arith, declarations-push xs s)
 
-row-declarations : (xs : List TypedStmt) → row_declarations (hidden-the_row-TypedStmt-0 xs) ≡ all_declarations xs
+pub row-declarations : (xs : List TypedStmt) → row_declarations (hidden-the_row-TypedStmt-0 xs) ≡ all_declarations xs
 unfolding declarations all_declarations hidden-the_row-TypedStmt-0 shape-the_row-TypedStmt-0 denote.Hole.Carrier.hidden
 row-declarations [] = refl
 row-declarations (s ∷ xs) = ap (λ (n : ℕ). declarations s + n) (row-declarations xs)

@@ -1,11 +1,20 @@
--- A law of names and types.
+-- Laws of names and types.
 use Rattle.std.specs.Prelude.{◌≡◌, Ok}
 use Rattle.ceal_base.specs.WellTyped.{WellTyped}
 use Rattle.ceal_base.specs.declared.syntax.Tree.{Tree}
 use Rattle.ceal_base.specs.declared.typed.Typed.{Typed}
 use Rattle.ceal_types.specs.Checked.{checked}
 use Rattle.ceal_types.specs.Limits.{HasShortLists}
+use Rattle.ceal_types.specs.Resolves.{Resolves}
 
 -- the program of a tree with short lists is well typed
 abbrev pub TypedLaw : Type 0
 TypedLaw = (tree : Tree) (p : Typed) → HasShortLists tree → checked tree ≡ Ok p → WellTyped p
+
+-- in the program of a tree each name has the number of what it stands for
+abbrev pub ResolvedLaw : Type 0
+ResolvedLaw = (tree : Tree) (p : Typed) → checked tree ≡ Ok p → Resolves tree p
+
+-- nothing well typed is refused: a well typed program with which a tree agrees is the program of the tree
+abbrev pub CompleteLaw : Type 0
+CompleteLaw = (tree : Tree) (p : Typed) → Resolves tree p → WellTyped p → checked tree ≡ Ok p

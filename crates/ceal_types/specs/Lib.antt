@@ -7,6 +7,7 @@ pub mod Expressions
 pub mod Statements
 pub mod Checked
 pub mod Limits
+pub mod Resolves
 pub mod Laws
 pub mod Numbers
 -- what its own functions say of each other

@@ -1,0 +1,5 @@
+use Rattle.ceal_types.proofs.ProgramComplete.{answered-complete}
+use Rattle.ceal_types.proofs.laws.complete_law.Goals as goal
+
+pub returns : goal.returns
+returns c = record { law = answered-complete }
