@@ -1,5 +1,5 @@
 -- The bases of the modifiables of a block are set, field by field.
-use Rattle.std.proofs.Common.{◌≡◌, ◌<◌, ◌≤◌, ◌+◌, ◌==◌, ℕ, pos, inl, inr, Bool, true, false, Some, List, refl, sym, ap, ◌∙◌, arith, slice_get, unwrap_or}
+use Rattle.std.proofs.Common.{◌≡◌, ◌<◌, ◌≤◌, ◌+◌, ◌==◌, ℕ, pos, inl, inr, Bool, true, false, Some, List, if◌then◌else◌, refl, sym, ap, ◌∙◌, arith, slice_get, unwrap_or}
 use Rattle.std.proofs.lemmas.Bool.Decides.{eqb_tells}
 use Rattle.ceal_base.specs.Block.{Block}
 use Rattle.ceal_base.specs.Operators.{same_block}
@@ -26,12 +26,28 @@ use Rattle.ceal_repair.specs.declared.tables.Tables.{Tables}
 pub reads-same : (old t : Tables) → Kept old → Kept t → t.trace ≡ old.trace → (p : Place) → (cell_of t.mods p).reads ≡ (cell_of old.mods p).reads
 reads-same old t k l e p = l.step.tabled.reads p ∙ rw e (sym (k.step.tabled.reads p))
 
-module _ (structs : List StructInfo) (id : BlockId) (shape : Shape) (words : List Word) where
-  -- how far the fields of a block have their bases
+-- reads that are queued in two steps are those of the places of one block
+pub only-both : (id : BlockId) (old mid new : Tables) → Kept old → Kept mid → mid.trace ≡ old.trace
+    → ((s : ℕ) → is_in s mid.stale.stamps ≡ true → is_in s old.stale.stamps ≡ false → (p : Place) × (same_block p.block id ≡ true) × (is_in s (cell_of old.mods p).reads ≡ true))
+    → ((s : ℕ) → is_in s new.stale.stamps ≡ true → is_in s mid.stale.stamps ≡ false → (p : Place) × (same_block p.block id ≡ true) × (is_in s (cell_of mid.mods p).reads ≡ true))
+    → (s : ℕ) → is_in s new.stale.stamps ≡ true → is_in s old.stale.stamps ≡ false → (p : Place) × (same_block p.block id ≡ true) × (is_in s (cell_of old.mods p).reads ≡ true)
+only-both id old mid new ko km trace first second s i was_not = go (is_in s mid.stale.stamps) refl
+  where
+    go : (b : Bool) → is_in s mid.stale.stamps ≡ b → (p : Place) × (same_block p.block id ≡ true) × (is_in s (cell_of old.mods p).reads ≡ true)
+    go true was = first s was was_not
+    go false was = let found = second s i was in (found.0, found.1, rw (← reads-same old mid ko km trace found.0) found.2)
+
+-- the word of a field, or its default where there is none
+pub set-word : (structs : List StructInfo) (shape : Shape) (words : List Word) (n : ℕ) (kind : FieldKind) (word : Word) → Some kind ≡ field_kind structs shape n
+    → word ≡ unwrap_or (slice_get words n) (default_of_field kind) → word ≡ unwrap_or (slice_get words n) (field_default (field_kind structs shape n))
+set-word structs shape words n kind word is_kind is = rw (← is_kind) is
+
+module _ (structs : List StructInfo) (id : BlockId) (shape : Shape) (value : ℕ → Word) where
+  -- how far the modifiables of a block have these bases, by their fields
   pub record Setting (old t : Tables) (n : ℕ) : Type 0 where
     pub trace : t.trace ≡ old.trace
     pub memo : t.memo ≡ old.memo
-    pub here : (p : Place) → same_block p.block id ≡ true → p.field < n → base_in t.mods p ≡ base_of structs shape words p.field (base_in old.mods p)
+    pub here : (p : Place) → same_block p.block id ≡ true → p.field < n → base_in t.mods p ≡ (if is_cell (field_kind structs shape p.field) then value p.field else base_in old.mods p)
     pub later : (p : Place) → same_block p.block id ≡ true → n ≤ p.field → base_in t.mods p ≡ base_in old.mods p
     pub others : (p : Place) → same_block p.block id ≡ false → base_in t.mods p ≡ base_in old.mods p
     pub only : (s : ℕ) → is_in s t.stale.stamps ≡ true → is_in s old.stale.stamps ≡ false → (p : Place) × (same_block p.block id ≡ true) × (is_in s (cell_of old.mods p).reads ≡ true)
@@ -52,21 +68,21 @@ module _ (structs : List StructInfo) (id : BlockId) (shape : Shape) (words : Lis
       plain : is_cell (field_kind structs shape n) ≡ false
       plain = rw (← is_kind) not_cell
 
-      here-too : (p : Place) → same_block p.block id ≡ true → p.field < n + 1 → base_in t.mods p ≡ base_of structs shape words p.field (base_in old.mods p)
+      here-too : (p : Place) → same_block p.block id ≡ true → p.field < n + 1 → base_in t.mods p ≡ (if is_cell (field_kind structs shape p.field) then value p.field else base_in old.mods p)
       here-too p e l = elim (eqb_tells p.field n) [
         | inl q ↦ let none : is_cell (field_kind structs shape p.field) ≡ false = rw q.1 plain in rw none (s.later p e (omega (arith, q.1)))
         | inr q ↦ s.here p e (omega (arith, l, q.1))
       ]
 
   -- a field that is one
-  pub setting-more : (old t t' : Tables) (n : ℕ) (value : Word) → Kept old → Setting old t n → (kind : FieldKind) → Some kind ≡ field_kind structs shape n → is_cell (Some kind) ≡ true
-      → value ≡ unwrap_or (slice_get words n) (default_of_field kind)
+  pub setting-more : (old t t' : Tables) (n : ℕ) (word : Word) → Kept old → Setting old t n → (kind : FieldKind) → Some kind ≡ field_kind structs shape n → is_cell (Some kind) ≡ true
+      → word ≡ value n
       → t'.trace ≡ t.trace → t'.memo ≡ t.memo
-      → ((p : Place) → base_in t'.mods p ≡ stored (base_in t.mods) (record { block = id; field = n }) value p)
+      → ((p : Place) → base_in t'.mods p ≡ stored (base_in t.mods) (record { block = id; field = n }) word p)
       → ((s : ℕ) → is_in s t'.stale.stamps ≡ true → is_in s t.stale.stamps ≡ false → is_in s (cell_of t.mods (record { block = id; field = n })).reads ≡ true)
       → Kept t' → Setting old t' (n + 1)
   unfolding stored
-  setting-more old t t' n value ko s kind is_kind is_cell_kind is_value trace memo base only kept = record {
+  setting-more old t t' n word ko s kind is_kind is_cell_kind is trace memo base only kept = record {
     trace = trace ∙ s.trace;
     memo = memo ∙ s.memo;
     here = here-too;
@@ -82,14 +98,11 @@ module _ (structs : List StructInfo) (id : BlockId) (shape : Shape) (words : Lis
       cell : is_cell (field_kind structs shape n) ≡ true
       cell = rw (← is_kind) is_cell_kind
 
-      is : value ≡ unwrap_or (slice_get words n) (field_default (field_kind structs shape n))
-      is = rw (← is_kind) is_value
-
-      here-too : (p : Place) → same_block p.block id ≡ true → p.field < n + 1 → base_in t'.mods p ≡ base_of structs shape words p.field (base_in old.mods p)
+      here-too : (p : Place) → same_block p.block id ≡ true → p.field < n + 1 → base_in t'.mods p ≡ (if is_cell (field_kind structs shape p.field) then value p.field else base_in old.mods p)
       here-too p e l = elim (eqb_tells p.field n) [
         | inl q ↦
             let here : is_cell (field_kind structs shape p.field) ≡ true = rw q.1 cell in
-            let is_here : value ≡ unwrap_or (slice_get words p.field) (field_default (field_kind structs shape p.field)) = rw q.1 is in
+            let is_here : word ≡ value p.field = rw q.1 is in
             base p ∙ rw (e, q.0, here) is_here
         | inr q ↦ base p ∙ rw (e, q.0) (s.here p e (omega (arith, l, q.1)))
       ]

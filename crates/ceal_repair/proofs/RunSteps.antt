@@ -1,5 +1,5 @@
 -- A run begins, and makes blocks.
-use Rattle.std.proofs.Common.{◌≡◌, ◌≢◌, ◌<◌, ◌≤◌, ℕ, zero, suc, ◌==◌, nat_le, pos, inl, inr, Bool, true, false, if◌then◌else◌, Some, None, List, [], ◌∷◌, length, refl, sym, ap, ap₂, subst, ◌∙◌, slice_get, arith}
+use Rattle.std.proofs.Common.{◌≡◌, ◌≢◌, ◌<◌, ◌≤◌, ℕ, zero, suc, ◌==◌, nat_le, pos, inl, inr, Bool, true, false, if◌then◌else◌, Option, Some, None, List, [], ◌∷◌, length, refl, sym, ap, ap₂, subst, ◌∙◌, slice_get, arith}
 use Rattle.std.proofs.lemmas.Bool.Decides.{eqb_tells}
 use Rattle.ceal_base.specs.Block.{Block}
 use Rattle.ceal_base.specs.Operators.{same_block}
@@ -17,11 +17,11 @@ use Rattle.ceal_code.specs.Init.{made}
 use Rattle.ceal_code.specs.Program.{Code}
 use Rattle.ceal_code.specs.Replay.{cell_default, content_in, shape_of}
 use Rattle.ceal_code.specs.Value.{Plain, is_cell, field_kind, field_default}
-use Rattle.ceal_heap.specs.Heap.{Contents, IsFreeFor, IsMade, IsNew, KeepsBlocks, standing, plain_of}
+use Rattle.ceal_heap.specs.Heap.{Contents, IsFree, IsMade, IsNew, KeepsBlocks, standing, plain_of}
 use Rattle.ceal_mods.specs.Mods.{Contents as Mods, IsUntouched}
 use Rattle.ceal_mods.specs.declared.cell.Cell.{Cell}
 use Rattle.ceal_order.specs.Stamps.{is_in}
-use Rattle.ceal_repair.specs.Words.{HasBases, default_of, base_of}
+use Rattle.ceal_repair.specs.Words.{HasBases, default_of, base_of, cleared}
 use Rattle.ceal_repair.specs.Kept.{Kept, base_in}
 use Rattle.ceal_repair.specs.declared.tables.Tables.{Tables}
 use Rattle.ceal_trace.specs.Nodes.{new_entry, is_read, held_by}
@@ -78,28 +78,25 @@ past-last : {A : Type 0} (xs : List A) → slice_get xs (length xs) ≡ None
 past-last [] = refl
 past-last (x ∷ xs) = past-last xs
 
--- where a number is free for a shape, its modifiables of that shape alone may have another base than 0
-free-plain : (structs : List StructInfo) (heap : Contents) (id : BlockId) (shape : Shape) (field : ℕ) → IsFreeFor shape heap id → is_cell (field_kind structs shape field) ≡ false
-    → default_of structs (standing heap id) field ≡ Num (pos 0)
-free-plain structs heap id shape field free plain = elim free [
-  | inl released ↦ rw (released, plain) refl
-  | inr next ↦ rw (next.0, past-last heap.numbers) refl
-]
+-- where the modifiables of the last block are set back, each base of a number that is free is 0
+free-bare : (structs : List StructInfo) (heap : Contents) (id : BlockId) (before : Option Shape) (field : ℕ) → IsFree heap id before
+    → cleared structs before field (default_of structs (standing heap id) field) ≡ Num (pos 0)
+free-bare structs heap id None field free = rw (free.0, past-last heap.numbers) refl
+free-bare structs heap id (Some shape) field free = rw free (go (is_cell (field_kind structs shape field)))
+  where
+    go : (b : Bool) → (if b then Num (pos 0) else (if b then field_default (field_kind structs shape field) else Num (pos 0))) ≡ Num (pos 0)
+    go true = refl
+    go false = refl
 
 module _ (structs : List StructInfo) (inputs : List Block) (heap heap' : Contents) (mods mods' : Mods) (id : BlockId) (shape : Shape) (key : Key) (words : List Word) where
-  pub made-bases : IsFreeFor shape heap id → IsMade heap' id shape key words → KeepsBlocks id heap heap'
-      → ((p : Place) → same_block p.block id ≡ true → base_in mods' p ≡ base_of structs shape [] p.field (base_in mods p))
+  pub made-bases : (before : Option Shape) → IsFree heap id before → IsMade heap' id shape key words → KeepsBlocks id heap heap'
+      → ((p : Place) → same_block p.block id ≡ true → base_in mods' p ≡ base_of structs shape [] p.field (cleared structs before p.field (base_in mods p)))
       → ((p : Place) → same_block p.block id ≡ false → base_in mods' p ≡ base_in mods p)
       → HasBases structs inputs heap mods → HasBases structs inputs heap' mods'
-  made-bases free new_one kept here others h = record { of_cores = cores; of_inputs = of_inputs }
+  made-bases before free new_one kept here others h = record { of_cores = cores; of_inputs = of_inputs }
     where
-      default-here : (field : ℕ) (now : Word) → (is_cell (field_kind structs shape field) ≡ false → now ≡ Num (pos 0)) → base_of structs shape [] field now ≡ cell_default (field_kind structs shape field)
-      default-here field now plain = go (is_cell (field_kind structs shape field)) refl
-        where
-          go : (b : Bool) → is_cell (field_kind structs shape field) ≡ b
-              → (if b then field_default (field_kind structs shape field) else now) ≡ (if b then field_default (field_kind structs shape field) else Num (pos 0))
-          go true e = refl
-          go false e = plain e
+      default-here : (field : ℕ) (now : Word) → now ≡ Num (pos 0) → base_of structs shape [] field now ≡ cell_default (field_kind structs shape field)
+      default-here field now bare = rw bare refl
 
       cores : (b field : ℕ) → base_in mods' (record { block = Core b; field = field }) ≡ default_of structs (standing heap' (Core b)) field
       cores b field = go (same_block (Core b) id) refl
@@ -108,7 +105,8 @@ module _ (structs : List StructInfo) (inputs : List Block) (heap heap' : Content
           go true e =
               let is : Core b ≡ id = block-same (Core b) id e in
               here (record { block = Core b; field = field }) e
-              ∙ (default-here field (base_in mods (record { block = Core b; field = field })) (λ plain. h.of_cores b field ∙ subst (λ i. default_of structs (standing heap i) field ≡ Num (pos 0)) (sym is) (free-plain structs heap id shape field free plain))
+              ∙ (default-here field (cleared structs before field (base_in mods (record { block = Core b; field = field })))
+              (ap (λ w. cleared structs before field w) (h.of_cores b field) ∙ subst (λ i. cleared structs before field (default_of structs (standing heap i) field) ≡ Num (pos 0)) (sym is) (free-bare structs heap id before field free))
               ∙ subst (λ i. cell_default (field_kind structs shape field) ≡ default_of structs (standing heap' i) field) (sym is) (rw new_one.1 refl))
           go false e =
               let away : Core b ≢ id = λ same. let clash : true ≡ false = sym (block-refl (Core b)) ∙ (rw (← same) at e) in cc in

@@ -1,5 +1,5 @@
 -- The plain words and the bases of a run.
-use Rattle.std.specs.Prelude.{◌≡◌, ℕ, pos, true, List, slice_get, unwrap_or, if◌then◌else◌}
+use Rattle.std.specs.Prelude.{◌≡◌, ℕ, pos, true, Option, Some, None, List, [], slice_get, unwrap_or, if◌then◌else◌}
 use Rattle.ceal_base.specs.Block.{Block}
 use Rattle.ceal_base.specs.declared.kind.Shape.{Shape}
 use Rattle.ceal_base.specs.declared.typed.StructInfo.{StructInfo}
@@ -18,7 +18,8 @@ use Rattle.ceal_theory.specs.Slices.{with_inputs}
 unfoldable pub words_of : Code → List Block → Contents → Plain
 words_of code inputs heap = with_inputs code inputs (plain_of heap)
 
--- what a modifiable of a number of this standing holds before any write: a number keeps its shape; 0 where there is none
+-- what a modifiable of a number of this standing holds before any write: the default of its kind by the shape of the block, or of the
+-- last one where the number is free; 0 where there is none
 abbrev pub default_of : List StructInfo → Standing → ℕ → Word
 default_of structs Unused field = Num (pos 0)
 default_of structs (Live block) field = cell_default (field_kind structs block.shape field)
@@ -34,6 +35,11 @@ pub record HasBases (structs : List StructInfo) (inputs : List Block) (heap : Co
 abbrev pub base_of : List StructInfo → Shape → List Word → ℕ → Word → Word
 base_of structs shape words field kept =
     if is_cell (field_kind structs shape field) then unwrap_or (slice_get words field) (field_default (field_kind structs shape field)) else kept
+
+-- a base where the modifiables of the block that had the number before are set back to 0
+abbrev pub cleared : List StructInfo → Option Shape → ℕ → Word → Word
+cleared structs None field kept = kept
+cleared structs (Some before) field kept = if is_cell (field_kind structs before field) then Num (pos 0) else kept
 
 -- the places of the modifiables of an input of this shape were touched
 abbrev pub IsTouched : List StructInfo → ℕ → Shape → Mods → Type 0

@@ -1,6 +1,6 @@
 // What modifiables hold before any write.
 
-ghost use Rattle.std.specs.Prelude.{◌≡◌, ◌<◌, ◌≤◌, ◌^◌, ℕ, false, true, length, if◌then◌else◌, IfOk, OnOk, slice_get, unwrap_or};
+ghost use Rattle.std.specs.Prelude.{◌≡◌, ◌<◌, ◌≤◌, ◌^◌, ℕ, false, true, length, if◌then◌else◌, IfOk, OnOk, Some, [], slice_get, unwrap_or};
 ghost use Rattle.ceal_base.specs.Operators.{same_block};
 ghost use Rattle.ceal_base.specs.Shapes.{default_of_field};
 ghost use Rattle.ceal_base.specs.declared.word.BlockId.TheVariants.{Input};
@@ -9,7 +9,7 @@ ghost use Rattle.ceal_base.specs.declared.word.Word.{Word as WordOf};
 ghost use Rattle.ceal_mods.specs.Mods.{IsUntouched, cell_of};
 ghost use Rattle.ceal_order.specs.Stamps.{is_in};
 ghost use Rattle.ceal_code.specs.Replay.{content_in};
-ghost use Rattle.ceal_repair.specs.Words.{base_of};
+ghost use Rattle.ceal_repair.specs.Words.{base_of, cleared};
 ghost use Rattle.ceal_repair.specs.Kept.{Kept, base_in};
 
 use crate::tables::Tables;
@@ -66,6 +66,97 @@ pub fn set_bases(
         }
     }
     Err(NoMemory)
+}
+
+/// Sets back to 0 what the modifiables of a block of this shape hold before any write. Reads of its places may be queued, no others.
+fn clear_bases(
+    tables: &mut Tables,
+    structs: &[StructInfo],
+    id: BlockId,
+    before: Shape,
+) -> Result<(), NoMemory>
+    requires kept { Kept tables.old }
+    ensures trace { tables.new.trace ≡ tables.old.trace }
+    ensures memo { tables.new.memo ≡ tables.old.memo }
+    ensures here { OnOk result ((p : PlaceOf) → same_block p.block id ≡ true
+        → base_in tables.new.mods p
+        ≡ cleared structs.now (Some before) p.field (base_in tables.old.mods p)) }
+    ensures others { (p : PlaceOf) → same_block p.block id ≡ false
+        → base_in tables.new.mods p ≡ base_in tables.old.mods p }
+    ensures only { (s : ℕ) → is_in s tables.new.stale.stamps ≡ true
+        → is_in s tables.old.stale.stamps ≡ false
+        → (p : PlaceOf) × (same_block p.block id ≡ true)
+        × (is_in s (cell_of tables.old.mods p).reads ≡ true) }
+    ensures kept { Kept tables.new }
+{
+    for field in 0..u32::MAX {
+        match field_kind(structs, before, field) {
+            None => return Ok(()),
+            Some(kind) => {
+                if is_modifiable(Some(kind)) {
+                    tables.edit(Place { block: id, field }, Word::Num(0))?;
+                }
+            }
+        }
+    }
+    Err(NoMemory)
+}
+
+// Sets them back for a new block whose number another one had before. A modifiable of the new block gets its default anyway.
+fn clear_others(
+    tables: &mut Tables,
+    structs: &[StructInfo],
+    id: BlockId,
+    before: Option<Shape>,
+    shape: Shape,
+) -> Result<(), NoMemory>
+    requires kept { Kept tables.old }
+    ensures trace { tables.new.trace ≡ tables.old.trace }
+    ensures memo { tables.new.memo ≡ tables.old.memo }
+    ensures here { OnOk result ((p : PlaceOf) → same_block p.block id ≡ true
+        → base_of structs.now shape [] p.field (base_in tables.new.mods p)
+        ≡ base_of structs.now shape [] p.field
+        (cleared structs.now before p.field (base_in tables.old.mods p))) }
+    ensures others { (p : PlaceOf) → same_block p.block id ≡ false
+        → base_in tables.new.mods p ≡ base_in tables.old.mods p }
+    ensures only { (s : ℕ) → is_in s tables.new.stale.stamps ≡ true
+        → is_in s tables.old.stale.stamps ≡ false
+        → (p : PlaceOf) × (same_block p.block id ≡ true)
+        × (is_in s (cell_of tables.old.mods p).reads ≡ true) }
+    ensures kept { Kept tables.new }
+{
+    match before {
+        None => Ok(()),
+        Some(before) if before == shape => Ok(()),
+        Some(before) => clear_bases(tables, structs, id, before),
+    }
+}
+
+/// Sets what the modifiables of a new block hold before any write: their defaults. Those of the block that had its number before
+/// are set back to 0. Reads of its places may be queued, no others.
+pub fn renew_bases(
+    tables: &mut Tables,
+    structs: &[StructInfo],
+    id: BlockId,
+    before: Option<Shape>,
+    shape: Shape,
+) -> Result<(), NoMemory>
+    requires kept { Kept tables.old }
+    ensures trace { tables.new.trace ≡ tables.old.trace }
+    ensures memo { tables.new.memo ≡ tables.old.memo }
+    ensures here { OnOk result ((p : PlaceOf) → same_block p.block id ≡ true
+        → base_in tables.new.mods p ≡ base_of structs.now shape [] p.field
+        (cleared structs.now before p.field (base_in tables.old.mods p))) }
+    ensures others { (p : PlaceOf) → same_block p.block id ≡ false
+        → base_in tables.new.mods p ≡ base_in tables.old.mods p }
+    ensures only { (s : ℕ) → is_in s tables.new.stale.stamps ≡ true
+        → is_in s tables.old.stale.stamps ≡ false
+        → (p : PlaceOf) × (same_block p.block id ≡ true)
+        × (is_in s (cell_of tables.old.mods p).reads ≡ true) }
+    ensures kept { Kept tables.new }
+{
+    clear_others(tables, structs, id, before, shape)?;
+    set_bases(tables, structs, id, shape, &[])
 }
 
 /// Sets the bases of inputs, where nothing was set yet.

@@ -14,7 +14,7 @@ ghost use Rattle.ceal_repair.specs.Kept.{Kept, base_in};
 ghost use Rattle.ceal_trace.specs.Nodes.{new_entry};
 ghost use Rattle.ceal_trace.specs.declared.node.Node.TheVariants.{Root};
 
-use crate::bases::{set_bases, set_inputs};
+use crate::bases::{renew_bases, set_inputs};
 use crate::tables::Tables;
 use crate::words::RunWords;
 use ceal_base::forest::Key;
@@ -117,9 +117,10 @@ impl Running {
     {
         let block = self.words_for(alloc, code, inputs, key)?;
         let shape = made_shape(code, key);
-        let id = self.heap.make(shape, key.copy()?, few_words(&block)?)?;
-        set_bases(&mut self.tables, code.structs.items(), id, shape, &[])?;
-        Ok(id)
+        let made = self.heap.make(shape, key.copy()?, few_words(&block)?)?;
+        let structs = code.structs.items();
+        renew_bases(&mut self.tables, structs, made.block, made.before, shape)?;
+        Ok(made.block)
     }
 
     /// The words of a new block for a key.

@@ -8,8 +8,8 @@ use Rattle.ceal_trace.proofs.trace.Trace.reserve.Goals as goal
 pub returns-then-has_room-clause-whole : goal.returns-then-has_room-clause-whole
 returns-then-has_room-clause-whole c = rw (← c.self.view_is) c.self.invariant.is_trace
 
-pub invariant_of-self-in_err-reserve : goal.invariant_of-self-in_err-reserve
-invariant_of-self-in_err-reserve c =
+pub invariant_of-self : goal.invariant_of-self
+invariant_of-self c =
     (not_reserved _ _ _ _ c.self.invariant c.in_err-reserve.ensures.kept).0
 
 pub returns-in_err-reserve-clause-nodes : goal.returns-in_err-reserve-clause-nodes
@@ -24,8 +24,8 @@ pub returns-in_err-reserve-clause-whole : goal.returns-in_err-reserve-clause-who
 returns-in_err-reserve-clause-whole c =
     (not_reserved _ _ _ _ c.self.invariant c.in_err-reserve.ensures.kept).0.is_trace
 
-pub invariant_of-self : goal.invariant_of-self
-invariant_of-self c =
+pub invariant_of-self-2 : goal.invariant_of-self-2
+invariant_of-self-2 c =
     let most = spare_most c.self.inside.order c.reserve-2.new.self (c.args.nodes + 63) c.saturating_add-room.result c.reserve-2.result c.reserve-2.ensures.few c.reserve-2.ensures.err c.reserve-2.ensures.whole (omega (arith, c.saturating_add-room.ensures)) in
     (reserved _ _ _ _ _ _ c.self.invariant c.reserve-2.ensures.stamps c.reserve-2.ensures.whole c.in_ok-reserve.ensures.kept c.in_ok-reserve.ensures.rows most).0
 
