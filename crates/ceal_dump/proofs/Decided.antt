@@ -1,0 +1,52 @@
+-- Bytes are the dump of a record, or of none.
+use Rattle.std.proofs.Common.{◌≡◌, inl, inr, ◌⊎◌, ℕ, ◌<◌, ◌^◌, Bool, true, false, List, length, refl, sym, ◌∙◌, subst, arith}
+use Rattle.std.specs.Prelude.{nat_lt, bytes_eq}
+use Rattle.std.proofs.lemmas.Bool.{false≢true}
+use Rattle.std.proofs.lemmas.Bool.Decides.{nat_tests}
+use Rattle.std.proofs.lemmas.Slice.Eq.{bytes_eq-Decides}
+use Rattle.ceal_base.specs.declared.recorded.Record.{Record}
+use Rattle.ceal_dump.proofs.Records.{record-read, record-range}
+use Rattle.ceal_dump.specs.Answers.{DumpOrNoneLaw}
+use Rattle.ceal_dump.specs.DumpText.{all_core, closed, dump_text, HasDump, IsDump}
+use Rattle.ceal_dump.specs.Reading.{record_at}
+
+-- a fact holds, or it does not
+abbrev Decided : Type 0 → Type 0
+Decided P = P ⊎ (P → ⊥)
+
+both : {P Q : Type 0} → Decided P → Decided Q → Decided (P × Q)
+both (inl p) (inl q) = inl (p, q)
+both (inl p) (inr n) = inr (λ h. n h.1)
+both (inr n) q = inr (λ h. n h.0)
+
+moved : {P Q : Type 0} → (P → Q) → (Q → P) → Decided P → Decided Q
+moved f g (inl p) = inl (f p)
+moved f g (inr n) = inr (λ q. n (g q))
+
+is-or-not : (b : Bool) → Decided (b ≡ true)
+is-or-not true = inl refl
+is-or-not false = inr (λ e. false≢true e)
+
+below-or-not : (n m : ℕ) → Decided (n < m)
+below-or-not n m = moved (λ e. grind (arith, nat_tests, e)) (λ h. grind (arith, nat_tests, h)) (is-or-not (nat_lt n m))
+
+text-or-not : (a b : List ℕ) → Decided (a ≡ b)
+text-or-not a b = moved (bytes_eq-Decides a b).0 (bytes_eq-Decides a b).1 (is-or-not (bytes_eq a b))
+
+has-or-not : (r : Record) → Decided (HasDump r)
+has-or-not r =
+    let small = both (below-or-not (length r.inputs) (2 ^ 32)) (both (below-or-not (length r.forest) (2 ^ 32))
+    (both (below-or-not (length r.memory.inputs) (2 ^ 32)) (below-or-not (length r.memory.made) (2 ^ 32)))) in
+    moved (λ h. record { inputs = h.0.0; items = h.0.1; memory = h.0.2; made = h.0.3; core = h.1; ends = h.2 })
+    (λ h. ((h.inputs, h.items, h.memory, h.made), h.core, h.ends))
+    (both small (both (is-or-not (all_core r.forest)) (is-or-not (closed 0 r.forest))))
+
+pub dump-or-none : DumpOrNoneLaw
+dump-or-none bytes = by-record (both (has-or-not (record_at bytes)) (text-or-not bytes (dump_text (record_at bytes))))
+  where
+    by-record : Decided (HasDump (record_at bytes) × (bytes ≡ dump_text (record_at bytes))) → ((r : Record) × IsDump bytes r) ⊎ ((r : Record) → IsDump bytes r → ⊥)
+    by-record (inl h) = inl (record_at bytes, record { has = h.0; range = record-range bytes; text = h.1 })
+    by-record (inr n) =
+        inr (λ r h.
+        let same : r ≡ record_at bytes = sym (record-read bytes r h) in
+        n (subst HasDump same h.has, subst (λ (r : Record). bytes ≡ dump_text r) same h.text))
