@@ -33,13 +33,26 @@ below-or-not n m = moved (λ e. grind (arith, nat_tests, e)) (λ h. grind (arith
 text-or-not : (a b : List ℕ) → Decided (a ≡ b)
 text-or-not a b = moved (bytes_eq-Decides a b).0 (bytes_eq-Decides a b).1 (is-or-not (bytes_eq a b))
 
-has-or-not : (r : Record) → Decided (HasDump r)
-has-or-not r =
-    let small = both (below-or-not (length r.inputs) (2 ^ 32)) (both (below-or-not (length r.forest) (2 ^ 32))
-    (both (below-or-not (length r.memory.inputs) (2 ^ 32)) (below-or-not (length r.memory.made) (2 ^ 32)))) in
-    moved (λ h. record { inputs = h.0.0; items = h.0.1; memory = h.0.2; made = h.0.3; core = h.1; ends = h.2 })
-    (λ h. ((h.inputs, h.items, h.memory, h.made), h.core, h.ends))
-    (both small (both (is-or-not (all_core r.forest)) (is-or-not (closed 0 r.forest))))
+module _ (r : Record) where
+  -- what is asked of a record that has a dump, in turn
+  abbrev Small : Type 0
+  Small = ((length r.inputs < 2 ^ 32) × (length r.forest < 2 ^ 32)) × ((length r.memory.inputs < 2 ^ 32) × (length r.memory.made < 2 ^ 32))
+
+  abbrev Formed : Type 0
+  Formed = (all_core r.forest ≡ true) × (closed 0 r.forest ≡ true)
+
+  small-or-not : Decided Small
+  small-or-not =
+      both (both (below-or-not (length r.inputs) (2 ^ 32)) (below-or-not (length r.forest) (2 ^ 32)))
+      (both (below-or-not (length r.memory.inputs) (2 ^ 32)) (below-or-not (length r.memory.made) (2 ^ 32)))
+
+  has : Small → Formed → HasDump r
+  has ((inputs, items), (memory, made)) (core, ends) = record { inputs = inputs; items = items; memory = memory; made = made; core = core; ends = ends }
+
+  has-or-not : Decided (HasDump r)
+  has-or-not =
+      moved (λ h. has h.0 h.1) (λ h. (((h.inputs, h.items), (h.memory, h.made)), (h.core, h.ends)))
+      (both small-or-not (both (is-or-not (all_core r.forest)) (is-or-not (closed 0 r.forest))))
 
 pub dump-or-none : DumpOrNoneLaw
 dump-or-none bytes = by-record (both (has-or-not (record_at bytes)) (text-or-not bytes (dump_text (record_at bytes))))

@@ -134,6 +134,10 @@ write-or-not p w (Write q x ∷ js) =
 write-or-not p w (Read q x u v args ∷ js) = inr (λ h. let e = h.1 in cc e)
 write-or-not p w (End ∷ js) = inr (λ h. let e = h.1 in cc e)
 
+same-read : (q p : Place) (x : Word) (t u : UnitId) (y v : ℕ) (bs args : List Word) (js : List Item) → (q ≡ p) × (t ≡ u) → (y ≡ v) × (bs ≡ args)
+    → Read q x t y bs ∷ js ≡ Read p x u v args ∷ js
+same-read q p x t u y v bs args js (a, b) (c, d) = rw (a, b, c, d) refl
+
 -- or a read of this closure
 pub read-or-not : (p : Place) (u : UnitId) (v : ℕ) (args : List Word) (is : List Item) → Decided ((w : Word) × (js : List Item) × (is ≡ Read p w u v args ∷ js))
 read-or-not p u v args [] = inr (λ h. let e = h.2 in cc e)
@@ -141,7 +145,6 @@ read-or-not p u v args (Step ∷ js) = inr (λ h. let e = h.2 in cc e)
 read-or-not p u v args (Alloc b key ∷ js) = inr (λ h. let e = h.2 in cc e)
 read-or-not p u v args (Write q x ∷ js) = inr (λ h. let e = h.2 in cc e)
 read-or-not p u v args (Read q x t y bs ∷ js) =
-    moved (λ h. (x, js, ap₂ (λ a b. Read a x b.0 b.1 b.2 ∷ js) h.0 (ap₂ (λ a b. (a, b)) h.1 (ap₂ (λ a b. (a, b)) h.2 h.3))))
-    (λ h. let e = h.2 in (cc e, cc e, cc e, cc e))
-    (both (place-or-not q p) (both (unit-or-not t u) (both (numbers-or-not y v) (words-or-not bs args))))
+    moved (λ h. (x, js, same-read q p x t u y v bs args js h.0 h.1)) (λ h. let e = h.2 in ((cc e, cc e), (cc e, cc e)))
+    (both (both (place-or-not q p) (unit-or-not t u)) (both (numbers-or-not y v) (words-or-not bs args)))
 read-or-not p u v args (End ∷ js) = inr (λ h. let e = h.2 in cc e)

@@ -112,8 +112,8 @@ module _ (code : Code) (x : Plain) where
 
 fits-or-not : (code : Code) (r : Record) → Decided (CallFits code r)
 fits-or-not code r =
-    moved (λ h. record { is_valid = h.0; blocks = h.1; words = h.2 }) (λ h. (h.is_valid, h.blocks, h.words))
-    (both (is-or-not (valid code)) (both (is-or-not (inputs_fit code.structs r.inputs)) (is-or-not (args_fit code.structs (alone r.inputs) (slice_get code.functions r.function) r.args))))
+    moved (λ h. record { is_valid = h.0.0; blocks = h.0.1; words = h.1 }) (λ h. ((h.is_valid, h.blocks), h.words))
+    (both (both (is-or-not (valid code)) (is-or-not (inputs_fit code.structs r.inputs))) (is-or-not (args_fit code.structs (alone r.inputs) (slice_get code.functions r.function) r.args)))
 
 module _ (code : Code) (r : Record) where
   remembered-or-not : (l : Trace) → Decided (Remembered code r l)
