@@ -1,5 +1,6 @@
 -- A record has a verdict.
 use Rattle.std.proofs.Common.{◌≡◌, inl, inr, ◌<◌, ◌≤◌, ℕ, zero, suc, Bool, true, false, Some, List, [], ◌∷◌, length, map, refl, sym, ap, ◌∙◌, subst, arith}
+use Rattle.std.specs.List.{list_all}
 use Rattle.std.specs.Prelude.{slice_get}
 use Rattle.ceal_base.specs.Block.{alone}
 use Rattle.ceal_base.specs.Fitting.{inputs_fit}
@@ -13,7 +14,7 @@ use Rattle.ceal_base.specs.declared.word.BlockId.TheVariants.{Core}
 use Rattle.ceal_base.specs.declared.word.Place.{Place}
 use Rattle.ceal_base.specs.declared.word.Word.{Word}
 use Rattle.ceal_code.specs.After.{store_after, memory_after}
-use Rattle.ceal_code.specs.Fitting.{args_fit}
+use Rattle.ceal_code.specs.Fitting.{args_fit, Fits}
 use Rattle.ceal_code.specs.Init.{pointer}
 use Rattle.ceal_code.specs.Program.{Code}
 use Rattle.ceal_code.specs.Replay.{bases, input_plain, inputs_after}
@@ -26,7 +27,7 @@ use Rattle.ceal_traceck.proofs.Decided.{Decided, both, moved, is-or-not, block-o
 use Rattle.ceal_traceck.proofs.WalkSteps.{begins, over-more, quiet-more, makes-more, writes-more, reads-more}
 use Rattle.ceal_traceck.specs.Items.{all_named, all_honest}
 use Rattle.ceal_traceck.specs.Laws.{SomeVerdictLaw}
-use Rattle.ceal_traceck.specs.Verdicts.{CallFits, Replayed, IsHonestRecord, Remembered, Means}
+use Rattle.ceal_traceck.specs.Verdicts.{CallFits, has_known_shape, Replayed, IsHonestRecord, Remembered, Means}
 use Rattle.ceal_traceck.specs.Walk.{Accepts}
 use Rattle.ceal_traceck.specs.declared.verdict.Verdict.{Verdict}
 use Rattle.ceal_traceck.specs.declared.verdict.Verdict.TheVariants.{Yes, NoFit, NotReplay, NotHonest, MemoryDiffers}
@@ -110,10 +111,15 @@ module _ (code : Code) (x : Plain) where
   accepted-or-not : (a : Act) (is : List Item) → Told a [] is
   accepted-or-not a is = all-told (length is) is (omega arith) a []
 
-fits-or-not : (code : Code) (r : Record) → Decided (CallFits code r)
-fits-or-not code r =
+may-run-or-not : (code : Code) (r : Record) → Decided (Fits code r.inputs r.function r.args)
+may-run-or-not code r =
     moved (λ h. record { is_valid = h.0.0; blocks = h.0.1; words = h.1 }) (λ h. ((h.is_valid, h.blocks), h.words))
     (both (both (is-or-not (valid code)) (is-or-not (inputs_fit code.structs r.inputs))) (is-or-not (args_fit code.structs (alone r.inputs) (slice_get code.functions r.function) r.args)))
+
+fits-or-not : (code : Code) (r : Record) → Decided (CallFits code r)
+fits-or-not code r =
+    moved (λ h. record { call = h.0; shapes = h.1 }) (λ h. (h.call, h.shapes))
+    (both (may-run-or-not code r) (is-or-not (list_all (has_known_shape code.structs) r.inputs)))
 
 module _ (code : Code) (r : Record) where
   remembered-or-not : (l : Trace) → Decided (Remembered code r l)
