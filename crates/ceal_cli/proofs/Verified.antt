@@ -32,7 +32,7 @@ readable e = cc e
 of-source : (sound : SoundLaw) (p : Program) → IsCompiled p → (bytes : List ℕ) (r : Record) → IsDump bytes r → Means p.code r Yes → Verified p.typed bytes
 of-source sound p compiled bytes r is means =
     let s : Sound p.code r = sound p.code r means in
-    let core = core-of p.typed p.code compiled.code p.code.structs (inputs_alone r.inputs) r.args r.function means.0.words in
+    let core = core-of p.typed p.code compiled.code p.code.structs (inputs_alone r.inputs) r.args r.function means.0.call.words in
     record {
       kept = r;
       dump = is;

@@ -9,8 +9,7 @@ use Rattle.ceal_base.specs.declared.typed.Typed.{Typed}
 use Rattle.ceal_code.specs.Fresh.{fresh as code_fresh}
 use Rattle.ceal_code.specs.Valid.{valid}
 use Rattle.ceal_flow.specs.Laws.{RunLaw as Graph_run_law}
-use Rattle.ceal_flow.specs.Lowering.{function_places, lowered_at}
-use Rattle.ceal_flow.specs.declared.limit.TheConstants.{BLOCK_LIMIT}
+use Rattle.ceal_flow.specs.Lowering.{BLOCKS, function_places, lowered_at}
 use Rattle.ceal_fold.specs.Laws.{RunLaw as Folding_run_law, ValidLaw as Folding_valid_law}
 use Rattle.ceal_lex.specs.declared.parts.Split.{Split}
 use Rattle.ceal_lex.specs.declared.token.Token.{Token}
@@ -44,7 +43,7 @@ same_counted p q None e = cc e
 same_counted p q (Some at) e = absurd (cc e)
 
 same_usage : (p q : Typed) (r : Result (Unit {0}) Fault) → Answers (elim r [ Ok u ↦ counted p | Err f ↦ Err f ]) q → (p ≡ q) × IsOk r
-same_usage p q (Ok u) e = (same_counted p q (slice_get (function_places p.functions) BLOCK_LIMIT) e, refl)
+same_usage p q (Ok u) e = (same_counted p q (slice_get (function_places p.functions) BLOCKS) e, refl)
 same_usage p q (Err f) e = absurd (cc e)
 
 module _ (typed_law : TypedLaw) (kept_law : KeptLaw) where

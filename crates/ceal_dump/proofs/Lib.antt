@@ -5,3 +5,4 @@ pub mod Numbers
 pub mod ReadBack
 pub mod Records
 pub mod Loops
+pub mod Decided

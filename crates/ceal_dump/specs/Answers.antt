@@ -1,5 +1,5 @@
 -- What a dump's reader answers.
-use Rattle.std.specs.Prelude.{◌≡◌, ℕ, List, Result, Ok, Err}
+use Rattle.std.specs.Prelude.{◌≡◌, ◌⊎◌, ℕ, List, Result, Ok, Err}
 use Rattle.ceal_base.specs.declared.recorded.Record.{Record}
 use Rattle.ceal_dump.specs.DumpText.{IsDump}
 use Rattle.ceal_dump.specs.declared.read.DumpError.{DumpError}
@@ -14,3 +14,7 @@ IsRead bytes (Err Unreadable) = (r : Record) → IsDump bytes r → ⊥
 -- bytes are the dump of one record at most
 abbrev pub OneRecordLaw : Type 0
 OneRecordLaw = (bytes : List ℕ) (r s : Record) → IsDump bytes r → IsDump bytes s → r ≡ s
+
+-- and of one, or of none
+abbrev pub DumpOrNoneLaw : Type 0
+DumpOrNoneLaw = (bytes : List ℕ) → ((r : Record) × IsDump bytes r) ⊎ ((r : Record) → IsDump bytes r → ⊥)

@@ -13,7 +13,6 @@ use Rattle.ceal_flow.specs.declared.block.GraphBlock.{GraphBlock}
 use Rattle.ceal_flow.specs.declared.block.GraphBlock.TheVariants.{Done}
 use Rattle.ceal_flow.specs.declared.function.GraphFunction.{GraphFunction}
 use Rattle.ceal_flow.specs.declared.function.GraphFunction.TheVariants.{Core, Init}
-use Rattle.ceal_flow.specs.declared.limit.TheConstants.{BLOCK_LIMIT}
 
 -- a function has as many blocks as its statements, and one for its end; an initialiser has none
 abbrev pub size_in : Option ℕ → List TypedStmt → ℕ
@@ -115,6 +114,10 @@ unfoldable pub function_places : List TypedFunction → List Span
 function_places [] = []
 function_places (f ∷ fs) = places_of f ++ function_places fs
 
+-- how many blocks a program has at most
+abbrev pub BLOCKS : ℕ
+BLOCKS = 65535
+
 -- what `lower` answers: L1 at the place of the first block past the limit, where there is one, and else the graph
 abbrev pub lowered_at : Typed → Option Span → Result Graph Fault
 lowered_at p None = Ok (graph_of p)
@@ -122,4 +125,4 @@ lowered_at p (Some at) = Err (record { code = L1; span = at })
 
 -- the graph of a program, or the fault at the first block that is too many
 abbrev pub lowered : Typed → Result Graph Fault
-lowered p = lowered_at p (slice_get (function_places p.functions) BLOCK_LIMIT)
+lowered p = lowered_at p (slice_get (function_places p.functions) BLOCKS)

@@ -5,7 +5,7 @@ ghost use Rattle.ceal_base.specs.Answers.{Gives};
 ghost use Rattle.ceal_base.specs.Usage.{KeepsUsage};
 ghost use Rattle.ceal_flow.specs.Blocks.{sizes};
 ghost use Rattle.ceal_flow.specs.Laws.{RunsAs};
-ghost use Rattle.ceal_flow.specs.Lowering.{function_size, function_sizes, core_at, function_at, core_blocks, blocks_at, functions_from, blocks_from, graph_of, lowered};
+ghost use Rattle.ceal_flow.specs.Lowering.{BLOCKS, function_size, function_sizes, core_at, function_at, core_blocks, blocks_at, functions_from, blocks_from, graph_of, lowered};
 
 use crate::block::GraphBlock;
 use crate::exits::Exits;
@@ -107,7 +107,7 @@ fn graph(alloc: Global, program: &Typed) -> Result<Graph, NoMemory>
 /// tells it.
 pub fn check_limit(program: &Typed) -> Result<(), Fault>
     ensures within { IsOk result → lowered program.now ≡ OkOf (graph_of program.now) }
-    ensures few { IsOk result → function_sizes program.now.functions ≤ BLOCK_LIMIT }
+    ensures few { IsOk result → function_sizes program.now.functions ≤ BLOCKS }
     ensures past { IfErr result (λ fault. lowered program.now ≡ ErrOf fault) }
 {
     match count_functions(program.functions.items()) {
@@ -123,7 +123,7 @@ pub fn check_limit(program: &Typed) -> Result<(), Fault>
 /// brace of a function whose end it is. It recurses as deep as statements and expressions are nested.
 pub fn lower(alloc: Global, program: &Typed) -> Result<Graph, FrontError>
     ensures first { Gives result (lowered program.now) }
-    ensures few { IfOk result (λ g. length g.blocks ≤ BLOCK_LIMIT) }
+    ensures few { IfOk result (λ g. length g.blocks ≤ BLOCKS) }
     ensures same_run { KeepsUsage program.now → IfOk result (λ g. RunsAs g program.now) }
 {
     match check_limit(program) {

@@ -31,7 +31,7 @@ module _ (code : Code) (r : Record) where
   pub replayed-named : CallFits code r → (l : Trace) → Replayed code r l → all_named code (input_plain code r.inputs) r.forest ≡ true
   replayed-named fits l h =
       let once : (b : ℕ) → count b (core_numbers (blocks_of l)) + count b [] ≤ 1 = λ b. omega (arith, h.replays.distinct b) in
-      let q = mentions-named (length r.inputs) code h.replays.mentions [] (input_plain code r.inputs) (begin-knows code r.inputs fits.blocks) once in
+      let q = mentions-named (length r.inputs) code h.replays.mentions [] (input_plain code r.inputs) (begin-knows code r.inputs fits.call.blocks) once in
       ap (all_named code (input_plain code r.inputs)) (h.items ∙ sym (append-nil (flat l))) ∙ (q.0.same ∙ named-none code _)
 
   pub not-named : CallFits code r → all_named code (input_plain code r.inputs) r.forest ≡ false → (l : Trace) → Replayed code r l → ⊥
@@ -50,7 +50,7 @@ module _ (code : Code) (r : Record) where
       → (l : Trace) × Replayed code r l
   accepted-replayed fits h k =
       let n = length r.inputs in
-      let begin = begin-knows code r.inputs fits.blocks in
+      let begin = begin-knows code r.inputs fits.call.blocks in
       let learnt = learns n code r.forest [] (input_plain code r.inputs) begin h in
       let q = accepted code (plain_flat code (input_plain code r.inputs) r.forest) (started code r.function r.args) r.forest k learnt.made' in
       let l = q.0 in

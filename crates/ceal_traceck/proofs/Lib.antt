@@ -9,3 +9,5 @@ pub mod Known
 pub mod HonestItems
 pub mod Checked
 pub mod Sound
+pub mod Decided
+pub mod SomeVerdict

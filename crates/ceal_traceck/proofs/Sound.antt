@@ -61,7 +61,7 @@ made-at m (Core b ∷ bs) (c ∷ made) e n (suc i) h = let k : map Some made ≡
 pub sound-law : SoundLaw
 sound-law code r (fits, (l, replayed, honest, remembered)) =
     let numbers = core_numbers (blocks_of l) in
-    let d = trace-law code r.inputs r.function r.args fits l replayed.replays honest in
+    let d = trace-law code r.inputs r.function r.args fits.call l replayed.replays honest in
     let store : honest.after ≡ store_after code (bases code r.inputs) l = store-law code (bases code r.inputs) honest.after l honest.walk in
     let steps : steps_in r.forest ≡ steps_of l = ap steps_in replayed.items ∙ steps-flat l in
     let blocks : length r.memory.made ≡ length (blocks_of l) = mapped-length Some (memory_after code r.inputs l) r.memory.made (blocks_of l) remembered.made in

@@ -41,7 +41,7 @@ told-false before after absent = (λ t. absurd (false≢true t), λ h. absurd (a
 
 module _ (code : Code) (x : Plain) where
   -- what items are that are accepted
-  abbrev Begins : Act → List Stack → List Item → Type 0
+  abbrev pub Begins : Act → List Stack → List Item → Type 0
   Begins Over [] is = is ≡ []
   Begins Over (st ∷ below) is = (js : List Item) × (is ≡ End ∷ js) × Accepts code x (next code x st) below js
   Begins (Quiet st) below is = (js : List Item) × (is ≡ Step ∷ js) × Accepts code x (next code x st) below js
@@ -51,7 +51,7 @@ module _ (code : Code) (x : Plain) where
   Begins (Reads p u v args st) below is =
       (w : Word) × (js : List Item) × (is ≡ Step ∷ Read p w u v args ∷ js) × Accepts code x (next code x (entered code u.0 (given code u.0 v args w) Empty)) (st ∷ below) js
 
-  begins : {a : Act} {below : List Stack} {is : List Item} → Accepts code x a below is → Begins a below is
+  pub begins : {a : Act} {below : List Stack} {is : List Item} → Accepts code x a below is → Begins a below is
   begins Accepts.ends = refl
   begins (Accepts.closes {is = is} h) = (is, refl, h)
   begins (Accepts.quiet {is = is} h) = (is, refl, h)

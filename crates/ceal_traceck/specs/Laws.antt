@@ -33,3 +33,7 @@ SoundLaw = (code : Code) (r : Record) → Means code r Yes → Sound code r
 -- a record has one verdict at most
 abbrev pub OneVerdictLaw : Type 0
 OneVerdictLaw = (code : Code) (r : Record) (v w : Verdict) → Means code r v → Means code r w → v ≡ w
+
+-- and one at least
+abbrev pub SomeVerdictLaw : Type 0
+SomeVerdictLaw = (code : Code) (r : Record) → (v : Verdict) × Means code r v

@@ -1,7 +1,12 @@
 -- What a verdict on a record means.
-use Rattle.std.specs.Prelude.{◌≡◌, Some, map}
+use Rattle.std.specs.Prelude.{◌≡◌, Bool, true, Some, List, length, map, nat_lt}
+use Rattle.std.specs.List.{list_all}
+use Rattle.ceal_base.specs.Block.{Block}
 use Rattle.ceal_base.specs.Trace.{Trace, flat, blocks_of}
+use Rattle.ceal_base.specs.declared.kind.Shape.{Shape}
+use Rattle.ceal_base.specs.declared.kind.Shape.TheVariants.{Struct, ModInt, ModPtr}
 use Rattle.ceal_base.specs.declared.recorded.Record.{Record}
+use Rattle.ceal_base.specs.declared.typed.StructInfo.{StructInfo}
 use Rattle.ceal_code.specs.After.{store_after, memory_after}
 use Rattle.ceal_code.specs.Fitting.{Fits}
 use Rattle.ceal_code.specs.Program.{Code}
@@ -9,9 +14,20 @@ use Rattle.ceal_code.specs.Replay.{Replays, IsHonest, bases, inputs_after}
 use Rattle.ceal_traceck.specs.declared.verdict.Verdict.{Verdict}
 use Rattle.ceal_traceck.specs.declared.verdict.Verdict.TheVariants.{Yes, NoFit, NotReplay, NotHonest, MemoryDiffers}
 
--- the recorded call may be run on the recorded inputs
-abbrev pub CallFits : Code → Record → Type 0
-CallFits code r = Fits code r.inputs r.function r.args
+-- the struct that the shape names, if it names one, is there
+abbrev pub is_known : List StructInfo → Shape → Bool
+is_known structs (Struct s) = nat_lt s (length structs)
+is_known structs ModInt = true
+is_known structs (ModPtr s) = nat_lt s (length structs)
+
+-- the block has a known shape
+abbrev pub has_known_shape : List StructInfo → Block → Bool
+has_known_shape structs block = is_known structs block.shape
+
+-- the recorded call may be run on the recorded inputs, and each of these has a known shape
+pub record CallFits (code : Code) (r : Record) : Type 0 where
+  pub call : Fits code r.inputs r.function r.args
+  pub shapes : list_all (has_known_shape code.structs) r.inputs ≡ true
 
 -- the recorded items are those of this trace, which replays the call
 pub record Replayed (code : Code) (r : Record) (l : Trace) : Type 0 where

@@ -47,7 +47,7 @@ pub fn check_trace(alloc: Global, code: &Code, kept: &Record) -> Result<Verdict,
     requires valid { valid code.now ≡ true }
     ensures verdict { IfOk result (λ v. Means code.now kept.now v) }
 {
-    if call_fits(code, &kept.inputs, kept.function, kept.args.items()) {
+    if call_fits(code, kept) {
         check_items(alloc, code, kept)
     } else {
         Ok(Verdict::NoFit)
