@@ -206,6 +206,21 @@ def pages():
             call(f'{picture} of {page.name}', words.split(), 0, (TOP / picture).read_bytes())
 
 
+def long_lists():
+    """What the tutorial's table says of an edit at the head of a list."""
+    for name, cells, steps, work in (
+        ('largest_one_key', 400, 2812, 2811),
+        ('largest_one_key', 4000, 28012, 28011),
+        ('largest', 400, 2812, 15),
+        ('largest', 4000, 28012, 15),
+    ):
+        source = (TOP / f'examples/{name}.ceal').read_text().split('\n%%\n')[0]
+        script = [f'new c{it} cell {it} {f"c{it + 1}" if it < cells else "null"}' for it in range(cells, 0, -1)]
+        script += ['mod list cell c1', 'mod result int 0', 'run largest list result', f'new c0 cell {cells + 1} c1', 'set list c0', 'propagate', 'steps', 'work']
+        given = '\n'.join([source, '%%', *script, '']).encode()
+        call(f'{name} of {cells} cells', ['-'], 0, b'ok\n' * (len(script) - 2) + f'{steps}\n{work}\n'.encode(), given=given)
+
+
 def streams():
     example = (TOP / 'examples/inc.ceal').read_bytes()
     expected = (TOP / 'examples/inc.expected').read_bytes()
@@ -243,6 +258,7 @@ def main(is_proved):
             options(made)
             dumps(folder)
             pages()
+            long_lists()
             streams()
             unchanged()
         else:

@@ -8,7 +8,8 @@ import os, subprocess, sys
 from tools import answers, scripts
 from tools.answers import Fault, Input
 
-TRIES, LEAST, LONGEST = 7, 0.0002, 60  # (tries of one script; seconds that can't be told from noise; seconds for the whole)
+TRIES, LONGEST = 7, 60  # (tries of one script; seconds for the whole)
+LEAST, NOISE = 0.0002, 0.05  # (what can't be told from noise: seconds, and a part of the time of the script before)
 
 
 def spent(words, given):
@@ -29,9 +30,10 @@ def least(words, given, left):
     return min([first, *(spent(words, given) for _ in range(tries - 1))])
 
 
-def shown(seconds):
-    if seconds < LEAST:
-        return f'under {LEAST * 1000:.1f} ms'
+def shown(before, after):
+    seconds, least = after - before, max(LEAST, NOISE * before)
+    if seconds < least:
+        return f'under {least * 1000:.1f} ms'
     return f'{seconds * 1000:.1f} ms' if seconds < 1 else f'{seconds:.2f} s'
 
 
@@ -69,5 +71,5 @@ def main(words, given):
         before, after = [least(words, it, share) for it in upto]
         reply, work = [it.decode() for it in told[at]]
         work = f'work {work}' if work.isdigit() else reply
-        print(f'{first + at:4}  {lines[at].decode(errors="replace"):{width}}{shown(after - before):>14}   {work}', flush=True)
+        print(f'{first + at:4}  {lines[at].decode(errors="replace"):{width}}{shown(before, after):>14}   {work}', flush=True)
     return 0

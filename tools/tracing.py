@@ -237,7 +237,7 @@ class Panel:
         top = self.top + depth * self.row
         text = ''
         if is_named and self.row > 12 and width > 40:
-            shown = told if len(told) * 6.4 < width else told[: max(0, int(width / 6.4) - 1)] + '…'
+            shown = told if len(told) * 6.8 < width - 6 else told[: max(0, int((width - 6) / 6.8) - 1)] + '…'
             text = f'<text x="{left + 3:.1f}" y="{top + height - 4:.1f}">{html.escape(shown)}</text>'
         return f'<rect x="{left:.2f}" y="{top:.2f}" width="{width:.2f}" height="{height:.2f}" fill="{COLOURS[label]}"{edge}{faint}>{title}</rect>{text}'
 
