@@ -1,0 +1,271 @@
+"""Tries what `./run` does: `python3 -m tools.self_tests proved|unproved`. Without the proved program only what needs few answers is tried."""
+import os, pathlib, re, signal, subprocess, sys, tempfile, time
+
+from tools import answers, rows
+from tools.answers import PROGRAM, TOP
+
+RUN = str(TOP / 'run')
+EXAMPLES = sorted((TOP / 'examples').glob('*.ceal'))
+SOON = 20  # (seconds in which is refused what is refused at once)
+passed = failed = 0
+
+
+def tell(name, faults):
+    global passed, failed
+    passed, failed = passed + (not faults), failed + bool(faults)
+    if faults:
+        print(f'./run: {name}:', '; '.join(faults))
+
+
+def call(name, words, status, output=None, told=None, given=subprocess.DEVNULL, seconds=600, **how):
+    """Calls ./run once, and says where it ends otherwise; `told` is looked for on standard error."""
+    how = {'stdout': subprocess.PIPE, 'stderr': subprocess.PIPE, 'timeout': seconds, **how}
+    how.update({'input': given} if isinstance(given, bytes) else {'stdin': given})
+    try:
+        ended = subprocess.run([RUN, *words], cwd=TOP, **how)
+    except subprocess.TimeoutExpired:
+        tell(name, [f'not ended after {seconds} seconds'])
+        return b''
+    faults = []
+    if ended.returncode != status:
+        faults.append(f'status {ended.returncode} in place of {status}')
+    if output is not None and ended.stdout != output:
+        faults.append(f'wrote {ended.stdout[:300]!r} in place of {output[:300]!r}')
+    if told is not None and told not in ended.stderr.decode(errors='replace'):
+        faults.append(f'told {ended.stderr[-300:]!r}, without {told!r}')
+    tell(name, faults)
+    return ended.stdout or b''
+
+
+def refused_at_once(folder):
+    """Words and files that are refused before anything is compiled."""
+    example = 'examples/inc.ceal'
+    for name, words, status, told in (
+        ('no words', [], 64, 'usage: ./run'),
+        ('an unknown mode', ['chek', example], 64, 'there is no mode chek'),
+        ('an unknown option', ['--dto', example], 64, 'there is no option --dto'),
+        ('an option without a file', ['--dot'], 64, 'a file is missing'),
+        ('a fuel of none', ['--fuel', '0', example], 64, '--fuel goes with'),
+        ('a fuel that is no number', ['run', '--fuel=much', example], 64, '--fuel goes with'),
+        ('a fuel for check', ['check', '--fuel', '5', example], 64, '--fuel goes with'),
+        ('a workload of an unknown kind', ['gen', 'lst', '1', '3'], 64, 'gen takes'),
+        ('a workload that is too large', ['gen', 'list', '1', '40001'], 64, 'gen takes'),
+        ('a graph of check', ['--dot', 'check', example], 64, '--dot does not go with check'),
+        ('a graph of many', ['--dot', 'many', example], 64, '--dot does not go with many'),
+        ('a trace of list', ['--trace', 'list', example], 64, '--trace does not go with list'),
+        ('two programs beside their replies', ['--beside', example, 'examples/map.ceal'], 64, 'takes one program'),
+        ('a word after --build', ['--build', 'now'], 64, '--build takes 0 words'),
+        ('a missing file', ['examples/none.ceal'], 66, 'no readable file examples/none.ceal'),
+        ('a missing file among others', [example, 'examples/none.ceal'], 66, 'no readable file examples/none.ceal'),
+        ('a folder', ['examples'], 66, 'no readable file examples'),
+    ):
+        call(name, words, status, b'', told, seconds=SOON)
+    call('--help', ['--help'], 0, seconds=SOON)
+    os.symlink(RUN, f'{folder}/link')
+    ended = subprocess.run([f'{folder}/link', '--help'], stdout=subprocess.PIPE, cwd='/')
+    tell('a link to ./run', [] if ended.stdout.startswith(b'usage: ./run') else ['it does not run'])
+
+
+def below(number):
+    """The processes that one has started, and those that they have."""
+    parents = {}
+    for it in filter(str.isdigit, os.listdir('/proc')):
+        try:
+            with open(f'/proc/{it}/stat') as file:
+                fields = file.read().rsplit(')', 1)[1].split()
+            parents[int(it)] = int(fields[1]), fields[0]
+        except OSError:
+            continue
+    found = {number}
+    while True:
+        more = {it for it, (parent, state) in parents.items() if parent in found and state != 'Z'} - found
+        if not more:
+            return found - {number}
+        found |= more
+
+
+def alive(number):
+    try:
+        with open(f'/proc/{number}/stat') as file:
+            return file.read().rsplit(')', 1)[1].split()[0] != 'Z'
+    except OSError:
+        return False
+
+
+def catches(number, sign):
+    """Whether a process has set what it does at a signal."""
+    with open(f'/proc/{number}/status') as file:
+        caught = int(re.search(r'^SigCgt:\s*(\w+)$', file.read(), re.M)[1], 16)
+    return bool(caught >> (sign - 1) & 1)
+
+
+def interrupted(sign, words, given, wanted):
+    """Ends ./run by a signal while it waits, and looks for what it started."""
+    process = subprocess.Popen([RUN, *words], cwd=TOP, stdin=given, stdout=subprocess.PIPE, stderr=subprocess.PIPE)
+    until = time.monotonic() + 60
+    started = set()
+    while time.monotonic() < until and not wanted(started, process):
+        time.sleep(0.1)
+        started = below(process.pid)
+    begun = time.monotonic()
+    process.send_signal(sign)
+    try:
+        status = process.wait(15)
+    except subprocess.TimeoutExpired:
+        status = None
+        process.kill()
+    process.stdout.close()
+    process.stderr.close()
+    left = [it for it in started if alive(it)]
+    faults = [] if status == 130 else [f'status {status} in place of 130']
+    faults += [f'{len(left)} processes go on'] if left else []
+    faults += ['not within ten seconds'] if time.monotonic() - begun > 10 else []
+    tell(f'{signal.Signals(sign).name} to ./run {" ".join(words)}', faults)
+
+
+def signals(is_proved):
+    if is_proved:
+        for sign in (signal.SIGINT, signal.SIGTERM, signal.SIGHUP):
+            source, feed = os.pipe()
+            interrupted(sign, ['-'], source, lambda _, process: catches(process.pid, signal.SIGTERM))
+            os.close(source)
+            os.close(feed)
+    else:
+        for sign in (signal.SIGINT, signal.SIGTERM):
+            interrupted(sign, ['examples/inc.ceal'], subprocess.DEVNULL, lambda started, _: len(started) > 2)
+
+
+def files(folder):
+    """Small inputs, by name."""
+    made = {}
+    for name, text in (
+        ('place.ceal', 'ceal f(mod int *m) {\n\twrite(m\t1);\n}\n%%\n'),
+        ('no_mark.ceal', 'ceal f(mod int *m) { }\n'),
+        ('blank_mark.ceal', 'ceal f(mod int *m) { }\n%% \nmod a int 1\n'),
+        ('source.ceal', 'ceal inc(mod int *a, mod int *b) {\n  int x = read(a);\n  write(b, x + 1);\n}\n'),
+        ('script', 'mod a int 1\nmod b int 0\nrun inc a b\nget b\n'),
+        ('refused.ceal', 'ceal f(mod int *m) { write(m, 1); }\n%%\n// a comment\nmod m int 1\nget m\nrun f m\nfrob\nget m\n'),
+    ):
+        path = pathlib.Path(folder, name)
+        path.write_text(text)
+        made[name] = str(path)
+    return made
+
+
+def several(made):
+    """Several files are answered under their names, and by one compilation."""
+    expected = b'== examples/inc.ceal\n' + (TOP / 'examples/inc.expected').read_bytes() + f'== {made["place.ceal"]}\n'.encode()
+    expected += b'fault S3 at 2:10: unexpected token\n' + f'== {made["source.ceal"]}\n'.encode() + b'ok\nok\nok\n2\n'
+    names = ['examples/inc.ceal', made['place.ceal'], made['source.ceal'], made['script']]
+    place = f'run: {made["place.ceal"]}:2:10: unexpected token\nrun:   \twrite(m\t1);\nrun:   \t       \t^\n'
+    call('several files', names, 1, expected, place)
+
+
+def faults(made):
+    place = f'run: {made["place.ceal"]}:2:10: unexpected token\nrun:   \twrite(m\t1);\nrun:   \t       \t^\n'
+    call('the place of a fault', [made['place.ceal']], 1, b'fault S3 at 2:10: unexpected token\n', place)
+    call('the place of a fault of check', ['check', made['place.ceal']], 1, b'fault S3 at 2:10: unexpected token\n', place)
+    call('a missing mark', [made['no_mark.ceal']], 1, b'fault S5 at 2:1: unexpected end\n', 'there is no line %%')
+    call('a mark with blanks', [made['blank_mark.ceal']], 1, b'fault S3 at 2:1: unexpected token\n', 'no blanks around it')
+
+
+def options(made):
+    refused = made['refused.ceal']
+    reply = b'ok\nrefused C7: no finished run\nok\nrefused C1: unreadable line\n1\n'
+    told = f'run: {refused}:5: get m: refused C7: no finished run\nrun: {refused}:7: frob: refused C1: unreadable line\n'
+    call('--strict, with refused lines', ['--strict', refused], 67, reply, told)
+    call('--strict, with none', ['--strict', 'examples/inc.ceal'], 0, (TOP / 'examples/inc.expected').read_bytes(), '')
+    gap = ' ' * 12
+    shown = f'3  // a comment\n4  mod m int 1{gap}ok\n5  get m{gap}      refused C7: no finished run\n6  run f m{gap}    ok\n'
+    shown += f'7  frob{gap}       refused C1: unreadable line\n8  get m{gap}      1\n'
+    call('--beside', ['--beside', refused], 0, shown.encode())
+    call('--beside of a fault', ['--beside', made['place.ceal']], 1, b'fault S3 at 2:10: unexpected token\n', 'write(m')
+    call('--dot without a graph', ['--dot', refused], 65, b'', 'needs a line show')
+    call('--trace without a run', ['--trace', made['no_mark.ceal']], 1)
+    call('source and script in two files', [made['source.ceal'], made['script']], 0, b'ok\nok\nok\n2\n')
+    timed = call('--time', ['--time', 'examples/inc.ceal'], 0).decode()
+    is_right = re.fullmatch(r' +10  run inc a b .* ms   work 2\n +15  propagate .* ms   work 1\n', timed)
+    tell('the lines of --time', [] if is_right else [f'wrote {timed!r}'])
+
+
+def dumps(folder):
+    dump = call('dump', ['dump', 'examples/map.ceal'], 0)
+    pathlib.Path(folder, 'dump').write_bytes(dump)
+    call('verify with a dump in a file', ['verify', 'examples/map.ceal', f'{folder}/dump'], 0, b'yes\n')
+    pathlib.Path(folder, 'dump').write_bytes(dump.replace(b'\nw ', b'\nw i0.0 ', 1))
+    call('verify with a wrong dump', ['verify', 'examples/map.ceal', f'{folder}/dump'], 0, b'no K1: unreadable dump\n')
+
+
+def pages():
+    """The pictures and sessions of the pages, made anew."""
+    for page in (TOP / 'README.md', *sorted((TOP / 'docs').glob('*.md'))):
+        text = page.read_text()
+        for name in re.findall(r'^```dot dot=example-(\w+)$', text, re.M):
+            call(f'--dot of {name}', ['--dot', f'examples/{name}.ceal'], 0, (TOP / f'docs/pictures/{name}.dot').read_bytes())
+        for words, picture in re.findall(r'^\$ \./run (--trace .*) > (docs/pictures/\S+\.svg)$', text, re.M):
+            call(f'{picture} of {page.name}', words.split(), 0, (TOP / picture).read_bytes())
+
+
+def long_lists():
+    """What the tutorial's table says of an edit at the head of a list."""
+    for name, cells, steps, work in (
+        ('largest_one_key', 400, 2812, 2811),
+        ('largest_one_key', 4000, 28012, 28011),
+        ('largest', 400, 2812, 15),
+        ('largest', 4000, 28012, 15),
+    ):
+        source = (TOP / f'examples/{name}.ceal').read_text().split('\n%%\n')[0]
+        script = [f'new c{it} cell {it} {f"c{it + 1}" if it < cells else "null"}' for it in range(cells, 0, -1)]
+        script += ['mod list cell c1', 'mod result int 0', 'run largest list result', f'new c0 cell {cells + 1} c1', 'set list c0', 'propagate', 'steps', 'work']
+        given = '\n'.join([source, '%%', *script, '']).encode()
+        call(f'{name} of {cells} cells', ['-'], 0, b'ok\n' * (len(script) - 2) + f'{steps}\n{work}\n'.encode(), given=given)
+
+
+def streams():
+    example = (TOP / 'examples/inc.ceal').read_bytes()
+    expected = (TOP / 'examples/inc.expected').read_bytes()
+    call('a pipe', ['-'], 0, expected, given=example)
+    call('an input without an end', ['check', '-'], 3, b'', given=open('/dev/zero', 'rb'))
+    with open('/dev/full', 'wb') as full:
+        call('a full standard output', ['examples/inc.ceal'], 6, stdout=full)
+        call('a full standard output, for --beside', ['--beside', 'examples/inc.ceal'], 71, stdout=full)
+
+
+def unchanged():
+    """Every byte that the program answers is handed on as it is: for examples, and for some rows of each mode."""
+    for example in EXAMPLES:
+        words = re.match(rf'// \./run (.*) examples/{example.name}\n', example.read_text())
+        call(example.name, [*(words[1].split() if words else []), f'examples/{example.name}'], 0, example.with_suffix('.expected').read_bytes())
+    seen = {}
+    with tempfile.NamedTemporaryFile(suffix='.ceal') as file:
+        for row in rows.rows():
+            words = [it.decode(errors='replace') for it in row.words]
+            kind = words[0] if words else '', row.status
+            seen[kind] = seen.get(kind, 0) + 1
+            if kind[0] in ('run', 'check', 'list', 'dump', 'verify', 'many') and row.status in (0, 1) and seen[kind] <= 5 and '' not in words:
+                pathlib.Path(file.name).write_bytes(row.given())
+                call(f'row {row.name}', [*words, file.name], row.status, b''.join(row.output))
+
+
+def main(is_proved):
+    with tempfile.TemporaryDirectory(prefix='ceal-') as folder:
+        made = files(folder)
+        refused_at_once(folder)
+        signals(is_proved)
+        several(made)
+        if is_proved:
+            faults(made)
+            options(made)
+            dumps(folder)
+            pages()
+            long_lists()
+            streams()
+            unchanged()
+        else:
+            call('--time without a program', ['--time', 'examples/inc.ceal'], 70, b'', 'tell something')
+    print(f'{passed} passed, {failed} failed')
+    return int(failed > 0)
+
+
+if __name__ == '__main__':
+    sys.exit(main(sys.argv[1:] == ['proved']))
