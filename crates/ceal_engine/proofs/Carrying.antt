@@ -1,7 +1,8 @@
 -- A run with which a repair goes on, and what a slice of it is of the definition's repair.
 use Rattle.std.proofs.Common.{◌≡◌, ◌≢◌, ℕ, ◌+◌, ◌<◌, ◌≤◌, Bool, true, false, Option, Some, None, List, refl, sym, ap, subst, ◌∙◌, inl, inr, ◌⊎◌, arith}
 use Rattle.std.specs.Option.{IsSomeAnd, option_map}
-use Rattle.std.specs.Prelude.{◌↔◌, IsSome}
+use Rattle.std.specs.Prelude.{◌↔◌, IsSome, Ok, Err}
+use Rattle.std.proofs.lemmas.Bool.{false≢true}
 use Rattle.ceal_base.proofs.TraceLemmas.{trace-flat}
 use Rattle.ceal_base.specs.Block.{Block}
 use Rattle.ceal_base.specs.Trace.{Trace, flat, trace_of}
@@ -19,8 +20,11 @@ use Rattle.ceal_engine.proofs.RunMemory.{low-numbers}
 use Rattle.ceal_engine.specs.Completed.{finished, under_way, idle, opened, trace_in, IsOpenRun, IsSliceOf as IsSliceFor}
 use Rattle.ceal_engine.specs.Engine.{EngineState, IsWhole, has_run}
 use Rattle.ceal_engine.specs.Keeping.{IsPartKept, KeepsRun, Keeps, heap_in, state_of}
-use Rattle.ceal_engine.specs.Partial.{spent_in, words_in, carried_by, CarriesFrom, IsUnderWay, RenamedFrom, GoesOn, Ends, IsAnew, IsOut, Comes, KeepsWords}
+use Rattle.ceal_engine.specs.Partial.{spent_in, words_in, carried_by, CarriesFrom, IsUnderWay, RenamedFrom, progress_of, GoesOn, Ends, IsAnew, IsOut, Comes, ComesSo, KeepsWords}
 use Rattle.ceal_engine.specs.Repaired.{IsFirst}
+use Rattle.ceal_engine.specs.declared.phase.Came.{Came}
+use Rattle.ceal_engine.specs.declared.phase.Came.TheVariants as came
+use Rattle.ceal_engine.specs.declared.phase.Progress.{Progress}
 use Rattle.ceal_engine.specs.declared.phase.Phase.{Phase}
 use Rattle.ceal_engine.specs.declared.phase.Phase.TheVariants.{New, Finished as IsFinished, Pending, Partial, Dropped}
 use Rattle.ceal_engine.specs.declared.run_error.RunError.{RunError}
@@ -179,10 +183,10 @@ done-of : (code : Code) (inputs : List Block) (r : Repair) → IsHonest code inp
 done-of code inputs r = (is-done-law code inputs r).1
 
 not-done-of : (code : Code) (inputs : List Block) (r : Repair) → ¬ IsHonest code inputs r.items → is_done code inputs r ≡ false
-not-done-of code inputs r no = go (is_done code inputs r) refl
+not-done-of code inputs r stale = go (is_done code inputs r) refl
   where
     go : (t : Bool) → is_done code inputs r ≡ t → is_done code inputs r ≡ false
-    go true e = absurd (no ((is-done-law code inputs r).0 e))
+    go true e = absurd (stale ((is-done-law code inputs r).0 e))
     go false e = e
 
 one-trace : (l m : Trace) → flat l ≡ flat m → l ≡ m
@@ -263,9 +267,21 @@ module _ (code : Code) (fuel : ℕ) (inputs : List Block) (phase : Phase) (call 
       ∙ still-known code inputs call.function call.args fuel k.repair run k.of reads s.0 s.1 b block (k.of.stands.known b ∙ (ap (λ h. plain_of h (Core b)) same.heap ∙ w))
 
 -- where all was run anew there was no slice
-pub anew-comes : (e n : EngineState) (k : Option ℕ) (next' : ℕ) (r : Repair) → sliced e.code own e.inputs k e.fuel r ≡ None → (error : RunError) → Comes e n k next' r (Rattle.std.specs.Prelude.Err error)
+pub anew-comes : (e n : EngineState) (k : Option ℕ) (next' : ℕ) (r : Repair) → sliced e.code own e.inputs k e.fuel r ≡ None → (error : RunError) → Comes e n k next' r (Err error)
 anew-comes e n k next' r none Memory = tt
 anew-comes e n k next' r none RanOut = inl none
+
+-- where all was to be repaired, it has ended
+pub ended-so : (e n : EngineState) (next' : ℕ) (r : Repair) (far : Came) → Comes e n None next' r (Ok far) → (far ≡ came.More → IsSome {A = ℕ} None) → Ends e n None next' r ⊎ IsAnew e n None r
+ended-so e n next' r came.More c h = absurd (false≢true (h refl))
+ended-so e n next' r came.Done c h = inl c
+ended-so e n next' r came.Anew c h = inr c
+
+-- the same, where it is not told whether the call was run anew
+pub comes-so : (e n : EngineState) (k : Option ℕ) (next' : ℕ) (r : Repair) (far : Came) → Comes e n k next' r (Ok far) → (p : Progress) → p ≡ progress_of far → ComesSo e n k next' r (Ok p)
+comes-so e n k next' r came.More c p is = subst (λ q. ComesSo e n k next' r (Ok q)) (sym is) c
+comes-so e n k next' r came.Done c p is = subst (λ q. ComesSo e n k next' r (Ok q)) (sym is) (inl c)
+comes-so e n k next' r came.Anew c p is = subst (λ q. ComesSo e n k next' r (Ok q)) (sym is) (inr c)
 
 -- ---- in the words of the engine's functions
 

@@ -26,7 +26,7 @@ use crate::kept_call::{KeptCall, most_arguments};
 use crate::phase::{Came, Phase, Progress};
 use crate::reading::{content, plain_word, shape};
 use crate::run_error::RunError;
-use crate::running::{add, edit, open, rest, touch};
+use crate::running::{add, edit, reopen, rest, touch};
 use ceal_base::forest::Forest;
 use ceal_base::kind::Shape;
 use ceal_base::memory::{BlockWords, Inputs};
@@ -213,7 +213,7 @@ impl Engine {
 
     /// What so many reads, or all that are left, make of a repair that goes on.
     fn sliced(&self, reads: Option<u32>, old: Running) -> Result<Sliced, NoMemory>
-        requires open { IsOpenRun self.now.code self.now.fuel self.now.inputs self.now.call old }
+        requires ready { IsOpenRun self.now.code self.now.fuel self.now.inputs self.now.call old }
         requires some { reads ≢ Some 0 }
         ensures ok { IfOk result (λ s.
             IsSliceOf self.now.code self.now.fuel self.now.inputs self.now.call reads old s) }
@@ -390,7 +390,7 @@ impl Engine {
         ensures out_of_fuel { IfOutOfFuel result (fresh_of self.new ≡ None) }
         ensures dropped { OnErr result (self.new.phase ≡ Dropped) }
     {
-        open(&mut self.running, self.phase);
+        reopen(&mut self.running, self.phase);
         self.phase = Phase::Dropped;
         match self.running.take() {
             None => unreachable!(),

@@ -77,7 +77,7 @@ pub fn rest(run: &mut Option<Running>)
 }
 
 /// A run with which a repair goes on. Where a new repair begins nothing was run anew.
-pub fn open(run: &mut Option<Running>, phase: Phase)
+pub fn reopen(run: &mut Option<Running>, phase: Phase)
     ensures { run.new ≡ opened phase run.old }
 {
     match phase {
