@@ -271,17 +271,21 @@ pub anew-comes : (e n : EngineState) (k : Option ℕ) (next' : ℕ) (r : Repair)
 anew-comes e n k next' r none Memory = tt
 anew-comes e n k next' r none RanOut = inl none
 
+-- all reads, without a number
+abbrev all_reads : Option ℕ
+all_reads = None
+
 -- where all was to be repaired, it has ended
-pub ended-so : (e n : EngineState) (next' : ℕ) (r : Repair) (far : Came) → Comes e n None next' r (Ok far) → (far ≡ came.More → IsSome {A = ℕ} None) → Ends e n None next' r ⊎ IsAnew e n None r
-ended-so e n next' r came.More c h = absurd (false≢true (h refl))
-ended-so e n next' r came.Done c h = inl c
-ended-so e n next' r came.Anew c h = inr c
+pub ended-so : (e n : EngineState) (next' : ℕ) (r : Repair) (far : Came) → Comes e n None next' r (Ok far) → (far ≡ came.More → IsSome all_reads) → Ends e n None next' r ⊎ IsAnew e n None r
+ended-so before after next' r came.More c more = absurd (false≢true (more refl))
+ended-so before after next' r came.Done c more = inl c
+ended-so before after next' r came.Anew c more = inr c
 
 -- the same, where it is not told whether the call was run anew
 pub comes-so : (e n : EngineState) (k : Option ℕ) (next' : ℕ) (r : Repair) (far : Came) → Comes e n k next' r (Ok far) → (p : Progress) → p ≡ progress_of far → ComesSo e n k next' r (Ok p)
-comes-so e n k next' r came.More c p is = subst (λ q. ComesSo e n k next' r (Ok q)) (sym is) c
-comes-so e n k next' r came.Done c p is = subst (λ q. ComesSo e n k next' r (Ok q)) (sym is) (inl c)
-comes-so e n k next' r came.Anew c p is = subst (λ q. ComesSo e n k next' r (Ok q)) (sym is) (inr c)
+comes-so before after k next' r came.More c p is = subst (λ q. ComesSo before after k next' r (Ok q)) (sym is) c
+comes-so before after k next' r came.Done c p is = subst (λ q. ComesSo before after k next' r (Ok q)) (sym is) (inl c)
+comes-so before after k next' r came.Anew c p is = subst (λ q. ComesSo before after k next' r (Ok q)) (sym is) (inr c)
 
 -- ---- in the words of the engine's functions
 
