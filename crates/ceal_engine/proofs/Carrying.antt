@@ -203,10 +203,12 @@ module _ (code : Code) (fuel : ℕ) (inputs : List Block) (phase : Phase) (call 
 
   -- the engine's repair is carried to that of the run
   pub here : (next' : ℕ) (r : Repair) → (c : CarriesFrom e next' r) → Sound code own inputs call.function call.args r × Carried code inputs next' r k.repair
-  here next' r c = (subst (λ (d : Call). Sound code own inputs d.function d.args r) (some-same c.call call (sym c.called)) c.sound,
-      carried-same-law code inputs next' r (carried_by e c.items) k.repair c.carried items
-      (λ b. k.of.stands.known b ∙ ap (λ h. plain_of h (Core b)) same.heap)
-      (k.of.stands.spent ∙ same.spent))
+  here next' r c = (
+    subst (λ (d : Call). Sound code own inputs d.function d.args r) (some-same c.call call (sym c.called)) c.sound,
+    carried-same-law code inputs next' r (carried_by e c.items) k.repair c.carried items
+        (λ b. k.of.stands.known b ∙ ap (λ h. plain_of h (Core b)) same.heap)
+        (k.of.stands.spent ∙ same.spent),
+  )
     where
       items : k.repair.items ≡ c.items
       items = some-same k.repair.items c.items (sym (part-trace code fuel inputs call run k) ∙ (ap (λ t. trace_of (Rattle.ceal_trace.specs.Items.forest_of t.nodes)) same.trace ∙ c.is))

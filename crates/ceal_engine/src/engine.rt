@@ -218,14 +218,7 @@ impl Engine {
         ensures ok { IfOk result (λ s.
             IsSliceOf self.now.code self.now.fuel self.now.inputs self.now.call reads old s) }
     {
-        slice(
-            self.alloc,
-            &self.code,
-            &self.inputs,
-            reads,
-            self.fuel,
-            old,
-        )
+        slice(self.alloc, &self.code, &self.inputs, reads, self.fuel, old)
     }
 
     /// Takes a run of a repair that goes on.

@@ -22,10 +22,7 @@ fn push_node(items: &mut Vec<Item>, node: Seen<'_>) -> Result<(), NoMemory>
             Ok(())
         }
         Seen::Write { place, value } => {
-            items.push(Item::Write {
-                place,
-                value,
-            })?;
+            items.push(Item::Write { place, value })?;
             Ok(())
         }
         Seen::Read {
