@@ -12,7 +12,7 @@ use std::alloc::Global;
 
 /// Adds the item of a node; the root has none.
 fn push_node(items: &mut Vec<Item>, node: Seen<'_>) -> Result<(), NoMemory>
-    ensures { OnOk result (items.new.items ≡ items.old.items ++ item_of (seen node)) }
+    ensures { OnOk result (items.new.items ≡ items.old.items ++ item_of (seen node.entry)) }
 {
     match node {
         Seen::Root => Ok(()),
@@ -22,10 +22,7 @@ fn push_node(items: &mut Vec<Item>, node: Seen<'_>) -> Result<(), NoMemory>
             Ok(())
         }
         Seen::Write { place, value } => {
-            items.push(Item::Write {
-                place,
-                value,
-            })?;
+            items.push(Item::Write { place, value })?;
             Ok(())
         }
         Seen::Read {

@@ -22,7 +22,9 @@ fn make<R: Abort>(rt: &R, heap: &mut Heap, words: &[Word]) -> BlockId
     ensures known { IsSome (block_of heap.new result) }
     ensures others { KeepsBlocks result heap.old heap.new }
 {
-    heap.make(CELL, Key::ModInt, words).expect(rt, "memory")
+    heap.make(CELL, Key::ModInt, words)
+        .expect(rt, "memory")
+        .block
 }
 
 // The block holds a word of each kind, of which the last is this.
@@ -81,20 +83,21 @@ fn revokes_the_first<R: Abort>(rt: &R, heap: &mut Heap) {
     equal(rt, heap.field(first, 0), Word::Num(1));
 }
 
-// The number of the first block waits for a cell.
+// The number of the first block, a cell, goes to a node.
 fn releases_the_first<R: Abort>(rt: &R, heap: &mut Heap) {
     heap.release_revoked();
     equal(rt, heap.live_count(), 1);
     let third = heap.make(NODE, Key::ModInt, &[]).expect(rt, "memory");
-    equal(rt, third, BlockId::Core(2));
+    equal(rt, third.block, BlockId::Core(0));
+    holds(rt, third.before == Some(CELL));
     let fourth = make(rt, heap, &[Word::Num(4)]);
-    equal(rt, fourth, BlockId::Core(0));
+    equal(rt, fourth, BlockId::Core(2));
     equal(rt, heap.field(fourth, 0), Word::Num(4));
     equal(rt, heap.live_count(), 3);
 }
 
 #[test]
-fn a_number_waits_for_its_shape(rt: HostRuntime) {
+fn a_number_goes_to_any_shape(rt: HostRuntime) {
     let mut heap = Heap::new(rt.alloc()).expect(&rt, "memory");
     revokes_the_first(&rt, &mut heap);
     releases_the_first(&rt, &mut heap);
@@ -148,12 +151,13 @@ fn make_second<R: Abort>(rt: &R, heap: &mut Heap, first: BlockId) -> BlockId
     requires { IsSome (block_of heap.old first) }
 {
     if let Ok(second) = heap.make(NODE, Key::ModPtr(0), &[Word::Num(2)]) {
-        return second;
+        return second.block;
     }
     equal(rt, heap.live_count(), 1);
     equal(rt, heap.field(first, 0), Word::Num(1));
     heap.make(NODE, Key::ModPtr(0), &[Word::Num(2)])
         .expect(rt, "memory")
+        .block
 }
 
 fn makes_two_blocks<R: Abort>(rt: &R, heap: &mut Heap) {

@@ -1,5 +1,6 @@
 use Rattle.std.proofs.Common.{◌∙◌, subst}
 use Rattle.ceal_engine.proofs.Flattening.{Walking, walk-first, walk-there, walk-more, walk-last}
+use Rattle.ceal_trace.specs.Nodes.{seen}
 use Rattle.ceal_engine.proofs.items.flat_items.Goals as goal
 
 pub loop-node-init : goal.loop-node-init
@@ -22,7 +23,7 @@ next-next-requires c =
 pub loop-node-preserved : goal.loop-node-preserved
 loop-node-preserved c =
     walk-more c.args.trace.now.nodes c.root.ensures.whole.order.distinct c.loop-node.items.items c.in-Some.stamp
-    (subst (λ n. Walking c.args.trace.now.nodes c.loop-node.items.items n) c.in-Some.is c.loop-node.invariant) c.node.result.now c.node.ensures.node c.steps_at.result c.steps_at.ensures c.next-next.result
+    (subst (λ n. Walking c.args.trace.now.nodes c.loop-node.items.items n) c.in-Some.is c.loop-node.invariant) (seen c.node.result) c.node.ensures.node c.steps_at.result c.steps_at.ensures c.next-next.result
     (rw c.order.ensures at c.next-next.ensures.next) (rw c.order.ensures at c.next-next.ensures.last) c.push_node.new.items.items c.push_steps.new.items.items c.in_ok-push_node-in-Some.ensures
     c.in_ok-push_steps-in-Some.ensures
 

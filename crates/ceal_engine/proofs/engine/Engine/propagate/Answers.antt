@@ -1,5 +1,7 @@
-use Rattle.std.proofs.Common.{◌∙◌, ap, subst}
+use Rattle.std.proofs.Common.{◌∙◌, ap, refl, subst}
+use Rattle.std.proofs.lemmas.Result.{err_from_is_err_and}
 use Rattle.std.specs.Option.{option_map}
+use Rattle.ceal_engine.proofs.Carrying.{ended-so}
 use Rattle.ceal_engine.proofs.Propagated.{finished-clause, sound-idle, idle-forest, idle-work}
 use Rattle.ceal_engine.proofs.Present.{sound-present}
 use Rattle.ceal_engine.specs.Completed.{idle}
@@ -11,11 +13,20 @@ pub returns-in-Finished-clause-present : goal.returns-in-Finished-clause-present
 returns-in-Finished-clause-present c =
     rw c.rest.ensures
     (sound-present c.self.inside.code c.self.inside.fuel c.self.inside.inputs c.self.inside.call c.self.inside.phase (option_map idle c.self.inside.running)
-    (sound-idle c.self.inside.code c.self.inside.fuel c.self.inside.inputs c.self.inside.phase c.self.inside.call c.self.inside.running c.self.invariant) c.in-Finished.is)
+    (sound-idle c.self.inside.code c.self.inside.fuel c.self.inside.inputs c.self.inside.phase (rw c.in-Finished.is refl) c.self.inside.call c.self.inside.running c.self.invariant) c.in-Finished.is)
 
 pub returns-in-Finished-clause-repaired : goal.returns-in-Finished-clause-repaired
-returns-in-Finished-clause-repaired c = λ l e.
+returns-in-Finished-clause-repaired c = λ w l e.
     rw c.rest.ensures
     (finished-clause c.self.inside.code c.self.inside.fuel c.self.inside.inputs c.self.inside.call.call c.self.inside.running
     (subst (λ p. Keeps c.self.inside.code c.self.inside.fuel c.self.inside.inputs p c.self.inside.call.call c.self.inside.running) c.in-Finished.is c.self.invariant.keeps) c.self.inside.phase
     (option_map idle c.self.inside.running) (idle-forest c.self.inside.running) (idle-work c.self.inside.running) l (ap trace c.self.view_is ∙ e))
+
+pub returns-in_ok-go_on-in-Partial-clause-partial : goal.returns-in_ok-go_on-in-Partial-clause-partial
+returns-in_ok-go_on-in-Partial-clause-partial c = λ e next r carries.
+    ended-so c.args.self.now c.go_on.new.self next r c.in_ok-go_on-in-Partial.field-0 (c.in_ok-go_on-in-Partial.ensures.comes next r carries) c.in_ok-go_on-in-Partial.ensures.more
+
+pub returns-in_err-go_on-in-Partial-clause-partial : goal.returns-in_err-go_on-in-Partial-clause-partial
+returns-in_err-go_on-in-Partial-clause-partial c = λ e next r carries.
+    let error = err_from_is_err_and c.from_residual.result c.from_residual.ensures.1 in
+    rw (error.1, error.2) (c.in_err-go_on-in-Partial.ensures.comes next r carries)
