@@ -155,8 +155,15 @@ module _ (p : Program) (fs : List TypedFunction) (names : p.names ≡ map struct
       (λ all k. record {
         more = member_fields d.form d.name.text m.kind ++ k.more;
         is = k.is ∙ ap (λ (l : List FieldInfo). l ++ k.more) m.is ∙ append_assoc (map field_info fields) (member_fields d.form d.name.text m.kind) k.more;
-        agrees = (m.kind, k.more, m.is_kind, m.new, m.new_row, refl,
-            subst (λ (l : List Name). MembersResolve (Whole p fs) l ds k.more) (keys-given fields some (member_fields d.form d.name.text m.kind) m.is) k.agrees);
+        agrees = (
+          m.kind,
+          k.more,
+          m.is_kind,
+          m.new,
+          m.new_row,
+          refl,
+          subst (λ (l : List Name). MembersResolve (Whole p fs) l ds k.more) (keys-given fields some (member_fields d.form d.name.text m.kind) m.is) k.agrees,
+        );
       })
       (members-go ds some))
 
