@@ -28,10 +28,7 @@ fn item_of(node: Seen<'_>) -> Result<Option<Item>, NoMemory> {
             let key = key.copy()?;
             Ok(Some(Item::Alloc { block, key }))
         }
-        Seen::Write { place, value } => Ok(Some(Item::Write {
-            place,
-            value,
-        })),
+        Seen::Write { place, value } => Ok(Some(Item::Write { place, value })),
         Seen::Read {
             place,
             value,
