@@ -68,19 +68,6 @@ module _ (test : Number → Bool) where
   tally_some (z ∷ xs) zero x some passes = let e = ap one_if (ap test (same_Some z x some) ∙ passes) in omega (arith, e)
   tally_some (z ∷ xs) (suc i) x some passes = let e = tally_some xs i x some passes in omega (arith, e)
 
--- fewer pass the stricter of two tests
-module _ (strict lax : Number → Bool) (within : (x : Number) → one_if (strict x) ≤ one_if (lax x)) where
-  tally_within : (xs : List Number) → tally strict xs ≤ tally lax xs
-  tally_within [] = omega arith
-  tally_within (x ∷ xs) = let e = tally_within xs in let one = within x in omega (arith, e, one)
-
-  pub tally_less : (xs : List Number) (i : ℕ) (x : Number) → slice_get xs i ≡ Some x → strict x ≡ false → lax x ≡ true → tally strict xs < tally lax xs
-  tally_less [] i x some fails passes = absurd (none-some x some)
-  tally_less (z ∷ xs) zero x some fails passes =
-      let e = ap one_if (ap strict (same_Some z x some) ∙ fails) in let f = ap one_if (ap lax (same_Some z x some) ∙ passes) in
-      let most = tally_within xs in omega (arith, e, f, most)
-  tally_less (z ∷ xs) (suc i) x some fails passes = let e = tally_less xs i x some fails passes in let one = within z in omega (arith, e, one)
-
 times_push : (n m : ℕ) (ns : List ℕ) → times n (ns ++ m ∷ []) ≡ times n ns + one_if (m == n)
 times_push n m [] = omega arith
 times_push n m (k ∷ ns) = let e = times_push n m ns in omega (arith, e)
