@@ -31,8 +31,8 @@ use Rattle.ceal_theory.specs.Slices.{Repair, Slices, sliced, repair_at, goes_on,
 
 in-count : (b : ℕ) (bs : List ℕ) → In b bs → 1 ≤ count b bs
 in-count b [] i = elim i [ ]
-in-count b (c ∷ bs) here = elim (eqb_tells b b) [ | inl e ↦ rw e.0 (omega arith) | inr e ↦ absurd (e.1 refl) ]
-in-count b (c ∷ bs) (there i) = elim (eqb_tells c b) [ | inl e ↦ rw e.0 (omega arith) | inr e ↦ rw e.0 (omega (arith, in-count b bs i)) ]
+in-count b (c ∷ bs) here = elim (eqb_tells b b) [ inl e ↦ rw e.0 (omega arith) | inr e ↦ absurd (e.1 refl) ]
+in-count b (c ∷ bs) (there i) = elim (eqb_tells c b) [ inl e ↦ rw e.0 (omega arith) | inr e ↦ rw e.0 (omega (arith, in-count b bs i)) ]
 
 no-turns-more : (n : ℕ) → turns_more n 0 ≡ n
 no-turns-more zero = refl

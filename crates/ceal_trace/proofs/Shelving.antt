@@ -286,11 +286,3 @@ fewer (x ∷ xs) =
 
 pub apart_less : (h : Slab Held) (a : Slab Apart) → IsFit h a → slab_len a ≤ slab_len h
 apart_less h a fit = let least = fewer h.slots in let count = fit.count in omega arith
-
--- a node is there exactly where its small part is
-pub held_there : (h : Slab Held) (a : Slab Apart) (key : ℕ) → IsSome (whole_in a (get h key)) → IsSome (get h key)
-held_there h a key some = by (get h key) some
-  where
-    by : (o : Option Held) → IsSome (whole_in a o) → IsSome o
-    by None some = some
-    by (Some x) some = refl

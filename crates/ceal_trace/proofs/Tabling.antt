@@ -183,9 +183,6 @@ module _ (slots slots1 slots' : List Slot) (shelf shelf' : Shelf) (s : ℕ) (was
     count = less.count;
   }
 
-  pub taken_steps : was.steps ≡ steps_of (table slots shelf) s
-  taken_steps = ap (λ (x : Slot). x.steps) taken.is ∙ sym (steps_is slots shelf is s)
-
 -- ---- another value
 
 module _ (slots : List Slot) (shelf shelf' : Shelf) (s : ℕ) (value : Word) (is : IsTable slots shelf)
@@ -244,9 +241,6 @@ module _ (slots : List Slot) (shelf shelf' : Shelf) (s : ℕ) (value : Word) (sl
     (held : held_at (table slots shelf) s ≡ true) (its : slot ≡ slot_of slots s) (set : ValuedAt slot.key value shelf shelf') where
   set_there : ValuedAt (key_of slots s) value shelf shelf'
   set_there = subst (λ (x : Slot). ValuedAt x.key value shelf shelf') its set
-
-  pub slot_value_table : IsTable slots shelf'
-  slot_value_table = value_table slots shelf shelf' s value is held set_there
 
   pub slot_value_set : ValueSet s value (table slots shelf) (table slots shelf')
   slot_value_set = value_set slots shelf shelf' s value is held set_there

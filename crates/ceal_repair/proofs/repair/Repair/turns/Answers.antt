@@ -50,8 +50,7 @@ returns-clause-sure c = λ f args o before h honest. absurd (omega (arith, c.loo
 
 pub returns-then-has_stale-clause-ended : goal.returns-then-has_stale-clause-ended
 returns-then-has_stale-clause-ended c = λ f args o before h.
-    let s = c.has_stale.ensures.stale c.if-has_stale.true in
-    (
+    let s = c.has_stale.ensures.stale c.if-has_stale.true in (
       c.loop-turn.turn,
       c.is_last.ensures.last c.if-is_last.true,
       is-under-way c.args.self.now c.loop-turn.self c.loop-turn.turn c.loop-turn.invariant.turning c.has_stale.new.self c.has_stale.ensures.kept c.has_stale.ensures.cells c.has_stale.ensures.trace s.0 s.1 f args o before h,
