@@ -38,8 +38,11 @@ only-both id old mid new ko km trace first second s i was_not = go (is_in s mid.
     go false was = let found = second s i was in (found.0, found.1, rw (← reads-same old mid ko km trace found.0) found.2)
 
 -- the word of a field, or its default where there is none
+abbrev pub field-word : List StructInfo → Shape → List Word → ℕ → Word
+field-word structs shape words field = unwrap_or (slice_get words field) (field_default (field_kind structs shape field))
+
 pub set-word : (structs : List StructInfo) (shape : Shape) (words : List Word) (n : ℕ) (kind : FieldKind) (word : Word) → Some kind ≡ field_kind structs shape n
-    → word ≡ unwrap_or (slice_get words n) (default_of_field kind) → word ≡ unwrap_or (slice_get words n) (field_default (field_kind structs shape n))
+    → word ≡ unwrap_or (slice_get words n) (default_of_field kind) → word ≡ field-word structs shape words n
 set-word structs shape words n kind word is_kind is = rw (← is_kind) is
 
 module _ (structs : List StructInfo) (id : BlockId) (shape : Shape) (value : ℕ → Word) where

@@ -19,7 +19,7 @@ use Rattle.ceal_mods.specs.Mods.{Contents, HasCell, cell_of, Changes, Follows as
 use Rattle.ceal_mods.specs.declared.cell.Cell.{Cell}
 use Rattle.ceal_order.specs.Stamps.{is_in, head_of}
 use Rattle.ceal_queue.specs.Queue.{Waiting}
-use Rattle.ceal_repair.proofs.BaseSteps.{reads-same, Setting, setting-plain, setting-more}
+use Rattle.ceal_repair.proofs.BaseSteps.{reads-same, field-word, set-word, Setting, setting-plain, setting-more}
 use Rattle.ceal_repair.proofs.Editing.{edit-tabled, edit-reads, edit-kept}
 use Rattle.ceal_repair.proofs.Keeping.{tables}
 use Rattle.ceal_repair.proofs.Tabling.{other-place}
@@ -136,7 +136,7 @@ unread-kept old k p v mods change unread follows = record {
 
 -- how far the bases are set
 pub record Placing (structs : List StructInfo) (input : ℕ) (shape : Shape) (words : List Word) (old t : Tables) (n : ℕ) : Type 0 where
-  pub setting : Setting structs (Input input) shape words old t n
+  pub setting : Setting structs (Input input) shape (field-word structs shape words) old t n
   pub touched : IsTouched structs input shape t.mods
   pub unread : (field : ℕ) → (cell_of t.mods (record { block = Input input; field = field })).reads ≡ []
 
@@ -144,7 +144,7 @@ module _ (structs : List StructInfo) (input : ℕ) (shape : Shape) (words : List
   pub placing-plain : (old t : Tables) (n : ℕ) → Placing structs input shape words old t n → (kind : FieldKind) → Some kind ≡ field_kind structs shape n → is_cell (Some kind) ≡ false
       → Placing structs input shape words old t (n + 1)
   placing-plain old t n s kind is not_cell =
-      record { setting = setting-plain structs (Input input) shape words old t n s.setting kind is not_cell; touched = s.touched; unread = s.unread }
+      record { setting = setting-plain structs (Input input) shape (field-word structs shape words) old t n s.setting kind is not_cell; touched = s.touched; unread = s.unread }
 
   pub placing-more : (old t t' : Tables) (n : ℕ) (value : Word) → Kept old → Placing structs input shape words old t n → (kind : FieldKind) → Some kind ≡ field_kind structs shape n → is_cell (Some kind) ≡ true
       → value ≡ unwrap_or (slice_get words n) (default_of_field kind)
@@ -152,7 +152,7 @@ module _ (structs : List StructInfo) (input : ℕ) (shape : Shape) (words : List
       → ((p : Place) → base_in t'.mods p ≡ stored (base_in t.mods) (record { block = Input input; field = n }) value p)
       → ((p : Place) → HasCell t.mods p → HasCell t'.mods p) → Kept t' → Placing structs input shape words old t' (n + 1)
   placing-more old t t' n value ko s kind is cell is_value trace memo queue base others kept = record {
-    setting = setting-more structs (Input input) shape words old t t' n value ko s.setting kind is cell is_value trace memo base
+    setting = setting-more structs (Input input) shape (field-word structs shape words) old t t' n value ko s.setting kind is cell (set-word structs shape words n kind value is is_value) trace memo base
         (λ r a b. absurd (let no : true ≡ false = sym a ∙ (ap (λ (q : Waiting). is_in r q.stamps) queue ∙ b) in cc)) kept;
     touched = λ field c. others (record { block = Input input; field = field }) (s.touched field c);
     unread = λ field. reads-same t t' s.setting.kept kept trace (record { block = Input input; field = field }) ∙ s.unread field;
