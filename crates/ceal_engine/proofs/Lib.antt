@@ -10,3 +10,5 @@ pub mod ReadRun
 pub mod Flattening
 pub mod NewInput
 pub mod Carrying
+pub mod Restored
+pub mod EngineLaws

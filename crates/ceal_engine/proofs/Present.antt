@@ -141,7 +141,7 @@ not-both phase e h = absurd (grind (arith, rw e at h))
 not-finished : (phase : Phase) → phase ≡ Partial → phase ≡ IsFinished → ⊥
 not-finished phase e h = absurd (grind (arith, rw h at e))
 
-whole-run : (phase : Phase) → IsWhole phase → has_run phase ≡ true
+pub whole-run : (phase : Phase) → IsWhole phase → has_run phase ≡ true
 whole-run New h = absurd (grind (arith, h))
 whole-run IsFinished h = refl
 whole-run Pending h = refl

@@ -1,5 +1,5 @@
 -- What becomes of the run that an engine keeps.
-use Rattle.std.proofs.Common.{◌≡◌, ℕ, Option, Some, None, List, ◌++◌, refl, sym, ap, ◌∙◌, subst}
+use Rattle.std.proofs.Common.{◌≡◌, ℕ, true, false, Option, Some, None, List, ◌++◌, refl, sym, ap, ◌∙◌, subst}
 use Rattle.std.specs.Option.{IsSomeAnd, option_map}
 use Rattle.ceal_base.specs.Block.{Block}
 use Rattle.ceal_base.specs.Trace.{Trace}
@@ -10,8 +10,8 @@ use Rattle.ceal_code.specs.Program.{Code}
 use Rattle.ceal_code.specs.Replay.{IsHonest, bases}
 use Rattle.ceal_engine.proofs.Present.{trace-kept, whole-kept}
 use Rattle.ceal_engine.proofs.Repairs.{still-repaired}
-use Rattle.ceal_engine.specs.Completed.{finished, trace_in, idle, IsOldRun, IsRepairedOf, IsRepairOf, IsStillHonest}
-use Rattle.ceal_engine.specs.Engine.{IsWhole, stands_for}
+use Rattle.ceal_engine.specs.Completed.{finished, trace_in, idle, told, IsOldRun, IsRepairedOf, IsRepairOf, IsStillHonest}
+use Rattle.ceal_engine.specs.Engine.{IsWhole, has_run, stands_for}
 use Rattle.ceal_engine.specs.Keeping.{Kept, forest_in, work_kept, state_of, KeepsRun, Keeps, Sound}
 use Rattle.ceal_engine.specs.Repaired.{IsRepaired, IsUnchanged}
 use Rattle.ceal_engine.specs.declared.phase.Phase.{Phase}
@@ -117,3 +117,39 @@ idle-forest (Some run) = refl
 pub idle-work : (run : Option Running) → work_kept (option_map idle run) ≡ 0
 idle-work None = refl
 idle-work (Some run) = refl
+
+-- ---- a run of which some work is told
+
+module _ (code : Code) (fuel : ℕ) (inputs : List Block) (phase : Phase) (whole : IsWhole phase) (work : ℕ) where
+  told-run : (f : ℕ) (args : List Word) (l : Trace) (run : Running) → IsKeptRun code inputs f args fuel l run → IsKeptRun code inputs f args fuel l (told work run)
+  told-run f args l run k = record {
+    stands = record { kept = k.stands.kept; nests = k.stands.nests; items = k.stands.items; words = k.stands.words; released = k.stands.released; slots = k.stands.slots; blocks = k.stands.blocks };
+    fits = k.fits;
+    replays = k.replays;
+    few = k.few;
+  }
+
+  keeps-told : (call : Option Call) (run : Option Running) → Keeps code fuel inputs phase call run → Keeps code fuel inputs phase call (option_map (told work) run)
+  keeps-told call None k = k
+  keeps-told None (Some run) k = k
+  keeps-told (Some call) (Some run) h = let k = whole-kept code fuel inputs phase call run h whole in
+      KeepsRun.whole (record { whole = whole; trace = k.trace; of = told-run call.function call.args k.trace run k.of; present = k.present })
+
+  pub sound-told : (kept : Kept) (run : Option Running) → Sound code fuel inputs kept phase run → Sound code fuel inputs kept phase (option_map (told work) run)
+  sound-told kept run s = record {
+    is_valid = s.is_valid;
+    limits = s.limits;
+    fit = s.fit;
+    count = s.count;
+    calls = s.calls;
+    uncalled = s.uncalled;
+    new = s.new;
+    room = s.room;
+    keeps = keeps-told kept.call run s.keeps;
+  }
+
+-- of a finished run, nothing else of the engine changes
+pub told-state : (code : Code) (fuel : ℕ) (inputs : List Block) (call : Option Call) (phase : Phase) (run : Option Running) (work : ℕ) → phase ≡ IsFinished → Keeps code fuel inputs phase call run
+    → state_of code fuel inputs call phase (option_map (told work) run) ≡ record (state_of code fuel inputs call phase run) { work = work }
+told-state code fuel inputs call phase None work e k = absurd (let h : has_run IsFinished ≡ false = subst (λ p. has_run p ≡ false) e k in cc h)
+told-state code fuel inputs call phase (Some run) work e k = refl

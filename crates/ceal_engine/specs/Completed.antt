@@ -66,6 +66,10 @@ IsRepairOf code fuel inputs (Some call) old run =
 abbrev pub idle : Running → Running
 idle run = record run { spent = 0 }
 
+-- a run of which so much work is told
+abbrev pub told : ℕ → Running → Running
+told work run = record run { spent = work }
+
 -- an engine that has this part of a repair
 abbrev pub under_way : Code → ℕ → List Block → Option Call → Running → EngineState
 under_way code fuel inputs call run = state_of code fuel inputs call Partial (Some run)

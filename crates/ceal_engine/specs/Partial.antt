@@ -7,7 +7,7 @@ use Rattle.ceal_base.specs.declared.call.Call.{Call}
 use Rattle.ceal_base.specs.declared.word.BlockId.TheVariants.{Core}
 use Rattle.ceal_code.specs.Alike.{Pairs, Tied, TraceAlike, OneToOne}
 use Rattle.ceal_code.specs.Value.{Plain}
-use Rattle.ceal_engine.specs.Engine.{EngineState, trace}
+use Rattle.ceal_engine.specs.Engine.{EngineState, IsEngine, IsWhole, trace}
 use Rattle.ceal_engine.specs.Repaired.{IsFirst}
 use Rattle.ceal_engine.specs.declared.phase.Came.{Came}
 use Rattle.ceal_engine.specs.declared.phase.Came.TheVariants as came
@@ -18,9 +18,10 @@ use Rattle.ceal_engine.specs.declared.phase.Progress.TheVariants.{More, Done}
 use Rattle.ceal_engine.specs.declared.run_error.RunError.{RunError}
 use Rattle.ceal_engine.specs.declared.run_error.RunError.TheVariants.{Memory, OutOfFuel}
 use Rattle.ceal_heap.specs.Heap.{Contents, plain_of}
+use Rattle.ceal_theory.specs.Adjust.{Above, Extended}
 use Rattle.ceal_theory.specs.Carried.{Carried}
 use Rattle.ceal_theory.specs.Repair.{own}
-use Rattle.ceal_theory.specs.Slices.{Repair, sliced, is_done, Sound}
+use Rattle.ceal_theory.specs.Slices.{Repair, beginning, sliced, is_done, Sound}
 
 -- the phase after a slice, by how far it has come
 abbrev pub phase_after : Progress → Phase
@@ -126,3 +127,21 @@ EndsSo e n next r (Err error) = Comes e n None next r (Err error)
 -- each block that could be read can be read still, and has the same words
 abbrev pub KeepsWords : Option Contents → Option Contents → Type 0
 KeepsWords before after = (b : ℕ) (block : Block) → words_in before (Core b) ≡ Some block → words_in after (Core b) ≡ Some block
+
+-- The engine has the call, the trace, the blocks and the number of steps spent that it had, on inputs that extend its own.
+pub record SameRepair (e n : EngineState) : Type 0 where
+  pub code : n.code ≡ e.code
+  pub call : n.call ≡ e.call
+  pub forest : n.forest ≡ e.forest
+  pub heap : n.heap ≡ e.heap
+  pub spent : spent_in n.phase n.work ≡ spent_in e.phase e.work
+  pub inputs : Extended e.code e.inputs n.inputs
+
+-- an engine with a run carries the repair that begins from its trace
+abbrev pub BeginsLaw : Type 0
+BeginsLaw = (e : EngineState) → IsEngine e → IsWhole e.phase → (l : Trace) → trace e ≡ Some l → (next : ℕ) → Above next l
+    → CarriesFrom e next (beginning e.code e.inputs l next)
+
+-- behind an edit, and with one input more, it carries the repair that it carried
+abbrev pub KeptLaw : Type 0
+KeptLaw = (e n : EngineState) → IsEngine e → IsEngine n → SameRepair e n → (next : ℕ) (r : Repair) → CarriesFrom e next r → CarriesFrom n next r

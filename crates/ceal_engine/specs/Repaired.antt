@@ -1,12 +1,15 @@
 -- What a run and a propagation make of the trace.
 use Rattle.std.specs.Option.{IsSomeAnd}
-use Rattle.std.specs.Prelude.{◌≡◌, ℕ, Option, Some, None, IfSome, List, ◌++◌}
+use Rattle.std.specs.Prelude.{◌≡◌, ℕ, ◌≤◌, Option, Some, None, IfSome, List, ◌++◌}
 use Rattle.ceal_base.specs.Block.{Block}
-use Rattle.ceal_base.specs.Trace.{Trace, steps_of}
+use Rattle.ceal_base.specs.Trace.{Trace, flat, steps_of}
 use Rattle.ceal_base.specs.declared.call.Call.{Call}
+use Rattle.ceal_base.specs.declared.forest.Item.{Item}
+use Rattle.ceal_base.specs.declared.word.Word.{Word}
 use Rattle.ceal_code.specs.Alike.{Pairs, OneToOne, TraceAlike}
+use Rattle.ceal_code.specs.Fitting.{Fits}
 use Rattle.ceal_code.specs.Program.{Code}
-use Rattle.ceal_code.specs.Replay.{bases}
+use Rattle.ceal_code.specs.Replay.{Replays, IsHonest, bases}
 use Rattle.ceal_engine.specs.Engine.{EngineState, trace}
 use Rattle.ceal_theory.specs.Adjust.{Above}
 use Rattle.ceal_theory.specs.Computed.{Repaired, adjusted, first_of}
@@ -67,3 +70,16 @@ abbrev pub KeepsFront : EngineState → EngineState → Type 0
 KeepsFront old new =
     IfSome old.timeline (λ t. (front back : List Entry) → t.nodes ≡ front ++ back → AgreesAll old.code (bases old.code old.inputs) (forest_of front)
     → IsSomeAnd new.timeline (λ u. (later : List Entry) × (u.nodes ≡ front ++ later)))
+
+-- The flat items are those of a trace of the call that is honest on the inputs and has no more steps than the fuel.
+pub record IsRestorable (code : Code) (fuel : ℕ) (inputs : List Block) (f : ℕ) (args : List Word) (items : List Item) : Type 0 where
+  pub trace : Trace
+  pub flat_form : items ≡ flat trace
+  pub fits : Fits code inputs f args
+  pub replays : Replays code inputs f args trace
+  pub honest : IsHonest code inputs trace
+  pub few : steps_of trace ≤ fuel
+
+-- the trace is that of these items with its core blocks renamed one to one
+abbrev pub IsRestored : List Item → Trace → Type 0
+IsRestored items m = (l : Trace) → items ≡ flat l → IsRenamed l m

@@ -3,7 +3,7 @@
 ghost use Rattle.std.specs.Prelude.{◌≡◌, ◌≢◌, ℕ, ◌∷◌, [], ◌++◌, ◌<◌, ◌≤◌, ◌+◌, ◌^◌, true, Some, None, IfOk, IfSome, IsSome, IsOk, OnOk, OnErr, MatchOption, List, length, slice_get};
 ghost use Rattle.std.specs.Option.{option_map, IsSomeAnd};
 ghost use Rattle.ceal_base.specs.Access.{word_in};
-ghost use Rattle.ceal_base.specs.Fitting.{block_fits, kind_in};
+ghost use Rattle.ceal_base.specs.Fitting.{block_fits, inputs_fit, kind_in};
 ghost use Rattle.ceal_base.specs.Trace.{Trace as TraceOf};
 ghost use Rattle.ceal_base.specs.declared.word.BlockId.TheVariants.{Input};
 ghost use Rattle.ceal_code.specs.Fitting.{Fits};
@@ -14,7 +14,7 @@ ghost use Rattle.ceal_engine.specs.Engine.{InLimits, alone, block_in, stored_at,
 ghost use Rattle.ceal_engine.specs.Completed.{finished, under_way, IsFirstOf, IsOldRun, IsRepairOf, IsStillHonest, IsOpenRun, IsSliceOf};
 ghost use Rattle.ceal_engine.specs.Keeping.{Keeps};
 ghost use Rattle.ceal_engine.specs.Partial.{phase_after, phase_behind, CarriesFrom, IsUnderWay, Comes, ComesSo, EndsSo, KeepsWords};
-ghost use Rattle.ceal_engine.specs.Repaired.{IsFirst, IsRepaired, IsUnchanged, KeepsFront};
+ghost use Rattle.ceal_engine.specs.Repaired.{IsFirst, IsRepaired, IsRestorable, IsRestored, IsUnchanged, KeepsFront};
 ghost use Rattle.ceal_engine.specs.declared.phase.Phase.TheVariants.{New, Finished, Pending, Partial, Dropped};
 ghost use Rattle.ceal_repair.specs.Lists.{IsTabled};
 ghost use Rattle.ceal_repair.specs.Words.{HasBases};
@@ -26,7 +26,7 @@ use crate::kept_call::{KeptCall, most_arguments};
 use crate::phase::{Came, Phase, Progress};
 use crate::reading::{content, plain_word, shape};
 use crate::run_error::RunError;
-use crate::running::{add, edit, reopen, rest, touch};
+use crate::running::{add, edit, reopen, rest, tell, touch};
 use ceal_base::forest::Forest;
 use ceal_base::kind::Shape;
 use ceal_base::memory::{BlockWords, Inputs};
@@ -118,6 +118,80 @@ impl Engine {
             phase: Phase::New,
             running: None,
         })
+    }
+
+    /// An engine with a finished run of a call on these inputs, of which so much work is told. The forest is a trace of the
+    /// call that is honest on the inputs, so the run from scratch leaves that trace, up to the numbers of its core blocks;
+    /// the call is run, and the forest is not looked at.
+    pub fn restore(
+        alloc: Global,
+        code: Code,
+        fuel: u32,
+        inputs: &Inputs,
+        function: u32,
+        args: &[Word],
+        forest: &Forest,
+        work: u32,
+    ) -> Result<Engine, NoMemory>
+        requires valid { valid code ≡ true }
+        requires fuel { InLimits fuel }
+        requires few { length inputs.now < 2 ^ 32 }
+        requires trace { IsRestorable code fuel inputs.now function args.now forest.now }
+        ensures code { IfOk result (λ e. e.code ≡ code) }
+        ensures fuel { IfOk result (λ e. e.fuel ≡ fuel) }
+        ensures inputs { IfOk result (λ e. e.inputs ≡ inputs.now) }
+        ensures call { IfOk result (λ e. e.call
+            ≡ Some (record { function = function; args = args.now })) }
+        ensures phase { IfOk result (λ e. e.phase ≡ Finished) }
+        ensures work { IfOk result (λ e. e.work ≡ work) }
+        ensures forest { IfOk result (λ e. IsSomeAnd (trace e) (IsRestored forest.now)) }
+    {
+        let mut engine = Engine::called(alloc, code, fuel, inputs)?;
+        match engine.run(function, args) {
+            Ok(()) => {
+                // for the proof: it is an engine, by the clause `whole`
+                let _phase = engine.phase();
+                engine.tell(work);
+                Ok(engine)
+            }
+            Err(RunError::Memory) => {
+                drop(engine);
+                Err(NoMemory)
+            }
+            Err(RunError::OutOfFuel) => unreachable!(),
+        }
+    }
+
+    /// An engine that has these inputs, which may name one another, and no run.
+    fn called(alloc: Global, code: Code, fuel: u32, inputs: &Inputs) -> Result<Engine, NoMemory>
+        requires valid { valid code ≡ true }
+        requires fuel { InLimits fuel }
+        requires few { length inputs.now < 2 ^ 32 }
+        requires fits { inputs_fit code.structs inputs.now ≡ true }
+        ensures code { IfOk result (λ e. e.code ≡ code) }
+        ensures fuel { IfOk result (λ e. e.fuel ≡ fuel) }
+        ensures inputs { IfOk result (λ e. e.inputs ≡ inputs.now) }
+        ensures phase { IfOk result (λ e. e.phase ≡ New) }
+    {
+        let call = KeptCall::new(alloc, most_arguments(code.functions()))?;
+        let inputs = inputs.copy()?;
+        Ok(Engine {
+            alloc,
+            code,
+            fuel,
+            inputs,
+            call,
+            phase: Phase::New,
+            running: None,
+        })
+    }
+
+    /// Of the finished run so much work is told.
+    fn tell(&mut self, work: u32)
+        requires { self.old.phase ≡ Finished }
+        ensures { self.new ≡ record self.old { work = work } }
+    {
+        tell(&mut self.running, work);
     }
 
     /// One input more, with a word for each field. The run, if there is one, is also that on the longer inputs.

@@ -13,6 +13,7 @@
 pub mod engine;
 mod items;
 mod kept_call;
+pub mod laws;
 pub mod phase;
 mod reading;
 pub mod run_error;

@@ -4,7 +4,7 @@ ghost use Rattle.std.specs.Prelude.{◌≡◌, ℕ, [], pos, None, IfSome, OnOk,
 ghost use Rattle.ceal_base.specs.declared.word.BlockId.TheVariants.{Input};
 ghost use Rattle.ceal_base.specs.declared.word.Word.TheVariants.{Num};
 ghost use Rattle.ceal_code.specs.Value.{field_kind};
-ghost use Rattle.ceal_engine.specs.Completed.{LeavesCells, OfRuns, SetsBase, SetsInput, idle, opened};
+ghost use Rattle.ceal_engine.specs.Completed.{LeavesCells, OfRuns, SetsBase, SetsInput, idle, opened, told};
 ghost use Rattle.ceal_mods.specs.Mods.{cell_of};
 ghost use Rattle.ceal_repair.specs.Kept.{Kept, base_in};
 ghost use Rattle.ceal_repair.specs.Words.{IsTouched, NONE_BEHIND};
@@ -86,5 +86,15 @@ pub fn reopen(run: &mut Option<Running>, phase: Phase)
         Phase::Finished => rest(run),
         Phase::Pending => rest(run),
         Phase::Dropped => rest(run),
+    }
+}
+
+/// From now on so much work is told of the run.
+pub fn tell(run: &mut Option<Running>, work: u32)
+    ensures { run.new ≡ option_map (told work) run.old }
+{
+    match run {
+        None => {}
+        Some(run) => run.spent = work,
     }
 }

@@ -1,0 +1,85 @@
+-- Which repair an engine carries.
+use Rattle.std.proofs.Common.{◌≡◌, ℕ, zero, suc, true, false, Option, Some, None, refl, sym, ap, ◌∙◌, subst}
+use Rattle.std.proofs.lemmas.Bool.{false≢true}
+use Rattle.std.specs.Prelude.{IfSome, is_some}
+use Rattle.ceal_base.specs.Fitting.{inputs_fit}
+use Rattle.ceal_base.specs.Trace.{Trace}
+use Rattle.ceal_base.specs.declared.call.Call.{Call}
+use Rattle.ceal_base.specs.declared.word.BlockId.TheVariants.{Core}
+use Rattle.ceal_code.proofs.Same.{none-some}
+use Rattle.ceal_code.specs.Fitting.{Fits}
+use Rattle.ceal_code.specs.Replay.{Replays, plain_of}
+use Rattle.ceal_engine.proofs.Inputs.{extended-refl}
+use Rattle.ceal_engine.proofs.Present.{whole-run}
+use Rattle.ceal_engine.specs.Engine.{EngineState, IsEngine, IsWhole, IsHeapOf, ReplaysCall, has_run, is_whole, stands_for, trace}
+use Rattle.ceal_engine.specs.Partial.{spent_in, words_in, carried_by, CarriesFrom, SameRepair, BeginsLaw, KeptLaw}
+use Rattle.ceal_engine.specs.declared.phase.Phase.{Phase}
+use Rattle.ceal_engine.specs.declared.phase.Phase.TheVariants.{New, Finished, Pending, Partial, Dropped}
+use Rattle.ceal_heap.specs.Heap.{Contents}
+use Rattle.ceal_theory.proofs.CarriedLaws.{carried-begin-law, carried-more-law, carried-same-law}
+use Rattle.ceal_theory.proofs.SliceLaws.{begin-law, more-law}
+use Rattle.ceal_theory.specs.Adjust.{Above}
+use Rattle.ceal_theory.specs.Carried.{Carried}
+use Rattle.ceal_theory.specs.Laws.{Edited}
+use Rattle.ceal_theory.specs.Repair.{own}
+use Rattle.ceal_theory.specs.Slices.{Repair, Sound, beginning}
+
+none-spent : (p : Phase) (work : ℕ) → IsWhole p → spent_in p work ≡ 0
+none-spent New work h = refl
+none-spent Finished work h = refl
+none-spent Pending work h = refl
+none-spent Partial work h = absurd (false≢true h)
+none-spent Dropped work h = refl
+
+-- the words of the heap are those of the trace
+held-words : (e : EngineState) (l : Trace) (h : Option Contents) → IfSome h (IsHeapOf e.code e.inputs l) → is_some h ≡ true → (b : ℕ) → words_in h (Core b) ≡ plain_of e.code e.inputs l (Core b)
+held-words e l None t some b = absurd (false≢true some)
+held-words e l (Some heap) t some b = t.words b
+
+pub begins-law : BeginsLaw
+begins-law e k whole l is number above = go e.call refl
+  where
+    held : IfSome e.heap (IsHeapOf e.code e.inputs l)
+    held = subst (λ o. IfSome o (λ m. IfSome e.heap (IsHeapOf e.code e.inputs m))) is (k.held whole)
+
+    replays : ReplaysCall e l
+    replays = subst (λ o. IfSome o (ReplaysCall e)) is (k.replays whole)
+
+    there : is_some e.heap ≡ true
+    there = k.heap_there ∙ whole-run e.phase whole
+
+    of : (call : Call) → e.call ≡ Some call → Fits e.code e.inputs call.function call.args → Replays e.code e.inputs call.function call.args l → CarriesFrom e number (beginning e.code e.inputs l number)
+    of call c fits r =
+        let edited : Edited e.code e.inputs e.inputs call.function call.args l number = record { call = fits; fit = fits.blocks; extended = extended-refl e.code e.inputs; trace = r; above = above } in
+        record {
+          call = call;
+          called = c;
+          items = l;
+          is = is;
+          sound = begin-law e.code own e.inputs e.inputs call.function call.args l number number edited (λ j i e. e) (λ j h. above j h);
+          carried = carried-same-law e.code e.inputs number (beginning e.code e.inputs l number) (beginning e.code e.inputs l 0) (carried_by e l)
+              (carried-begin-law e.code e.inputs e.inputs call.function call.args l number 0 edited) refl (held-words e l e.heap held there) (none-spent e.phase e.work whole);
+        }
+
+    go : (c : Option Call) → e.call ≡ c → CarriesFrom e number (beginning e.code e.inputs l number)
+    go None c = absurd (false≢true (subst (λ p. is_whole p ≡ true) (k.new c) whole))
+    go (Some call) c = of call c (subst (λ o. IfSome o (λ call. Fits e.code e.inputs call.function call.args)) c k.call)
+        (subst (λ o. IfSome o (λ call. Replays e.code e.inputs call.function call.args l)) c replays)
+
+pub kept-law : KeptLaw
+kept-law e n k m same next' r c = record {
+  call = c.call;
+  called = same.call ∙ c.called;
+  items = c.items;
+  is = ap stands_for same.forest ∙ c.is;
+  sound = subst (λ code. Sound code own n.inputs c.call.function c.call.args r) (sym same.code) (more-law e.code own e.inputs n.inputs c.call.function c.call.args fits fit same.inputs r c.sound);
+  carried = subst (λ code. Carried code n.inputs next' r (carried_by n c.items)) (sym same.code)
+      (carried-same-law e.code n.inputs next' r (carried_by e c.items) (carried_by n c.items)
+      (carried-more-law e.code e.inputs n.inputs fit same.inputs next' r (carried_by e c.items) c.carried) refl (λ b. ap (λ h. words_in h (Core b)) same.heap) same.spent);
+}
+  where
+    fits : Fits e.code e.inputs c.call.function c.call.args
+    fits = subst (λ o. IfSome o (λ call. Fits e.code e.inputs call.function call.args)) c.called k.call
+
+    fit : inputs_fit e.code.structs n.inputs ≡ true
+    fit = subst (λ code. inputs_fit code.structs n.inputs ≡ true) same.code m.inputs

@@ -1,0 +1,13 @@
+// Laws of engines, each the contract of a function that does nothing.
+
+ghost use Rattle.ceal_engine.specs.Partial.{BeginsLaw, KeptLaw};
+
+/// An engine with a run carries the repair that begins from its trace.
+pub fn begins_law()
+    ensures law { BeginsLaw }
+{}
+
+/// Behind an edit, and with one input more, an engine carries the repair that it carried.
+pub fn kept_law()
+    ensures law { KeptLaw }
+{}
