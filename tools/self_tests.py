@@ -6,7 +6,7 @@ from tools.answers import PROGRAM, TOP
 
 RUN = str(TOP / 'run')
 EXAMPLES = sorted((TOP / 'examples').glob('*.ceal'))
-SOON = 20  # (seconds in which is refused what is refused at once)
+SOON = 60  # (seconds in which is refused what is refused at once)
 passed = failed = 0
 
 
@@ -110,7 +110,7 @@ def interrupted(sign, words, given, wanted):
     begun = time.monotonic()
     process.send_signal(sign)
     try:
-        status = process.wait(15)
+        status = process.wait(30)
     except subprocess.TimeoutExpired:
         status = None
         process.kill()
@@ -119,7 +119,7 @@ def interrupted(sign, words, given, wanted):
     left = [it for it in started if alive(it)]
     faults = [] if status == 130 else [f'status {status} in place of 130']
     faults += [f'{len(left)} processes go on'] if left else []
-    faults += ['not within ten seconds'] if time.monotonic() - begun > 10 else []
+    faults += ['not within 20 seconds'] if time.monotonic() - begun > 20 else []
     tell(f'{signal.Signals(sign).name} to ./run {" ".join(words)}', faults)
 
 
