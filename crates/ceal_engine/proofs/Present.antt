@@ -112,7 +112,7 @@ module _ (code : Code) (ok : valid code ≡ true) (fuel : ℕ) (inputs : List Bl
 
     memory-fits : memory_fits code.structs det.memory ≡ true
     memory-fits =
-        let end = ended-law code inputs call.function call.args fuel ran ends in
+        let end = (ended-law code inputs call.function call.args fuel ran ends).0 in
         (progress code ok inputs call.function call.args of.fits det.memory end.stack end.reaches).memory
 
     pub is-present : IsPresent (state_of code fuel inputs (Some call) phase (Some run))
