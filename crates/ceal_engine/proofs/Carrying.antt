@@ -1,27 +1,25 @@
 -- A run with which a repair goes on, and what a slice of it is of the definition's repair.
-use Rattle.std.proofs.Common.{◌≡◌, ◌≢◌, ℕ, ◌+◌, ◌<◌, ◌≤◌, Bool, true, false, Option, Some, None, List, refl, sym, ap, subst, ◌∙◌, inl, inr, ◌⊎◌, arith}
-use Rattle.std.specs.Option.{IsSomeAnd, option_map}
+use Rattle.std.proofs.Common.{◌≡◌, ◌≢◌, ℕ, ◌+◌, Bool, true, false, Option, Some, None, List, refl, sym, ap, subst, ◌∙◌, inl, inr, ◌⊎◌, arith}
+use Rattle.std.specs.Option.{IsSomeAnd}
 use Rattle.std.specs.Prelude.{◌↔◌, IsSome, Ok, Err}
 use Rattle.std.proofs.lemmas.Bool.{false≢true}
 use Rattle.ceal_base.proofs.TraceLemmas.{trace-flat}
 use Rattle.ceal_base.specs.Block.{Block}
-use Rattle.ceal_base.specs.Trace.{Trace, flat, trace_of}
+use Rattle.ceal_base.specs.Trace.{Trace, trace_of}
 use Rattle.ceal_base.specs.declared.call.Call.{Call}
 use Rattle.ceal_base.specs.declared.word.BlockId.TheVariants.{Core}
 use Rattle.ceal_base.specs.declared.word.Word.{Word}
 use Rattle.ceal_code.proofs.Same.{some-same, none-some}
-use Rattle.ceal_code.specs.Fitting.{Fits}
 use Rattle.ceal_code.specs.Program.{Code}
 use Rattle.ceal_code.specs.Replay.{IsHonest}
 use Rattle.ceal_engine.proofs.Inputs.{extended-refl}
-use Rattle.ceal_engine.proofs.Present.{part-kept, part-trace, whole-kept}
+use Rattle.ceal_engine.proofs.Present.{part-kept, part-trace}
 use Rattle.ceal_engine.proofs.Repairs.{kept-as, trace-is}
 use Rattle.ceal_engine.proofs.RunMemory.{low-numbers}
-use Rattle.ceal_engine.specs.Completed.{finished, under_way, idle, opened, trace_in, IsOpenRun, IsSliceOf as IsSliceFor}
+use Rattle.ceal_engine.specs.Completed.{finished, under_way, idle, opened, IsOpenRun, IsSliceOf as IsSliceFor}
 use Rattle.ceal_engine.specs.Engine.{EngineState, IsWhole, has_run}
 use Rattle.ceal_engine.specs.Keeping.{IsPartKept, KeepsRun, Keeps, heap_in, state_of}
-use Rattle.ceal_engine.specs.Partial.{spent_in, words_in, carried_by, CarriesFrom, IsUnderWay, RenamedFrom, progress_of, GoesOn, Ends, IsAnew, IsOut, Comes, ComesSo, KeepsWords}
-use Rattle.ceal_engine.specs.Repaired.{IsFirst}
+use Rattle.ceal_engine.specs.Partial.{spent_in, carried_by, CarriesFrom, IsUnderWay, RenamedFrom, progress_of, GoesOn, Ends, IsAnew, IsOut, Comes, ComesSo, KeepsWords}
 use Rattle.ceal_engine.specs.declared.phase.Came.{Came}
 use Rattle.ceal_engine.specs.declared.phase.Came.TheVariants as came
 use Rattle.ceal_engine.specs.declared.phase.Progress.{Progress}
@@ -41,7 +39,6 @@ use Rattle.ceal_theory.specs.Adjust.{Above}
 use Rattle.ceal_theory.specs.Carried.{Carried, CarriedSlices, counted_anew}
 use Rattle.ceal_theory.specs.Laws.{Edited}
 use Rattle.ceal_theory.specs.Repair.{own}
-use Rattle.ceal_theory.specs.SliceLaws.{Sliced as SlicedLaw}
 use Rattle.ceal_theory.specs.Slices.{Repair, beginning, sliced, is_done, Sound, Slices}
 
 -- ---- a new repair begins
@@ -188,9 +185,6 @@ not-done-of code inputs r stale = go (is_done code inputs r) refl
     go : (t : Bool) → is_done code inputs r ≡ t → is_done code inputs r ≡ false
     go true e = absurd (stale ((is-done-law code inputs r).0 e))
     go false e = e
-
-one-trace : (l m : Trace) → flat l ≡ flat m → l ≡ m
-one-trace l m e = some-same l m (sym (trace-flat l) ∙ (ap trace_of e ∙ trace-flat m))
 
 -- ---- an engine that goes on
 

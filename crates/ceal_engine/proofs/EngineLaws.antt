@@ -1,28 +1,26 @@
 -- Which repair an engine carries.
-use Rattle.std.proofs.Common.{◌≡◌, ℕ, zero, suc, true, false, Option, Some, None, refl, sym, ap, ◌∙◌, subst}
+use Rattle.std.proofs.Common.{◌≡◌, ℕ, true, false, Option, Some, None, refl, sym, ap, ◌∙◌, subst}
 use Rattle.std.proofs.lemmas.Bool.{false≢true}
 use Rattle.std.specs.Prelude.{IfSome, is_some}
 use Rattle.ceal_base.specs.Fitting.{inputs_fit}
 use Rattle.ceal_base.specs.Trace.{Trace}
 use Rattle.ceal_base.specs.declared.call.Call.{Call}
 use Rattle.ceal_base.specs.declared.word.BlockId.TheVariants.{Core}
-use Rattle.ceal_code.proofs.Same.{none-some}
 use Rattle.ceal_code.specs.Fitting.{Fits}
 use Rattle.ceal_code.specs.Replay.{Replays, plain_of}
 use Rattle.ceal_engine.proofs.Inputs.{extended-refl}
 use Rattle.ceal_engine.proofs.Present.{whole-run}
-use Rattle.ceal_engine.specs.Engine.{EngineState, IsEngine, IsWhole, IsHeapOf, ReplaysCall, has_run, is_whole, stands_for, trace}
-use Rattle.ceal_engine.specs.Partial.{spent_in, words_in, carried_by, CarriesFrom, SameRepair, BeginsLaw, KeptLaw}
+use Rattle.ceal_engine.specs.Engine.{EngineState, IsWhole, IsHeapOf, ReplaysCall, is_whole, stands_for, trace}
+use Rattle.ceal_engine.specs.Partial.{spent_in, words_in, carried_by, CarriesFrom, BeginsLaw, KeptLaw}
 use Rattle.ceal_engine.specs.declared.phase.Phase.{Phase}
 use Rattle.ceal_engine.specs.declared.phase.Phase.TheVariants.{New, Finished, Pending, Partial, Dropped}
 use Rattle.ceal_heap.specs.Heap.{Contents}
 use Rattle.ceal_theory.proofs.CarriedLaws.{carried-begin-law, carried-more-law, carried-same-law}
 use Rattle.ceal_theory.proofs.SliceLaws.{begin-law, more-law}
-use Rattle.ceal_theory.specs.Adjust.{Above}
 use Rattle.ceal_theory.specs.Carried.{Carried}
 use Rattle.ceal_theory.specs.Laws.{Edited}
 use Rattle.ceal_theory.specs.Repair.{own}
-use Rattle.ceal_theory.specs.Slices.{Repair, Sound, beginning}
+use Rattle.ceal_theory.specs.Slices.{Sound, beginning}
 
 none-spent : (p : Phase) (work : ℕ) → IsWhole p → spent_in p work ≡ 0
 none-spent New work h = refl

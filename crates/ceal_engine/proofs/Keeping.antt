@@ -1,5 +1,5 @@
 -- What an engine keeps stays sound.
-use Rattle.std.proofs.Common.{◌≡◌, ◌⊎◌, ℕ, zero, suc, if◌then◌else◌, ◌≤◌, ◌&&◌, true, false, Option, Some, None, List, [], ◌∷◌, length, slice_get, refl, sym, ap, ◌∙◌, subst, arith}
+use Rattle.std.proofs.Common.{◌≡◌, ℕ, zero, suc, if◌then◌else◌, ◌≤◌, ◌&&◌, true, false, Option, Some, None, List, [], ◌∷◌, length, slice_get, refl, sym, ap, ◌∙◌, subst, arith}
 use Rattle.std.specs.Option.{option_map}
 use Rattle.std.specs.Prelude.{IfSome, Result, Ok, Err, OnErr}
 use Rattle.std.proofs.Math.Path.{fun_ext}
@@ -298,25 +298,6 @@ module _ (code : Code) (fuel : ℕ) (inputs : List Block) where
   called None run k e = k
   called (Some call) run k e = none-some call (sym e)
 
-  -- so it is of a part of a repair
-  part-called : (call : Option Call) (run : Running) → Keeps code fuel inputs Partial call (Some run) → call ≡ None → ⊥
-  part-called None run k e = k
-  part-called (Some call) run k e = none-some call (sym e)
-
-  pub sound-part : (kept : Kept) (phase : Phase) (before : Option Running) (run : Running) → Sound code fuel inputs kept phase before → Keeps code fuel inputs Partial kept.call (Some run)
-      → Sound code fuel inputs kept Partial (Some run)
-  sound-part kept phase before run s k = record {
-    is_valid = s.is_valid;
-    limits = s.limits;
-    fit = s.fit;
-    count = s.count;
-    calls = s.calls;
-    uncalled = λ e. absurd (grind (arith, e));
-    new = λ e. absurd (part-called kept.call run k e);
-    room = s.room;
-    keeps = k;
-  }
-
   pub sound-kept : (kept : Kept) (phase : Phase) (before : Option Running) (run : Running) → Sound code fuel inputs kept phase before → Keeps code fuel inputs IsFinished kept.call (Some run)
       → Sound code fuel inputs kept IsFinished (Some run)
   sound-kept kept phase before run s k = record {
@@ -369,11 +350,6 @@ module _ (code : Code) (fuel : ℕ) (inputs : List Block) where
   honest-in (Some call) old h o a k =
       no-end code inputs call.function call.args h.1.fits fuel h.0 h.1.replays h.1.few h.2
       (subst (λ o. IsRepairedAnswer code inputs call.function call.args fuel h.0 old o) k (a call.function call.args h.0 h.1))
-
-  pub honest-idle : (call : Option Call) (old : Running) → IsStillHonest code fuel inputs call old → (o : Outcome) → Propagates old o → (run : Running) → o ≡ Done run → run.spent ≡ 0
-  honest-idle None old h o a run k = elim h [ ]
-  honest-idle (Some call) old h o a run k =
-      (Rattle.ceal_repair.specs.Answers.IsRepairedRun.unchanged (subst (λ o. IsRepairedAnswer code inputs call.function call.args fuel h.0 old o) k (a call.function call.args h.0 h.1)) h.2).1
 
   pub still-honest : (call : Option Call) (old : Running) → IsStillHonest code fuel inputs call old → (f : ℕ) × (args : List Word) × (l : Trace) × IsKeptRun code inputs f args fuel l old × IsHonest code inputs l
   still-honest None old h = elim h [ ]

@@ -1,5 +1,5 @@
 -- An engine with one input more.
-use Rattle.std.proofs.Common.{◌≡◌, pos, ℕ, ◌+◌, ◌<◌, ◌^◌, inl, inr, true, Option, Some, None, List, [], ◌∷◌, ◌++◌, length, refl, sym, ap, ◌∙◌, subst, arith}
+use Rattle.std.proofs.Common.{◌≡◌, ℕ, ◌+◌, ◌<◌, ◌^◌, inl, inr, true, Option, Some, None, List, [], ◌∷◌, ◌++◌, length, refl, sym, ap, ◌∙◌, subst, arith}
 use Rattle.std.proofs.lemmas.Bool.Decides.{eqb_tells}
 use Rattle.std.specs.Prelude.{IfSome}
 use Rattle.ceal_base.specs.Block.{Block}
@@ -9,7 +9,6 @@ use Rattle.ceal_base.specs.declared.call.Call.{Call}
 use Rattle.ceal_base.specs.declared.word.BlockId.TheVariants.{Input, Core}
 use Rattle.ceal_base.specs.declared.word.Place.{Place}
 use Rattle.ceal_base.specs.declared.word.Word.{Word}
-use Rattle.ceal_base.specs.declared.word.Word.TheVariants.{Num}
 use Rattle.ceal_code.proofs.Memory.{get-push, get-push_other, get-before}
 use Rattle.ceal_code.proofs.Same.{block-refl, place-same}
 use Rattle.ceal_code.specs.Program.{Code}
@@ -25,7 +24,7 @@ use Rattle.ceal_mods.specs.Mods.{cell_of}
 use Rattle.ceal_order.specs.Stamps.{is_in}
 use Rattle.ceal_repair.proofs.Parting.{where-holds}
 use Rattle.ceal_repair.specs.Blocks.{HasBlocks}
-use Rattle.ceal_repair.specs.Kept.{Kept as KeptTables, Records, base_in}
+use Rattle.ceal_repair.specs.Kept.{Kept as KeptTables, Records}
 use Rattle.ceal_repair.specs.Lists.{reads_at}
 use Rattle.ceal_repair.specs.Words.{HasBases, default_of}
 use Rattle.ceal_repair.specs.declared.running.Running.{Running}
@@ -69,17 +68,6 @@ module _ (code : Code) (fuel : ℕ) (inputs : List Block) (phase : Phase) where
   run-unread None (Some run) k = elim k [ ]
   run-unread (Some call) (Some run) (KeepsRun.whole k) = none-reads run k.of.stands.kept k.of.stands.blocks
   run-unread (Some call) (Some run) (KeepsRun.part e k) = none-reads run k.of.stands.kept k.of.stands.blocks
-
-  -- the modifiables of the next input have no base yet
-  none-based : (run : Running) → HasBlocks code inputs run.heap run.tables → (field : ℕ) → base_in run.tables.mods (record { block = Input (length inputs); field = field }) ≡ Num (pos 0)
-  none-based run blocks field = blocks.bases.of_inputs (length inputs) field ∙ ap (λ o. content_in code.structs o field) (get-out inputs (length inputs) (omega arith))
-
-  pub run-bare : (call : Option Call) (run : Option Running) → Keeps code fuel inputs phase call run
-      → IfSome run (λ r. (field : ℕ) → base_in r.tables.mods (record { block = Input (length inputs); field = field }) ≡ Num (pos 0))
-  run-bare call None k = tt
-  run-bare None (Some run) k = elim k [ ]
-  run-bare (Some call) (Some run) (KeepsRun.whole k) = none-based run k.of.stands.blocks
-  run-bare (Some call) (Some run) (KeepsRun.part e k) = none-based run k.of.stands.blocks
 
   module _ (b : Block) (fits : block_fits code.structs (alone inputs) b ≡ true) (fit : inputs_fit code.structs inputs ≡ true) where
     new-fits : inputs_fit code.structs (inputs ++ b ∷ []) ≡ true

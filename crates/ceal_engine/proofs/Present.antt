@@ -28,7 +28,7 @@ use Rattle.ceal_code.specs.Valid.{valid}
 use Rattle.ceal_engine.proofs.LiveCount.{live-are}
 use Rattle.ceal_engine.proofs.MoreMemory.{core-none}
 use Rattle.ceal_engine.proofs.RunMemory.{allocs-flat, low-numbers, inputs-held, cores-held, steps-held}
-use Rattle.ceal_engine.specs.Engine.{EngineState, ReplaysCall, IsPresent, IsTraced, IsEngine, IsTidy, IsHeapOf, IsWhole, has_run, fresh_call, core, stands_for}
+use Rattle.ceal_engine.specs.Engine.{EngineState, ReplaysCall, IsPresent, IsTraced, IsEngine, IsTidy, IsHeapOf, IsWhole, has_run, core, stands_for}
 use Rattle.ceal_engine.specs.Completed.{trace_in}
 use Rattle.ceal_engine.specs.Keeping.{Kept, forest_in, timeline_in, heap_in, steps_kept, store_in, state_of, IsKept, IsPartKept, KeepsRun, Keeps, Sound}
 use Rattle.ceal_engine.specs.declared.phase.Phase.{Phase}
@@ -112,7 +112,7 @@ module _ (code : Code) (ok : valid code ≡ true) (fuel : ℕ) (inputs : List Bl
 
     memory-fits : memory_fits code.structs det.memory ≡ true
     memory-fits =
-        let end = ended-law code inputs call.function call.args fuel ran ends in
+        let end = (ended-law code inputs call.function call.args fuel ran ends).0 in
         (progress code ok inputs call.function call.args of.fits det.memory end.stack end.reaches).memory
 
     pub is-present : IsPresent (state_of code fuel inputs (Some call) phase (Some run))
@@ -137,9 +137,6 @@ no-run phase e h = absurd (grind (arith, rw e at h))
 
 not-both : (phase : Phase) → phase ≡ Partial → IsWhole phase → ⊥
 not-both phase e h = absurd (grind (arith, rw e at h))
-
-not-finished : (phase : Phase) → phase ≡ Partial → phase ≡ IsFinished → ⊥
-not-finished phase e h = absurd (grind (arith, rw h at e))
 
 pub whole-run : (phase : Phase) → IsWhole phase → has_run phase ≡ true
 whole-run New h = absurd (grind (arith, h))

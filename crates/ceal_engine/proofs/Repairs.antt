@@ -1,5 +1,5 @@
 -- What a first run and a repair come to, in the words of the engine.
-use Rattle.std.proofs.Common.{◌≡◌, ◌⊎◌, inl, inr, ℕ, zero, suc, ◌+◌, ◌<◌, ◌≤◌, nat_le, Bool, true, false, Option, Some, None, List, [], ◌∷◌, ◌++◌, length, slice_get, refl, sym, ap, ◌∙◌, subst, arith}
+use Rattle.std.proofs.Common.{◌≡◌, ◌⊎◌, inl, inr, ℕ, ◌+◌, ◌<◌, ◌≤◌, nat_le, Bool, true, false, Option, Some, None, List, [], ◌∷◌, ◌++◌, length, refl, sym, ap, ◌∙◌, subst, arith}
 use Rattle.std.specs.Option.{IsSomeAnd}
 use Rattle.ceal_base.specs.Block.{Block}
 use Rattle.ceal_base.specs.Finished.{Finished}
@@ -13,7 +13,7 @@ use Rattle.ceal_code.specs.Alike.{Tied, TraceAlike}
 use Rattle.ceal_code.specs.Fitting.{Fits}
 use Rattle.ceal_code.specs.Fresh.{fresh}
 use Rattle.ceal_code.specs.Program.{Code}
-use Rattle.ceal_code.specs.Replay.{In, here, there, Mentions, core_numbers, Replays, IsHonest}
+use Rattle.ceal_code.specs.Replay.{In, here, there, Mentions, Replays, IsHonest}
 use Rattle.ceal_engine.proofs.Inputs.{extended-refl}
 use Rattle.ceal_engine.proofs.Present.{trace-kept}
 use Rattle.ceal_engine.proofs.RunMemory.{low-numbers}
@@ -23,20 +23,16 @@ use Rattle.ceal_engine.specs.Repaired.{IsRenamed, IsFirst, IsRepairFrom, IsRepai
 use Rattle.ceal_engine.specs.declared.phase.Phase.{Phase}
 use Rattle.ceal_engine.specs.declared.phase.Phase.TheVariants.{Finished as IsFinished}
 use Rattle.ceal_heap.specs.Heap.{next}
-use Rattle.ceal_repair.proofs.Making.{count-in}
 use Rattle.ceal_repair.specs.Answers as kept
-use Rattle.ceal_repair.specs.Answers.{Stands, IsKeptRun, IsRunOf, IsFirstRun, IsRepairedRun}
+use Rattle.ceal_repair.specs.Answers.{IsKeptRun, IsRunOf, IsFirstRun, IsRepairedRun}
 use Rattle.ceal_repair.specs.declared.running.Running.{Running}
-use Rattle.ceal_theory.proofs.Counts.{blocks-law}
-use Rattle.ceal_theory.proofs.DistinctBlocks.{uses, times, times-append, named, named-none, fix-uses}
+use Rattle.ceal_theory.proofs.DistinctBlocks.{uses, times, times-append, named}
 use Rattle.ceal_theory.proofs.Found.{first-law}
-use Rattle.ceal_theory.proofs.Functions.{adjusted-sound}
-use Rattle.ceal_theory.proofs.Main.{repair-law, unchanged-law}
+use Rattle.ceal_theory.proofs.Main.{unchanged-law}
 use Rattle.ceal_theory.proofs.Named.{trace-by, selves, self-tied, tied-same, selves-one, trace-self, named-law}
-use Rattle.ceal_theory.specs.Adjust.{Above, Adjusts}
+use Rattle.ceal_theory.specs.Adjust.{Above}
 use Rattle.ceal_theory.specs.Computed.{Repaired, first_of}
-use Rattle.ceal_theory.specs.KnownContent.{allocs}
-use Rattle.ceal_theory.specs.Laws.{Edited, Updated, FirstOutcome}
+use Rattle.ceal_theory.specs.Laws.{Edited, FirstOutcome}
 use Rattle.ceal_theory.specs.Named.{naming, trace_by}
 use Rattle.ceal_theory.specs.Repair.{own}
 

@@ -1,10 +1,10 @@
 -- An engine whose run is that of a forest.
-use Rattle.std.proofs.Common.{◌≡◌, ℕ, true, false, Option, Some, None, List, refl, sym, ap, ◌∙◌, subst}
+use Rattle.std.proofs.Common.{◌≡◌, ℕ, true, Option, Some, None, List, refl, sym, ap, ◌∙◌, subst}
 use Rattle.std.specs.Option.{IsSomeAnd}
 use Rattle.std.specs.Prelude.{IfSome, is_some}
 use Rattle.ceal_base.proofs.TraceLemmas.{trace-flat}
 use Rattle.ceal_base.specs.Block.{Block}
-use Rattle.ceal_base.specs.Trace.{Trace, flat, trace_of, blocks_of}
+use Rattle.ceal_base.specs.Trace.{Trace, trace_of, blocks_of}
 use Rattle.ceal_base.specs.declared.call.Call.{Call}
 use Rattle.ceal_base.specs.declared.forest.Item.{Item}
 use Rattle.ceal_base.specs.declared.word.Word.{Word}
@@ -15,9 +15,8 @@ use Rattle.ceal_code.specs.Alike.{zipped}
 use Rattle.ceal_code.specs.Fresh.{fresh}
 use Rattle.ceal_code.specs.Program.{Code}
 use Rattle.ceal_code.specs.Replay.{Replays, IsHonest, core_numbers}
-use Rattle.ceal_engine.specs.Engine.{EngineState, ReplaysCall, IsTraced, IsEngine, fresh_of, fresh_call, has_run, trace}
+use Rattle.ceal_engine.specs.Engine.{EngineState, ReplaysCall, IsTraced, IsEngine, fresh_of, has_run, trace}
 use Rattle.ceal_engine.specs.Repaired.{IsRenamed, IsRestorable, IsRestored}
-use Rattle.ceal_engine.specs.declared.phase.Phase.{Phase}
 use Rattle.ceal_engine.specs.declared.phase.Phase.TheVariants.{Finished as IsFinished}
 use Rattle.ceal_theory.proofs.Main.{unique-law}
 

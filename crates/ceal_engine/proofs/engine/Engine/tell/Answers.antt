@@ -1,9 +1,7 @@
 use Rattle.std.proofs.Common.{◌≡◌, ◌∙◌, ap, refl, sym, subst}
-use Rattle.std.specs.Option.{option_map}
 use Rattle.ceal_engine.proofs.Propagated.{sound-told, told-state}
-use Rattle.ceal_engine.specs.Completed.{told}
 use Rattle.ceal_engine.specs.Engine.{EngineState}
-use Rattle.ceal_engine.specs.Keeping.{Sound, state_of}
+use Rattle.ceal_engine.specs.Keeping.{state_of}
 use Rattle.ceal_engine.specs.declared.phase.Phase.TheVariants.{Finished}
 use Rattle.ceal_engine.proofs.engine.Engine.tell.Goals as goal
 
