@@ -1,4 +1,4 @@
--- what crates above cite: taking from flat items, the machine, the repair as a function and where it ends, the walk, slices
+-- what crates above cite: taking from flat items, the machine, the repair as a function and where it ends, the walk, slices, cost
 pub mod Bare
 pub mod Moves
 pub mod Revoked
@@ -31,6 +31,7 @@ pub mod SameStore
 pub mod SliceLaws
 pub mod Sound
 pub mod Walk
+pub mod CostBound
 -- The laws of repair.
 pub mod Stored
 pub mod Told
@@ -73,5 +74,3 @@ pub mod CoverKept
 pub mod NodeChanges
 -- Courses.
 pub mod Layers
--- Cost.
-pub mod CostBound
