@@ -1,13 +1,11 @@
 -- Two lists of flat items, walked side by side.
-use Rattle.std.proofs.Common.{◌≡◌, ℕ, zero, suc, ◌+◌, ◌≤◌, ◌<◌, ◌^◌, Bool, true, false, List, [], ◌∷◌, length, refl, sym, ap, ap₂, ◌∙◌, ◌⊎◌, inl, inr, arith}
+use Rattle.std.proofs.Common.{◌≡◌, ℕ, zero, suc, ◌+◌, ◌≤◌, ◌<◌, Bool, true, false, List, [], ◌∷◌, length, refl, sym, ap, ap₂, ◌∙◌, ◌⊎◌, inl, inr, arith}
 use Rattle.ceal_base.specs.Trace.{Trace, Nothing, Stepped, Allocated, Wrote, WasRead, flat, steps_of, steps_in}
 use Rattle.ceal_base.specs.declared.forest.Item.{Item}
 use Rattle.ceal_base.specs.declared.forest.Item.TheVariants.{Step, Alloc, Write, Read, End}
-use Rattle.ceal_base.specs.declared.word.Word.{Word}
 use Rattle.ceal_code.specs.Alike.{Pairs}
 use Rattle.ceal_cost.specs.Side.{StandsFor, along, steps_inside}
 use Rattle.ceal_cost.specs.Ways.{way_in, way_of, with_items}
-use Rattle.ceal_cost.specs.declared.aligned.Way.{Way}
 use Rattle.ceal_cost.specs.declared.aligned.Way.TheVariants.{On, Over, Apart}
 use Rattle.ceal_cost.specs.declared.pairs.Pairs.{Pairs as Table}
 use Rattle.ceal_theory.proofs.FlatTake.{first-of-flat, around-of-flat, skipped-levels}
