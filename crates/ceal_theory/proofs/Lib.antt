@@ -1,4 +1,4 @@
--- what crates above cite: taking from flat items, the machine, the repair as a function and where it ends, the walk, slices
+-- what crates above cite: taking from flat items, the machine, the repair as a function and where it ends, the walk, slices, cost
 pub mod Bare
 pub mod Moves
 pub mod Revoked
@@ -33,6 +33,7 @@ pub mod CarriedLaws
 pub mod PastLaws
 pub mod Sound
 pub mod Walk
+pub mod CostBound
 -- The laws of repair.
 pub mod Stored
 pub mod Told
@@ -75,5 +76,3 @@ pub mod CoverKept
 pub mod NodeChanges
 -- Courses.
 pub mod Layers
--- Cost.
-pub mod CostBound
