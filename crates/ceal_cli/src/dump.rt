@@ -26,6 +26,7 @@ use ceal_record::laws::renamed_law;
 use ceal_session::laws::{kept_line, some_reply};
 use ceal_session::session::Session;
 use ceal_theory::names::renaming_law;
+use ceal_types::seed::Seed;
 use std::alloc::Global;
 
 // Carries out the lines of a script, whose replies are not written.
@@ -113,7 +114,7 @@ pub fn dump<K: Sink>(
     kept_line();
     some_reply();
     renamed_law();
-    match Session::new(alloc, program, fuel) {
+    match Session::seeded(alloc, program, fuel, Seed::of_text(input)) {
         Ok(session) => {
             let mut session = session;
             let told = write_dump(alloc, &mut session, script(input, &split(input)), sink);

@@ -13,6 +13,7 @@ use ceal_compile::program::Program;
 use ceal_many::{Answerer, Maker};
 use ceal_session::laws::{kept_line, some_reply};
 use ceal_session::session::Session;
+use ceal_types::seed::Seed;
 use std::alloc::Global;
 use std::marker::Model;
 
@@ -97,7 +98,7 @@ impl<'a> Maker for Members<'a> {
         one_code();
         some_reply();
         let program = program(self.alloc, self.input)?;
-        let session = Session::new(self.alloc, program, self.fuel)?;
+        let session = Session::seeded(self.alloc, program, self.fuel, Seed::of_text(self.input))?;
         Ok(Member { session })
     }
 }

@@ -11,7 +11,7 @@ use Rattle.ceal_engine.specs.Engine.{EngineState, IsEngine, ReplaysCall, trace}
 use Rattle.ceal_code.specs.Fitting.{Fits}
 use Rattle.ceal_code.specs.Replay.{Replays}
 use Rattle.ceal_record.specs.Recorded.{IsRecordOf, IsTraceOf}
-use Rattle.ceal_session.proofs.SourceRun.{last-is, worked}
+use Rattle.ceal_session.proofs.SourceRun.{last-is, worked, ready-finished}
 use Rattle.ceal_session.specs.Asking.{IsReady}
 use Rattle.ceal_session.specs.Keeping.{state_of, situation_of, Holds}
 use Rattle.ceal_session.specs.Recording.{IsRecorded}
@@ -38,4 +38,4 @@ module _ (p : Typed) (names : List (List ℕ)) (e : EngineState) (pending : Bool
 
     -- the record of the engine's items is that of the session's trace
     pub record-is : IsRecorded (situation_of p names e pending) r
-    record-is = by-trace (trace e) refl k.flat_form k.replays
+    record-is = by-trace (trace e) refl k.flat_form (k.replays (rw (ready-finished p names e pending h k ready) refl))

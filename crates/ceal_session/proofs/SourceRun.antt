@@ -1,5 +1,5 @@
 -- The run that an engine has is the source's.
-use Rattle.std.proofs.Common.{◌≡◌, inr, ℕ, Bool, true, false, Option, Some, None, Result, Ok, Err, IfOk, IsSomeAnd, OnOk, List, is_some, refl, sym, ap, ◌∙◌, subst, arith}
+use Rattle.std.proofs.Common.{◌≡◌, ⊥, inr, ℕ, Bool, true, false, Option, Some, None, Result, Ok, Err, IfOk, IsSomeAnd, OnOk, List, is_some, refl, sym, ap, ◌∙◌, subst, arith}
 use Rattle.std.specs.Option.{option_map}
 use Rattle.std.specs.Prelude.{IfSome, OnErr}
 use Rattle.ceal_base.specs.Finished.{Finished}
@@ -9,10 +9,10 @@ use Rattle.ceal_base.specs.declared.forest.Item.{Item}
 use Rattle.ceal_code.proofs.Same.{some-same}
 use Rattle.ceal_code.specs.Fitting.{Fits}
 use Rattle.ceal_code.specs.Fresh.{fresh as code_fresh}
-use Rattle.ceal_engine.specs.Engine.{EngineState, IsRun, IsPresent, IsEngine, alone, fresh_call, fresh_of, stands_for, trace, has_run, IfOutOfFuel, IfNoMemory}
+use Rattle.ceal_engine.specs.Engine.{EngineState, IsRun, IsPresent, IsEngine, alone, fresh_call, fresh_of, stands_for, trace, has_run, IsWhole, IfOutOfFuel, IfNoMemory}
 use Rattle.ceal_base.specs.declared.call.Call.{Call}
 use Rattle.ceal_engine.specs.declared.phase.Phase.{Phase}
-use Rattle.ceal_engine.specs.declared.phase.Phase.TheVariants.{New, Finished as IsFinished, Pending, Dropped}
+use Rattle.ceal_engine.specs.declared.phase.Phase.TheVariants.{New, Finished as IsFinished, Pending, Partial, Dropped}
 use Rattle.ceal_engine.specs.declared.run_error.RunError.{RunError}
 use Rattle.ceal_engine.specs.declared.run_error.RunError.TheVariants.{Memory as MemoryError, OutOfFuel as OutOfFuelError}
 use Rattle.ceal_engine.specs.Repaired.{IsFirst, IsRepaired, first_call}
@@ -59,13 +59,23 @@ module _ (e e' : EngineState) (k : IsEngine e) where
   dropped-phase New p called i = absurd (let j = k.uncalled p in grind (arith, called, j))
   dropped-phase IsFinished p called i = absurd (let j = k.kept in grind (arith, p, i, j))
   dropped-phase Pending p called i = absurd (let j = k.kept in grind (arith, p, i, j))
+  dropped-phase Partial p called i = absurd (let j = k.kept in grind (arith, p, i, j))
   dropped-phase Dropped p called i = refl
 
+  -- where there is a trace and no repair goes on, it is that of a run
+  whole-phase : (phase : Phase) → e.phase ≡ phase → (phase ≡ Partial → ⊥) → (l : Trace) → trace e ≡ Some l → IsWhole e.phase
+  whole-phase New p open l i = absurd (let j = k.kept in grind (arith, p, i, j))
+  whole-phase IsFinished p open l i = rw p refl
+  whole-phase Pending p open l i = rw p refl
+  whole-phase Partial p open l i = absurd (open refl)
+  whole-phase Dropped p open l i = absurd (let j = k.kept in grind (arith, p, i, j))
+
   -- a run that is not the first
-  pub ran-again : {A : Type 0} (outcome : Result A RunError) → is_some e.call ≡ true → OnOk outcome (e.phase ≡ Dropped → IsSomeAnd (trace e') (IsFirst e'))
-      → OnOk outcome ((l : Trace) → trace e ≡ Some l → IsSomeAnd (trace e') (IsRepaired e' l)) → OnOk outcome (Ran e e')
-  ran-again (Ok x) called first repaired = record { first = λ i. first (dropped-phase e.phase refl called i); repaired = repaired }
-  ran-again (Err error) called first repaired = tt
+  pub ran-again : {A : Type 0} (outcome : Result A RunError) → is_some e.call ≡ true → (e.phase ≡ Partial → ⊥) → OnOk outcome (e.phase ≡ Dropped → IsSomeAnd (trace e') (IsFirst e'))
+      → OnOk outcome (IsWhole e.phase → (l : Trace) → trace e ≡ Some l → IsSomeAnd (trace e') (IsRepaired e' l)) → OnOk outcome (Ran e e')
+  ran-again (Ok x) called open first repaired =
+      record { first = λ i. first (dropped-phase e.phase refl called i); repaired = λ l i. repaired (whole-phase e.phase refl open l i) l i }
+  ran-again (Err error) called open first repaired = tt
 
 module _ (p : Typed) (names : List (List ℕ)) (e : EngineState) (pending : Bool) (h : Holds p names e pending) where
   code-run : (o : Option Call) → IfSome o (λ call. Fits e.code e.inputs call.function call.args) → run_of_call (state_of p names e pending) o ≡ fresh_call e.code e.inputs e.fuel o
@@ -85,6 +95,7 @@ module _ (p : Typed) (names : List (List ℕ)) (e : EngineState) (pending : Bool
         go New i = absurd (grind (arith, r.run, k.uncalled i, i))
         go IsFinished i = i
         go Pending i = absurd (grind (arith, h.edited i, r.edited))
+        go Partial i = absurd (h.whole i)
         go Dropped i = absurd (grind (arith, r.run, i))
 
     pub record HasRun : Type 0 where

@@ -1,17 +1,18 @@
 -- How a session keeps its state: inputs, call and run are an engine's, whose code is that of the program.
-use Rattle.std.specs.Prelude.{◌≡◌, ℕ, Bool, true, false, Option, Some, None, List, length}
+use Rattle.std.specs.Prelude.{◌≡◌, ⊥, ℕ, Bool, true, false, Option, Some, None, List, length}
 use Rattle.ceal_base.specs.declared.forest.Item.{Item}
 use Rattle.ceal_base.specs.declared.typed.Typed.{Typed}
 use Rattle.ceal_compile.specs.Compiled.{IsCompiled}
 use Rattle.ceal_engine.specs.Engine.{EngineState}
 use Rattle.ceal_engine.specs.declared.phase.Phase.{Phase}
-use Rattle.ceal_engine.specs.declared.phase.Phase.TheVariants.{New, Finished, Pending, Dropped}
+use Rattle.ceal_engine.specs.declared.phase.Phase.TheVariants.{New, Finished, Pending, Partial, Dropped}
 use Rattle.ceal_session.specs.State.{State, Situation}
 
 abbrev pub is_dropped : Phase → Bool
 is_dropped New = false
 is_dropped Finished = false
 is_dropped Pending = false
+is_dropped Partial = false
 is_dropped Dropped = true
 
 abbrev pub state_of : Typed → List (List ℕ) → EngineState → Bool → State
@@ -45,3 +46,5 @@ pub record Holds (program : Typed) (names : List (List ℕ)) (e : EngineState) (
   -- an edit is pending in Pending, and not in Finished
   pub done : e.phase ≡ Finished → pending ≡ false
   pub edited : e.phase ≡ Pending → pending ≡ true
+  -- no repair goes on between two lines
+  pub whole : e.phase ≡ Partial → ⊥

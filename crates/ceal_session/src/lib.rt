@@ -14,7 +14,7 @@ pub mod reply;
 pub mod sense;
 mod senses;
 pub mod session;
-pub mod state;
+mod state;
 mod steps;
 mod texts;
 mod view;

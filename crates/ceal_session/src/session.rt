@@ -23,6 +23,7 @@ use ceal_compile::program::Program;
 use ceal_script::command::Command;
 use ceal_script::line::read_line;
 use ceal_script::line_error::LineError;
+use ceal_types::seed::Seed;
 use std::alloc::Global;
 use std::marker::Model;
 
@@ -125,7 +126,21 @@ impl Session {
         requires fuel { IsAllowed fuel }
         ensures state { IfOk result (λ session. session ≡ opened program fuel) }
     {
-        let state = State::new(alloc, program, fuel)?;
+        Session::seeded(alloc, program, fuel, Seed::of_text(b""))
+    }
+
+    /// The same, where the hashes of names begin with a seed, as of the text that they come from.
+    pub fn seeded(
+        alloc: Global,
+        program: Program,
+        fuel: u32,
+        seed: Seed,
+    ) -> Result<Session, NoMemory>
+        requires compiled { IsCompiled program }
+        requires fuel { IsAllowed fuel }
+        ensures state { IfOk result (λ session. session ≡ opened program fuel) }
+    {
+        let state = State::new(alloc, program, fuel, seed)?;
         Ok(Session { state, alloc })
     }
 

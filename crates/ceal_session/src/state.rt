@@ -37,6 +37,7 @@ use ceal_show::laws::{fitting_is_whole, same_text};
 use ceal_theory::laws::first_law;
 use ceal_types::names::Names;
 use ceal_types::numbers::Numbered;
+use ceal_types::seed::Seed;
 use std::alloc::Global;
 use std::marker::Model;
 
@@ -82,7 +83,7 @@ fn reply_of(outcome: Result<(), RunError>) -> Result<Reply, NoMemory>
 
 impl State {
     /// A state without inputs and without a run.
-    pub fn new(alloc: Global, program: Program, fuel: u32) -> Result<State, NoMemory>
+    pub fn new(alloc: Global, program: Program, fuel: u32, seed: Seed) -> Result<State, NoMemory>
         requires compiled { IsCompiled program }
         requires fuel { IsAllowed fuel }
         ensures { IfOk result (λ state. state ≡ opened program fuel) }
@@ -98,7 +99,7 @@ impl State {
         let engine = Engine::new(alloc, code, fuel)?;
         Ok(State {
             program,
-            names: Names::new(alloc),
+            names: Names::seeded(alloc, seed),
             engine,
             pending: false,
         })
@@ -160,6 +161,7 @@ impl State {
             Phase::New => false,
             Phase::Finished => true,
             Phase::Pending => true,
+            Phase::Partial => true,
             Phase::Dropped => true,
         }
     }
@@ -172,6 +174,7 @@ impl State {
             Phase::New => true,
             Phase::Finished => false,
             Phase::Pending => false,
+            Phase::Partial => false,
             Phase::Dropped => true,
         }
     }

@@ -14,7 +14,7 @@ returns-clause-ok c =
     (reply-ok o.result c.reply_of.result c.reply_of.ensures.ok c.reply_of.ensures.out c.reply_of.ensures.memory _ _ _
     (propagated i.program i.names i.engine i.pending c.self.invariant c.phase-before.ensures.whole o.new.self c.phase-after.ensures.whole c.first_law.ensures.law o.ensures.code o.ensures.fuel o.ensures.inputs o.result o.ensures.call i.engine.call refl
     (subst (λ m. is_some m.state.call ≡ true) (sym c.self.view_is) c.requires) o.ensures.phase o.ensures.present
-    (ran-again i.engine o.new.self c.phase-before.ensures.whole o.result (subst (λ m. is_some m.state.call ≡ true) (sym c.self.view_is) c.requires) o.ensures.first o.ensures.repaired)
+    (ran-again i.engine o.new.self c.phase-before.ensures.whole o.result (subst (λ m. is_some m.state.call ≡ true) (sym c.self.view_is) c.requires) c.self.invariant.whole o.ensures.first o.ensures.repaired)
     o.ensures.out_of_fuel o.ensures.dropped))
 
 pub returns-clause-trace : goal.returns-clause-trace
@@ -25,7 +25,7 @@ returns-clause-trace c =
     (reply-goes o.result c.reply_of.result c.reply_of.ensures.ok c.reply_of.ensures.out c.reply_of.ensures.memory _ _ _
     (propagated i.program i.names i.engine i.pending c.self.invariant c.phase-before.ensures.whole o.new.self c.phase-after.ensures.whole c.first_law.ensures.law o.ensures.code o.ensures.fuel o.ensures.inputs o.result o.ensures.call i.engine.call refl
     (subst (λ m. is_some m.state.call ≡ true) (sym c.self.view_is) c.requires) o.ensures.phase o.ensures.present
-    (ran-again i.engine o.new.self c.phase-before.ensures.whole o.result (subst (λ m. is_some m.state.call ≡ true) (sym c.self.view_is) c.requires) o.ensures.first o.ensures.repaired)
+    (ran-again i.engine o.new.self c.phase-before.ensures.whole o.result (subst (λ m. is_some m.state.call ≡ true) (sym c.self.view_is) c.requires) c.self.invariant.whole o.ensures.first o.ensures.repaired)
     o.ensures.out_of_fuel o.ensures.dropped))
 
 pub returns-clause-err : goal.returns-clause-err
@@ -36,5 +36,5 @@ returns-clause-err c =
     (reply-err o.result c.reply_of.result c.reply_of.ensures.ok c.reply_of.ensures.out c.reply_of.ensures.memory _ _ _
     (propagated i.program i.names i.engine i.pending c.self.invariant c.phase-before.ensures.whole o.new.self c.phase-after.ensures.whole c.first_law.ensures.law o.ensures.code o.ensures.fuel o.ensures.inputs o.result o.ensures.call i.engine.call refl
     (subst (λ m. is_some m.state.call ≡ true) (sym c.self.view_is) c.requires) o.ensures.phase o.ensures.present
-    (ran-again i.engine o.new.self c.phase-before.ensures.whole o.result (subst (λ m. is_some m.state.call ≡ true) (sym c.self.view_is) c.requires) o.ensures.first o.ensures.repaired)
+    (ran-again i.engine o.new.self c.phase-before.ensures.whole o.result (subst (λ m. is_some m.state.call ≡ true) (sym c.self.view_is) c.requires) c.self.invariant.whole o.ensures.first o.ensures.repaired)
     o.ensures.out_of_fuel o.ensures.dropped))
