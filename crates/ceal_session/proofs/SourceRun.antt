@@ -64,18 +64,18 @@ module _ (e e' : EngineState) (k : IsEngine e) where
 
   -- where there is a trace and no repair goes on, it is that of a run
   whole-phase : (phase : Phase) → e.phase ≡ phase → (phase ≡ Partial → ⊥) → (l : Trace) → trace e ≡ Some l → IsWhole e.phase
-  whole-phase New p open l i = absurd (let j = k.kept in grind (arith, p, i, j))
-  whole-phase IsFinished p open l i = rw p refl
-  whole-phase Pending p open l i = rw p refl
-  whole-phase Partial p open l i = absurd (open refl)
-  whole-phase Dropped p open l i = absurd (let j = k.kept in grind (arith, p, i, j))
+  whole-phase New p ended l i = absurd (let j = k.kept in grind (arith, p, i, j))
+  whole-phase IsFinished p ended l i = rw p refl
+  whole-phase Pending p ended l i = rw p refl
+  whole-phase Partial p ended l i = absurd (ended refl)
+  whole-phase Dropped p ended l i = absurd (let j = k.kept in grind (arith, p, i, j))
 
   -- a run that is not the first
   pub ran-again : {A : Type 0} (outcome : Result A RunError) → is_some e.call ≡ true → (e.phase ≡ Partial → ⊥) → OnOk outcome (e.phase ≡ Dropped → IsSomeAnd (trace e') (IsFirst e'))
       → OnOk outcome (IsWhole e.phase → (l : Trace) → trace e ≡ Some l → IsSomeAnd (trace e') (IsRepaired e' l)) → OnOk outcome (Ran e e')
-  ran-again (Ok x) called open first repaired =
-      record { first = λ i. first (dropped-phase e.phase refl called i); repaired = λ l i. repaired (whole-phase e.phase refl open l i) l i }
-  ran-again (Err error) called open first repaired = tt
+  ran-again (Ok x) called ended first repaired =
+      record { first = λ i. first (dropped-phase e.phase refl called i); repaired = λ l i. repaired (whole-phase e.phase refl ended l i) l i }
+  ran-again (Err error) called ended first repaired = tt
 
 module _ (p : Typed) (names : List (List ℕ)) (e : EngineState) (pending : Bool) (h : Holds p names e pending) where
   code-run : (o : Option Call) → IfSome o (λ call. Fits e.code e.inputs call.function call.args) → run_of_call (state_of p names e pending) o ≡ fresh_call e.code e.inputs e.fuel o
