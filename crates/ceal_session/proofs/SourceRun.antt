@@ -1,5 +1,5 @@
 -- The run that an engine has is the source's.
-use Rattle.std.proofs.Common.{◌≡◌, ⊥, inr, ℕ, Bool, true, false, Option, Some, None, Result, Ok, Err, IfOk, IsSomeAnd, OnOk, List, is_some, refl, sym, ap, ◌∙◌, subst, arith}
+use Rattle.std.proofs.Common.{◌≡◌, inr, ℕ, Bool, true, false, Option, Some, None, Result, Ok, Err, IfOk, IsSomeAnd, OnOk, List, is_some, refl, sym, ap, ◌∙◌, subst, arith}
 use Rattle.std.specs.Option.{option_map}
 use Rattle.std.specs.Prelude.{IfSome, OnErr}
 use Rattle.ceal_base.specs.Finished.{Finished}
