@@ -22,7 +22,6 @@ pub mod Repaired
 pub mod Main
 pub mod Named
 pub mod MoreInputs
-pub mod Counts
 pub mod Course
 pub mod Done
 pub mod KnownContent
@@ -30,11 +29,12 @@ pub mod Listed
 pub mod SameStore
 pub mod SliceLaws
 pub mod CarriedLaws
-pub mod PastLaws
 pub mod Sound
 pub mod Walk
 pub mod CostBound
 -- The laws of repair.
+pub mod Counts
+pub mod PastLaws
 pub mod Stored
 pub mod Told
 pub mod Replays
