@@ -22,7 +22,6 @@ pub mod Repaired
 pub mod Main
 pub mod Named
 pub mod MoreInputs
-pub mod Counts
 pub mod Course
 pub mod Done
 pub mod KnownContent
@@ -30,7 +29,6 @@ pub mod Listed
 pub mod SameStore
 pub mod SliceLaws
 pub mod CarriedLaws
-pub mod PastLaws
 pub mod Sound
 pub mod Walk
 pub mod CostBound
@@ -52,8 +50,10 @@ pub mod RenamedRepair
 pub mod Segments
 pub mod FlatMachine
 -- Walks, counts, and what is known.
+pub mod Counts
 pub mod KeptSteps
 -- Slices and turns.
+pub mod PastLaws
 pub mod Uses
 pub mod Parts
 pub mod Adds
