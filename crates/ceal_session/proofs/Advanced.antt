@@ -1,37 +1,33 @@
 -- What a session is after its engine was brought forward.
-use Rattle.std.proofs.Common.{◌≡◌, ◌⊎◌, inl, inr, ℕ, ◌≤◌, Bool, true, false, if◌then◌else◌, Option, Some, None, Result, Ok, Err, List, [], length, is_some, refl, sym, ap, ◌∙◌, subst, arith}
+use Rattle.std.proofs.Common.{◌≡◌, ◌⊎◌, inl, inr, ℕ, Bool, true, false, Option, Some, None, Ok, Err, List, [], length, is_some, refl, sym, ap, ◌∙◌, subst, arith}
 use Rattle.std.specs.Prelude.{IfSome}
 use Rattle.ceal_base.specs.Block.{Block}
 use Rattle.ceal_base.specs.Finished.{Finished}
 use Rattle.ceal_base.specs.Trace.{Trace, steps_of}
 use Rattle.ceal_base.specs.declared.call.Call.{Call}
 use Rattle.ceal_base.specs.declared.typed.Typed.{Typed}
-use Rattle.ceal_code.proofs.Same.{none-some, some-same}
 use Rattle.ceal_code.specs.Fitting.{Fits}
 use Rattle.ceal_code.specs.Program.{Code}
 use Rattle.ceal_code.specs.Replay.{Replays}
-use Rattle.ceal_engine.specs.Engine.{EngineState, IsEngine, IsPresent, IsTraced, is_whole, IsWhole, ReplaysCall, trace, fresh_call, fresh_of, has_run}
+use Rattle.ceal_engine.specs.Engine.{EngineState, IsEngine, IsPresent, IsTraced, is_whole, ReplaysCall, trace, fresh_call, fresh_of, has_run}
 use Rattle.ceal_engine.specs.declared.phase.Came.TheVariants.{More, Done, Anew}
-use Rattle.ceal_engine.specs.declared.phase.Phase.{Phase}
-use Rattle.ceal_engine.specs.declared.phase.Phase.TheVariants.{New, Finished as IsFinished, Pending, Partial, Dropped}
+use Rattle.ceal_engine.specs.declared.phase.Phase.TheVariants.{New, Finished as IsFinished, Partial, Dropped}
 use Rattle.ceal_engine.specs.declared.run_error.RunError.TheVariants.{Memory, OutOfFuel}
 use Rattle.ceal_session.proofs.Bringing.{past-none, past-going, past-traced, some-trace}
 use Rattle.ceal_session.proofs.Extending.{extended-same}
 use Rattle.ceal_session.proofs.Ran.{few-steps, has-first, no-first}
 use Rattle.ceal_session.proofs.SourceRun.{code-run}
-use Rattle.ceal_session.proofs.Undoing.{undone-count}
-use Rattle.ceal_session.specs.Advancing.{Outcome, is_more, phase_behind, journal_behind, IsSliceOf, Brings, Leaves, IsAdvanced}
-use Rattle.ceal_session.specs.Following.{Retraces, dropped}
+use Rattle.ceal_session.specs.Advancing.{Outcome, is_more, journal_behind, IsSliceOf, Brings, IsAdvanced}
 use Rattle.ceal_session.specs.Journal.{Measure, Number, Between, JournalState}
 use Rattle.ceal_session.specs.Keeping.{past_of, call_cost, bound_from, settled_of, situation_of, IsRunOn, IsMeasured, IsSettledOn, WasHonest, Holds}
 use Rattle.ceal_session.specs.Runs.{run_of}
 use Rattle.ceal_session.specs.State.{State, Situation}
 use Rattle.ceal_session.specs.Undoing.{undone, AreWithin}
-use Rattle.ceal_session.specs.Works.{first_trace, steps_in_first, bound_by}
+use Rattle.ceal_session.specs.Works.{steps_in_first, bound_by}
 use Rattle.ceal_theory.specs.Adjust.{Extended}
 use Rattle.ceal_theory.specs.Computed.{Repaired, first_of}
 use Rattle.ceal_theory.specs.Pasts.{Past, NoTrace, SamePast, goes, first_past, done_past, left_by, slice_of, next_repair, past_behind}
-use Rattle.ceal_theory.specs.Slices.{Repair, is_done}
+use Rattle.ceal_theory.specs.Slices.{Repair}
 
 -- the accepted call
 pub the-call : (e : EngineState) → is_some e.call ≡ true → (call : Call) × (e.call ≡ Some call)

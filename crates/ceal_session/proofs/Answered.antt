@@ -1,16 +1,16 @@
 -- From how a run or a repair came out to the reply.
-use Rattle.std.proofs.Common.{◌≡◌, inr, ℕ, Bool, true, false, Option, Some, None, Result, Ok, Err, IfOk, OnOk, is_some, refl, sym, ap, ap₂, ◌∙◌, subst, arith}
-use Rattle.std.specs.Prelude.{OnErr, is_none}
+use Rattle.std.proofs.Common.{◌≡◌, inr, ℕ, Bool, true, false, Option, Some, None, Result, Ok, Err, IfOk, OnOk, is_some, refl, ap, subst, arith}
+use Rattle.std.specs.Prelude.{OnErr}
 use Rattle.ceal_base.specs.Finished.{Finished}
 use Rattle.ceal_base.specs.declared.call.Call.{Call}
 use Rattle.ceal_base.specs.declared.no_memory.NoMemory.{NoMemory}
 use Rattle.ceal_engine.specs.declared.phase.Came.TheVariants.{More, Done, Anew}
 use Rattle.ceal_engine.specs.declared.run_error.RunError.TheVariants.{Memory, OutOfFuel}
-use Rattle.ceal_session.specs.Advancing.{Outcome, reply_behind, part_behind, Leaves, IsAdvanced}
+use Rattle.ceal_session.specs.Advancing.{Outcome, reply_behind, part_behind, IsAdvanced}
 use Rattle.ceal_session.specs.Following.{Goes, Retraces, IsLeftBy}
-use Rattle.ceal_session.specs.Runs.{run_of, with_run, with_part}
+use Rattle.ceal_session.specs.Runs.{run_of, with_run}
 use Rattle.ceal_session.specs.State.{State, Situation}
-use Rattle.ceal_session.specs.Steps.{Step, IsQuiet, called_again, run_reply, runs, part_reply, runs_part}
+use Rattle.ceal_session.specs.Steps.{Step, IsQuiet, called_again, runs, part_reply, runs_part}
 use Rattle.ceal_session.specs.declared.reply.Reply.{Reply}
 use Rattle.ceal_session.specs.declared.reply.Reply.TheVariants.{Ok as Whole, OutOfFuel as Exhausted, Finished as PartDone}
 use Rattle.ceal_theory.specs.Pasts.{goes}

@@ -1,8 +1,5 @@
 -- A session that begins.
-use Rattle.std.proofs.Common.{◌≡◌, ℕ, Bool, false, Option, None, List, [], length, refl, sym, ap, ◌∙◌, subst, arith}
-use Rattle.ceal_base.specs.Block.{Block}
-use Rattle.ceal_base.specs.declared.call.Call.{Call}
-use Rattle.ceal_base.specs.declared.typed.Typed.{Typed}
+use Rattle.std.proofs.Common.{◌≡◌, ℕ, false, None, [], length, refl, sym, ap, arith}
 use Rattle.ceal_code.specs.Program.{Code}
 use Rattle.ceal_compile.specs.Compiled.{IsCompiled}
 use Rattle.ceal_compile.specs.declared.program.Program.{Program}
@@ -11,9 +8,9 @@ use Rattle.ceal_engine.specs.declared.phase.Phase.TheVariants.{New}
 use Rattle.ceal_session.proofs.Bringing.{past-none}
 use Rattle.ceal_session.specs.Following.{opened}
 use Rattle.ceal_session.specs.Journal.{opened as empty}
-use Rattle.ceal_session.specs.Keeping.{past_of, situation_of, Holds}
+use Rattle.ceal_session.specs.Keeping.{situation_of, Holds}
 use Rattle.ceal_session.specs.Runs.{begun}
-use Rattle.ceal_session.specs.State.{State, Situation}
+use Rattle.ceal_session.specs.State.{State}
 use Rattle.ceal_theory.specs.Pasts.{Past, NoTrace}
 
 module _ (program : Program) (e : EngineState) (code : e.code ≡ program.code) (inputs : e.inputs ≡ []) (phase : e.phase ≡ New) where

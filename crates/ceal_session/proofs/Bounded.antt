@@ -1,11 +1,8 @@
 -- The work of a propagate that repaired a trace is at most the bound, and that is at most the steps of the run.
-use Rattle.std.proofs.Common.{◌≡◌, ◌⊎◌, inl, inr, ℕ, ◌≤◌, Bool, true, false, if◌then◌else◌, Option, Some, None, Result, Ok, Err, List, map, refl, sym, ap, ◌∙◌, subst, arith}
+use Rattle.std.proofs.Common.{◌≡◌, ℕ, ◌≤◌, Bool, true, false, if◌then◌else◌, Option, Some, None, Result, Ok, Err, map, refl, sym, ap, ◌∙◌, subst, arith}
 use Rattle.std.specs.Prelude.{IfSome}
-use Rattle.ceal_base.specs.Block.{Block}
-use Rattle.ceal_base.specs.Finished.{Finished}
 use Rattle.ceal_base.specs.Trace.{steps_of}
 use Rattle.ceal_base.specs.declared.call.Call.{Call}
-use Rattle.ceal_base.specs.declared.word.Word.{Word}
 use Rattle.ceal_code.proofs.AlikeLemmas.{steps-alike}
 use Rattle.ceal_code.proofs.Same.{none-some, some-same}
 use Rattle.ceal_code.specs.Fitting.{Fits}
@@ -26,7 +23,7 @@ use Rattle.ceal_session.specs.State.{State, Situation, completed, last}
 use Rattle.ceal_session.specs.Works.{first_trace, steps_in_first, bound_by, past_left, bound_left}
 use Rattle.ceal_theory.proofs.CarriedLaws.{edited-so, own-single}
 use Rattle.ceal_theory.proofs.SliceLaws.{begun-adjusted-law, done-law, is-done-law, slice-law, slices-law, begin-law}
-use Rattle.ceal_theory.specs.Computed.{Repaired, adjusted, first_of}
+use Rattle.ceal_theory.specs.Computed.{Repaired, adjusted}
 use Rattle.ceal_theory.specs.Laws.{Edited, RenamedRepair}
 use Rattle.ceal_theory.specs.Pasts.{Past, NoTrace, Traced, Going, SamePast, IsPastOf, first_past, done_past, left_by}
 use Rattle.ceal_theory.specs.Repair.{own}

@@ -6,23 +6,21 @@ use Rattle.ceal_base.specs.Trace.{Trace, steps_of}
 use Rattle.ceal_base.specs.declared.call.Call.{Call}
 use Rattle.ceal_base.specs.declared.word.BlockId.TheVariants.{Core}
 use Rattle.ceal_base.specs.declared.word.Word.{Word}
-use Rattle.ceal_code.proofs.Same.{none-some, some-same}
-use Rattle.ceal_code.specs.Alike.{Pairs}
+use Rattle.ceal_code.proofs.Same.{some-same}
 use Rattle.ceal_code.specs.Fitting.{Fits}
 use Rattle.ceal_code.specs.Program.{Code}
 use Rattle.ceal_code.specs.Replay.{Replays, plain_of}
-use Rattle.ceal_engine.specs.Engine.{EngineState, IsEngine, IsPresent, is_whole, IsWhole, IsHeapOf, ReplaysCall, trace, fresh_call, fresh_of, has_run, heap_words, IfOutOfFuel}
+use Rattle.ceal_engine.specs.Engine.{EngineState, IsEngine, IsPresent, is_whole, IsWhole, IsHeapOf, ReplaysCall, trace, fresh_call, fresh_of, has_run, IfOutOfFuel}
 use Rattle.ceal_engine.specs.Partial.{CarriesFrom, RenamedFrom, Comes, GoesOn, Ends, IsAnew, carried_by, spent_in, words_in}
 use Rattle.ceal_engine.specs.Partial.{phase_behind as phase_of_came}
 use Rattle.ceal_engine.specs.Repaired.{IsFirst, first_call}
-use Rattle.ceal_engine.specs.declared.phase.Came.{Came}
 use Rattle.ceal_engine.specs.declared.phase.Came.TheVariants.{More, Done, Anew}
 use Rattle.ceal_engine.specs.declared.phase.Phase.{Phase}
 use Rattle.ceal_engine.specs.declared.phase.Phase.TheVariants.{New, Finished, Pending, Partial, Dropped}
 use Rattle.ceal_engine.specs.declared.run_error.RunError.{RunError}
 use Rattle.ceal_engine.specs.declared.run_error.RunError.TheVariants.{Memory, OutOfFuel}
-use Rattle.ceal_session.proofs.Ran.{above, is-above, has-first, no-first}
-use Rattle.ceal_session.specs.Advancing.{Outcome, phase_behind, Completes, Began, IsSliceOf, Makes, Brings, Brought, with_came}
+use Rattle.ceal_session.proofs.Ran.{above, is-above, has-first}
+use Rattle.ceal_session.specs.Advancing.{Outcome, Brings, with_came}
 use Rattle.ceal_session.specs.Keeping.{past_of, past_by, traced_by, going_by}
 use Rattle.ceal_theory.proofs.CarriedLaws.{carried-same-law, carried-trace-law, edited-so, own-single}
 use Rattle.ceal_theory.proofs.SliceLaws.{begin-law}

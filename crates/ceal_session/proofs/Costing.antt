@@ -1,14 +1,13 @@
 -- First traces in code, and the cost of the one beside the other.
-use Rattle.std.proofs.Common.{◌≡◌, ℕ, ◌≤◌, ◌<◌, ◌^◌, Option, Some, None, List, refl, sym, ap, ap₂, ◌∙◌, subst, arith}
+use Rattle.std.proofs.Common.{◌≡◌, ℕ, ◌≤◌, ◌<◌, ◌^◌, Option, Some, None, List, sym, ap, ap₂, ◌∙◌, subst, arith}
 use Rattle.std.specs.Prelude.{IfSome}
 use Rattle.ceal_adjust.specs.Answers.{IsRepair}
 use Rattle.ceal_base.proofs.TraceLemmas.{steps-flat}
 use Rattle.ceal_base.specs.Block.{Block}
-use Rattle.ceal_base.specs.Finished.{Finished}
-use Rattle.ceal_base.specs.Trace.{Trace, flat, steps_in, steps_of}
+use Rattle.ceal_base.specs.Trace.{steps_in, steps_of}
 use Rattle.ceal_base.specs.declared.forest.Item.{Item}
 use Rattle.ceal_base.specs.declared.word.Word.{Word}
-use Rattle.ceal_code.proofs.Same.{none-some, some-same}
+use Rattle.ceal_code.proofs.Same.{some-same}
 use Rattle.ceal_code.specs.Fitting.{Fits}
 use Rattle.ceal_code.specs.Fresh.{fresh}
 use Rattle.ceal_code.specs.Program.{Code}
@@ -16,7 +15,6 @@ use Rattle.ceal_cost.specs.Bounds.{aligned_of}
 use Rattle.ceal_session.proofs.Ran.{few-steps, has-first, no-first}
 use Rattle.ceal_session.specs.Costs.{HasItems, IsCost}
 use Rattle.ceal_theory.specs.Computed.{Repaired, first_of}
-use Rattle.ceal_theory.specs.Cost.{aligned}
 
 module _ (code : Code) (inputs : List Block) (f : ℕ) (args : List Word) (fits : Fits code inputs f args) (fuel : ℕ) where
   pub has-items : (forest : List Item) (work : ℕ) → IsRepair forest work (first_of code inputs fuel f args) (fresh code f args inputs fuel)

@@ -1,5 +1,5 @@
 -- What a session is after an edit, and after one input more.
-use Rattle.std.proofs.Common.{◌≡◌, ◌⊎◌, inl, inr, ℕ, ◌<◌, ◌+◌, Bool, true, false, Option, Some, None, List, [], ◌∷◌, ◌++◌, length, suc, refl, sym, ap, ap₂, ◌∙◌, subst, length-append, arith, slice_get}
+use Rattle.std.proofs.Common.{◌≡◌, ℕ, ◌<◌, Bool, true, Option, Some, None, List, [], ◌∷◌, ◌++◌, length, suc, refl, sym, ap, ap₂, ◌∙◌, subst, length-append, arith, slice_get}
 use Rattle.std.specs.Prelude.{IfSome}
 use Rattle.ceal_base.specs.Block.{Block, block_at}
 use Rattle.ceal_base.specs.Fitting.{kind_in, kind_at, block_fits, inputs_fit}
@@ -20,8 +20,7 @@ use Rattle.ceal_code.specs.Replay.{Replays}
 use Rattle.ceal_code.specs.Value.{is_cell}
 use Rattle.ceal_cost.proofs.Firsts.{more-first}
 use Rattle.ceal_cost.specs.Bounds.{first_cost, aligned_of}
-use Rattle.ceal_engine.specs.Engine.{EngineState, IsEngine, IsWhole, alone, with_base, edited, trace, has_run, stands_for}
-use Rattle.ceal_engine.specs.Partial.{carried_by}
+use Rattle.ceal_engine.specs.Engine.{EngineState, IsWhole, alone, with_base, edited, trace, has_run, stands_for}
 use Rattle.ceal_engine.specs.declared.phase.Phase.{Phase}
 use Rattle.ceal_engine.specs.declared.phase.Phase.TheVariants.{New, Finished, Pending, Partial, Dropped}
 use Rattle.ceal_session.proofs.Bringing.{whole-runs}
@@ -37,7 +36,7 @@ use Rattle.ceal_session.specs.Steps.{with_base as state_with_base, with_input}
 use Rattle.ceal_session.specs.Undoing.{undone, base_at, IsWithin, AreWithin}
 use Rattle.ceal_session.specs.declared.journal.Edit.{Edit}
 use Rattle.ceal_theory.proofs.MoreInputs.{inputs-law}
-use Rattle.ceal_theory.specs.Pasts.{Past, NoTrace, Traced, Going}
+use Rattle.ceal_theory.specs.Pasts.{Traced, Going}
 
 edited-drops : (phase : Phase) → is_dropped (edited phase) ≡ is_dropped phase
 edited-drops New = refl

@@ -1,19 +1,18 @@
 -- The replies of lines are the text that the plain meaning of the source gives to them with their entries.
-use Rattle.std.proofs.Common.{◌≡◌, ℕ, Bool, true, false, Option, Some, None, Result, Ok, Err, List, [], ◌∷◌, ◌++◌, refl, sym, ap, ap₂, ◌∙◌, subst, arith}
+use Rattle.std.proofs.Common.{◌≡◌, ℕ, Bool, Option, Some, None, Result, Ok, Err, List, [], ◌∷◌, ◌++◌, refl, sym, ap, ap₂, ◌∙◌, subst, arith}
 use Rattle.ceal_base.specs.declared.call.Call.{Call}
 use Rattle.ceal_code.specs.Program.{Code}
 use Rattle.ceal_script.specs.declared.command.Command.{Command}
 use Rattle.ceal_script.specs.declared.command.Command.TheVariants.{Blank, Mod, New, Set, Run, Propagate, Slice, Get, Show, Blocks, Steps, Work, Bound}
 use Rattle.ceal_session.proofs.Answering.{can-tell}
 use Rattle.ceal_session.specs.Asking.{IsReady, CanTell}
-use Rattle.ceal_session.specs.Entries.{Entry, Counted, More as Goes, Out, entry_of, entries_by, entries_in, AreEntries, goes_on, Told, taken, told_behind, AreReplies, Tells, EntriesLaw, OneTextLaw}
+use Rattle.ceal_session.specs.Entries.{Entry, entry_of, entries_by, AreEntries, goes_on, taken, told_behind, AreReplies, EntriesLaw, OneTextLaw}
 use Rattle.ceal_session.specs.Laws.{OneCommandLaw, OneAnswerLaw, OneStateLaw}
 use Rattle.ceal_session.specs.Replies.{Answers, Replies, Leads, behind}
-use Rattle.ceal_session.specs.Runs.{present_run}
 use Rattle.ceal_session.specs.Standing.{IsPastIn, Stands}
 use Rattle.ceal_session.specs.State.{State, Situation, Numbers, completed, latest_work, numbers_in}
-use Rattle.ceal_session.specs.Steps.{answered, answered_line}
-use Rattle.ceal_session.specs.Texts.{Tells as TellsText, TellsOf, IsText}
+use Rattle.ceal_session.specs.Steps.{answered_line}
+use Rattle.ceal_session.specs.Texts.{IsText}
 use Rattle.ceal_session.specs.Works.{call_in, past_in, past_left, bound_in, bound_left, reads_in}
 use Rattle.ceal_session.specs.declared.refusal.Refusal.{Refusal}
 use Rattle.ceal_session.specs.declared.reply.Reply.{Reply}

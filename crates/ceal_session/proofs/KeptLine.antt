@@ -1,5 +1,5 @@
 -- A line of a session that is in a situation is answered as there, and the session is in the situation behind the line.
-use Rattle.std.proofs.Common.{◌≡◌, ℕ, Option, Some, None, Result, Ok, Err, List, refl, sym, ap, ◌∙◌, subst}
+use Rattle.std.proofs.Common.{◌≡◌, Option, Result, Ok, Err, List, refl, sym, ap, ◌∙◌, subst}
 use Rattle.ceal_base.specs.Block.{Block}
 use Rattle.ceal_base.specs.declared.call.Call.{Call}
 use Rattle.ceal_script.specs.declared.command.Command.{Command}

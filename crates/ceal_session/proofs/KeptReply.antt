@@ -1,5 +1,5 @@
 -- A session whose past is that of a situation up to numbers answers as the situation does.
-use Rattle.std.proofs.Common.{◌≡◌, ℕ, Bool, true, Option, Some, None, Result, Ok, Err, List, ◌⊎◌, inl, inr, refl, sym, ap, ap₂, ◌∙◌, subst}
+use Rattle.std.proofs.Common.{◌≡◌, ℕ, true, Option, Some, None, Ok, Err, List, ◌⊎◌, inl, inr, refl, sym, ap, ap₂, ◌∙◌, subst}
 use Rattle.std.specs.Prelude.{IfSome}
 use Rattle.ceal_base.specs.Block.{Block}
 use Rattle.ceal_base.specs.Fitting.{inputs_fit}
@@ -11,18 +11,17 @@ use Rattle.ceal_script.specs.declared.command.Command.{Command}
 use Rattle.ceal_theory.specs.Adjust.{Extended}
 use Rattle.ceal_theory.proofs.CarriedLaws.{carried-more-law}
 use Rattle.ceal_theory.proofs.SliceLaws.{more-law}
-use Rattle.ceal_theory.specs.Computed.{Repaired}
 use Rattle.ceal_theory.specs.Laws.{RenamedRepair}
 use Rattle.ceal_theory.specs.Pasts.{Past, NoTrace, Traced, Going, SamePast, IsPastOf, goes}
 use Rattle.ceal_theory.specs.Repair.{own}
-use Rattle.ceal_session.specs.Following.{Goes, Retraces}
+use Rattle.ceal_session.specs.Following.{Retraces}
 use Rattle.ceal_session.specs.Replies.{Answers, Replies, behind}
 use Rattle.ceal_session.specs.Standing.{IsPastIn, IsSamePast, Stands}
 use Rattle.ceal_session.specs.State.{State, Situation, Numbers, completed, latest_work, numbers_in}
 use Rattle.ceal_session.specs.Steps.{answered_line}
 use Rattle.ceal_session.specs.Texts.{IsText}
 use Rattle.ceal_session.specs.declared.refusal.Refusal.{Refusal}
-use Rattle.ceal_session.specs.Works.{call_in, reads_in, past_in, past_left, bound_left}
+use Rattle.ceal_session.specs.Works.{call_in, past_in, past_left, bound_left}
 
 module _ {code : Code} {inputs : List Block} {f : ℕ} {args : List Word} where
   pub same-goes : {p q : Past} → SamePast code inputs f args p q → goes p ≡ goes q

@@ -1,5 +1,5 @@
 -- A line has one reply in a situation, and so have lines one after another.
-use Rattle.std.proofs.Common.{◌≡◌, ℕ, Bool, Option, Some, None, List, [], ◌∷◌, ◌++◌, refl, sym, ap, ap₂, ◌∙◌, subst}
+use Rattle.std.proofs.Common.{◌≡◌, ℕ, Option, Some, None, List, [], ◌∷◌, ◌++◌, refl, sym, ap, ap₂, ◌∙◌, subst}
 use Rattle.std.proofs.lemmas.List.{append_assoc}
 use Rattle.ceal_base.specs.Block.{block_at}
 use Rattle.ceal_base.specs.Finished.{Finished}
@@ -10,9 +10,9 @@ use Rattle.ceal_script.specs.Lines.{IsLineOf}
 use Rattle.ceal_script.specs.declared.command.Command.{Command}
 use Rattle.ceal_theory.specs.Pasts.{goes}
 use Rattle.ceal_session.specs.Laws.{OneCommandLaw, OneAnswerLaw, OneStateLaw, OneReplyLaw, OneScriptLaw, JoinedLaw}
-use Rattle.ceal_session.specs.Replies.{Replies, Leads, behind}
+use Rattle.ceal_session.specs.Replies.{Leads, behind}
 use Rattle.ceal_session.specs.Runs.{present_run}
-use Rattle.ceal_session.specs.State.{State, Situation, Numbers, numbers_in}
+use Rattle.ceal_session.specs.State.{State, Numbers, numbers_in}
 use Rattle.ceal_session.specs.Steps.{answered_line}
 use Rattle.ceal_session.specs.Texts.{input_name, Tells, TellsOf, IsText}
 use Rattle.ceal_session.specs.Works.{past_in}

@@ -1,9 +1,7 @@
 -- Lines one after another have replies in a situation that a session comes to.
-use Rattle.std.proofs.Common.{ℕ, List, [], ◌∷◌, ◌++◌, refl}
+use Rattle.std.proofs.Common.{[], ◌∷◌, ◌++◌, refl}
 use Rattle.ceal_session.specs.Laws.{Replied, SomeReplyLaw, Led, SomeScriptLaw}
 use Rattle.ceal_session.specs.Replies.{Leads}
-use Rattle.ceal_session.specs.Standing.{Stands}
-use Rattle.ceal_session.specs.State.{Situation}
 
 pub some-script : SomeReplyLaw → SomeScriptLaw
 unfolding Leads

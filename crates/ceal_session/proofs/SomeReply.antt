@@ -21,7 +21,7 @@ use Rattle.ceal_code.proofs.Ends.{fresh-ends, fresh-count}
 use Rattle.ceal_code.proofs.InputFits.{edit-fits, fits_in, kept-longer, longer-fits}
 use Rattle.ceal_code.proofs.Kept.{ShapesKept, fields-kept, words-kept}
 use Rattle.ceal_code.proofs.Memory.{got}
-use Rattle.ceal_code.proofs.Same.{both, both-true, none-some}
+use Rattle.ceal_code.proofs.Same.{both, both-true}
 use Rattle.ceal_code.specs.Fitting.{Fits}
 use Rattle.ceal_code.specs.Fresh.{fresh as code_fresh}
 use Rattle.ceal_code.specs.Laws.{ProgressLaw}
@@ -36,21 +36,20 @@ use Rattle.ceal_session.proofs.Extending.{extended-same, extended-longer, extend
 use Rattle.ceal_session.proofs.KeptReply.{LineFacts, past-of}
 use Rattle.ceal_session.proofs.Ran.{Ran, ran}
 use Rattle.ceal_session.specs.Asking.{CanTell, IsCellOf, IsCellSense}
-use Rattle.ceal_session.specs.Following.{opened, dropped as dropped_by}
+use Rattle.ceal_session.specs.Following.{dropped as dropped_by}
 use Rattle.ceal_session.specs.Laws.{Replied, BegunLaw, SomeReplyLaw, DroppedLaw}
 use Rattle.ceal_session.specs.Refusals.{refusal_text}
 use Rattle.ceal_session.specs.Replies.{behind}
 use Rattle.ceal_session.specs.Runs.{memory_of, present_run, run_of, with_run, with_part}
 use Rattle.ceal_session.specs.Senses.{is_unknown, words_of, mod_shape, struct_shape, struct_named, function_named, place_sense, value_sense}
-use Rattle.ceal_session.specs.Standing.{IsTraceIn, IsRepairIn, IsPastIn, IsSettled, IsSamePast, Stands, IsIn}
-use Rattle.ceal_session.specs.State.{State, Situation, Numbers, numbers_in}
-use Rattle.ceal_session.specs.Steps.{Step, stays, refuses, with_input, block_of, made_with, made_of, with_base, fits_cell, set_word, set, is_call_of, IsCall, called, called_again, run_reply, runs, part_reply, runs_part, call_of, reads_of, answered, answered_line}
+use Rattle.ceal_session.specs.Standing.{IsRepairIn, IsPastIn, Stands}
+use Rattle.ceal_session.specs.State.{State, Situation, numbers_in}
+use Rattle.ceal_session.specs.Steps.{Step, stays, refuses, with_input, block_of, made_with, made_of, with_base, fits_cell, set_word, set, is_call_of, IsCall, called, called_again, run_reply, runs, part_reply, runs_part, call_of, answered, answered_line}
 use Rattle.ceal_session.specs.Texts.{input_name, TellsOf, IsText}
-use Rattle.ceal_session.specs.Works.{call_in, reads_in, past_in, past_left, bound_in}
+use Rattle.ceal_session.specs.Works.{call_in, past_in, past_left, bound_in}
 use Rattle.ceal_theory.proofs.MoreInputs.{inputs-law}
 use Rattle.ceal_theory.proofs.SliceLaws.{more-law}
 use Rattle.ceal_theory.specs.Adjust.{Extended}
-use Rattle.ceal_theory.specs.Computed.{Repaired}
 use Rattle.ceal_theory.specs.Pasts.{Past, NoTrace, Traced, Going, SamePast, IsPastOf, goes}
 use Rattle.ceal_theory.specs.Slices.{Repair}
 use Rattle.ceal_session.specs.declared.refusal.Refusal.{Refusal}

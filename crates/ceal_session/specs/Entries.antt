@@ -1,6 +1,6 @@
 -- The replies to a script, by the plain meaning of the source and a list of entries: for each line that runs, its numbers, or
 -- that a repair goes on, or that it was out of fuel. Nothing else of the compiler and of trace repair comes into the text.
-use Rattle.std.specs.Prelude.{◌≡◌, ℕ, Bool, true, false, Option, Some, None, Result, Ok, Err, List, [], ◌∷◌, ◌++◌}
+use Rattle.std.specs.Prelude.{◌≡◌, ℕ, Bool, true, false, Option, Result, Ok, Err, List, [], ◌∷◌, ◌++◌}
 use Rattle.ceal_base.specs.declared.call.Call.{Call}
 use Rattle.ceal_script.specs.declared.command.Command.{Command}
 use Rattle.ceal_theory.specs.Pasts.{Past, NoTrace, Traced, Going}

@@ -1,18 +1,15 @@
 -- Laws of replies.
-use Rattle.std.specs.Prelude.{◌≡◌, ◌≤◌, ℕ, Bool, true, Option, Some, None, Ok, List, ◌++◌}
-use Rattle.ceal_base.specs.Trace.{Trace, flat, steps_of}
+use Rattle.std.specs.Prelude.{◌≡◌, ℕ, Bool, Option, Ok, List, ◌++◌}
 use Rattle.ceal_base.specs.declared.call.Call.{Call}
 use Rattle.ceal_compile.specs.Compiled.{IsCompiled}
 use Rattle.ceal_compile.specs.declared.program.Program.{Program}
 use Rattle.ceal_script.specs.declared.command.Command.{Command}
-use Rattle.ceal_theory.specs.Computed.{Repaired}
 use Rattle.ceal_theory.specs.Pasts.{goes}
 use Rattle.ceal_session.specs.Following.{opened, Repairs, dropped}
-use Rattle.ceal_session.specs.Replies.{Reads, Answers, Replies, Leads, behind}
+use Rattle.ceal_session.specs.Replies.{Reads, Answers, Replies, Leads}
 use Rattle.ceal_session.specs.Standing.{Stands, IsIn}
-use Rattle.ceal_session.specs.State.{State, Situation, Numbers, last, numbers_in}
+use Rattle.ceal_session.specs.State.{State, Situation, Numbers, numbers_in}
 use Rattle.ceal_session.specs.Steps.{call_of}
-use Rattle.ceal_session.specs.Works.{call_in, reads_in}
 
 -- A line is one command's at most.
 abbrev pub OneCommandLaw : Type 0

@@ -1,5 +1,5 @@
 -- The situations that a session comes to, and when a session is in one.
-use Rattle.std.specs.Prelude.{◌≡◌, ℕ, ◌≤◌, true, false, Option, Some, None, IfSome, List, length}
+use Rattle.std.specs.Prelude.{◌≡◌, ◌≤◌, true, false, Option, Some, None, IfSome, List, length}
 use Rattle.ceal_base.specs.Block.{Block}
 use Rattle.ceal_base.specs.Fitting.{inputs_fit}
 use Rattle.ceal_base.specs.Trace.{steps_of}

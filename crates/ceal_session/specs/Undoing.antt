@@ -1,5 +1,5 @@
 -- Edits of bases that are undone.
-use Rattle.std.specs.Prelude.{◌≡◌, ℕ, ◌<◌, Option, Some, None, List, [], ◌∷◌, slice_get, unwrap_or, ⊤}
+use Rattle.std.specs.Prelude.{ℕ, ◌<◌, Option, Some, None, List, [], ◌∷◌, slice_get, unwrap_or}
 use Rattle.std.specs.List.{AllByRecursion}
 use Rattle.ceal_base.specs.Block.{Block}
 use Rattle.ceal_base.specs.declared.word.BlockId.{BlockId}

@@ -1,6 +1,6 @@
 -- What runs and propagates leave, by change propagation over the program's code: traces and their work, repairs that go
 -- on, and the bound of a work.
-use Rattle.std.specs.Prelude.{◌≡◌, ℕ, Option, Some, None, Result, Ok, Err, if◌then◌else◌}
+use Rattle.std.specs.Prelude.{ℕ, Option, Some, None, Result, Ok, Err, if◌then◌else◌}
 use Rattle.ceal_base.specs.Trace.{steps_of}
 use Rattle.ceal_base.specs.declared.call.Call.{Call}
 use Rattle.ceal_code.specs.Program.{Code}

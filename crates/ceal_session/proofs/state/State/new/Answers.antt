@@ -1,7 +1,4 @@
-use Rattle.std.proofs.Common.{◌≡◌, false, sym, subst}
 use Rattle.ceal_session.proofs.Begun.{begun-holds, begun-is}
-use Rattle.ceal_session.specs.Following.{opened}
-use Rattle.ceal_session.specs.Keeping.{situation_of, Holds}
 use Rattle.ceal_session.proofs.state.State.new.Goals as goal
 
 pub invariant_of-result : goal.invariant_of-result
