@@ -1,6 +1,6 @@
 -- What a run that was completed is: that of a first trace, or of the repair of a trace. And what edits make of a run.
 use Rattle.std.specs.Prelude.{◌≡◌, ℕ, true, false, ◌++◌, Option, Some, None, List, ⊤}
-use Rattle.std.specs.Option.{IsSomeAnd}
+use Rattle.std.specs.Option.{IsSomeAnd, option_map}
 use Rattle.ceal_base.specs.Block.{Block}
 use Rattle.ceal_base.specs.Trace.{Trace, trace_of}
 use Rattle.ceal_base.specs.declared.call.Call.{Call}
@@ -12,16 +12,19 @@ use Rattle.ceal_base.specs.declared.word.Place.{Place}
 use Rattle.ceal_base.specs.declared.word.Word.{Word}
 use Rattle.ceal_code.specs.Program.{Code}
 use Rattle.ceal_code.specs.Replay.{IsHonest, bases, stored}
-use Rattle.ceal_engine.specs.Engine.{NUMBERS, EngineState}
-use Rattle.ceal_engine.specs.Keeping.{Keeps, state_of}
+use Rattle.ceal_engine.specs.Engine.{EngineState}
+use Rattle.ceal_engine.specs.Keeping.{Keeps, IsPartKept, state_of}
 use Rattle.ceal_engine.specs.Repaired.{IsFirst, IsRepaired, IsUnchanged}
-use Rattle.ceal_engine.specs.declared.phase.Phase.TheVariants.{Finished as IsFinished}
+use Rattle.ceal_engine.specs.declared.phase.Phase.{Phase}
+use Rattle.ceal_engine.specs.declared.phase.Phase.TheVariants.{New, Finished as IsFinished, Pending, Partial, Dropped}
 use Rattle.ceal_repair.specs.Answers.{IsKeptRun}
 use Rattle.ceal_mods.specs.Mods.{cell_of}
 use Rattle.ceal_repair.specs.Kept.{Kept, base_in}
 use Rattle.ceal_repair.specs.Words.{base_of}
+use Rattle.ceal_repair.specs.Slicing.{IsPartRun, IsSliced}
 use Rattle.ceal_repair.specs.declared.running.Running.{Running}
-use Rattle.ceal_theory.specs.Adjust.{Above}
+use Rattle.ceal_repair.specs.declared.slice.Sliced.{Sliced}
+use Rattle.ceal_theory.specs.Slices.{Repair}
 use Rattle.ceal_theory.specs.Walk.{AgreesAll}
 use Rattle.ceal_trace.specs.Items.{forest_of}
 use Rattle.ceal_trace.specs.Nodes.{Entry}
@@ -51,13 +54,40 @@ pub record IsRepairedOf (code : Code) (fuel : ℕ) (inputs : List Block) (call :
 -- a run of the call
 abbrev pub IsOldRun : Code → ℕ → List Block → Option Call → Running → Type 0
 IsOldRun code fuel inputs None run = ⊥
-IsOldRun code fuel inputs (Some call) run = (l : Trace) × IsKeptRun code inputs call.function call.args fuel l run × Above NUMBERS l
+IsOldRun code fuel inputs (Some call) run = (l : Trace) × IsKeptRun code inputs call.function call.args fuel l run
 
 -- a run of the repair of the run's trace
 abbrev pub IsRepairOf : Code → ℕ → List Block → Option Call → Running → Running → Type 0
 IsRepairOf code fuel inputs None old run = ⊥
 IsRepairOf code fuel inputs (Some call) old run =
-    (l : Trace) → IsKeptRun code inputs call.function call.args fuel l old → Above NUMBERS l → IsRepairedOf code fuel inputs (Some call) l old run
+    (l : Trace) → IsKeptRun code inputs call.function call.args fuel l old → IsRepairedOf code fuel inputs (Some call) l old run
+
+-- a run of which nothing was run anew
+abbrev pub idle : Running → Running
+idle run = record run { spent = 0 }
+
+-- an engine that has this part of a repair
+abbrev pub under_way : Code → ℕ → List Block → Option Call → Running → EngineState
+under_way code fuel inputs call run = state_of code fuel inputs call Partial (Some run)
+
+-- a run with which a repair goes on
+abbrev pub IsOpenRun : Code → ℕ → List Block → Option Call → Running → Type 0
+IsOpenRun code fuel inputs None run = ⊥
+IsOpenRun code fuel inputs (Some call) run = IsPartKept code fuel inputs call run
+
+-- what so many reads more make of it
+abbrev pub IsSliceOf : Code → ℕ → List Block → Option Call → Option ℕ → Running → Sliced → Type 0
+IsSliceOf code fuel inputs None reads old s = ⊤
+IsSliceOf code fuel inputs (Some call) reads old s =
+    (r : Repair) → IsPartRun code inputs call.function call.args fuel r old → IsSliced code inputs call.function call.args reads fuel r s
+
+-- where a repair goes on its steps are counted on, and a new one begins with none
+abbrev pub opened : Phase → Option Running → Option Running
+opened New run = run
+opened IsFinished run = option_map idle run
+opened Pending run = option_map idle run
+opened Partial run = run
+opened Dropped run = run
 
 -- the trace of the run is honest on these inputs
 abbrev pub IsStillHonest : Code → ℕ → List Block → Option Call → Running → Type 0
@@ -92,7 +122,3 @@ abbrev pub OfRuns : (Running → Running → Type 0) → Option Running → Opti
 OfRuns P None None = ⊤
 OfRuns P (Some old) (Some new) = P old new
 OfRuns P _ _ = ⊥
-
--- a run of which nothing was run anew
-abbrev pub idle : Running → Running
-idle run = record run { spent = 0 }

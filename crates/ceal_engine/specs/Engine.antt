@@ -19,14 +19,14 @@ use Rattle.ceal_code.specs.After.{memory_after}
 use Rattle.ceal_code.specs.Fitting.{Fits}
 use Rattle.ceal_code.specs.Fresh.{fresh}
 use Rattle.ceal_code.specs.Program.{Code}
-use Rattle.ceal_code.specs.Replay.{Replays, IsHonest}
+use Rattle.ceal_code.specs.Replay.{Replays, IsHonest, core_numbers, plain_of}
 use Rattle.ceal_code.specs.Valid.{valid}
 use Rattle.ceal_code.specs.Value.{is_cell}
 use Rattle.ceal_engine.specs.declared.phase.Phase.{Phase}
-use Rattle.ceal_engine.specs.declared.phase.Phase.TheVariants.{New, Finished as IsFinished, Pending, Dropped}
+use Rattle.ceal_engine.specs.declared.phase.Phase.TheVariants.{New, Finished as IsFinished, Pending, Partial, Dropped}
 use Rattle.ceal_engine.specs.declared.run_error.RunError.{RunError}
 use Rattle.ceal_engine.specs.declared.run_error.RunError.TheVariants.{Memory, OutOfFuel}
-use Rattle.ceal_heap.specs.Heap.{Contents, Known, Revoked, HasSlots, standing}
+use Rattle.ceal_heap.specs.Heap.{Contents, Known, Revoked, HasSlots, next, standing, plain_of as heap_words}
 use Rattle.ceal_repair.specs.Blocks.{Lives}
 use Rattle.ceal_theory.specs.Adjust.{Above}
 use Rattle.ceal_trace.specs.Items.{Nests, forest_of}
@@ -39,10 +39,6 @@ LARGEST_FUEL = 4194304
 -- one step at least, and no more than the largest fuel
 abbrev pub InLimits : ℕ → Type 0
 InLimits fuel = (1 ≤ fuel) × (fuel ≤ LARGEST_FUEL)
-
--- the numbers of core blocks are below this one
-abbrev pub NUMBERS : ℕ
-NUMBERS = 8388608
 
 -- the memory of a finished run: its input blocks, and its core blocks by their numbers, which may be any
 pub record Store : Type 0 where
@@ -64,8 +60,9 @@ stored_at m (Input n) = slice_get m.inputs n
 stored_at m (Core n) = core m n
 
 -- `inputs` are the input blocks with their present bases, `forest` has the flat items of the last run's trace, `timeline` its
--- nodes and `heap` its core blocks, in Finished and Pending, and `work` is the number of steps that were run anew for it. `memory`,
--- `steps`, `live` and `work` say something in Finished alone
+-- nodes and `heap` its core blocks, in Finished and Pending, and `work` is the number of steps that were run anew for it. In Partial
+-- they are those of the repair that goes on, and `work` is what was spent on it so far. `memory`, `steps` and `live` say something
+-- in Finished alone, and `work` in Finished and Partial
 pub record EngineState : Type 0 where
   pub code : Code
   pub fuel : ℕ
@@ -131,28 +128,46 @@ pub record IsPresent (e : EngineState) : Type 0 where
 abbrev pub ReplaysCall : EngineState → Trace → Type 0
 ReplaysCall e l = IfSome e.call (λ call. Replays e.code e.inputs call.function call.args l)
 
--- What the engine has of its run is what the trace gives, which is honest on the present inputs.
+-- What the engine has of its run is what the trace gives, which is honest on the present inputs; and its memory is that of the run
+-- from scratch, the blocks of the trace being numbered in their order.
 pub record IsTraced (e : EngineState) (l : Trace) : Type 0 where
   pub honest : IsHonest e.code e.inputs l
+  pub same : (r : Finished) → fresh_of e ≡ Some r → Same (core_numbers (blocks_of l)) e.memory.inputs (core e.memory) r.memory
   pub inputs : (n : ℕ) → slice_get e.memory.inputs n ≡ memory_after e.code e.inputs l (Input n)
   pub cores : (n : ℕ) → core e.memory n ≡ memory_after e.code e.inputs l (Core n)
   pub steps : e.steps ≡ steps_of l
   pub live : e.live ≡ length (blocks_of l)
 
--- The nodes nest, the live blocks are exactly those that they allocate, each once, no block is revoked, and the region has the
--- slots of the live blocks and no others.
+-- The nodes nest, the live blocks are exactly those that they allocate, each once, and the region has the slots of the blocks that
+-- can be read and no others.
 pub record IsTidy (t : Timeline) (heap : Contents) : Type 0 where
   pub nests : Nests t.nodes
   pub lives : Lives heap t.nodes
-  pub released : (b : BlockId) (block : Known) → ¬ (standing heap b ≡ Revoked block)
   pub slots : HasSlots heap
 
--- a run, though maybe not on the present inputs
+-- The blocks that can be read are those of the trace, with their plain words; none of them is revoked.
+pub record IsHeapOf (code : Code) (inputs : List Block) (l : Trace) (heap : Contents) : Type 0 where
+  pub words : (b : ℕ) → heap_words heap (Core b) ≡ plain_of code inputs l (Core b)
+  pub released : (b : BlockId) (block : Known) → ¬ (standing heap b ≡ Revoked block)
+
+-- a run, though maybe not on the present inputs, or a part of a repair
 abbrev pub has_run : Phase → Bool
 has_run New = false
 has_run IsFinished = true
 has_run Pending = true
+has_run Partial = true
 has_run Dropped = false
+
+-- a run of the call, though maybe not on the present inputs
+abbrev pub is_whole : Phase → Bool
+is_whole New = false
+is_whole IsFinished = true
+is_whole Pending = true
+is_whole Partial = false
+is_whole Dropped = false
+
+abbrev pub IsWhole : Phase → Type 0
+IsWhole phase = is_whole phase ≡ true
 
 -- What is true of every engine.
 pub record IsEngine (e : EngineState) : Type 0 where
@@ -164,14 +179,16 @@ pub record IsEngine (e : EngineState) : Type 0 where
   -- New is the phase where nothing was called
   pub uncalled : e.phase ≡ New → e.call ≡ None
   pub new : e.call ≡ None → e.phase ≡ New
-  -- the trace is there where there is a run, and is one of the call
+  -- the trace is there where there is a run or a part of a repair
   pub kept : is_some (trace e) ≡ has_run e.phase
   pub flat_form : e.forest ≡ option_map flat (trace e)
   -- it is kept as nodes, which stand for its items
   pub nodes : e.forest ≡ option_map (λ t. forest_of t.nodes) e.timeline
   pub tidy : IfSome e.timeline (λ t. IfSome e.heap (IsTidy t))
-  pub replays : IfSome (trace e) (ReplaysCall e)
-  pub numbers : IfSome (trace e) (Above NUMBERS)
+  -- the trace of a run is one of the call, the heap has its blocks, and their numbers are below the next one of the heap
+  pub replays : IsWhole e.phase → IfSome (trace e) (ReplaysCall e)
+  pub held : IsWhole e.phase → IfSome (trace e) (λ l. IfSome e.heap (IsHeapOf e.code e.inputs l))
+  pub numbers : IsWhole e.phase → IfSome (trace e) (λ l. IfSome e.heap (λ heap. Above (next heap) l))
   pub traced : e.phase ≡ IsFinished → IfSome (trace e) (IsTraced e)
   pub present : e.phase ≡ IsFinished → IsPresent e
   -- in Dropped nothing of a run is there, and no core block
@@ -183,6 +200,7 @@ abbrev pub edited : Phase → Phase
 edited New = New
 edited IsFinished = Pending
 edited Pending = Pending
+edited Partial = Partial
 edited Dropped = Dropped
 
 -- whether a word fits a field of this kind; none fits a field that is not there

@@ -16,15 +16,18 @@ use Rattle.ceal_code.specs.Replay.{Store as CellContents, IsHonest, block_after,
 use Rattle.ceal_code.specs.Valid.{valid}
 use Rattle.ceal_code.specs.declared.function.FunctionCode.{FunctionCode}
 use Rattle.ceal_code.specs.declared.function.FunctionCode.TheVariants.{Core as CoreFunction, Init as InitFunction}
-use Rattle.ceal_engine.specs.Engine.{NUMBERS, InLimits, Store, EngineState, has_run}
+use Rattle.ceal_engine.specs.Engine.{InLimits, Store, EngineState, has_run, IsWhole}
 use Rattle.ceal_engine.specs.declared.phase.Phase.{Phase}
-use Rattle.ceal_engine.specs.declared.phase.Phase.TheVariants.{New, Finished as IsFinished}
+use Rattle.ceal_engine.specs.declared.phase.Phase.TheVariants.{New, Finished as IsFinished, Partial}
 use Rattle.ceal_heap.specs.Heap.{Contents, plain_of, next, live_count}
 use Rattle.ceal_mods.specs.Cell.{latest_value}
 use Rattle.ceal_mods.specs.Mods.{Contents as Mods, cell_of}
 use Rattle.ceal_repair.specs.Answers.{IsKeptRun}
+use Rattle.ceal_repair.specs.Slicing.{IsPartRun}
 use Rattle.ceal_repair.specs.declared.running.Running.{Running}
-use Rattle.ceal_theory.specs.Adjust.{Above}
+use Rattle.ceal_theory.specs.Carried.{Carried}
+use Rattle.ceal_theory.specs.Repair.{own}
+use Rattle.ceal_theory.specs.Slices.{Repair, Sound as RepairSound}
 use Rattle.ceal_trace.specs.Items.{forest_of}
 use Rattle.ceal_trace.specs.Nodes.{Timeline}
 
@@ -115,19 +118,33 @@ state_of code fuel inputs call phase run = record {
   work = work_kept run;
 }
 
--- The run's nodes stand for a trace of the call, with numbers below the limit, which in Finished is honest on the present inputs.
+-- The run's nodes stand for a trace of the call, which in Finished is honest on the present inputs.
 pub record IsKept (code : Code) (fuel : ℕ) (inputs : List Block) (phase : Phase) (call : Call) (run : Running) : Type 0 where
-  pub there : has_run phase ≡ true
+  pub whole : IsWhole phase
   pub trace : Trace
   pub of : IsKeptRun code inputs call.function call.args fuel trace run
-  pub above : Above NUMBERS trace
   pub present : phase ≡ IsFinished → IsHonest code inputs trace
 
--- A run is kept where the phase says so: it is one of the call.
+-- The run's nodes stand for a repair of the call that goes on; it is one with new blocks numbered in their order, but that the new
+-- blocks have the numbers that the heap gave to them.
+pub record IsPartKept (code : Code) (fuel : ℕ) (inputs : List Block) (call : Call) (run : Running) : Type 0 where
+  pub repair : Repair
+  pub of : IsPartRun code inputs call.function call.args fuel repair run
+  pub next : ℕ
+  pub ordered : Repair
+  pub sound : RepairSound code own inputs call.function call.args ordered
+  pub carried : Carried code inputs next ordered repair
+
+-- A run of the call is kept in Finished and Pending, one of a repair that goes on in Partial.
+pub data KeepsRun (code : Code) (fuel : ℕ) (inputs : List Block) (phase : Phase) (call : Call) (run : Running) : Type 0 where
+  whole : IsKept code fuel inputs phase call run → KeepsRun code fuel inputs phase call run
+  part : phase ≡ Partial → IsPartKept code fuel inputs call run → KeepsRun code fuel inputs phase call run
+
+-- A run is kept where the phase says so.
 abbrev pub Keeps : Code → ℕ → List Block → Phase → Option Call → Option Running → Type 0
 Keeps code fuel inputs phase call None = has_run phase ≡ false
 Keeps code fuel inputs phase None (Some run) = ⊥
-Keeps code fuel inputs phase (Some call) (Some run) = IsKept code fuel inputs phase call run
+Keeps code fuel inputs phase (Some call) (Some run) = KeepsRun code fuel inputs phase call run
 
 -- what is true of every engine inside
 pub record Sound (code : Code) (fuel : ℕ) (inputs : List Block) (call : Kept) (phase : Phase) (run : Option Running) : Type 0 where

@@ -3,5 +3,6 @@ pub mod Engine
 pub mod Repaired
 pub mod Keeping
 pub mod Completed
+pub mod Partial
 -- what its own functions say of each other
 pub mod Reading

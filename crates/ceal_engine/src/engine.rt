@@ -1,6 +1,6 @@
 // The engine.
 
-ghost use Rattle.std.specs.Prelude.{◌≡◌, ◌∷◌, [], ◌++◌, ◌<◌, ◌+◌, ◌^◌, true, Some, None, IfOk, IfSome, IsSome, IsOk, OnOk, OnErr, MatchOption, List, length, slice_get};
+ghost use Rattle.std.specs.Prelude.{◌≡◌, ◌≢◌, ℕ, ◌∷◌, [], ◌++◌, ◌<◌, ◌≤◌, ◌+◌, ◌^◌, true, Some, None, IfOk, IfSome, IsSome, IsOk, OnOk, OnErr, MatchOption, List, length, slice_get};
 ghost use Rattle.std.specs.Option.{option_map, IsSomeAnd};
 ghost use Rattle.ceal_base.specs.Access.{word_in};
 ghost use Rattle.ceal_base.specs.Fitting.{block_fits, kind_in};
@@ -10,22 +10,23 @@ ghost use Rattle.ceal_code.specs.Fitting.{Fits};
 ghost use Rattle.ceal_code.specs.Replay.{IsHonest};
 ghost use Rattle.ceal_code.specs.Valid.{valid};
 ghost use Rattle.ceal_code.specs.Value.{is_cell};
-ghost use Rattle.ceal_engine.specs.Engine.{InLimits, alone, block_in, stored_at, trace, edited, takes, with_base, is_plain, fresh_of, IsPresent, IsEngine, Shows, IfOutOfFuel};
-ghost use Rattle.ceal_engine.specs.Completed.{finished, IsFirstOf, IsOldRun, IsRepairOf, IsStillHonest};
+ghost use Rattle.ceal_engine.specs.Engine.{InLimits, alone, block_in, stored_at, trace, edited, takes, with_base, is_plain, fresh_of, has_run, IsWhole, IsPresent, IsEngine, Shows, IfOutOfFuel};
+ghost use Rattle.ceal_engine.specs.Completed.{finished, under_way, IsFirstOf, IsOldRun, IsRepairOf, IsStillHonest, IsOpenRun, IsSliceOf};
 ghost use Rattle.ceal_engine.specs.Keeping.{Keeps};
+ghost use Rattle.ceal_engine.specs.Partial.{phase_after, phase_behind, CarriesFrom, IsUnderWay, Comes, ComesSo, EndsSo, KeepsWords};
 ghost use Rattle.ceal_engine.specs.Repaired.{IsFirst, IsRepaired, IsUnchanged, KeepsFront};
-ghost use Rattle.ceal_engine.specs.declared.phase.Phase.TheVariants.{New, Finished, Pending, Dropped};
+ghost use Rattle.ceal_engine.specs.declared.phase.Phase.TheVariants.{New, Finished, Pending, Partial, Dropped};
 ghost use Rattle.ceal_repair.specs.Lists.{IsTabled};
 ghost use Rattle.ceal_repair.specs.Words.{HasBases};
+ghost use Rattle.ceal_theory.specs.Slices.{Repair as RepairOf};
 ghost use Rattle.ceal_trace.specs.Nodes.{IsTrace};
 
 use crate::items::flat_items;
 use crate::kept_call::{KeptCall, most_arguments};
-use crate::numbered::{numbered, renumbered};
-use crate::phase::Phase;
+use crate::phase::{Came, Phase, Progress};
 use crate::reading::{content, plain_word, shape};
 use crate::run_error::RunError;
-use crate::running::{add, edit, rest, touch};
+use crate::running::{add, edit, open, rest, touch};
 use ceal_base::forest::Forest;
 use ceal_base::kind::Shape;
 use ceal_base::memory::{BlockWords, Inputs};
@@ -36,6 +37,7 @@ use ceal_mods::mods::Mods;
 use ceal_repair::first::first;
 use ceal_repair::propagate::propagate;
 use ceal_repair::running::{Outcome, Running};
+use ceal_repair::slice::{Sliced, slice};
 use ceal_trace::trace::Trace;
 use std::alloc::Global;
 use std::marker::Model;
@@ -90,6 +92,7 @@ fn phase_edited(phase: Phase) -> Phase
         Phase::New => Phase::New,
         Phase::Finished => Phase::Pending,
         Phase::Pending => Phase::Pending,
+        Phase::Partial => Phase::Partial,
         Phase::Dropped => Phase::Dropped,
     }
 }
@@ -186,10 +189,7 @@ impl Engine {
                 )?;
                 match outcome {
                     Outcome::OutOfFuel => Err(RunError::OutOfFuel),
-                    Outcome::Done(run) => {
-                        let run = numbered(run)?;
-                        Ok(run)
-                    }
+                    Outcome::Done(run) => Ok(run),
                 }
             }
         }
@@ -207,11 +207,36 @@ impl Engine {
         let outcome = propagate(self.alloc, &self.code, &self.inputs, self.fuel, old)?;
         match outcome {
             Outcome::OutOfFuel => Err(RunError::OutOfFuel),
-            Outcome::Done(run) => {
-                let run = renumbered(run)?;
-                Ok(run)
-            }
+            Outcome::Done(run) => Ok(run),
         }
+    }
+
+    /// What so many reads, or all that are left, make of a repair that goes on.
+    fn sliced(&self, reads: Option<u32>, old: Running) -> Result<Sliced, NoMemory>
+        requires open { IsOpenRun self.now.code self.now.fuel self.now.inputs self.now.call old }
+        requires some { reads ≢ Some 0 }
+        ensures ok { IfOk result (λ s.
+            IsSliceOf self.now.code self.now.fuel self.now.inputs self.now.call reads old s) }
+    {
+        slice(
+            self.alloc,
+            &self.code,
+            &self.inputs,
+            reads,
+            self.fuel,
+            old,
+        )
+    }
+
+    /// Takes a run of a repair that goes on.
+    fn keep_part(&mut self, run: Running)
+        requires kept { Keeps self.old.code self.old.fuel self.old.inputs Partial
+            self.old.call (Some run) }
+        ensures state { self.new
+            ≡ under_way self.old.code self.old.fuel self.old.inputs self.old.call run }
+    {
+        drop(mem::replace(&mut self.running, Some(run)));
+        self.phase = Phase::Partial;
     }
 
     /// Takes a run of the call on the present inputs.
@@ -300,7 +325,7 @@ impl Engine {
     /// Brings the run up to date after edits, by change propagation (Acar, *Self-Adjusting Computation*, 2005).
     /// OutOfFuel comes exactly where the run from scratch takes more steps than the fuel, although only a part is run
     /// anew. After an error the phase is Dropped, and another `propagate` runs the call anew. In Finished it takes no
-    /// memory.
+    /// memory. In Partial it ends the repair that goes on.
     pub fn propagate(&mut self) -> Result<(), RunError>
         requires { self.old.phase ≡ New → ⊥ }
         ensures code { self.new.code ≡ self.old.code }
@@ -311,15 +336,20 @@ impl Engine {
         ensures present { OnOk result (IsPresent self.new) }
         ensures first { OnOk result (self.old.phase ≡ Dropped →
             IsSomeAnd (trace self.new) (IsFirst self.new)) }
-        ensures repaired { OnOk result ((l : TraceOf) → trace self.old ≡ Some l →
+        ensures repaired { OnOk result (IsWhole self.old.phase →
+            (l : TraceOf) → trace self.old ≡ Some l →
             IsSomeAnd (trace self.new) (IsRepaired self.new l)) }
-        ensures unchanged { OnOk result ((l : TraceOf) → trace self.old ≡ Some l →
+        ensures unchanged { OnOk result (IsWhole self.old.phase →
+            (l : TraceOf) → trace self.old ≡ Some l →
             IsHonest self.old.code self.old.inputs l → IsUnchanged self.new l) }
-        ensures unchanged_nodes { OnOk result ((l : TraceOf) → trace self.old ≡ Some l →
+        ensures unchanged_nodes { OnOk result (IsWhole self.old.phase →
+            (l : TraceOf) → trace self.old ≡ Some l →
             IsHonest self.old.code self.old.inputs l → self.new.timeline ≡ self.old.timeline) }
-        ensures front { OnOk result (KeepsFront self.old self.new) }
-        ensures sure_where_honest { (l : TraceOf) → trace self.old ≡ Some l →
-            IsHonest self.old.code self.old.inputs l → IsOk result }
+        ensures front { OnOk result (IsWhole self.old.phase → KeepsFront self.old self.new) }
+        ensures partial { self.old.phase ≡ Partial → (next : ℕ) (r : RepairOf) →
+            CarriesFrom self.old next r → EndsSo self.old self.new next r result }
+        ensures sure_where_honest { IsWhole self.old.phase → (l : TraceOf) →
+            trace self.old ≡ Some l → IsHonest self.old.code self.old.inputs l → IsOk result }
         ensures sure { self.old.phase ≡ Finished → IsOk result }
         ensures still { self.old.phase ≡ Finished → self.new ≡ record self.old { work = 0 } }
         ensures out_of_fuel { IfOutOfFuel result (fresh_of self.new ≡ None) }
@@ -332,7 +362,88 @@ impl Engine {
                 Ok(())
             }
             Phase::Pending => self.propagate_edits(),
+            Phase::Partial => {
+                self.go_on(None)?;
+                Ok(())
+            }
             Phase::Dropped => self.run_anew(),
+        }
+    }
+
+    /// Goes on with the repair that is under way, or begins that of a run: so many stale reads, each with all that is inside
+    /// it, or all where no number is given. Where more steps would be spent on it than the fuel, the call is run anew.
+    /// After an error the phase is Dropped.
+    pub fn go_on(&mut self, reads: Option<u32>) -> Result<Came, RunError>
+        requires run { has_run self.old.phase ≡ true }
+        requires some { reads ≢ Some 0 }
+        ensures code { self.new.code ≡ self.old.code }
+        ensures fuel { self.new.fuel ≡ self.old.fuel }
+        ensures inputs { self.new.inputs ≡ self.old.inputs }
+        ensures call { self.new.call ≡ self.old.call }
+        ensures phase { IfOk result (λ came. self.new.phase ≡ phase_behind came) }
+        ensures present { IfOk result (λ came. came ≢ Came.More → IsPresent self.new) }
+        ensures comes { (next : ℕ) (r : RepairOf) → CarriesFrom self.old next r →
+            Comes self.old self.new reads next r result }
+        ensures more { IfOk result (λ came. came ≡ Came.More → IsSome reads) }
+        ensures revoked_stay { IfOk result (λ came. came ≡ Came.More →
+            KeepsWords self.old.heap self.new.heap) }
+        ensures out_of_fuel { IfOutOfFuel result (fresh_of self.new ≡ None) }
+        ensures dropped { OnErr result (self.new.phase ≡ Dropped) }
+    {
+        open(&mut self.running, self.phase);
+        self.phase = Phase::Dropped;
+        match self.running.take() {
+            None => unreachable!(),
+            Some(old) => match self.sliced(reads, old)? {
+                Sliced::More(run) => {
+                    self.keep_part(run);
+                    Ok(Came::More)
+                }
+                Sliced::Done(run) => {
+                    self.keep(run);
+                    Ok(Came::Done)
+                }
+                Sliced::Spent => {
+                    self.run_anew()?;
+                    Ok(Came::Anew)
+                }
+                Sliced::OutOfFuel => Err(RunError::OutOfFuel),
+            },
+        }
+    }
+
+    /// Repairs at most so many stale reads, each with all that is inside it. Done: the run is up to date. More: reads are
+    /// stale still, and another `slice` or `propagate` goes on, also after edits. Where the steps run anew since the last
+    /// completion would be more than the fuel, all is run anew in the same call. After an error the phase is Dropped.
+    pub fn slice(&mut self, reads: u32) -> Result<Progress, RunError>
+        requires called { self.old.phase ≡ New → ⊥ }
+        requires some { 1 ≤ reads }
+        ensures code { self.new.code ≡ self.old.code }
+        ensures fuel { self.new.fuel ≡ self.old.fuel }
+        ensures inputs { self.new.inputs ≡ self.old.inputs }
+        ensures call { self.new.call ≡ self.old.call }
+        ensures phase { IfOk result (λ p. self.new.phase ≡ phase_after p) }
+        ensures present { IfOk result (λ p. p ≡ Progress.Done → IsPresent self.new) }
+        ensures done { IfOk result (λ p. self.old.phase ≡ Dropped → p ≡ Progress.Done) }
+        ensures first { OnOk result (self.old.phase ≡ Dropped →
+            IsSomeAnd (trace self.new) (IsFirst self.new)) }
+        ensures slice { (next : ℕ) (r : RepairOf) → CarriesFrom self.old next r →
+            ComesSo self.old self.new (Some reads) next r result }
+        ensures revoked_stay { IfOk result (λ p. p ≡ Progress.More →
+            KeepsWords self.old.heap self.new.heap) }
+        ensures out_of_fuel { IfOutOfFuel result (fresh_of self.new ≡ None) }
+        ensures dropped { OnErr result (self.new.phase ≡ Dropped) }
+    {
+        match self.phase {
+            Phase::New => unreachable!(),
+            Phase::Dropped => {
+                self.run_anew()?;
+                Ok(Progress::Done)
+            }
+            _ => {
+                let came = self.go_on(Some(reads))?;
+                Ok(came.progress())
+            }
         }
     }
 
@@ -340,6 +451,7 @@ impl Engine {
     pub fn phase(&self) -> Phase
         ensures value { result ≡ self.now.phase }
         ensures whole { IsEngine self.now }
+        ensures partial { self.now.phase ≡ Partial → IsUnderWay self.now }
     {
         self.phase
     }

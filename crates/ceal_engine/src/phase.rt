@@ -1,4 +1,7 @@
-// What an engine has of its run.
+// What an engine has of its run, and how far a repair has come.
+
+ghost use Rattle.std.specs.Prelude.{◌≡◌};
+ghost use Rattle.ceal_engine.specs.Partial.{progress_of};
 
 /// What an engine has of its run.
 #[derive(Clone, Copy, PartialEq, Eq, Debug)]
@@ -9,6 +12,41 @@ pub enum Phase {
     Finished,
     /// a run, but an input was edited since
     Pending,
+    /// a part of a repair, which goes on
+    Partial,
     /// no run: it was out of fuel, or there was no memory
     Dropped,
+}
+
+/// How far a slice has brought the run.
+#[derive(Clone, Copy, PartialEq, Eq, Debug)]
+pub enum Progress {
+    /// a read is stale still
+    More,
+    /// the run is up to date
+    Done,
+}
+
+/// What going on with a repair comes to.
+#[derive(Clone, Copy, PartialEq, Eq, Debug)]
+pub enum Came {
+    /// a read is stale still
+    More,
+    /// no read is stale
+    Done,
+    /// more steps were spent than the fuel allows, so the call was run anew
+    Anew,
+}
+
+impl Came {
+    /// How far the run is.
+    pub fn progress(self) -> Progress
+        ensures { result ≡ progress_of self }
+    {
+        match self {
+            Came::More => Progress::More,
+            Came::Done => Progress::Done,
+            Came::Anew => Progress::Done,
+        }
+    }
 }

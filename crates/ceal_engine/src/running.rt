@@ -4,11 +4,12 @@ ghost use Rattle.std.specs.Prelude.{◌≡◌, ℕ, [], pos, None, IfSome, OnOk,
 ghost use Rattle.ceal_base.specs.declared.word.BlockId.TheVariants.{Input};
 ghost use Rattle.ceal_base.specs.declared.word.Word.TheVariants.{Num};
 ghost use Rattle.ceal_code.specs.Value.{field_kind};
-ghost use Rattle.ceal_engine.specs.Completed.{LeavesCells, OfRuns, SetsBase, SetsInput, idle};
+ghost use Rattle.ceal_engine.specs.Completed.{LeavesCells, OfRuns, SetsBase, SetsInput, idle, opened};
 ghost use Rattle.ceal_mods.specs.Mods.{cell_of};
 ghost use Rattle.ceal_repair.specs.Kept.{Kept, base_in};
 ghost use Rattle.ceal_repair.specs.Words.{IsTouched, NONE_BEHIND};
 
+use crate::phase::Phase;
 use ceal_base::kind::Shape;
 use ceal_base::no_memory::NoMemory;
 use ceal_base::word::{Place, Word};
@@ -72,5 +73,18 @@ pub fn rest(run: &mut Option<Running>)
     match run {
         None => {}
         Some(run) => run.spent = 0,
+    }
+}
+
+/// A run with which a repair goes on. Where a new repair begins nothing was run anew.
+pub fn open(run: &mut Option<Running>, phase: Phase)
+    ensures { run.new ≡ opened phase run.old }
+{
+    match phase {
+        Phase::New => {}
+        Phase::Finished => rest(run),
+        Phase::Pending => rest(run),
+        Phase::Partial => {}
+        Phase::Dropped => {}
     }
 }

@@ -1,0 +1,133 @@
+-- An engine whose repair goes on, and what a slice makes of it.
+use Rattle.std.specs.Prelude.{◌≡◌, ◌⊎◌, ◌<◌, ◌≤◌, ℕ, true, false, Option, Some, None, Result, Ok, Err, ⊤}
+use Rattle.std.specs.Option.{IsSomeAnd}
+use Rattle.ceal_base.specs.Block.{Block}
+use Rattle.ceal_base.specs.Trace.{Trace}
+use Rattle.ceal_base.specs.declared.call.Call.{Call}
+use Rattle.ceal_base.specs.declared.word.BlockId.TheVariants.{Core}
+use Rattle.ceal_code.specs.Alike.{Pairs, Tied, TraceAlike, OneToOne}
+use Rattle.ceal_code.specs.Value.{Plain}
+use Rattle.ceal_engine.specs.Engine.{EngineState, IsEngine, IsWhole, trace}
+use Rattle.ceal_engine.specs.Repaired.{IsFirst}
+use Rattle.ceal_engine.specs.declared.phase.Came.{Came}
+use Rattle.ceal_engine.specs.declared.phase.Came.TheVariants as came
+use Rattle.ceal_engine.specs.declared.phase.Phase.{Phase}
+use Rattle.ceal_engine.specs.declared.phase.Phase.TheVariants.{New, Finished, Pending, Partial, Dropped}
+use Rattle.ceal_engine.specs.declared.phase.Progress.{Progress}
+use Rattle.ceal_engine.specs.declared.phase.Progress.TheVariants.{More, Done}
+use Rattle.ceal_engine.specs.declared.run_error.RunError.{RunError}
+use Rattle.ceal_engine.specs.declared.run_error.RunError.TheVariants.{Memory, OutOfFuel}
+use Rattle.ceal_heap.specs.Heap.{Contents, plain_of}
+use Rattle.ceal_theory.specs.Adjust.{Above}
+use Rattle.ceal_theory.specs.Carried.{Carried}
+use Rattle.ceal_theory.specs.Repair.{own}
+use Rattle.ceal_theory.specs.Slices.{Repair, beginning, sliced, is_done, Sound}
+
+-- the phase after a slice, by how far it has come
+abbrev pub phase_after : Progress → Phase
+phase_after More = Partial
+phase_after Done = Finished
+
+-- the phase after a repair has gone on
+abbrev pub phase_behind : Came → Phase
+phase_behind came.More = Partial
+phase_behind came.Done = Finished
+phase_behind came.Anew = Finished
+
+-- a run that was made anew is up to date, too
+abbrev pub progress_of : Came → Progress
+progress_of came.More = More
+progress_of came.Done = Done
+progress_of came.Anew = Done
+
+-- how many steps were spent on the repair that goes on; a new one begins with none
+abbrev pub spent_in : Phase → ℕ → ℕ
+spent_in New work = 0
+spent_in Finished work = 0
+spent_in Pending work = 0
+spent_in Partial work = work
+spent_in Dropped work = 0
+
+-- the plain words of core blocks, live or revoked
+abbrev pub words_in : Option Contents → Plain
+words_in None b = None
+words_in (Some heap) b = plain_of heap b
+
+-- the repair that a slice of an engine with this trace goes on with
+abbrev pub carried_by : EngineState → Trace → Repair
+carried_by e l = record { items = l; known = words_in e.heap; number = 0; spent = spent_in e.phase e.work }
+
+-- It is the engine's repair, but that its new blocks are numbered in their order, from `next` on.
+pub record CarriesFrom (e : EngineState) (next : ℕ) (r : Repair) : Type 0 where
+  pub call : Call
+  pub called : e.call ≡ Some call
+  pub items : Trace
+  pub is : trace e ≡ Some items
+  pub sound : Sound e.code own e.inputs call.function call.args r
+  pub carried : Carried e.code e.inputs next r (carried_by e items)
+
+-- a repair of the call goes on, and no more steps were spent on it than the fuel
+pub record IsUnderWay (e : EngineState) : Type 0 where
+  pub next : ℕ
+  pub repair : Repair
+  pub carries : CarriesFrom e next repair
+  pub few : e.work ≤ e.fuel
+
+-- the items are those of the repair with core blocks renamed one to one; those below `next` keep their numbers
+pub record RenamedFrom (next : ℕ) (l m : Trace) : Type 0 where
+  pub pairs : Pairs
+  pub one : OneToOne pairs
+  pub alike : TraceAlike pairs l m
+  pub kept : (b c : ℕ) → Tied b c pairs → b < next → b ≡ c
+
+-- A slice of the repair is there, and is not done; the engine goes on with it.
+pub record GoesOn (e n : EngineState) (k : Option ℕ) (next : ℕ) (r : Repair) : Type 0 where
+  pub repair : Repair
+  pub is : sliced e.code own e.inputs k e.fuel r ≡ Some repair
+  pub more : is_done e.code e.inputs repair ≡ false
+  pub carries : CarriesFrom n next repair
+
+-- A slice of the repair is there, and is done; its items are the engine's trace, and what was spent on it is the work.
+pub record Ends (e n : EngineState) (k : Option ℕ) (next : ℕ) (r : Repair) : Type 0 where
+  pub repair : Repair
+  pub is : sliced e.code own e.inputs k e.fuel r ≡ Some repair
+  pub done : is_done e.code e.inputs repair ≡ true
+  pub items : IsSomeAnd (trace n) (RenamedFrom next repair.items)
+  pub work : n.work ≡ repair.spent
+
+-- No slice is there within the fuel; the call was run anew.
+pub record IsAnew (e n : EngineState) (k : Option ℕ) (r : Repair) : Type 0 where
+  pub none : sliced e.code own e.inputs k e.fuel r ≡ None
+  pub first : IsSomeAnd (trace n) (IsFirst n)
+
+-- no slice is there within the fuel, or it is done
+abbrev pub IsOut : EngineState → Option ℕ → Repair → Type 0
+IsOut e k r =
+    (sliced e.code own e.inputs k e.fuel r ≡ None) ⊎ ((r' : Repair) × (sliced e.code own e.inputs k e.fuel r ≡ Some r') × (is_done e.code e.inputs r' ≡ true))
+
+-- What so many reads, or all, make of the engine's repair, by the answer.
+abbrev pub Comes : EngineState → EngineState → Option ℕ → ℕ → Repair → Result Came RunError → Type 0
+Comes e n k next r (Ok came.More) = GoesOn e n k next r
+Comes e n k next r (Ok came.Done) = Ends e n k next r
+Comes e n k next r (Ok came.Anew) = IsAnew e n k r
+Comes e n k next r (Err OutOfFuel) = IsOut e k r
+Comes e n k next r (Err Memory) = ⊤
+
+-- the same, where it is not told whether the call was run anew
+abbrev pub ComesSo : EngineState → EngineState → Option ℕ → ℕ → Repair → Result Progress RunError → Type 0
+ComesSo e n k next r (Ok More) = GoesOn e n k next r
+ComesSo e n k next r (Ok Done) = Ends e n k next r ⊎ IsAnew e n k r
+ComesSo e n k next r (Err error) = Comes e n k next r (Err error)
+
+-- the same, where all that is left is repaired
+abbrev pub EndsSo : {A : Type 0} → EngineState → EngineState → ℕ → Repair → Result A RunError → Type 0
+EndsSo e n next r (Ok done) = Ends e n None next r ⊎ IsAnew e n None r
+EndsSo e n next r (Err error) = Comes e n None next r (Err error)
+
+-- each block that could be read can be read still, and has the same words
+abbrev pub KeepsWords : Option Contents → Option Contents → Type 0
+KeepsWords before after = (b : ℕ) (block : Block) → words_in before (Core b) ≡ Some block → words_in after (Core b) ≡ Some block
+
+-- an engine with a run carries the repair that begins from its trace
+BeginsLaw = (e : EngineState) → IsEngine e → IsWhole e.phase → (l : Trace) → trace e ≡ Some l → (next : ℕ) → Above next l
+    → CarriesFrom e next (beginning e.code e.inputs l next)
