@@ -25,22 +25,29 @@ use Rattle.ceal_engine.proofs.Inputs.{all-get, fit-all, edit-fits, call-kept, ex
 use Rattle.ceal_engine.proofs.MoreMemory.{core-plain}
 use Rattle.ceal_engine.proofs.Repairs.{first-of, repaired-of, no-end}
 use Rattle.ceal_engine.specs.Completed.{IsFirstOf, IsOldRun, IsRepairOf, IsStillHonest, SameRun, SetsBase, LeavesCells, OfRuns}
-use Rattle.ceal_engine.specs.Engine.{NUMBERS, alone, fits_in, with_base, edited, fresh_call, has_run}
-use Rattle.ceal_engine.specs.Keeping.{contents as cell_contents, Kept, state_of, IsKept, Keeps, Sound}
+use Rattle.ceal_engine.specs.Engine.{alone, fits_in, with_base, edited, fresh_call, has_run, IsWhole}
+use Rattle.ceal_engine.specs.Keeping.{contents as cell_contents, Kept, state_of, IsPartKept, KeepsRun, Keeps, Sound}
 use Rattle.ceal_engine.specs.declared.phase.Phase.{Phase}
-use Rattle.ceal_engine.specs.declared.phase.Phase.TheVariants.{New, Finished as IsFinished, Pending, Dropped}
-use Rattle.ceal_heap.specs.Heap.{Contents, next, standing, plain_of as heap_words}
+use Rattle.ceal_engine.specs.declared.phase.Phase.TheVariants.{New, Finished as IsFinished, Pending, Partial, Dropped}
+use Rattle.ceal_heap.specs.Heap.{Contents, standing, plain_of as heap_words}
 use Rattle.ceal_mods.specs.Cell.{latest_value}
 use Rattle.ceal_mods.specs.declared.cell.Cell.{Cell}
 use Rattle.ceal_repair.specs.Answers.{Stands, IsKeptRun, IsFirst as IsFirstAnswer, IsRepaired as IsRepairedAnswer}
 use Rattle.ceal_repair.specs.Blocks.{There}
+use Rattle.ceal_repair.specs.Kept.{Kept as KeptTables}
+use Rattle.ceal_repair.specs.Slicing.{IsPartRun}
 use Rattle.ceal_repair.specs.Words.{HasBases, default_of}
 use Rattle.ceal_repair.specs.declared.running.Outcome.{Outcome}
 use Rattle.ceal_repair.specs.declared.running.Outcome.TheVariants.{Done, OutOfFuel}
 use Rattle.ceal_repair.specs.declared.running.Running.{Running}
+use Rattle.ceal_theory.proofs.CarriedLaws.{carried-more-law}
+use Rattle.ceal_theory.proofs.Inputs.{fits-more}
 use Rattle.ceal_theory.proofs.MoreInputs.{inputs-law}
+use Rattle.ceal_theory.proofs.SliceLaws.{more-law}
 use Rattle.ceal_theory.specs.Adjust.{Extended}
 use Rattle.ceal_theory.specs.MoreInputs.{OnMore}
+use Rattle.ceal_theory.specs.Repair.{own}
+use Rattle.ceal_theory.specs.Slices.{Repair}
 use Rattle.ceal_trace.specs.Items.{forest_of, Nests}
 use Rattle.ceal_trace.specs.Nodes.{Timeline}
 
@@ -77,6 +84,41 @@ kept-on code inputs more f args fuel l old run k extended fit long same has = re
 
     on : OnMore code inputs more f args l
     on = inputs-law code inputs more f args k.fits fit extended l k.replays
+
+-- A run of a repair that goes on is one on inputs that extend its own, where its tables have the bases of these.
+part-on : (code : Code) (inputs more : List Block) (f : ℕ) (args : List Word) (fuel : ℕ) (q : Repair) (old run : Running) → IsPartRun code inputs f args fuel q old
+    → Extended code inputs more → inputs_fit code.structs more ≡ true → length inputs ≤ length more → SameRun old run → HasBases code.structs more run.heap run.tables.mods → IsPartRun code more f args fuel q run
+part-on code inputs more f args fuel q old run k extended fit long same has = record {
+  fits = fits-more code inputs more extended f args k.fits fit;
+  stands = record {
+    kept = same.kept;
+    nests = subst (λ (t : Timeline). Nests t.nodes) (sym same.trace) k.stands.nests;
+    items = ap (λ (t : Timeline). forest_of t.nodes) same.trace ∙ k.stands.items;
+    known = λ b. k.stands.known b ∙ ap (λ h. heap_words h (Core b)) (sym same.heap);
+    blocks = record {
+      bases = has;
+      lives = rw (same.heap, same.trace) k.stands.blocks.lives;
+      reads = rw (same.heap, same.trace) (λ s' p v r. there-on (length inputs) (length more) old.heap p.block long (k.stands.blocks.reads s' p v r));
+    };
+    spent = k.stands.spent ∙ sym same.spent;
+    names = k.stands.names;
+    sound = more-law code k.stands.names inputs more f args k.fits fit extended q k.stands.sound;
+  };
+  few = subst (λ n. n ≤ fuel) (sym same.spent) k.few;
+}
+
+-- and so it is where it is kept
+pub part-kept-on : (code : Code) (fuel : ℕ) (inputs more : List Block) (call : Call) (old run : Running) → IsPartKept code fuel inputs call old
+    → Extended code inputs more → inputs_fit code.structs more ≡ true → length inputs ≤ length more → SameRun old run → (HasBases code.structs inputs old.heap old.tables.mods → HasBases code.structs more run.heap run.tables.mods)
+    → IsPartKept code fuel more call run
+part-kept-on code fuel inputs more call old run k extended fit long same has = record {
+  repair = k.repair;
+  of = part-on code inputs more call.function call.args fuel k.repair old run k.of extended fit long same (has k.of.stands.blocks.bases);
+  next = k.next;
+  ordered = k.ordered;
+  sound = more-law code own inputs more call.function call.args k.of.fits fit extended k.ordered k.sound;
+  carried = carried-more-law code inputs more fit extended k.next k.ordered k.repair k.carried;
+}
 
 -- ---- an edit
 
@@ -132,19 +174,32 @@ module _ (code : Code) (inputs : List Block) (p : Place) (w : Word) (fit : input
   not-finished New e = absurd (grind (arith, e))
   not-finished IsFinished e = absurd (grind (arith, e))
   not-finished Pending e = absurd (grind (arith, e))
+  not-finished Partial e = absurd (grind (arith, e))
   not-finished Dropped e = absurd (grind (arith, e))
 
   still-new : (phase : Phase) → edited phase ≡ New → phase ≡ New
   still-new New e = refl
   still-new IsFinished e = absurd (grind (arith, e))
   still-new Pending e = absurd (grind (arith, e))
+  still-new Partial e = absurd (grind (arith, e))
   still-new Dropped e = absurd (grind (arith, e))
 
   still-run : (phase : Phase) → has_run (edited phase) ≡ has_run phase
   still-run New = refl
   still-run IsFinished = refl
   still-run Pending = refl
+  still-run Partial = refl
   still-run Dropped = refl
+
+  still-whole : (phase : Phase) → IsWhole phase → IsWhole (edited phase)
+  still-whole New h = h
+  still-whole IsFinished h = refl
+  still-whole Pending h = refl
+  still-whole Partial h = h
+  still-whole Dropped h = h
+
+  still-part : (phase : Phase) → phase ≡ Partial → edited phase ≡ Partial
+  still-part phase e = rw e refl
 
   keeps-edited : (fuel : ℕ) (phase : Phase) → inputs_fit code.structs (with_base inputs p w) ≡ true → length (with_base inputs p w) ≡ length inputs → (call : Option Call) (old run : Option Running) → OfRuns (SetsBase p w) old run
       → Keeps code fuel inputs phase call old → Keeps code fuel (with_base inputs p w) (edited phase) call run
@@ -152,13 +207,14 @@ module _ (code : Code) (inputs : List Block) (p : Place) (w : Word) (fit : input
   keeps-edited fuel phase fits long call None (Some run) o k = elim o [ ]
   keeps-edited fuel phase fits long call (Some old) None o k = elim o [ ]
   keeps-edited fuel phase fits long None (Some old) (Some run) o k = k
-  keeps-edited fuel phase fits long (Some call) (Some old) (Some run) o k = record {
-    there = still-run phase ∙ k.there;
+  keeps-edited fuel phase fits long (Some call) (Some old) (Some run) o (KeepsRun.whole k) = KeepsRun.whole (record {
+    whole = still-whole phase k.whole;
     trace = k.trace;
     of = kept-on code inputs (with_base inputs p w) call.function call.args fuel k.trace old run k.of (extended-edit code inputs p w cell-at) fits (omega (arith, long)) o.same (bases-edited old run o k.of.stands.blocks.bases);
-    above = k.above;
     present = λ e. absurd (not-finished phase e);
-  }
+  })
+  keeps-edited fuel phase fits long (Some call) (Some old) (Some run) o (KeepsRun.part e k) = KeepsRun.part (still-part phase e)
+      (part-kept-on code fuel inputs (with_base inputs p w) call old run k (extended-edit code inputs p w cell-at) fits (omega (arith, long)) o.same (bases-edited old run o))
 
   pub sound-edited : (fuel : ℕ) (kept : Kept) (phase : Phase) (old run : Option Running) → OfRuns (SetsBase p w) old run → Sound code fuel inputs kept phase old → Sound code fuel (with_base inputs p w) kept (edited phase) run
   sound-edited fuel kept phase old run o s =
@@ -184,14 +240,15 @@ bases-left structs inputs old run o has = record {
 }
 
 -- a run whose nodes, heap and cells are as they were
-keeps-same : (code : Code) (fuel : ℕ) (inputs : List Block) (phase : Phase) (call : Call) (old run : Running) → LeavesCells old run → IsKept code fuel inputs phase call old → IsKept code fuel inputs phase call run
-keeps-same code fuel inputs phase call old run o k = record {
-  there = k.there;
+keeps-same : (code : Code) (fuel : ℕ) (inputs : List Block) (phase : Phase) (call : Call) (old run : Running) → LeavesCells old run → KeepsRun code fuel inputs phase call old → KeepsRun code fuel inputs phase call run
+keeps-same code fuel inputs phase call old run o (KeepsRun.whole k) = KeepsRun.whole (record {
+  whole = k.whole;
   trace = k.trace;
   of = kept-on code inputs inputs call.function call.args fuel k.trace old run k.of (extended-refl code inputs) k.of.fits.blocks (omega arith) o.same (bases-left code.structs inputs old run o k.of.stands.blocks.bases);
-  above = k.above;
   present = k.present;
-}
+})
+keeps-same code fuel inputs phase call old run o (KeepsRun.part e k) = KeepsRun.part e
+    (part-kept-on code fuel inputs inputs call old run k (extended-refl code inputs) k.of.fits.blocks (omega arith) o.same (bases-left code.structs inputs old run o))
 
 keeps-left : (code : Code) (fuel : ℕ) (inputs : List Block) (phase : Phase) (call : Option Call) (old run : Option Running) → OfRuns LeavesCells old run → Keeps code fuel inputs phase call old → Keeps code fuel inputs phase call run
 keeps-left code fuel inputs phase call None None o k = k
@@ -222,6 +279,13 @@ state-left code fuel inputs call phase (Some old) (Some run) o =
     let same : cell_contents run.tables.mods ≡ cell_contents old.tables.mods = fun_ext (λ p. ap latest_value (o.cells p)) in
     rw (o.same.trace, o.same.heap, o.same.spent, same) refl
 
+-- the tables of a run are kept
+pub run-kept : (code : Code) (fuel : ℕ) (inputs : List Block) (phase : Phase) (call : Option Call) (run : Option Running) → Keeps code fuel inputs phase call run → IfSome run (λ r. KeptTables r.tables)
+run-kept code fuel inputs phase call None k = tt
+run-kept code fuel inputs phase None (Some run) k = elim k [ ]
+run-kept code fuel inputs phase (Some call) (Some run) (KeepsRun.whole k) = k.of.stands.kept
+run-kept code fuel inputs phase (Some call) (Some run) (KeepsRun.part e k) = k.of.stands.kept
+
 -- what holds anyway holds after an error
 pub on-err : {A E : Type 0} (r : Result A E) (P : Type 0) → P → OnErr r P
 on-err (Ok x) P p = tt
@@ -233,6 +297,25 @@ module _ (code : Code) (fuel : ℕ) (inputs : List Block) where
   called : (call : Option Call) (run : Running) → Keeps code fuel inputs IsFinished call (Some run) → call ≡ None → ⊥
   called None run k e = k
   called (Some call) run k e = none-some call (sym e)
+
+  -- so it is of a part of a repair
+  part-called : (call : Option Call) (run : Running) → Keeps code fuel inputs Partial call (Some run) → call ≡ None → ⊥
+  part-called None run k e = k
+  part-called (Some call) run k e = none-some call (sym e)
+
+  pub sound-part : (kept : Kept) (phase : Phase) (before : Option Running) (run : Running) → Sound code fuel inputs kept phase before → Keeps code fuel inputs Partial kept.call (Some run)
+      → Sound code fuel inputs kept Partial (Some run)
+  sound-part kept phase before run s k = record {
+    is_valid = s.is_valid;
+    limits = s.limits;
+    fit = s.fit;
+    count = s.count;
+    calls = s.calls;
+    uncalled = λ e. absurd (grind (arith, e));
+    new = λ e. absurd (part-called kept.call run k e);
+    room = s.room;
+    keeps = k;
+  }
 
   pub sound-kept : (kept : Kept) (phase : Phase) (before : Option Running) (run : Running) → Sound code fuel inputs kept phase before → Keeps code fuel inputs IsFinished kept.call (Some run)
       → Sound code fuel inputs kept IsFinished (Some run)
@@ -257,10 +340,10 @@ module _ (code : Code) (fuel : ℕ) (inputs : List Block) where
   first-fits call f args e h = subst (λ o. IfSome o (λ call. Fits code inputs call.function call.args)) e h
 
   pub first-done : (call : Option Call) (f : ℕ) (args : List Word) → call ≡ Some (record { function = f; args = args }) → IfSome call (λ call. Fits code inputs call.function call.args) → (o : Outcome)
-      → IsFirstAnswer code inputs f args fuel o → (run : Running) → o ≡ Done run → next run.heap ≤ NUMBERS → IsFirstOf code fuel inputs call run
-  first-done call f args e h o a run k few =
+      → IsFirstAnswer code inputs f args fuel o → (run : Running) → o ≡ Done run → IsFirstOf code fuel inputs call run
+  first-done call f args e h o a run k =
       subst (λ c. IsFirstOf code fuel inputs c run) (sym e)
-      (first-of code fuel inputs (record { function = f; args = args }) (first-fits call f args e h) run (subst (λ o. IsFirstAnswer code inputs f args fuel o) k a) few)
+      (first-of code fuel inputs (record { function = f; args = args }) (first-fits call f args e h) run (subst (λ o. IsFirstAnswer code inputs f args fuel o) k a))
 
   -- an old run can be propagated
   pub old-kept : (call : Option Call) (run : Running) → IsOldRun code fuel inputs call run → (f : ℕ) × (args : List Word) × (l : Trace) × IsKeptRun code inputs f args fuel l run
@@ -274,11 +357,11 @@ module _ (code : Code) (fuel : ℕ) (inputs : List Block) where
   repaired-out None old h o a k = elim h [ ]
   repaired-out (Some call) old h o a k = subst (λ o. IsRepairedAnswer code inputs call.function call.args fuel h.0 old o) k (a call.function call.args h.0 h.1)
 
-  pub repaired-done : (call : Option Call) (old : Running) → IsOldRun code fuel inputs call old → (o : Outcome) → Propagates old o → (run : Running) → o ≡ Done run → (run.spent ≡ 0) ⊎ (next run.heap ≤ NUMBERS)
+  pub repaired-done : (call : Option Call) (old : Running) → IsOldRun code fuel inputs call old → (o : Outcome) → Propagates old o → (run : Running) → o ≡ Done run
       → IsRepairOf code fuel inputs call old run
-  repaired-done None old h o a run k few = elim h [ ]
-  repaired-done (Some call) old h o a run k few = λ l was above.
-      repaired-of code fuel inputs call was.fits l old was above run (subst (λ o. IsRepairedAnswer code inputs call.function call.args fuel l old o) k (a call.function call.args l was)) few
+  repaired-done None old h o a run k = elim h [ ]
+  repaired-done (Some call) old h o a run k = λ l was.
+      repaired-of code fuel inputs call was.fits l old was run (subst (λ o. IsRepairedAnswer code inputs call.function call.args fuel l old o) k (a call.function call.args l was))
 
   -- an honest trace is not out of fuel, and has no work
   pub honest-in : (call : Option Call) (old : Running) → IsStillHonest code fuel inputs call old → (o : Outcome) → Propagates old o → o ≡ OutOfFuel → ⊥

@@ -9,3 +9,4 @@ pub mod Propagated
 pub mod ReadRun
 pub mod Flattening
 pub mod NewInput
+pub mod Carrying

@@ -1,5 +1,5 @@
 -- An engine with one input more.
-use Rattle.std.proofs.Common.{◌≡◌, ℕ, ◌+◌, ◌<◌, ◌^◌, inl, inr, true, Option, Some, None, List, [], ◌∷◌, ◌++◌, length, refl, sym, ap, ◌∙◌, subst, arith}
+use Rattle.std.proofs.Common.{◌≡◌, pos, ℕ, ◌+◌, ◌<◌, ◌^◌, inl, inr, true, Option, Some, None, List, [], ◌∷◌, ◌++◌, length, refl, sym, ap, ◌∙◌, subst, arith}
 use Rattle.std.proofs.lemmas.Bool.Decides.{eqb_tells}
 use Rattle.std.specs.Prelude.{IfSome}
 use Rattle.ceal_base.specs.Block.{Block}
@@ -9,21 +9,23 @@ use Rattle.ceal_base.specs.declared.call.Call.{Call}
 use Rattle.ceal_base.specs.declared.word.BlockId.TheVariants.{Input, Core}
 use Rattle.ceal_base.specs.declared.word.Place.{Place}
 use Rattle.ceal_base.specs.declared.word.Word.{Word}
+use Rattle.ceal_base.specs.declared.word.Word.TheVariants.{Num}
 use Rattle.ceal_code.proofs.Memory.{get-push, get-push_other, get-before}
 use Rattle.ceal_code.proofs.Same.{block-refl, place-same}
 use Rattle.ceal_code.specs.Program.{Code}
 use Rattle.ceal_code.specs.Replay.{bases, content_in}
 use Rattle.ceal_engine.proofs.Inputs.{kept-longer, longer-fits, call-kept, extended-longer}
-use Rattle.ceal_engine.proofs.Keeping.{kept-on}
+use Rattle.ceal_engine.proofs.Keeping.{kept-on, part-kept-on}
 use Rattle.ceal_engine.proofs.MoreMemory.{get-out}
 use Rattle.ceal_engine.specs.Completed.{SetsInput, OfRuns}
 use Rattle.ceal_engine.specs.Engine.{alone}
-use Rattle.ceal_engine.specs.Keeping.{Kept, IsKept, Keeps, Sound}
+use Rattle.ceal_engine.specs.Keeping.{Kept, KeepsRun, Keeps, Sound}
 use Rattle.ceal_engine.specs.declared.phase.Phase.{Phase}
 use Rattle.ceal_mods.specs.Mods.{cell_of}
 use Rattle.ceal_order.specs.Stamps.{is_in}
 use Rattle.ceal_repair.proofs.Parting.{where-holds}
-use Rattle.ceal_repair.specs.Kept.{Kept as KeptTables, Records}
+use Rattle.ceal_repair.specs.Blocks.{HasBlocks}
+use Rattle.ceal_repair.specs.Kept.{Kept as KeptTables, Records, base_in}
 use Rattle.ceal_repair.specs.Lists.{reads_at}
 use Rattle.ceal_repair.specs.Words.{HasBases, default_of}
 use Rattle.ceal_repair.specs.declared.running.Running.{Running}
@@ -46,17 +48,14 @@ module _ (code : Code) (fuel : ℕ) (inputs : List Block) (phase : Phase) where
   read-node p (Read q v u x args) s o e h = (q, v, record { unit = u; var = x; args = args; is = e }, h)
   read-node p (End r) s o e h = absurd (grind (arith, h))
 
-  none-reads : (call : Call) (run : Running) (k : IsKept code fuel inputs phase call run) (field : ℕ) → (cell_of run.tables.mods (record { block = Input (length inputs); field = field })).reads ≡ []
-  none-reads call run k field = go (cell_of run.tables.mods (at field)).reads (λ s i. no s i)
+  none-reads : (run : Running) (kept : KeptTables run.tables) (blocks : HasBlocks code inputs run.heap run.tables) (field : ℕ) → (cell_of run.tables.mods (record { block = Input (length inputs); field = field })).reads ≡ []
+  none-reads run kept blocks field = go (cell_of run.tables.mods (at field)).reads (λ s i. no s i)
     where
-      kept : KeptTables run.tables
-      kept = k.of.stands.kept
-
       no : (s : ℕ) → is_in s (cell_of run.tables.mods (at field)).reads ≡ true → ⊥
       no s i =
           let w = where-holds (reads_at (at field)) run.tables.trace.nodes s kept.step.whole.order.distinct (subst (λ rs. is_in s rs ≡ true) (kept.step.tabled.reads (at field)) i) in
           let r = read-node (at field) w.0 s (node_at s run.tables.trace.nodes) w.1 w.2 in
-          let there = k.of.stands.blocks.reads s r.0 r.1 r.2 in
+          let there = blocks.reads s r.0 r.1 r.2 in
           let early : length inputs < length inputs = subst (λ (b : Rattle.ceal_base.specs.declared.word.BlockId.BlockId). Rattle.ceal_repair.specs.Blocks.There (length inputs) run.heap b) (ap (λ (q : Place). q.block) (place-same r.0 (at field) r.3)) there in
           absurd (omega (arith, early))
 
@@ -68,7 +67,19 @@ module _ (code : Code) (fuel : ℕ) (inputs : List Block) (phase : Phase) where
       → IfSome run (λ r. (field : ℕ) → (cell_of r.tables.mods (record { block = Input (length inputs); field = field })).reads ≡ [])
   run-unread call None k = tt
   run-unread None (Some run) k = elim k [ ]
-  run-unread (Some call) (Some run) k = none-reads call run k
+  run-unread (Some call) (Some run) (KeepsRun.whole k) = none-reads run k.of.stands.kept k.of.stands.blocks
+  run-unread (Some call) (Some run) (KeepsRun.part e k) = none-reads run k.of.stands.kept k.of.stands.blocks
+
+  -- the modifiables of the next input have no base yet
+  none-based : (run : Running) → HasBlocks code inputs run.heap run.tables → (field : ℕ) → base_in run.tables.mods (record { block = Input (length inputs); field = field }) ≡ Num (pos 0)
+  none-based run blocks field = blocks.bases.of_inputs (length inputs) field ∙ ap (λ o. content_in code.structs o field) (get-out inputs (length inputs) (omega arith))
+
+  pub run-bare : (call : Option Call) (run : Option Running) → Keeps code fuel inputs phase call run
+      → IfSome run (λ r. (field : ℕ) → base_in r.tables.mods (record { block = Input (length inputs); field = field }) ≡ Num (pos 0))
+  run-bare call None k = tt
+  run-bare None (Some run) k = elim k [ ]
+  run-bare (Some call) (Some run) (KeepsRun.whole k) = none-based run k.of.stands.blocks
+  run-bare (Some call) (Some run) (KeepsRun.part e k) = none-based run k.of.stands.blocks
 
   module _ (b : Block) (fits : block_fits code.structs (alone inputs) b ≡ true) (fit : inputs_fit code.structs inputs ≡ true) where
     new-fits : inputs_fit code.structs (inputs ++ b ∷ []) ≡ true
@@ -100,15 +111,16 @@ module _ (code : Code) (fuel : ℕ) (inputs : List Block) (phase : Phase) where
     keeps-longer call None (Some run) o k = elim o [ ]
     keeps-longer call (Some old) None o k = elim o [ ]
     keeps-longer None (Some old) (Some run) o k = k
-    keeps-longer (Some call) (Some old) (Some run) o k =
+    keeps-longer (Some call) (Some old) (Some run) o (KeepsRun.whole k) =
         let on = inputs-law code inputs (inputs ++ b ∷ []) call.function call.args k.of.fits new-fits (extended-longer code inputs b) k.trace k.of.replays in
-        record {
-          there = k.there;
+        KeepsRun.whole (record {
+          whole = k.whole;
           trace = k.trace;
           of = kept-on code inputs (inputs ++ b ∷ []) call.function call.args fuel k.trace old run k.of (extended-longer code inputs b) new-fits (omega (arith, longer)) o.same (bases-more old run o k.of.stands.blocks.bases);
-          above = k.above;
           present = λ e. on.honest same-bases (k.present e);
-        }
+        })
+    keeps-longer (Some call) (Some old) (Some run) o (KeepsRun.part e k) = KeepsRun.part e
+        (part-kept-on code fuel inputs (inputs ++ b ∷ []) call old run k (extended-longer code inputs b) new-fits (omega (arith, longer)) o.same (bases-more old run o))
 
     pub sound-longer : (kept : Kept) (old run : Option Running) → OfRuns (SetsInput code.structs (length inputs) b.shape b.words) old run → length inputs + 1 < 2 ^ 32 → Sound code fuel inputs kept phase old
         → Sound code fuel (inputs ++ b ∷ []) kept phase run

@@ -8,11 +8,11 @@ use Rattle.ceal_base.specs.declared.word.Word.{Word}
 use Rattle.ceal_code.proofs.Same.{some-same, none-some}
 use Rattle.ceal_code.specs.Program.{Code}
 use Rattle.ceal_code.specs.Replay.{IsHonest, bases}
-use Rattle.ceal_engine.proofs.Present.{trace-kept}
+use Rattle.ceal_engine.proofs.Present.{trace-kept, whole-kept}
 use Rattle.ceal_engine.proofs.Repairs.{still-repaired}
-use Rattle.ceal_engine.specs.Completed.{finished, trace_in, idle, IsRepairedOf, IsRepairOf, IsStillHonest}
-use Rattle.ceal_engine.specs.Engine.{stands_for}
-use Rattle.ceal_engine.specs.Keeping.{Kept, forest_in, work_kept, state_of, Keeps, Sound}
+use Rattle.ceal_engine.specs.Completed.{finished, trace_in, idle, IsOldRun, IsRepairedOf, IsRepairOf, IsStillHonest}
+use Rattle.ceal_engine.specs.Engine.{IsWhole, stands_for}
+use Rattle.ceal_engine.specs.Keeping.{Kept, forest_in, work_kept, state_of, KeepsRun, Keeps, Sound}
 use Rattle.ceal_engine.specs.Repaired.{IsRepaired, IsUnchanged}
 use Rattle.ceal_engine.specs.declared.phase.Phase.{Phase}
 use Rattle.ceal_engine.specs.declared.phase.Phase.TheVariants.{Finished as IsFinished}
@@ -22,28 +22,35 @@ use Rattle.ceal_theory.specs.Walk.{AgreesAll}
 use Rattle.ceal_trace.specs.Items.{forest_of}
 use Rattle.ceal_trace.specs.Nodes.{Entry}
 
-module _ (code : Code) (fuel : ℕ) (inputs : List Block) (phase : Phase) where
+module _ (code : Code) (fuel : ℕ) (inputs : List Block) (phase : Phase) (whole : IsWhole phase) where
   -- the trace is honest on the inputs
   pub kept-honest : (call : Option Call) (run : Running) → Keeps code fuel inputs phase call (Some run) → (l : Trace) → trace_in run ≡ Some l → IsHonest code inputs l → IsStillHonest code fuel inputs call run
-  kept-honest None run k l e h = elim k [ ]
-  kept-honest (Some call) run k l e h =
+  kept-honest None run h l e honest = elim h [ ]
+  kept-honest (Some call) run h l e honest =
+      let k = whole-kept code fuel inputs phase call run h whole in
       let same : l ≡ k.trace = some-same l k.trace (sym e ∙ trace-kept code fuel inputs call run k.trace k.of) in
-      (k.trace, k.of, subst (IsHonest code inputs) same h)
+      (k.trace, k.of, subst (IsHonest code inputs) same honest)
 
-  module _ (call : Option Call) (old run : Running) (k : Keeps code fuel inputs phase call (Some old)) (r : IsRepairOf code fuel inputs call old run) where
+  -- a run of the call
+  pub old-run : (call : Option Call) (run : Running) → Keeps code fuel inputs phase call (Some run) → IsOldRun code fuel inputs call run
+  old-run None run h = elim h [ ]
+  old-run (Some call) run h = let k = whole-kept code fuel inputs phase call run h whole in (k.trace, k.of)
+
+  module _ (call : Option Call) (old run : Running) (h : Keeps code fuel inputs phase call (Some old)) (r : IsRepairOf code fuel inputs call old run) where
     pub repaired-kept : Keeps code fuel inputs IsFinished call (Some run)
-    repaired-kept = go call k r
+    repaired-kept = go call h r
       where
         go : (call : Option Call) → Keeps code fuel inputs phase call (Some old) → IsRepairOf code fuel inputs call old run → Keeps code fuel inputs IsFinished call (Some run)
-        go None k r = elim k [ ]
-        go (Some call) k r = (r k.trace k.of k.above).kept
+        go None h r = elim h [ ]
+        go (Some call) h r = let k = whole-kept code fuel inputs phase call old h whole in (r k.trace k.of).kept
 
     of-trace : (l : Trace) → trace_in old ≡ Some l → IsRepairedOf code fuel inputs call l old run
-    of-trace l e = go call k r
+    of-trace l e = go call h r
       where
         go : (call : Option Call) → Keeps code fuel inputs phase call (Some old) → IsRepairOf code fuel inputs call old run → IsRepairedOf code fuel inputs call l old run
-        go None k r = elim k [ ]
-        go (Some call) k r = subst (λ l. IsRepairedOf code fuel inputs (Some call) l old run) (some-same k.trace l (sym (trace-kept code fuel inputs call old k.trace k.of) ∙ e)) (r k.trace k.of k.above)
+        go None h r = elim h [ ]
+        go (Some call) h r = let k = whole-kept code fuel inputs phase call old h whole in
+            subst (λ l. IsRepairedOf code fuel inputs (Some call) l old run) (some-same k.trace l (sym (trace-kept code fuel inputs call old k.trace k.of) ∙ e)) (r k.trace k.of)
 
     pub repaired-clause : (l : Trace) → trace_in old ≡ Some l → IsSomeAnd (trace_in run) (IsRepaired (finished code fuel inputs call run) l)
     repaired-clause l e = (of-trace l e).repaired
@@ -55,26 +62,27 @@ module _ (code : Code) (fuel : ℕ) (inputs : List Block) (phase : Phase) where
     nodes-clause l e h = ((of-trace l e).unchanged h).1
 
     pub front-clause : (front back : List Entry) → old.tables.trace.nodes ≡ front ++ back → AgreesAll code (bases code inputs) (forest_of front) → (later : List Entry) × (run.tables.trace.nodes ≡ front ++ later)
-    front-clause = go call k r
+    front-clause = go call h r
       where
         go : (call : Option Call) → Keeps code fuel inputs phase call (Some old) → IsRepairOf code fuel inputs call old run
             → (front back : List Entry) → old.tables.trace.nodes ≡ front ++ back → AgreesAll code (bases code inputs) (forest_of front) → (later : List Entry) × (run.tables.trace.nodes ≡ front ++ later)
-        go None k r = elim k [ ]
-        go (Some call) k r = (r k.trace k.of k.above).front
+        go None h r = elim h [ ]
+        go (Some call) h r = let k = whole-kept code fuel inputs phase call old h whole in (r k.trace k.of).front
 
 -- in Finished nothing is to be done
 pub finished-clause : (code : Code) (fuel : ℕ) (inputs : List Block) (call : Option Call) (run : Option Running) → Keeps code fuel inputs IsFinished call run → (phase : Phase) (after : Option Running) → forest_in after ≡ forest_in run
     → work_kept after ≡ 0 → (l : Trace) → stands_for (forest_in run) ≡ Some l → IsSomeAnd (stands_for (forest_in after)) (IsRepaired (state_of code fuel inputs call phase after) l)
-finished-clause code fuel inputs call None k phase after f w l e = none-some l e
-finished-clause code fuel inputs None (Some run) k phase after f w l e = elim k [ ]
-finished-clause code fuel inputs (Some call) (Some run) k phase after f w l e =
+finished-clause code fuel inputs call None h phase after f w l e = none-some l e
+finished-clause code fuel inputs None (Some run) h phase after f w l e = elim h [ ]
+finished-clause code fuel inputs (Some call) (Some run) h phase after f w l e =
+    let k = whole-kept code fuel inputs IsFinished call run h refl in
     subst (λ o. IsSomeAnd o (IsRepaired (state_of code fuel inputs (Some call) phase after) l)) (sym (ap stands_for f ∙ e))
     (subst (λ l. IsRepaired (state_of code fuel inputs (Some call) phase after) l l) (some-same k.trace l (sym (trace-kept code fuel inputs call run k.trace k.of) ∙ e))
-    (still-repaired code fuel inputs call k.of.fits k.trace run k.of k.above phase after w (k.present refl)))
+    (still-repaired code fuel inputs call k.of.fits k.trace run k.of phase after w (k.present refl)))
 
 -- ---- a run of which nothing was run anew
 
-module _ (code : Code) (fuel : ℕ) (inputs : List Block) (phase : Phase) where
+module _ (code : Code) (fuel : ℕ) (inputs : List Block) (phase : Phase) (whole : IsWhole phase) where
   idle-run : (f : ℕ) (args : List Word) (l : Trace) (run : Running) → IsKeptRun code inputs f args fuel l run → IsKeptRun code inputs f args fuel l (idle run)
   idle-run f args l run k = record {
     stands = record { kept = k.stands.kept; nests = k.stands.nests; items = k.stands.items; words = k.stands.words; released = k.stands.released; slots = k.stands.slots; blocks = k.stands.blocks };
@@ -86,7 +94,8 @@ module _ (code : Code) (fuel : ℕ) (inputs : List Block) (phase : Phase) where
   keeps-idle : (call : Option Call) (run : Option Running) → Keeps code fuel inputs phase call run → Keeps code fuel inputs phase call (option_map idle run)
   keeps-idle call None k = k
   keeps-idle None (Some run) k = k
-  keeps-idle (Some call) (Some run) k = record { there = k.there; trace = k.trace; of = idle-run call.function call.args k.trace run k.of; above = k.above; present = k.present }
+  keeps-idle (Some call) (Some run) h = let k = whole-kept code fuel inputs phase call run h whole in
+      KeepsRun.whole (record { whole = whole; trace = k.trace; of = idle-run call.function call.args k.trace run k.of; present = k.present })
 
   pub sound-idle : (kept : Kept) (run : Option Running) → Sound code fuel inputs kept phase run → Sound code fuel inputs kept phase (option_map idle run)
   sound-idle kept run s = record {

@@ -21,6 +21,7 @@ use Rattle.ceal_code.specs.PlainWords.{block_shape, block_word}
 use Rattle.ceal_code.specs.Program.{Code}
 use Rattle.ceal_code.specs.Replay.{Store, with_contents, filled, block_after}
 use Rattle.ceal_code.specs.Value.{is_cell}
+use Rattle.ceal_engine.proofs.Present.{whole-kept}
 use Rattle.ceal_engine.proofs.RunMemory.{cores-are, steps-held}
 use Rattle.ceal_engine.specs.Engine.{InLimits, block_of, stored_at, core, is_plain}
 use Rattle.ceal_engine.specs.Keeping.{Kept, contents, store_in, Keeps, Sound}
@@ -133,9 +134,9 @@ module _ (code : Code) (inputs : List Block) where
   value-read fuel kept phase (Some r) s e p h = value-law r p h
 
   -- the steps of a run are few
-  pub few-steps : (fuel : ℕ) (phase : Phase) (call : Option Call) (run : Running) → InLimits fuel → Keeps code fuel inputs phase call (Some run) → steps_in (forest_of run.tables.trace.nodes) < 2 ^ 32
-  few-steps fuel phase None run i k = elim k [ ]
-  few-steps fuel phase (Some call) run i k = let e = steps-held code inputs call.function call.args fuel k.trace run k.of in omega (arith, e, k.of.few, i.1)
+  pub few-steps : (fuel : ℕ) (phase : Phase) (call : Option Call) (run : Running) → InLimits fuel → Keeps code fuel inputs phase call (Some run) → phase ≡ IsFinished → steps_in (forest_of run.tables.trace.nodes) < 2 ^ 32
+  few-steps fuel phase None run i h f = elim h [ ]
+  few-steps fuel phase (Some call) run i h f = let k = whole-kept code fuel inputs phase call run h (rw f refl) in let e = steps-held code inputs call.function call.args fuel k.trace run k.of in omega (arith, e, k.of.few, i.1)
 
   -- a block that is there has a shape
   pub no-shape : (run : Option Running) (b : BlockId) → block_shape (known_block run inputs b) ≡ None → IsSome (block_of inputs (store_in code inputs run) b) → ⊥

@@ -15,13 +15,10 @@ use Rattle.ceal_code.specs.Fresh.{fresh}
 use Rattle.ceal_code.specs.Program.{Code}
 use Rattle.ceal_code.specs.Replay.{In, here, there, Mentions, core_numbers, Replays, IsHonest}
 use Rattle.ceal_engine.proofs.Inputs.{extended-refl}
-use Rattle.ceal_engine.proofs.LiveCount.{number-of}
-use Rattle.ceal_engine.proofs.MoreMemory.{get-out}
 use Rattle.ceal_engine.proofs.Present.{trace-kept}
-use Rattle.ceal_engine.proofs.RunMemory.{allocs-flat}
+use Rattle.ceal_engine.proofs.RunMemory.{low-numbers}
 use Rattle.ceal_engine.specs.Completed.{finished, trace_in, IsFirstOf, IsRepairedOf}
-use Rattle.ceal_engine.specs.Engine.{NUMBERS}
-use Rattle.ceal_engine.specs.Keeping.{state_of, IsKept}
+use Rattle.ceal_engine.specs.Keeping.{state_of, IsKept, KeepsRun}
 use Rattle.ceal_engine.specs.Repaired.{IsRenamed, IsFirst, IsRepairFrom, IsRepaired}
 use Rattle.ceal_engine.specs.declared.phase.Phase.{Phase}
 use Rattle.ceal_engine.specs.declared.phase.Phase.TheVariants.{Finished as IsFinished}
@@ -110,28 +107,6 @@ self-renamed code inputs f args l r = record {
   alike = trace-self (length inputs) (selves r.known) r.mentions (λ b i. self-tied b r.known i);
 }
 
--- numbers, apart from what has them
-too-high : (k n limit b : ℕ) → k < n → n ≤ limit → limit ≤ b → b ≡ k → ⊥
-too-high k n limit b i few h e = omega (arith, i, few, h, e)
-
-few-numbers : (n limit work : ℕ) → n + 0 ≤ limit + work → work ≡ 0 → n ≤ limit
-few-numbers n limit work h e = omega (arith, h, e)
-
-none-used : (new old before after : ℕ) → new + before ≤ old + after → old ≡ 0 → after ≡ 0 → new ≡ 0
-none-used new old before after h e f = omega (arith, h, e, f)
-
--- where fewer numbers were given out, the blocks of the trace have lower ones
-pub low-numbers : (code : Code) (inputs : List Block) (l : Trace) (run : Running) → Stands code inputs l run → next run.heap ≤ NUMBERS → Above NUMBERS l
-low-numbers code inputs l run s few b h = go (uses b l) refl
-  where
-    go : (n : ℕ) → uses b l ≡ n → uses b l ≡ 0
-    go zero e = e
-    go (suc n) e =
-        let i : In b (core_numbers (blocks_of l)) = count-in b (core_numbers (blocks_of l)) (omega (arith, e)) in
-        let live = (s.blocks.lives.live b).1 (subst (In b) (sym (ap allocs s.items ∙ allocs-flat l)) i) in
-        let n = number-of run.heap (slice_get run.heap.numbers b) live.0 live.1 in
-        none-some n.0 (sym (get-out run.heap.numbers b (omega (arith, few, h))) ∙ n.1)
-
 module _ (code : Code) (inputs : List Block) (f : ℕ) (args : List Word) (fits : Fits code inputs f args) (fuel : ℕ) where
   -- the first trace's steps are its work
   first-steps : (a : Repaired) → first_of code inputs fuel f args ≡ Some a → a.work ≡ steps_of a.items
@@ -149,16 +124,16 @@ module _ (code : Code) (inputs : List Block) (f : ℕ) (args : List Word) (fits 
   no-end l r few h e = none-some _ (sym e ∙ (trace-law code inputs f args fits l r h).ends fuel few)
 
 module _ (code : Code) (fuel : ℕ) (inputs : List Block) (call : Call) (fits : Fits code inputs call.function call.args) where
-  kept-as : (l : Trace) (run : Running) → IsRunOf code inputs call.function call.args fuel l run → Above NUMBERS l → IsKept code fuel inputs IsFinished call run
-  kept-as l run k above = record { there = refl; trace = l; of = kept-run code inputs call.function call.args fits fuel l run k; above = above; present = λ e. k.honest }
+  pub kept-as : (l : Trace) (run : Running) → IsRunOf code inputs call.function call.args fuel l run → IsKept code fuel inputs IsFinished call run
+  kept-as l run k = record { whole = refl; trace = l; of = kept-run code inputs call.function call.args fits fuel l run k; present = λ e. k.honest }
 
-  trace-is : (l : Trace) (run : Running) → IsRunOf code inputs call.function call.args fuel l run → trace_in run ≡ Some l
+  pub trace-is : (l : Trace) (run : Running) → IsRunOf code inputs call.function call.args fuel l run → trace_in run ≡ Some l
   trace-is l run k = trace-kept code fuel inputs call run l (kept-run code inputs call.function call.args fits fuel l run k)
 
   -- a first run can be kept, and its trace is the first one
-  pub first-of : (run : Running) → IsFirstRun code inputs call.function call.args fuel run → next run.heap ≤ NUMBERS → IsFirstOf code fuel inputs (Some call) run
-  first-of run k few = record {
-    kept = kept-as k.trace run k.is_run (low-numbers code inputs k.trace run k.is_run.stands few);
+  pub first-of : (run : Running) → IsFirstRun code inputs call.function call.args fuel run → IsFirstOf code fuel inputs (Some call) run
+  first-of run k = record {
+    kept = KeepsRun.whole (kept-as k.trace run k.is_run);
     first = subst (λ o. IsSomeAnd o (IsFirst (finished code fuel inputs (Some call) run))) (sym (trace-is k.trace run k.is_run)) (record {
       first = k.first;
       is = k.is;
@@ -167,7 +142,10 @@ module _ (code : Code) (fuel : ℕ) (inputs : List Block) (call : Call) (fits : 
     });
   }
 
-  module _ (l : Trace) (old : Running) (was : IsKeptRun code inputs call.function call.args fuel l old) (above : Above NUMBERS l) where
+  module _ (l : Trace) (old : Running) (was : IsKeptRun code inputs call.function call.args fuel l old) where
+    above : Above (next old.heap) l
+    above = low-numbers code inputs l old was.stands
+
     edited : (k : ℕ) → Above k l → Edited code inputs inputs call.function call.args l k
     edited k h = record { call = fits; fit = fits.blocks; extended = extended-refl code inputs; trace = was.replays; above = h }
 
@@ -186,35 +164,10 @@ module _ (code : Code) (fuel : ℕ) (inputs : List Block) (call : Call) (fits : 
                 work = q.counted;
               }
 
-      -- a repair without work has no new block
-      still-low : run.spent ≡ 0 → Above NUMBERS k.trace
-      still-low none = go (k.from NUMBERS above)
-        where
-          go : kept.IsRepairFrom code inputs fuel k.names l k.trace run.spent NUMBERS → Above NUMBERS k.trace
-          go q = subst (λ m. Above NUMBERS m) (sym (q.same ∙ named-own code inputs call.function call.args q.repair.items (updated q).replays NUMBERS (low q) k.names)) (low q)
-            where
-              sound : (q : kept.IsRepairFrom code inputs fuel k.names l k.trace run.spent NUMBERS) → Adjusts code inputs NUMBERS l q.repair.items q.repair.work × q.repair.work ≤ fuel
-              sound q = adjusted-sound code inputs NUMBERS fuel l q.repair q.is
-
-              updated : (q : kept.IsRepairFrom code inputs fuel k.names l k.trace run.spent NUMBERS) → Updated code inputs call.function call.args NUMBERS l q.repair.items
-              updated q = repair-law code inputs inputs call.function call.args l q.repair.items NUMBERS q.repair.work (edited NUMBERS above) (sound q).0
-
-              low : (q : kept.IsRepairFrom code inputs fuel k.names l k.trace run.spent NUMBERS) → Above NUMBERS q.repair.items
-              low q b h =
-                  let a = (sound q).0 in
-                  let more = blocks-law code own _ a.after l q.repair.items a.fix in
-                  let few : a.after.number ≤ NUMBERS = few-numbers a.after.number NUMBERS a.after.work more (a.counted ∙ (sym q.counted ∙ none)) in
-                  let after : named own a.after.number b ≡ 0 = named-none own a.after.number b (λ k i e. too-high k a.after.number NUMBERS b i few h e) in
-                  none-used (uses b q.repair.items) (uses b l) (named own NUMBERS b) (named own a.after.number b) (fix-uses code b a.fix) (above b h) after
-
-      low-after : (run.spent ≡ 0) ⊎ (next run.heap ≤ NUMBERS) → Above NUMBERS k.trace
-      low-after (inl none) = still-low none
-      low-after (inr few) = low-numbers code inputs k.trace run k.is_run.stands few
-
       -- a repaired run can be kept, and its trace is the repair
-      pub repaired-of : (run.spent ≡ 0) ⊎ (next run.heap ≤ NUMBERS) → IsRepairedOf code fuel inputs (Some call) l old run
-      repaired-of few = record {
-        kept = kept-as k.trace run k.is_run (low-after few);
+      pub repaired-of : IsRepairedOf code fuel inputs (Some call) l old run
+      repaired-of = record {
+        kept = KeepsRun.whole (kept-as k.trace run k.is_run);
         repaired = subst (λ o. IsSomeAnd o (IsRepaired (finished code fuel inputs (Some call) run) l)) (sym (trace-is k.trace run k.is_run))
             (record { names = k.names; single = k.single; apart = k.apart; from = from });
         unchanged = λ h. let u = k.unchanged h in
@@ -225,13 +178,13 @@ module _ (code : Code) (fuel : ℕ) (inputs : List Block) (call : Call) (fits : 
     -- where nothing is to be done, the trace is its own repair
     pub still-repaired : (phase : Phase) (run : Option Running) → Rattle.ceal_engine.specs.Keeping.work_kept run ≡ 0 → IsHonest code inputs l → IsRepaired (state_of code fuel inputs (Some call) phase run) l l
     still-repaired phase run none h = record {
-      names = λ k. NUMBERS + k;
+      names = λ k. next old.heap + k;
       single = λ j k e. omega (arith, e);
-      apart = λ k. above (NUMBERS + k) (omega arith);
+      apart = λ k. above (next old.heap + k) (omega arith);
       from = λ next' low. record {
         repair = record { items = l; work = 0 };
         is = unchanged-law code inputs l h next' fuel;
-        named = sym (named-own code inputs call.function call.args l was.replays next' low (λ k. NUMBERS + k));
+        named = sym (named-own code inputs call.function call.args l was.replays next' low (λ k. next old.heap + k));
         renamed = self-renamed code inputs call.function call.args l was.replays;
         work = none;
       };

@@ -19,19 +19,21 @@ use Rattle.ceal_code.specs.Program.{Code}
 use Rattle.ceal_code.specs.Replay.{Store, In, here, there, KnownBlock, count, core_numbers, bases, plain_of, cell_default, filled, block_after, inputs_after, IsHonest}
 use Rattle.ceal_code.specs.Value.{Plain, field_kind}
 use Rattle.ceal_engine.proofs.Inputs.{extended-refl}
+use Rattle.ceal_engine.proofs.LiveCount.{number-of}
 use Rattle.ceal_engine.proofs.MoreMemory.{uses-known, filled-same, get-out}
-use Rattle.ceal_engine.specs.Engine.{NUMBERS, at_number}
+use Rattle.ceal_engine.specs.Engine.{at_number}
 use Rattle.ceal_engine.specs.Keeping.{contents, cores_from, steps_kept}
 use Rattle.ceal_heap.specs.Heap.{Contents, Known, Standing, Unused, Live, Revoked, Released, IsLive, known, next, plain_block, plain_of as heap_words, standing}
 use Rattle.ceal_mods.specs.Mods.{Contents as Mods, cell_of}
 use Rattle.ceal_mods.specs.Writes.{Write as WriteOf, last_of}
 use Rattle.ceal_repair.proofs.Items.{allocs-append, known-more}
-use Rattle.ceal_repair.proofs.Making.{in-count, contents-written}
+use Rattle.ceal_repair.proofs.Making.{count-in, in-count, contents-written}
 use Rattle.ceal_repair.proofs.Putting.{last-contents}
-use Rattle.ceal_repair.specs.Answers.{IsKeptRun}
+use Rattle.ceal_repair.specs.Answers.{Stands, IsKeptRun}
 use Rattle.ceal_repair.specs.Kept.{base_in}
 use Rattle.ceal_repair.specs.Words.{default_of}
 use Rattle.ceal_repair.specs.declared.running.Running.{Running}
+use Rattle.ceal_theory.proofs.DistinctBlocks.{uses}
 use Rattle.ceal_theory.proofs.Done.{same-bases}
 use Rattle.ceal_theory.proofs.Growth.{own-single}
 use Rattle.ceal_theory.proofs.Listed.{listed-law}
@@ -71,6 +73,18 @@ allocs-known bs (item.Alloc (Input c) key ∷ is) b i = allocs-known bs is b i
 allocs-known bs (item.Write p value ∷ is) b i = allocs-known bs is b i
 allocs-known bs (item.Read p value u v args ∷ is) b i = allocs-known bs is b i
 allocs-known bs (item.End ∷ is) b i = allocs-known bs is b i
+
+-- the blocks of the trace have numbers below the next one of the heap
+pub low-numbers : (code : Code) (inputs : List Block) (l : Trace) (run : Running) → Stands code inputs l run → Above (next run.heap) l
+low-numbers code inputs l run s b h = go (uses b l) refl
+  where
+    go : (n : ℕ) → uses b l ≡ n → uses b l ≡ 0
+    go zero e = e
+    go (suc n) e =
+        let i : In b (core_numbers (blocks_of l)) = count-in b (core_numbers (blocks_of l)) (omega (arith, e)) in
+        let live = (s.blocks.lives.live b).1 (subst (In b) (sym (ap allocs s.items ∙ allocs-flat l)) i) in
+        let n = number-of run.heap (slice_get run.heap.numbers b) live.0 live.1 in
+        none-some n.0 (sym (get-out run.heap.numbers b h) ∙ n.1)
 
 -- ---- blocks with contents
 
@@ -115,21 +129,27 @@ module _ (code : Code) (s : Store) (heap : Contents) where
 
 -- ---- what a run holds
 
-module _ (code : Code) (inputs : List Block) (f : ℕ) (args : List Word) (fuel : ℕ) (l : Trace) (run : Running) (k : IsKeptRun code inputs f args fuel l run) (above : Above NUMBERS l) (h : IsHonest code inputs l) where
+module _ (code : Code) (inputs : List Block) (f : ℕ) (args : List Word) (fuel : ℕ) (l : Trace) (run : Running) (k : IsKeptRun code inputs f args fuel l run) (h : IsHonest code inputs l) where
   abbrev mods : Mods
   mods = run.tables.mods
+
+  abbrev limit : ℕ
+  limit = next run.heap
+
+  above : Above limit l
+  above = low-numbers code inputs l run k.stands
 
   abbrev words : Plain
   words = plain_of code inputs l
 
-  sound : Sound code own inputs f args (beginning code inputs l NUMBERS)
-  sound = begin-sound code own inputs inputs f args l NUMBERS NUMBERS (record { call = k.fits; fit = k.fits.blocks; extended = extended-refl code inputs; trace = k.replays; above = above }) own-single above
+  sound : Sound code own inputs f args (beginning code inputs l limit)
+  sound = begin-sound code own inputs inputs f args l limit limit (record { call = k.fits; fit = k.fits.blocks; extended = extended-refl code inputs; trace = k.replays; above = above }) own-single above
 
   again : HonestAgain code (length inputs) (starting code inputs words) l k.replays.known h.after
   again = honest-again code (length inputs) h.walk k.replays.mentions (starting code inputs words) (λ p i. sym (same-bases code inputs words p i))
 
-  listed : Listed code inputs (beginning code inputs l NUMBERS) (flat l)
-  listed = listed-law code own inputs f args k.fits (beginning code inputs l NUMBERS) sound (flat l) [] (sym (append-nil (flat l))) (flat-honest code again.walk)
+  listed : Listed code inputs (beginning code inputs l limit) (flat l)
+  listed = listed-law code own inputs f args k.fits (beginning code inputs l limit) sound (flat l) [] (sym (append-nil (flat l))) (flat-honest code again.walk)
 
   -- a place holds its last write, or else its base
   latest : (p : Place) → contents mods p ≡ written_after p (base_in mods p) (flat l)

@@ -83,11 +83,11 @@ IsSliceOf code fuel inputs (Some call) reads old s =
 
 -- where a repair goes on its steps are counted on, and a new one begins with none
 abbrev pub opened : Phase → Option Running → Option Running
-opened New run = run
+opened New run = option_map idle run
 opened IsFinished run = option_map idle run
 opened Pending run = option_map idle run
 opened Partial run = run
-opened Dropped run = run
+opened Dropped run = option_map idle run
 
 -- the trace of the run is honest on these inputs
 abbrev pub IsStillHonest : Code → ℕ → List Block → Option Call → Running → Type 0

@@ -138,17 +138,17 @@ pub record IsTraced (e : EngineState) (l : Trace) : Type 0 where
   pub steps : e.steps ≡ steps_of l
   pub live : e.live ≡ length (blocks_of l)
 
--- The nodes nest, the live blocks are exactly those that they allocate, each once, and the region has the slots of the blocks that
--- can be read and no others.
+-- The nodes nest, and the live blocks are exactly those that they allocate, each once.
 pub record IsTidy (t : Timeline) (heap : Contents) : Type 0 where
   pub nests : Nests t.nodes
   pub lives : Lives heap t.nodes
-  pub slots : HasSlots heap
 
--- The blocks that can be read are those of the trace, with their plain words; none of them is revoked.
+-- The blocks that can be read are those of the trace, with their plain words; none of them is revoked, and the region has their slots
+-- and no others.
 pub record IsHeapOf (code : Code) (inputs : List Block) (l : Trace) (heap : Contents) : Type 0 where
   pub words : (b : ℕ) → heap_words heap (Core b) ≡ plain_of code inputs l (Core b)
   pub released : (b : BlockId) (block : Known) → ¬ (standing heap b ≡ Revoked block)
+  pub slots : HasSlots heap
 
 -- a run, though maybe not on the present inputs, or a part of a repair
 abbrev pub has_run : Phase → Bool

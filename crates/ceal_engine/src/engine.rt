@@ -394,21 +394,24 @@ impl Engine {
         self.phase = Phase::Dropped;
         match self.running.take() {
             None => unreachable!(),
-            Some(old) => match self.sliced(reads, old)? {
-                Sliced::More(run) => {
-                    self.keep_part(run);
-                    Ok(Came::More)
+            Some(old) => {
+                let sliced = self.sliced(reads, old)?;
+                match sliced {
+                    Sliced::More(run) => {
+                        self.keep_part(run);
+                        Ok(Came::More)
+                    }
+                    Sliced::Done(run) => {
+                        self.keep(run);
+                        Ok(Came::Done)
+                    }
+                    Sliced::Spent => {
+                        self.run_anew()?;
+                        Ok(Came::Anew)
+                    }
+                    Sliced::OutOfFuel => Err(RunError::OutOfFuel),
                 }
-                Sliced::Done(run) => {
-                    self.keep(run);
-                    Ok(Came::Done)
-                }
-                Sliced::Spent => {
-                    self.run_anew()?;
-                    Ok(Came::Anew)
-                }
-                Sliced::OutOfFuel => Err(RunError::OutOfFuel),
-            },
+            }
         }
     }
 
@@ -434,17 +437,12 @@ impl Engine {
         ensures out_of_fuel { IfOutOfFuel result (fresh_of self.new ≡ None) }
         ensures dropped { OnErr result (self.new.phase ≡ Dropped) }
     {
-        match self.phase {
-            Phase::New => unreachable!(),
-            Phase::Dropped => {
-                self.run_anew()?;
-                Ok(Progress::Done)
-            }
-            _ => {
-                let came = self.go_on(Some(reads))?;
-                Ok(came.progress())
-            }
+        if self.phase == Phase::Dropped {
+            self.run_anew()?;
+            return Ok(Progress::Done);
         }
+        let came = self.go_on(Some(reads))?;
+        Ok(came.progress())
     }
 
     /// Its contract also tells what is true of every engine.

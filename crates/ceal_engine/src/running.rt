@@ -81,10 +81,10 @@ pub fn open(run: &mut Option<Running>, phase: Phase)
     ensures { run.new ≡ opened phase run.old }
 {
     match phase {
-        Phase::New => {}
+        Phase::Partial => {}
+        Phase::New => rest(run),
         Phase::Finished => rest(run),
         Phase::Pending => rest(run),
-        Phase::Partial => {}
-        Phase::Dropped => {}
+        Phase::Dropped => rest(run),
     }
 }

@@ -1,5 +1,5 @@
 use Rattle.std.proofs.Common.{◌≡◌, ◌∙◌, true, sym, subst}
-use Rattle.ceal_engine.proofs.Keeping.{on-err, sound-edited, sound-left, state-left}
+use Rattle.ceal_engine.proofs.Keeping.{run-kept, on-err, sound-edited, sound-left, state-left}
 use Rattle.ceal_engine.specs.Engine.{takes}
 use Rattle.ceal_engine.proofs.engine.Engine.edit.Goals as goal
 
@@ -17,3 +17,6 @@ pub returns-in_err-edit-clause-err : goal.returns-in_err-edit-clause-err
 returns-in_err-edit-clause-err c =
     on-err c.from_residual.result _
     (state-left c.self.inside.code c.self.inside.fuel c.self.inside.inputs c.self.inside.call.call c.self.inside.phase c.self.inside.running c.edit.new.run c.in_err-edit.ensures.err ∙ c.self.view_is)
+
+pub edit-requires : goal.edit-requires
+edit-requires c = record { kept = run-kept c.self.inside.code c.self.inside.fuel c.self.inside.inputs c.self.inside.phase c.self.inside.call.call c.self.inside.running c.self.invariant.keeps }

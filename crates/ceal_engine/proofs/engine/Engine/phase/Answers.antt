@@ -1,8 +1,16 @@
-use Rattle.std.proofs.Common.{subst}
+use Rattle.std.proofs.Common.{◌≡◌, subst, sym}
 use Rattle.ceal_engine.proofs.Present.{sound-engine}
+use Rattle.ceal_engine.proofs.Carrying.{is-under-way}
 use Rattle.ceal_engine.specs.Engine.{IsEngine}
+use Rattle.ceal_engine.specs.Partial.{IsUnderWay}
+use Rattle.ceal_engine.specs.declared.phase.Phase.TheVariants.{Partial}
 use Rattle.ceal_engine.proofs.engine.Engine.phase.Goals as goal
 
 pub returns-clause-whole : goal.returns-clause-whole
 returns-clause-whole c =
     subst IsEngine c.self.view_is (sound-engine c.self.inside.code c.self.inside.fuel c.self.inside.inputs c.self.inside.call c.self.inside.phase c.self.inside.running c.self.invariant)
+
+pub returns-clause-partial : goal.returns-clause-partial
+returns-clause-partial c = λ e.
+    subst IsUnderWay c.self.view_is
+    (is-under-way c.self.inside.code c.self.inside.fuel c.self.inside.inputs c.self.inside.phase c.self.inside.call.call c.self.inside.running c.self.invariant.keeps (subst (λ s. s.phase ≡ Partial) (sym c.self.view_is) e))

@@ -1,8 +1,7 @@
-use Rattle.std.proofs.Common.{◌≡◌, None, ◌∙◌, sym, ap, subst}
-use Rattle.ceal_engine.proofs.Keeping.{old-kept, repaired-out, repaired-done, honest-in, honest-idle, still-honest}
+use Rattle.std.proofs.Common.{◌≡◌, None, sym, subst}
+use Rattle.ceal_engine.proofs.Keeping.{old-kept, repaired-out, repaired-done, honest-in, still-honest}
 use Rattle.ceal_engine.specs.Completed.{IsOldRun, IsRepairOf, IsStillHonest}
 use Rattle.ceal_engine.specs.Engine.{fresh_of}
-use Rattle.ceal_repair.specs.declared.running.Outcome.TheVariants.{Done}
 use Rattle.ceal_engine.proofs.engine.Engine.repaired.Goals as goal
 
 pub propagate-requires-clause-kept : goal.propagate-requires-clause-kept
@@ -21,20 +20,11 @@ returns-in-OutOfFuel-clause-sure c = λ h.
     (honest-in c.self.inside.code c.self.inside.fuel c.self.inside.inputs c.self.inside.call.call c.args.old (subst (λ e. IsStillHonest e.code e.fuel e.inputs e.call c.args.old) (sym c.self.view_is) h)
     c.in_ok-outcome.outcome c.in_ok-outcome.ensures.repaired c.in-OutOfFuel.is)
 
-pub returns-in_ok-run-in-Done-clause-ok : goal.returns-in_ok-run-in-Done-clause-ok
-returns-in_ok-run-in-Done-clause-ok c =
-    subst (λ e. IsRepairOf e.code e.fuel e.inputs e.call c.args.old c.in_ok-run-in-Done.run') c.self.view_is
+pub returns-in-Done-clause-ok : goal.returns-in-Done-clause-ok
+returns-in-Done-clause-ok c =
+    subst (λ e. IsRepairOf e.code e.fuel e.inputs e.call c.args.old c.in-Done.run') c.self.view_is
     (repaired-done c.self.inside.code c.self.inside.fuel c.self.inside.inputs c.self.inside.call.call c.args.old
-    (subst (λ e. IsOldRun e.code e.fuel e.inputs e.call c.args.old) (sym c.self.view_is) c.requires.old) c.in_ok-outcome.outcome c.in_ok-outcome.ensures.repaired c.in_ok-run-in-Done.run'
-    (c.in-Done.is ∙ ap Done (sym c.in_ok-run-in-Done.ensures.same)) c.in_ok-run-in-Done.ensures.low)
-
-pub returns-in_err-run-in-Done-clause-sure : goal.returns-in_err-run-in-Done-clause-sure
-returns-in_err-run-in-Done-clause-sure c = λ h.
-    let no =
-    c.in_err-run-in-Done.ensures.sure
-    (honest-idle c.self.inside.code c.self.inside.fuel c.self.inside.inputs c.self.inside.call.call c.args.old (subst (λ e. IsStillHonest e.code e.fuel e.inputs e.call c.args.old) (sym c.self.view_is) h)
-    c.in_ok-outcome.outcome c.in_ok-outcome.ensures.repaired c.in-Done.run' c.in-Done.is) in
-    absurd (cc)
+    (subst (λ e. IsOldRun e.code e.fuel e.inputs e.call c.args.old) (sym c.self.view_is) c.requires.old) c.in_ok-outcome.outcome c.in_ok-outcome.ensures.repaired c.in-Done.run' c.in-Done.is)
 
 pub returns-in_err-outcome-clause-sure : goal.returns-in_err-outcome-clause-sure
 returns-in_err-outcome-clause-sure c = λ h.

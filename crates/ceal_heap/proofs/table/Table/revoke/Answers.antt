@@ -12,7 +12,7 @@ push-requires c =
     let t : Ledger = record { numbers = v.numbers.items; room = v.numbers.cap; limbo = v.limbo; free = v.free; live = v.live } in
     let live = rw (← c.self.view_is) at c.requires in
     let x : Number = record { shape = live.0; state = Live live.1 } in
-    record { room = room_in_limbo t c.self.invariant c.args.number x x live.2 refl refl }
+    record { room = room_in_limbo t c.self.invariant c.args.number x x live.2 refl }
 
 pub index_mut-requires : goal.index_mut-requires
 index_mut-requires c =
@@ -26,7 +26,7 @@ overflow_sub-self c =
     let t : Ledger = record { numbers = v.numbers.items; room = v.numbers.cap; limbo = v.limbo; free = v.free; live = v.live } in
     let live = rw (← c.self.view_is) at c.requires in
     let x : Number = record { shape = live.0; state = Live live.1 } in
-    let h = some_live t c.self.invariant c.args.number x x live.2 refl refl in omega (arith, h)
+    let h = some_live t c.self.invariant c.args.number x x live.2 refl in omega (arith, h)
 
 pub invariant_of-self : goal.invariant_of-self
 invariant_of-self c =

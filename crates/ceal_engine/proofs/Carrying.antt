@@ -1,0 +1,356 @@
+-- A run with which a repair goes on, and what a slice of it is of the definition's repair.
+use Rattle.std.proofs.Common.{◌≡◌, ◌≢◌, ℕ, ◌+◌, ◌<◌, ◌≤◌, Bool, true, false, Option, Some, None, List, refl, sym, ap, subst, ◌∙◌, inl, inr, ◌⊎◌, arith}
+use Rattle.std.specs.Option.{IsSomeAnd, option_map}
+use Rattle.std.specs.Prelude.{◌↔◌, IsSome}
+use Rattle.ceal_base.proofs.TraceLemmas.{trace-flat}
+use Rattle.ceal_base.specs.Block.{Block}
+use Rattle.ceal_base.specs.Trace.{Trace, flat, trace_of}
+use Rattle.ceal_base.specs.declared.call.Call.{Call}
+use Rattle.ceal_base.specs.declared.word.BlockId.TheVariants.{Core}
+use Rattle.ceal_base.specs.declared.word.Word.{Word}
+use Rattle.ceal_code.proofs.Same.{some-same, none-some}
+use Rattle.ceal_code.specs.Fitting.{Fits}
+use Rattle.ceal_code.specs.Program.{Code}
+use Rattle.ceal_code.specs.Replay.{IsHonest}
+use Rattle.ceal_engine.proofs.Inputs.{extended-refl}
+use Rattle.ceal_engine.proofs.Present.{part-kept, part-trace, whole-kept}
+use Rattle.ceal_engine.proofs.Repairs.{kept-as, trace-is}
+use Rattle.ceal_engine.proofs.RunMemory.{low-numbers}
+use Rattle.ceal_engine.specs.Completed.{finished, under_way, idle, opened, trace_in, IsOpenRun, IsSliceOf as IsSliceFor}
+use Rattle.ceal_engine.specs.Engine.{EngineState, IsWhole, has_run}
+use Rattle.ceal_engine.specs.Keeping.{IsPartKept, KeepsRun, Keeps, heap_in, state_of}
+use Rattle.ceal_engine.specs.Partial.{spent_in, words_in, carried_by, CarriesFrom, IsUnderWay, RenamedFrom, GoesOn, Ends, IsAnew, IsOut, Comes, KeepsWords}
+use Rattle.ceal_engine.specs.Repaired.{IsFirst}
+use Rattle.ceal_engine.specs.declared.phase.Phase.{Phase}
+use Rattle.ceal_engine.specs.declared.phase.Phase.TheVariants.{New, Finished as IsFinished, Pending, Partial, Dropped}
+use Rattle.ceal_engine.specs.declared.run_error.RunError.{RunError}
+use Rattle.ceal_engine.specs.declared.run_error.RunError.TheVariants.{Memory, OutOfFuel as RanOut}
+use Rattle.ceal_heap.specs.Heap.{next, plain_of}
+use Rattle.ceal_repair.specs.Answers.{IsKeptRun}
+use Rattle.ceal_repair.specs.Slicing.{IsPartRun, IsSliceOf, IsSliced}
+use Rattle.ceal_repair.specs.declared.running.Running.{Running}
+use Rattle.ceal_repair.specs.declared.slice.Sliced.{Sliced}
+use Rattle.ceal_repair.specs.declared.slice.Sliced.TheVariants.{More, Done, Spent, OutOfFuel}
+use Rattle.ceal_theory.proofs.CarriedLaws.{carried-begin-law, carried-same-law, carried-on-law}
+use Rattle.ceal_theory.proofs.SliceLaws.{begin-law, other-names-law, slice-law, slices-law, whole-law, is-done-law}
+use Rattle.ceal_theory.specs.Adjust.{Above}
+use Rattle.ceal_theory.specs.Carried.{Carried, CarriedSlices, counted_anew}
+use Rattle.ceal_theory.specs.Laws.{Edited}
+use Rattle.ceal_theory.specs.Repair.{own}
+use Rattle.ceal_theory.specs.SliceLaws.{Sliced as SlicedLaw}
+use Rattle.ceal_theory.specs.Slices.{Repair, beginning, sliced, is_done, Sound, Slices}
+
+-- ---- a new repair begins
+
+module _ (code : Code) (fuel : ℕ) (inputs : List Block) (call : Call) (l : Trace) (run : Running) (kept : IsKeptRun code inputs call.function call.args fuel l run) where
+  low : Above (next run.heap) l
+  low = low-numbers code inputs l run kept.stands
+
+  edited : Edited code inputs inputs call.function call.args l (next run.heap)
+  edited = record { call = kept.fits; fit = kept.fits.blocks; extended = extended-refl code inputs; trace = kept.replays; above = low }
+
+  begun : IsPartRun code inputs call.function call.args fuel (beginning code inputs l 0) (idle run)
+  begun = record {
+    fits = kept.fits;
+    stands = record {
+      kept = kept.stands.kept;
+      nests = kept.stands.nests;
+      items = kept.stands.items;
+      known = λ b. sym (kept.stands.words b);
+      blocks = kept.stands.blocks;
+      spent = refl;
+      names = λ k. next run.heap + k;
+      sound = begin-law code (λ k. next run.heap + k) inputs inputs call.function call.args l (next run.heap) 0 edited (λ j k e. omega (arith, e)) (λ k h. low (next run.heap + k) (omega arith));
+    };
+    few = omega arith;
+  }
+
+  pub begun-kept : IsPartKept code fuel inputs call (idle run)
+  begun-kept = record {
+    repair = beginning code inputs l 0;
+    of = begun;
+    next = next run.heap;
+    ordered = beginning code inputs l (next run.heap);
+    sound = begin-law code own inputs inputs call.function call.args l (next run.heap) (next run.heap) edited (λ j k e. e) (λ k h. low k h);
+    carried = carried-begin-law code inputs inputs call.function call.args l (next run.heap) 0 edited;
+  }
+
+-- ---- the run with which a repair goes on
+
+opened-whole : (phase : Phase) (run : Running) → IsWhole phase → opened phase (Some run) ≡ Some (idle run)
+opened-whole New run h = absurd (grind (arith, h))
+opened-whole IsFinished run h = refl
+opened-whole Pending run h = refl
+opened-whole Partial run h = absurd (grind (arith, h))
+opened-whole Dropped run h = absurd (grind (arith, h))
+
+opened-part : (phase : Phase) (run : Option Running) → phase ≡ Partial → opened phase run ≡ run
+opened-part phase run e = rw e refl
+
+opened-none : (phase : Phase) → opened phase None ≡ None
+opened-none New = refl
+opened-none IsFinished = refl
+opened-none Pending = refl
+opened-none Partial = refl
+opened-none Dropped = refl
+
+module _ (code : Code) (fuel : ℕ) (inputs : List Block) (phase : Phase) where
+  pub open-run : (call : Option Call) (run : Option Running) → Keeps code fuel inputs phase call run → (old : Running) → opened phase run ≡ Some old → IsOpenRun code fuel inputs call old
+  open-run call None h old e = none-some old (sym (opened-none phase) ∙ e)
+  open-run None (Some run) h old e = elim h [ ]
+  open-run (Some call) (Some run) (KeepsRun.whole k) old e =
+      subst (IsPartKept code fuel inputs call) (some-same (idle run) old (sym (opened-whole phase run k.whole) ∙ e)) (begun-kept code fuel inputs call k.trace run k.of)
+  open-run (Some call) (Some run) (KeepsRun.part p k) old e =
+      subst (IsPartKept code fuel inputs call) (some-same run old (sym (opened-part phase (Some run) p) ∙ e)) k
+
+  -- where there is a run, one is there to go on with
+  pub some-open : (call : Option Call) (run : Option Running) → Keeps code fuel inputs phase call run → has_run phase ≡ true → opened phase run ≡ None → ⊥
+  some-open call None h there e = absurd (grind (arith, h, there))
+  some-open None (Some run) h there e = elim h [ ]
+  some-open (Some call) (Some run) (KeepsRun.whole k) there e = none-some (idle run) (sym e ∙ opened-whole phase run k.whole)
+  some-open (Some call) (Some run) (KeepsRun.part p k) there e = none-some run (sym e ∙ opened-part phase (Some run) p)
+
+-- what of it is that of the run before
+record SameAs (phase : Phase) (before run : Running) : Type 0 where
+  pub trace : run.tables.trace ≡ before.tables.trace
+  pub heap : run.heap ≡ before.heap
+  pub spent : run.spent ≡ spent_in phase before.spent
+
+same-as : (phase : Phase) (before run : Running) → opened phase (Some before) ≡ Some run → SameAs phase before run
+same-as New before run e = subst (SameAs New before) (some-same (idle before) run e) (record { trace = refl; heap = refl; spent = refl })
+same-as IsFinished before run e = subst (SameAs IsFinished before) (some-same (idle before) run e) (record { trace = refl; heap = refl; spent = refl })
+same-as Pending before run e = subst (SameAs Pending before) (some-same (idle before) run e) (record { trace = refl; heap = refl; spent = refl })
+same-as Partial before run e = subst (SameAs Partial before) (some-same before run e) (record { trace = refl; heap = refl; spent = refl })
+same-as Dropped before run e = subst (SameAs Dropped before) (some-same (idle before) run e) (record { trace = refl; heap = refl; spent = refl })
+
+-- ---- the definition's repair
+
+-- a slice of the repair is there, and is carried to this one
+pub record Carries (code : Code) (inputs : List Block) (f : ℕ) (args : List Word) (fuel next' : ℕ) (r : Repair) (k : Option ℕ) (z : Repair) : Type 0 where
+  pub repair : Repair
+  pub is : sliced code own inputs k fuel r ≡ Some repair
+  pub carried : Carried code inputs next' repair z
+  pub honest : IsHonest code inputs repair.items ↔ IsHonest code inputs z.items
+  pub sound : Sound code own inputs f args repair
+
+module _ (code : Code) (inputs : List Block) (f : ℕ) (args : List Word) (fuel : ℕ) (q : Repair) (run : Running) (part : IsPartRun code inputs f args fuel q run) (k : Option ℕ) where
+  module _ (next' : ℕ) (r : Repair) (sound : Sound code own inputs f args r) (carried : Carried code inputs next' r q) where
+    by-names : (o : Option Repair) → IsSliceOf code inputs k fuel q o → CarriedSlices code inputs next' (sliced code own inputs k fuel r) o
+    by-names o s = subst (λ z. CarriedSlices code inputs next' (sliced code own inputs k fuel r) z) s.is
+        (carried-on-law code part.stands.names s.names inputs f args part.fits r q sound part.stands.sound s.single s.off next' carried k fuel)
+
+    pub there : (z : Repair) → IsSliceOf code inputs k fuel q (Some z) → Carries code inputs f args fuel next' r k z
+    there z s = at (sliced code own inputs k fuel r) refl (by-names (Some z) s)
+      where
+        at : (o : Option Repair) → sliced code own inputs k fuel r ≡ o → CarriedSlices code inputs next' o (Some z) → Carries code inputs f args fuel next' r k z
+        at None e x = elim x [ ]
+        at (Some z') e (CarriedSlices.some c done) = record {
+          repair = z';
+          is = e;
+          carried = c;
+          honest = done;
+          sound = (slice-law code own inputs f args part.fits r sound k z' ((slices-law code own inputs k fuel r z').0 e).0).sound;
+        }
+
+    pub none-there : IsSliceOf code inputs k fuel q None → sliced code own inputs k fuel r ≡ None
+    none-there s = at (sliced code own inputs k fuel r) refl (by-names None s)
+      where
+        at : (o : Option Repair) → sliced code own inputs k fuel r ≡ o → CarriedSlices code inputs next' o None → sliced code own inputs k fuel r ≡ None
+        at None e x = e
+        at (Some z') e x = elim x [ ]
+
+  -- the slice with the heap's numbers
+  module _ (z : Repair) (s : IsSliceOf code inputs k fuel q (Some z)) where
+    anew-sound : Sound code s.names inputs f args (counted_anew q)
+    anew-sound = other-names-law code part.stands.names s.names inputs f args q part.stands.sound s.single 0 (λ j h. s.off j)
+
+    by-rules : Slices code s.names inputs k (counted_anew q) z
+    by-rules = ((slices-law code s.names inputs k fuel (counted_anew q) z).0 s.is).0
+
+    -- what was known is known still
+    pub still-known : (b : ℕ) (block : Block) → q.known (Core b) ≡ Some block → z.known (Core b) ≡ Some block
+    still-known = (slice-law code s.names inputs f args part.fits (counted_anew q) anew-sound k z by-rules).kept
+
+    -- without a number of reads it is done
+    pub whole-done : k ≡ None → IsHonest code inputs z.items
+    whole-done e = whole-law code s.names inputs f args part.fits (counted_anew q) anew-sound z (subst (λ o. Slices code s.names inputs o (counted_anew q) z) e by-rules)
+
+done-of : (code : Code) (inputs : List Block) (r : Repair) → IsHonest code inputs r.items → is_done code inputs r ≡ true
+done-of code inputs r = (is-done-law code inputs r).1
+
+not-done-of : (code : Code) (inputs : List Block) (r : Repair) → ¬ IsHonest code inputs r.items → is_done code inputs r ≡ false
+not-done-of code inputs r no = go (is_done code inputs r) refl
+  where
+    go : (t : Bool) → is_done code inputs r ≡ t → is_done code inputs r ≡ false
+    go true e = absurd (no ((is-done-law code inputs r).0 e))
+    go false e = e
+
+one-trace : (l m : Trace) → flat l ≡ flat m → l ≡ m
+one-trace l m e = some-same l m (sym (trace-flat l) ∙ (ap trace_of e ∙ trace-flat m))
+
+-- ---- an engine that goes on
+
+module _ (code : Code) (fuel : ℕ) (inputs : List Block) (phase : Phase) (call : Call) (before run : Running) (is : opened phase (Some before) ≡ Some run) (k : IsPartKept code fuel inputs call run) where
+  abbrev e : EngineState
+  e = state_of code fuel inputs (Some call) phase (Some before)
+
+  same : SameAs phase before run
+  same = same-as phase before run is
+
+  -- the engine's repair is carried to that of the run
+  pub here : (next' : ℕ) (r : Repair) → (c : CarriesFrom e next' r) → Sound code own inputs call.function call.args r × Carried code inputs next' r k.repair
+  here next' r c = (subst (λ (d : Call). Sound code own inputs d.function d.args r) (some-same c.call call (sym c.called)) c.sound,
+      carried-same-law code inputs next' r (carried_by e c.items) k.repair c.carried items
+      (λ b. k.of.stands.known b ∙ ap (λ h. plain_of h (Core b)) same.heap)
+      (k.of.stands.spent ∙ same.spent))
+    where
+      items : k.repair.items ≡ c.items
+      items = some-same k.repair.items c.items (sym (part-trace code fuel inputs call run k) ∙ (ap (λ t. trace_of (Rattle.ceal_trace.specs.Items.forest_of t.nodes)) same.trace ∙ c.is))
+
+  module _ (reads : Option ℕ) (next' : ℕ) (r : Repair) (c : CarriesFrom e next' r) where
+    abbrev h : Sound code own inputs call.function call.args r × Carried code inputs next' r k.repair
+    h = here next' r c
+
+    abbrev found : (z : Repair) → IsSliceOf code inputs reads fuel k.repair (Some z) → Carries code inputs call.function call.args fuel next' r reads z
+    found = there code inputs call.function call.args fuel k.repair run k.of reads next' r h.0 h.1
+
+    pub comes-more : (run' : Running) → IsSliced code inputs call.function call.args reads fuel k.repair (More run') → GoesOn e (under_way code fuel inputs (Some call) run') reads next' r
+    comes-more run' s = let z = found s.0 s.1 in record {
+      repair = z.repair;
+      is = z.is;
+      more = not-done-of code inputs z.repair (λ d. s.2 (z.honest.0 d));
+      carries = record {
+        call = call;
+        called = refl;
+        items = s.0.items;
+        is = ap trace_of s.3.stands.items ∙ trace-flat s.0.items;
+        sound = z.sound;
+        carried = carried-same-law code inputs next' z.repair s.0 (carried_by (under_way code fuel inputs (Some call) run') s.0.items) z.carried refl (λ b. sym (s.3.stands.known b)) (sym s.3.stands.spent);
+      };
+    }
+
+    pub comes-done : (run' : Running) → IsSliced code inputs call.function call.args reads fuel k.repair (Done run') → Ends e (finished code fuel inputs (Some call) run') reads next' r
+    comes-done run' s = let z = found s.0 s.1 in record {
+      repair = z.repair;
+      is = z.is;
+      done = done-of code inputs z.repair (z.honest.1 s.2.honest);
+      items = subst (λ o. IsSomeAnd o (RenamedFrom next' z.repair.items)) (sym (trace-is code fuel inputs call k.of.fits s.0.items run' s.2))
+          (record { pairs = z.carried.pairs; one = z.carried.one; alike = z.carried.items; kept = z.carried.kept });
+      work = s.3 ∙ sym z.carried.spent;
+    }
+
+    pub comes-none : IsSliced code inputs call.function call.args reads fuel k.repair Spent → sliced code own inputs reads fuel r ≡ None
+    comes-none s = none-there code inputs call.function call.args fuel k.repair run k.of reads next' r h.0 h.1 s
+
+    pub comes-out : IsSliced code inputs call.function call.args reads fuel k.repair OutOfFuel → IsOut e reads r
+    comes-out s = let z = found s.0 s.1 in inr (z.repair, z.is, done-of code inputs z.repair (z.honest.1 s.2))
+
+  -- a part of it can be kept
+  pub more-kept : (reads : Option ℕ) (run' : Running) → IsSliced code inputs call.function call.args reads fuel k.repair (More run') → IsPartKept code fuel inputs call run'
+  more-kept reads run' s =
+      let z = there code inputs call.function call.args fuel k.repair run k.of reads k.next k.ordered k.sound k.carried s.0 s.1 in
+      record { repair = s.0; of = s.3; next = k.next; ordered = z.repair; sound = z.sound; carried = z.carried }
+
+  -- it is a part of a repair only where a number of reads was given
+  pub more-some : (reads : Option ℕ) (run' : Running) → IsSliced code inputs call.function call.args reads fuel k.repair (More run') → IsSome reads
+  more-some None run' s = absurd (s.2 (whole-done code inputs call.function call.args fuel k.repair run k.of None s.0 s.1 refl))
+  more-some (Some n) run' s = refl
+
+  -- and blocks can still be read
+  pub words-stay : (reads : Option ℕ) (run' : Running) → IsSliced code inputs call.function call.args reads fuel k.repair (More run') → KeepsWords (Some before.heap) (Some run'.heap)
+  words-stay reads run' s b block w =
+      sym (s.3.stands.known b)
+      ∙ still-known code inputs call.function call.args fuel k.repair run k.of reads s.0 s.1 b block (k.of.stands.known b ∙ (ap (λ h. plain_of h (Core b)) same.heap ∙ w))
+
+-- where all was run anew there was no slice
+pub anew-comes : (e n : EngineState) (k : Option ℕ) (next' : ℕ) (r : Repair) → sliced e.code own e.inputs k e.fuel r ≡ None → (error : RunError) → Comes e n k next' r (Rattle.std.specs.Prelude.Err error)
+anew-comes e n k next' r none Memory = tt
+anew-comes e n k next' r none RanOut = inl none
+
+-- ---- in the words of the engine's functions
+
+module _ (code : Code) (fuel : ℕ) (inputs : List Block) (phase : Phase) (call : Option Call) (before : Option Running) (keeps : Keeps code fuel inputs phase call before) (run : Running) (is : opened phase before ≡ Some run)
+    (reads : Option ℕ) (s : Sliced) (slice : IsSliceFor code fuel inputs call reads run s) where
+  -- what is true of a call that is there, of the run before it, and of what the slice comes to
+  by-parts : (P : Option Call → Option Running → Type 0)
+      → ((c : Call) (b : Running) → call ≡ Some c → before ≡ Some b → opened phase (Some b) ≡ Some run → (k : IsPartKept code fuel inputs c run) → IsSliced code inputs c.function c.args reads fuel k.repair s → P (Some c) (Some b)) → P call before
+  by-parts P f = go call before refl refl (open-run code fuel inputs phase call before keeps run is) slice
+    where
+      go : (c : Option Call) (b : Option Running) → call ≡ c → before ≡ b → IsOpenRun code fuel inputs c run → IsSliceFor code fuel inputs c reads run s → P c b
+      go None b i j k s = elim k [ ]
+      go (Some c) None i j k s = none-some run (sym (opened-none phase) ∙ (ap (opened phase) (sym j) ∙ is))
+      go (Some c) (Some b) i j k s = f c b i j (ap (opened phase) (sym j) ∙ is) k (s k.repair k.of)
+
+  abbrev old : Option Call → Option Running → EngineState
+  old c b = state_of code fuel inputs c phase b
+
+  module _ (run' : Running) where
+    pub keeps-more : s ≡ More run' → Keeps code fuel inputs Partial call (Some run')
+    keeps-more h = by-parts (λ c b. Keeps code fuel inputs Partial c (Some run'))
+        (λ c b i j o k t. KeepsRun.part refl (more-kept code fuel inputs phase c b run o k reads run' (subst (IsSliced code inputs c.function c.args reads fuel k.repair) h t)))
+
+    pub keeps-done : s ≡ Done run' → Keeps code fuel inputs IsFinished call (Some run')
+    keeps-done h = by-parts (λ c b. Keeps code fuel inputs IsFinished c (Some run'))
+        (λ c b i j o k t. let d = subst (IsSliced code inputs c.function c.args reads fuel k.repair) h t in KeepsRun.whole (kept-as code fuel inputs c k.of.fits d.0.items run' d.2))
+
+    pub goes-on : s ≡ More run' → (next' : ℕ) (r : Repair) → CarriesFrom (old call before) next' r → GoesOn (old call before) (under_way code fuel inputs call run') reads next' r
+    goes-on h = by-parts (λ c b. (next' : ℕ) (r : Repair) → CarriesFrom (old c b) next' r → GoesOn (old c b) (under_way code fuel inputs c run') reads next' r)
+        (λ c b i j o k t next' r m. comes-more code fuel inputs phase c b run o k reads next' r m run' (subst (IsSliced code inputs c.function c.args reads fuel k.repair) h t))
+
+    pub ends : s ≡ Done run' → (next' : ℕ) (r : Repair) → CarriesFrom (old call before) next' r → Ends (old call before) (finished code fuel inputs call run') reads next' r
+    ends h = by-parts (λ c b. (next' : ℕ) (r : Repair) → CarriesFrom (old c b) next' r → Ends (old c b) (finished code fuel inputs c run') reads next' r)
+        (λ c b i j o k t next' r m. comes-done code fuel inputs phase c b run o k reads next' r m run' (subst (IsSliced code inputs c.function c.args reads fuel k.repair) h t))
+
+    pub some-reads : s ≡ More run' → IsSome reads
+    some-reads h = by-parts (λ c b. IsSome reads)
+        (λ c b i j o k t. more-some code fuel inputs phase c b run o k reads run' (subst (IsSliced code inputs c.function c.args reads fuel k.repair) h t))
+
+    pub keeps-words : s ≡ More run' → KeepsWords (heap_in before) (Some run'.heap)
+    keeps-words h = by-parts (λ c b. KeepsWords (heap_in b) (Some run'.heap))
+        (λ c b i j o k t. words-stay code fuel inputs phase c b run o k reads run' (subst (IsSliced code inputs c.function c.args reads fuel k.repair) h t))
+
+  pub no-slice : s ≡ Spent → (next' : ℕ) (r : Repair) → CarriesFrom (old call before) next' r → sliced code own inputs reads fuel r ≡ None
+  no-slice h = by-parts (λ c b. (next' : ℕ) (r : Repair) → CarriesFrom (old c b) next' r → sliced code own inputs reads fuel r ≡ None)
+      (λ c b i j o k t next' r m. comes-none code fuel inputs phase c b run o k reads next' r m (subst (IsSliced code inputs c.function c.args reads fuel k.repair) h t))
+
+  pub is-out : s ≡ OutOfFuel → (next' : ℕ) (r : Repair) → CarriesFrom (old call before) next' r → IsOut (old call before) reads r
+  is-out h = by-parts (λ c b. (next' : ℕ) (r : Repair) → CarriesFrom (old c b) next' r → IsOut (old c b) reads r)
+      (λ c b i j o k t next' r m. comes-out code fuel inputs phase c b run o k reads next' r m (subst (IsSliced code inputs c.function c.args reads fuel k.repair) h t))
+
+  -- then the run from scratch is out of fuel, too
+  pub fresh-out : s ≡ OutOfFuel → Rattle.ceal_engine.specs.Engine.fresh_call code inputs fuel call ≡ None
+  fresh-out h = by-parts (λ c b. Rattle.ceal_engine.specs.Engine.fresh_call code inputs fuel c ≡ None)
+      (λ c b i j o k t. (subst (IsSliced code inputs c.function c.args reads fuel k.repair) h t).3)
+
+-- an open run is a part run
+pub open-part : (code : Code) (fuel : ℕ) (inputs : List Block) (call : Option Call) (run : Running) → IsOpenRun code fuel inputs call run → (f : ℕ) × (args : List Word) × (r : Repair) × IsPartRun code inputs f args fuel r run
+open-part code fuel inputs None run k = elim k [ ]
+open-part code fuel inputs (Some call) run k = (call.function, call.args, k.repair, k.of)
+
+-- what the slice promises of each call is so of this one
+pub slice-for : (code : Code) (fuel : ℕ) (inputs : List Block) (call : Option Call) (reads : Option ℕ) (run : Running) (s : Sliced)
+    → ((f : ℕ) (args : List Word) (r : Repair) → IsPartRun code inputs f args fuel r run → IsSliced code inputs f args reads fuel r s) → IsSliceFor code fuel inputs call reads run s
+slice-for code fuel inputs None reads run s h = tt
+slice-for code fuel inputs (Some call) reads run s h = h call.function call.args
+
+-- ---- a repair of the call goes on
+
+pub is-under-way : (code : Code) (fuel : ℕ) (inputs : List Block) (phase : Phase) (call : Option Call) (run : Option Running) → Keeps code fuel inputs phase call run → phase ≡ Partial → IsUnderWay (state_of code fuel inputs call phase run)
+is-under-way code fuel inputs phase call None h e = absurd (grind (arith, rw e at h))
+is-under-way code fuel inputs phase None (Some run) h e = elim h [ ]
+is-under-way code fuel inputs phase (Some call) (Some run) h e =
+    let k = part-kept code fuel inputs phase call run h e in
+    record {
+      next = k.next;
+      repair = k.ordered;
+      carries = record {
+        call = call;
+        called = refl;
+        items = k.repair.items;
+        is = part-trace code fuel inputs call run k;
+        sound = k.sound;
+        carried = carried-same-law code inputs k.next k.ordered k.repair (carried_by (state_of code fuel inputs (Some call) phase (Some run)) k.repair.items) k.carried refl (λ b. sym (k.of.stands.known b))
+            (ap (λ p. spent_in p run.spent) e ∙ sym k.of.stands.spent);
+      };
+      few = k.of.few;
+    }
