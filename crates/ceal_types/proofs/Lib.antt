@@ -17,7 +17,5 @@ pub mod NameLemmas
 pub mod Samples
 pub mod RowLemmas
 pub mod ElementLemmas
-pub mod PlacesLemmas
-pub mod SlotsLemmas
 pub mod NumberLemmas
 pub mod FirstLemmas

@@ -9,7 +9,5 @@ pub mod Checked
 pub mod Limits
 pub mod Laws
 pub mod Numbers
-pub mod Places
-pub mod Slots
 -- what its own functions say of each other
 pub mod States

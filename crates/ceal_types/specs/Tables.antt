@@ -1,5 +1,5 @@
 -- Names, and what stands under a name.
-use Rattle.std.specs.Prelude.{◌≡◌, ℕ, Bool, false, Option, Some, None, List, ◌∷◌, [], ◌++◌, is_some, position, slice_get, codes, if◌then◌else◌}
+use Rattle.std.specs.Prelude.{ℕ, Bool, Option, Some, None, List, ◌∷◌, [], ◌++◌, is_some, position, slice_get, codes, if◌then◌else◌}
 use Rattle.std.specs.Fmt.{decimal}
 use Rattle.std.specs.List.{list_any}
 use Rattle.std.specs.Map.{keys_of, lookup}
@@ -31,22 +31,9 @@ second e = e.1
 abbrev pub value_at : {A : Type 0} → List (Name × A) → ℕ → Option A
 value_at table n = option_map second (slice_get table n)
 
--- whether this is an entry under the name
-abbrev pub is_named : {A : Type 0} → Name → Option (Name × A) → Bool
-is_named name None = false
-is_named name (Some e) = bytes_eq e.0 name
-
--- whether the name stands at this number
-abbrev pub stands_at : {A : Type 0} → List (Name × A) → Name → ℕ → Bool
-stands_at table name n = is_named name (slice_get table n)
-
 -- the names with this one, each of them once
 abbrev pub with_name : List Name → Name → List Name
 with_name names name = if list_any (bytes_eq name) names then names else names ++ name ∷ []
-
--- no name stands at two numbers
-abbrev pub AreDistinct : List Name → Type 0
-AreDistinct names = (i j : ℕ) (name : Name) → slice_get names i ≡ Some name → slice_get names j ≡ Some name → i ≡ j
 
 -- the name of an element of a row
 abbrev pub element_name : Name → ℕ → Name

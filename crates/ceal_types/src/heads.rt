@@ -10,6 +10,7 @@ ghost use Rattle.ceal_types.specs.Heads as spec;
 use crate::members::{element_name, fault};
 use crate::names::Names;
 use crate::program::{Field, Head, Program, Variable, Variables};
+use crate::seed::Seed;
 use crate::table::Table;
 use ceal_base::fault::{FaultCode, FrontError};
 use ceal_base::kind::{FieldKind, Kind, Kinds};
@@ -156,7 +157,7 @@ fn add_field(names: &Names, fields: &mut Table<Field>, field: &FieldDecl) -> Res
 fn fields_of(alloc: Global, names: &Names, fields: &[FieldDecl]) -> Result<Table<Field>, FrontError>
     ensures { Gives result (in_turn (spec.with_field names.now) fields.now []) }
 {
-    let mut table = Table::new(alloc);
+    let mut table = Table::new(alloc, Seed::of_fields(fields));
     for field in fields {
         add_field(names, &mut table, field)?;
     }
@@ -204,6 +205,7 @@ fn add_parameter(
 
 fn parameters_of(
     alloc: Global,
+    seed: Seed,
     names: &Names,
     parameters: &[FieldDecl],
 ) -> Result<Variables, FrontError>
@@ -211,7 +213,7 @@ fn parameters_of(
         (in_turn (spec.with_parameter names.now) parameters.now spec.no_variables) }
 {
     let mut variables = Variables {
-        scope: Table::new(alloc),
+        scope: Table::new(alloc, seed),
         kinds: Kinds::new(Vec::new(alloc)),
     };
     for parameter in parameters {
@@ -235,7 +237,8 @@ pub fn head_of(alloc: Global, names: &Names, function: &FunctionDecl) -> Result<
     ensures value { Gives result (spec.head_of names.now function.now) }
 {
     let own = own_of(names, &function.initialiser)?;
-    let parameters = parameters_of(alloc, names, function.params.items())?;
+    let seed = Seed::of_function(function);
+    let parameters = parameters_of(alloc, seed, names, function.params.items())?;
     Ok(Head { own, parameters })
 }
 
@@ -291,10 +294,10 @@ fn add_name(names: &mut Names, entry: &Entry) -> Result<(), NoMemory>
     }
 }
 
-fn struct_names(alloc: Global, entries: &[Entry]) -> Result<Names, NoMemory>
+fn struct_names(alloc: Global, seed: Seed, entries: &[Entry]) -> Result<Names, NoMemory>
     ensures { IfOk result (λ names. names ≡ spec.struct_names entries.now []) }
 {
-    let mut names = Names::new(alloc);
+    let mut names = Names::seeded(alloc, seed);
     for entry in entries {
         add_name(&mut names, entry)?;
     }
@@ -306,10 +309,11 @@ fn struct_names(alloc: Global, entries: &[Entry]) -> Result<Names, NoMemory>
 pub fn heads(alloc: Global, entries: &[Entry]) -> Result<Program, FrontError>
     ensures value { Gives result (spec.heads entries.now) }
 {
+    let seed = Seed::of_entries(entries);
     let mut program = Program {
-        names: struct_names(alloc, entries)?,
-        structs: Table::new(alloc),
-        functions: Table::new(alloc),
+        names: struct_names(alloc, seed, entries)?,
+        structs: Table::new(alloc, seed),
+        functions: Table::new(alloc, seed),
     };
     for entry in entries {
         add_entry(alloc, &mut program, entry)?;

@@ -5,7 +5,8 @@
 //! language: twice through the entries, heads and then bodies, and in text order within them. `check` answers what
 //! `checked` says, and a program that it answers is well typed (`WellTyped` in ceal_base).
 //!
-//! Names are looked up in tables (`table`), so that a program of many thousand names takes about linear time. Functions
+//! Names are looked up in maps in the order in which they came (`table`), whose hashes begin with a seed made of those
+//! names (`seed`), so that a program of many thousand names, whatever they are, takes about linear time. Functions
 //! recurse as deep as expressions and blocks are nested, and not along statements or entries.
 #![tactic(auto)]
 
@@ -17,9 +18,8 @@ pub mod laws;
 mod members;
 pub mod names;
 pub mod numbers;
-mod places;
 mod program;
-mod slots;
+pub mod seed;
 mod statements;
 mod table;
 mod values;

@@ -6,6 +6,7 @@ ghost use Rattle.std.specs.Option.{option_map};
 ghost use Rattle.std.specs.Str.{bytes_eq};
 ghost use Rattle.ceal_types.specs.Tables.{with_name};
 
+use crate::seed::{Fed, Seed};
 use crate::table::Table;
 use ceal_base::no_memory::NoMemory;
 use ceal_base::text::Text;
@@ -31,8 +32,15 @@ impl Names {
     pub fn new(alloc: Global) -> Names
         ensures empty { result ≡ [] }
     {
+        Names::seeded(alloc, Fed::new().seed())
+    }
+
+    /// No names, whose hashes will begin with this.
+    pub fn seeded(alloc: Global, seed: Seed) -> Names
+        ensures empty { result ≡ [] }
+    {
         Names {
-            table: Table::new(alloc),
+            table: Table::new(alloc, seed),
         }
     }
 

@@ -1,12 +1,11 @@
 // The numbers of a program's structs and functions by their names.
 
-ghost use Rattle.std.specs.Prelude.{◌≡◌, IfOk, OnOk, bytes_eq, None};
+ghost use Rattle.std.specs.Prelude.{◌≡◌, IfOk, OnOk, bytes_eq};
 ghost use Rattle.std.specs.Map.{lookup};
-ghost use Rattle.ceal_types.specs.Numbers.{struct_numbered, function_numbered, Gives};
-ghost use Rattle.ceal_types.specs.Places.{or_second};
-ghost use Rattle.ceal_types.specs.Slots.{put_at};
+ghost use Rattle.ceal_types.specs.Numbers.{struct_numbered, function_numbered, Gives, or_second, number_if};
 ghost use Rattle.ceal_types.specs.Tables.{Name};
 
+use crate::seed::{Fed, Seed};
 use crate::table::Table;
 use ceal_base::no_memory::NoMemory;
 use ceal_base::text::Text;
@@ -41,7 +40,7 @@ impl Model for Numbered {
 /// Gives the name this number, if it has none.
 fn put_first(table: &mut Table<u32>, name: &Text, number: usize) -> Result<(), NoMemory>
     ensures { OnOk result ((n : Name) → lookup (bytes_eq n) table.new
-        ≡ or_second (lookup (bytes_eq n) table.old) (put_at (bytes_eq name.now n) number None)) }
+        ≡ or_second (lookup (bytes_eq n) table.old) (number_if (bytes_eq name.now n) number)) }
 {
     if table.has(name) {
         return Ok(());
@@ -53,10 +52,26 @@ fn put_first(table: &mut Table<u32>, name: &Text, number: usize) -> Result<(), N
     Ok(())
 }
 
+fn struct_seed(structs: &[StructInfo]) -> Seed {
+    let mut fed = Fed::new();
+    for structure in structs {
+        fed.add(&structure.name);
+    }
+    fed.seed()
+}
+
+fn function_seed(functions: &[TypedFunction]) -> Seed {
+    let mut fed = Fed::new();
+    for function in functions {
+        fed.add(&function.name.text);
+    }
+    fed.seed()
+}
+
 fn struct_numbers(alloc: Global, structs: &[StructInfo]) -> Result<Table<u32>, NoMemory>
     ensures { IfOk result (λ table. Gives table (struct_numbered structs.now)) }
 {
-    let mut table = Table::new(alloc);
+    let mut table = Table::new(alloc, struct_seed(structs));
     for i in 0..structs.len() {
         put_first(&mut table, &structs[i].name, i)?;
     }
@@ -66,7 +81,7 @@ fn struct_numbers(alloc: Global, structs: &[StructInfo]) -> Result<Table<u32>, N
 fn function_numbers(alloc: Global, functions: &[TypedFunction]) -> Result<Table<u32>, NoMemory>
     ensures { IfOk result (λ table. Gives table (function_numbered functions.now)) }
 {
-    let mut table = Table::new(alloc);
+    let mut table = Table::new(alloc, function_seed(functions));
     for i in 0..functions.len() {
         put_first(&mut table, &functions[i].name.text, i)?;
     }

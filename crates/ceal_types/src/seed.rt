@@ -1,0 +1,106 @@
+// How names are hashed.
+
+use ceal_base::syntax::{Entry, FieldDecl, FunctionDecl, Stmt};
+use ceal_base::text::Text;
+use std::hash::{BuildHasher, DefaultHasher, Hasher};
+
+/// What each hash of a table begins with: a number that SipHash makes of all the names that will stand there. So names that
+/// have one hash cannot be prepared: whoever changes one of them changes the hashes of all. No clause depends on it.
+#[derive(Clone, Copy)]
+pub struct Seed {
+    start: DefaultHasher,
+}
+
+impl BuildHasher for Seed {
+    type Hasher = DefaultHasher;
+
+    ghost build_hasher = { λ s. s.start };
+
+    fn build_hasher(&self) -> DefaultHasher {
+        self.start
+    }
+}
+
+/// Names of which a seed is made.
+#[derive(Clone, Copy)]
+pub struct Fed {
+    all: DefaultHasher,
+}
+
+impl Fed {
+    pub fn new() -> Fed {
+        Fed {
+            all: DefaultHasher::new(),
+        }
+    }
+
+    /// One name more. No name has a byte 0.
+    pub fn add(&mut self, name: &Text) {
+        self.all.write(name.items());
+        self.all.write_u8(0);
+    }
+
+    fn add_fields(&mut self, fields: &[FieldDecl]) {
+        for field in fields {
+            self.add(&field.name.text);
+        }
+    }
+
+    // The names that statements declare. It recurses as deep as blocks are nested.
+    fn add_declared(&mut self, stmts: &[Stmt]) {
+        for s in stmts {
+            match s {
+                Stmt::Declare(_, _, name, _) => self.add(&name.text),
+                Stmt::If(_, _, first, second) => {
+                    self.add_declared(first.items());
+                    self.add_declared(second.items());
+                }
+                Stmt::While(_, _, body) => self.add_declared(body.items()),
+                _ => {}
+            }
+        }
+    }
+
+    /// A whole word, so that each hash goes on behind a word.
+    pub fn seed(&self) -> Seed {
+        let mut start = DefaultHasher::new();
+        start.write_u64(self.all.finish());
+        Seed { start }
+    }
+}
+
+impl Seed {
+    /// A whole text, for the names that will be read in it.
+    pub fn of_text(text: &[u8]) -> Seed {
+        let mut fed = Fed::new();
+        fed.all.write(text);
+        fed.seed()
+    }
+
+    /// The names of structs and functions.
+    pub fn of_entries(entries: &[Entry]) -> Seed {
+        let mut fed = Fed::new();
+        for entry in entries {
+            match entry {
+                Entry::Struct(structure) => fed.add(&structure.name.text),
+                Entry::Function(function) => fed.add(&function.name.text),
+            }
+        }
+        fed.seed()
+    }
+
+    /// The names of a struct's fields.
+    pub fn of_fields(fields: &[FieldDecl]) -> Seed {
+        let mut fed = Fed::new();
+        fed.add_fields(fields);
+        fed.seed()
+    }
+
+    /// The names of a function's parameters and variables.
+    pub fn of_function(function: &FunctionDecl) -> Seed {
+        let mut fed = Fed::new();
+        fed.add_fields(function.params.items());
+        fed.add_declared(function.body.items());
+        fed.seed()
+    }
+}
