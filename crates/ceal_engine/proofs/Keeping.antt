@@ -298,25 +298,6 @@ module _ (code : Code) (fuel : ℕ) (inputs : List Block) where
   called None run k e = k
   called (Some call) run k e = none-some call (sym e)
 
-  -- so it is of a part of a repair
-  part-called : (call : Option Call) (run : Running) → Keeps code fuel inputs Partial call (Some run) → call ≡ None → ⊥
-  part-called None run k e = k
-  part-called (Some call) run k e = none-some call (sym e)
-
-  pub sound-part : (kept : Kept) (phase : Phase) (before : Option Running) (run : Running) → Sound code fuel inputs kept phase before → Keeps code fuel inputs Partial kept.call (Some run)
-      → Sound code fuel inputs kept Partial (Some run)
-  sound-part kept phase before run s k = record {
-    is_valid = s.is_valid;
-    limits = s.limits;
-    fit = s.fit;
-    count = s.count;
-    calls = s.calls;
-    uncalled = λ e. absurd (grind (arith, e));
-    new = λ e. absurd (part-called kept.call run k e);
-    room = s.room;
-    keeps = k;
-  }
-
   pub sound-kept : (kept : Kept) (phase : Phase) (before : Option Running) (run : Running) → Sound code fuel inputs kept phase before → Keeps code fuel inputs IsFinished kept.call (Some run)
       → Sound code fuel inputs kept IsFinished (Some run)
   sound-kept kept phase before run s k = record {
