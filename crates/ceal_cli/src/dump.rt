@@ -7,7 +7,8 @@ ghost use Rattle.ceal_dump.specs.DumpText as dumped;
 ghost use Rattle.ceal_dump.specs.DumpText.{all_core, closed};
 ghost use Rattle.ceal_io.specs.Streams.{Rose};
 ghost use Rattle.ceal_session.specs.Following.{IsAllowed};
-ghost use Rattle.ceal_cli.specs.Growth.{Carries, Grows, IsDumpBehind, IsDumpFrom, WritesOutput, WritesPrefix};
+ghost use Rattle.ceal_cli.specs.Growth.{Grows, WritesOutput, WritesPrefix};
+ghost use Rattle.ceal_cli.specs.Serving.{Carries, IsDumpBehind, IsDumpFrom};
 ghost use Rattle.ceal_cli.specs.Lines.{script_lines};
 ghost use Rattle.ceal_cli.specs.Output.{Begins};
 ghost use Rattle.ceal_cli.specs.declared.words.Mode.TheVariants.{Dump};
@@ -26,6 +27,7 @@ use ceal_record::laws::renamed_law;
 use ceal_session::laws::{kept_line, some_reply};
 use ceal_session::session::Session;
 use ceal_theory::names::renaming_law;
+use ceal_types::seed::Seed;
 use std::alloc::Global;
 
 // Carries out the lines of a script, whose replies are not written.
@@ -113,7 +115,7 @@ pub fn dump<K: Sink>(
     kept_line();
     some_reply();
     renamed_law();
-    match Session::new(alloc, program, fuel) {
+    match Session::seeded(alloc, program, fuel, Seed::of_text(input)) {
         Ok(session) => {
             let mut session = session;
             let told = write_dump(alloc, &mut session, script(input, &split(input)), sink);

@@ -2,7 +2,7 @@
 
 ghost use Rattle.std.specs.Prelude.{◌≡◌, ◌↔◌, ℕ, List, IsTrue, OnOk, IsErrOf};
 ghost use Rattle.ceal_io.specs.Streams.{Rose};
-ghost use Rattle.ceal_cli.specs.Growth.{Serves, WritesFromRun, BeginsFromRun};
+ghost use Rattle.ceal_cli.specs.Serving.{Serves, WritesFromRun, BeginsFromRun};
 ghost use Rattle.ceal_cli.specs.Lines.{script_lines};
 ghost use Rattle.ceal_cli.specs.Output.{IsRunLine};
 

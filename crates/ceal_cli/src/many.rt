@@ -5,7 +5,8 @@ ghost use Rattle.ceal_compile.specs.Compiled.{IsCompiled};
 ghost use Rattle.ceal_compile.specs.Source.{IsProgram};
 ghost use Rattle.ceal_io.specs.Streams.{Rose};
 ghost use Rattle.ceal_session.specs.Following.{IsAllowed};
-ghost use Rattle.ceal_cli.specs.Members.{IsSound, AreReady, Answered};
+ghost use Rattle.ceal_session.specs.Standing.{Stands};
+ghost use Rattle.ceal_cli.specs.Members.{AreReady, Answered};
 ghost use Rattle.ceal_cli.specs.Growth.{Grows, WritesOutput, WritesPrefix};
 ghost use Rattle.ceal_cli.specs.Lines.{script_lines};
 ghost use Rattle.ceal_cli.specs.ManySessions.{AreTold};
@@ -26,7 +27,7 @@ use std::alloc::Global;
 // Writes the reply to a line.
 fn reply<K: Sink>(many: &mut Many<Members<'_>>, line: &[u8], sink: &mut K) -> Result<(), Stopped>
     requires ready { AreReady many.old.sessions }
-    requires sound { IsSound many.old.maker }
+    requires sound { Stands many.old.maker }
     ensures all { OnOk result (Grows (K.written sink.old) (K.written sink.new)
         (Answered many.old.maker many.old.sessions line.now many.new.sessions)) }
     ensures part { Grows (K.written sink.old) (K.written sink.new)
@@ -48,7 +49,7 @@ fn reply_all<K: Sink>(
     sink: &mut K,
 ) -> Result<(), Stopped>
     requires none { many.old.sessions ≡ [] }
-    requires sound { IsSound many.old.maker }
+    requires sound { Stands many.old.maker }
     ensures all { OnOk result (Grows (K.written sink.old) (K.written sink.new)
         (AreTold many.old.maker [] (script_lines script.now))) }
     ensures part { Grows (K.written sink.old) (K.written sink.new)

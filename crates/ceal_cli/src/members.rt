@@ -13,6 +13,7 @@ use ceal_compile::program::Program;
 use ceal_many::{Answerer, Maker};
 use ceal_session::laws::{kept_line, some_reply};
 use ceal_session::session::Session;
+use ceal_types::seed::Seed;
 use std::alloc::Global;
 use std::marker::Model;
 
@@ -23,15 +24,15 @@ pub struct Member {
 }
 
 impl Answerer for Member {
-    ghost use Rattle.ceal_cli.specs.Members.{IsIn, IsSound};
-    ghost use Rattle.ceal_cli.specs.Situations.{Replies};
     ghost use Rattle.ceal_session.specs.Following.{IsLeft};
+    ghost use Rattle.ceal_session.specs.Replies.{Replies};
+    ghost use Rattle.ceal_session.specs.Standing.{IsIn, Stands};
 
     type State = Session;
 
     ghost stands = { λ member m. IsIn member.session m };
 
-    ghost needs = { IsSound };
+    ghost needs = { Stands };
 
     ghost answers = { Replies };
 
@@ -44,12 +45,13 @@ impl Answerer for Member {
     }
 }
 
-/// What makes the sessions of an input, which is compiled again for each. Contracts see the situation in which each of them
-/// begins.
+/// What makes the sessions of an input, which is compiled again for each. The hashes of names begin in all of them with one
+/// seed, made of the whole input. Contracts see the situation in which each of them begins.
 #[derive(Drop)]
 pub struct Members<'a> {
     alloc: Global,
     input: &'a [u8],
+    seed: Seed,
     program: Program,
     fuel: u32,
 }
@@ -81,6 +83,7 @@ impl<'a> Members<'a> {
         Members {
             alloc,
             input,
+            seed: Seed::of_text(input),
             program,
             fuel,
         }
@@ -97,7 +100,7 @@ impl<'a> Maker for Members<'a> {
         one_code();
         some_reply();
         let program = program(self.alloc, self.input)?;
-        let session = Session::new(self.alloc, program, self.fuel)?;
+        let session = Session::seeded(self.alloc, program, self.fuel, self.seed)?;
         Ok(Member { session })
     }
 }

@@ -2,7 +2,7 @@
 
 ghost use Rattle.std.specs.Prelude.{◌≡◌, ◌≤◌, OnOk, IsErrOf};
 ghost use Rattle.ceal_io.specs.Streams.{Rose};
-ghost use Rattle.ceal_cli.specs.Growth.{WritesReply, WritesPart, WritesReplies, BeginsToReply};
+ghost use Rattle.ceal_cli.specs.Serving.{WritesReply, WritesPart, WritesReplies, BeginsToReply};
 ghost use Rattle.ceal_cli.specs.Lines.{script_lines};
 
 use crate::lines::{cut_line, line};

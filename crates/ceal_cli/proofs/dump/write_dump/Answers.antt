@@ -1,5 +1,5 @@
 use Rattle.ceal_cli.proofs.Growing.{part_text}
-use Rattle.ceal_cli.specs.Growth.{IsDumpBehind}
+use Rattle.ceal_cli.specs.Serving.{IsDumpBehind}
 use Rattle.ceal_cli.specs.Lines.{script_lines}
 use Rattle.ceal_cli.proofs.dump.write_dump.Goals as goal
 

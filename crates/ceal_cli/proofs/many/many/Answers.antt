@@ -1,4 +1,5 @@
-use Rattle.std.proofs.Common.{◌∙◌}
+use Rattle.std.proofs.Common.{◌∙◌, sym, subst}
+use Rattle.ceal_session.specs.Standing.{Stands}
 use Rattle.ceal_cli.proofs.OutputLaws.{many_told, many_part}
 use Rattle.ceal_cli.proofs.many.many.Goals as goal
 
@@ -11,3 +12,7 @@ pub returns-in-Ok-clause-part : goal.returns-in-Ok-clause-part
 returns-in-Ok-clause-part g c =
     many_part _ _ c.args.input.now c.split.result c.split.ensures.parts c.args.program c.requires.program c.requires.compiled c.args.fuel
     (rw (← c.script.ensures, ← (c.in-Ok.ensures.maker ∙ c.new.ensures)) c.reply_all.ensures.part)
+
+pub reply_all-requires-clause-sound : goal.reply_all-requires-clause-sound
+reply_all-requires-clause-sound g c =
+    subst Stands (sym (c.in-Ok.ensures.maker ∙ c.new.ensures)) (c.some_reply.ensures.begun c.args.program c.args.fuel c.requires.compiled).sound
