@@ -262,8 +262,11 @@ module _ (p : Typed) (names : List (List ℕ)) (e : EngineState) (j : JournalSta
       measured-same (Between es) x =
           let both : IsRunOn e (undone es (settled_of e j)) call × IsRunOn e (settled_of e j) call =
           subst (λ o. IfSome o (λ call. IsRunOn e (undone es (settled_of e j)) call × IsRunOn e (settled_of e j) call)) b.began.2 x.1 in
-          rw b.inputs (x.0, here b (λ call. IsRunOn e' (undone es (settled_of e j)) call × IsRunOn e' (settled_of e j) call)
-          (run-on b (undone es (settled_of e j)) both.0, run-on b (settled_of e j) both.1))
+          rw b.inputs (
+            x.0,
+            here b (λ call. IsRunOn e' (undone es (settled_of e j)) call × IsRunOn e' (settled_of e j) call)
+                (run-on b (undone es (settled_of e j)) both.0, run-on b (settled_of e j) both.1),
+          )
   holds-behind (Ok Done) b = record {
     compiled = rw b.code h.compiled;
     named = h.named ∙ ap length (sym b.inputs);
