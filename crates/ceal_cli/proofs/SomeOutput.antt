@@ -144,6 +144,8 @@ generated accepted compiled begins reply scripts kind seed size short =
     let reads = c.1 in
     let w = some-from-run reply scripts (opened p DEFAULT_FUEL) (script_lines (script_of input reads.part)) (begins p DEFAULT_FUEL c.2).sound in (
       w.0,
-      record { part = reads.part; split = reads.split; program = p.typed; reads = reads; code = p.code; is_code = c.2.code },
-      record { end = w.1; leads = w.2 },
+      (
+        record { part = reads.part; split = reads.split; program = p.typed; reads = reads; code = p.code; is_code = c.2.code },
+        record { end = w.1; leads = w.2 },
+      ),
     )

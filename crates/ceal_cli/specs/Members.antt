@@ -8,7 +8,8 @@ use Rattle.ceal_many.specs.Replies.{Answers}
 use Rattle.ceal_many.specs.Sessions.{Named}
 use Rattle.ceal_many.specs.Standing.{IsReady, IsAnswered}
 use Rattle.ceal_many.specs.declared.entry.Entry.{Entry}
-use Rattle.ceal_session.specs.Following.{IsAllowed}
+use Rattle.ceal_session.specs.Following.{IsAllowed, opened}
+use Rattle.ceal_session.specs.Keeping.{situation}
 use Rattle.ceal_session.specs.Replies.{Replies}
 use Rattle.ceal_session.specs.Standing.{IsIn, Stands}
 use Rattle.ceal_session.specs.State.{Situation}
@@ -21,9 +22,18 @@ pub record Opens (input : List ℕ) (program : Program) (fuel : ℕ) : Type 0 wh
   pub compiled : IsCompiled program
   pub allowed : IsAllowed fuel
 
+-- the program of which sessions are made, and how many steps a run of them may take
+pub record Beginning : Type 0 where
+  pub program : Program
+  pub fuel : ℕ
+
+-- the situation in which each of them begins
+abbrev pub first_situation : Beginning → Situation
+first_situation b = opened b.program b.fuel
+
 -- Each session is in the situation of its name.
 abbrev pub AreIn : List (Entry Member) → List (Named Situation) → Type 0
-AreIn sessions situations = StandFor (λ member m. IsIn member.session m) sessions situations
+AreIn sessions situations = StandFor (λ member m. IsIn (situation member.session) m) sessions situations
 
 -- the sessions are in situations that they may come to
 abbrev pub AreReady : List (Entry Member) → Type 0

@@ -193,7 +193,7 @@ module _ (p : Typed) (names : List (List ℕ)) (e : EngineState) (j : JournalSta
     }
 
   -- one input more
-  module _ (k : IsEngine e) (name : List ℕ) (b : Block) (fits : block_fits p.structs (alone e.inputs) b ≡ true) (phase : e'.phase ≡ e.phase) (inputs : e'.inputs ≡ e.inputs ++ b ∷ []) where
+  module _ (name : List ℕ) (b : Block) (fits : block_fits p.structs (alone e.inputs) b ≡ true) (phase : e'.phase ≡ e.phase) (inputs : e'.inputs ≡ e.inputs ++ b ∷ []) where
     abbrev names' : List (List ℕ)
     names' = names ++ name ∷ []
 
@@ -290,7 +290,7 @@ module _ (p : Typed) (names : List (List ℕ)) (e : EngineState) (j : JournalSta
         on-trace c s None w = tt
         on-trace c s (Some l) w =
             let more = inputs-law e.code (settled_of e j) (settled_of e j ++ b ∷ []) c.function c.args s.run.fits
-            (longer-fits e.code.structs (settled_of e j) b s.run.fits.blocks (code-fits (settled_of e j) settled-shapes)) (extended-longer e.code (settled_of e j) b) l w.replays in
+                (longer-fits e.code.structs (settled_of e j) b s.run.fits.blocks (code-fits (settled_of e j) settled-shapes)) (extended-longer e.code (settled_of e j) b) l w.replays in
             record { replays = more.replays; honest = more.honest (same-bases e.code (settled_of e j) b) w.honest; few = w.few }
 
         go : (o : Option Call) → IfSome o (IsSettledOn e (settled_of e j)) → IfSome o (λ c. IfSome (trace e) (WasHonest e (settled_of e j) c)) → IfSome o (λ c. IfSome (trace e) (WasHonest e (settled_of e j ++ b ∷ []) c))
