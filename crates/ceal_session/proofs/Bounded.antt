@@ -80,7 +80,7 @@ module _ (code : Code) (s : State) (call : Call) (now : Fits code s.inputs call.
       → Holds (first_cost code s.fuel s.settled s.inputs call.function call.args) (record { items = r.items; work = r.spent })
   of-done r e d b f =
       let x = by-same r (adjusted code s.inputs (above l.items) s.fuel l.items) (sliced code own s.inputs None s.fuel next) refl e
-          (begun-adjusted-law code s.settled s.inputs call.function call.args l.items (above l.items) edited s.fuel) in
+      (begun-adjusted-law code s.settled s.inputs call.function call.args l.items (above l.items) edited s.fuel) in
       let sound = (slice-law code own s.inputs call.function call.args now next next-sound None r (((slices-law code own s.inputs None s.fuel next r).0 e).0)).sound in
       let honest = (is-done-law code s.inputs r).0 d in
       let replays = (done-law code own s.inputs call.function call.args now r sound honest).replays in
@@ -134,7 +134,7 @@ module _ (m n : Situation) (call : Call) (r : Retraces m call None n) where
           let one : given.0 ≡ call = some-same given.0 call (sym given.1 ∙ again) in
           let t : HasTraceOf m call l = subst (λ c. HasTraceOf m c l) one given.2 in
           let self = restored m.code m.state.settled call.function call.args l.items l.items l.work
-              (record { fits = t.was; replays = t.trace.was; honest = t.trace.honest }) (record { fits = t.was; replays = t.trace.was; honest = t.trace.honest }) in
+          (record { fits = t.was; replays = t.trace.was; honest = t.trace.honest }) (record { fits = t.was; replays = t.trace.was; honest = t.trace.honest }) in
           let same : SamePast m.code m.state.inputs call.function call.args m.past m.past = subst (λ q. SamePast m.code m.state.inputs call.function call.args q q) (sym e) (SamePast.traced self) in
           let of : IsPastOf m.code m.state.inputs call.function call.args m.past = subst (IsPastOf m.code m.state.inputs call.function call.args) (sym e) t.trace.replays in
           let made = subst (λ q. SamePast m.code m.state.inputs call.function call.args (past_left m.code m.state (Ok call) None q) n.past) e (r.past m.past of same) in

@@ -263,7 +263,11 @@ module _ (e e' : EngineState) (k : IsEngine e) (call : Call) (fit : Fits e.code 
   pub brought-anew : {A : Type 0} (outcome : Result A RunError) → has_run e.phase ≡ false → OnOk outcome (e'.phase ≡ Finished) → OnOk outcome (IsPresent e') → OnOk outcome (IsSomeAnd (trace e') (IsFirst e'))
       → IfOutOfFuel outcome (fresh_of e' ≡ None) → OnErr outcome (e'.phase ≡ Dropped) → Brings e call reads (with_came Anew outcome) e'
   brought-anew (Ok x) none phase present one out dropped = record {
-    code = code; fuel = fuel; inputs = inputs; called = called; phase = phase;
+    code = code;
+    fuel = fuel;
+    inputs = inputs;
+    called = called;
+    phase = phase;
     completes = present;
     began = tt;
     slice = λ p of same. ap (λ q. slice_of e.code e.inputs e.fuel reads (next_repair e.code e.inputs q)) (same-none same (past-none e k none));
@@ -271,14 +275,22 @@ module _ (e e' : EngineState) (k : IsEngine e) (call : Call) (fit : Fits e.code 
         (after-first e e' call code fuel inputs called fit (ap is_whole phase) present one);
   }
   brought-anew (Err OutOfFuel) none phase present one out dropped = record {
-    code = code; fuel = fuel; inputs = inputs; called = called; phase = dropped;
+    code = code;
+    fuel = fuel;
+    inputs = inputs;
+    called = called;
+    phase = dropped;
     completes = out;
     began = tt;
     slice = λ p of same. inl (ap (λ q. slice_of e.code e.inputs e.fuel reads (next_repair e.code e.inputs q)) (same-none same (past-none e k none)));
     makes = λ p of same. tt;
   }
   brought-anew (Err Memory) none phase present one out dropped = record {
-    code = code; fuel = fuel; inputs = inputs; called = called; phase = dropped;
+    code = code;
+    fuel = fuel;
+    inputs = inputs;
+    called = called;
+    phase = dropped;
     completes = tt;
     began = tt;
     slice = λ p of same. tt;
@@ -300,7 +312,11 @@ module _ (e e' : EngineState) (k : IsEngine e) (call : Call) (fit : Fits e.code 
         → ((next : ℕ) (r : Repair) → CarriesFrom e next r → Comes e e' reads next r outcome) → IfOk outcome (λ came. came ≡ More → is_some reads ≡ true)
         → IfOutOfFuel outcome (fresh_of e' ≡ None) → OnErr outcome (e'.phase ≡ Dropped) → Brings e call reads outcome e'
     brought-on (Ok More) phase present comes more out dropped = record {
-      code = code; fuel = fuel; inputs = inputs; called = called; phase = phase;
+      code = code;
+      fuel = fuel;
+      inputs = inputs;
+      called = called;
+      phase = phase;
       completes = tt;
       began = (runs, more refl, again);
       slice = λ p of same. let n = next p of same in let g : GoesOn e e' reads 0 n.repair = comes 0 n.repair n.carries in (g.repair, slice-is p n ∙ g.is, g.more);
@@ -308,7 +324,11 @@ module _ (e e' : EngineState) (k : IsEngine e) (call : Call) (fit : Fits e.code 
           subst (λ o. SamePast e.code e.inputs call.function call.args (left o) (past_of e')) (sym (slice-is p n ∙ g.is)) (after-part e e' call code fuel inputs called fit g.repair phase g.more g.carries);
     }
     brought-on (Ok Done) phase present comes more out dropped = record {
-      code = code; fuel = fuel; inputs = inputs; called = called; phase = phase;
+      code = code;
+      fuel = fuel;
+      inputs = inputs;
+      called = called;
+      phase = phase;
       completes = present (λ i. absurd (grind (arith, i)));
       began = (runs, again);
       slice = λ p of same. let n = next p of same in let g : Ends e e' reads 0 n.repair = comes 0 n.repair n.carries in (g.repair, slice-is p n ∙ g.is, g.done);
@@ -316,7 +336,11 @@ module _ (e e' : EngineState) (k : IsEngine e) (call : Call) (fit : Fits e.code 
           subst (λ o. SamePast e.code e.inputs call.function call.args (left o) (past_of e')) (sym (slice-is p n ∙ g.is)) (after-done e e' call code fuel inputs called fit reads n.repair (ap is_whole phase) (present (λ i. absurd (grind (arith, i)))) g);
     }
     brought-on (Ok Anew) phase present comes more out dropped = record {
-      code = code; fuel = fuel; inputs = inputs; called = called; phase = phase;
+      code = code;
+      fuel = fuel;
+      inputs = inputs;
+      called = called;
+      phase = phase;
       completes = present (λ i. absurd (grind (arith, i)));
       began = tt;
       slice = λ p of same. let n = next p of same in let g : IsAnew e e' reads n.repair = comes 0 n.repair n.carries in slice-is p n ∙ g.none;
@@ -324,14 +348,22 @@ module _ (e e' : EngineState) (k : IsEngine e) (call : Call) (fit : Fits e.code 
           subst (λ o. SamePast e.code e.inputs call.function call.args (left o) (past_of e')) (sym (slice-is p n ∙ g.none)) (after-first e e' call code fuel inputs called fit (ap is_whole phase) (present (λ i. absurd (grind (arith, i)))) g.first);
     }
     brought-on (Err OutOfFuel) phase present comes more out dropped = record {
-      code = code; fuel = fuel; inputs = inputs; called = called; phase = dropped;
+      code = code;
+      fuel = fuel;
+      inputs = inputs;
+      called = called;
+      phase = dropped;
       completes = out;
       began = tt;
       slice = λ p of same. let n = next p of same in elim (comes 0 n.repair n.carries) [ inl none ↦ inl (slice-is p n ∙ none) | inr r ↦ inr (r.0, slice-is p n ∙ r.1, r.2) ];
       makes = λ p of same. tt;
     }
     brought-on (Err Memory) phase present comes more out dropped = record {
-      code = code; fuel = fuel; inputs = inputs; called = called; phase = dropped;
+      code = code;
+      fuel = fuel;
+      inputs = inputs;
+      called = called;
+      phase = dropped;
       completes = tt;
       began = tt;
       slice = λ p of same. tt;

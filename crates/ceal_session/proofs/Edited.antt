@@ -239,6 +239,7 @@ module _ (p : Typed) (names : List (List ℕ)) (e : EngineState) (j : JournalSta
 
     cost-longer : (es : List Edit) → AreWithin (length (settled_of e j)) es → (o : Option Call) → IfSome o (λ c. IsRunOn e (undone es (settled_of e j)) c × IsRunOn e (settled_of e j) c)
         → call_cost e.code e.fuel (undone es (settled_of e j ++ b ∷ [])) (settled_of e j ++ b ∷ []) o ≡ call_cost e.code e.fuel (undone es (settled_of e j)) (settled_of e j) o
+    unfolding run-longer
     cost-longer es w None r = refl
     cost-longer es w (Some c) r =
         let old = run-longer (undone es (settled_of e j)) c r.0 (code-fits (undone es (settled_of e j)) (undone-shapes es)) in
@@ -290,7 +291,7 @@ module _ (p : Typed) (names : List (List ℕ)) (e : EngineState) (j : JournalSta
         on-trace c s None w = tt
         on-trace c s (Some l) w =
             let more = inputs-law e.code (settled_of e j) (settled_of e j ++ b ∷ []) c.function c.args s.run.fits
-                (longer-fits e.code.structs (settled_of e j) b s.run.fits.blocks (code-fits (settled_of e j) settled-shapes)) (extended-longer e.code (settled_of e j) b) l w.replays in
+            (longer-fits e.code.structs (settled_of e j) b s.run.fits.blocks (code-fits (settled_of e j) settled-shapes)) (extended-longer e.code (settled_of e j) b) l w.replays in
             record { replays = more.replays; honest = more.honest (same-bases e.code (settled_of e j) b) w.honest; few = w.few }
 
         go : (o : Option Call) → IfSome o (IsSettledOn e (settled_of e j)) → IfSome o (λ c. IfSome (trace e) (WasHonest e (settled_of e j) c)) → IfSome o (λ c. IfSome (trace e) (WasHonest e (settled_of e j ++ b ∷ []) c))

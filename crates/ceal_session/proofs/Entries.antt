@@ -153,7 +153,7 @@ module _ (stands : BehindLaw) where
             rest,
             answer (goes_on (entry ∷ f.entries)) (ap (λ g. answered_line m.state g command) (sym (entry-goes (past_in m command) (bound_in m command) f.entries))),
             subst (λ c. AreReplies (behind m command).state (told_behind c latest (entry ∷ f.entries)) lines rest) (sym i)
-            (subst (λ t. AreReplies (behind m command).state t lines rest) (told-on latest (past_in m command) (bound_in m command) f.entries) f.text),
+                (subst (λ t. AreReplies (behind m command).state t lines rest) (told-on latest (past_in m command) (bound_in m command) f.entries) f.text),
             e,
           );
         }
@@ -180,5 +180,5 @@ one-text one answer state s told (line ∷ lines) a b (text, next, rest, x, more
     let c = one line x.command x'.command x.reads x'.reads in
     let there = subst (λ d. AreReplies next (told_behind (call_in s d) told.latest told.coming) lines rest) c more in
     let r = one-text one answer state next' (told_behind (call_in s x'.command) told.latest told.coming) lines rest rest'
-        (subst (λ t. AreReplies t (told_behind (call_in s x'.command) told.latest told.coming) lines rest) n there) more' in
+    (subst (λ t. AreReplies t (told_behind (call_in s x'.command) told.latest told.coming) lines rest) n there) more' in
     e ∙ (ap₂ ◌++◌ t r ∙ sym e')

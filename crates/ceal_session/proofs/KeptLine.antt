@@ -32,8 +32,8 @@ module _ (facts : FactsLaw) (old new m : Situation) (h : IsIn old m) (command : 
         g.code ∙ h.code,
         g.bound ∙ h.bound,
         subst (λ (x : Past). IsSamePast m.code (behind m command).state.inputs (behind m command).state.call m.past x) (sym g.past)
-        (subst (λ (o : Option Call). IsSamePast m.code (behind m command).state.inputs o m.past old.past) (sym (f.same_call r e))
-        (more-same m.code m.state.inputs (behind m command).state.inputs m.state.call f.fits f.fit f.extended m.past old.past h.past)),
+            (subst (λ (o : Option Call). IsSamePast m.code (behind m command).state.inputs o m.past old.past) (sym (f.same_call r e))
+            (more-same m.code m.state.inputs (behind m command).state.inputs m.state.call f.fits f.fit f.extended m.past old.past h.past)),
       )
   by-call (Ok call) e g =
       let f = facts m command h.sound in
@@ -42,7 +42,7 @@ module _ (facts : FactsLaw) (old new m : Situation) (h : IsIn old m) (command : 
         g.code ∙ h.code,
         k.1,
         subst (λ (o : Option Call). IsSamePast m.code (behind m command).state.inputs o (past_left m.code m.state (Ok call) (reads_in command) m.past) new.past) (sym (f.called call e))
-        (subst (λ (i : List Block). SamePast m.code i call.function call.args (past_left m.code m.state (Ok call) (reads_in command) m.past) new.past) (sym (f.inputs call e)) k.0),
+            (subst (λ (i : List Block). SamePast m.code i call.function call.args (past_left m.code m.state (Ok call) (reads_in command) m.past) new.past) (sym (f.inputs call e)) k.0),
       )
 
 pub kept-law : FactsLaw → OneCommandLaw → KeptLaw

@@ -118,5 +118,5 @@ before-call code s call p q (inr (e, n)) h k =
     let none = subst (λ o. IsSamePast code s.inputs o p q) e k in (
       subst (λ (x : Past). IsPastOf code s.inputs call.function call.args x) (sym n) tt,
       subst (λ (x : Past). SamePast code s.inputs call.function call.args x q) (sym n)
-      (subst (λ (x : Past). SamePast code s.inputs call.function call.args NoTrace x) (sym none.1) SamePast.none),
+          (subst (λ (x : Past). SamePast code s.inputs call.function call.args NoTrace x) (sym none.1) SamePast.none),
     )

@@ -71,7 +71,7 @@ pub one-reply : OneCommandLaw → GraphLaw → OneReplyLaw
 one-reply command graph m line a b n o h k =
     let same = command line h.command k.command h.reads k.reads in (
       same-text graph m.state (numbers_in m) (answered_line m.state (goes (past_in m k.command)) k.command).reply a b
-      (subst (λ c. IsText m.state (numbers_in m) (answered_line m.state (goes (past_in m c)) c).reply a) same h.reply) k.reply,
+          (subst (λ c. IsText m.state (numbers_in m) (answered_line m.state (goes (past_in m c)) c).reply a) same h.reply) k.reply,
       h.next ∙ ap (behind m) same ∙ sym k.next,
     )
 

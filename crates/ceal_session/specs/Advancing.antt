@@ -50,14 +50,14 @@ journal_behind steps j (Err e) = settled_at 0
 abbrev pub reply_behind : Outcome → Result Reply NoMemory
 reply_behind (Ok c) = Ok Whole
 reply_behind (Err OutOfFuel) = Ok Exhausted
-reply_behind (Err Memory) = Err (record { })
+reply_behind (Err Memory) = Err (record {})
 
 abbrev pub part_behind : Outcome → Result Reply NoMemory
 part_behind (Ok More) = Ok Part
 part_behind (Ok Done) = Ok PartDone
 part_behind (Ok Anew) = Ok PartDone
 part_behind (Err OutOfFuel) = Ok Exhausted
-part_behind (Err Memory) = Err (record { })
+part_behind (Err Memory) = Err (record {})
 
 -- what the definition's slice is, by how the repair came out
 abbrev pub IsSliceOf : Outcome → Code → List Block → Option Repair → Type 0

@@ -11,9 +11,8 @@ use crate::journal::Journal;
 use crate::reply::Reply;
 use ceal_base::call::Call;
 use ceal_base::no_memory::NoMemory;
-use ceal_engine::phase::Came;
 use ceal_engine::engine::Engine;
-use ceal_engine::phase::Phase;
+use ceal_engine::phase::{Came, Phase};
 use ceal_engine::run_error::RunError;
 
 /// A run that ended was a first one.

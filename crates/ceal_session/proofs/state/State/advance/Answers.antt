@@ -26,8 +26,8 @@ returns c =
     let i = c.self.inside in
     let o = c.advanced-came in
     λ call again.
-        let same = subst (λ m. m.state.call ≡ Some call) (sym c.self.view_is) again in
-        subst (λ m. IsAdvanced (situation m) call c.args.reads o.result (situation_of i.program i.names o.new.engine c.settle.new.journal c.goes_on-self-inside.result)) c.self.view_is
-        (rw (c.settle.ensures, c.goes_on-self-inside.ensures)
-        (advanced i.program i.names i.engine i.journal i.pending c.self.invariant call (fits-of i.engine c.phase-before.ensures.whole call same)
-        c.args.reads o.new.engine c.phase-after.ensures.whole o.result (o.ensures.brings call same)))
+    let same = subst (λ m. m.state.call ≡ Some call) (sym c.self.view_is) again in
+    subst (λ m. IsAdvanced (situation m) call c.args.reads o.result (situation_of i.program i.names o.new.engine c.settle.new.journal c.goes_on-self-inside.result)) c.self.view_is
+    (rw (c.settle.ensures, c.goes_on-self-inside.ensures)
+    (advanced i.program i.names i.engine i.journal i.pending c.self.invariant call (fits-of i.engine c.phase-before.ensures.whole call same)
+    c.args.reads o.new.engine c.phase-after.ensures.whole o.result (o.ensures.brings call same)))
