@@ -11,9 +11,10 @@ pub mod Seen
 pub mod Answering
 pub mod Telling
 pub mod OneReply
-pub mod Composed
 pub mod Extending
 pub mod Tracing
 pub mod SomeReply
+mod KeptReply
+mod Scripts
 pub mod KeptLine
 pub mod Recording

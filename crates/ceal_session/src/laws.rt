@@ -1,21 +1,23 @@
 // The laws of replies, each the contract of a function that does nothing.
 
-ghost use Rattle.ceal_session.specs.Laws.{OneCommandLaw, OneReplyLaw, OneStateLaw, OneScriptLaw, OneWorksLaw, BegunLaw, SomeReplyLaw, SomeScriptLaw, DroppedLaw, KeptLaw};
+ghost use Rattle.ceal_session.specs.Laws.{OneCommandLaw, OneAnswerLaw, OneReplyLaw, OneStateLaw, OneScriptLaw, JoinedLaw, BegunLaw, SomeReplyLaw, SomeScriptLaw, DroppedLaw, KeptLaw};
 
-/// A law: a state and a line have one reply at most, and one state after it, which says nothing of the work number.
+/// A law: a line is one command's at most, and has one reply by a state and its numbers; so it has one in a situation, and one
+/// situation behind it.
 pub fn one_reply()
     ensures command { OneCommandLaw }
-    ensures reply { OneReplyLaw }
+    ensures answer { OneAnswerLaw }
     ensures state { OneStateLaw }
+    ensures reply { OneReplyLaw }
 {
     ceal_script::line::one_command();
     ceal_show::laws::one_text();
 }
 
-/// A law: a state and lines have one text of replies at most, and one list of work numbers.
+/// A law: lines have one text of replies in a situation, and one situation behind them, from which more lines go on.
 pub fn one_script()
     ensures law { OneScriptLaw }
-    ensures works { OneWorksLaw }
+    ensures joined { JoinedLaw }
 {
     one_reply();
 }

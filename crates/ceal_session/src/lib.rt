@@ -5,8 +5,11 @@
 //! inputs of that moment (`Runs`); `Replies` puts lines together.
 #![tactic(auto)]
 
+mod advance;
+mod bound;
 mod commands;
 mod fits;
+mod journal;
 pub mod laws;
 mod numbers;
 pub mod refusal;
@@ -14,7 +17,7 @@ pub mod reply;
 pub mod sense;
 mod senses;
 pub mod session;
-pub mod state;
+mod state;
 mod steps;
 mod texts;
 mod view;

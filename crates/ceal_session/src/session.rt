@@ -1,15 +1,15 @@
 // A session.
 
-ghost use Rattle.std.specs.Prelude.{◌≡◌, codes, IfOk, OnOk, OnErr, MatchOption};
+ghost use Rattle.std.specs.Prelude.{◌≡◌, ◌≤◌, codes, length, IfOk, OnOk, OnErr, MatchOption};
 ghost use Rattle.ceal_compile.specs.Compiled.{IsCompiled};
-ghost use Rattle.ceal_session.specs.Asking.{CanTell, IsReady};
-ghost use Rattle.ceal_session.specs.Following.{IsAllowed, opened, Goes, Repairs, IsLeft, IsLeftBy};
+ghost use Rattle.ceal_session.specs.Asking.{CanTell, HasReads, IsReady};
+ghost use Rattle.ceal_session.specs.Following.{IsAllowed, opened, Goes, Repairs, Bounds, IsLeft, IsLeftBy};
 ghost use Rattle.ceal_session.specs.Recording.{IsRecorded};
 ghost use Rattle.ceal_session.specs.Replies.{Answers};
-ghost use Rattle.ceal_session.specs.Steps.{IsQuiet, answered, call_of};
+ghost use Rattle.ceal_session.specs.Steps.{IsQuiet, answered, call_of, reads_of};
 ghost use Rattle.ceal_session.specs.Texts.{IsText};
-ghost use Rattle.ceal_session.specs.State.{last};
-ghost use Rattle.ceal_session.specs.Works.{latest_work};
+ghost use Rattle.ceal_session.specs.State.{numbers_in};
+ghost use Rattle.ceal_theory.specs.Pasts.{goes};
 
 use crate::commands::reply_to;
 use crate::refusal::{Refusal, text as refusal_line};
@@ -20,9 +20,11 @@ use ceal_base::no_memory::NoMemory;
 use ceal_base::recorded::Record;
 use ceal_base::text::Text;
 use ceal_compile::program::Program;
+use ceal_cost::laws::bound_law;
 use ceal_script::command::Command;
 use ceal_script::line::read_line;
 use ceal_script::line_error::LineError;
+use ceal_types::seed::Seed;
 use std::alloc::Global;
 use std::marker::Model;
 
@@ -47,7 +49,7 @@ impl Model for Session {
     ghost view = { λ s. s.state };
 }
 
-/// The memory of the replies behind which a change stands, which is taken before it: the longer one of them.
+/// The memory of the replies behind which a change stands, which is taken before it: the longest one of them.
 fn prepare(alloc: Global) -> Result<Vec<u8>, NoMemory>
     ensures ready { IfOk result (λ bytes. bytes.items ≡ codes "out of fuel\n") }
 {
@@ -55,15 +57,15 @@ fn prepare(alloc: Global) -> Result<Vec<u8>, NoMemory>
     Ok(bytes)
 }
 
-/// The shorter one, in the same memory.
-fn done(bytes: Vec<u8>) -> Text
+/// A shorter one, in the same memory.
+fn shortened(bytes: Vec<u8>, reply: &[u8]) -> Text
     requires ready { bytes.items ≡ codes "out of fuel\n" }
-    ensures done { result ≡ codes "ok\n" }
+    requires short { length reply.now ≤ 12 }
+    ensures text { result ≡ reply.now }
 {
     let mut bytes = bytes;
-    bytes.truncate(3);
-    bytes[1] = b'k';
-    bytes[2] = b'\n';
+    bytes.truncate(reply.len());
+    bytes.copy_from_slice(reply);
     Text::new(bytes)
 }
 
@@ -72,13 +74,15 @@ fn text(alloc: Global, state: &State, reply: Reply, ready: Vec<u8>) -> Result<Te
     requires asked { CanTell state.now.state reply }
     requires ready { ready.items ≡ codes "out of fuel\n" }
     ensures ok { IfOk result
-        (λ text. IsText state.now.state (latest_work (last state.now)) reply text) }
+        (λ text. IsText state.now.state (numbers_in state.now) reply text) }
     ensures err { OnErr result (IsQuiet reply) }
 {
     match reply {
         Reply::Nothing => Ok(Text::empty(alloc)),
-        Reply::Ok => Ok(done(ready)),
+        Reply::Ok => Ok(shortened(ready, b"ok\n")),
         Reply::OutOfFuel => Ok(Text::new(ready)),
+        Reply::More => Ok(shortened(ready, b"more\n")),
+        Reply::Finished => Ok(shortened(ready, b"done\n")),
         Reply::Refused(refusal) => Text::from_slice(alloc, refusal_line(refusal).as_bytes()),
         Reply::Told(query) => answer(alloc, state, query),
     }
@@ -86,11 +90,14 @@ fn text(alloc: Global, state: &State, reply: Reply, ready: Vec<u8>) -> Result<Te
 
 /// The answer to a command.
 fn answer_command(alloc: Global, state: &mut State, command: &Command) -> Result<Text, NoMemory>
+    requires some { HasReads command.now }
     ensures reply { IfOk result
-        (λ text. IsText state.old.state (latest_work (last state.old))
-        (answered state.old.state command.now).reply text) }
-    ensures state { OnOk result (state.new.state ≡ (answered state.old.state command.now).state) }
-    ensures trace { OnOk result (Goes state.old (call_of state.old.state command.now) state.new) }
+        (λ text. IsText state.old.state (numbers_in state.old)
+        (answered state.old.state (goes state.new.past) command.now).reply text) }
+    ensures state { OnOk result
+        (state.new.state ≡ (answered state.old.state (goes state.new.past) command.now).state) }
+    ensures trace { OnOk result
+        (Goes state.old (call_of state.old.state command.now) (reads_of command.now) state.new) }
     ensures err { OnErr result
         (IsLeftBy state.old (call_of state.old.state command.now) state.new) }
 {
@@ -105,10 +112,14 @@ fn answer_command(alloc: Global, state: &mut State, command: &Command) -> Result
 fn answer_line(alloc: Global, state: &mut State, line: &[u8]) -> Result<Text, NoMemory>
     ensures reply { IfOk result
         (λ text. Answers state.old.state
-        (latest_work (last state.old)) line.now text state.new.state) }
+        (numbers_in state.old) (goes state.new.past) line.now text state.new.state) }
     ensures trace { OnOk result (Repairs state.old line.now state.new) }
+    ensures bounded { OnOk result (Bounds state.old line.now state.new) }
     ensures left { OnErr result (IsLeft state.old line.now state.new) }
 {
+    bound_law();
+    // for the proof: the trace of the state is honest, by the clause `traced`
+    let _names = state.names();
     match read_line(alloc, line) {
         Ok(command) => answer_command(alloc, state, &command),
         Err(LineError::Memory) => Err(NoMemory),
@@ -125,7 +136,21 @@ impl Session {
         requires fuel { IsAllowed fuel }
         ensures state { IfOk result (λ session. session ≡ opened program fuel) }
     {
-        let state = State::new(alloc, program, fuel)?;
+        Session::seeded(alloc, program, fuel, Seed::of_text(b""))
+    }
+
+    /// The same, where the hashes of names begin with a seed, as of the text that they come from.
+    pub fn seeded(
+        alloc: Global,
+        program: Program,
+        fuel: u32,
+        seed: Seed,
+    ) -> Result<Session, NoMemory>
+        requires compiled { IsCompiled program }
+        requires fuel { IsAllowed fuel }
+        ensures state { IfOk result (λ session. session ≡ opened program fuel) }
+    {
+        let state = State::new(alloc, program, fuel, seed)?;
         Ok(Session { state, alloc })
     }
 
@@ -135,8 +160,9 @@ impl Session {
     pub fn command(&mut self, line: &[u8]) -> Result<Text, NoMemory>
         ensures reply { IfOk result
             (λ text. Answers self.old.state
-            (latest_work (last self.old)) line.now text self.new.state) }
+            (numbers_in self.old) (goes self.new.past) line.now text self.new.state) }
         ensures trace { OnOk result (Repairs self.old line.now self.new) }
+        ensures bounded { OnOk result (Bounds self.old line.now self.new) }
         ensures left { OnErr result (IsLeft self.old line.now self.new) }
     {
         answer_line(self.alloc, &mut self.state, line)
