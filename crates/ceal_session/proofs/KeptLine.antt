@@ -3,9 +3,7 @@ use Rattle.std.proofs.Common.{◌≡◌, ℕ, Option, Some, None, Result, Ok, Er
 use Rattle.ceal_base.specs.Block.{Block}
 use Rattle.ceal_base.specs.declared.call.Call.{Call}
 use Rattle.ceal_script.specs.declared.command.Command.{Command}
-use Rattle.ceal_theory.specs.Carried.{CarriedMoreLaw}
 use Rattle.ceal_theory.specs.Pasts.{Past, SamePast, goes}
-use Rattle.ceal_theory.specs.SliceLaws.{MoreLaw}
 use Rattle.ceal_session.proofs.KeptReply.{LineFacts, is-goes, more-same, before-call, ran-past, kept-reply}
 use Rattle.ceal_session.specs.Following.{Goes}
 use Rattle.ceal_session.specs.Laws.{KeptLaw, OneCommandLaw}
@@ -27,7 +25,7 @@ SameBehind m command called new =
     × (new.bound ≡ bound_left m.code m.state called (reads_in command) m.past m.bound)
     × IsSamePast m.code (behind m command).state.inputs (behind m command).state.call (past_left m.code m.state called (reads_in command) m.past) new.past
 
-module _ (carried : CarriedMoreLaw) (more : MoreLaw) (facts : FactsLaw) (old new m : Situation) (h : IsIn old m) (command : Option Command) where
+module _ (facts : FactsLaw) (old new m : Situation) (h : IsIn old m) (command : Option Command) where
   by-call : (called : Result Call Refusal) → call_in m.state command ≡ called → Goes old called (reads_in command) new → SameBehind m command called new
   by-call (Err r) e g =
       let f = facts m command h.sound in (
@@ -35,7 +33,7 @@ module _ (carried : CarriedMoreLaw) (more : MoreLaw) (facts : FactsLaw) (old new
         g.bound ∙ h.bound,
         subst (λ (x : Past). IsSamePast m.code (behind m command).state.inputs (behind m command).state.call m.past x) (sym g.past)
         (subst (λ (o : Option Call). IsSamePast m.code (behind m command).state.inputs o m.past old.past) (sym (f.same_call r e))
-        (more-same carried more m.code m.state.inputs (behind m command).state.inputs m.state.call f.fits f.fit f.extended m.past old.past h.past)),
+        (more-same m.code m.state.inputs (behind m command).state.inputs m.state.call f.fits f.fit f.extended m.past old.past h.past)),
       )
   by-call (Ok call) e g =
       let f = facts m command h.sound in
@@ -47,13 +45,13 @@ module _ (carried : CarriedMoreLaw) (more : MoreLaw) (facts : FactsLaw) (old new
         (subst (λ (i : List Block). SamePast m.code i call.function call.args (past_left m.code m.state (Ok call) (reads_in command) m.past) new.past) (sym (f.inputs call e)) k.0),
       )
 
-pub kept-law : CarriedMoreLaw → MoreLaw → FactsLaw → OneCommandLaw → KeptLaw
-kept-law carried more facts command_law old new m line text h a r =
+pub kept-law : FactsLaw → OneCommandLaw → KeptLaw
+kept-law facts command_law old new m line text h a r =
     let command = a.command in
     let same = command_law line r.command command r.reads a.reads in
     let here = subst (λ (c : Option Command). Goes old (call_in old.state c) (reads_in c) new) same r.goes in
     let gone = subst (λ (s : State). Goes old (call_in s command) (reads_in command) new) h.state here in
-    let k = by-call carried more facts old new m h command (call_in m.state command) refl gone in
+    let k = by-call facts old new m h command (call_in m.state command) refl gone in
     let f = facts m command h.sound in
     let on = is-goes m.code (behind m command).state.inputs (behind m command).state.call (past_in m command) new.past k.2 in
     record {

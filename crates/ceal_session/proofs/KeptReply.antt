@@ -9,11 +9,11 @@ use Rattle.ceal_code.specs.Fitting.{Fits}
 use Rattle.ceal_code.specs.Program.{Code}
 use Rattle.ceal_script.specs.declared.command.Command.{Command}
 use Rattle.ceal_theory.specs.Adjust.{Extended}
-use Rattle.ceal_theory.specs.Carried.{CarriedMoreLaw}
+use Rattle.ceal_theory.proofs.CarriedLaws.{carried-more-law}
+use Rattle.ceal_theory.proofs.SliceLaws.{more-law}
 use Rattle.ceal_theory.specs.Computed.{Repaired}
 use Rattle.ceal_theory.specs.Laws.{RenamedRepair}
 use Rattle.ceal_theory.specs.Pasts.{Past, NoTrace, Traced, Going, SamePast, IsPastOf, goes}
-use Rattle.ceal_theory.specs.SliceLaws.{MoreLaw}
 use Rattle.ceal_theory.specs.Repair.{own}
 use Rattle.ceal_session.specs.Following.{Goes, Retraces}
 use Rattle.ceal_session.specs.Replies.{Answers, Replies, behind}
@@ -45,12 +45,12 @@ is-work code inputs None p q h = ap (λ p. latest_work (completed p)) h.0 ∙ sy
 is-work code inputs (Some call) p q h = same-work h
 
 -- it stays so on inputs that extend its own
-pub more-past : CarriedMoreLaw → MoreLaw → (code : Code) (old new : List Block) (f : ℕ) (args : List Word) → Fits code old f args
+pub more-past : (code : Code) (old new : List Block) (f : ℕ) (args : List Word) → Fits code old f args
     → inputs_fit code.structs new ≡ true → Extended code old new → {p q : Past} → SamePast code old f args p q → SamePast code new f args p q
-more-past carried more code old new f args fits fit ext SamePast.none = SamePast.none
-more-past carried more code old new f args fits fit ext (SamePast.traced r) = SamePast.traced r
-more-past carried more code old new f args fits fit ext (SamePast.going {r = r} {q = q} s c) =
-    SamePast.going (more code own old new f args fits fit ext r s) (carried code old new fit ext 0 r q c)
+more-past code old new f args fits fit ext SamePast.none = SamePast.none
+more-past code old new f args fits fit ext (SamePast.traced r) = SamePast.traced r
+more-past code old new f args fits fit ext (SamePast.going {r = r} {q = q} s c) =
+    SamePast.going (more-law code own old new f args fits fit ext r s) (carried-more-law code old new fit ext 0 r q c)
 
 -- a past of the situation is one of its call
 pub past-of : (code : Code) (s : State) (call : Call) (p : Past) → IsPastIn code s (Some call) p → IsPastOf code s.inputs call.function call.args p
@@ -101,10 +101,10 @@ pub record LineFacts (m : Situation) (command : Option Command) : Type 0 where
   pub extended : Extended m.code m.state.inputs (behind m command).state.inputs
 
 -- behind a line that runs nothing both have the same past on the inputs there
-pub more-same : CarriedMoreLaw → MoreLaw → (code : Code) (old new : List Block) (o : Option Call) → IfSome o (λ call. Fits code old call.function call.args)
+pub more-same : (code : Code) (old new : List Block) (o : Option Call) → IfSome o (λ call. Fits code old call.function call.args)
     → inputs_fit code.structs new ≡ true → Extended code old new → (p q : Past) → IsSamePast code old o p q → IsSamePast code new o p q
-more-same carried more code old new None fits fit ext p q h = h
-more-same carried more code old new (Some call) fits fit ext p q h = more-past carried more code old new call.function call.args fits fit ext h
+more-same code old new None fits fit ext p q h = h
+more-same code old new (Some call) fits fit ext p q h = more-past code old new call.function call.args fits fit ext h
 
 -- the past before a line that runs, as one of its call
 pub before-call : (code : Code) (s : State) (call : Call) (p q : Past) → (s.call ≡ Some call) ⊎ ((s.call ≡ None) × (p ≡ NoTrace)) → IsPastIn code s s.call p

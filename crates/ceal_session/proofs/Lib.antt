@@ -1,20 +1,26 @@
 -- what crates above cite
 pub mod Compiled
 -- the rest
+pub mod Undoing
 pub mod FitsSteps
 pub mod SenseSteps
 pub mod ReplySteps
 pub mod KeptInputs
 pub mod SourceRun
+pub mod Bringing
+pub mod Advanced
+pub mod Edited
 pub mod Store
 pub mod Seen
 pub mod Answering
 pub mod Telling
 pub mod OneReply
 pub mod Extending
-pub mod Tracing
+pub mod Ran
 pub mod SomeReply
-mod KeptReply
-mod Scripts
+pub mod KeptReply
+pub mod Scripts
 pub mod KeptLine
+pub mod Entries
+pub mod Bounded
 pub mod Recording

@@ -5,16 +5,17 @@ use Rattle.ceal_session.specs.Asking.{CanTell}
 use Rattle.ceal_session.specs.Steps.{IsQuiet}
 use Rattle.ceal_session.specs.Texts.{IsText}
 use Rattle.ceal_session.specs.declared.reply.Reply.{Reply}
-use Rattle.ceal_session.specs.declared.reply.Reply.TheVariants.{Nothing, Ok as Done, OutOfFuel, Refused, Told}
-use Rattle.ceal_session.specs.State.{Situation, last}
-use Rattle.ceal_session.specs.Works.{latest_work}
+use Rattle.ceal_session.specs.declared.reply.Reply.TheVariants.{Nothing, Ok as Done, OutOfFuel, More, Finished, Refused, Told}
+use Rattle.ceal_session.specs.State.{Situation, numbers_in}
 
 -- a reply that no change stands behind is that of the session before
-pub text-back : (m n : Situation) (reply : Reply) (text : List ℕ) → (IsQuiet reply → n ≡ m) → IsText n.state (latest_work (last n)) reply text
-    → IsText m.state (latest_work (last m)) reply text
+pub text-back : (m n : Situation) (reply : Reply) (text : List ℕ) → (IsQuiet reply → n ≡ m) → IsText n.state (numbers_in n) reply text
+    → IsText m.state (numbers_in m) reply text
 text-back m n Nothing text same h = h
 text-back m n Done text same h = h
 text-back m n OutOfFuel text same h = h
+text-back m n More text same h = h
+text-back m n Finished text same h = h
 text-back m n (Refused r) text same h = h
 text-back m n (Told q) text same h = rw (← same tt) h
 
@@ -23,6 +24,8 @@ pub tell-after : (m n : Situation) (reply : Reply) → (IsQuiet reply → n ≡ 
 tell-after m n Nothing same h = tt
 tell-after m n Done same h = tt
 tell-after m n OutOfFuel same h = tt
+tell-after m n More same h = tt
+tell-after m n Finished same h = tt
 tell-after m n (Refused r) same h = tt
 tell-after m n (Told q) same h = rw (same tt) h
 

@@ -75,12 +75,12 @@ Completes (Ok Anew) e = IsPresent e
 Completes (Err OutOfFuel) e = fresh_of e ≡ None
 Completes (Err Memory) e = ⊤
 
--- a repair is one of a run, and goes on only where so many reads were to be run anew
-abbrev pub Began : Outcome → EngineState → Option ℕ → Type 0
-Began (Ok More) e reads = (has_run e.phase ≡ true) × (is_some reads ≡ true)
-Began (Ok Done) e reads = has_run e.phase ≡ true
-Began (Ok Anew) e reads = ⊤
-Began (Err error) e reads = ⊤
+-- a repair is one of a run of the call, and goes on only where so many reads were to be run anew
+abbrev pub Began : Outcome → EngineState → Call → Option ℕ → Type 0
+Began (Ok More) e call reads = (has_run e.phase ≡ true) × (is_some reads ≡ true) × (e.call ≡ Some call)
+Began (Ok Done) e call reads = (has_run e.phase ≡ true) × (e.call ≡ Some call)
+Began (Ok Anew) e call reads = ⊤
+Began (Err error) e call reads = ⊤
 
 -- what the engine has is what the definition makes of this past
 abbrev pub Makes : Outcome → EngineState → Call → Option ℕ → Past → EngineState → Type 0
@@ -97,7 +97,7 @@ pub record Brings (e : EngineState) (call : Call) (reads : Option ℕ) (outcome 
   pub called : e'.call ≡ Some call
   pub phase : e'.phase ≡ phase_behind outcome
   pub completes : Completes outcome e'
-  pub began : Began outcome e reads
+  pub began : Began outcome e call reads
   pub slice : (p : Past) → IsPastOf e.code e.inputs call.function call.args p → SamePast e.code e.inputs call.function call.args p (past_of e)
       → IsSliceOf outcome e.code e.inputs (slice_of e.code e.inputs e.fuel reads (next_repair e.code e.inputs p))
   pub makes : (p : Past) → IsPastOf e.code e.inputs call.function call.args p → SamePast e.code e.inputs call.function call.args p (past_of e)

@@ -89,10 +89,10 @@ pub record IsRunOn (e : EngineState) (inputs : List Block) (call : Call) : Type 
   pub first : Repaired
   pub is : first_of e.code inputs e.fuel call.function call.args ≡ Some first
 
--- What a bound is made of is there: both runs end.
+-- What a bound is made of is there: the edits are those of inputs, and both runs end.
 abbrev pub IsMeasured : EngineState → List Block → Measure → Type 0
 IsMeasured e settled (Number n) = ⊤
-IsMeasured e settled (Between edits) = AreWithin (length settled) edits × IfSome e.call (IsRunOn e (undone edits settled))
+IsMeasured e settled (Between edits) = AreWithin (length settled) edits × IfSome e.call (λ call. IsRunOn e (undone edits settled) call × IsRunOn e settled call)
 
 -- The run ends on the settled inputs, and the present ones are these but for bases.
 pub record IsSettledOn (e : EngineState) (settled : List Block) (call : Call) : Type 0 where
@@ -118,4 +118,4 @@ pub record Holds (program : Typed) (names : List (List ℕ)) (e : EngineState) (
   pub within : AreWithin (length e.inputs) j.since
   pub settled : has_run e.phase ≡ true → IfSome e.call (IsSettledOn e (settled_of e j))
   pub was : IsWhole e.phase → IfSome e.call (λ call. IfSome (trace e) (WasHonest e (settled_of e j) call))
-  pub measured : has_run e.phase ≡ true → IsMeasured e (settled_of e j) j.measure
+  pub measured : IsMeasured e (settled_of e j) j.measure

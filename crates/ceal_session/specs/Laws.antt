@@ -76,15 +76,3 @@ KeptLaw = (old new m : Situation) (line text : List ℕ) → IsIn old m
 abbrev pub DroppedLaw : Type 0
 DroppedLaw = (session m : Situation) (command : Command) (call : Call) → IsIn session m → call_of m.state command ≡ Ok call
     → IsIn (dropped session call) (dropped m call)
-
--- Situations that are the same up to the numbers of core blocks have the same replies, line by line. So a session that is
--- saved and resumed answers as one that never stopped.
-abbrev pub AlikeLaw : Type 0
-AlikeLaw = (m n end : Situation) (lines : List (List ℕ)) (out : List ℕ) → Stands m → IsIn m n → Leads n lines out end
-    → (other : Situation) × Leads m lines out other × Stands other × IsIn other end
-
--- After a `propagate` that repaired a trace, the work is at most the bound, and that is at most the steps of the run.
-abbrev pub BoundedLaw : Type 0
-BoundedLaw = (m : Situation) (command : Option Command) (call : Call) (l a : Repaired) → Stands m → call_in m.state command ≡ Ok call → reads_in command ≡ None
-    → last m ≡ Some l → last (behind m command) ≡ Some a
-    → (a.work ≤ (behind m command).bound) × ((behind m command).bound ≤ steps_of a.items)

@@ -13,6 +13,7 @@ pub mod Asking
 pub mod Standing
 pub mod Recording
 pub mod Laws
+pub mod Entries
 -- what its own functions say of each other
 pub mod Undoing
 pub mod Journal

@@ -46,8 +46,14 @@ pub record IsSettled (code : Code) (s : State) : Type 0 where
   pub count : length s.settled ≡ length s.inputs
 
 -- What is true of the trace of a session, whatever the numbers of its core blocks are.
+pub record HasTraceOf (m : Situation) (call : Call) (l : Repaired) : Type 0 where
+  pub now : Fits m.code m.state.inputs call.function call.args
+  pub was : Fits m.code m.state.settled call.function call.args
+  pub settled : IsSettled m.code m.state
+  pub trace : IsTraceIn m.code m.state call l
+
 abbrev pub HasTrace : Situation → Type 0
-HasTrace m = IfSome m.state.call (λ call. IfSome (last m) (λ l. IsSettled m.code m.state × Fits m.code m.state.inputs call.function call.args × IsTraceIn m.code m.state call l))
+HasTrace m = IfSome m.state.call (λ call. IfSome (last m) (HasTraceOf m call))
 
 -- The program has this code; each input has a name; the inputs fit, and so does the accepted call; the past is one of it.
 pub record Stands (m : Situation) : Type 0 where

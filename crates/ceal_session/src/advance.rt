@@ -1,9 +1,9 @@
 // How an engine is brought forward, and what the journal and the reply are then.
 
-ghost use Rattle.std.specs.Prelude.{◌≡◌, ◌≢◌, true, Some, None, Ok as OkOf};
+ghost use Rattle.std.specs.Prelude.{◌≡◌, ◌≢◌, ℕ, true, Option, Some, None, Ok as OkOf};
 ghost use Rattle.ceal_code.specs.Fitting.{Fits};
-ghost use Rattle.ceal_engine.specs.Engine.{has_run, IsWhole};
-ghost use Rattle.ceal_engine.specs.declared.phase.Came.TheVariants.{Anew, Done};
+ghost use Rattle.ceal_engine.specs.Engine.{has_run};
+ghost use Rattle.ceal_engine.specs.declared.phase.Came.TheVariants.{Anew};
 ghost use Rattle.ceal_engine.specs.declared.phase.Phase.TheVariants.{New, Finished, Dropped};
 ghost use Rattle.ceal_session.specs.Advancing.{Brings, Brought, is_more, journal_behind, reply_behind, part_behind, with_came};
 
@@ -26,16 +26,6 @@ fn came_anew(outcome: Result<(), RunError>) -> Result<Came, RunError>
     }
 }
 
-/// A run that ended was a whole repair.
-fn came_done(outcome: Result<(), RunError>) -> Result<Came, RunError>
-    ensures { result ≡ with_came Done outcome }
-{
-    match outcome {
-        Ok(()) => Ok(Came::Done),
-        Err(error) => Err(error),
-    }
-}
-
 /// The first run.
 pub fn first_advanced(engine: &mut Engine, call: &Call) -> Result<Came, RunError>
     requires new { engine.old.phase ≡ New }
@@ -50,27 +40,15 @@ pub fn first_advanced(engine: &mut Engine, call: &Call) -> Result<Came, RunError
 }
 
 /// A run that is dropped is run anew.
-fn run_anew(engine: &mut Engine, reads: Option<u32>) -> Result<Came, RunError>
+fn run_anew(engine: &mut Engine) -> Result<Came, RunError>
     requires dropped { engine.old.phase ≡ Dropped }
-    ensures brings { Brought engine.old reads result engine.new }
+    ensures brings { (reads : Option ℕ) → Brought engine.old reads result engine.new }
 {
     // for the proof: it is an engine before and after, by the clause `whole`
     let _before = engine.phase();
     let outcome = engine.propagate();
     let _after = engine.phase();
     came_anew(outcome)
-}
-
-/// The whole repair of a run.
-fn repaired(engine: &mut Engine) -> Result<Came, RunError>
-    requires whole { IsWhole engine.old.phase }
-    ensures brings { Brought engine.old None result engine.new }
-{
-    // for the proof: it is an engine before and after, by the clause `whole`
-    let _before = engine.phase();
-    let outcome = engine.propagate();
-    let _after = engine.phase();
-    came_done(outcome)
 }
 
 /// What is left of a repair, or so many stale reads of it.
@@ -92,12 +70,12 @@ pub fn advanced(engine: &mut Engine, reads: Option<u32>) -> Result<Came, RunErro
     requires some { reads ≢ Some 0 }
     ensures brings { Brought engine.old reads result engine.new }
 {
-    match (engine.phase(), reads) {
-        (Phase::New, _) => unreachable!(),
-        (Phase::Dropped, _) => run_anew(engine, reads),
-        (Phase::Finished, None) => repaired(engine),
-        (Phase::Pending, None) => repaired(engine),
-        _ => continued(engine, reads),
+    match engine.phase() {
+        Phase::New => unreachable!(),
+        Phase::Finished => continued(engine, reads),
+        Phase::Pending => continued(engine, reads),
+        Phase::Partial => continued(engine, reads),
+        Phase::Dropped => run_anew(engine),
     }
 }
 
