@@ -10,7 +10,7 @@ use Rattle.ceal_code.proofs.Same.{none-some, some-same}
 use Rattle.ceal_code.specs.Fitting.{Fits}
 use Rattle.ceal_code.specs.Program.{Code}
 use Rattle.ceal_code.specs.Replay.{Replays}
-use Rattle.ceal_engine.specs.Engine.{EngineState, IsEngine, IsPresent, IsTraced, IsWhole, ReplaysCall, trace, fresh_call, fresh_of, has_run}
+use Rattle.ceal_engine.specs.Engine.{EngineState, IsEngine, IsPresent, IsTraced, is_whole, IsWhole, ReplaysCall, trace, fresh_call, fresh_of, has_run}
 use Rattle.ceal_engine.specs.declared.phase.Came.TheVariants.{More, Done, Anew}
 use Rattle.ceal_engine.specs.declared.phase.Phase.{Phase}
 use Rattle.ceal_engine.specs.declared.phase.Phase.TheVariants.{New, Finished as IsFinished, Pending, Partial, Dropped}
@@ -31,6 +31,20 @@ use Rattle.ceal_session.specs.Works.{first_trace, steps_in_first, bound_by}
 use Rattle.ceal_theory.specs.Computed.{Repaired, first_of}
 use Rattle.ceal_theory.specs.Pasts.{Past, NoTrace, SamePast, goes, first_past, done_past, left_by, slice_of, next_repair, past_behind}
 use Rattle.ceal_theory.specs.Slices.{Repair, is_done}
+
+-- the accepted call
+pub the-call : (e : EngineState) → is_some e.call ≡ true → (call : Call) × (e.call ≡ Some call)
+the-call e h = go e.call h
+  where
+    go : (o : Option Call) → is_some o ≡ true → (call : Call) × (o ≡ Some call)
+    go None h = absurd (grind (arith, h))
+    go (Some call) h = (call, refl)
+
+pub not-new : (e : EngineState) → IsEngine e → is_some e.call ≡ true → e.phase ≡ New → ⊥
+not-new e k h ph = let none = k.uncalled ph in absurd (grind (arith, h, none))
+
+pub fits-of : (e : EngineState) → IsEngine e → (call : Call) → e.call ≡ Some call → Fits e.code e.inputs call.function call.args
+fits-of e k call i = subst (λ o. IfSome o (λ c. Fits e.code e.inputs c.function c.args)) i k.call
 
 module _ (p : Typed) (names : List (List ℕ)) (e : EngineState) (j : JournalState) (pending : Bool) (h : Holds p names e j pending) (call : Call) (fits : Fits e.code e.inputs call.function call.args)
     (reads : Option ℕ) (e' : EngineState) (k' : IsEngine e') where
@@ -71,7 +85,7 @@ module _ (p : Typed) (names : List (List ℕ)) (e : EngineState) (j : JournalSta
     not-going (inr n) = ap goes (past-none e' k' n)
     not-going (inl f) =
         let l = some-trace (trace e') (k'.kept ∙ ap has_run f) in
-        ap goes (past-traced e' l.0 (inl f) l.1)
+        ap goes (past-traced e' l.0 (ap is_whole f) l.1)
 
     is-going : e'.phase ≡ Partial → goes (past_of e') ≡ true
     is-going f =
@@ -120,7 +134,7 @@ module _ (p : Typed) (names : List (List ℕ)) (e : EngineState) (j : JournalSta
     b.began.1,
     record {
       state = rw (b.fuel, b.inputs, b.phase, b.called, b.began.2) refl;
-      more = is-going (Ok More) b b.phase;
+      going = is-going (Ok More) b b.phase;
       retraces = record {
         code = b.code;
         past = b.makes;
@@ -135,7 +149,7 @@ module _ (p : Typed) (names : List (List ℕ)) (e : EngineState) (j : JournalSta
         present-run (Ok Done) b b.completes,
         record {
           state = rw (b.fuel, b.inputs, b.phase, b.called) refl;
-          more = not-going (Ok Done) b (inl b.phase);
+          going = not-going (Ok Done) b (inl b.phase);
           retraces = record {
             code = b.code;
             past = b.makes;
@@ -150,7 +164,7 @@ module _ (p : Typed) (names : List (List ℕ)) (e : EngineState) (j : JournalSta
         present-run (Ok Anew) b b.completes,
         record {
           state = rw (b.fuel, b.inputs, b.phase, b.called) refl;
-          more = not-going (Ok Anew) b (inl b.phase);
+          going = not-going (Ok Anew) b (inl b.phase);
           retraces = record {
             code = b.code;
             past = b.makes;
@@ -164,7 +178,7 @@ module _ (p : Typed) (names : List (List ℕ)) (e : EngineState) (j : JournalSta
         source-run (Err OutOfFuel) b ∙ b.completes,
         record {
           state = rw (b.fuel, b.inputs, b.phase, b.called) refl;
-          more = not-going (Err OutOfFuel) b (inr (ap has_run b.phase));
+          going = not-going (Err OutOfFuel) b (inr (ap has_run b.phase));
           retraces = record {
             code = b.code;
             past = λ q of same.
@@ -197,7 +211,7 @@ module _ (p : Typed) (names : List (List ℕ)) (e : EngineState) (j : JournalSta
   settled-now b present = here b (IsSettledOn e' e'.inputs) (record { run = present-on b present; extended = extended-same e'.code e'.inputs })
 
   honest-now : {outcome : Outcome} → (b : Brings e call reads outcome e') → IsPresent e' → e'.phase ≡ IsFinished → IfSome e'.call (λ call. IfSome (trace e') (WasHonest e' e'.inputs call))
-  honest-now b present ph = here b (λ call. IfSome (trace e') (WasHonest e' e'.inputs call)) (go (trace e') (k'.traced ph) (k'.replays (inl ph)))
+  honest-now b present ph = here b (λ call. IfSome (trace e') (WasHonest e' e'.inputs call)) (go (trace e') (k'.traced ph) (k'.replays (ap is_whole ph)))
     where
       go : (o : Option Trace) → IfSome o (IsTraced e') → IfSome o (ReplaysCall e') → IfSome o (WasHonest e' e'.inputs call)
       go None t r = tt
@@ -223,7 +237,7 @@ module _ (p : Typed) (names : List (List ℕ)) (e : EngineState) (j : JournalSta
     present = λ i. refl;
     within = tt;
     settled = λ i. absurd (grind (arith, ph, i));
-    was = λ i. absurd (elim i [ inl f ↦ grind (arith, ph, f) | inr f ↦ grind (arith, ph, f) ]);
+    was = λ i. absurd (let w = ap is_whole ph in grind (arith, w, i));
     measured = tt;
   }
 
@@ -239,7 +253,7 @@ module _ (p : Typed) (names : List (List ℕ)) (e : EngineState) (j : JournalSta
     settled = λ i. here b (IsSettledOn e' (settled_of e' j))
         (let s : IsSettledOn e (settled_of e j) call = subst (λ o. IfSome o (IsSettledOn e (settled_of e j))) b.began.2 (h.settled b.began.0) in
         rw b.inputs (record { run = run-on b (settled_of e j) s.run; extended = rw (b.code, b.inputs) s.extended }));
-    was = λ i. absurd (let ph = b.phase in elim i [ inl f ↦ grind (arith, ph, f) | inr f ↦ grind (arith, ph, f) ]);
+    was = λ i. absurd (let w = ap is_whole b.phase in grind (arith, w, i));
     measured = measured-same j.measure h.measured;
   }
     where

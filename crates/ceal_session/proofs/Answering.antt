@@ -19,10 +19,11 @@ use Rattle.ceal_base.specs.declared.word.Word.{Word}
 use Rattle.ceal_base.specs.declared.word.Word.TheVariants.{Num, Null, Block as BlockWord, At}
 use Rattle.ceal_code.specs.Value.{is_cell}
 use Rattle.ceal_base.specs.declared.call.Call.{Call}
+use Rattle.ceal_script.specs.Lines.{IsLineOf}
 use Rattle.ceal_script.specs.declared.command.Command.{Command}
 use Rattle.ceal_script.specs.declared.command.Command.TheVariants.{Blank, Mod, New, Set, Run, Propagate, Slice, Get, Show, Blocks, Steps, Work, Bound}
 use Rattle.ceal_script.specs.declared.command.PlaceWord.{PlaceWord}
-use Rattle.ceal_session.specs.Asking.{IsCellSense, IsFor, CanTell}
+use Rattle.ceal_session.specs.Asking.{IsCellSense, IsFor, CanTell, HasReads}
 use Rattle.ceal_session.specs.Runs.{memory_of, run_of}
 use Rattle.ceal_session.specs.Senses.{fields_of, fields_numbered, field_named, input_named, block_sense, kind_sense, field_sense, member_sense, part_sense, shape_in, found_sense, place_sense, value_sense, is_unknown, words_of, mod_shape, struct_shape, struct_named, function_named}
 use Rattle.ceal_session.specs.State.{State}
@@ -199,3 +200,19 @@ module _ (s : State) where
   pub called-first : (o : Option ℕ) (senses : List Sense) (call : Call) → called s o senses ≡ Ok call → IsFirst s call
   called-first None senses call h = absurd (grind (arith, h))
   called-first (Some n) senses call h = function-first n (slice_get s.program.functions n) senses call refl h
+
+-- a part of a repair that a line asks for has a read
+pub has-reads : (command : Command) (line : List ℕ) → IsLineOf command line → HasReads command
+has-reads Blank line h = tt
+has-reads (Mod name kind value) line h = tt
+has-reads (New name shape values) line h = tt
+has-reads (Set place value) line h = tt
+has-reads (Run function args) line h = tt
+has-reads Propagate line h = tt
+has-reads (Slice reads) line h = h.says.2.2
+has-reads (Get place) line h = tt
+has-reads (Show name) line h = tt
+has-reads Blocks line h = tt
+has-reads Steps line h = tt
+has-reads Work line h = tt
+has-reads Bound line h = tt

@@ -1,5 +1,5 @@
 -- The work of a propagate that repaired a trace is at most the bound, and that is at most the steps of the run.
-use Rattle.std.proofs.Common.{◌≡◌, ◌⊎◌, inl, inr, ℕ, ◌≤◌, Bool, true, false, if◌then◌else◌, Option, Some, None, Result, Ok, Err, List, refl, sym, ap, ◌∙◌, subst, arith}
+use Rattle.std.proofs.Common.{◌≡◌, ◌⊎◌, inl, inr, ℕ, ◌≤◌, Bool, true, false, if◌then◌else◌, Option, Some, None, Result, Ok, Err, List, map, refl, sym, ap, ◌∙◌, subst, arith}
 use Rattle.std.specs.Prelude.{IfSome}
 use Rattle.ceal_base.specs.Block.{Block}
 use Rattle.ceal_base.specs.Finished.{Finished}
@@ -14,7 +14,13 @@ use Rattle.ceal_cost.proofs.Bounds.{bound-law}
 use Rattle.ceal_cost.proofs.Firsts.{restored}
 use Rattle.ceal_cost.specs.Bounds.{first_cost}
 use Rattle.ceal_session.proofs.Ran.{above, is-above, few-steps, first-ends, has-first}
-use Rattle.ceal_session.specs.Following.{Retraces, IsBounded}
+use Rattle.ceal_script.specs.declared.command.Command.{Command}
+use Rattle.ceal_script.specs.declared.command.Command.TheVariants.{Blank, Mod, New, Set, Run, Propagate, Slice, Get, Show, Blocks, Steps, Work, Bound}
+use Rattle.ceal_session.proofs.Answering.{called-first}
+use Rattle.ceal_session.specs.Following.{Goes, Retraces, IsBounded}
+use Rattle.ceal_session.specs.Senses.{function_named, value_sense}
+use Rattle.ceal_session.specs.Steps.{call_of, reads_of, called_again}
+use Rattle.ceal_session.specs.declared.refusal.Refusal.{Refusal}
 use Rattle.ceal_session.specs.Standing.{IsTraceIn, IsSettled, HasTraceOf, HasTrace}
 use Rattle.ceal_session.specs.State.{State, Situation, completed, last}
 use Rattle.ceal_session.specs.Works.{first_trace, steps_in_first, bound_by, past_left, bound_left}
@@ -124,7 +130,9 @@ module _ (m n : Situation) (call : Call) (r : Retraces m call None n) where
       go NoTrace e = tt
       go (Going x) e = tt
       go (Traced l) e =
-          let t = subst (λ q. IfSome (completed q) (HasTraceOf m call)) e (subst (λ o. IfSome o (λ c. IfSome (last m) (HasTraceOf m c))) again h) in
+          let given = subst (λ q. IfSome (completed q) (λ l. (call : Call) × (m.state.call ≡ Some call) × HasTraceOf m call l)) e h in
+          let one : given.0 ≡ call = some-same given.0 call (sym given.1 ∙ again) in
+          let t : HasTraceOf m call l = subst (λ c. HasTraceOf m c l) one given.2 in
           let self = restored m.code m.state.settled call.function call.args l.items l.items l.work
               (record { fits = t.was; replays = t.trace.was; honest = t.trace.honest }) (record { fits = t.was; replays = t.trace.was; honest = t.trace.honest }) in
           let same : SamePast m.code m.state.inputs call.function call.args m.past m.past = subst (λ q. SamePast m.code m.state.inputs call.function call.args q q) (sym e) (SamePast.traced self) in
@@ -132,3 +140,38 @@ module _ (m n : Situation) (call : Call) (r : Retraces m call None n) where
           let made = subst (λ q. SamePast m.code m.state.inputs call.function call.args (past_left m.code m.state (Ok call) None q) n.past) e (r.past m.past of same) in
           let bound = subst (λ q. n.bound ≡ bound_left m.code m.state (Ok call) None q m.bound) e (r.bound m.past of same) in
           of-past t.now t.was t.settled l t.trace e (past_left m.code m.state (Ok call) None (Traced l)) refl made bound
+
+-- so it is with each line
+pub line-bounded : (m n : Situation) (command : Command) → HasTrace m → Goes m (call_of m.state command) (reads_of command) n → IsBounded m (call_of m.state command) (reads_of command) n
+line-bounded m n Propagate h g = go m.state.call refl g
+  where
+    go : (o : Option Call) → m.state.call ≡ o → Goes m (called_again o) None n → IsBounded m (called_again o) None n
+    go None e g = tt
+    go (Some call) e g = session-bounded m n call g e h
+line-bounded m n (Run function args) h g = go (call_of m.state (Run function args)) refl
+  where
+    of-last : (call : Call) → call_of m.state (Run function args) ≡ Ok call → (o : Option Repaired)
+        → IfSome o (λ l. (call : Call) × (m.state.call ≡ Some call) × HasTraceOf m call l) → IfSome o (λ l. IfSome (last n) (λ a. (a.work ≤ n.bound) × (n.bound ≤ steps_of a.items)))
+    of-last call e None h = tt
+    of-last call e (Some l) h =
+        let first = called-first m.state (function_named m.state function) (map (value_sense m.state) args) call e in
+        absurd (let none = first.none in let there = h.1 in grind (arith, none, there))
+
+    go : (o : Result Call Refusal) → call_of m.state (Run function args) ≡ o → IsBounded m o None n
+    go (Err r) e = tt
+    go (Ok call) e = of-last call e (last m) h
+line-bounded m n (Slice reads) h g = go m.state.call
+  where
+    go : (o : Option Call) → IsBounded m (called_again o) (Some reads) n
+    go None = tt
+    go (Some call) = tt
+line-bounded m n Blank h g = tt
+line-bounded m n (Mod name kind value) h g = tt
+line-bounded m n (New name shape values) h g = tt
+line-bounded m n (Set place value) h g = tt
+line-bounded m n (Get place) h g = tt
+line-bounded m n (Show name) h g = tt
+line-bounded m n Blocks h g = tt
+line-bounded m n Steps h g = tt
+line-bounded m n Work h g = tt
+line-bounded m n Bound h g = tt

@@ -1,6 +1,6 @@
 -- What an engine makes of a run, or of what is left of a repair, is what the definition makes of each past that it had up to numbers.
 use Rattle.std.proofs.Common.{◌≡◌, ◌⊎◌, inl, inr, ℕ, Bool, true, false, if◌then◌else◌, Option, Some, None, Result, Ok, Err, IfOk, OnOk, IsSomeAnd, List, is_some, refl, sym, ap, ◌∙◌, subst, arith}
-use Rattle.std.specs.Prelude.{◌≢◌, IfSome, OnErr}
+use Rattle.std.specs.Prelude.{◌≢◌, IfSome, IsSome, OnErr}
 use Rattle.ceal_base.specs.Block.{Block}
 use Rattle.ceal_base.specs.Trace.{Trace, steps_of}
 use Rattle.ceal_base.specs.declared.call.Call.{Call}
@@ -11,8 +11,8 @@ use Rattle.ceal_code.specs.Alike.{Pairs}
 use Rattle.ceal_code.specs.Fitting.{Fits}
 use Rattle.ceal_code.specs.Program.{Code}
 use Rattle.ceal_code.specs.Replay.{Replays, plain_of}
-use Rattle.ceal_engine.specs.Engine.{EngineState, IsEngine, IsPresent, IsWhole, IsHeapOf, ReplaysCall, trace, fresh_call, fresh_of, has_run, heap_words, IfOutOfFuel}
-use Rattle.ceal_engine.specs.Partial.{CarriesFrom, Comes, GoesOn, Ends, IsAnew, carried_by, spent_in, words_in}
+use Rattle.ceal_engine.specs.Engine.{EngineState, IsEngine, IsPresent, is_whole, IsWhole, IsHeapOf, ReplaysCall, trace, fresh_call, fresh_of, has_run, heap_words, IfOutOfFuel}
+use Rattle.ceal_engine.specs.Partial.{CarriesFrom, RenamedFrom, Comes, GoesOn, Ends, IsAnew, carried_by, spent_in, words_in}
 use Rattle.ceal_engine.specs.Partial.{phase_behind as phase_of_came}
 use Rattle.ceal_engine.specs.Repaired.{IsFirst, first_call}
 use Rattle.ceal_engine.specs.declared.phase.Came.{Came}
@@ -48,14 +48,11 @@ pub past-traced : (e : EngineState) (l : Trace) → IsWhole e.phase → trace e 
 past-traced e l ph is = go e.phase ph
   where
     go : (phase : Phase) → IsWhole phase → past_by phase e ≡ Traced (record { items = l; work = e.work })
-    go New (inl p) = absurd (grind (arith, p))
-    go New (inr p) = absurd (grind (arith, p))
+    go New p = absurd (grind (arith, p))
     go Finished p = ap (traced_by e) is
     go Pending p = ap (traced_by e) is
-    go Partial (inl p) = absurd (grind (arith, p))
-    go Partial (inr p) = absurd (grind (arith, p))
-    go Dropped (inl p) = absurd (grind (arith, p))
-    go Dropped (inr p) = absurd (grind (arith, p))
+    go Partial p = absurd (grind (arith, p))
+    go Dropped p = absurd (grind (arith, p))
 
 no-trace : (o : Option Trace) → is_some o ≡ false → o ≡ None
 no-trace None h = refl
@@ -81,27 +78,37 @@ past-none e k h = go e.phase h
 -- a run is whole, or goes on
 pub whole-or-part : (phase : Phase) → has_run phase ≡ true → IsWhole phase ⊎ (phase ≡ Partial)
 whole-or-part New h = absurd (grind (arith, h))
-whole-or-part Finished h = inl (inl refl)
-whole-or-part Pending h = inl (inr refl)
+whole-or-part Finished h = inl refl
+whole-or-part Pending h = inl refl
 whole-or-part Partial h = inr refl
 whole-or-part Dropped h = absurd (grind (arith, h))
 
 pub whole-runs : (phase : Phase) → IsWhole phase → has_run phase ≡ true
-whole-runs New (inl p) = absurd (grind (arith, p))
-whole-runs New (inr p) = absurd (grind (arith, p))
+whole-runs New p = absurd (grind (arith, p))
 whole-runs Finished p = refl
 whole-runs Pending p = refl
 whole-runs Partial p = refl
-whole-runs Dropped (inl p) = absurd (grind (arith, p))
-whole-runs Dropped (inr p) = absurd (grind (arith, p))
+whole-runs Dropped p = absurd (grind (arith, p))
 
 whole-spent : (phase : Phase) (work : ℕ) → IsWhole phase → spent_in phase work ≡ 0
 whole-spent New work p = refl
 whole-spent Finished work p = refl
 whole-spent Pending work p = refl
-whole-spent Partial work (inl p) = absurd (grind (arith, p))
-whole-spent Partial work (inr p) = absurd (grind (arith, p))
+whole-spent Partial work p = absurd (grind (arith, p))
 whole-spent Dropped work p = refl
+
+-- it is a trace renamed
+pub record IsTraceAs (p : Past) (b : Repaired) : Type 0 where
+  pub run : Repaired
+  pub is : p ≡ Traced run
+  pub renamed : RenamedRepair (Some run) (Some b)
+
+-- it is a repair carried
+pub record IsRepairAs (code : Code) (inputs : List Block) (f : ℕ) (args : List Word) (p : Past) (z : Repair) : Type 0 where
+  pub repair : Repair
+  pub is : p ≡ Going repair
+  pub sound : Sound code own inputs f args repair
+  pub carried : Carried code inputs 0 repair z
 
 module _ {code : Code} {inputs : List Block} {f : ℕ} {args : List Word} where
   pub same-none : {p q : Past} → SamePast code inputs f args p q → q ≡ NoTrace → p ≡ NoTrace
@@ -109,28 +116,26 @@ module _ {code : Code} {inputs : List Block} {f : ℕ} {args : List Word} where
   same-none (SamePast.traced r) e = absurd (grind (arith, e))
   same-none (SamePast.going s c) e = absurd (grind (arith, e))
 
-  -- it is a trace renamed
-  pub record IsTraceAs (p : Past) (b : Repaired) : Type 0 where
-    pub run : Repaired
-    pub is : p ≡ Traced run
-    pub renamed : RenamedRepair (Some run) (Some b)
-
   pub same-traced : {p q : Past} → SamePast code inputs f args p q → (b : Repaired) → q ≡ Traced b → IsTraceAs p b
   same-traced SamePast.none b e = absurd (grind (arith, e))
   same-traced (SamePast.traced {a = a} r) b e = record { run = a; is = refl; renamed = subst (λ x. RenamedRepair (Some a) (Some x)) (cc e) r }
   same-traced (SamePast.going s c) b e = absurd (grind (arith, e))
 
-  -- it is a repair carried
-  pub record IsRepairAs (p : Past) (z : Repair) : Type 0 where
-    pub repair : Repair
-    pub is : p ≡ Going repair
-    pub sound : Sound code own inputs f args repair
-    pub carried : Carried code inputs 0 repair z
-
-  pub same-going : {p q : Past} → SamePast code inputs f args p q → (z : Repair) → q ≡ Going z → IsRepairAs p z
+  pub same-going : {p q : Past} → SamePast code inputs f args p q → (z : Repair) → q ≡ Going z → IsRepairAs code inputs f args p z
   same-going SamePast.none z e = absurd (grind (arith, e))
   same-going (SamePast.traced r) z e = absurd (grind (arith, e))
   same-going (SamePast.going {r = r} s c) z e = record { repair = r; is = refl; sound = s; carried = subst (Carried code inputs 0 r) (cc e) c }
+
+-- a repair goes on only where a number of reads was given
+pub some-reads : (outcome : Outcome) (reads : Option ℕ) → IfOk outcome (λ came. came ≡ More → IsSome reads) → IfOk outcome (λ came. came ≡ More → is_some reads ≡ true)
+some-reads (Ok c) None h = h
+some-reads (Ok c) (Some k) h = λ e. refl
+some-reads (Err e) reads h = tt
+
+-- the run of a dropped one is a first one
+pub from-dropped : {A : Type 0} (P : Type 0) (outcome : Result A RunError) (phase : Phase) → phase ≡ Dropped → OnOk outcome (phase ≡ Dropped → P) → OnOk outcome P
+from-dropped P (Ok x) phase e h = h e
+from-dropped P (Err x) phase e h = tt
 
 -- the repair with which the definition goes on is the engine's, up to the numbers of core blocks
 pub record IsNext (e : EngineState) (p : Past) : Type 0 where
@@ -227,7 +232,7 @@ module _ (e e' : EngineState) (call : Call) (code : e'.code ≡ e.code) (fuel : 
   pub after-done : (reads : Option ℕ) (r : Repair) → IsWhole e'.phase → IsPresent e' → (h : Ends e e' reads 0 r) → Same (left_by e.code e.inputs first (Some h.repair))
   after-done reads r ph present h = go (trace e') refl h.items
     where
-      go : (o : Option Trace) → trace e' ≡ o → IsSomeAnd o _ → Same (left_by e.code e.inputs first (Some h.repair))
+      go : (o : Option Trace) → trace e' ≡ o → IsSomeAnd o (RenamedFrom 0 h.repair.items) → Same (left_by e.code e.inputs first (Some h.repair))
       go None is i = absurd i
       go (Some l) is i =
           let a = has-a-first present in
@@ -257,22 +262,22 @@ module _ (e e' : EngineState) (k : IsEngine e) (call : Call) (fit : Fits e.code 
   -- a run of a call of which there was none
   pub brought-anew : {A : Type 0} (outcome : Result A RunError) → has_run e.phase ≡ false → OnOk outcome (e'.phase ≡ Finished) → OnOk outcome (IsPresent e') → OnOk outcome (IsSomeAnd (trace e') (IsFirst e'))
       → IfOutOfFuel outcome (fresh_of e' ≡ None) → OnErr outcome (e'.phase ≡ Dropped) → Brings e call reads (with_came Anew outcome) e'
-  brought-anew (Ok x) none phase present first out dropped = record {
+  brought-anew (Ok x) none phase present one out dropped = record {
     code = code; fuel = fuel; inputs = inputs; called = called; phase = phase;
     completes = present;
     began = tt;
     slice = λ p of same. ap (λ q. slice_of e.code e.inputs e.fuel reads (next_repair e.code e.inputs q)) (same-none same (past-none e k none));
     makes = λ p of same. subst (λ q. SamePast e.code e.inputs call.function call.args (past_behind e.code e.inputs e.fuel (first_of e.code e.inputs e.fuel call.function call.args) reads q) (past_of e')) (sym (same-none same (past-none e k none)))
-        (after-first e e' call code fuel inputs called fit (inl phase) present first);
+        (after-first e e' call code fuel inputs called fit (ap is_whole phase) present one);
   }
-  brought-anew (Err OutOfFuel) none phase present first out dropped = record {
+  brought-anew (Err OutOfFuel) none phase present one out dropped = record {
     code = code; fuel = fuel; inputs = inputs; called = called; phase = dropped;
     completes = out;
     began = tt;
     slice = λ p of same. inl (ap (λ q. slice_of e.code e.inputs e.fuel reads (next_repair e.code e.inputs q)) (same-none same (past-none e k none)));
     makes = λ p of same. tt;
   }
-  brought-anew (Err Memory) none phase present first out dropped = record {
+  brought-anew (Err Memory) none phase present one out dropped = record {
     code = code; fuel = fuel; inputs = inputs; called = called; phase = dropped;
     completes = tt;
     began = tt;
@@ -308,7 +313,7 @@ module _ (e e' : EngineState) (k : IsEngine e) (call : Call) (fit : Fits e.code 
       began = (runs, again);
       slice = λ p of same. let n = next p of same in let g : Ends e e' reads 0 n.repair = comes 0 n.repair n.carries in (g.repair, slice-is p n ∙ g.is, g.done);
       makes = λ p of same. let n = next p of same in let g : Ends e e' reads 0 n.repair = comes 0 n.repair n.carries in
-          subst (λ o. SamePast e.code e.inputs call.function call.args (left o) (past_of e')) (sym (slice-is p n ∙ g.is)) (after-done e e' call code fuel inputs called fit reads n.repair (inl phase) (present (λ i. absurd (grind (arith, i)))) g);
+          subst (λ o. SamePast e.code e.inputs call.function call.args (left o) (past_of e')) (sym (slice-is p n ∙ g.is)) (after-done e e' call code fuel inputs called fit reads n.repair (ap is_whole phase) (present (λ i. absurd (grind (arith, i)))) g);
     }
     brought-on (Ok Anew) phase present comes more out dropped = record {
       code = code; fuel = fuel; inputs = inputs; called = called; phase = phase;
@@ -316,7 +321,7 @@ module _ (e e' : EngineState) (k : IsEngine e) (call : Call) (fit : Fits e.code 
       began = tt;
       slice = λ p of same. let n = next p of same in let g : IsAnew e e' reads n.repair = comes 0 n.repair n.carries in slice-is p n ∙ g.none;
       makes = λ p of same. let n = next p of same in let g : IsAnew e e' reads n.repair = comes 0 n.repair n.carries in
-          subst (λ o. SamePast e.code e.inputs call.function call.args (left o) (past_of e')) (sym (slice-is p n ∙ g.none)) (after-first e e' call code fuel inputs called fit (inl phase) (present (λ i. absurd (grind (arith, i)))) g.first);
+          subst (λ o. SamePast e.code e.inputs call.function call.args (left o) (past_of e')) (sym (slice-is p n ∙ g.none)) (after-first e e' call code fuel inputs called fit (ap is_whole phase) (present (λ i. absurd (grind (arith, i)))) g.first);
     }
     brought-on (Err OutOfFuel) phase present comes more out dropped = record {
       code = code; fuel = fuel; inputs = inputs; called = called; phase = dropped;

@@ -55,7 +55,7 @@ edited-runs Dropped h = h
 
 edited-whole : (phase : Phase) → IsWhole (edited phase) → IsWhole phase
 edited-whole New h = h
-edited-whole Finished h = inl refl
+edited-whole Finished h = refl
 edited-whole Pending h = h
 edited-whole Partial h = h
 edited-whole Dropped h = h

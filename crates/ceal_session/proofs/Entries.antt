@@ -18,6 +18,7 @@ use Rattle.ceal_session.specs.Works.{call_in, past_in, past_left, bound_in, boun
 use Rattle.ceal_session.specs.declared.refusal.Refusal.{Refusal}
 use Rattle.ceal_session.specs.declared.reply.Reply.{Reply}
 use Rattle.ceal_session.specs.declared.reply.Reply.TheVariants.{Nothing, Ok as Done, OutOfFuel, More, Finished as PartDone, Refused, Told as Asked}
+use Rattle.ceal_theory.specs.Computed.{Repaired}
 use Rattle.ceal_theory.specs.Pasts.{Past, NoTrace, Traced, Going, goes}
 
 -- a line that runs nothing is answered without a look at what goes on
@@ -39,10 +40,10 @@ same-step s a b (Some Bound) r e = refl
 
 -- the latest numbers are those of the trace, where there is one
 abbrev AreLatest : Situation → Numbers → Type 0
-AreLatest m latest = (l : _) → m.past ≡ Traced l → latest ≡ record { work = l.work; bound = m.bound }
+AreLatest m latest = (l : Repaired) → m.past ≡ Traced l → latest ≡ record { work = l.work; bound = m.bound }
 
 -- a question finds a trace
-ready-traced : (code : Code) (s : State) (o : Option Call) (p : Past) → s.call ≡ o → IsPastIn code s o p → IsReady s → (l : _) × (p ≡ Traced l)
+ready-traced : (code : Code) (s : State) (o : Option Call) (p : Past) → s.call ≡ o → IsPastIn code s o p → IsReady s → (l : Repaired) × (p ≡ Traced l)
 ready-traced code s None p c h r = absurd (let run = r.run in grind (arith, run, c))
 ready-traced code s (Some call) NoTrace c h r = absurd (let run = r.run in grind (arith, run, h))
 ready-traced code s (Some call) (Traced l) c h r = (l, refl)
@@ -72,15 +73,19 @@ entry-goes NoTrace bound later = refl
 entry-goes (Traced l) bound later = refl
 entry-goes (Going r) bound later = refl
 
-entry-coming : (latest : Numbers) (p : Past) (bound : ℕ) (later : List Entry) → (taken latest (entry_of p bound ∷ later)).coming ≡ later
-entry-coming latest NoTrace bound later = refl
-entry-coming latest (Traced l) bound later = refl
-entry-coming latest (Going r) bound later = refl
+same-run : (k l : Repaired) → Traced k ≡ Traced l → k ≡ l
+same-run k l e = cc e
 
-entry-latest : (latest : Numbers) (p : Past) (bound : ℕ) (later : List Entry) → (l : _) → p ≡ Traced l → (taken latest (entry_of p bound ∷ later)).latest ≡ record { work = l.work; bound = bound }
+entry-latest : (latest : Numbers) (p : Past) (bound : ℕ) (later : List Entry) → (l : Repaired) → p ≡ Traced l → (taken latest (entry_of p bound ∷ later)).latest ≡ record { work = l.work; bound = bound }
 entry-latest latest NoTrace bound later l e = absurd (grind (arith, e))
-entry-latest latest (Traced k) bound later l e = ap (λ (x : _). record { work = x.work; bound = bound }) (cc e)
+entry-latest latest (Traced k) bound later l e = ap (λ (x : Repaired). record { work = x.work; bound = bound }) (same-run k l e)
 entry-latest latest (Going r) bound later l e = absurd (grind (arith, e))
+
+-- the latest numbers behind it, with the entries to come
+told-on : (latest : Numbers) (p : Past) (bound : ℕ) (later : List Entry) → record { latest = (taken latest (entry_of p bound ∷ [])).latest; coming = later } ≡ taken latest (entry_of p bound ∷ later)
+told-on latest NoTrace bound later = refl
+told-on latest (Traced l) bound later = refl
+told-on latest (Going r) bound later = refl
 
 -- the situation behind each line stands
 abbrev pub BehindLaw : Type 0
@@ -100,8 +105,11 @@ module _ (stands : BehindLaw) where
     abbrev more : Bool
     more = goes (past_in m command)
 
+    abbrev entry : Entry
+    entry = entry_of (past_in m command) (bound_in m command)
+
     -- the answer, by these numbers, and where it is told so that a repair goes on
-    answer : (told : Bool) → answered_line m.state more command ≡ answered_line m.state told command → Answers m.state latest told line text (behind m command).state
+    abbrev answer : (told : Bool) → answered_line m.state more command ≡ answered_line m.state told command → Answers m.state latest told line text (behind m command).state
     answer told same = record {
       command = command;
       reads = r.reads;
@@ -116,58 +124,47 @@ module _ (stands : BehindLaw) where
         let bound : bound_in m command ≡ m.bound = ap (λ c. bound_left m.code m.state c (reads_in command) m.past m.bound) i in
         al l (sym past ∙ e) ∙ ap (λ b. record { work = l.work; bound = b }) (sym bound)
 
+    -- a line, before lines that have entries
+    on-line : (lines : List (List ℕ)) (out rest : List ℕ) → out ≡ text ++ rest → ((next : Numbers) → AreLatest (behind m command) next → Found (behind m command) next lines rest)
+        → (calls : Result Call Refusal) → call_in m.state command ≡ calls → Found m latest (line ∷ lines) out
+    unfolding AreEntries AreReplies
+    on-line lines out rest e on (Err x) i =
+        let f = on latest (calm-latest x i) in
+        record {
+          entries = f.entries;
+          are = (command, f.entries, r.reads, f.are, ap (λ c. entries_by c entry ++ f.entries) (sym i));
+          text = (
+            text,
+            (behind m command).state,
+            rest,
+            answer (goes_on f.entries) (same-step m.state more (goes_on f.entries) command x i),
+            subst (λ c. AreReplies (behind m command).state (told_behind c latest f.entries) lines rest) (sym i) f.text,
+            e,
+          );
+        }
+    on-line lines out rest e on (Ok call) i =
+        let f = on (taken latest (entry ∷ [])).latest (λ l q. entry-latest latest (past_in m command) (bound_in m command) [] l q) in
+        record {
+          entries = entry ∷ f.entries;
+          are = (command, f.entries, r.reads, f.are, ap (λ c. entries_by c entry ++ f.entries) (sym i));
+          text = (
+            text,
+            (behind m command).state,
+            rest,
+            answer (goes_on (entry ∷ f.entries)) (ap (λ g. answered_line m.state g command) (sym (entry-goes (past_in m command) (bound_in m command) f.entries))),
+            subst (λ c. AreReplies (behind m command).state (told_behind c latest (entry ∷ f.entries)) lines rest) (sym i)
+            (subst (λ t. AreReplies (behind m command).state t lines rest) (told-on latest (past_in m command) (bound_in m command) f.entries) f.text),
+            e,
+          );
+        }
+
   found : (m end : Situation) (latest : Numbers) (lines : List (List ℕ)) (out : List ℕ) → Stands m → AreLatest m latest → Leads m lines out end → Found m latest lines out
   unfolding Leads AreEntries AreReplies
   found m end latest [] out st al h = record { entries = []; are = refl; text = h.0 }
-  found m end latest (line ∷ lines) out st al (text, mid, rest, r, leads, e) = by (call_in m.state command') refl
-    where
-      abbrev command' : Option Command
-      command' = r.command
-
-      abbrev entry : Entry
-      entry = entry_of (past_in m command') (bound_in m command')
-
-      on : (next : Numbers) → AreLatest (behind m command') next → Found (behind m command') next lines rest
-      on next al = found (behind m command') end next lines rest (stands m command' st) al (subst (λ t. Leads t lines rest end) r.next leads)
-
-      by : (called : Result Call Refusal) → call_in m.state command' ≡ called → Found m latest (line ∷ lines) out
-      by (Err x) i =
-          let f = on latest (calm-latest m latest st al line text mid r x i) in
-          record {
-            entries = f.entries;
-            are = (command', f.entries, r.reads, f.are, ap (λ c. entries_by c entry ++ f.entries) (sym i));
-            text = (
-              text,
-              (behind m command').state,
-              rest,
-              answer m latest st al line text mid r (goes_on f.entries) (same-step m.state (goes (past_in m command')) (goes_on f.entries) command' x i),
-              subst (λ c. AreReplies (behind m command').state (told_behind c latest f.entries) lines rest) (sym i) f.text,
-              e,
-            );
-          }
-      by (Ok call) i =
-          let p = past_in m command' in
-          let b = bound_in m command' in
-          let next : List Entry → Numbers = λ later. (taken latest (entry_of p b ∷ later)).latest in
-          let f = on (next []) (λ l q. entry-latest latest p b [] l q) in
-          record {
-            entries = entry ∷ f.entries;
-            are = (command', f.entries, r.reads, f.are, ap (λ c. entries_by c entry ++ f.entries) (sym i));
-            text = (
-              text,
-              (behind m command').state,
-              rest,
-              answer m latest st al line text mid r (goes_on (entry ∷ f.entries)) (ap (λ g. answered_line m.state g command') (sym (entry-goes p b f.entries))),
-              subst (λ c. AreReplies (behind m command').state (told_behind c latest (entry ∷ f.entries)) lines rest) (sym i)
-              (subst (λ t. AreReplies (behind m command').state t lines rest) (told p b f.entries) f.text),
-              e,
-            );
-          }
-        where
-          told : (p : Past) (b : ℕ) (later : List Entry) → record { latest = (taken latest (entry_of p b ∷ [])).latest; coming = later } ≡ taken latest (entry_of p b ∷ later)
-          told NoTrace b later = refl
-          told (Traced l) b later = refl
-          told (Going r) b later = refl
+  found m end latest (line ∷ lines) out st al (text, mid, rest, r, leads, e) =
+      on-line m latest st al line text mid r lines out rest e
+      (λ next al. found (behind m r.command) end next lines rest (stands m r.command st) al (subst (λ t. Leads t lines rest end) r.next leads))
+      (call_in m.state r.command) refl
 
   pub entries : EntriesLaw
   entries m end lines out st h =
@@ -176,12 +173,12 @@ module _ (stands : BehindLaw) where
 
 pub one-text : OneCommandLaw → OneAnswerLaw → OneStateLaw → OneTextLaw
 unfolding AreReplies
-one-text command answer state s told [] a b h k = h ∙ sym k
-one-text command answer state s told (line ∷ lines) a b (text, next, rest, x, more, e) (text', next', rest', x', more', e') =
+one-text one answer state s told [] a b h k = h ∙ sym k
+one-text one answer state s told (line ∷ lines) a b (text, next, rest, x, more, e) (text', next', rest', x', more', e') =
     let t = answer s told.latest (goes_on told.coming) line text text' next next' x x' in
     let n = state s told.latest told.latest (goes_on told.coming) line text text' next next' x x' in
-    let c = command line x.command x'.command x.reads x'.reads in
+    let c = one line x.command x'.command x.reads x'.reads in
     let there = subst (λ d. AreReplies next (told_behind (call_in s d) told.latest told.coming) lines rest) c more in
-    let r = one-text command answer state next' (told_behind (call_in s x'.command) told.latest told.coming) lines rest rest'
+    let r = one-text one answer state next' (told_behind (call_in s x'.command) told.latest told.coming) lines rest rest'
         (subst (λ t. AreReplies t (told_behind (call_in s x'.command) told.latest told.coming) lines rest) n there) more' in
     e ∙ (ap₂ ◌++◌ t r ∙ sym e')

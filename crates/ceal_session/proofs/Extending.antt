@@ -1,5 +1,6 @@
 -- Inputs that extend others: after one more, and after an edit.
-use Rattle.std.proofs.Common.{◌≡◌, ℕ, zero, suc, Bool, true, false, if◌then◌else◌, Option, Some, None, List, [], ◌∷◌, ◌++◌, ◌<◌, length, refl, sym, ap, ◌∙◌, subst, slice_get, slice_set, arith}
+use Rattle.std.proofs.Common.{◌≡◌, inl, inr, ℕ, zero, suc, Bool, true, false, if◌then◌else◌, Option, Some, None, List, [], ◌∷◌, ◌++◌, ◌<◌, length, refl, sym, ap, ◌∙◌, subst, slice_get, slice_set, arith}
+use Rattle.std.proofs.lemmas.Bool.Decides.{leb_tells}
 use Rattle.std.specs.Option.{option_map}
 use Rattle.ceal_base.specs.Block.{Block, alone, block_at, written_at}
 use Rattle.ceal_base.specs.Fitting.{kind_in, kind_at}
@@ -16,7 +17,6 @@ use Rattle.ceal_code.proofs.Same.{block-same, none-some, some-same}
 use Rattle.ceal_code.specs.Program.{Code}
 use Rattle.ceal_code.specs.Replay.{plain_words, plain_block, content_in, bases}
 use Rattle.ceal_code.specs.Value.{is_cell}
-use Rattle.std.specs.Prelude.{nat_le}
 use Rattle.ceal_theory.specs.Adjust.{Extended}
 use Rattle.ceal_theory.specs.MoreInputs.{SameBases}
 
@@ -85,7 +85,10 @@ module _ (code : Code) (old new : List Block) (h : Extended code old new) (count
 
   -- one input more behind both
   pub extended-both : (b : Block) → Extended code (old ++ b ∷ []) (new ++ b ∷ [])
-  extended-both b i block e = go (nat_le (suc i) (length old)) refl
+  extended-both b i block e = elim (leb_tells (suc i) (length old)) [
+    | inl p ↦ front (omega (arith, p.1))
+    | inr p ↦ ap (option_map (plain_block code.structs)) (sym (behind old new i count (λ k. absurd (let q = p.1 in omega (arith, k, q)))) ∙ e)
+  ]
     where
       front : i < length old → option_map (plain_block code.structs) (slice_get (new ++ b ∷ []) i) ≡ Some (plain_block code.structs block)
       front l =
@@ -98,10 +101,6 @@ module _ (code : Code) (old new : List Block) (h : Extended code old new) (count
       behind (x ∷ xs) [] i c n = absurd (omega (arith, c))
       behind (x ∷ xs) (y ∷ ys) zero c n = absurd (n (omega arith))
       behind (x ∷ xs) (y ∷ ys) (suc i) c n = behind xs ys i (omega (arith, c)) (λ l. n (omega (arith, l)))
-
-      go : (t : Bool) → nat_le (suc i) (length old) ≡ t → option_map (plain_block code.structs) (slice_get (new ++ b ∷ []) i) ≡ Some (plain_block code.structs block)
-      go true l = front (omega (arith, l))
-      go false l = ap (option_map (plain_block code.structs)) (sym (behind old new i count (λ k. absurd (omega (arith, k, l)))) ∙ e)
 
 -- the old inputs have their bases with one input more
 pub same-bases : (code : Code) (inputs : List Block) (b : Block) → SameBases code inputs (inputs ++ b ∷ [])

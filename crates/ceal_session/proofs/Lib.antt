@@ -23,4 +23,7 @@ pub mod Scripts
 pub mod KeptLine
 pub mod Entries
 pub mod Bounded
+pub mod Costing
+pub mod Held
+pub mod Answered
 pub mod Recording

@@ -1,6 +1,6 @@
 -- What a run, or a part of a repair, leaves: the definition's past behind it is one of the call.
-use Rattle.std.proofs.Common.{◌≡◌, ℕ, ◌+◌, ◌≤◌, ◌==◌, Bool, true, false, if◌then◌else◌, Option, Some, None, List, [], ◌∷◌, is_some, refl, sym, ap, ◌∙◌, subst, arith}
-use Rattle.std.specs.Prelude.{nat_le}
+use Rattle.std.proofs.Common.{◌≡◌, inl, inr, ℕ, ◌+◌, ◌≤◌, ◌==◌, Bool, true, false, if◌then◌else◌, Option, Some, None, List, [], ◌∷◌, is_some, refl, sym, ap, ◌∙◌, subst, arith}
+use Rattle.std.proofs.lemmas.Bool.Decides.{leb_tells}
 use Rattle.ceal_base.specs.Block.{Block}
 use Rattle.ceal_base.specs.Finished.{Finished}
 use Rattle.ceal_base.specs.Trace.{Trace, blocks_of, steps_of}
@@ -39,11 +39,10 @@ is-above l b h = none-above b (core_numbers (blocks_of l)) h
 module _ (code : Code) (inputs : List Block) (f : ℕ) (args : List Word) (fits : Fits code inputs f args) (fuel : ℕ) where
   -- an honest trace of a call whose run ends has no more steps than it may take
   pub few-steps : (l : Trace) → Replays code inputs f args l → IsHonest code inputs l → (r : Finished) → fresh code f args inputs fuel ≡ Some r → steps_of l ≤ fuel
-  few-steps l is honest r e = go (nat_le (steps_of l) fuel) refl
-    where
-      go : (b : Bool) → nat_le (steps_of l) fuel ≡ b → steps_of l ≤ fuel
-      go true i = omega (arith, i)
-      go false i = none-some r (sym ((trace-law code inputs f args fits l is honest).short fuel (omega (arith, i))) ∙ e)
+  few-steps l is honest r e = elim (leb_tells (steps_of l) fuel) [
+    | inl p ↦ p.1
+    | inr p ↦ none-some r (sym ((trace-law code inputs f args fits l is honest).short fuel p.1) ∙ e)
+  ]
 
   -- the first trace is there where the run ends, and not where it does not
   pub record HasFirst (r : Finished) : Type 0 where

@@ -1,5 +1,5 @@
 -- The record of an engine's run is that of the session's trace.
-use Rattle.std.proofs.Common.{◌≡◌, inl, ℕ, Bool, Option, Some, None, List, refl, sym, ap, ◌∙◌, subst}
+use Rattle.std.proofs.Common.{◌≡◌, ℕ, Bool, Option, Some, None, List, refl, sym, ap, ◌∙◌, subst}
 use Rattle.std.specs.Option.{option_map}
 use Rattle.std.specs.Prelude.{IfSome}
 use Rattle.ceal_base.specs.Trace.{Trace, flat}
@@ -7,7 +7,7 @@ use Rattle.ceal_base.specs.declared.call.Call.{Call}
 use Rattle.ceal_base.specs.declared.forest.Item.{Item}
 use Rattle.ceal_base.specs.declared.recorded.Record.{Record}
 use Rattle.ceal_base.specs.declared.typed.Typed.{Typed}
-use Rattle.ceal_engine.specs.Engine.{EngineState, IsEngine, ReplaysCall, trace}
+use Rattle.ceal_engine.specs.Engine.{EngineState, IsEngine, ReplaysCall, is_whole, trace}
 use Rattle.ceal_code.specs.Fitting.{Fits}
 use Rattle.ceal_code.specs.Replay.{Replays}
 use Rattle.ceal_record.specs.Recorded.{IsRecordOf, IsTraceOf}
@@ -38,11 +38,11 @@ module _ (p : Typed) (names : List (List ℕ)) (e : EngineState) (j : JournalSta
           call = call;
           called = called;
           run = record { items = l; work = e.work };
-          traced = ap completed (past-traced e l (inl finished) t);
+          traced = ap completed (past-traced e l (ap is_whole finished) t);
           of = of;
           is = is l same of;
         }
 
     -- the record of the engine's items is that of the session's trace
     pub record-is : IsRecorded (situation_of p names e j pending) r
-    record-is = by-trace (trace e) refl k.flat_form (k.replays (inl finished))
+    record-is = by-trace (trace e) refl k.flat_form (k.replays (ap is_whole finished))

@@ -27,7 +27,7 @@ use Rattle.ceal_code.specs.Value.{is_cell}
 use Rattle.ceal_engine.specs.Engine.{EngineState, IsEngine, Shows, block_in, stored_at, fresh_call, is_plain}
 use Rattle.ceal_base.specs.declared.call.Call.{Call}
 use Rattle.ceal_engine.specs.declared.phase.Phase.{Phase}
-use Rattle.ceal_engine.specs.declared.phase.Phase.TheVariants.{New, Finished as IsFinished, Pending, Dropped}
+use Rattle.ceal_engine.specs.declared.phase.Phase.TheVariants.{New, Finished as IsFinished, Pending, Partial, Dropped}
 use Rattle.ceal_session.proofs.KeptInputs.{Kept, kept-fresh}
 use Rattle.ceal_session.proofs.Store.{input-renamed, plain-back}
 use Rattle.ceal_session.specs.Shown.{is_finished, seen}
@@ -37,6 +37,7 @@ finished-is : (phase : Phase) → is_finished phase ≡ true → phase ≡ IsFin
 finished-is New h = absurd (grind (arith, h))
 finished-is IsFinished h = refl
 finished-is Pending h = absurd (grind (arith, h))
+finished-is Partial h = absurd (grind (arith, h))
 finished-is Dropped h = absurd (grind (arith, h))
 
 -- what is seen is of a finished run

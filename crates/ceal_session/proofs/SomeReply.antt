@@ -121,10 +121,10 @@ pub record Accepted (s : State) (call : Call) : Type 0 where
   pub only : (s.call ≡ None) ⊎ (s.call ≡ Some call)
 
 -- what a line with this call moves of the state
-pub record Moves (s t : State) (called : Result Call Refusal) : Type 0 where
-  pub called : (call : Call) → called ≡ Ok call → t.call ≡ Some call
-  pub inputs : (call : Call) → called ≡ Ok call → t.inputs ≡ s.inputs
-  pub same_call : (r : Refusal) → called ≡ Err r → t.call ≡ s.call
+pub record Moves (s t : State) (calls : Result Call Refusal) : Type 0 where
+  pub called : (call : Call) → calls ≡ Ok call → t.call ≡ Some call
+  pub inputs : (call : Call) → calls ≡ Ok call → t.inputs ≡ s.inputs
+  pub same_call : (r : Refusal) → calls ≡ Err r → t.call ≡ s.call
 
 -- there is a text of the step's reply, and the situation behind it stands
 pub record Good (m : Situation) (called : Result Call Refusal) (step : Step) (past : Past) : Type 0 where
@@ -251,50 +251,51 @@ module _ (progress : ProgressLaw) (line_law : LineLaw) (whole_law : WholeLaw) (t
         go false false = made-with name shape (words_of senses)
 
     -- another base
-    fits-base : (p : Place) (word : Word) → IsCellOf s p → fits_cell s (kind_at s.program.structs (memory_of s) p) word ≡ true → Calm (stays (with_base s p word) Done)
-    fits-base p word cell h =
-        let e = edit-fits s.program.structs s.inputs p word st.fits (same-cell (kind_at s.program.structs (memory_of s) p) h) in
-        record {
-          text = codes "ok\n";
-          is = refl;
-          stands = record {
-            compiled = st.compiled;
-            named = st.named ∙ sym e.count;
-            fits = e.fits;
-            settled = record { fits = st.settled.fits; extended = extended-on code s.settled s.inputs t.inputs st.settled.extended edited; count = st.settled.count ∙ sym e.count };
-            called = all-called s t.inputs e.kept s.call st.called;
-            past = past-edited (subst (λ k. inputs_fit k t.inputs ≡ true) (sym structs) e.fits) s.call st.called m.past st.past;
-          };
-          moves = calm t refl;
-          extended = edited;
-        }
-      where
-        abbrev t : State
-        t = with_base s p word
+    module _ (p : Place) (word : Word) (cell : IsCellOf s p) (h : fits_cell s (kind_at s.program.structs (memory_of s) p) word ≡ true) where
+      abbrev u : State
+      u = with_base s p word
 
-        same-cell : (o : Option FieldKind) → fits_cell s o word ≡ true → fits_in s.program.structs s.inputs o word ≡ true
-        same-cell None k = k
-        same-cell (Some kind) k = k
+      same-cell : (o : Option FieldKind) → fits_cell s o word ≡ true → fits_in s.program.structs s.inputs o word ≡ true
+      same-cell None k = k
+      same-cell (Some kind) k = k
 
-        edited : Extended code s.inputs t.inputs
-        edited = extended-edited code s.inputs p word (subst (λ k. is_cell (kind_at k (memory_of s) p) ≡ true) (sym structs) cell)
+      edited : Extended code s.inputs u.inputs
+      edited = extended-edited code s.inputs p word (subst (λ k. is_cell (kind_at k (memory_of s) p) ≡ true) (sym structs) cell)
 
-        past-edited : inputs_fit code.structs t.inputs ≡ true → (o : Option Call) → IfSome o (IsCall s) → (q : Past) → IsPastIn code s o q → IsPastIn code t o q
-        past-edited fit None c q h = h
-        past-edited fit (Some call) c NoTrace h = h
-        past-edited fit (Some call) c (Traced l) h = record {
-          within = h.within;
-          replays = (inputs-law code s.inputs t.inputs call.function call.args (fits-call call c) fit edited l.items h.replays).replays;
-          was = h.was;
-          honest = h.honest;
-          few = h.few;
-          same = λ p. absurd (grind (arith, p));
-        }
-        past-edited fit (Some call) c (Going r) h = record {
-          within = h.within;
-          pending = refl;
-          sound = more-law code _ s.inputs t.inputs call.function call.args (fits-call call c) fit edited r h.sound;
-        }
+      past-edited : inputs_fit code.structs u.inputs ≡ true → (o : Option Call) → IfSome o (IsCall s) → (q : Past) → IsPastIn code s o q → IsPastIn code u o q
+      past-edited fit None c q h = h
+      past-edited fit (Some call) c NoTrace h = h
+      past-edited fit (Some call) c (Traced l) h = record {
+        within = h.within;
+        replays = (inputs-law code s.inputs u.inputs call.function call.args (fits-call call c) fit edited l.items h.replays).replays;
+        was = h.was;
+        honest = h.honest;
+        few = h.few;
+        same = λ p. absurd (grind (arith, p));
+      }
+      past-edited fit (Some call) c (Going r) h = record {
+        within = h.within;
+        pending = refl;
+        sound = more-law code _ s.inputs u.inputs call.function call.args (fits-call call c) fit edited r h.sound;
+      }
+
+      fits-base : Calm (stays u Done)
+      fits-base =
+          let e = edit-fits s.program.structs s.inputs p word st.fits (same-cell (kind_at s.program.structs (memory_of s) p) h) in
+          record {
+            text = codes "ok\n";
+            is = refl;
+            stands = record {
+              compiled = st.compiled;
+              named = st.named ∙ sym e.count;
+              fits = e.fits;
+              settled = record { fits = st.settled.fits; extended = extended-on code s.settled s.inputs u.inputs st.settled.extended edited; count = st.settled.count ∙ sym e.count };
+              called = all-called s u.inputs e.kept s.call st.called;
+              past = past-edited (subst (λ k. inputs_fit k u.inputs ≡ true) (sym structs) e.fits) s.call st.called m.past st.past;
+            };
+            moves = calm u refl;
+            extended = edited;
+          }
 
     base-good : (p : Place) (word : Word) → IsCellOf s p → (b : Bool) → fits_cell s (kind_at s.program.structs (memory_of s) p) word ≡ b
         → Calm (if b then stays (with_base s p word) Done else refuses s C4)
@@ -331,7 +332,7 @@ module _ (progress : ProgressLaw) (line_law : LineLaw) (whole_law : WholeLaw) (t
         go o (inr e) h = past-of code s call m.past (subst (λ o. IsPastIn code s o m.past) e h)
 
     -- what a run leaves, by the run from scratch
-    pub ran-here : (call : Call) → Accepted s call → (reads : Option ℕ)
+    pub ran-here : (call : Call) (a : Accepted s call) (reads : Option ℕ)
         → Ran code s.inputs call.function call.args (fits-call call a.is) s.fuel reads (run_of s call) (past_left code s (Ok call) reads m.past)
     ran-here call a reads =
         subst (λ o. Ran code s.inputs call.function call.args (fits-call call a.is) s.fuel reads o (past_left code s (Ok call) reads m.past)) (code-run call a.is)
@@ -375,7 +376,7 @@ module _ (progress : ProgressLaw) (line_law : LineLaw) (whole_law : WholeLaw) (t
       ran-good _ g (Ran.ended l r e replays honest few) = completed false (ap is_none e) (Traced l) (record { within = refl; replays = replays; was = replays; honest = honest; few = few; same = λ p. refl })
       ran-good _ g (Ran.going r sound some) = absurd (grind (arith, g))
 
-    run-text : Option Finished → List ℕ
+    abbrev run-text : Option Finished → List ℕ
     run-text None = codes "out of fuel\n"
     run-text (Some f) = codes "ok\n"
 
@@ -383,7 +384,7 @@ module _ (progress : ProgressLaw) (line_law : LineLaw) (whole_law : WholeLaw) (t
     run-is None = refl
     run-is (Some f) = refl
 
-    part-text : Option Finished → List ℕ
+    abbrev part-text : Option Finished → List ℕ
     part-text None = codes "out of fuel\n"
     part-text (Some f) = codes "done\n"
 

@@ -1,5 +1,5 @@
 -- The source's run as an engine tells of it.
-use Rattle.std.proofs.Common.{◌≡◌, inl, ℕ, ◌<◌, Bool, true, Option, Some, None, List, length, is_some, refl, sym, ap, ◌∙◌, subst, arith}
+use Rattle.std.proofs.Common.{◌≡◌, ℕ, ◌<◌, Bool, true, Option, Some, None, List, length, is_some, refl, sym, ap, ◌∙◌, subst, arith}
 use Rattle.std.specs.Prelude.{IsSome, IsTrue}
 use Rattle.ceal_base.specs.Access.{word_in, content_of}
 use Rattle.ceal_base.specs.Block.{Blocks, block_at}
@@ -16,7 +16,7 @@ use Rattle.ceal_base.specs.declared.word.Word.{Word}
 use Rattle.ceal_base.specs.declared.word.Word.TheVariants.{Num, Null, Block as BlockWord, At}
 use Rattle.ceal_code.proofs.Memory.{got}
 use Rattle.ceal_code.specs.Laws.{ProgressLaw}
-use Rattle.ceal_engine.specs.Engine.{EngineState, IsEngine, has_run, stored_at, trace}
+use Rattle.ceal_engine.specs.Engine.{EngineState, IsEngine, is_whole, has_run, stored_at, trace}
 use Rattle.ceal_engine.specs.declared.phase.Phase.TheVariants.{Finished as IsFinished}
 use Rattle.ceal_session.proofs.Compiled.{same-structs}
 use Rattle.ceal_session.proofs.Seen.{seen-is, seen-same, input-count}
@@ -94,7 +94,7 @@ module _ (p : Typed) (names : List (List ℕ)) (e : EngineState) (j : JournalSta
     where
       go : (o : Option Trace) → trace e ≡ o → is_some o ≡ true → n ≡ (numbers_in (situation_of p names e j pending)).work
       go None t s = absurd (grind (arith, s))
-      go (Some l) t s = i ∙ ap (λ q. latest_work (completed q)) (sym (past-traced e l (inl finished) t))
+      go (Some l) t s = i ∙ ap (λ q. latest_work (completed q)) (sym (past-traced e l (ap is_whole finished) t))
 
   -- nothing was edited since, so that the present inputs are the settled ones
   pub now-settled : settled_of e j ≡ e.inputs

@@ -50,14 +50,14 @@ journal_behind steps j (Err e) = settled_at 0
 abbrev pub reply_behind : Outcome → Result Reply NoMemory
 reply_behind (Ok c) = Ok Whole
 reply_behind (Err OutOfFuel) = Ok Exhausted
-reply_behind (Err Memory) = Err NoMemory.NoMemory
+reply_behind (Err Memory) = Err (record { })
 
 abbrev pub part_behind : Outcome → Result Reply NoMemory
 part_behind (Ok More) = Ok Part
 part_behind (Ok Done) = Ok PartDone
 part_behind (Ok Anew) = Ok PartDone
 part_behind (Err OutOfFuel) = Ok Exhausted
-part_behind (Err Memory) = Err NoMemory.NoMemory
+part_behind (Err Memory) = Err (record { })
 
 -- what the definition's slice is, by how the repair came out
 abbrev pub IsSliceOf : Outcome → Code → List Block → Option Repair → Type 0
@@ -115,7 +115,7 @@ with_came c (Err e) = Err e
 -- The state is this one, and what the session has of runs is what the definition makes of what it had.
 pub record Leaves (m : Situation) (call : Call) (reads : Option ℕ) (s : State) (more : Bool) (n : Situation) : Type 0 where
   pub state : n.state ≡ s
-  pub more : goes n.past ≡ more
+  pub going : goes n.past ≡ more
   pub retraces : Retraces m call reads n
 
 -- what the call leaves, by how it came out; a run that was completed is that from scratch

@@ -53,7 +53,7 @@ pub record HasTraceOf (m : Situation) (call : Call) (l : Repaired) : Type 0 wher
   pub trace : IsTraceIn m.code m.state call l
 
 abbrev pub HasTrace : Situation → Type 0
-HasTrace m = IfSome m.state.call (λ call. IfSome (last m) (HasTraceOf m call))
+HasTrace m = IfSome (last m) (λ l. (call : Call) × (m.state.call ≡ Some call) × HasTraceOf m call l)
 
 -- The program has this code; each input has a name; the inputs fit, and so does the accepted call; the past is one of it.
 pub record Stands (m : Situation) : Type 0 where

@@ -58,6 +58,8 @@ fn cost_since(alloc: Global, engine: &Engine, edits: &[Edit]) -> Result<u32, NoM
     ensures { IfOk result
         (λ n. n ≡ bound_from engine.now engine.now.inputs (Between edits.now)) }
 {
+    // for the proof: it is an engine, by the clause `whole`
+    let _phase = engine.phase();
     let mut before = engine.inputs()?;
     undo(&mut before, edits);
     match engine.call() {

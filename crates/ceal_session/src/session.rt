@@ -20,7 +20,6 @@ use ceal_base::no_memory::NoMemory;
 use ceal_base::recorded::Record;
 use ceal_base::text::Text;
 use ceal_compile::program::Program;
-use ceal_cost::laws::bound_law;
 use ceal_script::command::Command;
 use ceal_script::line::read_line;
 use ceal_script::line_error::LineError;
@@ -117,9 +116,8 @@ fn answer_line(alloc: Global, state: &mut State, line: &[u8]) -> Result<Text, No
     ensures bounded { OnOk result (Bounds state.old line.now state.new) }
     ensures left { OnErr result (IsLeft state.old line.now state.new) }
 {
-    bound_law();
-    // for the proof: the trace of the state is honest, by the clause `traced`
-    let _names = state.names();
+    // for the proof: of the state's trace the work is bounded
+    state.traced();
     match read_line(alloc, line) {
         Ok(command) => answer_command(alloc, state, &command),
         Err(LineError::Memory) => Err(NoMemory),

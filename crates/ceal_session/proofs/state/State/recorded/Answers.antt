@@ -12,6 +12,6 @@ returns c =
       edited = sym c.is_pending.ensures ∙ c.if-is_pending.false;
     } in
     subst (λ m. IsRecorded m c.in_ok-record-in-Some.record) c.self.view_is
-    (record-is i.program i.names i.engine i.pending c.self.invariant c.phase-phase.ensures.whole (subst (λ m. IsReady m.state) (sym c.self.view_is) ready)
+    (record-is i.program i.names i.engine i.journal i.pending c.self.invariant c.phase-phase.ensures.whole (subst (λ m. IsReady m.state) (sym c.self.view_is) ready)
     c.in_ok-forest.forest c.in_ok-forest.ensures.value (record { function = c.in-Some.function; args = c.in-Some.args.now }) c.in-Some.ensures.value c.in_ok-record-in-Some.record
     (rw (c.code-code.ensures.value, c.input_blocks-inputs.ensures.value, c.items.ensures.value) at c.in_ok-record-in-Some.ensures))
