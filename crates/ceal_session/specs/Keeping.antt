@@ -83,6 +83,24 @@ situation_of program names e j pending = record {
   bound = bound_from e (settled_of e j) j.measure;
 }
 
+-- What a session holds, as contracts see it: the state, and the engine and the journal of which the rest is made.
+pub record Held : Type 0 where
+  pub state : State
+  pub engine : EngineState
+  pub journal : JournalState
+
+abbrev pub held_of : Typed → List (List ℕ) → EngineState → JournalState → Bool → Held
+held_of program names e j pending = record { state = state_of program names e j pending; engine = e; journal = j }
+
+-- the situation that a session is in by what it holds
+abbrev pub situation : Held → Situation
+situation k = record {
+  state = k.state;
+  code = k.engine.code;
+  past = past_of k.engine;
+  bound = bound_from k.engine k.state.settled k.journal.measure;
+}
+
 -- The call may be run on these inputs, and its run ends there within the fuel.
 pub record IsRunOn (e : EngineState) (inputs : List Block) (call : Call) : Type 0 where
   pub fits : Fits e.code inputs call.function call.args

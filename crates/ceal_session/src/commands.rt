@@ -3,6 +3,7 @@
 ghost use Rattle.std.specs.Prelude.{◌≡◌, ◌≤◌, [], ◌∷◌, Some, None, IfOk, OnOk, OnErr, map};
 ghost use Rattle.ceal_session.specs.Asking.{HasReads};
 ghost use Rattle.ceal_session.specs.Following.{Keeps, Goes, IsLeftBy};
+ghost use Rattle.ceal_session.specs.Keeping.{situation};
 ghost use Rattle.ceal_session.specs.Senses.{mod_shape as shape_of_mod, struct_shape as shape_of_struct, struct_named, function_named, value_sense as sense_of_value, place_sense as sense_of_place};
 ghost use Rattle.ceal_session.specs.Steps.{IsQuiet, IsFirst, runs, runs_part, called, called_again, call_of, reads_of, made_of, set as set_of, answered};
 ghost use Rattle.ceal_theory.specs.Pasts.{goes};
@@ -32,7 +33,7 @@ fn make_modifiable(
         ≡ made_of state.old.state name.now (shape_of_mod state.old.state kind.now)
         (sense_of_value state.old.state value.now ∷ [])) }
     ensures quiet { IfOk result (λ reply. IsQuiet reply → state.new ≡ state.old) }
-    ensures trace { OnOk result (Keeps state.old state.new) }
+    ensures trace { OnOk result (Keeps (situation state.old) (situation state.new)) }
     ensures err { OnErr result (state.new ≡ state.old) }
 {
     let shape = mod_shape(state, kind);
@@ -54,7 +55,7 @@ fn make_block(
         (shape_of_struct (struct_named state.old.state shape.now))
         (map (sense_of_value state.old.state) values.now)) }
     ensures quiet { IfOk result (λ reply. IsQuiet reply → state.new ≡ state.old) }
-    ensures trace { OnOk result (Keeps state.old state.new) }
+    ensures trace { OnOk result (Keeps (situation state.old) (situation state.new)) }
     ensures err { OnErr result (state.new ≡ state.old) }
 {
     let shape = struct_shape(state, shape);
@@ -82,7 +83,7 @@ fn edit(state: &mut State, place: &PlaceWord, value: &ValueWord) -> Result<Reply
         ≡ set_of state.old.state (sense_of_place state.old.state place.now)
         (sense_of_value state.old.state value.now)) }
     ensures quiet { IfOk result (λ reply. IsQuiet reply → state.new ≡ state.old) }
-    ensures trace { OnOk result (Keeps state.old state.new) }
+    ensures trace { OnOk result (Keeps (situation state.old) (situation state.new)) }
     ensures err { OnErr result (state.new ≡ state.old) }
 {
     let place = place_sense(state, place)?;
@@ -96,8 +97,9 @@ fn start(state: &mut State, call: Result<Call, Refusal>) -> Result<Reply, NoMemo
     ensures ok { IfOk result
         (λ reply. record { reply = reply; state = state.new.state } ≡ runs state.old.state call) }
     ensures quiet { IfOk result (λ reply. IsQuiet reply → state.new ≡ state.old) }
-    ensures trace { OnOk result (Goes state.old call None state.new) }
-    ensures err { OnErr result (IsLeftBy state.old call state.new) }
+    ensures trace { OnOk result
+        (Goes (situation state.old) call None (situation state.new)) }
+    ensures err { OnErr result (IsLeftBy (situation state.old) call (situation state.new)) }
 {
     match call {
         Ok(call) => state.run(&call),
@@ -119,13 +121,13 @@ fn start_first(
         (map (sense_of_value state.old.state) args.now))) }
     ensures quiet { IfOk result (λ reply. IsQuiet reply → state.new ≡ state.old) }
     ensures trace { OnOk result
-        (Goes state.old
+        (Goes (situation state.old)
         (called state.old.state (function_named state.old.state function.now)
-        (map (sense_of_value state.old.state) args.now)) None state.new) }
+        (map (sense_of_value state.old.state) args.now)) None (situation state.new)) }
     ensures err { OnErr result
-        (IsLeftBy state.old
+        (IsLeftBy (situation state.old)
         (called state.old.state (function_named state.old.state function.now)
-        (map (sense_of_value state.old.state) args.now)) state.new) }
+        (map (sense_of_value state.old.state) args.now)) (situation state.new)) }
 {
     let senses = value_senses(alloc, state, args)?;
     let call = call(alloc, state, function, senses.as_slice())?;
@@ -139,8 +141,10 @@ fn start_again(state: &mut State) -> Result<Reply, NoMemory>
         ≡ runs state.old.state (called_again state.old.state.call)) }
     ensures quiet { IfOk result (λ reply. IsQuiet reply → state.new ≡ state.old) }
     ensures trace { OnOk result
-        (Goes state.old (called_again state.old.state.call) None state.new) }
-    ensures err { OnErr result (IsLeftBy state.old (called_again state.old.state.call) state.new) }
+        (Goes (situation state.old) (called_again state.old.state.call) None
+        (situation state.new)) }
+    ensures err { OnErr result
+        (IsLeftBy (situation state.old) (called_again state.old.state.call) (situation state.new)) }
 {
     if !state.has_call() {
         return Ok(Reply::Refused(Refusal::C7));
@@ -153,11 +157,14 @@ fn start_part(state: &mut State, reads: u32) -> Result<Reply, NoMemory>
     requires { 1 ≤ reads }
     ensures ok { IfOk result
         (λ reply. record { reply = reply; state = state.new.state }
-        ≡ runs_part state.old.state (goes state.new.past) (called_again state.old.state.call)) }
+        ≡ runs_part state.old.state (goes (situation state.new).past)
+        (called_again state.old.state.call)) }
     ensures quiet { IfOk result (λ reply. IsQuiet reply → state.new ≡ state.old) }
     ensures trace { OnOk result
-        (Goes state.old (called_again state.old.state.call) (Some reads) state.new) }
-    ensures err { OnErr result (IsLeftBy state.old (called_again state.old.state.call) state.new) }
+        (Goes (situation state.old) (called_again state.old.state.call) (Some reads)
+        (situation state.new)) }
+    ensures err { OnErr result
+        (IsLeftBy (situation state.old) (called_again state.old.state.call) (situation state.new)) }
 {
     if !state.has_call() {
         return Ok(Reply::Refused(Refusal::C7));
@@ -170,12 +177,14 @@ pub fn reply_to(alloc: Global, state: &mut State, command: &Command) -> Result<R
     requires some { HasReads command.now }
     ensures ok { IfOk result
         (λ reply. record { reply = reply; state = state.new.state }
-        ≡ answered state.old.state (goes state.new.past) command.now) }
+        ≡ answered state.old.state (goes (situation state.new).past) command.now) }
     ensures quiet { IfOk result (λ reply. IsQuiet reply → state.new ≡ state.old) }
     ensures trace { OnOk result
-        (Goes state.old (call_of state.old.state command.now) (reads_of command.now) state.new) }
+        (Goes (situation state.old) (call_of state.old.state command.now) (reads_of command.now)
+        (situation state.new)) }
     ensures err { OnErr result
-        (IsLeftBy state.old (call_of state.old.state command.now) state.new) }
+        (IsLeftBy (situation state.old) (call_of state.old.state command.now)
+        (situation state.new)) }
 {
     match command {
         Command::Blank => Ok(Reply::Nothing),

@@ -4,6 +4,7 @@ ghost use Rattle.std.specs.Prelude.{◌≡◌, ◌≤◌, codes, length, IfOk, O
 ghost use Rattle.ceal_compile.specs.Compiled.{IsCompiled};
 ghost use Rattle.ceal_session.specs.Asking.{CanTell, HasReads, IsReady};
 ghost use Rattle.ceal_session.specs.Following.{IsAllowed, opened, Goes, Repairs, Bounds, IsLeft, IsLeftBy};
+ghost use Rattle.ceal_session.specs.Keeping.{situation};
 ghost use Rattle.ceal_session.specs.Recording.{IsRecorded};
 ghost use Rattle.ceal_session.specs.Replies.{Answers};
 ghost use Rattle.ceal_session.specs.Steps.{IsQuiet, answered, call_of, reads_of};
@@ -35,13 +36,13 @@ pub struct Session {
 }
 
 impl Model for Session {
-    ghost use Rattle.ceal_session.specs.State.{Situation};
+    ghost use Rattle.ceal_session.specs.Keeping.{Held};
     ghost use Rattle.ceal_base.specs.contracts.typed.TypedStmt as statement;
     ghost use Rattle.ceal_code.specs.contracts.expr.CodeExpr as expr;
     ghost use Rattle.ceal_code.specs.contracts.function.InitStmt as initialising;
     ghost use Rattle.std.specs.Coded.{codes};
 
-    ghost Value = { Situation };
+    ghost Value = { Held };
 
     ghost coded = { Prim.hlevel (codes, statement.the_row.coded, expr.the_row.coded, initialising.the_row.coded) };
 
@@ -73,7 +74,7 @@ fn text(alloc: Global, state: &State, reply: Reply, ready: Vec<u8>) -> Result<Te
     requires asked { CanTell state.now.state reply }
     requires ready { ready.items ≡ codes "out of fuel\n" }
     ensures ok { IfOk result
-        (λ text. IsText state.now.state (numbers_in state.now) reply text) }
+        (λ text. IsText state.now.state (numbers_in (situation state.now)) reply text) }
     ensures err { OnErr result (IsQuiet reply) }
 {
     match reply {
@@ -91,14 +92,17 @@ fn text(alloc: Global, state: &State, reply: Reply, ready: Vec<u8>) -> Result<Te
 fn answer_command(alloc: Global, state: &mut State, command: &Command) -> Result<Text, NoMemory>
     requires some { HasReads command.now }
     ensures reply { IfOk result
-        (λ text. IsText state.old.state (numbers_in state.old)
-        (answered state.old.state (goes state.new.past) command.now).reply text) }
+        (λ text. IsText state.old.state (numbers_in (situation state.old))
+        (answered state.old.state (goes (situation state.new).past) command.now).reply text) }
     ensures state { OnOk result
-        (state.new.state ≡ (answered state.old.state (goes state.new.past) command.now).state) }
+        (state.new.state
+        ≡ (answered state.old.state (goes (situation state.new).past) command.now).state) }
     ensures trace { OnOk result
-        (Goes state.old (call_of state.old.state command.now) (reads_of command.now) state.new) }
+        (Goes (situation state.old) (call_of state.old.state command.now) (reads_of command.now)
+        (situation state.new)) }
     ensures err { OnErr result
-        (IsLeftBy state.old (call_of state.old.state command.now) state.new) }
+        (IsLeftBy (situation state.old) (call_of state.old.state command.now)
+        (situation state.new)) }
 {
     // for the proof: each input has a name, by the clause `counted`
     let _names = state.names();
@@ -111,10 +115,13 @@ fn answer_command(alloc: Global, state: &mut State, command: &Command) -> Result
 fn answer_line(alloc: Global, state: &mut State, line: &[u8]) -> Result<Text, NoMemory>
     ensures reply { IfOk result
         (λ text. Answers state.old.state
-        (numbers_in state.old) (goes state.new.past) line.now text state.new.state) }
-    ensures trace { OnOk result (Repairs state.old line.now state.new) }
-    ensures bounded { OnOk result (Bounds state.old line.now state.new) }
-    ensures left { OnErr result (IsLeft state.old line.now state.new) }
+        (numbers_in (situation state.old)) (goes (situation state.new).past)
+        line.now text state.new.state) }
+    ensures trace { OnOk result
+        (Repairs (situation state.old) line.now (situation state.new)) }
+    ensures bounded { OnOk result
+        (Bounds (situation state.old) line.now (situation state.new)) }
+    ensures left { OnErr result (IsLeft (situation state.old) line.now (situation state.new)) }
 {
     // for the proof: of the state's trace the work is bounded
     state.traced();
@@ -132,7 +139,7 @@ impl Session {
     pub fn new(alloc: Global, program: Program, fuel: u32) -> Result<Session, NoMemory>
         requires compiled { IsCompiled program }
         requires fuel { IsAllowed fuel }
-        ensures state { IfOk result (λ session. session ≡ opened program fuel) }
+        ensures state { IfOk result (λ session. situation session ≡ opened program fuel) }
     {
         Session::seeded(alloc, program, fuel, Seed::of_text(b""))
     }
@@ -146,7 +153,7 @@ impl Session {
     ) -> Result<Session, NoMemory>
         requires compiled { IsCompiled program }
         requires fuel { IsAllowed fuel }
-        ensures state { IfOk result (λ session. session ≡ opened program fuel) }
+        ensures state { IfOk result (λ session. situation session ≡ opened program fuel) }
     {
         let state = State::new(alloc, program, fuel, seed)?;
         Ok(Session { state, alloc })
@@ -158,10 +165,13 @@ impl Session {
     pub fn command(&mut self, line: &[u8]) -> Result<Text, NoMemory>
         ensures reply { IfOk result
             (λ text. Answers self.old.state
-            (numbers_in self.old) (goes self.new.past) line.now text self.new.state) }
-        ensures trace { OnOk result (Repairs self.old line.now self.new) }
-        ensures bounded { OnOk result (Bounds self.old line.now self.new) }
-        ensures left { OnErr result (IsLeft self.old line.now self.new) }
+            (numbers_in (situation self.old)) (goes (situation self.new).past)
+            line.now text self.new.state) }
+        ensures trace { OnOk result
+            (Repairs (situation self.old) line.now (situation self.new)) }
+        ensures bounded { OnOk result
+            (Bounds (situation self.old) line.now (situation self.new)) }
+        ensures left { OnErr result (IsLeft (situation self.old) line.now (situation self.new)) }
     {
         answer_line(self.alloc, &mut self.state, line)
     }
@@ -171,7 +181,8 @@ impl Session {
     /// would be refused.
     pub fn recorded(&self) -> Result<Option<Record>, NoMemory>
         ensures { IfOk result
-            (λ found. MatchOption found (¬ IsReady self.now.state) (λ r. IsRecorded self.now r)) }
+            (λ found. MatchOption found (¬ IsReady self.now.state)
+            (λ r. IsRecorded (situation self.now) r)) }
     {
         self.state.recorded(self.alloc)
     }

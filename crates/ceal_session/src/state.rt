@@ -8,6 +8,7 @@ ghost use Rattle.ceal_session.specs.Asking.{IsReady, IsCellOf, steps_in, blocks_
 ghost use Rattle.ceal_base.specs.declared.call.Call.{Call as CallOf};
 ghost use Rattle.ceal_session.specs.Advancing.{IsAdvanced};
 ghost use Rattle.ceal_session.specs.Following.{IsAllowed, opened, Keeps, Goes, IsLeftBy};
+ghost use Rattle.ceal_session.specs.Keeping.{situation};
 ghost use Rattle.ceal_session.specs.Recording.{IsRecorded};
 ghost use Rattle.ceal_session.specs.Runs.{memory_of, present_run};
 ghost use Rattle.ceal_session.specs.Senses.{input_named, struct_named, function_named};
@@ -60,15 +61,14 @@ impl Model for State {
     ghost use Rattle.ceal_base.specs.contracts.typed.TypedStmt as statement;
     ghost use Rattle.ceal_code.specs.contracts.expr.CodeExpr as expr;
     ghost use Rattle.ceal_code.specs.contracts.function.InitStmt as initialising;
-    ghost use Rattle.ceal_session.specs.Keeping.{situation_of, Holds};
-    ghost use Rattle.ceal_session.specs.State.{Situation};
+    ghost use Rattle.ceal_session.specs.Keeping.{Held, held_of, Holds};
     ghost use Rattle.std.specs.Coded.{codes};
 
-    ghost Value = { Situation };
+    ghost Value = { Held };
 
     ghost coded = { Prim.hlevel (codes, statement.the_row.coded, expr.the_row.coded, initialising.the_row.coded) };
 
-    ghost view = { λ s. situation_of s.program s.names s.engine s.journal s.pending };
+    ghost view = { λ s. held_of s.program s.names s.engine s.journal s.pending };
 
     ghost invariant = { λ s. Holds s.program s.names s.engine s.journal s.pending };
 }
@@ -78,7 +78,7 @@ impl State {
     pub fn new(alloc: Global, program: Program, fuel: u32, seed: Seed) -> Result<State, NoMemory>
         requires compiled { IsCompiled program }
         requires fuel { IsAllowed fuel }
-        ensures { IfOk result (λ state. state ≡ opened program fuel) }
+        ensures { IfOk result (λ state. situation state ≡ opened program fuel) }
     {
         let Program { typed, code } = program;
         let program = match Numbered::new(alloc, typed) {
@@ -142,7 +142,7 @@ impl State {
 
     /// Its contract tells what is true of the trace of each state.
     pub fn traced(&self)
-        ensures { HasTrace self.now }
+        ensures { HasTrace (situation self.now) }
     {
         // for the proof: it is an engine, by the clause `whole`
         let _phase = self.engine.phase();
@@ -195,7 +195,7 @@ impl State {
             (block_of shape words.now) ≡ true }
         ensures ok { OnOk result
             (self.new.state ≡ with_input self.old.state name.now (block_of shape words.now)) }
-        ensures trace { OnOk result (Keeps self.old self.new) }
+        ensures trace { OnOk result (Keeps (situation self.old) (situation self.new)) }
         ensures err { OnErr result (self.new ≡ self.old) }
     {
         let count = self.names.len();
@@ -218,7 +218,7 @@ impl State {
         requires fits { fits_cell self.old.state
             (kind_at self.old.state.program.structs (memory_of self.old.state) place) word ≡ true }
         ensures ok { OnOk result (self.new.state ≡ with_base self.old.state place word) }
-        ensures trace { OnOk result (Keeps self.old self.new) }
+        ensures trace { OnOk result (Keeps (situation self.old) (situation self.new)) }
         ensures err { OnErr result (self.new ≡ self.old) }
     {
         let count = self.journal.len();
@@ -239,7 +239,7 @@ impl State {
     /// The first run, and how it came out.
     fn start(&mut self, call: &Call) -> Result<Came, RunError>
         requires { IsFirst self.old.state call.now }
-        ensures { IsAdvanced self.old call.now None result self.new }
+        ensures { IsAdvanced (situation self.old) call.now None result (situation self.new) }
     {
         // for the proof: it is an engine before and after, by the clause `whole`
         let _before = self.engine.phase();
@@ -256,7 +256,7 @@ impl State {
         requires called { is_some self.old.state.call ≡ true }
         requires some { reads ≢ Some 0 }
         ensures { (call : CallOf) → self.old.state.call ≡ Some call
-            → IsAdvanced self.old call reads result self.new }
+            → IsAdvanced (situation self.old) call reads result (situation self.new) }
     {
         // for the proof: it is an engine before and after, by the clause `whole`
         let _before = self.engine.phase();
@@ -273,8 +273,10 @@ impl State {
         ensures ok { IfOk result
             (λ reply. record { reply = reply; state = self.new.state }
             ≡ runs self.old.state (OkOf call.now)) }
-        ensures trace { OnOk result (Goes self.old (OkOf call.now) None self.new) }
-        ensures err { OnErr result (IsLeftBy self.old (OkOf call.now) self.new) }
+        ensures trace { OnOk result
+            (Goes (situation self.old) (OkOf call.now) None (situation self.new)) }
+        ensures err { OnErr result
+            (IsLeftBy (situation self.old) (OkOf call.now) (situation self.new)) }
     {
         let came = self.start(call);
         whole_reply(&came)
@@ -287,8 +289,11 @@ impl State {
             (λ reply. record { reply = reply; state = self.new.state }
             ≡ runs self.old.state (called_again self.old.state.call)) }
         ensures trace { OnOk result
-            (Goes self.old (called_again self.old.state.call) None self.new) }
-        ensures err { OnErr result (IsLeftBy self.old (called_again self.old.state.call) self.new) }
+            (Goes (situation self.old) (called_again self.old.state.call) None
+            (situation self.new)) }
+        ensures err { OnErr result
+            (IsLeftBy (situation self.old) (called_again self.old.state.call)
+            (situation self.new)) }
     {
         let came = self.advance(None);
         whole_reply(&came)
@@ -300,11 +305,14 @@ impl State {
         requires some { 1 ≤ reads }
         ensures ok { IfOk result
             (λ reply. record { reply = reply; state = self.new.state }
-            ≡ runs_part self.old.state (goes self.new.past)
+            ≡ runs_part self.old.state (goes (situation self.new).past)
             (called_again self.old.state.call)) }
         ensures trace { OnOk result
-            (Goes self.old (called_again self.old.state.call) (Some reads) self.new) }
-        ensures err { OnErr result (IsLeftBy self.old (called_again self.old.state.call) self.new) }
+            (Goes (situation self.old) (called_again self.old.state.call) (Some reads)
+            (situation self.new)) }
+        ensures err { OnErr result
+            (IsLeftBy (situation self.old) (called_again self.old.state.call)
+            (situation self.new)) }
     {
         let came = self.advance(Some(reads));
         part_reply(&came)
@@ -345,7 +353,7 @@ impl State {
     /// The work of the run.
     pub fn work(&self) -> u32
         requires { IsReady self.now.state }
-        ensures work { result ≡ (numbers_in self.now).work }
+        ensures work { result ≡ (numbers_in (situation self.now)).work }
         ensures run { is_some (present_run self.now.state) ≡ true }
     {
         // for the proof: it is an engine, by the clause `whole`
@@ -356,7 +364,7 @@ impl State {
     /// A bound of that work, which is made of first traces alone.
     pub fn bound(&self, alloc: Global) -> Result<u32, NoMemory>
         requires { IsReady self.now.state }
-        ensures bound { IfOk result (λ n. n ≡ self.now.bound) }
+        ensures bound { IfOk result (λ n. n ≡ (situation self.now).bound) }
         ensures run { is_some (present_run self.now.state) ≡ true }
     {
         // for the proof: it is an engine, by the clause `whole`
@@ -367,7 +375,8 @@ impl State {
     /// The record of the run. There is none where there is no run, the last one was out of fuel, or an edit or a repair is pending.
     pub fn recorded(&self, alloc: Global) -> Result<Option<Record>, NoMemory>
         ensures { IfOk result
-            (λ found. MatchOption found (¬ IsReady self.now.state) (λ r. IsRecorded self.now r)) }
+            (λ found. MatchOption found (¬ IsReady self.now.state)
+            (λ r. IsRecorded (situation self.now) r)) }
     {
         // for the proof: it is an engine, by the clause `whole`
         let _phase = self.engine.phase();
@@ -394,7 +403,7 @@ impl State {
         requires ready { IsReady self.now.state }
         requires there { input < length self.now.state.inputs }
         ensures { IfOk result
-            (λ text. TellsOf self.now.state (numbers_in self.now) (Show input)
+            (λ text. TellsOf self.now.state (numbers_in (situation self.now)) (Show input)
             (present_run self.now.state) text) }
     {
         progress_law();

@@ -2,6 +2,7 @@ use Rattle.std.proofs.Common.{◌∙◌, inl, inr, None, Some, Err, ap, refl}
 use Rattle.ceal_session.proofs.Answering.{has-reads}
 use Rattle.ceal_session.proofs.Bounded.{line-bounded}
 use Rattle.ceal_session.proofs.ReplySteps.{if-ok, if-ok-too, on-ok, on-ok-of, on-err}
+use Rattle.ceal_session.specs.Keeping.{situation}
 use Rattle.ceal_session.proofs.session.answer_line.Goals as goal
 
 pub answer_command-requires : goal.answer_command-requires
@@ -20,7 +21,7 @@ returns-in-Ok-clause-trace c =
 pub returns-in-Ok-clause-bounded : goal.returns-in-Ok-clause-bounded
 returns-in-Ok-clause-bounded c =
     on-ok-of c.answer_command.result
-    (λ h. record { command = Some c.in-Ok.command; reads = c.in-Ok.ensures.found; bounded = line-bounded c.args.state.now c.answer_command.new.state c.in-Ok.command c.traced.ensures h })
+    (λ h. record { command = Some c.in-Ok.command; reads = c.in-Ok.ensures.found; bounded = line-bounded (situation c.args.state.now) (situation c.answer_command.new.state) c.in-Ok.command c.traced.ensures h })
     c.answer_command.ensures.trace
 
 pub returns-in-Ok-clause-left : goal.returns-in-Ok-clause-left

@@ -1,11 +1,12 @@
 use Rattle.ceal_session.proofs.Answered.{whole-ok, whole-goes, whole-left}
+use Rattle.ceal_session.specs.Keeping.{situation}
 use Rattle.ceal_session.proofs.state.State.run.Goals as goal
 
 pub returns-clause-ok : goal.returns-clause-ok
-returns-clause-ok c = whole-ok c.args.self.now c.start-came.new.self c.args.call.now c.start-came.result c.start-came.ensures c.whole_reply.result c.whole_reply.ensures
+returns-clause-ok c = whole-ok (situation c.args.self.now) (situation c.start-came.new.self) c.args.call.now c.start-came.result c.start-came.ensures c.whole_reply.result c.whole_reply.ensures
 
 pub returns-clause-trace : goal.returns-clause-trace
-returns-clause-trace c = whole-goes c.args.self.now c.start-came.new.self c.args.call.now c.start-came.result c.start-came.ensures c.whole_reply.result c.whole_reply.ensures
+returns-clause-trace c = whole-goes (situation c.args.self.now) (situation c.start-came.new.self) c.args.call.now c.start-came.result c.start-came.ensures c.whole_reply.result c.whole_reply.ensures
 
 pub returns-clause-err : goal.returns-clause-err
-returns-clause-err c = whole-left c.args.self.now c.start-came.new.self c.args.call.now c.start-came.result c.start-came.ensures c.whole_reply.result c.whole_reply.ensures
+returns-clause-err c = whole-left (situation c.args.self.now) (situation c.start-came.new.self) c.args.call.now c.start-came.result c.start-came.ensures c.whole_reply.result c.whole_reply.ensures

@@ -2,7 +2,7 @@ use Rattle.std.proofs.Common.{◌≡◌, None, refl, ap, ◌∙◌, sym, subst}
 use Rattle.ceal_session.proofs.Advanced.{advanced, holds-behind}
 use Rattle.ceal_session.proofs.Compiled.{call-fits}
 use Rattle.ceal_session.specs.Advancing.{phase_behind, IsAdvanced}
-use Rattle.ceal_session.specs.Keeping.{state_of, situation_of}
+use Rattle.ceal_session.specs.Keeping.{state_of, situation, situation_of}
 use Rattle.ceal_session.specs.Steps.{IsCall}
 use Rattle.ceal_session.proofs.state.State.start.Goals as goal
 
@@ -32,7 +32,7 @@ pub returns : goal.returns
 returns c =
     let i = c.self.inside in
     let o = c.first_advanced-came in
-    subst (λ m. IsAdvanced m c.args.call.now None o.result (situation_of i.program i.names o.new.engine c.settle.new.journal c.goes_on-self-inside.result)) c.self.view_is
+    subst (λ m. IsAdvanced (situation m) c.args.call.now None o.result (situation_of i.program i.names o.new.engine c.settle.new.journal c.goes_on-self-inside.result)) c.self.view_is
     (rw (c.settle.ensures, c.goes_on-self-inside.ensures)
     (advanced i.program i.names i.engine i.journal i.pending c.self.invariant c.args.call.now
     (call-fits i.program i.engine.code c.self.invariant.compiled.code c.self.invariant.compiled.valid (state_of i.program i.names i.engine i.journal i.pending) c.args.call.now.function c.args.call.now.args refl c.phase-before.ensures.whole.inputs
