@@ -25,9 +25,10 @@ use Rattle.ceal_session.specs.Following.{Retraces, dropped}
 use Rattle.ceal_session.specs.Journal.{Measure, Number, Between, JournalState}
 use Rattle.ceal_session.specs.Keeping.{past_of, call_cost, bound_from, settled_of, situation_of, IsRunOn, IsMeasured, IsSettledOn, WasHonest, Holds}
 use Rattle.ceal_session.specs.Runs.{run_of}
-use Rattle.ceal_session.specs.State.{Situation}
+use Rattle.ceal_session.specs.State.{State, Situation}
 use Rattle.ceal_session.specs.Undoing.{undone, AreWithin}
 use Rattle.ceal_session.specs.Works.{first_trace, steps_in_first, bound_by}
+use Rattle.ceal_theory.specs.Adjust.{Extended}
 use Rattle.ceal_theory.specs.Computed.{Repaired, first_of}
 use Rattle.ceal_theory.specs.Pasts.{Past, NoTrace, SamePast, goes, first_past, done_past, left_by, slice_of, next_repair, past_behind}
 use Rattle.ceal_theory.specs.Slices.{Repair, is_done}
@@ -45,6 +46,10 @@ not-new e k h ph = let none = k.uncalled ph in absurd (grind (arith, h, none))
 
 pub fits-of : (e : EngineState) → IsEngine e → (call : Call) → e.call ≡ Some call → Fits e.code e.inputs call.function call.args
 fits-of e k call i = subst (λ o. IfSome o (λ c. Fits e.code e.inputs c.function c.args)) i k.call
+
+same-dropped : {s t : State} {c d : Code} {q : Past} → s ≡ t → c ≡ d → q ≡ NoTrace
+    → record { state = s; code = c; past = q; bound = 0 } ≡ record { state = t; code = d; past = NoTrace; bound = 0 }
+same-dropped i j k = rw (i, j, k) refl
 
 module _ (p : Typed) (names : List (List ℕ)) (e : EngineState) (j : JournalState) (pending : Bool) (h : Holds p names e j pending) (call : Call) (fits : Fits e.code e.inputs call.function call.args)
     (reads : Option ℕ) (e' : EngineState) (k' : IsEngine e') where
@@ -189,7 +194,7 @@ module _ (p : Typed) (names : List (List ℕ)) (e : EngineState) (j : JournalSta
           };
         },
       )
-  advanced (Err Memory) b = rw (b.code, b.fuel, b.inputs, b.phase, b.called, past-none e' k' (ap has_run b.phase)) refl
+  advanced (Err Memory) b = same-dropped (rw (b.fuel, b.inputs, b.phase, b.called) refl) b.code (past-none e' k' (ap has_run b.phase))
 
   -- what is true inside
   run-on : {outcome : Outcome} → Brings e call reads outcome e' → (inputs : List Block) → IsRunOn e inputs call → IsRunOn e' inputs call
@@ -199,16 +204,19 @@ module _ (p : Typed) (names : List (List ℕ)) (e : EngineState) (j : JournalSta
     is = rw (b.code, b.fuel) r.is;
   }
 
-  present-on : {outcome : Outcome} → (b : Brings e call reads outcome e') → IsPresent e' → IsRunOn e' e'.inputs call
+  present-on : {outcome : Outcome} → (b : Brings e call reads outcome e') → IsPresent e' → IsRunOn e' e.inputs call
   present-on {outcome} b present =
       let f = firsts outcome b present in
-      rw b.inputs (run-on b e.inputs (record { fits = fits; first = f.found; is = f.is }))
+      run-on b e.inputs (record { fits = fits; first = f.found; is = f.is })
+
+  on-inputs : {outcome : Outcome} → Brings e call reads outcome e' → (P : List Block → Type 0) → P e.inputs → P e'.inputs
+  on-inputs b P x = subst P (sym b.inputs) x
 
   here : {outcome : Outcome} → Brings e call reads outcome e' → (P : Call → Type 0) → P call → IfSome e'.call P
   here b P x = subst (λ o. IfSome o P) (sym b.called) x
 
   settled-now : {outcome : Outcome} → (b : Brings e call reads outcome e') → IsPresent e' → IfSome e'.call (IsSettledOn e' e'.inputs)
-  settled-now b present = here b (IsSettledOn e' e'.inputs) (record { run = present-on b present; extended = extended-same e'.code e'.inputs })
+  settled-now b present = here b (IsSettledOn e' e'.inputs) (record { run = on-inputs b (λ xs. IsRunOn e' xs call) (present-on b present); extended = extended-same e'.code e'.inputs })
 
   honest-now : {outcome : Outcome} → (b : Brings e call reads outcome e') → IsPresent e' → e'.phase ≡ IsFinished → IfSome e'.call (λ call. IfSome (trace e') (WasHonest e' e'.inputs call))
   honest-now b present ph = here b (λ call. IfSome (trace e') (WasHonest e' e'.inputs call)) (go (trace e') (k'.traced ph) (k'.replays (ap is_whole ph)))
@@ -252,7 +260,10 @@ module _ (p : Typed) (names : List (List ℕ)) (e : EngineState) (j : JournalSta
     within = subst (λ i. AreWithin (length i) j.since) (sym b.inputs) h.within;
     settled = λ i. here b (IsSettledOn e' (settled_of e' j))
         (let s : IsSettledOn e (settled_of e j) call = subst (λ o. IfSome o (IsSettledOn e (settled_of e j))) b.began.2 (h.settled b.began.0) in
-        rw b.inputs (record { run = run-on b (settled_of e j) s.run; extended = rw (b.code, b.inputs) s.extended }));
+        record {
+          run = on-inputs b (λ xs. IsRunOn e' (undone j.since xs) call) (run-on b (settled_of e j) s.run);
+          extended = on-inputs b (λ xs. Extended e'.code (undone j.since xs) xs) (subst (λ c. Extended c (settled_of e j) e.inputs) (sym b.code) s.extended);
+        });
     was = λ i. absurd (let w = ap is_whole b.phase in grind (arith, w, i));
     measured = measured-same j.measure h.measured;
   }
@@ -262,8 +273,8 @@ module _ (p : Typed) (names : List (List ℕ)) (e : EngineState) (j : JournalSta
       measured-same (Between es) x =
           let both : IsRunOn e (undone es (settled_of e j)) call × IsRunOn e (settled_of e j) call =
           subst (λ o. IfSome o (λ call. IsRunOn e (undone es (settled_of e j)) call × IsRunOn e (settled_of e j) call)) b.began.2 x.1 in
-          rw b.inputs (x.0, here b (λ call. IsRunOn e' (undone es (settled_of e j)) call × IsRunOn e' (settled_of e j) call)
-          (run-on b (undone es (settled_of e j)) both.0, run-on b (settled_of e j) both.1))
+          on-inputs b (λ xs. IsMeasured e' (undone j.since xs) (Between es))
+          (x.0, here b (λ call. IsRunOn e' (undone es (settled_of e j)) call × IsRunOn e' (settled_of e j) call) (run-on b (undone es (settled_of e j)) both.0, run-on b (settled_of e j) both.1))
   holds-behind (Ok Done) b = record {
     compiled = rw b.code h.compiled;
     named = h.named ∙ ap length (sym b.inputs);
@@ -276,7 +287,8 @@ module _ (p : Typed) (names : List (List ℕ)) (e : EngineState) (j : JournalSta
     was = λ i. honest-now b b.completes b.phase;
     measured =
         let s : IsSettledOn e (settled_of e j) call = subst (λ o. IfSome o (IsSettledOn e (settled_of e j))) b.began.1 (h.settled b.began.0) in
-        rw b.inputs (h.within, here b (λ call. IsRunOn e' (settled_of e j) call × IsRunOn e' e.inputs call) (run-on b (settled_of e j) s.run, rw (← b.inputs) (present-on b b.completes)));
+        on-inputs b (λ xs. AreWithin (length xs) j.since × IfSome e'.call (λ call. IsRunOn e' (undone j.since xs) call × IsRunOn e' xs call))
+        (h.within, here b (λ call. IsRunOn e' (settled_of e j) call × IsRunOn e' e.inputs call) (run-on b (settled_of e j) s.run, present-on b b.completes));
   }
   holds-behind (Ok Anew) b = record {
     compiled = rw b.code h.compiled;

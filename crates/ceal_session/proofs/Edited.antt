@@ -193,7 +193,7 @@ module _ (p : Typed) (names : List (List ℕ)) (e : EngineState) (j : JournalSta
     }
 
   -- one input more
-  module _ (k : IsEngine e) (name : List ℕ) (b : Block) (fits : block_fits p.structs (alone e.inputs) b ≡ true) (phase : e'.phase ≡ e.phase) (inputs : e'.inputs ≡ e.inputs ++ b ∷ []) where
+  module _ (name : List ℕ) (b : Block) (fits : block_fits p.structs (alone e.inputs) b ≡ true) (phase : e'.phase ≡ e.phase) (inputs : e'.inputs ≡ e.inputs ++ b ∷ []) where
     abbrev names' : List (List ℕ)
     names' = names ++ name ∷ []
 

@@ -1,5 +1,5 @@
 -- What is true of the trace of a session.
-use Rattle.std.proofs.Common.{◌≡◌, ⊥, ◌⊎◌, inl, inr, ℕ, Bool, true, false, Option, Some, None, List, is_some, refl, sym, ap, ◌∙◌, subst, arith}
+use Rattle.std.proofs.Common.{◌≡◌, ◌⊎◌, inl, inr, ℕ, Bool, true, false, Option, Some, None, List, is_some, refl, sym, ap, ◌∙◌, subst, arith}
 use Rattle.std.specs.Prelude.{IfSome}
 use Rattle.ceal_base.specs.Trace.{Trace}
 use Rattle.ceal_base.specs.declared.call.Call.{Call}

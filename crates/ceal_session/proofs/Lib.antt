@@ -2,7 +2,6 @@
 pub mod Compiled
 -- the rest
 pub mod Undoing
-pub mod FitsSteps
 pub mod SenseSteps
 pub mod ReplySteps
 pub mod KeptInputs
@@ -26,4 +25,5 @@ pub mod Bounded
 pub mod Costing
 pub mod Held
 pub mod Answered
+pub mod Begun
 pub mod Recording

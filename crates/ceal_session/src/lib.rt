@@ -8,7 +8,6 @@
 mod advance;
 mod bound;
 mod commands;
-mod fits;
 mod journal;
 pub mod laws;
 mod numbers;

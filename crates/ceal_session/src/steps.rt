@@ -8,13 +8,13 @@ ghost use Rattle.ceal_session.specs.Keeping.{situation};
 ghost use Rattle.ceal_session.specs.Senses.{function_named};
 ghost use Rattle.ceal_session.specs.Steps.{IsQuiet, made, made_of, made_with, set as set_of, set_word as set_sense, set_base as based, fits_function, called_with, called_function, called as called_of, asked, has_no_run, got, shown as shown_of, fits_cell};
 
-use crate::fits::{field_fits, new_block_fits, place_kind, words_fit};
 use crate::refusal::Refusal;
 use crate::reply::{Query, Reply};
 use crate::sense::Sense;
 use crate::senses::{has_unknown, is_unknown, words};
 use crate::state::State;
 use ceal_base::call::Call;
+use ceal_base::fitting::{field_fits, new_block_fits, place_kind, words_fit};
 use ceal_base::kind::{FieldKind, Shape};
 use ceal_base::no_memory::NoMemory;
 use ceal_base::text::Text;

@@ -1,4 +1,4 @@
-use Rattle.std.proofs.Common.{◌≡◌, IfOk, Some, refl, subst}
+use Rattle.std.proofs.Common.{◌≡◌, IfOk, refl, sym, subst}
 use Rattle.std.specs.Prelude.{IfSome}
 use Rattle.ceal_session.proofs.Costing.{cost-is, few-items}
 use Rattle.ceal_session.proofs.ReplySteps.{if-ok}
@@ -31,4 +31,11 @@ pub cost-requires-clause-new : goal.cost-requires-clause-new
 cost-requires-clause-new c = few-items c.args.engine.now.fuel c.phase-phase.ensures.whole.fuel.1 _ c.in_ok-new-in-Some.new c.in_ok-new-in-Some.ensures.first
 
 pub returns : goal.returns
-returns c = ?
+returns c =
+    let e = c.args.engine.now in
+    let old = undone c.args.edits.now e.inputs in
+    subst (λ o. IfOk c.cost.result (λ n. n ≡ call_cost e.code e.fuel old e.inputs o)) (sym c.in-Some.ensures.value)
+    (if-ok c.cost.result
+    (λ n k. cost-is e.fuel (first_of e.code old e.fuel c.in-Some.function c.in-Some.args.now) (first_of e.code e.inputs e.fuel c.in-Some.function c.in-Some.args.now) c.in_ok-old-in-Some.old c.in_ok-new-in-Some.new n
+    (rw (c.undo.ensures, c.in_ok-before.ensures.value) at c.in_ok-old-in-Some.ensures.first) (rw c.input_blocks.ensures.value at c.in_ok-new-in-Some.ensures.first) k)
+    c.cost.ensures)
