@@ -47,8 +47,10 @@ not-new e k h ph = let none = k.uncalled ph in absurd (grind (arith, h, none))
 pub fits-of : (e : EngineState) → IsEngine e → (call : Call) → e.call ≡ Some call → Fits e.code e.inputs call.function call.args
 fits-of e k call i = subst (λ o. IfSome o (λ c. Fits e.code e.inputs c.function c.args)) i k.call
 
-same-dropped : {s t : State} {c d : Code} {q : Past} → s ≡ t → c ≡ d → q ≡ NoTrace
-    → record { state = s; code = c; past = q; bound = 0 } ≡ record { state = t; code = d; past = NoTrace; bound = 0 }
+abbrev At : State → Code → Past → Situation
+At s c q = record { state = s; code = c; past = q; bound = 0 }
+
+same-dropped : {s t : State} {c d : Code} {q : Past} → s ≡ t → c ≡ d → q ≡ NoTrace → At s c q ≡ At t d NoTrace
 same-dropped i j k = rw (i, j, k) refl
 
 module _ (p : Typed) (names : List (List ℕ)) (e : EngineState) (j : JournalState) (pending : Bool) (h : Holds p names e j pending) (call : Call) (fits : Fits e.code e.inputs call.function call.args)

@@ -239,6 +239,7 @@ module _ (p : Typed) (names : List (List ℕ)) (e : EngineState) (j : JournalSta
 
     cost-longer : (es : List Edit) → AreWithin (length (settled_of e j)) es → (o : Option Call) → IfSome o (λ c. IsRunOn e (undone es (settled_of e j)) c × IsRunOn e (settled_of e j) c)
         → call_cost e.code e.fuel (undone es (settled_of e j ++ b ∷ [])) (settled_of e j ++ b ∷ []) o ≡ call_cost e.code e.fuel (undone es (settled_of e j)) (settled_of e j) o
+    unfolding run-longer
     cost-longer es w None r = refl
     cost-longer es w (Some c) r =
         let old = run-longer (undone es (settled_of e j)) c r.0 (code-fits (undone es (settled_of e j)) (undone-shapes es)) in
