@@ -7,7 +7,8 @@ ghost use Rattle.ceal_compile.specs.Source.{IsAccepted, IsFirstFault, IsProgram}
 ghost use Rattle.ceal_session.specs.Following.{IsAllowed};
 ghost use Rattle.ceal_io.specs.Streams.{Rose};
 ghost use Rattle.ceal_cli.specs.Growth.{WritesOutput, WritesPrefix};
-ghost use Rattle.ceal_cli.specs.Modes.{KeepsLimits, ReadsInput};
+ghost use Rattle.ceal_cli.specs.Limits.{KeepsLimits};
+ghost use Rattle.ceal_cli.specs.Modes.{ReadsInput};
 
 use crate::dump::dump;
 use crate::lines::script;
@@ -26,6 +27,7 @@ use ceal_io::{Sink, Stopped, write_all};
 use ceal_lex::split::split;
 use ceal_session::laws::{kept_line, some_reply};
 use ceal_session::session::Session;
+use ceal_types::seed::Seed;
 use std::alloc::Global;
 use std::mem::forget;
 
@@ -101,7 +103,7 @@ fn run<K: Sink>(
 {
     kept_line();
     some_reply();
-    match Session::new(alloc, program, fuel) {
+    match Session::seeded(alloc, program, fuel, Seed::of_text(input)) {
         Ok(session) => {
             let mut session = session;
             let told = reply_all(&mut session, script(input, &split(input)), sink);

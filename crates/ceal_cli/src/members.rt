@@ -1,7 +1,6 @@
 // The sessions of one input, and what makes them.
 
 ghost use Rattle.std.specs.Prelude.{◌≡◌};
-ghost use Rattle.ceal_session.specs.Following.{opened};
 ghost use Rattle.ceal_cli.specs.Members.{Opens};
 
 use crate::generate::program;
@@ -13,6 +12,7 @@ use ceal_compile::program::Program;
 use ceal_many::{Answerer, Maker};
 use ceal_session::laws::{kept_line, some_reply};
 use ceal_session::session::Session;
+use ceal_types::seed::Seed;
 use std::alloc::Global;
 use std::marker::Model;
 
@@ -23,15 +23,17 @@ pub struct Member {
 }
 
 impl Answerer for Member {
-    ghost use Rattle.ceal_cli.specs.Members.{IsIn, IsSound};
-    ghost use Rattle.ceal_cli.specs.Situations.{Replies};
     ghost use Rattle.ceal_session.specs.Following.{IsLeft};
+    ghost use Rattle.ceal_session.specs.Keeping.{situation};
+    ghost use Rattle.ceal_session.specs.Replies.{Replies};
+    ghost use Rattle.ceal_session.specs.Standing.{IsIn, Stands};
+    ghost use Rattle.ceal_session.specs.State.{Situation};
 
-    type State = Session;
+    ghost State = { Situation };
 
-    ghost stands = { λ member m. IsIn member.session m };
+    ghost stands = { λ member m. IsIn (situation member.session) m };
 
-    ghost needs = { IsSound };
+    ghost needs = { Stands };
 
     ghost answers = { Replies };
 
@@ -44,12 +46,13 @@ impl Answerer for Member {
     }
 }
 
-/// What makes the sessions of an input, which is compiled again for each. Contracts see the situation in which each of them
-/// begins.
+/// What makes the sessions of an input, which is compiled again for each. The hashes of names begin in all of them with one
+/// seed, made of the whole input. Contracts see the program and the fuel.
 #[derive(Drop)]
 pub struct Members<'a> {
     alloc: Global,
     input: &'a [u8],
+    seed: Seed,
     program: Program,
     fuel: u32,
 }
@@ -58,16 +61,14 @@ impl<'a> Model for Members<'a> {
     ghost use Rattle.ceal_base.specs.contracts.typed.TypedStmt as statement;
     ghost use Rattle.ceal_code.specs.contracts.expr.CodeExpr as expr;
     ghost use Rattle.ceal_code.specs.contracts.function.InitStmt as initialising;
-    ghost use Rattle.ceal_cli.specs.Members.{Opens};
-    ghost use Rattle.ceal_session.specs.Following.{opened};
-    ghost use Rattle.ceal_session.specs.State.{Situation};
+    ghost use Rattle.ceal_cli.specs.Members.{Beginning, Opens};
     ghost use Rattle.std.specs.Coded.{codes};
 
-    ghost Value = { Situation };
+    ghost Value = { Beginning };
 
     ghost coded = { Prim.hlevel (codes, statement.the_row.coded, expr.the_row.coded, initialising.the_row.coded) };
 
-    ghost view = { λ o. opened o.program o.fuel };
+    ghost view = { λ o. record { program = o.program; fuel = o.fuel } };
 
     ghost invariant = { λ o. Opens o.input.now o.program o.fuel };
 }
@@ -76,11 +77,12 @@ impl<'a> Members<'a> {
     /// What makes the sessions of this input, whose program this is.
     pub fn new(alloc: Global, input: &'a [u8], program: Program, fuel: u32) -> Members<'a>
         requires { Opens input.now program fuel }
-        ensures { result ≡ opened program fuel }
+        ensures { result ≡ record { program = program; fuel = fuel } }
     {
         Members {
             alloc,
             input,
+            seed: Seed::of_text(input),
             program,
             fuel,
         }
@@ -88,16 +90,18 @@ impl<'a> Members<'a> {
 }
 
 impl<'a> Maker for Members<'a> {
+    ghost use Rattle.ceal_cli.specs.Members.{first_situation};
+
     type Made = Member;
 
-    ghost opening = { λ m. m };
+    ghost opening = { first_situation };
 
     fn make(&self) -> Result<Member, NoMemory> {
         one_answer();
         one_code();
         some_reply();
         let program = program(self.alloc, self.input)?;
-        let session = Session::new(self.alloc, program, self.fuel)?;
+        let session = Session::seeded(self.alloc, program, self.fuel, self.seed)?;
         Ok(Member { session })
     }
 }

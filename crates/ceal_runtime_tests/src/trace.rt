@@ -46,6 +46,32 @@ fn line_of(node: Seen<'_>) -> Option<Line> {
     }
 }
 
+// A removed node, as a trace shows those that it has.
+fn seen(node: &Node) -> Seen<'_> {
+    match node {
+        Node::Root => Seen::Root,
+        Node::Alloc { block, key } => Seen::Alloc { block: *block, key },
+        Node::Write { place, value } => Seen::Write {
+            place: *place,
+            value: *value,
+        },
+        Node::Read {
+            place,
+            value,
+            unit,
+            var,
+            args,
+        } => Seen::Read {
+            place: *place,
+            value: *value,
+            unit: *unit,
+            var: *var,
+            args,
+        },
+        Node::End { read } => Seen::End { read: *read },
+    }
+}
+
 fn add_node<R: Abort>(rt: &R, lines: &mut Vec<Line>, node: Seen<'_>, steps: u32) {
     if let Some(line) = line_of(node) {
         lines.push(line).expect(rt, "memory");
@@ -127,7 +153,7 @@ fn increment(rt: HostRuntime) {
 // What was removed had so many steps and stands for this line.
 fn was<R: Abort>(rt: &R, gone: Gone, steps: u32, line: Line) {
     holds(rt, gone.steps == steps);
-    holds(rt, line_of(&gone.node) == Some(line));
+    holds(rt, line_of(seen(&gone.node)) == Some(line));
     drop(gone);
 }
 
