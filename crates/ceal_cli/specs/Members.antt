@@ -14,6 +14,7 @@ use Rattle.ceal_session.specs.Replies.{Replies}
 use Rattle.ceal_session.specs.Standing.{IsIn, Stands}
 use Rattle.ceal_session.specs.State.{Situation}
 use Rattle.ceal_cli.specs.declared.members.Member.{Member}
+use Rattle.ceal_cli.specs.declared.members.Start.{Start}
 
 -- The input is accepted, this is its program, and a run may take so many steps.
 pub record Opens (input : List ℕ) (program : Program) (fuel : ℕ) : Type 0 where
@@ -22,14 +23,9 @@ pub record Opens (input : List ℕ) (program : Program) (fuel : ℕ) : Type 0 wh
   pub compiled : IsCompiled program
   pub allowed : IsAllowed fuel
 
--- the program of which sessions are made, and how many steps a run of them may take
-pub record Beginning : Type 0 where
-  pub program : Program
-  pub fuel : ℕ
-
--- the situation in which each of them begins
-abbrev pub first_situation : Beginning → Situation
-first_situation b = opened b.program b.fuel
+-- the situation in which a session begins
+abbrev pub first_situation : Start → Situation
+first_situation start = opened start.program start.fuel
 
 -- Each session is in the situation of its name.
 abbrev pub AreIn : List (Entry Member) → List (Named Situation) → Type 0

@@ -16,6 +16,13 @@ use ceal_types::seed::Seed;
 use std::alloc::Global;
 use std::marker::Model;
 
+/// What sessions begin with: the program, and how many steps a run may take. Contracts alone speak of it.
+#[derive(Drop)]
+pub struct Start {
+    pub program: Program,
+    pub fuel: u32,
+}
+
 /// A session among others.
 #[derive(Drop)]
 pub struct Member {
@@ -23,13 +30,18 @@ pub struct Member {
 }
 
 impl Answerer for Member {
+    ghost use Rattle.ceal_cli.specs.Members.{first_situation};
     ghost use Rattle.ceal_session.specs.Following.{IsLeft};
     ghost use Rattle.ceal_session.specs.Keeping.{situation};
     ghost use Rattle.ceal_session.specs.Replies.{Replies};
     ghost use Rattle.ceal_session.specs.Standing.{IsIn, Stands};
     ghost use Rattle.ceal_session.specs.State.{Situation};
 
+    type Beginning = Start;
+
     ghost State = { Situation };
+
+    ghost opening = { first_situation };
 
     ghost stands = { λ member m. IsIn (situation member.session) m };
 
@@ -61,10 +73,11 @@ impl<'a> Model for Members<'a> {
     ghost use Rattle.ceal_base.specs.contracts.typed.TypedStmt as statement;
     ghost use Rattle.ceal_code.specs.contracts.expr.CodeExpr as expr;
     ghost use Rattle.ceal_code.specs.contracts.function.InitStmt as initialising;
-    ghost use Rattle.ceal_cli.specs.Members.{Beginning, Opens};
+    ghost use Rattle.ceal_cli.specs.Members.{Opens};
+    ghost use Rattle.ceal_cli.specs.declared.members.Start.{Start};
     ghost use Rattle.std.specs.Coded.{codes};
 
-    ghost Value = { Beginning };
+    ghost Value = { Start };
 
     ghost coded = { Prim.hlevel (codes, statement.the_row.coded, expr.the_row.coded, initialising.the_row.coded) };
 
@@ -90,11 +103,9 @@ impl<'a> Members<'a> {
 }
 
 impl<'a> Maker for Members<'a> {
-    ghost use Rattle.ceal_cli.specs.Members.{first_situation};
-
     type Made = Member;
 
-    ghost opening = { first_situation };
+    ghost beginning = { λ m. m };
 
     fn make(&self) -> Result<Member, NoMemory> {
         one_answer();

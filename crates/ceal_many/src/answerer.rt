@@ -8,8 +8,14 @@ use ceal_base::text::Text;
 
 /// What answers the lines of one session.
 pub trait Answerer: Drop {
+    /// What a session begins with. It is for contracts alone: nothing makes a value of it.
+    type Beginning;
+
     /// The states, which contracts alone speak of.
     ghost State: { Type 0 };
+
+    /// The state of a session that has answered no line.
+    ghost opening: { Self.Beginning → State };
 
     /// It stands for this state.
     ghost stands: { Self → State → Type 0 };
@@ -36,10 +42,11 @@ pub trait Maker: Drop {
     /// A session.
     type Made: Answerer;
 
-    /// The state in which each session begins.
-    ghost opening: { Self → Self.Made.State };
+    /// What each session begins with.
+    ghost beginning: { Self → Self.Made.Beginning };
 
     /// A session that has answered no line.
     fn make(&self) -> Result<Self::Made, NoMemory>
-        ensures opens { IfOk result (λ made. Self.Made.stands made (opening self.now)) };
+        ensures opens { IfOk result
+            (λ made. Self.Made.stands made (Self.Made.opening (beginning self.now))) };
 }
