@@ -4,7 +4,8 @@ use Rattle.std.specs.Io.KnownBytes.{Appends}
 use Rattle.std.proofs.KnownBytes.{Appends-trans, Appends-nil}
 use Rattle.ceal_io.specs.Streams.{GrowsByPrefix}
 use Rattle.ceal_session.specs.State.{Situation}
-use Rattle.ceal_cli.specs.Growth.{Grows, Serves, AreServed, BeginServed, WritesReply, WritesPart, BeginsReply, WritesReplies, BeginsToReply}
+use Rattle.ceal_cli.specs.Growth.{Grows}
+use Rattle.ceal_cli.specs.Serving.{Serves, AreServed, BeginServed, WritesReply, WritesPart, BeginsReply, WritesReplies, BeginsToReply}
 use Rattle.ceal_cli.specs.Output.{IsPrefix, Begins}
 
 -- what was written of a piece begins it

@@ -5,6 +5,7 @@ pub mod Dumping
 pub mod Found
 pub mod FromRun
 pub mod Growing
+pub mod Led
 pub mod LineEnds
 pub mod ManyReplies
 pub mod ModeLaws

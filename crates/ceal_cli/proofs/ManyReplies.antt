@@ -7,13 +7,14 @@ use Rattle.ceal_many.specs.Laws.{KeptLaw, SomeReplyLaw}
 use Rattle.ceal_many.specs.Replies.{Answers, AreReplies}
 use Rattle.ceal_many.specs.Sessions.{Named}
 use Rattle.ceal_many.specs.declared.entry.Entry.{Entry}
+use Rattle.ceal_session.specs.Laws.{OneReplyLaw, SomeReplyLaw as Session_law}
+use Rattle.ceal_session.specs.Replies.{Replies}
+use Rattle.ceal_session.specs.Standing.{Stands}
 use Rattle.ceal_session.specs.State.{Situation}
-use Rattle.ceal_session.specs.Laws.{OneCommandLaw, SomeReplyLaw as Session_law}
 use Rattle.ceal_cli.specs.ManySessions.{joined, AreTold}
-use Rattle.ceal_cli.specs.Members.{IsSound, AreIn, AreReady, Answered}
+use Rattle.ceal_cli.specs.Members.{AreIn, Answered}
 use Rattle.ceal_cli.specs.Growth.{Grows}
 use Rattle.ceal_cli.specs.Output.{Begins}
-use Rattle.ceal_cli.specs.Situations.{Replies}
 use Rattle.ceal_cli.specs.declared.members.Member.{Member}
 use Rattle.ceal_cli.proofs.Growing.{weaker}
 use Rattle.ceal_cli.proofs.Prefixes.{same-front, more-behind, nothing-first}
@@ -25,7 +26,7 @@ pub record ToldSoFar (old now : Option (List ℕ)) (first : Situation) (all left
   pub appends : Appends old now part
   pub situations : List (Named Situation)
   pub are_in : AreIn sessions situations
-  pub sound : AllMeet IsSound situations
+  pub sound : AllMeet Stands situations
   pub whole : (out : List ℕ) → AreTold first situations left out → AreTold first [] all (part ++ out)
 
 pub none-told : (a : Option (List ℕ)) (first : Situation) (lines : List (List ℕ)) (sessions : List (Entry Member)) → sessions ≡ [] → ToldSoFar a a first lines lines sessions
@@ -43,15 +44,15 @@ no-lines : (first : Situation) (ss : List (Named Situation)) → AreTold first s
 unfolding AreReplies
 no-lines first ss = record { texts = []; next = ss; replies = (refl, refl); whole = refl }
 
-module _ (session : Session_law) (command : OneCommandLaw) (kept : KeptLaw IsSound Replies) (some : SomeReplyLaw IsSound Replies) (first : Situation) (begins : IsSound first) where
+module _ (session : Session_law) (once : OneReplyLaw) (kept : KeptLaw Stands Replies) (some : SomeReplyLaw Stands Replies) (first : Situation) (begins : Stands first) where
   -- there is a text of replies
-  pub told-for : (ss : List (Named Situation)) (lines : List (List ℕ)) → AllMeet IsSound ss → (out : List ℕ) × AreTold first ss lines out
+  pub told-for : (ss : List (Named Situation)) (lines : List (List ℕ)) → AllMeet Stands ss → (out : List ℕ) × AreTold first ss lines out
   told-for ss lines h =
       let t = some first ss lines (goes-on session) begins h in
       (joined t.0, record { texts = t.0; next = t.1; replies = t.2; whole = refl })
 
-  sound-next : (ss next : List (Named Situation)) (line text : List ℕ) → AllMeet IsSound ss → Answers Replies first ss line text next → AllMeet IsSound next
-  sound-next ss next line text h answers = kept first ss next line text (keeps session command) begins h answers
+  sound-next : (ss next : List (Named Situation)) (line text : List ℕ) → AllMeet Stands ss → Answers Replies first ss line text next → AllMeet Stands next
+  sound-next ss next line text h answers = kept first ss next line text (keeps session once) begins h answers
 
   module _ (a b c : Option (List ℕ)) (all lines : List (List ℕ)) (line : List ℕ) (old new : List (Entry Member)) (so_far : ToldSoFar a b first all (line ∷ lines) old) where
     -- one more reply was written whole

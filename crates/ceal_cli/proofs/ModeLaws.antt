@@ -4,7 +4,8 @@ use Rattle.std.specs.Str.{bytes_eq}
 use Rattle.std.specs.Str.Parse.{digits_value}
 use Rattle.ceal_cli.specs.CommandLine.{Chooses, IsFuel}
 use Rattle.ceal_cli.specs.Fuel.{DEFAULT_FUEL}
-use Rattle.ceal_cli.specs.Modes.{Asks, AskToGenerate, AskToRead, KeepsLimits, NamesFuel, ReadsInput}
+use Rattle.ceal_cli.specs.Limits.{KeepsLimits}
+use Rattle.ceal_cli.specs.Modes.{Asks, AskToGenerate, AskToRead, NamesFuel, ReadsInput}
 use Rattle.ceal_cli.specs.declared.words.Mode.{Mode}
 use Rattle.ceal_gen.specs.declared.kind.Workload.{Workload}
 use Rattle.ceal_session.specs.Following.{IsAllowed}

@@ -1,5 +1,5 @@
 -- An input has one output at most, whatever the words ask for.
-use Rattle.std.proofs.Common.{◌≡◌, inl, inr, ℕ, None, Result, Ok, Err, List, [], ◌∷◌, sym, ap, ◌∙◌, subst}
+use Rattle.std.proofs.Common.{◌≡◌, inl, inr, ℕ, Result, Ok, Err, List, [], ◌∷◌, sym, ap, ◌∙◌, subst}
 use Rattle.ceal_base.specs.declared.fault.Fault.{Fault}
 use Rattle.ceal_base.specs.declared.typed.Typed.{Typed}
 use Rattle.ceal_code.specs.Listing.{listing_text}
@@ -9,16 +9,15 @@ use Rattle.ceal_compile.specs.Laws.{OneCodeLaw}
 use Rattle.ceal_compile.specs.Source.{Comes, IsProgram, IsFirstFault}
 use Rattle.ceal_lex.specs.Parts.{IsSplit}
 use Rattle.ceal_lex.specs.declared.parts.Split.{Split}
-use Rattle.ceal_session.specs.Laws.{OneCommandLaw, OneStateLaw, OneScriptLaw, OneWorksLaw}
-use Rattle.ceal_session.specs.Replies.{Works, taken, AreReplies, IsReplied}
+use Rattle.ceal_session.specs.Laws.{OneReplyLaw, OneScriptLaw}
+use Rattle.ceal_session.specs.Replies.{opening, IsReplied}
 use Rattle.ceal_session.specs.Runs.{begun}
-use Rattle.ceal_session.specs.State.{State}
-use Rattle.ceal_session.specs.Works.{completes}
+use Rattle.ceal_session.specs.State.{State, Situation}
 use Rattle.ceal_cli.specs.Fuel.{DEFAULT_FUEL}
 use Rattle.ceal_cli.specs.Laws.{OneOutputLaw}
 use Rattle.ceal_cli.specs.Lines.{script_of, script_lines}
 use Rattle.ceal_code.specs.Program.{Code}
-use Rattle.ceal_cli.specs.Output.{AreRepliesFromRun, IsRepliedFromRun, Programmed, first_state, lines_behind, bytes_behind, IsListing, IsAnswer, IsRefusal}
+use Rattle.ceal_cli.specs.Output.{LeadsFromRun, IsRepliedFromRun, Programmed, first_state, lines_behind, bytes_behind, IsListing, IsAnswer, IsRefusal}
 use Rattle.ceal_cli.specs.ManySessions.{AreManyReplies}
 use Rattle.ceal_cli.specs.Dumps.{IsDumped}
 use Rattle.ceal_cli.specs.Verdicts.{IsVerdictLine}
@@ -36,35 +35,25 @@ abbrev pub AnswerLaw : Type 0
 AnswerLaw = (input : List ℕ) (a b : Result Typed Fault) → Comes input a → Comes input b → a ≡ b
 
 -- one text of replies from that of the first run on
-from-run : OneCommandLaw → OneStateLaw → OneScriptLaw → (s : State) (works : Works) (lines : List (List ℕ)) (a b : List ℕ)
-    → AreRepliesFromRun s works lines a → AreRepliesFromRun s works lines b → a ≡ b
-unfolding AreRepliesFromRun
-from-run command state script s works [] a b h k = h ∙ sym k
-from-run command state script s works (line ∷ lines) a b (inl h) (inl k) = script s works (line ∷ lines) a b h.1 k.1
-from-run command state script s works (line ∷ lines) a b (inl h) (inr k) = absurd (k.0 h.0)
-from-run command state script s works (line ∷ lines) a b (inr h) (inl k) = absurd (h.0 k.0)
-from-run command state script s works (line ∷ lines) a b (inr h) (inr k) =
-    let next = state s works.latest works.latest line h.1 k.1 h.2 k.2 h.3 k.3 in
-    let same = command line h.3.command k.3.command h.3.reads k.3.reads in
-    let later = subst (λ c. AreRepliesFromRun h.2 (taken (completes s c) works.latest works.coming) lines a) same h.4 in
-    from-run command state script k.2 (taken (completes s k.3.command) works.latest works.coming) lines a b
-    (subst (λ t. AreRepliesFromRun t (taken (completes s k.3.command) works.latest works.coming) lines a) next later) k.4
+from-run : OneReplyLaw → OneScriptLaw → (m : Situation) (lines : List (List ℕ)) (a b : List ℕ) (n o : Situation)
+    → LeadsFromRun m lines a n → LeadsFromRun m lines b o → a ≡ b
+unfolding LeadsFromRun
+from-run reply script m [] a b n o h k = h.0 ∙ sym k.0
+from-run reply script m (line ∷ lines) a b n o (inl (is, h)) (inl (too, k)) = (script m (line ∷ lines) a b n o h k).0
+from-run reply script m (line ∷ lines) a b n o (inl (is, h)) (inr k) = absurd (k.0 is)
+from-run reply script m (line ∷ lines) a b n o (inr h) (inl (is, k)) = absurd (h.0 is)
+from-run reply script m (line ∷ lines) a b n o (inr h) (inr k) =
+    let next : h.2 ≡ k.2 = (reply m line h.1 k.1 h.2 k.2 h.3 k.3).1 in
+    from-run reply script k.2 lines a b n o (subst (λ x. LeadsFromRun x lines a n) next h.4) k.4
 
--- one text with its work numbers
-module _ (numbers : OneWorksLaw) where
-  one-replied : OneScriptLaw → (code : Code) (s : State) (lines : List (List ℕ)) (a b : List ℕ) → IsReplied code s lines a → IsReplied code s lines b → a ≡ b
-  one-replied script code s lines a b h k =
-      let same = numbers code s None lines h.works k.works h.repair k.repair in
-      script s (record { latest = 0; coming = k.works }) lines a b (subst (λ w. AreReplies s (record { latest = 0; coming = w }) lines a) same h.replies) k.replies
+one-replied : OneScriptLaw → (code : Code) (s : State) (lines : List (List ℕ)) (a b : List ℕ) → IsReplied code s lines a → IsReplied code s lines b → a ≡ b
+one-replied script code s lines a b h k = (script (opening code s) lines a b h.end k.end h.leads k.leads).0
 
-  one-from-run : OneCommandLaw → OneStateLaw → OneScriptLaw → (code : Code) (s : State) (lines : List (List ℕ)) (a b : List ℕ)
-      → IsRepliedFromRun code s lines a → IsRepliedFromRun code s lines b → a ≡ b
-  one-from-run command state script code s lines a b h k =
-      let same = numbers code s None lines h.works k.works h.repair k.repair in
-      from-run command state script s (record { latest = 0; coming = k.works }) lines a b (subst (λ w. AreRepliesFromRun s (record { latest = 0; coming = w }) lines a) same h.replies) k.replies
+one-from-run : OneReplyLaw → OneScriptLaw → (code : Code) (s : State) (lines : List (List ℕ)) (a b : List ℕ)
+    → IsRepliedFromRun code s lines a → IsRepliedFromRun code s lines b → a ≡ b
+one-from-run reply script code s lines a b h k = from-run reply script (opening code s) lines a b h.end k.end h.leads k.leads
 
-module _ (split : SplitLaw) (answer : AnswerLaw) (code : OneCodeLaw) (command : OneCommandLaw) (state : OneStateLaw) (script : OneScriptLaw) (numbers : OneWorksLaw)
-    (known : Once) where
+module _ (split : SplitLaw) (answer : AnswerLaw) (code : OneCodeLaw) (reply : OneReplyLaw) (script : OneScriptLaw) (known : Once) where
   one-program : (input : List ℕ) (p q : Typed) → IsProgram input p → IsProgram input q → p ≡ q
   one-program input p q h k = cc (answer input (Ok p) (Ok q) h k)
 
@@ -101,12 +90,12 @@ module _ (split : SplitLaw) (answer : AnswerLaw) (code : OneCodeLaw) (command : 
   one-answer : (mode : Mode) (input a b : List ℕ) → IsAnswer mode input a → IsAnswer mode input b → a ≡ b
   one-answer Check input a b h k = h.1 ∙ sym k.1
   one-answer Listing input a b h k = one-listing input a b h k
-  one-answer (Run fuel) input a b h k = one-run IsReplied (one-replied numbers script) input fuel a b h.0 k.0 h.1 k.1
-  one-answer (Dump fuel) input a b h k = one-run IsDumped (one-dumped command known.records) input fuel a b h.0 k.0 h.1 k.1
+  one-answer (Run fuel) input a b h k = one-run IsReplied (one-replied script) input fuel a b h.0 k.0 h.1 k.1
+  one-answer (Dump fuel) input a b h k = one-run IsDumped (one-dumped known.records script) input fuel a b h.0 k.0 h.1 k.1
   one-answer Verify input a b h k = one-checked input a b h.0 k.0 h.1 k.1
-  one-answer (Many fuel) input a b h k = one-run AreManyReplies (one-many command known.replies known.sessions) input fuel a b h.0 k.0 h.1 k.1
+  one-answer (Many fuel) input a b h k = one-run AreManyReplies (one-many reply known.sessions) input fuel a b h.0 k.0 h.1 k.1
   one-answer (Gen kind seed size) input a b h k =
-      one-run IsRepliedFromRun (one-from-run numbers command state script) (workload_text kind seed size) DEFAULT_FUEL a b h.0 k.0 h.1 k.1
+      one-run IsRepliedFromRun (one-from-run reply script) (workload_text kind seed size) DEFAULT_FUEL a b h.0 k.0 h.1 k.1
 
   -- an input is not both answered and refused
   not-both : (mode : Mode) (input a b : List ℕ) → IsAnswer mode input a → IsRefusal mode input b → ⊥

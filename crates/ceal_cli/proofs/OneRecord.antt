@@ -8,84 +8,71 @@ use Rattle.ceal_many.specs.Laws.{IsDetermined, OneReplyLaw as One_many_law}
 use Rattle.ceal_many.specs.Replies.{AreReplies}
 use Rattle.ceal_many.specs.Sessions.{Named}
 use Rattle.ceal_record.specs.Laws.{OneRecordLaw}
-use Rattle.ceal_session.specs.Laws.{OneCommandLaw, OneReplyLaw}
+use Rattle.ceal_session.specs.Laws.{OneReplyLaw, OneScriptLaw}
+use Rattle.ceal_session.specs.Replies.{opening, Replies}
 use Rattle.ceal_session.specs.State.{State, Situation, last}
-use Rattle.ceal_session.specs.Steps.{answered_line, asked}
-use Rattle.ceal_session.specs.Works.{latest_work}
+use Rattle.ceal_session.specs.Steps.{asked}
 use Rattle.ceal_session.specs.declared.reply.Query.TheVariants.{Steps}
 use Rattle.ceal_session.specs.declared.reply.Reply.{Reply}
-use Rattle.ceal_session.specs.declared.reply.Reply.TheVariants.{Nothing, Ok as Done, OutOfFuel, Refused, Told}
+use Rattle.ceal_session.specs.declared.reply.Reply.TheVariants.{Nothing, Ok as Done, OutOfFuel, More, Finished, Refused, Told}
 use Rattle.ceal_theory.specs.Computed.{Repaired}
 use Rattle.ceal_traceck.specs.Laws.{OneVerdictLaw}
 use Rattle.ceal_traceck.specs.Verdicts.{Means}
 use Rattle.ceal_cli.specs.ManySessions.{joined, AreManyReplies}
 use Rattle.ceal_cli.specs.Dumps.{IsDumpIn, IsDumpBy, IsDumpOf, IsDumped}
-use Rattle.ceal_cli.specs.Situations.{opening, behind, Replies, Leads}
 use Rattle.ceal_cli.specs.Verdicts.{verdict_text, IsVerdictLine}
 
--- what is known of one record, dump and verdict, and of replies
+-- what is known of one record, dump and verdict, and of many sessions
 pub record Once : Type 0 where
   pub records : OneRecordLaw
   pub dumps : One_dump_law
   pub verdicts : OneVerdictLaw
-  pub replies : OneReplyLaw
   pub sessions : One_many_law Replies
 
-module _ (command : OneCommandLaw) where
-  -- the situation behind a line
-  next-one : (m : Situation) (line a b : List ℕ) (n k : Situation) → Replies m line a n → Replies m line b k → n ≡ k
-  next-one m line a b n k h r = h.next ∙ (ap (behind m) (command line h.command r.command h.reads r.reads) ∙ sym r.next)
+-- what is written of a situation
+module _ (records : OneRecordLaw) where
+  text-in : (m : Situation) (c : Option Call) (o : Option Repaired) (a b : List ℕ) → IsDumpIn m c o a → IsDumpIn m c o b → a ≡ b
+  text-in m None o a b h k = absurd h
+  text-in m (Some call) None a b h k = absurd h
+  text-in m (Some call) (Some l) a b h k =
+      let same : h.0 ≡ k.0 = records m.code m.state.inputs call l.items h.0 k.0 h.1 k.1 in
+      h.2 ∙ (ap dump_text same ∙ sym k.2)
 
-  -- and behind lines
-  end-one : (m : Situation) (lines : List (List ℕ)) (n k : Situation) → Leads m lines n → Leads m lines k → n ≡ k
-  unfolding Leads
-  end-one m [] n k h r = h ∙ sym r
-  end-one m (line ∷ lines) n k h r =
-      let same : h.1 ≡ r.1 = next-one m line h.0 r.0 h.1 r.1 h.2 r.2 in
-      end-one r.1 lines n k (subst (λ x. Leads x lines n) same h.3) r.3
+  text-by : (reply : Reply) (m : Situation) (a b : List ℕ) → IsDumpBy reply m a → IsDumpBy reply m b → a ≡ b
+  text-by (Told q) m a b h k = text-in m m.state.call (last m) a b h k
+  text-by Nothing m a b h k = h ∙ sym k
+  text-by Done m a b h k = h ∙ sym k
+  text-by OutOfFuel m a b h k = h ∙ sym k
+  text-by More m a b h k = h ∙ sym k
+  text-by Finished m a b h k = h ∙ sym k
+  text-by (Refused r) m a b h k = h ∙ sym k
 
-  module _ (records : OneRecordLaw) where
-    text-in : (m : Situation) (c : Option Call) (o : Option Repaired) (a b : List ℕ) → IsDumpIn m c o a → IsDumpIn m c o b → a ≡ b
-    text-in m None o a b h k = absurd h
-    text-in m (Some call) None a b h k = absurd h
-    text-in m (Some call) (Some l) a b h k =
-        let same : h.0 ≡ k.0 = records m.code m.state.inputs call l.items h.0 k.0 h.1 k.1 in
-        h.2 ∙ (ap dump_text same ∙ sym k.2)
+  pub one-dumped : OneScriptLaw → (code : Code) (s : State) (lines : List (List ℕ)) (a b : List ℕ) → IsDumped code s lines a → IsDumped code s lines b → a ≡ b
+  one-dumped script code s lines a b h k =
+      let same : h.end ≡ k.end = (script (opening code s) lines h.replies k.replies h.end k.end h.leads k.leads).1 in
+      text-by (asked k.end.state Steps) k.end a b (subst (λ m. IsDumpOf m a) same h.dump) k.dump
 
-    text-by : (reply : Reply) (m : Situation) (a b : List ℕ) → IsDumpBy reply m a → IsDumpBy reply m b → a ≡ b
-    text-by (Told q) m a b h k = text-in m m.state.call (last m) a b h k
-    text-by Nothing m a b h k = h ∙ sym k
-    text-by Done m a b h k = h ∙ sym k
-    text-by OutOfFuel m a b h k = h ∙ sym k
-    text-by (Refused r) m a b h k = h ∙ sym k
+-- a session has one reply, and goes on to one situation
+pub determined : OneReplyLaw → IsDetermined Replies
+determined replies = record {
+  reply = λ s line a b m n h k. (replies s line a b m n h k).0;
+  state = λ s line a b m n h k. (replies s line a b m n h k).1;
+}
 
-    pub one-dumped : (code : Code) (s : State) (lines : List (List ℕ)) (a b : List ℕ) → IsDumped code s lines a → IsDumped code s lines b → a ≡ b
-    one-dumped code s lines a b h k =
-        let same : h.end ≡ k.end = end-one (opening code s) lines h.end k.end h.leads k.leads in
-        text-by (asked k.end.state Steps) k.end a b (subst (λ m. IsDumpOf m a) same h.dump) k.dump
+module _ (replies : OneReplyLaw) (sessions : One_many_law Replies) where
+  texts-one : (first : Situation) (ss : List (Named Situation)) (lines a b : List (List ℕ)) (n k : List (Named Situation))
+      → AreReplies Replies first ss lines a n → AreReplies Replies first ss lines b k → a ≡ b
+  unfolding AreReplies
+  texts-one first ss [] a b n k h r = h.0 ∙ sym r.0
+  texts-one first ss (line ∷ lines) a b n k h r =
+      let once = sessions first (determined replies) in
+      let text : h.0 ≡ r.0 = once.reply ss line h.0 r.0 h.1 r.1 h.3 r.3 in
+      let mid : h.1 ≡ r.1 = once.state ss line h.0 r.0 h.1 r.1 h.3 r.3 in
+      let rest : h.2 ≡ r.2 = texts-one first r.1 lines h.2 r.2 n k (subst (λ x. AreReplies Replies first x lines h.2 n) mid h.4) r.4 in
+      h.5 ∙ (ap₂ ◌∷◌ text rest ∙ sym r.5)
 
-  -- a session has one reply, and goes on to one situation
-  pub determined : OneReplyLaw → IsDetermined Replies
-  determined replies = record {
-    reply = λ s line a b m n h k. replies s.state (latest_work (last s)) line a b (answered_line s.state h.command).state (answered_line s.state k.command).state
-        (record { command = h.command; reads = h.reads; reply = h.reply; state = refl }) (record { command = k.command; reads = k.reads; reply = k.reply; state = refl });
-    state = λ s line a b m n h k. next-one s line a b m n h k;
-  }
-
-  module _ (replies : OneReplyLaw) (sessions : One_many_law Replies) where
-    texts-one : (first : Situation) (ss : List (Named Situation)) (lines a b : List (List ℕ)) (n k : List (Named Situation))
-        → AreReplies Replies first ss lines a n → AreReplies Replies first ss lines b k → a ≡ b
-    unfolding AreReplies
-    texts-one first ss [] a b n k h r = h.0 ∙ sym r.0
-    texts-one first ss (line ∷ lines) a b n k h r =
-        let once = sessions first (determined replies) in
-        let text : h.0 ≡ r.0 = once.reply ss line h.0 r.0 h.1 r.1 h.3 r.3 in
-        let mid : h.1 ≡ r.1 = once.state ss line h.0 r.0 h.1 r.1 h.3 r.3 in
-        let rest : h.2 ≡ r.2 = texts-one first r.1 lines h.2 r.2 n k (subst (λ x. AreReplies Replies first x lines h.2 n) mid h.4) r.4 in
-        h.5 ∙ (ap₂ ◌∷◌ text rest ∙ sym r.5)
-
-    pub one-many : (code : Code) (s : State) (lines : List (List ℕ)) (a b : List ℕ) → AreManyReplies code s lines a → AreManyReplies code s lines b → a ≡ b
-    one-many code s lines a b h k = h.whole ∙ (ap joined (texts-one (opening code s) [] lines h.texts k.texts h.next k.next h.replies k.replies) ∙ sym k.whole)
+  pub one-many : (code : Code) (s : State) (lines : List (List ℕ)) (a b : List ℕ) → AreManyReplies code s lines a → AreManyReplies code s lines b → a ≡ b
+  one-many code s lines a b h k = h.whole ∙ (ap joined (texts-one (opening code s) [] lines h.texts k.texts h.next k.next h.replies k.replies) ∙ sym k.whole)
 
 -- bytes have one line
 pub one-verdict : One_dump_law → OneVerdictLaw → (code : Code) (bytes a b : List ℕ) → IsVerdictLine code bytes a → IsVerdictLine code bytes b → a ≡ b

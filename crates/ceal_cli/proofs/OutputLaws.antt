@@ -1,5 +1,5 @@
 -- What is written for an input.
-use Rattle.std.proofs.Common.{◌≡◌, inl, inr, ℕ, List, [], Option, None, Result, Ok, Err, OnOk, refl, subst}
+use Rattle.std.proofs.Common.{◌≡◌, inl, inr, ℕ, List, [], Option, Result, Ok, Err, OnOk, refl, subst}
 use Rattle.std.specs.Io.KnownBytes.{Appends}
 use Rattle.ceal_base.specs.declared.fault.Fault.{Fault}
 use Rattle.ceal_base.specs.declared.typed.Typed.{Typed}
@@ -15,21 +15,20 @@ use Rattle.ceal_lex.specs.declared.parts.Split.{Split}
 use Rattle.ceal_record.specs.Laws.{RenamedLaw}
 use Rattle.ceal_session.specs.Following.{opened}
 use Rattle.ceal_session.specs.Laws.{BegunLaw, KeptLaw, SomeReplyLaw, SomeScriptLaw}
-use Rattle.ceal_session.specs.Runs.{begun as begun_state}
-use Rattle.ceal_theory.specs.Laws.{RenamedRepair}
 use Rattle.ceal_cli.specs.ManySessions.{AreTold}
 use Rattle.ceal_cli.specs.Fuel.{DEFAULT_FUEL}
-use Rattle.ceal_cli.specs.Growth.{Grows, IsDumpBehind, WritesAnswer, WritesRefusal, WritesOutput, WritesPrefix, WritesReplies, BeginsToReply, WritesFromRun, BeginsFromRun}
+use Rattle.ceal_cli.specs.Growth.{Grows, WritesAnswer, WritesRefusal, WritesOutput, WritesPrefix}
+use Rattle.ceal_cli.specs.Serving.{IsDumpBehind, WritesReplies, BeginsToReply, WritesFromRun, BeginsFromRun}
 use Rattle.ceal_cli.specs.Lines.{script_of, script_lines}
 use Rattle.ceal_cli.specs.Modes.{ReadsInput}
 use Rattle.ceal_cli.specs.Output.{IsPrefix, IsAnswer, IsListing, Programmed, accepted_text, Begins, IsOutputFromRun}
-use Rattle.ceal_cli.specs.Situations.{opening}
 use Rattle.ceal_cli.specs.Verdicts.{IsVerdictLine}
 use Rattle.ceal_cli.specs.declared.words.Mode.{Mode}
 use Rattle.ceal_cli.specs.declared.words.Mode.TheVariants.{Check, List as Listing, Run, Gen, Dump, Verify, Many}
 use Rattle.ceal_cli.proofs.Growing.{of_prefix, weaker}
-use Rattle.ceal_cli.proofs.Prefixes.{At, served, served-from-run, begun, begun-from-run}
-use Rattle.ceal_cli.proofs.Situated.{in-opening, carried, dump-in}
+use Rattle.ceal_cli.proofs.Led.{served, served-from-run, carried}
+use Rattle.ceal_cli.proofs.Prefixes.{begun, begun-from-run}
+use Rattle.ceal_cli.proofs.Situated.{dump-in}
 
 module _ (a b : Option (List ℕ)) (input : List ℕ) where
   -- of the word `accepted`
@@ -86,32 +85,29 @@ module _ (a b : Option (List ℕ)) (input : List ℕ) where
     abbrev lines : List (List ℕ)
     lines = script_lines (script_of input part)
 
-    at-begin : (fuel : ℕ) → At (opened p fuel) None 0
-    at-begin fuel = record { stands = begins p fuel compiled; is = tt; alike = RenamedRepair.none }
-
     module _ (fuel : ℕ) where
       -- of the replies
       pub replied : {E : Type 0} (r : Result (Unit {0}) E) → OnOk r (WritesReplies a b (opened p fuel) lines) → OnOk r (WritesOutput a b (Run fuel) input)
       unfolding programmed
       replied (Ok u) h = weaker (λ out serves.
-          let w = served kept (opened p fuel) None 0 lines out (at-begin fuel) serves in
-          inl (programmed, record { works = w.works; repair = w.repair; replies = w.is })) h
+          let w = served kept (opened p fuel) (opened p fuel) lines out (begins p fuel compiled) serves in
+          inl (programmed, record { end = w.0; leads = w.1 })) h
       replied (Err e) h = tt
 
       pub replied_part : SomeScriptLaw → BeginsToReply a b (opened p fuel) lines → WritesPrefix a b (Run fuel) input
       unfolding programmed
       replied_part script h =
-          weaker (λ out begins.
-          let w = begun kept script (opened p fuel) None 0 lines out (at-begin fuel) begins in
-          inr (w.text, inl (programmed, record { works = w.told.works; repair = w.told.repair; replies = w.told.is }), w.prefix)) h
+          weaker (λ out part.
+          let w = begun kept script (opened p fuel) (opened p fuel) lines out (begins p fuel compiled) part in
+          inr (w.text, inl (programmed, record { end = w.end; leads = w.leads }), w.prefix)) h
 
     -- of the dump behind the script
     module _ (renamed : RenamedLaw) (fuel : ℕ) where
       dump-answer : (text : List ℕ) → IsDumpBehind (opened p fuel) lines text → IsAnswer (Dump fuel) input text
       unfolding programmed
       dump-answer text behind =
-          let there = carried kept (opened p fuel) behind.end (opening p.code (begun_state p.typed fuel)) lines (in-opening begins p fuel compiled) behind.carries in
-          (programmed, record { end = there.0; leads = there.1; dump = dump-in renamed behind.end there.0 there.2 text behind.dump })
+          let there = carried kept (opened p fuel) behind.end (opened p fuel) lines (begins p fuel compiled) behind.carries in
+          (programmed, record { replies = there.0; end = there.1; leads = there.2; dump = dump-in renamed behind.end there.1 there.3 text behind.dump })
 
       pub dumped : {E : Type 0} (r : Result (Unit {0}) E) → OnOk r (Grows a b (IsDumpBehind (opened p fuel) lines)) → OnOk r (WritesOutput a b (Dump fuel) input)
       dumped (Ok u) h = weaker (λ out is. inl (dump-answer out is)) h
@@ -124,16 +120,16 @@ module _ (a b : Option (List ℕ)) (input : List ℕ) where
     pub from_run : {E : Type 0} (r : Result (Unit {0}) E) → OnOk r (WritesFromRun a b (opened p DEFAULT_FUEL) lines) → OnOk r (Grows a b (IsOutputFromRun input))
     unfolding programmed
     from_run (Ok u) h = weaker (λ out serves.
-        let w = served-from-run kept (opened p DEFAULT_FUEL) None 0 lines out (at-begin DEFAULT_FUEL) serves in
-        (programmed, record { works = w.works; repair = w.repair; replies = w.is })) h
+        let w = served-from-run kept (opened p DEFAULT_FUEL) (opened p DEFAULT_FUEL) lines out (begins p DEFAULT_FUEL compiled) serves in
+        (programmed, record { end = w.0; leads = w.1 })) h
     from_run (Err e) h = tt
 
     pub from_run_part : SomeReplyLaw → SomeScriptLaw → BeginsFromRun a b (opened p DEFAULT_FUEL) lines → Grows a b (Begins (IsOutputFromRun input))
     unfolding programmed
     from_run_part reply script h =
-        weaker (λ out begins.
-        let w = begun-from-run reply script kept (opened p DEFAULT_FUEL) None 0 lines out (at-begin DEFAULT_FUEL) begins in
-        inr (w.text, (programmed, record { works = w.told.works; repair = w.told.repair; replies = w.told.is }), w.prefix)) h
+        weaker (λ out part.
+        let w = begun-from-run kept script reply (opened p DEFAULT_FUEL) (opened p DEFAULT_FUEL) lines out (begins p DEFAULT_FUEL compiled) part in
+        inr (w.text, (programmed, record { end = w.end; leads = w.leads }), w.prefix)) h
 
 -- a refused input is not accepted
 pub not_accepted : (input : List ℕ) (fault : Fault) → ((a b : Result Typed Fault) → Comes input a → Comes input b → a ≡ b)

@@ -1,30 +1,36 @@
--- An input has an output for `check` and for `list`, and for `run`, `dump` and `many`.
-use Rattle.std.proofs.Common.{◌≡◌, ◌<◌, ◌^◌, ◌||◌, inl, inr, ℕ, Bool, true, false, if◌then◌else◌, Option, Some, None, is_none, Result, Ok, Err, List, [], ◌∷◌, length, refl, sym, ◌∙◌}
+-- An input has an output in each mode, and a workload its text.
+use Rattle.std.proofs.Common.{◌≡◌, ◌<◌, ◌^◌, ◌||◌, ◌⊎◌, inl, inr, ℕ, Bool, true, false, if◌then◌else◌, Option, Some, None, is_none, Result, Ok, Err, List, [], ◌∷◌, length, refl, sym, ◌∙◌}
 use Rattle.ceal_base.specs.declared.call.Call.{Call}
 use Rattle.ceal_base.specs.declared.fault.Fault.{Fault}
 use Rattle.ceal_base.specs.declared.typed.Typed.{Typed}
 use Rattle.ceal_code.specs.Listing.{listing_text}
+use Rattle.ceal_base.specs.declared.recorded.Record.{Record}
+use Rattle.ceal_code.specs.Program.{Code}
 use Rattle.ceal_compile.specs.FaultLine.{fault_line}
 use Rattle.ceal_compile.specs.Laws.{SomeCodeLaw, SomeCompiledLaw}
 use Rattle.ceal_compile.specs.Source.{Comes, IsAccepted, IsProgram}
-use Rattle.ceal_dump.specs.DumpText.{dump_text}
+use Rattle.ceal_dump.specs.Answers.{DumpOrNoneLaw}
+use Rattle.ceal_dump.specs.DumpText.{dump_text, IsDump}
+use Rattle.ceal_gen.specs.Text.{workload_text}
 use Rattle.ceal_many.specs.Laws.{KeptLaw, SomeReplyLaw as Many_law}
 use Rattle.ceal_record.specs.Laws.{SomeRecordLaw}
-use Rattle.ceal_session.specs.Laws.{BegunLaw, OneCommandLaw, SomeReplyLaw, SomeScriptLaw}
-use Rattle.ceal_session.specs.Runs.{begun}
-use Rattle.ceal_session.specs.Standing.{IsTraceOf}
-use Rattle.ceal_session.specs.State.{Situation, last}
+use Rattle.ceal_session.specs.Following.{opened}
+use Rattle.ceal_session.specs.Laws.{BegunLaw, OneReplyLaw, SomeReplyLaw, SomeScriptLaw}
+use Rattle.ceal_session.specs.Replies.{Replies}
+use Rattle.ceal_session.specs.Standing.{IsPastIn, Stands}
+use Rattle.ceal_session.specs.State.{Situation, completed}
 use Rattle.ceal_session.specs.Steps.{has_no_run}
 use Rattle.ceal_session.specs.declared.refusal.Refusal.TheVariants.{C7, C8}
 use Rattle.ceal_session.specs.declared.reply.Query.TheVariants.{Steps}
 use Rattle.ceal_session.specs.declared.reply.Reply.TheVariants.{Refused, Told}
-use Rattle.ceal_theory.specs.Computed.{Repaired}
-use Rattle.ceal_cli.specs.Members.{IsSound}
+use Rattle.ceal_theory.specs.Pasts.{Past, NoTrace, Traced, Going}
+use Rattle.ceal_traceck.specs.Laws.{SomeVerdictLaw}
 use Rattle.ceal_cli.specs.Dumps.{IsDumpIn, IsDumpBy, IsDumpOf, no_run_text}
-use Rattle.ceal_cli.specs.Laws.{CheckedLaw, DumpedLaw, ListedLaw, RefusedLaw, RepliedLaw, ToldLaw}
-use Rattle.ceal_cli.specs.Situations.{opening, Replies, Leads}
+use Rattle.ceal_cli.specs.Laws.{AcceptedLaw, CheckedLaw, DumpedLaw, GeneratedLaw, JudgedLaw, ListedLaw, RefusedLaw, RepliedLaw, ToldLaw}
 use Rattle.ceal_cli.proofs.ManyReplies.{told-for}
-use Rattle.ceal_cli.proofs.Situated.{goes-on}
+use Rattle.ceal_cli.proofs.Prefixes.{some-from-run}
+use Rattle.ceal_cli.specs.Fuel.{DEFAULT_FUEL}
+use Rattle.ceal_cli.specs.Verdicts.{verdict_text, unreadable_text, IsVerdictLine}
 use Rattle.ceal_cli.specs.Lines.{script_of, script_lines}
 use Rattle.ceal_cli.specs.Output.{IsRefusal, IsOutput, accepted_text}
 use Rattle.ceal_cli.specs.declared.words.Mode.TheVariants.{Check, List as Listing}
@@ -65,57 +71,81 @@ replied compiled begins scripts input fuel accepted =
     let c = compiled input accepted in
     let p = c.0 in
     let reads = c.1 in
-    let w = scripts p.code (begun p.typed fuel) None 0 (script_lines (script_of input reads.part)) (begins p fuel c.2) tt in (
-      w.text,
+    let w = scripts (opened p fuel) (script_lines (script_of input reads.part)) (begins p fuel c.2).sound in (
+      w.out,
       inl (
         record { part = reads.part; split = reads.split; program = p.typed; reads = reads; code = p.code; is_code = c.2.code },
-        record { works = w.works; repair = w.repair; replies = w.replies },
+        record { end = w.end; leads = w.leads },
       ),
     )
 
--- a situation after lines
-led : SomeReplyLaw → (s : Situation) (lines : List (List ℕ)) → IsSound s → (end : Situation) × Leads s lines end × IsSound end
-unfolding Leads
-led law s [] h = (s, refl, h)
-led law s (line ∷ lines) h =
-    let one = goes-on law s line h in
-    let rest = led law one.1 lines one.3 in
-    (rest.0, (one.0, one.1, one.2, rest.1), rest.2)
-
--- what is written of it
-some-dump : SomeRecordLaw → (m : Situation) → IsSound m → (out : List ℕ) × IsDumpOf m out
-some-dump law m h = by-tests (has_no_run m.state) refl m.state.pending
+-- what is written of a situation
+some-dump : SomeRecordLaw → (m : Situation) → Stands m → (out : List ℕ) × IsDumpOf m out
+some-dump law m h = by-tests (has_no_run m.state) refl m.state.pending refl
   where
-    in-run : (c : Option Call) (o : Option Repaired) → IsTraceOf m.code m.state c o → is_none c ≡ false → m.state.out_of_fuel ≡ false → (out : List ℕ) × IsDumpIn m c o out
-    in-run None o t none fuel = absurd (cc none)
-    in-run (Some call) None t none fuel = absurd (cc (sym t ∙ fuel))
-    in-run (Some call) (Some l) t none fuel = let r = law m.code m.state.inputs call l.items in (dump_text r.0, (r.0, r.1, refl))
+    in-run : (c : Option Call) (p : Past) → IsPastIn m.code m.state c p → is_none c ≡ false → m.state.out_of_fuel ≡ false → m.state.pending ≡ false
+        → (out : List ℕ) × IsDumpIn m c (completed p) out
+    in-run None p t none fuel still = absurd (cc none)
+    in-run (Some call) NoTrace t none fuel still = absurd (cc (sym t ∙ fuel))
+    in-run (Some call) (Traced l) t none fuel still = let r = law m.code m.state.inputs call l.items in (dump_text r.0, (r.0, r.1, refl))
+    in-run (Some call) (Going r) t none fuel still = absurd (cc (sym t.pending ∙ still))
 
-    by-tests : (a : Bool) → has_no_run m.state ≡ a → (b : Bool) → (out : List ℕ) × IsDumpBy (if a then Refused C7 else if b then Refused C8 else Told Steps) m out
-    by-tests true i b = (no_run_text, refl)
-    by-tests false i true = (no_run_text, refl)
-    by-tests false i false =
+    by-tests : (a : Bool) → has_no_run m.state ≡ a → (b : Bool) → m.state.pending ≡ b
+        → (out : List ℕ) × IsDumpBy (if a then Refused C7 else if b then Refused C8 else Told Steps) m out
+    by-tests true i b j = (no_run_text, refl)
+    by-tests false i true j = (no_run_text, refl)
+    by-tests false i false j =
         let both = neither m.state.out_of_fuel (is_none m.state.call) i in
-        in-run m.state.call (last m) h.traced both.1 both.0
+        in-run m.state.call m.past h.past both.1 both.0 j
 
-pub dumped : SomeCompiledLaw → BegunLaw → SomeReplyLaw → SomeRecordLaw → DumpedLaw
-dumped compiled begins reply records input fuel accepted =
+pub dumped : SomeCompiledLaw → BegunLaw → SomeScriptLaw → SomeRecordLaw → DumpedLaw
+dumped compiled begins scripts records input fuel accepted =
     let c = compiled input accepted in
     let p = c.0 in
     let reads = c.1 in
-    let end = led reply (opening p.code (begun p.typed fuel)) (script_lines (script_of input reads.part)) (begins p fuel c.2) in
-    let text = some-dump records end.0 end.2 in (
+    let w = scripts (opened p fuel) (script_lines (script_of input reads.part)) (begins p fuel c.2).sound in
+    let text = some-dump records w.end w.stands in (
       text.0,
       inl (
         record { part = reads.part; split = reads.split; program = p.typed; reads = reads; code = p.code; is_code = c.2.code },
-        record { end = end.0; leads = end.1; dump = text.1 },
+        record { replies = w.out; end = w.end; leads = w.leads; dump = text.1 },
       ),
     )
 
-pub told : SomeCompiledLaw → BegunLaw → SomeReplyLaw → OneCommandLaw → KeptLaw IsSound Replies → Many_law IsSound Replies → ToldLaw
-told compiled begins reply command kept some input fuel accepted =
+pub told : SomeCompiledLaw → BegunLaw → SomeReplyLaw → OneReplyLaw → KeptLaw Stands Replies → Many_law Stands Replies → ToldLaw
+told compiled begins reply once kept some input fuel accepted =
     let c = compiled input accepted in
     let p = c.0 in
     let reads = c.1 in
-    let t = told-for reply command kept some (opening p.code (begun p.typed fuel)) (begins p fuel c.2) [] (script_lines (script_of input reads.part)) tt in
+    let t = told-for reply once kept some (opened p fuel) (begins p fuel c.2).sound [] (script_lines (script_of input reads.part)) tt in
     (t.0, inl (record { part = reads.part; split = reads.split; program = p.typed; reads = reads; code = p.code; is_code = c.2.code }, t.1))
+
+-- bytes have one of the lines
+judged-line : DumpOrNoneLaw → SomeVerdictLaw → (code : Code) (bytes : List ℕ) → (out : List ℕ) × IsVerdictLine code bytes out
+judged-line dumps verdicts code bytes = by-dump (dumps bytes)
+  where
+    by-dump : ((r : Record) × IsDump bytes r) ⊎ ((r : Record) → IsDump bytes r → ⊥) → (out : List ℕ) × IsVerdictLine code bytes out
+    by-dump (inl h) = let v = verdicts code h.0 in (verdict_text v.0, inr (h.0, v.0, h.1, v.1, refl))
+    by-dump (inr none) = (unreadable_text, inl (none, refl))
+
+pub judged : SomeCompiledLaw → DumpOrNoneLaw → SomeVerdictLaw → JudgedLaw
+judged compiled dumps verdicts input accepted =
+    let c = compiled input accepted in
+    let p = c.0 in
+    let reads = c.1 in
+    let line = judged-line dumps verdicts p.code (script_of input reads.part) in
+    (line.0, inl (record { part = reads.part; split = reads.split; program = p.typed; reads = reads; code = p.code; is_code = c.2.code }, line.1))
+
+pub generated : AcceptedLaw → SomeCompiledLaw → BegunLaw → SomeReplyLaw → SomeScriptLaw → GeneratedLaw
+generated accepted compiled begins reply scripts kind seed size short =
+    let input = workload_text kind seed size in
+    let c = compiled input (accepted kind seed size short) in
+    let p = c.0 in
+    let reads = c.1 in
+    let w = some-from-run reply scripts (opened p DEFAULT_FUEL) (script_lines (script_of input reads.part)) (begins p DEFAULT_FUEL c.2).sound in (
+      w.0,
+      (
+        record { part = reads.part; split = reads.split; program = p.typed; reads = reads; code = p.code; is_code = c.2.code },
+        record { end = w.1; leads = w.2 },
+      ),
+    )

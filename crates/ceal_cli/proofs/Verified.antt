@@ -1,5 +1,5 @@
 -- What a yes of the checker says of the source.
-use Rattle.std.proofs.Common.{◌≡◌, inl, inr, ℕ, Ok, List, refl, sym, ◌∙◌, subst, arith}
+use Rattle.std.proofs.Common.{◌≡◌, inl, inr, ℕ, Ok, List, length, refl, sym, ◌∙◌, subst, arith}
 use Rattle.ceal_base.specs.Trace.{steps_in}
 use Rattle.ceal_base.specs.declared.recorded.Record.{Record}
 use Rattle.ceal_compile.specs.Compiled.{IsCodeOf, IsCompiled}
@@ -38,9 +38,10 @@ of-source sound p compiled bytes r is means =
       dump = is;
       trace = s.trace;
       items = s.items;
-      run = record { memory = s.memory; steps = steps_in r.forest; blocks = _ };
+      run = record { memory = s.memory; steps = steps_in r.forest; blocks = length r.memory.made };
       ends = sym (compiled.means r.function r.args r.inputs (steps_in r.forest) core) ∙ s.ends (steps_in r.forest) (omega arith);
       same = s.same;
+      count = refl;
     }
 
 pub verified-law : AnswerLaw → OneCodeLaw → SoundLaw → VerifiedLaw

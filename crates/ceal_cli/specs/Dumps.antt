@@ -5,13 +5,13 @@ use Rattle.ceal_base.specs.declared.recorded.Record.{Record}
 use Rattle.ceal_code.specs.Program.{Code}
 use Rattle.ceal_dump.specs.DumpText.{dump_text}
 use Rattle.ceal_record.specs.Recorded.{IsRecordOf}
+use Rattle.ceal_session.specs.Replies.{opening, Leads}
 use Rattle.ceal_session.specs.State.{State, Situation, last}
 use Rattle.ceal_session.specs.Steps.{asked}
 use Rattle.ceal_session.specs.declared.reply.Query.TheVariants.{Steps}
 use Rattle.ceal_session.specs.declared.reply.Reply.{Reply}
 use Rattle.ceal_session.specs.declared.reply.Reply.TheVariants.{Told}
 use Rattle.ceal_theory.specs.Computed.{Repaired}
-use Rattle.ceal_cli.specs.Situations.{opening, Leads}
 
 abbrev pub no_run_text : List ℕ
 no_run_text = codes "no finished run\n"
@@ -33,6 +33,7 @@ IsDumpOf m out = IsDumpBy (asked m.state Steps) m out
 
 -- So it is behind the lines, from a state where nothing was run.
 pub record IsDumped (code : Code) (s : State) (lines : List (List ℕ)) (out : List ℕ) : Type 0 where
+  pub replies : List ℕ
   pub end : Situation
-  pub leads : Leads (opening code s) lines end
+  pub leads : Leads (opening code s) lines replies end
   pub dump : IsDumpOf end out

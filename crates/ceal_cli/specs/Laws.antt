@@ -16,7 +16,7 @@ use Rattle.ceal_mean.specs.Fresh.{fresh}
 use Rattle.ceal_traceck.specs.Laws.{block_of}
 use Rattle.ceal_traceck.specs.declared.verdict.Verdict.TheVariants.{Yes}
 use Rattle.ceal_cli.specs.Modes.{ReadsInput}
-use Rattle.ceal_cli.specs.Output.{IsAnswer, IsOutput, IsRefusal, bytes_behind}
+use Rattle.ceal_cli.specs.Output.{IsAnswer, IsGenerated, IsOutput, IsRefusal, bytes_behind}
 use Rattle.ceal_cli.specs.Verdicts.{verdict_text}
 use Rattle.ceal_cli.specs.declared.words.Mode.{Mode}
 use Rattle.ceal_cli.specs.declared.words.Mode.TheVariants.{Check, List as Listing, Run, Dump, Verify, Many}
@@ -54,16 +54,24 @@ RefusedLaw = (mode : Mode) (input : List ℕ) → ReadsInput mode → length inp
 abbrev pub RepliedLaw : Type 0
 RepliedLaw = (input : List ℕ) (fuel : ℕ) → IsAccepted input → (out : List ℕ) × IsOutput (Run fuel) input out
 
--- And so it has for `dump` and for `many`.
+-- And so it has for `dump`, for `many` and for `verify`, whatever stands behind the mark.
 abbrev pub DumpedLaw : Type 0
 DumpedLaw = (input : List ℕ) (fuel : ℕ) → IsAccepted input → (out : List ℕ) × IsOutput (Dump fuel) input out
 
 abbrev pub ToldLaw : Type 0
 ToldLaw = (input : List ℕ) (fuel : ℕ) → IsAccepted input → (out : List ℕ) × IsOutput (Many fuel) input out
 
+abbrev pub JudgedLaw : Type 0
+JudgedLaw = (input : List ℕ) → IsAccepted input → (out : List ℕ) × IsOutput Verify input out
+
+-- A workload that is short enough to be an input has its text.
+abbrev pub GeneratedLaw : Type 0
+GeneratedLaw = (kind : Workload) (seed size : ℕ) → length (workload_text kind seed size) < 2 ^ 32
+    → (out : List ℕ) × IsGenerated kind seed size out
+
 -- The bytes are the dump of a record. The run from scratch of its call on its inputs, by the meaning
--- of the source, ends within as many steps as its items have, and the recorded memory is the memory of
--- that run, up to the numbers of core blocks.
+-- of the source, ends within as many steps as its items have. The recorded memory is the memory of that
+-- run, up to the numbers of core blocks, and has as many of them.
 pub record Verified (program : Typed) (bytes : List ℕ) : Type 0 where
   pub kept : Record
   pub dump : IsDump bytes kept
@@ -75,6 +83,7 @@ pub record Verified (program : Typed) (bytes : List ℕ) : Type 0 where
   pub same :
       Same (core_numbers (blocks_of trace)) kept.memory.inputs
       (block_of (core_numbers (blocks_of trace)) kept.memory.made) run.memory
+  pub count : run.blocks ≡ length kept.memory.made
 
 -- So it is where `verify` writes yes for an accepted source part.
 abbrev pub VerifiedLaw : Type 0

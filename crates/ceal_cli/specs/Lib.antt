@@ -6,12 +6,13 @@ pub mod Growth
 pub mod Laws
 pub mod Lines
 pub mod ManySessions
-pub mod Members
 pub mod Modes
 pub mod Numerals
 pub mod Output
-pub mod Situations
 pub mod Verdicts
 pub mod Workloads
 -- what its own functions say of each other
 pub mod CommandLine
+pub mod Limits
+pub mod Members
+pub mod Serving

@@ -3,8 +3,8 @@ use Rattle.std.specs.Prelude.{◌≡◌, ℕ, List, [], ◌∷◌, ◌++◌}
 use Rattle.ceal_code.specs.Program.{Code}
 use Rattle.ceal_many.specs.Replies.{AreReplies}
 use Rattle.ceal_many.specs.Sessions.{Named}
+use Rattle.ceal_session.specs.Replies.{opening, Replies}
 use Rattle.ceal_session.specs.State.{State, Situation}
-use Rattle.ceal_cli.specs.Situations.{opening, Replies}
 
 abbrev pub Text : Type 0
 Text = List ℕ

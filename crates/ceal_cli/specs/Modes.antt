@@ -6,7 +6,6 @@ use Rattle.ceal_cli.specs.Workloads.{NamesWorkload}
 use Rattle.ceal_cli.specs.declared.words.Mode.{Mode}
 use Rattle.ceal_cli.specs.declared.words.Mode.TheVariants.{Check, List as Listing, Run, Gen, Dump, Verify, Many}
 use Rattle.ceal_gen.specs.declared.kind.Workload.{Workload}
-use Rattle.ceal_session.specs.Following.{IsAllowed}
 
 abbrev pub Text : Type 0
 Text = List ℕ
@@ -63,16 +62,6 @@ ReadsInput (Dump fuel) = Unit {0}
 ReadsInput Verify = Unit {0}
 ReadsInput (Many fuel) = Unit {0}
 ReadsInput (Gen kind seed size) = ⊥
-
--- a run may take as many steps as a session allows
-abbrev pub KeepsLimits : Mode → Type 0
-KeepsLimits Check = Unit {0}
-KeepsLimits Listing = Unit {0}
-KeepsLimits (Run fuel) = IsAllowed fuel
-KeepsLimits (Dump fuel) = IsAllowed fuel
-KeepsLimits Verify = Unit {0}
-KeepsLimits (Many fuel) = IsAllowed fuel
-KeepsLimits (Gen kind seed size) = Unit {0}
 
 -- The words ask for an answer to the input.
 abbrev pub AskToRead : List Text → Type 0

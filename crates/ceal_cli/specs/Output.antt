@@ -1,5 +1,5 @@
 -- What the program writes for its input.
-use Rattle.std.specs.Prelude.{◌≡◌, ◌⊎◌, ℕ, None, List, [], ◌∷◌, ◌++◌, codes}
+use Rattle.std.specs.Prelude.{◌≡◌, ◌⊎◌, ℕ, List, [], ◌∷◌, ◌++◌, codes}
 use Rattle.ceal_base.specs.declared.fault.Fault.{Fault}
 use Rattle.ceal_base.specs.declared.typed.Typed.{Typed}
 use Rattle.ceal_code.specs.Listing.{listing_text}
@@ -9,10 +9,9 @@ use Rattle.ceal_compile.specs.FaultLine.{fault_line}
 use Rattle.ceal_compile.specs.Source.{IsProgram, IsFirstFault, IsAccepted}
 use Rattle.ceal_lex.specs.Parts.{IsSplit}
 use Rattle.ceal_lex.specs.declared.parts.Split.{Split}
-use Rattle.ceal_session.specs.Replies.{Answers, Works, taken, AreReplies, AreWorks, IsReplied}
+use Rattle.ceal_session.specs.Replies.{opening, Replies, Leads, IsReplied}
 use Rattle.ceal_session.specs.Runs.{begun}
-use Rattle.ceal_session.specs.State.{State}
-use Rattle.ceal_session.specs.Works.{completes}
+use Rattle.ceal_session.specs.State.{State, Situation}
 use Rattle.ceal_cli.specs.ManySessions.{AreManyReplies}
 use Rattle.ceal_cli.specs.Dumps.{IsDumped}
 use Rattle.ceal_cli.specs.Fuel.{DEFAULT_FUEL}
@@ -35,19 +34,17 @@ IsRunLine line = IsPrefix (codes "run ") line
 
 -- The text is the replies to the lines from the first one on that begins with `run `. The lines
 -- before it are answered too, and their replies left out.
-unfoldable pub AreRepliesFromRun : State → Works → List (List ℕ) → List ℕ → Type 0
-AreRepliesFromRun s works [] out = out ≡ []
-AreRepliesFromRun s works (line ∷ lines) out =
-    (IsRunLine line × AreReplies s works (line ∷ lines) out)
-    ⊎ ((¬ IsRunLine line) × (text : List ℕ) × (next : State)
-    × (a : Answers s works.latest line text next)
-    × AreRepliesFromRun next (taken (completes s a.command) works.latest works.coming) lines out)
+unfoldable pub LeadsFromRun : Situation → List (List ℕ) → List ℕ → Situation → Type 0
+LeadsFromRun m [] out n = (out ≡ []) × (n ≡ m)
+LeadsFromRun m (line ∷ lines) out n =
+    (IsRunLine line × Leads m (line ∷ lines) out n)
+    ⊎ ((¬ IsRunLine line) × (text : List ℕ) × (mid : Situation)
+    × Replies m line text mid × LeadsFromRun mid lines out n)
 
--- So it is with the work of trace repair for the lines `work`.
+-- So it is from a state where nothing was run.
 pub record IsRepliedFromRun (code : Code) (s : State) (lines : List (List ℕ)) (out : List ℕ) : Type 0 where
-  pub works : List ℕ
-  pub repair : AreWorks code s None lines works
-  pub replies : AreRepliesFromRun s (record { latest = 0; coming = works }) lines out
+  pub end : Situation
+  pub leads : LeadsFromRun (opening code s) lines out end
 
 -- An accepted program, its trace code, and the script behind it.
 pub record Programmed (input : List ℕ) : Type 0 where

@@ -7,7 +7,8 @@ ghost use Rattle.ceal_compile.specs.Source.{IsAccepted, IsFirstFault, IsProgram}
 ghost use Rattle.ceal_session.specs.Following.{IsAllowed};
 ghost use Rattle.ceal_io.specs.Streams.{Rose};
 ghost use Rattle.ceal_cli.specs.Growth.{WritesOutput, WritesPrefix};
-ghost use Rattle.ceal_cli.specs.Modes.{KeepsLimits, ReadsInput};
+ghost use Rattle.ceal_cli.specs.Limits.{KeepsLimits};
+ghost use Rattle.ceal_cli.specs.Modes.{ReadsInput};
 
 use crate::dump::dump;
 use crate::lines::script;

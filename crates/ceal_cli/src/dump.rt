@@ -6,8 +6,10 @@ ghost use Rattle.ceal_compile.specs.Source.{IsProgram};
 ghost use Rattle.ceal_dump.specs.DumpText as dumped;
 ghost use Rattle.ceal_dump.specs.DumpText.{all_core, closed};
 ghost use Rattle.ceal_io.specs.Streams.{Rose};
+ghost use Rattle.ceal_session.specs.Keeping.{situation};
 ghost use Rattle.ceal_session.specs.Following.{IsAllowed};
-ghost use Rattle.ceal_cli.specs.Growth.{Carries, Grows, IsDumpBehind, IsDumpFrom, WritesOutput, WritesPrefix};
+ghost use Rattle.ceal_cli.specs.Growth.{Grows, WritesOutput, WritesPrefix};
+ghost use Rattle.ceal_cli.specs.Serving.{Carries, IsDumpBehind, IsDumpFrom};
 ghost use Rattle.ceal_cli.specs.Lines.{script_lines};
 ghost use Rattle.ceal_cli.specs.Output.{Begins};
 ghost use Rattle.ceal_cli.specs.declared.words.Mode.TheVariants.{Dump};
@@ -31,7 +33,8 @@ use std::alloc::Global;
 
 // Carries out the lines of a script, whose replies are not written.
 fn carry_out_all(session: &mut Session, script: &[u8]) -> Result<(), Stopped>
-    ensures all { OnOk result (Carries session.old (script_lines script.now) session.new) }
+    ensures all { OnOk result (Carries (situation session.old)
+        (script_lines script.now) (situation session.new)) }
     ensures memory { ¬ IsErrOf result Stopped.Failed }
 {
     let mut rest = script;
@@ -61,7 +64,7 @@ fn text_of(alloc: Global, kept: &Record) -> Result<Text, NoMemory>
 
 // The dump of the session's run, or the line that there is none.
 fn dump_of(alloc: Global, session: &Session) -> Result<Text, NoMemory>
-    ensures { IfOk result (λ text. IsDumpFrom session.now text) }
+    ensures { IfOk result (λ text. IsDumpFrom (situation session.now) text) }
 {
     renaming_law();
     match session.recorded()? {
@@ -82,9 +85,9 @@ fn write_dump<K: Sink>(
     sink: &mut K,
 ) -> Result<(), Stopped>
     ensures all { OnOk result (Grows (K.written sink.old) (K.written sink.new)
-        (IsDumpBehind session.old (script_lines script.now))) }
+        (IsDumpBehind (situation session.old) (script_lines script.now))) }
     ensures part { Grows (K.written sink.old) (K.written sink.new)
-        (Begins (IsDumpBehind session.old (script_lines script.now))) }
+        (Begins (IsDumpBehind (situation session.old) (script_lines script.now))) }
     ensures fault { IsErrOf result Stopped.Failed → Rose (K.faults sink.old) (K.faults sink.new) }
 {
     carry_out_all(session, script)?;

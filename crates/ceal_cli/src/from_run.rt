@@ -2,7 +2,8 @@
 
 ghost use Rattle.std.specs.Prelude.{◌≡◌, ◌↔◌, ℕ, List, IsTrue, OnOk, IsErrOf};
 ghost use Rattle.ceal_io.specs.Streams.{Rose};
-ghost use Rattle.ceal_cli.specs.Growth.{Serves, WritesFromRun, BeginsFromRun};
+ghost use Rattle.ceal_session.specs.Keeping.{situation};
+ghost use Rattle.ceal_cli.specs.Serving.{Serves, WritesFromRun, BeginsFromRun};
 ghost use Rattle.ceal_cli.specs.Lines.{script_lines};
 ghost use Rattle.ceal_cli.specs.Output.{IsRunLine};
 
@@ -22,7 +23,7 @@ fn is_run_line(line: &[u8]) -> bool
 /// Carries out a line whose reply is not written.
 pub fn carry_out(session: &mut Session, line: &[u8]) -> Result<(), Stopped>
     ensures answered { OnOk result ((text : List ℕ)
-        × Serves session.old line.now text session.new) }
+        × Serves (situation session.old) line.now text (situation session.new)) }
     ensures memory { ¬ IsErrOf result Stopped.Failed }
 {
     match session.command(line) {
@@ -39,9 +40,9 @@ pub fn reply_from_run<K: Sink>(
 ) -> Result<(), Stopped>
     ensures all { OnOk result
         (WritesFromRun (K.written sink.old) (K.written sink.new)
-        session.old (script_lines script.now)) }
+        (situation session.old) (script_lines script.now)) }
     ensures part { BeginsFromRun (K.written sink.old) (K.written sink.new)
-        session.old (script_lines script.now) }
+        (situation session.old) (script_lines script.now) }
     ensures fault { IsErrOf result Stopped.Failed → Rose (K.faults sink.old) (K.faults sink.new) }
 {
     let mut rest = script;

@@ -1,8 +1,8 @@
 // The laws of outputs and of the generated workloads, each the contract of a function that does nothing.
 
 ghost use Rattle.ceal_many.specs.Laws.{IsDetermined, OwnRepliesLaw, RefusedLaw as Others_refused_law, AloneLaw};
-ghost use Rattle.ceal_cli.specs.Situations.{Replies};
-ghost use Rattle.ceal_cli.specs.Laws.{AcceptedLaw, ShortLaw, OneOutputLaw, CheckedLaw, ListedLaw, RefusedLaw, RepliedLaw, DumpedLaw, ToldLaw, VerifiedLaw};
+ghost use Rattle.ceal_session.specs.Replies.{Replies};
+ghost use Rattle.ceal_cli.specs.Laws.{AcceptedLaw, ShortLaw, OneOutputLaw, CheckedLaw, ListedLaw, RefusedLaw, RepliedLaw, DumpedLaw, ToldLaw, JudgedLaw, GeneratedLaw, VerifiedLaw};
 
 use crate::members::Member;
 
@@ -33,9 +33,9 @@ pub fn one_output()
     ceal_many::laws::one_reply::<Member>();
 }
 
-/// An input has an output for `check` and for `list`, and for `run`, `dump` and `many`: the line of its fault where it is
-/// not accepted, and else what its script comes to. The lexer counts bytes in 32 bits, so a text of `2 ^ 32` bytes or more
-/// is no input.
+/// An input has an output in each mode that reads: the line of its fault where it is not accepted, and else what is asked
+/// for, also where the bytes behind the mark are the dump of no record. And a workload has its text. The lexer counts bytes
+/// in 32 bits, so a text of `2 ^ 32` bytes or more is no input.
 pub fn some_output()
     ensures check { CheckedLaw }
     ensures list { ListedLaw }
@@ -43,18 +43,23 @@ pub fn some_output()
     ensures replies { RepliedLaw }
     ensures dumps { DumpedLaw }
     ensures told { ToldLaw }
+    ensures verdicts { JudgedLaw }
+    ensures generated { GeneratedLaw }
 {
+    accepted_law();
     ceal_session::laws::some_reply();
     ceal_session::laws::one_reply();
     ceal_record::laws::some_record_law();
     ceal_many::laws::some_reply::<Member>();
+    ceal_dump::laws::dump_or_none();
+    ceal_traceck::laws::some_verdict_law();
     ceal_compile::laws::some_answer();
     ceal_compile::laws::some_code();
     ceal_compile::laws::accepted_is_compiled();
 }
 
 /// Where `verify` writes yes, the call that the dump records ends within its steps, run from scratch by the meaning of the
-/// source, in the dumped memory up to the numbers of core blocks. Nothing is asked of who made the dump.
+/// source, in the dumped memory up to the numbers of core blocks, of which there are as many. Nothing is asked of who made the dump.
 pub fn verified()
     ensures law { VerifiedLaw }
 {

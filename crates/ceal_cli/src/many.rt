@@ -5,7 +5,8 @@ ghost use Rattle.ceal_compile.specs.Compiled.{IsCompiled};
 ghost use Rattle.ceal_compile.specs.Source.{IsProgram};
 ghost use Rattle.ceal_io.specs.Streams.{Rose};
 ghost use Rattle.ceal_session.specs.Following.{IsAllowed};
-ghost use Rattle.ceal_cli.specs.Members.{IsSound, AreReady, Answered};
+ghost use Rattle.ceal_session.specs.Standing.{Stands};
+ghost use Rattle.ceal_cli.specs.Members.{first_situation, AreReady, Answered};
 ghost use Rattle.ceal_cli.specs.Growth.{Grows, WritesOutput, WritesPrefix};
 ghost use Rattle.ceal_cli.specs.Lines.{script_lines};
 ghost use Rattle.ceal_cli.specs.ManySessions.{AreTold};
@@ -26,11 +27,13 @@ use std::alloc::Global;
 // Writes the reply to a line.
 fn reply<K: Sink>(many: &mut Many<Members<'_>>, line: &[u8], sink: &mut K) -> Result<(), Stopped>
     requires ready { AreReady many.old.sessions }
-    requires sound { IsSound many.old.maker }
+    requires sound { Stands (first_situation many.old.maker) }
     ensures all { OnOk result (Grows (K.written sink.old) (K.written sink.new)
-        (Answered many.old.maker many.old.sessions line.now many.new.sessions)) }
+        (Answered (first_situation many.old.maker)
+        many.old.sessions line.now many.new.sessions)) }
     ensures part { Grows (K.written sink.old) (K.written sink.new)
-        (Begins (Answered many.old.maker many.old.sessions line.now many.new.sessions)) }
+        (Begins (Answered (first_situation many.old.maker)
+        many.old.sessions line.now many.new.sessions)) }
     ensures maker { many.new.maker ≡ many.old.maker }
     ensures fault { IsErrOf result Stopped.Failed → Rose (K.faults sink.old) (K.faults sink.new) }
     ensures later { K.faults sink.old ≤ K.faults sink.new }
@@ -48,11 +51,11 @@ fn reply_all<K: Sink>(
     sink: &mut K,
 ) -> Result<(), Stopped>
     requires none { many.old.sessions ≡ [] }
-    requires sound { IsSound many.old.maker }
+    requires sound { Stands (first_situation many.old.maker) }
     ensures all { OnOk result (Grows (K.written sink.old) (K.written sink.new)
-        (AreTold many.old.maker [] (script_lines script.now))) }
+        (AreTold (first_situation many.old.maker) [] (script_lines script.now))) }
     ensures part { Grows (K.written sink.old) (K.written sink.new)
-        (Begins (AreTold many.old.maker [] (script_lines script.now))) }
+        (Begins (AreTold (first_situation many.old.maker) [] (script_lines script.now))) }
     ensures fault { IsErrOf result Stopped.Failed → Rose (K.faults sink.old) (K.faults sink.new) }
 {
     one_reply();

@@ -1,7 +1,6 @@
 // The sessions of one input, and what makes them.
 
 ghost use Rattle.std.specs.Prelude.{◌≡◌};
-ghost use Rattle.ceal_session.specs.Following.{opened};
 ghost use Rattle.ceal_cli.specs.Members.{Opens};
 
 use crate::generate::program;
@@ -17,6 +16,13 @@ use ceal_types::seed::Seed;
 use std::alloc::Global;
 use std::marker::Model;
 
+/// What sessions begin with: the program, and how many steps a run may take. Contracts alone speak of it.
+#[derive(Drop)]
+pub struct Start {
+    pub program: Program,
+    pub fuel: u32,
+}
+
 /// A session among others.
 #[derive(Drop)]
 pub struct Member {
@@ -24,15 +30,22 @@ pub struct Member {
 }
 
 impl Answerer for Member {
-    ghost use Rattle.ceal_cli.specs.Members.{IsIn, IsSound};
-    ghost use Rattle.ceal_cli.specs.Situations.{Replies};
+    ghost use Rattle.ceal_cli.specs.Members.{first_situation};
     ghost use Rattle.ceal_session.specs.Following.{IsLeft};
+    ghost use Rattle.ceal_session.specs.Keeping.{situation};
+    ghost use Rattle.ceal_session.specs.Replies.{Replies};
+    ghost use Rattle.ceal_session.specs.Standing.{IsIn, Stands};
+    ghost use Rattle.ceal_session.specs.State.{Situation};
 
-    type State = Session;
+    type Beginning = Start;
 
-    ghost stands = { λ member m. IsIn member.session m };
+    ghost State = { Situation };
 
-    ghost needs = { IsSound };
+    ghost opening = { first_situation };
+
+    ghost stands = { λ member m. IsIn (situation member.session) m };
+
+    ghost needs = { Stands };
 
     ghost answers = { Replies };
 
@@ -45,12 +58,13 @@ impl Answerer for Member {
     }
 }
 
-/// What makes the sessions of an input, which is compiled again for each. Contracts see the situation in which each of them
-/// begins.
+/// What makes the sessions of an input, which is compiled again for each. The hashes of names begin in all of them with one
+/// seed, made of the whole input. Contracts see the program and the fuel.
 #[derive(Drop)]
 pub struct Members<'a> {
     alloc: Global,
     input: &'a [u8],
+    seed: Seed,
     program: Program,
     fuel: u32,
 }
@@ -60,15 +74,14 @@ impl<'a> Model for Members<'a> {
     ghost use Rattle.ceal_code.specs.contracts.expr.CodeExpr as expr;
     ghost use Rattle.ceal_code.specs.contracts.function.InitStmt as initialising;
     ghost use Rattle.ceal_cli.specs.Members.{Opens};
-    ghost use Rattle.ceal_session.specs.Following.{opened};
-    ghost use Rattle.ceal_session.specs.State.{Situation};
+    ghost use Rattle.ceal_cli.specs.declared.members.Start.{Start};
     ghost use Rattle.std.specs.Coded.{codes};
 
-    ghost Value = { Situation };
+    ghost Value = { Start };
 
     ghost coded = { Prim.hlevel (codes, statement.the_row.coded, expr.the_row.coded, initialising.the_row.coded) };
 
-    ghost view = { λ o. opened o.program o.fuel };
+    ghost view = { λ o. record { program = o.program; fuel = o.fuel } };
 
     ghost invariant = { λ o. Opens o.input.now o.program o.fuel };
 }
@@ -77,11 +90,12 @@ impl<'a> Members<'a> {
     /// What makes the sessions of this input, whose program this is.
     pub fn new(alloc: Global, input: &'a [u8], program: Program, fuel: u32) -> Members<'a>
         requires { Opens input.now program fuel }
-        ensures { result ≡ opened program fuel }
+        ensures { result ≡ record { program = program; fuel = fuel } }
     {
         Members {
             alloc,
             input,
+            seed: Seed::of_text(input),
             program,
             fuel,
         }
@@ -91,14 +105,14 @@ impl<'a> Members<'a> {
 impl<'a> Maker for Members<'a> {
     type Made = Member;
 
-    ghost opening = { λ m. m };
+    ghost beginning = { λ m. m };
 
     fn make(&self) -> Result<Member, NoMemory> {
         one_answer();
         one_code();
         some_reply();
         let program = program(self.alloc, self.input)?;
-        let session = Session::seeded(self.alloc, program, self.fuel, Seed::of_text(self.input))?;
+        let session = Session::seeded(self.alloc, program, self.fuel, self.seed)?;
         Ok(Member { session })
     }
 }

@@ -2,7 +2,8 @@
 
 ghost use Rattle.std.specs.Prelude.{◌≡◌, ◌≤◌, OnOk, IsErrOf};
 ghost use Rattle.ceal_io.specs.Streams.{Rose};
-ghost use Rattle.ceal_cli.specs.Growth.{WritesReply, WritesPart, WritesReplies, BeginsToReply};
+ghost use Rattle.ceal_session.specs.Keeping.{situation};
+ghost use Rattle.ceal_cli.specs.Serving.{WritesReply, WritesPart, WritesReplies, BeginsToReply};
 ghost use Rattle.ceal_cli.specs.Lines.{script_lines};
 
 use crate::lines::{cut_line, line};
@@ -13,8 +14,10 @@ use ceal_session::session::Session;
 // Writes the reply to a line.
 fn reply<K: Sink>(session: &mut Session, line: &[u8], sink: &mut K) -> Result<(), Stopped>
     ensures all { OnOk result
-        (WritesReply (K.written sink.old) (K.written sink.new) session.old line.now session.new) }
-    ensures part { WritesPart (K.written sink.old) (K.written sink.new) session.old line.now }
+        (WritesReply (K.written sink.old) (K.written sink.new)
+        (situation session.old) line.now (situation session.new)) }
+    ensures part { WritesPart (K.written sink.old) (K.written sink.new)
+        (situation session.old) line.now }
     ensures fault { IsErrOf result Stopped.Failed → Rose (K.faults sink.old) (K.faults sink.new) }
     ensures later { K.faults sink.old ≤ K.faults sink.new }
 {
@@ -28,9 +31,9 @@ fn reply<K: Sink>(session: &mut Session, line: &[u8], sink: &mut K) -> Result<()
 pub fn reply_all<K: Sink>(session: &mut Session, script: &[u8], sink: &mut K) -> Result<(), Stopped>
     ensures all { OnOk result
         (WritesReplies (K.written sink.old) (K.written sink.new)
-        session.old (script_lines script.now)) }
+        (situation session.old) (script_lines script.now)) }
     ensures part { BeginsToReply (K.written sink.old) (K.written sink.new)
-        session.old (script_lines script.now) }
+        (situation session.old) (script_lines script.now) }
     ensures fault { IsErrOf result Stopped.Failed → Rose (K.faults sink.old) (K.faults sink.new) }
 {
     let mut rest = script;

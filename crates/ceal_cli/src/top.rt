@@ -6,7 +6,8 @@ ghost use Rattle.ceal_io.specs.Streams.{Rose, LosesAtMost, LosesCount};
 ghost use Rattle.ceal_cli.specs.Answers.{IsWhole, IsAfterReading, IsSilent, status_number as number_of, status_text};
 ghost use Rattle.ceal_compile.specs.Source.{IsAccepted};
 ghost use Rattle.ceal_cli.specs.Growth.{WritesAnswer, WritesRefusal, WritesOutput, WritesPrefix, WritesGenerated, WritesGeneratedPrefix};
-ghost use Rattle.ceal_cli.specs.Modes.{texts, Asks, AreDefined, AskToRead, AskToGenerate, KeepsLimits, ReadsInput};
+ghost use Rattle.ceal_cli.specs.Limits.{KeepsLimits};
+ghost use Rattle.ceal_cli.specs.Modes.{texts, Asks, AreDefined, AskToRead, AskToGenerate, ReadsInput};
 ghost use Rattle.ceal_cli.specs.declared.words.Mode.{Mode as ModeOf};
 ghost use Rattle.ceal_gen.specs.declared.kind.Workload.{Workload as WorkloadOf};
 

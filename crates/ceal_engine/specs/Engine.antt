@@ -227,14 +227,8 @@ abbrev pub Shows : EngineState → BlockId → Type 0
 Shows e (Input n) = ⊤
 Shows e (Core n) = e.phase ≡ IsFinished
 
--- what holds where a run was out of fuel, and where there was no memory for it
+-- what holds where a run was out of fuel
 abbrev pub IfOutOfFuel : {A : Type 0} → Result A RunError → Type 0 → Type 0
 IfOutOfFuel (Ok x) P = ⊤
 IfOutOfFuel (Err Memory) P = ⊤
 IfOutOfFuel (Err OutOfFuel) P = P
-
--- what holds where there was no memory
-abbrev pub IfNoMemory : {A : Type 0} → Result A RunError → Type 0 → Type 0
-IfNoMemory (Ok x) P = ⊤
-IfNoMemory (Err Memory) P = P
-IfNoMemory (Err OutOfFuel) P = ⊤

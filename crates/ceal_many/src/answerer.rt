@@ -8,20 +8,26 @@ use ceal_base::text::Text;
 
 /// What answers the lines of one session.
 pub trait Answerer: Drop {
-    /// The plain type of states. It is for contracts alone: nothing makes a value of it.
-    type State;
+    /// What a session begins with. It is for contracts alone: nothing makes a value of it.
+    type Beginning;
+
+    /// The states, which contracts alone speak of.
+    ghost State: { Type 0 };
+
+    /// The state of a session that has answered no line.
+    ghost opening: { Self.Beginning → State };
 
     /// It stands for this state.
-    ghost stands: { Self → Self.State → Type 0 };
+    ghost stands: { Self → State → Type 0 };
 
     /// What `command` asks of the state.
-    ghost needs: { Self.State → Type 0 };
+    ghost needs: { State → Type 0 };
 
     /// The state answers this line by this text, and goes on to this state.
-    ghost answers: { Answering Self.State };
+    ghost answers: { Answering State };
 
     /// What may be left of the state where there was no memory to answer this line.
-    ghost leaves: { Leaving Self.State };
+    ghost leaves: { Leaving State };
 
     /// The reply to a line, which has no line end. Each line of the reply ends with a line feed.
     fn command(&mut self, line: &[u8]) -> Result<Text, NoMemory>
@@ -36,10 +42,11 @@ pub trait Maker: Drop {
     /// A session.
     type Made: Answerer;
 
-    /// The state in which each session begins.
-    ghost opening: { Self → Self.Made.State };
+    /// What each session begins with.
+    ghost beginning: { Self → Self.Made.Beginning };
 
     /// A session that has answered no line.
     fn make(&self) -> Result<Self::Made, NoMemory>
-        ensures opens { IfOk result (λ made. Self.Made.stands made (opening self.now)) };
+        ensures opens { IfOk result
+            (λ made. Self.Made.stands made (Self.Made.opening (beginning self.now))) };
 }

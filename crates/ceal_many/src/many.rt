@@ -47,8 +47,9 @@ fn begin<M: Maker>(
     name: &[u8],
     line: &[u8],
 ) -> Result<Text, NoMemory>
-    requires { M.Made.needs (M.opening maker.now) }
-    ensures reply { IfOk result (λ text. Begins M.Made.stands M.Made.answers (M.opening maker.now)
+    requires { M.Made.needs (M.Made.opening (M.beginning maker.now)) }
+    ensures reply { IfOk result (λ text. Begins M.Made.stands M.Made.answers
+        (M.Made.opening (M.beginning maker.now))
         name.now line.now sessions.old.items text sessions.new.items) }
     ensures left { OnErr result (sessions.new.items ≡ sessions.old.items) }
 {
@@ -69,9 +70,9 @@ fn answer_for<M: Maker>(
     line: &[u8],
 ) -> Result<Text, NoMemory>
     requires sessions { IsReady (StandFor M.Made.stands) (AllMeet M.Made.needs) sessions.old.items }
-    requires opening { M.Made.needs (M.opening maker.now) }
+    requires opening { M.Made.needs (M.Made.opening (M.beginning maker.now)) }
     ensures reply { IfOk result (λ text. IsAnswered (StandFor M.Made.stands)
-        (AnswersFor M.Made.answers (M.opening maker.now) name.now)
+        (AnswersFor M.Made.answers (M.Made.opening (M.beginning maker.now)) name.now)
         sessions.old.items line.now text sessions.new.items) }
     ensures left { OnErr result (IsLeft (StandFor M.Made.stands)
         (LeavesFor M.Made.answers M.Made.leaves name.now)
@@ -108,9 +109,9 @@ impl<M: Maker> Many<M> {
     pub fn command(&mut self, line: &[u8]) -> Result<Text, NoMemory>
         requires sessions { IsReady (StandFor M.Made.stands) (AllMeet M.Made.needs)
             self.old.sessions }
-        requires opening { M.Made.needs (M.opening self.old.maker) }
+        requires opening { M.Made.needs (M.Made.opening (M.beginning self.old.maker)) }
         ensures reply { IfOk result (λ text. IsAnswered (StandFor M.Made.stands)
-            (Answers M.Made.answers (M.opening self.old.maker))
+            (Answers M.Made.answers (M.Made.opening (M.beginning self.old.maker)))
             self.old.sessions line.now text self.new.sessions) }
         ensures left { OnErr result (IsLeft (StandFor M.Made.stands)
             (Leaves M.Made.answers M.Made.leaves)

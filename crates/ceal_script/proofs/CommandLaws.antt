@@ -2,6 +2,7 @@
 use Rattle.std.proofs.Common.{◌≡◌, ◌≢◌, ℕ, false, List, [], ◌∷◌, Result, Ok, Err, refl, sym, ap, ◌∙◌, subst, arith, inl, inr}
 use Rattle.std.specs.Prelude.{codes, bytes_eq, if◌then◌else◌, ◌⊎◌}
 use Rattle.std.proofs.lemmas.Bool.{false≢true}
+use Rattle.ceal_base.specs.Digits.{number_of}
 use Rattle.ceal_script.specs.Answers.{Reads}
 use Rattle.ceal_script.specs.Keywords.{keyword_text}
 use Rattle.ceal_script.specs.Lines.{is_comment, IsBlank, Says, IsLineOf}
@@ -9,7 +10,7 @@ use Rattle.ceal_script.specs.Spelling.{SpellsKind, SpellsPlace, SpellsValue}
 use Rattle.ceal_script.specs.Words.{HasWords}
 use Rattle.std.specs.List.{AllZip}
 use Rattle.ceal_script.specs.declared.command.Command.{Command}
-use Rattle.ceal_script.specs.declared.command.Command.TheVariants.{Blank, Mod, New, Set, Run, Propagate, Get, Show, Blocks, Steps, Work}
+use Rattle.ceal_script.specs.declared.command.Command.TheVariants.{Blank, Mod, New, Set, Run, Propagate, Slice, Get, Show, Blocks, Steps, Work, Bound}
 use Rattle.ceal_script.specs.declared.keyword.Keyword.{Keyword}
 use Rattle.ceal_script.specs.declared.keyword.Keyword.TheVariants as keywords
 use Rattle.ceal_script.specs.declared.line_error.LineError.{LineError}
@@ -28,11 +29,13 @@ no_keyword word rest comment none (New name shape values) h = none keywords.New 
 no_keyword word rest comment none (Set place value) h = none keywords.Set (first_word _ _ _ _ h.2)
 no_keyword word rest comment none (Run function args) h = none keywords.Run (first_word _ _ _ _ h.1)
 no_keyword word rest comment none Propagate e = none keywords.Propagate (first_word _ _ _ _ e)
+no_keyword word rest comment none (Slice reads) h = none keywords.Propagate (first_word _ _ _ _ h.1)
 no_keyword word rest comment none (Get place) h = none keywords.Get (first_word _ _ _ _ h.1)
 no_keyword word rest comment none (Show name) h = none keywords.Show (first_word _ _ _ _ h.0)
 no_keyword word rest comment none Blocks e = none keywords.Blocks (first_word _ _ _ _ e)
 no_keyword word rest comment none Steps e = none keywords.Steps (first_word _ _ _ _ e)
 no_keyword word rest comment none Work e = none keywords.Work (first_word _ _ _ _ e)
+no_keyword word rest comment none Bound e = none keywords.Bound (first_word _ _ _ _ e)
 
 -- what the words of each command are the words of
 blank_only : (words : List (List ℕ)) (c : Command) → IsBlank words → Says words c → c ≡ Blank
@@ -42,11 +45,13 @@ blank_only words (New name shape values) b h = absurd (false≢true (subst IsBla
 blank_only words (Set place value) b h = absurd (false≢true (subst IsBlank h.2 b))
 blank_only words (Run function args) b h = absurd (false≢true (subst IsBlank h.1 b))
 blank_only words Propagate b e = absurd (false≢true (subst IsBlank e b))
+blank_only words (Slice reads) b h = absurd (false≢true (subst IsBlank h.1 b))
 blank_only words (Get place) b h = absurd (false≢true (subst IsBlank h.1 b))
 blank_only words (Show name) b h = absurd (false≢true (subst IsBlank h.0 b))
 blank_only words Blocks b e = absurd (false≢true (subst IsBlank e b))
 blank_only words Steps b e = absurd (false≢true (subst IsBlank e b))
 blank_only words Work b e = absurd (false≢true (subst IsBlank e b))
+blank_only words Bound b e = absurd (false≢true (subst IsBlank e b))
 
 -- which form the words have, by the first one
 unfoldable pub form_of_words : List (List ℕ) → ℕ
@@ -62,7 +67,9 @@ form_of_words (w ∷ ws) =
     else if bytes_eq w (codes "show") then 7
     else if bytes_eq w (codes "blocks") then 8
     else if bytes_eq w (codes "steps") then 9
-    else 10
+    else if bytes_eq w (codes "work") then 10
+    else if bytes_eq w (codes "bound") then 11
+    else 12
 
 abbrev pub form : Command → ℕ
 form Blank = 0
@@ -71,11 +78,13 @@ form (New name shape values) = 2
 form (Set place value) = 3
 form (Run function args) = 4
 form Propagate = 5
+form (Slice reads) = 5
 form (Get place) = 6
 form (Show name) = 7
 form Blocks = 8
 form Steps = 9
 form Work = 10
+form Bound = 11
 
 pub form_said : (words : List (List ℕ)) (c : Command) → Says words c → form_of_words words ≡ form c
 unfolding form_of_words
@@ -86,11 +95,13 @@ form_said words (New name shape values) h = ap form_of_words h.1
 form_said words (Set place value) h = ap form_of_words h.2
 form_said words (Run function args) h = ap form_of_words h.1
 form_said words Propagate h = ap form_of_words h
+form_said words (Slice reads) h = ap form_of_words h.1
 form_said words (Get place) h = ap form_of_words h.1
 form_said words (Show name) h = ap form_of_words h.0
 form_said words Blocks h = ap form_of_words h
 form_said words Steps h = ap form_of_words h
 form_said words Work h = ap form_of_words h
+form_said words Bound h = ap form_of_words h
 
 one_saying : (words : List (List ℕ)) (c d : Command) → Says words c → Says words d → c ≡ d
 one_saying words Blank d h k = sym (blank_only words d h k)
@@ -118,6 +129,13 @@ one_saying words (Run f vs) (Run g ws) h k =
     let j : f ≡ g = cc in
     cc
 one_saying words Propagate Propagate h k = refl
+one_saying words Propagate (Slice n) h k = absurd (cc (sym h ∙ k.1))
+one_saying words (Slice n) Propagate h k = absurd (cc (sym k ∙ h.1))
+one_saying words (Slice n) (Slice m) h k =
+    let t : codes "propagate" ∷ h.0 ∷ [] ≡ codes "propagate" ∷ k.0 ∷ [] = sym h.1 ∙ k.1 in
+    let s : h.0 ≡ k.0 = cc in
+    let e : n ≡ m = h.2.4 ∙ ap number_of s ∙ sym k.2.4 in
+    ap Slice e
 one_saying words (Get p) (Get q) h k =
     let t : codes "get" ∷ h.0 ∷ [] ≡ codes "get" ∷ k.0 ∷ [] = sym h.1 ∙ k.1 in
     let e : p ≡ q = one_place h.0 p q h.2 (let s : k.0 ≡ h.0 = cc in subst (λ (x : List ℕ). SpellsPlace x q) s k.2) in
@@ -129,6 +147,7 @@ one_saying words (Show n) (Show m) h k =
 one_saying words Blocks Blocks h k = refl
 one_saying words Steps Steps h k = refl
 one_saying words Work Work h k = refl
+one_saying words Bound Bound h k = refl
 one_saying words c d h k = let e : form c ≡ form d = sym (form_said words c h) ∙ form_said words d k in absurd (omega (arith, e))
 
 module _ (line : List ℕ) (words : List (List ℕ)) (has : HasWords line words) where

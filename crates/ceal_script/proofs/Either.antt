@@ -9,10 +9,10 @@ use Rattle.ceal_base.specs.Digits.{number_of}
 use Rattle.ceal_script.specs.Characters.{is_gap}
 use Rattle.ceal_script.specs.Keywords.{keyword_text}
 use Rattle.ceal_script.specs.Lines.{is_comment, Says, IsLineOf}
-use Rattle.ceal_script.specs.Spelling.{DOT, MINUS, are_digits, is_identifier, IsIdentifier, is_name, IsName, IsTextOf, IsField, SpellsKind, SpellsPositive, SpellsNegative, SpellsNumber, SpellsPlace, SpellsValue}
+use Rattle.ceal_script.specs.Spelling.{DOT, MINUS, are_digits, is_identifier, IsIdentifier, is_name, IsName, IsTextOf, IsField, SpellsKind, SpellsPositive, SpellsNegative, SpellsNumber, SpellsPlace, SpellsReads, SpellsValue}
 use Rattle.ceal_script.specs.Words.{IsWord, HasWord, HasWords}
 use Rattle.ceal_script.specs.declared.command.Command.{Command}
-use Rattle.ceal_script.specs.declared.command.Command.TheVariants.{Blank, Mod, New, Set, Run, Propagate, Get, Show, Blocks, Steps, Work}
+use Rattle.ceal_script.specs.declared.command.Command.TheVariants.{Blank, Mod, New, Set, Run, Propagate, Slice, Get, Show, Blocks, Steps, Work, Bound}
 use Rattle.ceal_script.specs.declared.command.KindWord.{KindWord}
 use Rattle.ceal_script.specs.declared.command.KindWord.TheVariants.{Int, Named}
 use Rattle.ceal_script.specs.declared.command.PlaceWord.{PlaceWord}
@@ -69,6 +69,21 @@ positive_or_none word = elim (cases_Bool (are_digits word)) [
   | inl e ↦ elim (cases_lt (number_of word) (2 ^ 63)) [
     | inl small ↦ inl (pos (number_of word), (e, small, refl))
     | inr large ↦ inr (λ n h. let l = h.1 in omega (arith, l, large))
+  ]
+]
+
+reads_or_none : (word : List ℕ) → Given {A = ℕ} (SpellsReads word)
+reads_or_none word = elim (cases_Bool (are_digits word)) [
+  | inr e ↦ inr (λ n h. false≢true (sym e ∙ h.0))
+  | inl e ↦ elim (cases_lt 7 (length word)) [
+    | inl long ↦ inr (λ n h. let l = h.1 in omega (arith, l, long))
+    | inr short ↦ elim (cases_lt 1000000 (number_of word)) [
+      | inl large ↦ inr (λ n h. let l = h.3 in let same = h.4 in omega (arith, l, same, large))
+      | inr small ↦ elim (cases_eq (number_of word) 0) [
+        | inl none ↦ inr (λ n h. let l = h.2 in let same = h.4 in omega (arith, l, same, none))
+        | inr some ↦ inl (number_of word, (e, omega (arith, short), omega (arith, some), omega (arith, small), refl))
+      ]
+    ]
   ]
 ]
 
@@ -172,10 +187,12 @@ module _ (rest : List (List ℕ)) where
   not_run none (Run function args) h = none function args h
   not_run none c h = let e : 4 ≡ form c = form_said (codes "run" ∷ rest) c h in absurd (omega (arith, e))
 
-  not_propagate : (Says (codes "propagate" ∷ rest) Propagate → ⊥) → (c : Command) → Says (codes "propagate" ∷ rest) c → ⊥
+  not_propagate : (Says (codes "propagate" ∷ rest) Propagate → ⊥) → ((n : ℕ) → Says (codes "propagate" ∷ rest) (Slice n) → ⊥) → (c : Command)
+      → Says (codes "propagate" ∷ rest) c → ⊥
   unfolding form_of_words
-  not_propagate none Propagate h = none h
-  not_propagate none c h = let e : 5 ≡ form c = form_said (codes "propagate" ∷ rest) c h in absurd (omega (arith, e))
+  not_propagate none part Propagate h = none h
+  not_propagate none part (Slice n) h = part n h
+  not_propagate none part c h = let e : 5 ≡ form c = form_said (codes "propagate" ∷ rest) c h in absurd (omega (arith, e))
 
   not_get : ((place : PlaceWord) → Says (codes "get" ∷ rest) (Get place) → ⊥) → (c : Command) → Says (codes "get" ∷ rest) c → ⊥
   unfolding form_of_words
@@ -201,6 +218,11 @@ module _ (rest : List (List ℕ)) where
   unfolding form_of_words
   not_work none Work h = none h
   not_work none c h = let e : 10 ≡ form c = form_said (codes "work" ∷ rest) c h in absurd (omega (arith, e))
+
+  not_bound : (Says (codes "bound" ∷ rest) Bound → ⊥) → (c : Command) → Says (codes "bound" ∷ rest) c → ⊥
+  unfolding form_of_words
+  not_bound none Bound h = none h
+  not_bound none c h = let e : 11 ≡ form c = form_said (codes "bound" ∷ rest) c h in absurd (omega (arith, e))
 
 abbrev Saying : List (List ℕ) → Type 0
 Saying words = Given {A = Command} (Says words)
@@ -263,6 +285,14 @@ run_or_none (a ∷ more) = elim (identifier_or_none a) [
   ]
 ]
 
+propagate_or_none : (rest : List (List ℕ)) → Saying (codes "propagate" ∷ rest)
+propagate_or_none [] = inl (Propagate, refl)
+propagate_or_none (a ∷ []) = elim (reads_or_none a) [
+  | inr none ↦ inr (not_propagate (a ∷ []) (λ h. absurd (cc h)) (λ n h. let e : h.0 ≡ a = cc h.1 in none n (subst (λ (t : List ℕ). SpellsReads t n) e h.2)))
+  | inl reads ↦ inl (Slice reads.0, (a, refl, reads.1))
+]
+propagate_or_none (a ∷ b ∷ more) = inr (not_propagate (a ∷ b ∷ more) (λ h. absurd (cc h)) (λ n h. absurd (cc h.1)))
+
 get_or_none : (rest : List (List ℕ)) → Saying (codes "get" ∷ rest)
 get_or_none [] = inr (not_get [] (λ p h. absurd (cc h.1)))
 get_or_none (a ∷ []) = elim (place_or_none a) [
@@ -284,8 +314,7 @@ behind_keyword keywords.Mod rest = mod_or_none rest
 behind_keyword keywords.New rest = new_or_none rest
 behind_keyword keywords.Set rest = set_or_none rest
 behind_keyword keywords.Run rest = run_or_none rest
-behind_keyword keywords.Propagate [] = inl (Propagate, refl)
-behind_keyword keywords.Propagate (a ∷ more) = inr (not_propagate (a ∷ more) (λ h. absurd (cc h)))
+behind_keyword keywords.Propagate rest = propagate_or_none rest
 behind_keyword keywords.Get rest = get_or_none rest
 behind_keyword keywords.Show rest = show_or_none rest
 behind_keyword keywords.Blocks [] = inl (Blocks, refl)
@@ -294,6 +323,8 @@ behind_keyword keywords.Steps [] = inl (Steps, refl)
 behind_keyword keywords.Steps (a ∷ more) = inr (not_steps (a ∷ more) (λ h. absurd (cc h)))
 behind_keyword keywords.Work [] = inl (Work, refl)
 behind_keyword keywords.Work (a ∷ more) = inr (not_work (a ∷ more) (λ h. absurd (cc h)))
+behind_keyword keywords.Bound [] = inl (Bound, refl)
+behind_keyword keywords.Bound (a ∷ more) = inr (not_bound (a ∷ more) (λ h. absurd (cc h)))
 
 -- the keyword that a word is, where it is one
 keyword_of : List ℕ → Keyword
@@ -307,7 +338,8 @@ keyword_of word =
     else if bytes_eq word (codes "show") then keywords.Show
     else if bytes_eq word (codes "blocks") then keywords.Blocks
     else if bytes_eq word (codes "steps") then keywords.Steps
-    else keywords.Work
+    else if bytes_eq word (codes "work") then keywords.Work
+    else keywords.Bound
 
 keyword_of_text : (k : Keyword) → keyword_of (keyword_text k) ≡ k
 unfolding keyword_of

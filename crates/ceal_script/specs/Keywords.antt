@@ -1,7 +1,7 @@
 -- The words that commands begin with.
 use Rattle.std.specs.Prelude.{ℕ, List, codes}
 use Rattle.ceal_script.specs.declared.keyword.Keyword.{Keyword}
-use Rattle.ceal_script.specs.declared.keyword.Keyword.TheVariants.{Mod, New, Set, Run, Propagate, Get, Show, Blocks, Steps, Work}
+use Rattle.ceal_script.specs.declared.keyword.Keyword.TheVariants.{Mod, New, Set, Run, Propagate, Get, Show, Blocks, Steps, Work, Bound}
 
 -- how a keyword is spelled
 abbrev pub keyword_text : Keyword → List ℕ
@@ -15,3 +15,4 @@ keyword_text Show = codes "show"
 keyword_text Blocks = codes "blocks"
 keyword_text Steps = codes "steps"
 keyword_text Work = codes "work"
+keyword_text Bound = codes "bound"

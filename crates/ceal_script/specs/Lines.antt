@@ -1,10 +1,10 @@
 -- Which bytes are a line of which command.
 use Rattle.std.specs.Prelude.{◌≡◌, ℕ, Bool, false, ◌&&◌, nat_eq, IsTrue, List, [], ◌∷◌, codes}
 use Rattle.std.specs.List.{AllZip}
-use Rattle.ceal_script.specs.Spelling.{IsIdentifier, IsName, SpellsKind, SpellsPlace, SpellsValue}
+use Rattle.ceal_script.specs.Spelling.{IsIdentifier, IsName, SpellsKind, SpellsPlace, SpellsReads, SpellsValue}
 use Rattle.ceal_script.specs.Words.{HasWords}
 use Rattle.ceal_script.specs.declared.command.Command.{Command}
-use Rattle.ceal_script.specs.declared.command.Command.TheVariants.{Blank, Mod, New, Set, Run, Propagate, Get, Show, Blocks, Steps, Work}
+use Rattle.ceal_script.specs.declared.command.Command.TheVariants.{Blank, Mod, New, Set, Run, Propagate, Slice, Get, Show, Blocks, Steps, Work, Bound}
 
 abbrev pub SLASH : ℕ
 SLASH = 47
@@ -31,6 +31,8 @@ Says words (Set place value) = (p v : List ℕ) × (words ≡ codes "set" ∷ p 
 -- `run FUNCTION VALUES`
 Says words (Run function args) = (vs : List (List ℕ)) × (words ≡ codes "run" ∷ function ∷ vs) × IsIdentifier function × AllZip SpellsValue vs args
 Says words Propagate = words ≡ codes "propagate" ∷ []
+-- `propagate READS`
+Says words (Slice reads) = (k : List ℕ) × (words ≡ codes "propagate" ∷ k ∷ []) × SpellsReads k reads
 -- `get PLACE`
 Says words (Get place) = (p : List ℕ) × (words ≡ codes "get" ∷ p ∷ []) × SpellsPlace p place
 -- `show NAME`
@@ -38,6 +40,7 @@ Says words (Show name) = (words ≡ codes "show" ∷ name ∷ []) × IsName name
 Says words Blocks = words ≡ codes "blocks" ∷ []
 Says words Steps = words ≡ codes "steps" ∷ []
 Says words Work = words ≡ codes "work" ∷ []
+Says words Bound = words ≡ codes "bound" ∷ []
 
 -- The line is one of the command.
 pub record IsLineOf (command : Command) (line : List ℕ) : Type 0 where

@@ -1,5 +1,5 @@
 -- What a word of a line spells.
-use Rattle.std.specs.Prelude.{◌≡◌, ◌≢◌, ℕ, Bool, false, not, ◌&&◌, bytes_eq, ◌+◌, ◌-◌, ◌*◌, ◌^◌, ◌<◌, ◌≤◌, ℤ, pos, neg_ℤ, ◌⊎◌, Option, Some, None, List, [], ◌∷◌, ◌++◌, IsTrue, codes}
+use Rattle.std.specs.Prelude.{◌≡◌, ◌≢◌, ℕ, Bool, false, not, ◌&&◌, bytes_eq, ◌+◌, ◌-◌, ◌*◌, ◌^◌, ◌<◌, ◌≤◌, ℤ, pos, neg_ℤ, ◌⊎◌, Option, Some, None, List, [], ◌∷◌, ◌++◌, length, IsTrue, codes}
 use Rattle.std.specs.Fmt.{decimal}
 use Rattle.std.specs.List.{list_all}
 use Rattle.ceal_base.specs.Digits.{is_digit, number_of}
@@ -63,6 +63,10 @@ SpellsNegative digits n = AreDigits digits × (number_of digits ≤ 2 ^ 63) × (
 -- The word spells the number, which lies in the range of an `int`: digits, or a `-` and digits.
 abbrev pub SpellsNumber : List ℕ → ℤ → Type 0
 SpellsNumber word n = SpellsPositive word n ⊎ (digits : List ℕ) × (word ≡ MINUS ∷ digits) × SpellsNegative digits n
+
+-- one to seven digits, of a number of reads from 1 to 1,000,000; zeros may stand in front
+abbrev pub SpellsReads : List ℕ → ℕ → Type 0
+SpellsReads digits n = AreDigits digits × (length digits ≤ 7) × (1 ≤ n) × (n ≤ 1000000) × (n ≡ number_of digits)
 
 -- the number of an element of a row, in decimal; a row has 255 elements at most
 abbrev pub IsIndex : List ℕ → Type 0

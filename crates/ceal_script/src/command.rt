@@ -58,6 +58,10 @@ pub enum Command {
     },
     /// `propagate`
     Propagate,
+    /// `propagate READS`
+    Slice {
+        reads: u32,
+    },
     /// `get PLACE`
     Get {
         place: PlaceWord,
@@ -72,4 +76,6 @@ pub enum Command {
     Steps,
     /// `work`
     Work,
+    /// `bound`
+    Bound,
 }

@@ -10,6 +10,7 @@ ghost use Rattle.ceal_script.specs.Words.{texts};
 use crate::command::Command;
 use crate::keyword::{Keyword, read_keyword};
 use crate::line_error::LineError;
+use crate::number::reads;
 use crate::spelling::{identifier, kind, name, place, value, values};
 use std::alloc::Global;
 
@@ -89,12 +90,16 @@ fn read_show(alloc: Global, rest: &[&[u8]]) -> Result<Command, LineError>
     Ok(Command::Show { name })
 }
 
-/// Nothing follows `propagate`.
+/// What follows `propagate`: nothing, or a number of reads.
 fn read_propagate(rest: &[&[u8]]) -> Result<Command, LineError>
     ensures { Reads result (Says (codes "propagate" ∷ texts rest.now)) }
 {
     match rest {
         [] => Ok(Command::Propagate),
+        [word] => match reads(word) {
+            Some(reads) => Ok(Command::Slice { reads }),
+            None => Err(LineError::Unreadable),
+        },
         _ => Err(LineError::Unreadable),
     }
 }
@@ -129,6 +134,16 @@ fn read_work(rest: &[&[u8]]) -> Result<Command, LineError>
     }
 }
 
+/// Nothing follows `bound`.
+fn read_bound(rest: &[&[u8]]) -> Result<Command, LineError>
+    ensures { Reads result (Says (codes "bound" ∷ texts rest.now)) }
+{
+    match rest {
+        [] => Ok(Command::Bound),
+        _ => Err(LineError::Unreadable),
+    }
+}
+
 /// What follows a keyword.
 fn behind(alloc: Global, word: Keyword, rest: &[&[u8]]) -> Result<Command, LineError>
     ensures { Reads result (Says (keyword_text word ∷ texts rest.now)) }
@@ -144,6 +159,7 @@ fn behind(alloc: Global, word: Keyword, rest: &[&[u8]]) -> Result<Command, LineE
         Keyword::Blocks => read_blocks(rest),
         Keyword::Steps => read_steps(rest),
         Keyword::Work => read_work(rest),
+        Keyword::Bound => read_bound(rest),
     }
 }
 

@@ -17,6 +17,7 @@ pub enum Keyword {
     Blocks,
     Steps,
     Work,
+    Bound,
 }
 
 /// The keyword that a word is, if it is one.
@@ -35,6 +36,7 @@ pub fn read_keyword(word: &[u8]) -> Option<Keyword>
         b"blocks" => Some(Keyword::Blocks),
         b"steps" => Some(Keyword::Steps),
         b"work" => Some(Keyword::Work),
+        b"bound" => Some(Keyword::Bound),
         _ => None,
     }
 }

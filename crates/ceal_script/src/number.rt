@@ -6,7 +6,7 @@ ghost use Rattle.ceal_base.specs.Digits as decimal;
 ghost use Rattle.ceal_base.specs.Digits.{number_of};
 ghost use Rattle.ceal_script.specs.Answers.{Finds};
 ghost use Rattle.ceal_script.specs.Spelling as spelling;
-ghost use Rattle.ceal_script.specs.Spelling.{IsIndex, SpellsPositive, SpellsNegative, SpellsNumber};
+ghost use Rattle.ceal_script.specs.Spelling.{IsIndex, SpellsPositive, SpellsNegative, SpellsNumber, SpellsReads};
 
 use ceal_base::digits;
 use ceal_base::digits::is_digit;
@@ -16,6 +16,9 @@ const LARGEST: u64 = 1 << 63;
 
 /// How many elements a row has at most.
 const LONGEST_ROW: u64 = 255;
+
+/// How many reads a part of a repair runs anew at most.
+const MOST_READS: u64 = 1_000_000;
 
 fn all_digits(bytes: &[u8]) -> bool
     ensures { result ≡ list_all decimal.is_digit bytes.now }
@@ -48,6 +51,20 @@ pub fn is_index(word: &[u8]) -> bool
         [b'0', _, ..] => false,
         _ => are_digits(word) && fits_row(word),
     }
+}
+
+/// The number of reads that a word spells: one to seven digits, of a number from 1 to 1,000,000.
+pub fn reads(word: &[u8]) -> Option<u32>
+    ensures { Finds result (SpellsReads word.now) }
+{
+    if word.len() > 7 || !are_digits(word) {
+        return None;
+    }
+    let value = digits::number(word, MOST_READS)?;
+    if value == 0 {
+        return None;
+    }
+    Some(value as u32)
 }
 
 /// The number of digits.

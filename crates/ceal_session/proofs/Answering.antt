@@ -19,18 +19,19 @@ use Rattle.ceal_base.specs.declared.word.Word.{Word}
 use Rattle.ceal_base.specs.declared.word.Word.TheVariants.{Num, Null, Block as BlockWord, At}
 use Rattle.ceal_code.specs.Value.{is_cell}
 use Rattle.ceal_base.specs.declared.call.Call.{Call}
+use Rattle.ceal_script.specs.Lines.{IsLineOf}
 use Rattle.ceal_script.specs.declared.command.Command.{Command}
-use Rattle.ceal_script.specs.declared.command.Command.TheVariants.{Blank, Mod, New, Set, Run, Propagate, Get, Show, Blocks, Steps, Work}
+use Rattle.ceal_script.specs.declared.command.Command.TheVariants.{Blank, Mod, New, Set, Run, Propagate, Slice, Get, Show, Blocks, Steps, Work, Bound}
 use Rattle.ceal_script.specs.declared.command.PlaceWord.{PlaceWord}
-use Rattle.ceal_session.specs.Asking.{IsCellSense, IsFor, CanTell}
+use Rattle.ceal_session.specs.Asking.{IsCellSense, IsFor, CanTell, HasReads}
 use Rattle.ceal_session.specs.Runs.{memory_of, run_of}
 use Rattle.ceal_session.specs.Senses.{fields_of, fields_numbered, field_named, input_named, block_sense, kind_sense, field_sense, member_sense, part_sense, shape_in, found_sense, place_sense, value_sense, is_unknown, words_of, mod_shape, struct_shape, struct_named, function_named}
 use Rattle.ceal_session.specs.State.{State}
-use Rattle.ceal_session.specs.Steps.{Step, refuses, made_with, made_of, fits_cell, set_word, set, fits_function, IsFirst, called_with, called_function, called, called_again, run_reply, runs, has_no_run, asked, got, shown, answered, answered_line, block_of}
+use Rattle.ceal_session.specs.Steps.{Step, refuses, made_with, made_of, fits_cell, set_word, set, fits_function, IsFirst, called_with, called_function, called, called_again, run_reply, runs, part_reply, runs_part, has_no_run, asked, got, shown, answered, block_of}
 use Rattle.ceal_session.specs.declared.refusal.Refusal.{Refusal}
 use Rattle.ceal_session.specs.declared.refusal.Refusal.TheVariants.{C2, C3, C4, C5, C6, C7, C8}
 use Rattle.ceal_session.specs.declared.reply.Query.{Query}
-use Rattle.ceal_session.specs.declared.reply.Query.TheVariants.{Get as GetOf, Show as ShowOf, Blocks as BlocksOf, Steps as StepsOf, Work as WorkOf}
+use Rattle.ceal_session.specs.declared.reply.Query.TheVariants.{Get as GetOf, Show as ShowOf, Blocks as BlocksOf, Steps as StepsOf, Work as WorkOf, Bound as BoundOf}
 use Rattle.ceal_session.specs.declared.reply.Reply.TheVariants.{Refused, Told}
 use Rattle.ceal_session.specs.declared.sense.Sense.{Sense}
 use Rattle.ceal_session.specs.declared.sense.Sense.TheVariants.{Unknown, Plain, Word as IsWord}
@@ -127,6 +128,15 @@ module _ (s : State) where
       go None = tt
       go (Some f) = tt
 
+  part-tells : (more : Bool) (r : Result Call Refusal) → Tells s (runs_part s more r)
+  part-tells more (Err r) = tt
+  part-tells true (Ok call) = tt
+  part-tells false (Ok call) = go (run_of s call)
+    where
+      go : (o : Option Finished) → CanTell s (part_reply o)
+      go None = tt
+      go (Some f) = tt
+
   asked-tells : (q : Query) → IsFor s q → CanTell s (asked s q)
   asked-tells q h = go (has_no_run s) s.pending refl refl
     where
@@ -147,22 +157,20 @@ module _ (s : State) where
   shown-tells c name None e = tt
   shown-tells c name (Some n) e = asked-tells (ShowOf n) (subst (λ k. n < k) c (position-within (bytes_eq name) s.names n e))
 
-  pub can-tell : length s.names ≡ length s.inputs → (command : Command) → CanTell s (answered s command).reply
-  can-tell c Blank = tt
-  can-tell c (Mod name kind value) = made-tells name (mod_shape s kind) (value_sense s value ∷ [])
-  can-tell c (New name shape values) = made-tells name (struct_shape (struct_named s shape)) (map (value_sense s) values)
-  can-tell c (Set place value) = set-tells (place_sense s place) (value_sense s value)
-  can-tell c (Run function args) = runs-tells (called s (function_named s function) (map (value_sense s) args))
-  can-tell c Propagate = runs-tells (called_again s.call)
-  can-tell c (Get place) = got-tells (place_sense s place) (cell-sense s place)
-  can-tell c (Show name) = shown-tells c name (input_named s name) refl
-  can-tell c Blocks = asked-tells BlocksOf tt
-  can-tell c Steps = asked-tells StepsOf tt
-  can-tell c Work = asked-tells WorkOf tt
-
-  pub can-tell-line : length s.names ≡ length s.inputs → (command : Option Command) → CanTell s (answered_line s command).reply
-  can-tell-line c None = tt
-  can-tell-line c (Some command) = can-tell c command
+  pub can-tell : (more : Bool) → length s.names ≡ length s.inputs → (command : Command) → CanTell s (answered s more command).reply
+  can-tell more c Blank = tt
+  can-tell more c (Mod name kind value) = made-tells name (mod_shape s kind) (value_sense s value ∷ [])
+  can-tell more c (New name shape values) = made-tells name (struct_shape (struct_named s shape)) (map (value_sense s) values)
+  can-tell more c (Set place value) = set-tells (place_sense s place) (value_sense s value)
+  can-tell more c (Run function args) = runs-tells (called s (function_named s function) (map (value_sense s) args))
+  can-tell more c Propagate = runs-tells (called_again s.call)
+  can-tell more c (Slice reads) = part-tells more (called_again s.call)
+  can-tell more c (Get place) = got-tells (place_sense s place) (cell-sense s place)
+  can-tell more c (Show name) = shown-tells c name (input_named s name) refl
+  can-tell more c Blocks = asked-tells BlocksOf tt
+  can-tell more c Steps = asked-tells StepsOf tt
+  can-tell more c Work = asked-tells WorkOf tt
+  can-tell more c Bound = asked-tells BoundOf tt
 
   -- a call that is accepted is a first one
   with-first : (n : ℕ) (f : TypedFunction) (o : Option (List Word)) (call : Call) → slice_get s.program.functions n ≡ Some f → called_with s n f o ≡ Ok call → IsFirst s call
@@ -192,3 +200,19 @@ module _ (s : State) where
   pub called-first : (o : Option ℕ) (senses : List Sense) (call : Call) → called s o senses ≡ Ok call → IsFirst s call
   called-first None senses call h = absurd (grind (arith, h))
   called-first (Some n) senses call h = function-first n (slice_get s.program.functions n) senses call refl h
+
+-- a part of a repair that a line asks for has a read
+pub has-reads : (command : Command) (line : List ℕ) → IsLineOf command line → HasReads command
+has-reads Blank line h = tt
+has-reads (Mod name kind value) line h = tt
+has-reads (New name shape values) line h = tt
+has-reads (Set place value) line h = tt
+has-reads (Run function args) line h = tt
+has-reads Propagate line h = tt
+has-reads (Slice reads) line h = h.says.2.2
+has-reads (Get place) line h = tt
+has-reads (Show name) line h = tt
+has-reads Blocks line h = tt
+has-reads Steps line h = tt
+has-reads Work line h = tt
+has-reads Bound line h = tt

@@ -1,5 +1,6 @@
--- The inputs after one more and after an edit extend those before.
-use Rattle.std.proofs.Common.{◌≡◌, ℕ, zero, suc, Bool, true, false, if◌then◌else◌, Option, Some, None, List, [], ◌∷◌, ◌++◌, refl, sym, ap, ◌∙◌, subst, slice_get, slice_set, arith}
+-- Inputs that extend others: after one more, and after an edit.
+use Rattle.std.proofs.Common.{◌≡◌, inl, inr, ℕ, zero, suc, Bool, true, false, if◌then◌else◌, Option, Some, None, List, [], ◌∷◌, ◌++◌, ◌<◌, length, refl, sym, ap, ◌∙◌, subst, slice_get, slice_set, arith}
+use Rattle.std.proofs.lemmas.Bool.Decides.{leb_tells}
 use Rattle.std.specs.Option.{option_map}
 use Rattle.ceal_base.specs.Block.{Block, alone, block_at, written_at}
 use Rattle.ceal_base.specs.Fitting.{kind_in, kind_at}
@@ -7,15 +8,17 @@ use Rattle.ceal_base.specs.Operators.{same_block}
 use Rattle.ceal_base.specs.Shapes.{kinds_of_shape, default_of_field}
 use Rattle.ceal_base.specs.declared.kind.FieldKind.{FieldKind}
 use Rattle.ceal_base.specs.declared.word.BlockId.{BlockId}
-use Rattle.ceal_base.specs.declared.word.BlockId.TheVariants.{Input}
+use Rattle.ceal_base.specs.declared.word.BlockId.TheVariants.{Input, Core}
 use Rattle.ceal_base.specs.declared.word.Place.{Place}
 use Rattle.ceal_base.specs.declared.word.Word.{Word}
-use Rattle.ceal_code.proofs.Memory.{altered, get-before, get-within, written-here, written-other}
-use Rattle.ceal_code.proofs.Same.{block-same, some-same}
+use Rattle.ceal_code.proofs.Kept.{ShapesKept}
+use Rattle.ceal_code.proofs.Memory.{altered, got, get-before, get-within, written-here, written-other}
+use Rattle.ceal_code.proofs.Same.{block-same, none-some, some-same}
 use Rattle.ceal_code.specs.Program.{Code}
-use Rattle.ceal_code.specs.Replay.{plain_words, plain_block}
+use Rattle.ceal_code.specs.Replay.{plain_words, plain_block, content_in, bases}
 use Rattle.ceal_code.specs.Value.{is_cell}
 use Rattle.ceal_theory.specs.Adjust.{Extended}
+use Rattle.ceal_theory.specs.MoreInputs.{SameBases}
 
 pub extended-same : (code : Code) (inputs : List Block) → Extended code inputs inputs
 extended-same code inputs i block e = ap (option_map (plain_block code.structs)) e
@@ -61,3 +64,45 @@ module _ (code : Code) (inputs : List Block) (p : Place) (w : Word) (cell : is_c
       of-block : (o : Option Block) → block_at (alone inputs) p.block ≡ o → plain (slice_get edited i) ≡ Some (plain_block code.structs block)
       of-block None e = absurd (grind (arith, subst (λ o. is_cell (kind_in code.structs o p.field) ≡ true) e cell))
       of-block (Some t) e = at t e (same_block (Input i) p.block) refl
+
+pub extended-on : (code : Code) (xs ys zs : List Block) → Extended code xs ys → Extended code ys zs → Extended code xs zs
+extended-on code xs ys zs h k i block e = go (slice_get ys i) refl (h i block e)
+  where
+    go : (o : Option Block) → slice_get ys i ≡ o → option_map (plain_block code.structs) o ≡ Some (plain_block code.structs block)
+        → option_map (plain_block code.structs) (slice_get zs i) ≡ Some (plain_block code.structs block)
+    go None j p = none-some (plain_block code.structs block) p
+    go (Some c) j p = k i c j ∙ p
+
+-- inputs of one count that extend others have their shapes
+module _ (code : Code) (old new : List Block) (h : Extended code old new) (count : length old ≡ length new) where
+  pub shapes-back : ShapesKept (alone new) (alone old)
+  shapes-back (Core c) block e = none-some block e
+  shapes-back (Input i) block e =
+      let there = get-within new i block e in
+      let old-there = got old i (subst (λ n. i < n) (sym count) there) in
+      let p = h i old-there.0 old-there.1 in
+      (old-there.0, old-there.1, ap (λ b. b.shape) (some-same (plain_block code.structs old-there.0) (plain_block code.structs block) (sym p ∙ ap (option_map (plain_block code.structs)) e)))
+
+  -- one input more behind both
+  pub extended-both : (b : Block) → Extended code (old ++ b ∷ []) (new ++ b ∷ [])
+  extended-both b i block e = elim (leb_tells (suc i) (length old)) [
+    | inl p ↦ front (omega (arith, p.1))
+    | inr p ↦ ap (option_map (plain_block code.structs)) (sym (behind old new i count (λ k. absurd (let q = p.1 in omega (arith, k, q)))) ∙ e)
+  ]
+    where
+      front : i < length old → option_map (plain_block code.structs) (slice_get (new ++ b ∷ []) i) ≡ Some (plain_block code.structs block)
+      front l =
+          let e' : slice_get old i ≡ Some block = sym (get-before old (b ∷ []) i l) ∙ e in
+          ap (option_map (plain_block code.structs)) (get-before new (b ∷ []) i (subst (λ n. i < n) count l)) ∙ h i block e'
+
+      behind : (xs ys : List Block) (i : ℕ) → length xs ≡ length ys → ¬ (i < length xs) → slice_get (xs ++ b ∷ []) i ≡ slice_get (ys ++ b ∷ []) i
+      behind [] [] i c n = refl
+      behind [] (y ∷ ys) i c n = absurd (omega (arith, c))
+      behind (x ∷ xs) [] i c n = absurd (omega (arith, c))
+      behind (x ∷ xs) (y ∷ ys) zero c n = absurd (n (omega arith))
+      behind (x ∷ xs) (y ∷ ys) (suc i) c n = behind xs ys i (omega (arith, c)) (λ l. n (omega (arith, l)))
+
+-- the old inputs have their bases with one input more
+pub same-bases : (code : Code) (inputs : List Block) (b : Block) → SameBases code inputs (inputs ++ b ∷ [])
+unfolding bases
+same-bases code inputs b i field h = ap (λ o. content_in code.structs o field) (sym (get-before inputs (b ∷ []) i h))

@@ -5,24 +5,28 @@ use Rattle.ceal_session.specs.Asking.{CanTell}
 use Rattle.ceal_session.specs.Steps.{IsQuiet}
 use Rattle.ceal_session.specs.Texts.{IsText}
 use Rattle.ceal_session.specs.declared.reply.Reply.{Reply}
-use Rattle.ceal_session.specs.declared.reply.Reply.TheVariants.{Nothing, Ok as Done, OutOfFuel, Refused, Told}
-use Rattle.ceal_session.specs.State.{Situation, last}
-use Rattle.ceal_session.specs.Works.{latest_work}
+use Rattle.ceal_session.specs.declared.reply.Reply.TheVariants.{Nothing, Ok as Done, OutOfFuel, More, Finished, Refused, Told}
+use Rattle.ceal_session.specs.Keeping.{Held, situation}
+use Rattle.ceal_session.specs.State.{numbers_in}
 
 -- a reply that no change stands behind is that of the session before
-pub text-back : (m n : Situation) (reply : Reply) (text : List ℕ) → (IsQuiet reply → n ≡ m) → IsText n.state (latest_work (last n)) reply text
-    → IsText m.state (latest_work (last m)) reply text
+pub text-back : (m n : Held) (reply : Reply) (text : List ℕ) → (IsQuiet reply → n ≡ m) → IsText n.state (numbers_in (situation n)) reply text
+    → IsText m.state (numbers_in (situation m)) reply text
 text-back m n Nothing text same h = h
 text-back m n Done text same h = h
 text-back m n OutOfFuel text same h = h
+text-back m n More text same h = h
+text-back m n Finished text same h = h
 text-back m n (Refused r) text same h = h
 text-back m n (Told q) text same h = rw (← same tt) h
 
 -- and can be told behind it where it could before
-pub tell-after : (m n : Situation) (reply : Reply) → (IsQuiet reply → n ≡ m) → CanTell m.state reply → CanTell n.state reply
+pub tell-after : (m n : Held) (reply : Reply) → (IsQuiet reply → n ≡ m) → CanTell m.state reply → CanTell n.state reply
 tell-after m n Nothing same h = tt
 tell-after m n Done same h = tt
 tell-after m n OutOfFuel same h = tt
+tell-after m n More same h = tt
+tell-after m n Finished same h = tt
 tell-after m n (Refused r) same h = tt
 tell-after m n (Told q) same h = rw (same tt) h
 

@@ -1,16 +1,17 @@
 -- What a session has behind a line.
-use Rattle.std.specs.Prelude.{◌≡◌, ◌⊎◌, ℕ, true, Option, None, Result, Ok, Err, List}
+use Rattle.std.specs.Prelude.{◌≡◌, ◌⊎◌, ℕ, ◌≤◌, true, Option, Some, None, IfSome, Result, Ok, Err, List}
+use Rattle.ceal_base.specs.Trace.{steps_of}
 use Rattle.ceal_base.specs.declared.call.Call.{Call}
 use Rattle.ceal_compile.specs.declared.program.Program.{Program}
 use Rattle.ceal_engine.specs.Engine.{InLimits}
 use Rattle.ceal_script.specs.Lines.{IsLineOf}
 use Rattle.ceal_script.specs.declared.command.Command.{Command}
-use Rattle.ceal_theory.specs.Laws.{RenamedRepair}
-use Rattle.ceal_session.specs.Replies.{Reads}
+use Rattle.ceal_theory.specs.Pasts.{Past, NoTrace, SamePast, IsPastOf}
+use Rattle.ceal_session.specs.Replies.{Reads, opening}
 use Rattle.ceal_session.specs.Runs.{begun, with_run}
 use Rattle.ceal_session.specs.State.{Situation, last}
 use Rattle.ceal_session.specs.Steps.{call_of}
-use Rattle.ceal_session.specs.Works.{call_in, trace_behind}
+use Rattle.ceal_session.specs.Works.{call_in, reads_in, past_left, bound_left}
 use Rattle.ceal_session.specs.declared.refusal.Refusal.{Refusal}
 
 -- the steps that a run of a session may be allowed
@@ -19,34 +20,51 @@ IsAllowed fuel = InLimits fuel
 
 -- a session that begins
 abbrev pub opened : Program → ℕ → Situation
-opened p fuel = record { state = begun p.typed fuel; code = p.code; forest = None; work = 0 }
+opened p fuel = opening p.code (begun p.typed fuel)
 
--- the code and the trace stay
+-- the code, what there was of runs, and the bound stay
 pub record Keeps (m n : Situation) : Type 0 where
   pub code : n.code ≡ m.code
-  pub trace : last n ≡ last m
+  pub past : n.past ≡ m.past
+  pub bound : n.bound ≡ m.bound
 
--- the code stays, and the trace is that of the definition up to the numbers of core blocks
-pub record Retraces (m : Situation) (call : Call) (n : Situation) : Type 0 where
+-- Of each past of the call that the session had up to the numbers of core blocks, the session has what the definition makes of it, up
+-- to them, and the definition's bound.
+pub record Retraces (m : Situation) (call : Call) (reads : Option ℕ) (n : Situation) : Type 0 where
   pub code : n.code ≡ m.code
-  pub trace : RenamedRepair (trace_behind m.code m.state (Ok call) (last m)) (last n)
+  pub past : (p : Past) → IsPastOf m.code m.state.inputs call.function call.args p → SamePast m.code m.state.inputs call.function call.args p m.past
+      → SamePast m.code m.state.inputs call.function call.args (past_left m.code m.state (Ok call) reads p) n.past
+  pub bound : (p : Past) → IsPastOf m.code m.state.inputs call.function call.args p → SamePast m.code m.state.inputs call.function call.args p m.past
+      → n.bound ≡ bound_left m.code m.state (Ok call) reads p m.bound
 
 -- which of the two it is
-abbrev pub Goes : Situation → Result Call Refusal → Situation → Type 0
-Goes m (Err r) n = Keeps m n
-Goes m (Ok call) n = Retraces m call n
+abbrev pub Goes : Situation → Result Call Refusal → Option ℕ → Situation → Type 0
+Goes m (Err r) reads n = Keeps m n
+Goes m (Ok call) reads n = Retraces m call reads n
 
 -- So it is behind the line.
 pub record Repairs (m : Situation) (line : List ℕ) (n : Situation) : Type 0 where
   pub command : Option Command
   pub reads : Reads line command
-  pub goes : Goes m (call_in m.state command) n
+  pub goes : Goes m (call_in m.state command) (reads_in command) n
+
+-- After a `propagate` that repaired a trace, the work is at most the bound, and that is at most the steps of the run. Of a
+-- repair in parts nothing is said.
+abbrev pub IsBounded : Situation → Result Call Refusal → Option ℕ → Situation → Type 0
+IsBounded m (Err r) reads n = Unit {0}
+IsBounded m (Ok call) (Some reads) n = Unit {0}
+IsBounded m (Ok call) None n = IfSome (last m) (λ l. IfSome (last n) (λ a. (a.work ≤ n.bound) × (n.bound ≤ steps_of a.items)))
+
+pub record Bounds (m : Situation) (line : List ℕ) (n : Situation) : Type 0 where
+  pub command : Option Command
+  pub reads : Reads line command
+  pub bounded : IsBounded m (call_in m.state command) (reads_in command) n
 
 -- what is left of a session after out of fuel
 abbrev pub dropped : Situation → Call → Situation
-dropped m call = record m { state = with_run m.state call true; forest = None; work = 0 }
+dropped m call = record m { state = with_run m.state call true; past = NoTrace; bound = 0 }
 
--- The line is an accepted `run` or `propagate`, and the session is as after out of fuel.
+-- The line is an accepted `run` or `propagate`, whole or in part, and the session is as after out of fuel.
 pub record Drops (m : Situation) (line : List ℕ) (n : Situation) : Type 0 where
   pub command : Command
   pub reads : IsLineOf command line

@@ -1,87 +1,75 @@
 -- Laws of replies.
-use Rattle.std.specs.Prelude.{◌≡◌, ℕ, true, Option, None, Ok, List, ◌++◌}
+use Rattle.std.specs.Prelude.{◌≡◌, ℕ, Bool, Option, Ok, List, ◌++◌}
 use Rattle.ceal_base.specs.declared.call.Call.{Call}
-use Rattle.ceal_code.specs.Program.{Code}
 use Rattle.ceal_compile.specs.Compiled.{IsCompiled}
 use Rattle.ceal_compile.specs.declared.program.Program.{Program}
 use Rattle.ceal_script.specs.declared.command.Command.{Command}
-use Rattle.ceal_theory.specs.Computed.{Repaired}
-use Rattle.ceal_theory.specs.Laws.{RenamedRepair}
-use Rattle.ceal_session.specs.Following.{Repairs}
-use Rattle.ceal_session.specs.Replies.{Reads, Answers, Works, taken, AreReplies, AreWorks}
-use Rattle.ceal_session.specs.Runs.{begun, with_run}
-use Rattle.ceal_session.specs.Standing.{Stands, IsWorkOf}
-use Rattle.ceal_session.specs.State.{State, Situation, last}
+use Rattle.ceal_theory.specs.Pasts.{goes}
+use Rattle.ceal_session.specs.Following.{opened, Repairs, dropped}
+use Rattle.ceal_session.specs.Replies.{Reads, Answers, Replies, Leads}
+use Rattle.ceal_session.specs.Standing.{Stands, IsIn}
+use Rattle.ceal_session.specs.State.{State, Situation, Numbers, numbers_in}
 use Rattle.ceal_session.specs.Steps.{call_of}
-use Rattle.ceal_session.specs.Works.{call_in, completes, number_of, latest_work, trace_behind}
 
--- One line has one reply, whose state behind it says nothing of the work number.
-abbrev pub OneReplyLaw : Type 0
-OneReplyLaw = (s : State) (work : ℕ) (line a b : List ℕ) (m n : State) → Answers s work line a m → Answers s work line b n → a ≡ b
-
-abbrev pub OneStateLaw : Type 0
-OneStateLaw = (s : State) (v w : ℕ) (line a b : List ℕ) (m n : State) → Answers s v line a m → Answers s w line b n → m ≡ n
-
+-- A line is one command's at most.
 abbrev pub OneCommandLaw : Type 0
 OneCommandLaw = (line : List ℕ) (c d : Option Command) → Reads line c → Reads line d → c ≡ d
 
+-- A line has one reply, by the state, the numbers and whether a repair goes on behind it.
+abbrev pub OneAnswerLaw : Type 0
+OneAnswerLaw = (s : State) (numbers : Numbers) (more : Bool) (line a b : List ℕ) (m n : State) → Answers s numbers more line a m → Answers s numbers more line b n → a ≡ b
+
+-- The state behind it says nothing of the numbers.
+abbrev pub OneStateLaw : Type 0
+OneStateLaw = (s : State) (v w : Numbers) (more : Bool) (line a b : List ℕ) (m n : State) → Answers s v more line a m → Answers s w more line b n → m ≡ n
+
+-- So a line has one reply in a situation, and one situation behind it, and so have lines one after another.
+abbrev pub OneReplyLaw : Type 0
+OneReplyLaw = (m : Situation) (line a b : List ℕ) (n o : Situation) → Replies m line a n → Replies m line b o → (a ≡ b) × (n ≡ o)
+
 abbrev pub OneScriptLaw : Type 0
-OneScriptLaw = (s : State) (works : Works) (lines : List (List ℕ)) (a b : List ℕ) → AreReplies s works lines a → AreReplies s works lines b → a ≡ b
+OneScriptLaw = (m : Situation) (lines : List (List ℕ)) (a b : List ℕ) (n o : Situation) → Leads m lines a n → Leads m lines b o → (a ≡ b) × (n ≡ o)
 
--- The work numbers are a function of the lines.
-abbrev pub OneWorksLaw : Type 0
-OneWorksLaw = (code : Code) (s : State) (before : Option Repaired) (lines : List (List ℕ)) (v w : List ℕ)
-    → AreWorks code s before lines v → AreWorks code s before lines w → v ≡ w
+-- Lines behind others go on from the situation behind those.
+abbrev pub JoinedLaw : Type 0
+JoinedLaw = (m n o : Situation) (front back : List (List ℕ)) (a b : List ℕ) → Leads m front a n → Leads n back b o → Leads m (front ++ back) (a ++ b) o
 
--- A session begins so that it stands.
+-- A session begins so that it stands, and is in the situation in which nothing was run.
 abbrev pub BegunLaw : Type 0
-BegunLaw = (p : Program) (fuel : ℕ) → IsCompiled p → Stands p.code (begun p.typed fuel) None
+BegunLaw = (p : Program) (fuel : ℕ) → IsCompiled p → IsIn (opened p fuel) (opened p fuel)
 
--- Behind a line: the state and the trace stand, and the number that the line takes, if it takes one, is the trace's work.
-pub record Behind (code : Code) (s : State) (before : Option Repaired) (work : ℕ) (command : Option Command) (next : State) : Type 0 where
-  pub stands : Stands code next (trace_behind code s (call_in s command) before)
-  pub latest : ℕ
-  pub is : IsWorkOf (trace_behind code s (call_in s command) before) latest
-  pub takes : (works : List ℕ) → taken (completes s command) work (number_of (completes s command) (trace_behind code s (call_in s command) before) ++ works)
-      ≡ record { latest = latest; coming = works }
-
--- The line is answered.
-pub record Answered (code : Code) (s : State) (before : Option Repaired) (work : ℕ) (line : List ℕ) : Type 0 where
+-- In a situation that a session comes to each line has a reply, and the one behind it is such a one.
+pub record Replied (m : Situation) (line : List ℕ) : Type 0 where
   pub text : List ℕ
-  pub next : State
-  pub answers : Answers s work line text next
-  pub behind : Behind code s before work answers.command next
+  pub next : Situation
+  pub replies : Replies m line text next
+  pub stands : Stands next
 
 abbrev pub SomeReplyLaw : Type 0
-SomeReplyLaw = (code : Code) (s : State) (before : Option Repaired) (work : ℕ) (line : List ℕ) → Stands code s before → IsWorkOf before work
-    → Answered code s before work line
+SomeReplyLaw = (m : Situation) (line : List ℕ) → Stands m → Replied m line
 
--- The lines have work numbers and replies.
-pub record Replied (code : Code) (s : State) (before : Option Repaired) (work : ℕ) (lines : List (List ℕ)) : Type 0 where
-  pub works : List ℕ
-  pub repair : AreWorks code s before lines works
-  pub text : List ℕ
-  pub replies : AreReplies s (record { latest = work; coming = works }) lines text
+-- And so have lines one after another.
+pub record Led (m : Situation) (lines : List (List ℕ)) : Type 0 where
+  pub out : List ℕ
+  pub end : Situation
+  pub leads : Leads m lines out end
+  pub stands : Stands end
 
 abbrev pub SomeScriptLaw : Type 0
-SomeScriptLaw = (code : Code) (s : State) (before : Option Repaired) (work : ℕ) (lines : List (List ℕ)) → Stands code s before → IsWorkOf before work
-    → Replied code s before work lines
+SomeScriptLaw = (m : Situation) (lines : List (List ℕ)) → Stands m → Led m lines
 
--- The line was answered as the definition says, and the trace behind it is the definition's up to the numbers of core
--- blocks.
-pub record Kept (m : Situation) (before : Option Repaired) (work : ℕ) (line text : List ℕ) (n : Situation) : Type 0 where
-  pub answers : Answers m.state work line text n.state
-  pub behind : Behind m.code m.state before work answers.command n.state
-  pub code : n.code ≡ m.code
-  pub alike : RenamedRepair (trace_behind m.code m.state (call_in m.state answers.command) before) (last n)
+-- The line is answered in the situation as the session answered it, and the session is in the situation behind it.
+pub record Kept (m : Situation) (line text : List ℕ) (session : Situation) : Type 0 where
+  pub next : Situation
+  pub replies : Replies m line text next
+  pub is_in : IsIn session next
 
--- So it is with each line of a session whose trace was the definition's up to these numbers.
+-- So it is with each line of a session that is in a situation.
 abbrev pub KeptLaw : Type 0
-KeptLaw = (m n : Situation) (before : Option Repaired) (work : ℕ) (line text : List ℕ)
-    → Stands m.code m.state before → IsWorkOf before work → RenamedRepair before (last m)
-    → Answers m.state (latest_work (last m)) line text n.state → Repairs m line n → Kept m before work line text n
+KeptLaw = (old new m : Situation) (line text : List ℕ) → IsIn old m
+    → Answers old.state (numbers_in old) (goes new.past) line text new.state → Repairs old line new → Kept m line text new
 
--- Where the line is an accepted `run` or `propagate`, what is left of the state after out of fuel stands too.
+-- Where there was no memory for an accepted `run` or `propagate`, what is left of it is in what is left of the situation.
 abbrev pub DroppedLaw : Type 0
-DroppedLaw = (code : Code) (s : State) (before : Option Repaired) (command : Command) (call : Call) → Stands code s before
-    → call_of s command ≡ Ok call → Stands code (with_run s call true) None
+DroppedLaw = (session m : Situation) (command : Command) (call : Call) → IsIn session m → call_of m.state command ≡ Ok call
+    → IsIn (dropped session call) (dropped m call)

@@ -10,8 +10,13 @@ pub mod Replies
 pub mod Following
 pub mod Keeping
 pub mod Asking
-pub mod Recording
 pub mod Standing
+pub mod Recording
 pub mod Laws
+pub mod Entries
 -- what its own functions say of each other
+pub mod Undoing
+pub mod Journal
+pub mod Advancing
+pub mod Costs
 pub mod Shown

@@ -1,54 +1,59 @@
--- The replies to the lines of a script. Every line but `work` is answered by the plain meaning of the source, run anew
--- from the edited inputs, and a line `work` by a number of a list (`AreReplies`); these numbers are the work of trace
--- repair (`AreWorks`).
-use Rattle.std.specs.Prelude.{◌≡◌, ℕ, Bool, true, Option, Some, None, List, [], ◌∷◌, ◌++◌}
+-- The replies to the lines of a script. The situations between the lines are the definition's: behind each line, the state
+-- that the plain meaning of the source gives, run anew from the edited inputs, and what change propagation over the
+-- program's code has left. A line is answered by the state alone, but for `work` and `bound`, which tell the numbers of the
+-- situation, and for `propagate READS`, which is answered `more` where a repair goes on behind it. Whatever is written of a
+-- script speaks of these two relations, `Replies` and `Leads`: its replies, the dump and the save behind it, the replies of
+-- one of many sessions, and those of a session that is resumed.
+use Rattle.std.specs.Prelude.{◌≡◌, ℕ, Bool, Option, Some, None, List, [], ◌∷◌, ◌++◌}
 use Rattle.ceal_code.specs.Program.{Code}
 use Rattle.ceal_script.specs.Lines.{IsLineOf}
 use Rattle.ceal_script.specs.declared.command.Command.{Command}
-use Rattle.ceal_theory.specs.Computed.{Repaired}
-use Rattle.ceal_session.specs.State.{State}
+use Rattle.ceal_theory.specs.Pasts.{NoTrace, goes}
+use Rattle.ceal_session.specs.State.{State, Situation, Numbers, numbers_in}
 use Rattle.ceal_session.specs.Steps.{answered_line}
 use Rattle.ceal_session.specs.Texts.{IsText}
-use Rattle.ceal_session.specs.Works.{call_in, completes, number_of, trace_behind}
+use Rattle.ceal_session.specs.Works.{past_in, bound_in}
 
 -- The line is this command's, or no command's.
 abbrev pub Reads : List ℕ → Option Command → Type 0
 Reads line (Some command) = IsLineOf command line
 Reads line None = (command : Command) → IsLineOf command line → ⊥
 
--- The line is answered by the text, where `work` is the latest work number, and the state after it is `next`.
-pub record Answers (s : State) (work : ℕ) (line text : List ℕ) (next : State) : Type 0 where
+-- The line is answered by the text, where these are the latest numbers, and `more` says whether a repair goes on behind the
+-- line; the state after it is `next`.
+pub record Answers (s : State) (numbers : Numbers) (more : Bool) (line text : List ℕ) (next : State) : Type 0 where
   pub command : Option Command
   pub reads : Reads line command
-  pub reply : IsText s work (answered_line s command).reply text
-  pub state : next ≡ (answered_line s command).state
+  pub reply : IsText s numbers (answered_line s more command).reply text
+  pub state : next ≡ (answered_line s more command).state
 
--- the latest work number and those to come, of which each run or propagate that is answered `ok` takes the next
-pub record Works : Type 0 where
-  pub latest : ℕ
-  pub coming : List ℕ
+-- nothing was run
+abbrev pub opening : Code → State → Situation
+opening code s = record { state = s; code = code; past = NoTrace; bound = 0 }
 
-abbrev pub taken : Bool → ℕ → List ℕ → Works
-taken true work (next ∷ later) = record { latest = next; coming = later }
-taken _ work coming = record { latest = work; coming = coming }
+-- the situation behind a line of this command, or of none
+abbrev pub behind : Situation → Option Command → Situation
+behind m command = record {
+  state = (answered_line m.state (goes (past_in m command)) command).state;
+  code = m.code;
+  past = past_in m command;
+  bound = bound_in m command;
+}
 
--- The replies to the lines, one after another, are these bytes.
-unfoldable pub AreReplies : State → Works → List (List ℕ) → List ℕ → Type 0
-AreReplies s works [] out = out ≡ []
-AreReplies s works (line ∷ lines) out =
-    (text : List ℕ) × (next : State) × (rest : List ℕ) × (a : Answers s works.latest line text next)
-    × AreReplies next (taken (completes s a.command) works.latest works.coming) lines rest × (out ≡ text ++ rest)
+-- The line is answered by the text, and the situation behind it is the other one.
+pub record Replies (m : Situation) (line text : List ℕ) (n : Situation) : Type 0 where
+  pub command : Option Command
+  pub reads : Reads line command
+  pub reply : IsText m.state (numbers_in m) (answered_line m.state (goes (past_in m command)) command).reply text
+  pub next : n ≡ behind m command
 
--- The work numbers of the lines, in order, are these, where `last` is the trace before them.
-unfoldable pub AreWorks : Code → State → Option Repaired → List (List ℕ) → List ℕ → Type 0
-AreWorks code s last [] works = works ≡ []
-AreWorks code s last (line ∷ lines) works =
-    (command : Option Command) × (later : List ℕ) × Reads line command
-    × AreWorks code (answered_line s command).state (trace_behind code s (call_in s command) last) lines later
-    × (works ≡ number_of (completes s command) (trace_behind code s (call_in s command) last) ++ later)
+-- The lines are answered, one after another, by these bytes, and the situation behind them is the other one.
+unfoldable pub Leads : Situation → List (List ℕ) → List ℕ → Situation → Type 0
+Leads m [] out n = (out ≡ []) × (n ≡ m)
+Leads m (line ∷ lines) out n =
+    (text : List ℕ) × (mid : Situation) × (rest : List ℕ) × Replies m line text mid × Leads mid lines rest n × (out ≡ text ++ rest)
 
 -- The replies to a script, from a state where nothing was run, are these bytes.
 pub record IsReplied (code : Code) (s : State) (lines : List (List ℕ)) (out : List ℕ) : Type 0 where
-  pub works : List ℕ
-  pub repair : AreWorks code s None lines works
-  pub replies : AreReplies s (record { latest = 0; coming = works }) lines out
+  pub end : Situation
+  pub leads : Leads (opening code s) lines out end

@@ -1,5 +1,5 @@
 -- A session that begins, and the run from scratch at each moment of it.
-use Rattle.std.specs.Prelude.{ℕ, Bool, false, Option, Some, None, List, []}
+use Rattle.std.specs.Prelude.{ℕ, Bool, true, false, Option, Some, None, List, []}
 use Rattle.ceal_base.specs.Block.{Block, Blocks}
 use Rattle.ceal_base.specs.Finished.{Finished}
 use Rattle.ceal_base.specs.declared.typed.Typed.{Typed}
@@ -14,6 +14,7 @@ begun program fuel = record {
   fuel = fuel;
   names = [];
   inputs = [];
+  settled = [];
   call = None;
   out_of_fuel = false;
   pending = false;
@@ -38,6 +39,10 @@ run_of_call s (Some call) = run_of s call
 abbrev pub present_run : State → Option Finished
 present_run s = run_of_call s s.call
 
--- the state after a run or propagate
+-- the state after a run or propagate, which is completed or out of fuel
 abbrev pub with_run : State → Call → Bool → State
-with_run s call out_of_fuel = record s { call = Some call; out_of_fuel = out_of_fuel; pending = false }
+with_run s call out_of_fuel = record s { settled = s.inputs; call = Some call; out_of_fuel = out_of_fuel; pending = false }
+
+-- the state after a part of a repair that goes on
+abbrev pub with_part : State → State
+with_part s = record s { out_of_fuel = false; pending = true }

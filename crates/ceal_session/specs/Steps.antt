@@ -11,15 +11,15 @@ use Rattle.ceal_base.specs.declared.word.Place.{Place}
 use Rattle.ceal_base.specs.declared.word.Word.{Word}
 use Rattle.ceal_base.specs.declared.word.Word.TheVariants.{At}
 use Rattle.ceal_script.specs.declared.command.Command.{Command}
-use Rattle.ceal_script.specs.declared.command.Command.TheVariants.{Blank, Mod, New, Set, Run, Propagate, Get, Show, Blocks, Steps, Work}
-use Rattle.ceal_session.specs.Runs.{memory_of, run_of, with_run}
+use Rattle.ceal_script.specs.declared.command.Command.TheVariants.{Blank, Mod, New, Set, Run, Propagate, Slice, Get, Show, Blocks, Steps, Work, Bound}
+use Rattle.ceal_session.specs.Runs.{memory_of, run_of, with_run, with_part}
 use Rattle.ceal_session.specs.Senses.{place_sense, value_sense, is_unknown, words_of, mod_shape, struct_shape, struct_named, function_named, input_named}
 use Rattle.ceal_session.specs.declared.refusal.Refusal.{Refusal}
 use Rattle.ceal_session.specs.declared.refusal.Refusal.TheVariants.{C1, C2, C3, C4, C5, C6, C7, C8}
 use Rattle.ceal_session.specs.declared.reply.Query.{Query}
-use Rattle.ceal_session.specs.declared.reply.Query.TheVariants.{Get as GetOf, Show as ShowOf, Blocks as BlocksOf, Steps as StepsOf, Work as WorkOf}
+use Rattle.ceal_session.specs.declared.reply.Query.TheVariants.{Get as GetOf, Show as ShowOf, Blocks as BlocksOf, Steps as StepsOf, Work as WorkOf, Bound as BoundOf}
 use Rattle.ceal_session.specs.declared.reply.Reply.{Reply}
-use Rattle.ceal_session.specs.declared.reply.Reply.TheVariants.{Nothing, Ok as Done, OutOfFuel, Refused, Told}
+use Rattle.ceal_session.specs.declared.reply.Reply.TheVariants.{Nothing, Ok as Done, OutOfFuel, More, Finished as PartDone, Refused, Told}
 use Rattle.ceal_session.specs.declared.sense.Sense.{Sense}
 use Rattle.ceal_session.specs.declared.sense.Sense.TheVariants.{Word as IsWord}
 use Rattle.ceal_base.specs.declared.call.Call.{Call}
@@ -34,6 +34,8 @@ pub record Step : Type 0 where
 abbrev pub IsQuiet : Reply → Type 0
 IsQuiet Done = ⊥
 IsQuiet OutOfFuel = ⊥
+IsQuiet More = ⊥
+IsQuiet PartDone = ⊥
 IsQuiet _ = Unit {0}
 
 -- a line that changes nothing
@@ -45,7 +47,7 @@ refuses s r = stays s (Refused r)
 
 -- `mod` and `new`: one more input
 abbrev pub with_input : State → List ℕ → Block → State
-with_input s name block = record s { names = s.names ++ name ∷ []; inputs = s.inputs ++ block ∷ [] }
+with_input s name block = record s { names = s.names ++ name ∷ []; inputs = s.inputs ++ block ∷ []; settled = s.settled ++ block ∷ [] }
 
 abbrev pub block_of : Shape → List Word → Block
 block_of shape words = record { shape = shape; words = words }
@@ -131,7 +133,17 @@ abbrev pub runs : State → Result Call Refusal → Step
 runs s (Err r) = refuses s r
 runs s (Ok call) = record { reply = run_reply (run_of s call); state = with_run s call (is_none (run_of s call)) }
 
--- a question: there is a run that was not out of fuel, and no edit came after it
+abbrev pub part_reply : Option Finished → Reply
+part_reply None = OutOfFuel
+part_reply (Some f) = PartDone
+
+-- a part of a repair: it goes on, or it is completed by the run from scratch on the inputs of this moment
+abbrev pub runs_part : State → Bool → Result Call Refusal → Step
+runs_part s more (Err r) = refuses s r
+runs_part s true (Ok call) = record { reply = More; state = with_part s }
+runs_part s false (Ok call) = record { reply = part_reply (run_of s call); state = with_run s call (is_none (run_of s call)) }
+
+-- a question: there is a run that was not out of fuel, and no edit came after it, and no repair is pending
 abbrev pub has_no_run : State → Bool
 has_no_run s = s.out_of_fuel || is_none s.call
 
@@ -151,23 +163,31 @@ shown s (Some n) = asked s (ShowOf n)
 abbrev pub call_of : State → Command → Result Call Refusal
 call_of s (Run function args) = called s (function_named s function) (map (value_sense s) args)
 call_of s Propagate = called_again s.call
+call_of s (Slice reads) = called_again s.call
 call_of s _ = Err C1
 
--- what a command is answered
-abbrev pub answered : State → Command → Step
-answered s Blank = stays s Nothing
-answered s (Mod name kind value) = made_of s name (mod_shape s kind) (value_sense s value ∷ [])
-answered s (New name shape values) = made_of s name (struct_shape (struct_named s shape)) (map (value_sense s) values)
-answered s (Set place value) = set s (place_sense s place) (value_sense s value)
-answered s (Run function args) = runs s (called s (function_named s function) (map (value_sense s) args))
-answered s Propagate = runs s (called_again s.call)
-answered s (Get place) = stays s (got s (place_sense s place))
-answered s (Show name) = stays s (shown s (input_named s name))
-answered s Blocks = stays s (asked s BlocksOf)
-answered s Steps = stays s (asked s StepsOf)
-answered s Work = stays s (asked s WorkOf)
+-- how many stale reads a line runs anew at most, where it says so
+abbrev pub reads_of : Command → Option ℕ
+reads_of (Slice reads) = Some reads
+reads_of _ = None
+
+-- what a command is answered; `more` says whether a repair goes on behind it, which a part of a repair alone looks at
+abbrev pub answered : State → Bool → Command → Step
+answered s more Blank = stays s Nothing
+answered s more (Mod name kind value) = made_of s name (mod_shape s kind) (value_sense s value ∷ [])
+answered s more (New name shape values) = made_of s name (struct_shape (struct_named s shape)) (map (value_sense s) values)
+answered s more (Set place value) = set s (place_sense s place) (value_sense s value)
+answered s more (Run function args) = runs s (called s (function_named s function) (map (value_sense s) args))
+answered s more Propagate = runs s (called_again s.call)
+answered s more (Slice reads) = runs_part s more (called_again s.call)
+answered s more (Get place) = stays s (got s (place_sense s place))
+answered s more (Show name) = stays s (shown s (input_named s name))
+answered s more Blocks = stays s (asked s BlocksOf)
+answered s more Steps = stays s (asked s StepsOf)
+answered s more Work = stays s (asked s WorkOf)
+answered s more Bound = stays s (asked s BoundOf)
 
 -- what a line is answered that is this command's, or none's
-abbrev pub answered_line : State → Option Command → Step
-answered_line s None = refuses s C1
-answered_line s (Some command) = answered s command
+abbrev pub answered_line : State → Bool → Option Command → Step
+answered_line s more None = refuses s C1
+answered_line s more (Some command) = answered s more command

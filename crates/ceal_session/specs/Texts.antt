@@ -13,10 +13,10 @@ use Rattle.ceal_session.specs.Refusals.{refusal_text}
 use Rattle.ceal_session.specs.Runs.{present_run}
 use Rattle.ceal_session.specs.declared.refusal.Refusal.TheVariants.{C7}
 use Rattle.ceal_session.specs.declared.reply.Query.{Query}
-use Rattle.ceal_session.specs.declared.reply.Query.TheVariants.{Get, Show, Blocks, Steps, Work}
+use Rattle.ceal_session.specs.declared.reply.Query.TheVariants.{Get, Show, Blocks, Steps, Work, Bound}
 use Rattle.ceal_session.specs.declared.reply.Reply.{Reply}
-use Rattle.ceal_session.specs.declared.reply.Reply.TheVariants.{Nothing, Ok, OutOfFuel, Refused, Told}
-use Rattle.ceal_session.specs.State.{State}
+use Rattle.ceal_session.specs.declared.reply.Reply.TheVariants.{Nothing, Ok, OutOfFuel, More, Finished as PartDone, Refused, Told}
+use Rattle.ceal_session.specs.State.{State, Numbers}
 
 -- the name of an input
 abbrev pub input_name : State → ℕ → List ℕ
@@ -34,24 +34,27 @@ value_text s Null = codes "null"
 value_text s (Block b) = block_text s b
 value_text s (At p) = block_text s p.block
 
--- The text answers the question about a finished run, whose work number is `work`.
-abbrev pub Tells : State → ℕ → Query → Finished → List ℕ → Type 0
-Tells s work (Get p) f text = text ≡ value_text s (content_of f.memory (At p) Null) ++ codes "\n"
-Tells s work (Show n) f text = IsGraphText s.program.structs (block_at f.memory) (input_name s) (Input n) text
-Tells s work Blocks f text = text ≡ decimal f.blocks ++ codes "\n"
-Tells s work Steps f text = text ≡ decimal f.steps ++ codes "\n"
-Tells s work Work f text = text ≡ decimal work ++ codes "\n"
+-- The text answers the question about a finished run, which has these numbers.
+abbrev pub Tells : State → Numbers → Query → Finished → List ℕ → Type 0
+Tells s numbers (Get p) f text = text ≡ value_text s (content_of f.memory (At p) Null) ++ codes "\n"
+Tells s numbers (Show n) f text = IsGraphText s.program.structs (block_at f.memory) (input_name s) (Input n) text
+Tells s numbers Blocks f text = text ≡ decimal f.blocks ++ codes "\n"
+Tells s numbers Steps f text = text ≡ decimal f.steps ++ codes "\n"
+Tells s numbers Work f text = text ≡ decimal numbers.work ++ codes "\n"
+Tells s numbers Bound f text = text ≡ decimal numbers.bound ++ codes "\n"
 
 -- A run that was in fuel stays so where inputs are added, so that a run is there.
-abbrev pub TellsOf : State → ℕ → Query → Option Finished → List ℕ → Type 0
-TellsOf s work q None text = text ≡ refusal_text C7
-TellsOf s work q (Some f) text = Tells s work q f text
+abbrev pub TellsOf : State → Numbers → Query → Option Finished → List ℕ → Type 0
+TellsOf s numbers q None text = text ≡ refusal_text C7
+TellsOf s numbers q (Some f) text = Tells s numbers q f text
 
 -- The text is that of the reply; a question is answered by the run from scratch on the inputs of this moment, and the
--- line `work` alone by the work number.
-abbrev pub IsText : State → ℕ → Reply → List ℕ → Type 0
-IsText s work Nothing text = text ≡ []
-IsText s work Ok text = text ≡ codes "ok\n"
-IsText s work OutOfFuel text = text ≡ codes "out of fuel\n"
-IsText s work (Refused r) text = text ≡ refusal_text r
-IsText s work (Told q) text = TellsOf s work q (present_run s) text
+-- lines `work` and `bound` alone by the numbers.
+abbrev pub IsText : State → Numbers → Reply → List ℕ → Type 0
+IsText s numbers Nothing text = text ≡ []
+IsText s numbers Ok text = text ≡ codes "ok\n"
+IsText s numbers OutOfFuel text = text ≡ codes "out of fuel\n"
+IsText s numbers More text = text ≡ codes "more\n"
+IsText s numbers PartDone text = text ≡ codes "done\n"
+IsText s numbers (Refused r) text = text ≡ refusal_text r
+IsText s numbers (Told q) text = TellsOf s numbers q (present_run s) text

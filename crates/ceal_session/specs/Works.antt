@@ -1,14 +1,16 @@
--- The traces that runs and propagates leave, and their work: change propagation over the program's code.
-use Rattle.std.specs.Prelude.{ℕ, suc, max, Bool, true, false, Option, Some, None, is_some, Result, Ok, Err, List, [], ◌∷◌, if◌then◌else◌}
-use Rattle.ceal_base.specs.Trace.{blocks_of}
+-- What runs and propagates leave, by change propagation over the program's code: traces and their work, repairs that go
+-- on, and the bound of a work.
+use Rattle.std.specs.Prelude.{ℕ, Option, Some, None, Result, Ok, Err, if◌then◌else◌}
+use Rattle.ceal_base.specs.Trace.{steps_of}
 use Rattle.ceal_base.specs.declared.call.Call.{Call}
 use Rattle.ceal_code.specs.Program.{Code}
-use Rattle.ceal_code.specs.Replay.{core_numbers}
+use Rattle.ceal_cost.specs.Bounds.{first_cost}
 use Rattle.ceal_script.specs.declared.command.Command.{Command}
-use Rattle.ceal_theory.specs.Computed.{Repaired, adjusted, first_of}
-use Rattle.ceal_session.specs.Runs.{run_of}
-use Rattle.ceal_session.specs.State.{State}
-use Rattle.ceal_session.specs.Steps.{call_of}
+use Rattle.ceal_theory.specs.Computed.{Repaired, first_of}
+use Rattle.ceal_theory.specs.Pasts.{Past, past_behind, slice_of, next_repair}
+use Rattle.ceal_theory.specs.Slices.{Repair, is_done}
+use Rattle.ceal_session.specs.State.{State, Situation}
+use Rattle.ceal_session.specs.Steps.{call_of, reads_of}
 use Rattle.ceal_session.specs.declared.refusal.Refusal.{Refusal}
 use Rattle.ceal_session.specs.declared.refusal.Refusal.TheVariants.{C1}
 
@@ -17,37 +19,45 @@ abbrev pub call_in : State → Option Command → Result Call Refusal
 call_in s None = Err C1
 call_in s (Some command) = call_of s command
 
--- whether there is a call, and its run from scratch on the present inputs ends within the fuel
-abbrev pub ends : State → Result Call Refusal → Bool
-ends s (Err r) = false
-ends s (Ok call) = is_some (run_of s call)
+-- how many stale reads the line runs anew at most, where it says so
+abbrev pub reads_in : Option Command → Option ℕ
+reads_in None = None
+reads_in (Some command) = reads_of command
 
--- whether the line is a run or propagate that is answered `ok`
-abbrev pub completes : State → Option Command → Bool
-completes s command = ends s (call_in s command)
+-- the first trace of a call on the inputs of this moment
+abbrev pub first_trace : Code → State → Call → Option Repaired
+first_trace code s call = first_of code s.inputs s.fuel call.function call.args
 
--- the first number above all of these
-abbrev pub number_above : List ℕ → ℕ
-number_above [] = 0
-number_above (b ∷ bs) = max (suc b) (number_above bs)
+-- What the line leaves: what there was before it, where it runs no call. Else a slice of the repair that is pending, or of
+-- a new one of the trace, which goes on or is done; where there is no trace, or the steps that were run anew are more than
+-- the fuel, the first trace; and nothing where the run from scratch is out of fuel.
+abbrev pub past_left : Code → State → Result Call Refusal → Option ℕ → Past → Past
+past_left code s (Err r) reads past = past
+past_left code s (Ok call) reads past = past_behind code s.inputs s.fuel (first_trace code s call) reads past
 
--- The trace of a call on the present inputs, and its work: the first trace, where there is none before it, each of whose
--- steps is work; else the repair of the trace before it, whose new blocks have numbers above those of that trace.
-abbrev pub traced : Code → State → Call → Option Repaired → Option Repaired
-traced code s call None = first_of code s.inputs s.fuel call.function call.args
-traced code s call (Some l) = adjusted code s.inputs (number_above (core_numbers (blocks_of l.items))) s.fuel l.items
+-- the steps of a first trace
+abbrev pub steps_in_first : Option Repaired → ℕ
+steps_in_first None = 0
+steps_in_first (Some a) = steps_of a.items
 
--- the trace behind a line: that before it where the line runs no call, and none where the run from scratch is out of fuel
-abbrev pub trace_behind : Code → State → Result Call Refusal → Option Repaired → Option Repaired
-trace_behind code s (Err r) last = last
-trace_behind code s (Ok call) last = if is_some (run_of s call) then traced code s call last else None
+-- The bound, by the slice: where there is none the trace is a first one, each of whose steps is work. Where the repair is
+-- done it is the cost of the first trace on the present inputs beside the first trace on the settled ones; where it goes
+-- on, it stays what it was.
+abbrev pub bound_by : Code → State → Call → Option Repaired → Option Repair → ℕ → ℕ
+bound_by code s call first None bound = steps_in_first first
+bound_by code s call None (Some r) bound = if is_done code s.inputs r then 0 else bound
+bound_by code s call (Some a) (Some r) bound =
+    if is_done code s.inputs r then first_cost code s.fuel s.settled s.inputs call.function call.args else bound
 
--- the work number of a line, where it is answered `ok`
-abbrev pub number_of : Bool → Option Repaired → List ℕ
-number_of true (Some l) = l.work ∷ []
-number_of _ _ = []
+-- the bound behind a line that begins with this past
+abbrev pub bound_left : Code → State → Result Call Refusal → Option ℕ → Past → ℕ → ℕ
+bound_left code s (Err r) reads past bound = bound
+bound_left code s (Ok call) reads past bound =
+    bound_by code s call (first_trace code s call) (slice_of code s.inputs s.fuel reads (next_repair code s.inputs past)) bound
 
--- the latest work number; before the first one none is asked for
-abbrev pub latest_work : Option Repaired → ℕ
-latest_work None = 0
-latest_work (Some l) = l.work
+-- what the line of a command, or of none, leaves in a situation
+abbrev pub past_in : Situation → Option Command → Past
+past_in m command = past_left m.code m.state (call_in m.state command) (reads_in command) m.past
+
+abbrev pub bound_in : Situation → Option Command → ℕ
+bound_in m command = bound_left m.code m.state (call_in m.state command) (reads_in command) m.past m.bound

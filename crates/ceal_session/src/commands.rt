@@ -1,9 +1,12 @@
 // What a command is answered, and the state after it.
 
-ghost use Rattle.std.specs.Prelude.{◌≡◌, [], ◌∷◌, IfOk, OnOk, OnErr, map};
+ghost use Rattle.std.specs.Prelude.{◌≡◌, ◌≤◌, [], ◌∷◌, Some, None, IfOk, OnOk, OnErr, map};
+ghost use Rattle.ceal_session.specs.Asking.{HasReads};
 ghost use Rattle.ceal_session.specs.Following.{Keeps, Goes, IsLeftBy};
+ghost use Rattle.ceal_session.specs.Keeping.{situation};
 ghost use Rattle.ceal_session.specs.Senses.{mod_shape as shape_of_mod, struct_shape as shape_of_struct, struct_named, function_named, value_sense as sense_of_value, place_sense as sense_of_place};
-ghost use Rattle.ceal_session.specs.Steps.{IsQuiet, IsFirst, runs, called, called_again, call_of, made_of, set as set_of, answered};
+ghost use Rattle.ceal_session.specs.Steps.{IsQuiet, IsFirst, runs, runs_part, called, called_again, call_of, reads_of, made_of, set as set_of, answered};
+ghost use Rattle.ceal_theory.specs.Pasts.{goes};
 
 use crate::refusal::Refusal;
 use crate::reply::{Query, Reply};
@@ -30,7 +33,7 @@ fn make_modifiable(
         ≡ made_of state.old.state name.now (shape_of_mod state.old.state kind.now)
         (sense_of_value state.old.state value.now ∷ [])) }
     ensures quiet { IfOk result (λ reply. IsQuiet reply → state.new ≡ state.old) }
-    ensures trace { OnOk result (Keeps state.old state.new) }
+    ensures trace { OnOk result (Keeps (situation state.old) (situation state.new)) }
     ensures err { OnErr result (state.new ≡ state.old) }
 {
     let shape = mod_shape(state, kind);
@@ -52,7 +55,7 @@ fn make_block(
         (shape_of_struct (struct_named state.old.state shape.now))
         (map (sense_of_value state.old.state) values.now)) }
     ensures quiet { IfOk result (λ reply. IsQuiet reply → state.new ≡ state.old) }
-    ensures trace { OnOk result (Keeps state.old state.new) }
+    ensures trace { OnOk result (Keeps (situation state.old) (situation state.new)) }
     ensures err { OnErr result (state.new ≡ state.old) }
 {
     let shape = struct_shape(state, shape);
@@ -80,7 +83,7 @@ fn edit(state: &mut State, place: &PlaceWord, value: &ValueWord) -> Result<Reply
         ≡ set_of state.old.state (sense_of_place state.old.state place.now)
         (sense_of_value state.old.state value.now)) }
     ensures quiet { IfOk result (λ reply. IsQuiet reply → state.new ≡ state.old) }
-    ensures trace { OnOk result (Keeps state.old state.new) }
+    ensures trace { OnOk result (Keeps (situation state.old) (situation state.new)) }
     ensures err { OnErr result (state.new ≡ state.old) }
 {
     let place = place_sense(state, place)?;
@@ -94,8 +97,9 @@ fn start(state: &mut State, call: Result<Call, Refusal>) -> Result<Reply, NoMemo
     ensures ok { IfOk result
         (λ reply. record { reply = reply; state = state.new.state } ≡ runs state.old.state call) }
     ensures quiet { IfOk result (λ reply. IsQuiet reply → state.new ≡ state.old) }
-    ensures trace { OnOk result (Goes state.old call state.new) }
-    ensures err { OnErr result (IsLeftBy state.old call state.new) }
+    ensures trace { OnOk result
+        (Goes (situation state.old) call None (situation state.new)) }
+    ensures err { OnErr result (IsLeftBy (situation state.old) call (situation state.new)) }
 {
     match call {
         Ok(call) => state.run(&call),
@@ -117,13 +121,13 @@ fn start_first(
         (map (sense_of_value state.old.state) args.now))) }
     ensures quiet { IfOk result (λ reply. IsQuiet reply → state.new ≡ state.old) }
     ensures trace { OnOk result
-        (Goes state.old
+        (Goes (situation state.old)
         (called state.old.state (function_named state.old.state function.now)
-        (map (sense_of_value state.old.state) args.now)) state.new) }
+        (map (sense_of_value state.old.state) args.now)) None (situation state.new)) }
     ensures err { OnErr result
-        (IsLeftBy state.old
+        (IsLeftBy (situation state.old)
         (called state.old.state (function_named state.old.state function.now)
-        (map (sense_of_value state.old.state) args.now)) state.new) }
+        (map (sense_of_value state.old.state) args.now)) (situation state.new)) }
 {
     let senses = value_senses(alloc, state, args)?;
     let call = call(alloc, state, function, senses.as_slice())?;
@@ -136,8 +140,11 @@ fn start_again(state: &mut State) -> Result<Reply, NoMemory>
         (λ reply. record { reply = reply; state = state.new.state }
         ≡ runs state.old.state (called_again state.old.state.call)) }
     ensures quiet { IfOk result (λ reply. IsQuiet reply → state.new ≡ state.old) }
-    ensures trace { OnOk result (Goes state.old (called_again state.old.state.call) state.new) }
-    ensures err { OnErr result (IsLeftBy state.old (called_again state.old.state.call) state.new) }
+    ensures trace { OnOk result
+        (Goes (situation state.old) (called_again state.old.state.call) None
+        (situation state.new)) }
+    ensures err { OnErr result
+        (IsLeftBy (situation state.old) (called_again state.old.state.call) (situation state.new)) }
 {
     if !state.has_call() {
         return Ok(Reply::Refused(Refusal::C7));
@@ -145,15 +152,39 @@ fn start_again(state: &mut State) -> Result<Reply, NoMemory>
     state.propagate()
 }
 
-/// The reply to a command. Where there is no memory, the state is as before, or as after a run that was out of fuel.
-pub fn reply_to(alloc: Global, state: &mut State, command: &Command) -> Result<Reply, NoMemory>
+/// `propagate READS`
+fn start_part(state: &mut State, reads: u32) -> Result<Reply, NoMemory>
+    requires { 1 ≤ reads }
     ensures ok { IfOk result
         (λ reply. record { reply = reply; state = state.new.state }
-        ≡ answered state.old.state command.now) }
+        ≡ runs_part state.old.state (goes (situation state.new).past)
+        (called_again state.old.state.call)) }
     ensures quiet { IfOk result (λ reply. IsQuiet reply → state.new ≡ state.old) }
-    ensures trace { OnOk result (Goes state.old (call_of state.old.state command.now) state.new) }
+    ensures trace { OnOk result
+        (Goes (situation state.old) (called_again state.old.state.call) (Some reads)
+        (situation state.new)) }
     ensures err { OnErr result
-        (IsLeftBy state.old (call_of state.old.state command.now) state.new) }
+        (IsLeftBy (situation state.old) (called_again state.old.state.call) (situation state.new)) }
+{
+    if !state.has_call() {
+        return Ok(Reply::Refused(Refusal::C7));
+    }
+    state.propagate_part(reads)
+}
+
+/// The reply to a command. Where there is no memory, the state is as before, or as after a run that was out of fuel.
+pub fn reply_to(alloc: Global, state: &mut State, command: &Command) -> Result<Reply, NoMemory>
+    requires some { HasReads command.now }
+    ensures ok { IfOk result
+        (λ reply. record { reply = reply; state = state.new.state }
+        ≡ answered state.old.state (goes (situation state.new).past) command.now) }
+    ensures quiet { IfOk result (λ reply. IsQuiet reply → state.new ≡ state.old) }
+    ensures trace { OnOk result
+        (Goes (situation state.old) (call_of state.old.state command.now) (reads_of command.now)
+        (situation state.new)) }
+    ensures err { OnErr result
+        (IsLeftBy (situation state.old) (call_of state.old.state command.now)
+        (situation state.new)) }
 {
     match command {
         Command::Blank => Ok(Reply::Nothing),
@@ -166,10 +197,12 @@ pub fn reply_to(alloc: Global, state: &mut State, command: &Command) -> Result<R
         Command::Set { place, value } => edit(state, place, value),
         Command::Run { function, args } => { start_first(alloc, state, function, args.items()) }
         Command::Propagate => start_again(state),
+        Command::Slice { reads } => start_part(state, *reads),
         Command::Get { place } => Ok(get(state, place_sense(state, place)?)),
         Command::Show { name } => Ok(show(state, state.input(name))),
         Command::Blocks => Ok(ask(state, Query::Blocks)),
         Command::Steps => Ok(ask(state, Query::Steps)),
         Command::Work => Ok(ask(state, Query::Work)),
+        Command::Bound => Ok(ask(state, Query::Bound)),
     }
 }

@@ -1,27 +1,30 @@
 // The laws of replies, each the contract of a function that does nothing.
 
-ghost use Rattle.ceal_session.specs.Laws.{OneCommandLaw, OneReplyLaw, OneStateLaw, OneScriptLaw, OneWorksLaw, BegunLaw, SomeReplyLaw, SomeScriptLaw, DroppedLaw, KeptLaw};
+ghost use Rattle.ceal_session.specs.Laws.{OneCommandLaw, OneAnswerLaw, OneReplyLaw, OneStateLaw, OneScriptLaw, JoinedLaw, BegunLaw, SomeReplyLaw, SomeScriptLaw, DroppedLaw, KeptLaw};
+ghost use Rattle.ceal_session.specs.Entries.{EntriesLaw, OneTextLaw};
 
-/// A law: a state and a line have one reply at most, and one state after it, which says nothing of the work number.
+/// A law: a line is one command's at most, and has one reply by a state and its numbers; so it has one in a situation, and one
+/// situation behind it.
 pub fn one_reply()
     ensures command { OneCommandLaw }
-    ensures reply { OneReplyLaw }
+    ensures answer { OneAnswerLaw }
     ensures state { OneStateLaw }
+    ensures reply { OneReplyLaw }
 {
     ceal_script::line::one_command();
     ceal_show::laws::one_text();
 }
 
-/// A law: a state and lines have one text of replies at most, and one list of work numbers.
+/// A law: lines have one text of replies in a situation, and one situation behind them, from which more lines go on.
 pub fn one_script()
     ensures law { OneScriptLaw }
-    ensures works { OneWorksLaw }
+    ensures joined { JoinedLaw }
 {
     one_reply();
 }
 
-/// A law: in a session each line has a reply, and so do lines one after another, with their work numbers. A session that
-/// was left by want of memory goes on too.
+/// A law: in a situation that a session comes to each line has a reply, and so have lines one after another; the situations
+/// behind them are such ones. So is a session that was left by want of memory.
 pub fn some_reply()
     ensures begun { BegunLaw }
     ensures reply { SomeReplyLaw }
@@ -32,15 +35,9 @@ pub fn some_reply()
     ceal_script::line::command_or_none();
     ceal_show::laws::fitting_is_whole();
     ceal_show::laws::some_text();
-    ceal_theory::laws::first_law();
-    ceal_theory::laws::end_law();
-    ceal_theory::laws::function_law();
-    ceal_theory::laws::repair_law();
-    ceal_theory::walks::more_inputs_law();
 }
 
-/// A law: a session whose trace is that of the definition up to the numbers of core blocks is so behind each line, and
-/// answers the line as the definition says.
+/// A law: a session that is in a situation answers each line as is said there, and is in the situation behind it.
 pub fn kept_line()
     ensures law { KeptLaw }
 {
@@ -48,11 +45,18 @@ pub fn kept_line()
     ceal_script::line::command_or_none();
     ceal_show::laws::fitting_is_whole();
     ceal_show::laws::some_text();
-    ceal_theory::laws::first_law();
-    ceal_theory::laws::end_law();
-    ceal_theory::laws::function_law();
-    ceal_theory::laws::repair_law();
-    ceal_theory::laws::renamed_repair_law();
-    ceal_theory::walks::more_inputs_law();
+    one_reply();
+}
+
+/// A law: the replies of lines are the text that the plain meaning of the source gives to them with a list of entries, which
+/// trace repair gives, one for each line that runs.
+pub fn entries_law()
+    ensures law { EntriesLaw }
+    ensures one { OneTextLaw }
+{
+    ceal_code::laws::progress_law();
+    ceal_script::line::command_or_none();
+    ceal_show::laws::fitting_is_whole();
+    ceal_show::laws::some_text();
     one_reply();
 }

@@ -5,8 +5,10 @@
 //! inputs of that moment (`Runs`); `Replies` puts lines together.
 #![tactic(auto)]
 
+mod advance;
+mod bound;
 mod commands;
-mod fits;
+mod journal;
 pub mod laws;
 mod numbers;
 pub mod refusal;

@@ -20,7 +20,7 @@ pub enum Refusal {
     C6,
     /// there is no run, or the last one was out of fuel
     C7,
-    /// an edit came after the last run or propagate
+    /// an edit came after the last run or propagate, or a repair goes on
     C8,
 }
 

@@ -1,15 +1,16 @@
 // A session.
 
-ghost use Rattle.std.specs.Prelude.{◌≡◌, codes, IfOk, OnOk, OnErr, MatchOption};
+ghost use Rattle.std.specs.Prelude.{◌≡◌, ◌≤◌, codes, length, IfOk, OnOk, OnErr, MatchOption};
 ghost use Rattle.ceal_compile.specs.Compiled.{IsCompiled};
-ghost use Rattle.ceal_session.specs.Asking.{CanTell, IsReady};
-ghost use Rattle.ceal_session.specs.Following.{IsAllowed, opened, Goes, Repairs, IsLeft, IsLeftBy};
+ghost use Rattle.ceal_session.specs.Asking.{CanTell, HasReads, IsReady};
+ghost use Rattle.ceal_session.specs.Following.{IsAllowed, opened, Goes, Repairs, Bounds, IsLeft, IsLeftBy};
+ghost use Rattle.ceal_session.specs.Keeping.{situation};
 ghost use Rattle.ceal_session.specs.Recording.{IsRecorded};
 ghost use Rattle.ceal_session.specs.Replies.{Answers};
-ghost use Rattle.ceal_session.specs.Steps.{IsQuiet, answered, call_of};
+ghost use Rattle.ceal_session.specs.Steps.{IsQuiet, answered, call_of, reads_of};
 ghost use Rattle.ceal_session.specs.Texts.{IsText};
-ghost use Rattle.ceal_session.specs.State.{last};
-ghost use Rattle.ceal_session.specs.Works.{latest_work};
+ghost use Rattle.ceal_session.specs.State.{numbers_in};
+ghost use Rattle.ceal_theory.specs.Pasts.{goes};
 
 use crate::commands::reply_to;
 use crate::refusal::{Refusal, text as refusal_line};
@@ -35,20 +36,20 @@ pub struct Session {
 }
 
 impl Model for Session {
-    ghost use Rattle.ceal_session.specs.State.{Situation};
+    ghost use Rattle.ceal_session.specs.Keeping.{Held};
     ghost use Rattle.ceal_base.specs.contracts.typed.TypedStmt as statement;
     ghost use Rattle.ceal_code.specs.contracts.expr.CodeExpr as expr;
     ghost use Rattle.ceal_code.specs.contracts.function.InitStmt as initialising;
     ghost use Rattle.std.specs.Coded.{codes};
 
-    ghost Value = { Situation };
+    ghost Value = { Held };
 
     ghost coded = { Prim.hlevel (codes, statement.the_row.coded, expr.the_row.coded, initialising.the_row.coded) };
 
     ghost view = { λ s. s.state };
 }
 
-/// The memory of the replies behind which a change stands, which is taken before it: the longer one of them.
+/// The memory of the replies behind which a change stands, which is taken before it: the longest one of them.
 fn prepare(alloc: Global) -> Result<Vec<u8>, NoMemory>
     ensures ready { IfOk result (λ bytes. bytes.items ≡ codes "out of fuel\n") }
 {
@@ -56,15 +57,15 @@ fn prepare(alloc: Global) -> Result<Vec<u8>, NoMemory>
     Ok(bytes)
 }
 
-/// The shorter one, in the same memory.
-fn done(bytes: Vec<u8>) -> Text
+/// A shorter one, in the same memory.
+fn shortened(bytes: Vec<u8>, reply: &[u8]) -> Text
     requires ready { bytes.items ≡ codes "out of fuel\n" }
-    ensures done { result ≡ codes "ok\n" }
+    requires short { length reply.now ≤ 12 }
+    ensures text { result ≡ reply.now }
 {
     let mut bytes = bytes;
-    bytes.truncate(3);
-    bytes[1] = b'k';
-    bytes[2] = b'\n';
+    bytes.truncate(reply.len());
+    bytes.copy_from_slice(reply);
     Text::new(bytes)
 }
 
@@ -73,13 +74,15 @@ fn text(alloc: Global, state: &State, reply: Reply, ready: Vec<u8>) -> Result<Te
     requires asked { CanTell state.now.state reply }
     requires ready { ready.items ≡ codes "out of fuel\n" }
     ensures ok { IfOk result
-        (λ text. IsText state.now.state (latest_work (last state.now)) reply text) }
+        (λ text. IsText state.now.state (numbers_in (situation state.now)) reply text) }
     ensures err { OnErr result (IsQuiet reply) }
 {
     match reply {
         Reply::Nothing => Ok(Text::empty(alloc)),
-        Reply::Ok => Ok(done(ready)),
+        Reply::Ok => Ok(shortened(ready, b"ok\n")),
         Reply::OutOfFuel => Ok(Text::new(ready)),
+        Reply::More => Ok(shortened(ready, b"more\n")),
+        Reply::Finished => Ok(shortened(ready, b"done\n")),
         Reply::Refused(refusal) => Text::from_slice(alloc, refusal_line(refusal).as_bytes()),
         Reply::Told(query) => answer(alloc, state, query),
     }
@@ -87,13 +90,19 @@ fn text(alloc: Global, state: &State, reply: Reply, ready: Vec<u8>) -> Result<Te
 
 /// The answer to a command.
 fn answer_command(alloc: Global, state: &mut State, command: &Command) -> Result<Text, NoMemory>
+    requires some { HasReads command.now }
     ensures reply { IfOk result
-        (λ text. IsText state.old.state (latest_work (last state.old))
-        (answered state.old.state command.now).reply text) }
-    ensures state { OnOk result (state.new.state ≡ (answered state.old.state command.now).state) }
-    ensures trace { OnOk result (Goes state.old (call_of state.old.state command.now) state.new) }
+        (λ text. IsText state.old.state (numbers_in (situation state.old))
+        (answered state.old.state (goes (situation state.new).past) command.now).reply text) }
+    ensures state { OnOk result
+        (state.new.state
+        ≡ (answered state.old.state (goes (situation state.new).past) command.now).state) }
+    ensures trace { OnOk result
+        (Goes (situation state.old) (call_of state.old.state command.now) (reads_of command.now)
+        (situation state.new)) }
     ensures err { OnErr result
-        (IsLeftBy state.old (call_of state.old.state command.now) state.new) }
+        (IsLeftBy (situation state.old) (call_of state.old.state command.now)
+        (situation state.new)) }
 {
     // for the proof: each input has a name, by the clause `counted`
     let _names = state.names();
@@ -106,10 +115,16 @@ fn answer_command(alloc: Global, state: &mut State, command: &Command) -> Result
 fn answer_line(alloc: Global, state: &mut State, line: &[u8]) -> Result<Text, NoMemory>
     ensures reply { IfOk result
         (λ text. Answers state.old.state
-        (latest_work (last state.old)) line.now text state.new.state) }
-    ensures trace { OnOk result (Repairs state.old line.now state.new) }
-    ensures left { OnErr result (IsLeft state.old line.now state.new) }
+        (numbers_in (situation state.old)) (goes (situation state.new).past)
+        line.now text state.new.state) }
+    ensures trace { OnOk result
+        (Repairs (situation state.old) line.now (situation state.new)) }
+    ensures bounded { OnOk result
+        (Bounds (situation state.old) line.now (situation state.new)) }
+    ensures left { OnErr result (IsLeft (situation state.old) line.now (situation state.new)) }
 {
+    // for the proof: of the state's trace the work is bounded
+    state.traced();
     match read_line(alloc, line) {
         Ok(command) => answer_command(alloc, state, &command),
         Err(LineError::Memory) => Err(NoMemory),
@@ -124,7 +139,7 @@ impl Session {
     pub fn new(alloc: Global, program: Program, fuel: u32) -> Result<Session, NoMemory>
         requires compiled { IsCompiled program }
         requires fuel { IsAllowed fuel }
-        ensures state { IfOk result (λ session. session ≡ opened program fuel) }
+        ensures state { IfOk result (λ session. situation session ≡ opened program fuel) }
     {
         Session::seeded(alloc, program, fuel, Seed::of_text(b""))
     }
@@ -138,7 +153,7 @@ impl Session {
     ) -> Result<Session, NoMemory>
         requires compiled { IsCompiled program }
         requires fuel { IsAllowed fuel }
-        ensures state { IfOk result (λ session. session ≡ opened program fuel) }
+        ensures state { IfOk result (λ session. situation session ≡ opened program fuel) }
     {
         let state = State::new(alloc, program, fuel, seed)?;
         Ok(Session { state, alloc })
@@ -150,9 +165,13 @@ impl Session {
     pub fn command(&mut self, line: &[u8]) -> Result<Text, NoMemory>
         ensures reply { IfOk result
             (λ text. Answers self.old.state
-            (latest_work (last self.old)) line.now text self.new.state) }
-        ensures trace { OnOk result (Repairs self.old line.now self.new) }
-        ensures left { OnErr result (IsLeft self.old line.now self.new) }
+            (numbers_in (situation self.old)) (goes (situation self.new).past)
+            line.now text self.new.state) }
+        ensures trace { OnOk result
+            (Repairs (situation self.old) line.now (situation self.new)) }
+        ensures bounded { OnOk result
+            (Bounds (situation self.old) line.now (situation self.new)) }
+        ensures left { OnErr result (IsLeft (situation self.old) line.now (situation self.new)) }
     {
         answer_line(self.alloc, &mut self.state, line)
     }
@@ -162,7 +181,8 @@ impl Session {
     /// would be refused.
     pub fn recorded(&self) -> Result<Option<Record>, NoMemory>
         ensures { IfOk result
-            (λ found. MatchOption found (¬ IsReady self.now.state) (λ r. IsRecorded self.now r)) }
+            (λ found. MatchOption found (¬ IsReady self.now.state)
+            (λ r. IsRecorded (situation self.now) r)) }
     {
         self.state.recorded(self.alloc)
     }

@@ -1,22 +1,27 @@
 // The state between two lines.
 
-ghost use Rattle.std.specs.Prelude.{◌≡◌, ◌<◌, ◌∷◌, [], true, false, Some, Ok as OkOf, length, is_some, bytes_eq, IfOk, IfSome, OnOk, OnErr, MatchOption};
+ghost use Rattle.std.specs.Prelude.{◌≡◌, ◌≢◌, ◌≤◌, ◌<◌, ◌∷◌, [], true, false, Some, None, Ok as OkOf, length, is_some, bytes_eq, IfOk, IfSome, OnOk, OnErr, MatchOption};
 ghost use Rattle.std.specs.List.{list_any};
 ghost use Rattle.ceal_base.specs.Fitting.{block_fits, kind_at};
 ghost use Rattle.ceal_compile.specs.Compiled.{IsCompiled};
 ghost use Rattle.ceal_session.specs.Asking.{IsReady, IsCellOf, steps_in, blocks_in, content_text};
+ghost use Rattle.ceal_base.specs.declared.call.Call.{Call as CallOf};
+ghost use Rattle.ceal_session.specs.Advancing.{IsAdvanced};
 ghost use Rattle.ceal_session.specs.Following.{IsAllowed, opened, Keeps, Goes, IsLeftBy};
+ghost use Rattle.ceal_session.specs.Keeping.{situation};
 ghost use Rattle.ceal_session.specs.Recording.{IsRecorded};
 ghost use Rattle.ceal_session.specs.Runs.{memory_of, present_run};
 ghost use Rattle.ceal_session.specs.Senses.{input_named, struct_named, function_named};
-ghost use Rattle.ceal_session.specs.Steps.{IsFirst, with_input, with_base, block_of, fits_cell, has_no_run, runs, called_again};
+ghost use Rattle.ceal_session.specs.Steps.{IsFirst, with_input, with_base, block_of, fits_cell, has_no_run, runs, runs_part, called_again};
 ghost use Rattle.ceal_session.specs.Texts.{value_text, TellsOf};
-ghost use Rattle.ceal_session.specs.State.{last};
-ghost use Rattle.ceal_session.specs.Works.{latest_work};
-ghost use Rattle.ceal_engine.specs.Engine.{IfOutOfFuel, IfNoMemory};
+ghost use Rattle.ceal_session.specs.Standing.{HasTrace};
+ghost use Rattle.ceal_session.specs.State.{numbers_in};
 ghost use Rattle.ceal_session.specs.declared.reply.Query.TheVariants.{Show};
-ghost use Rattle.ceal_session.specs.declared.reply.Reply.TheVariants.{Ok as Done, OutOfFuel};
+ghost use Rattle.ceal_theory.specs.Pasts.{goes};
 
+use crate::advance::{advanced, first_advanced, goes_on, part_reply, settle, whole_reply};
+use crate::bound::bound_of;
+use crate::journal::{Journal, base_of};
 use crate::reply::Reply;
 use crate::view::graph;
 use ceal_base::call::Call;
@@ -30,24 +35,24 @@ use ceal_base::word::{Place, Word};
 use ceal_code::laws::progress_law;
 use ceal_compile::program::Program;
 use ceal_engine::engine::Engine;
-use ceal_engine::phase::Phase;
+use ceal_engine::phase::{Came, Phase};
 use ceal_engine::run_error::RunError;
 use ceal_record::record::record;
 use ceal_show::laws::{fitting_is_whole, same_text};
-use ceal_theory::laws::first_law;
 use ceal_types::names::Names;
 use ceal_types::numbers::Numbered;
 use ceal_types::seed::Seed;
 use std::alloc::Global;
 use std::marker::Model;
 
-/// A program, the names of the inputs by number, and an engine that has the inputs and the run.
+/// A program, the names of the inputs by number, an engine that has the inputs and the run, and the edits.
 #[derive(Drop)]
 pub struct State {
     program: Numbered,
     names: Names,
     engine: Engine,
-    /// whether an edit came after the last run or propagate
+    journal: Journal,
+    /// whether an edit came after the last run or propagate, or a repair goes on
     pending: bool,
 }
 
@@ -55,30 +60,16 @@ impl Model for State {
     ghost use Rattle.ceal_base.specs.contracts.typed.TypedStmt as statement;
     ghost use Rattle.ceal_code.specs.contracts.expr.CodeExpr as expr;
     ghost use Rattle.ceal_code.specs.contracts.function.InitStmt as initialising;
-    ghost use Rattle.ceal_session.specs.Keeping.{situation_of, Holds};
-    ghost use Rattle.ceal_session.specs.State.{Situation};
+    ghost use Rattle.ceal_session.specs.Keeping.{Held, held_of, Holds};
     ghost use Rattle.std.specs.Coded.{codes};
 
-    ghost Value = { Situation };
+    ghost Value = { Held };
 
     ghost coded = { Prim.hlevel (codes, statement.the_row.coded, expr.the_row.coded, initialising.the_row.coded) };
 
-    ghost view = { λ s. situation_of s.program s.names s.engine s.pending };
+    ghost view = { λ s. held_of s.program s.names s.engine s.journal s.pending };
 
-    ghost invariant = { λ s. Holds s.program s.names s.engine s.pending };
-}
-
-/// The reply to a run that came out so.
-fn reply_of(outcome: Result<(), RunError>) -> Result<Reply, NoMemory>
-    ensures ok { OnOk outcome (result ≡ OkOf Done) }
-    ensures out { IfOutOfFuel outcome (result ≡ OkOf OutOfFuel) }
-    ensures memory { IfNoMemory outcome (OnOk result ⊥) }
-{
-    match outcome {
-        Ok(()) => Ok(Reply::Ok),
-        Err(RunError::OutOfFuel) => Ok(Reply::OutOfFuel),
-        Err(RunError::Memory) => Err(NoMemory),
-    }
+    ghost invariant = { λ s. Holds s.program s.names s.engine s.journal s.pending };
 }
 
 impl State {
@@ -86,7 +77,7 @@ impl State {
     pub fn new(alloc: Global, program: Program, fuel: u32, seed: Seed) -> Result<State, NoMemory>
         requires compiled { IsCompiled program }
         requires fuel { IsAllowed fuel }
-        ensures { IfOk result (λ state. state ≡ opened program fuel) }
+        ensures { IfOk result (λ state. situation state ≡ opened program fuel) }
     {
         let Program { typed, code } = program;
         let program = match Numbered::new(alloc, typed) {
@@ -97,10 +88,13 @@ impl State {
             }
         };
         let engine = Engine::new(alloc, code, fuel)?;
+        // for the proof: it is an engine, by the clause `whole`
+        let _phase = engine.phase();
         Ok(State {
             program,
             names: Names::seeded(alloc, seed),
             engine,
+            journal: Journal::new(alloc),
             pending: false,
         })
     }
@@ -143,6 +137,14 @@ impl State {
         ensures counted { length self.now.state.names ≡ length self.now.state.inputs }
     {
         &self.names
+    }
+
+    /// Its contract tells what is true of the trace of each state.
+    pub fn traced(&self)
+        ensures { HasTrace (situation self.now) }
+    {
+        // for the proof: it is an engine, by the clause `whole`
+        let _phase = self.engine.phase();
     }
 
     /// The number of the input of a name.
@@ -192,7 +194,7 @@ impl State {
             (block_of shape words.now) ≡ true }
         ensures ok { OnOk result
             (self.new.state ≡ with_input self.old.state name.now (block_of shape words.now)) }
-        ensures trace { OnOk result (Keeps self.old self.new) }
+        ensures trace { OnOk result (Keeps (situation self.old) (situation self.new)) }
         ensures err { OnErr result (self.new ≡ self.old) }
     {
         let count = self.names.len();
@@ -215,12 +217,53 @@ impl State {
         requires fits { fits_cell self.old.state
             (kind_at self.old.state.program.structs (memory_of self.old.state) place) word ≡ true }
         ensures ok { OnOk result (self.new.state ≡ with_base self.old.state place word) }
-        ensures trace { OnOk result (Keeps self.old self.new) }
+        ensures trace { OnOk result (Keeps (situation self.old) (situation self.new)) }
         ensures err { OnErr result (self.new ≡ self.old) }
     {
-        self.engine.edit(place, word)?;
-        self.pending = true;
-        Ok(())
+        let count = self.journal.len();
+        let base = base_of(self.engine.input_blocks(), place);
+        self.journal.push(place, base)?;
+        match self.engine.edit(place, word) {
+            Ok(()) => {
+                self.pending = true;
+                Ok(())
+            }
+            Err(NoMemory) => {
+                self.journal.truncate(count);
+                Err(NoMemory)
+            }
+        }
+    }
+
+    /// The first run, and how it came out.
+    fn start(&mut self, call: &Call) -> Result<Came, RunError>
+        requires { IsFirst self.old.state call.now }
+        ensures { IsAdvanced (situation self.old) call.now None result (situation self.new) }
+    {
+        // for the proof: it is an engine before and after, by the clause `whole`
+        let _before = self.engine.phase();
+        let came = first_advanced(&mut self.engine, call);
+        let _after = self.engine.phase();
+        settle(&mut self.journal, &self.engine, &came);
+        self.pending = goes_on(&came);
+        came
+    }
+
+    /// The accepted call on the present inputs, whose repair runs so many stale reads anew, or all of them; and how it
+    /// came out.
+    fn advance(&mut self, reads: Option<u32>) -> Result<Came, RunError>
+        requires called { is_some self.old.state.call ≡ true }
+        requires some { reads ≢ Some 0 }
+        ensures { (call : CallOf) → self.old.state.call ≡ Some call
+            → IsAdvanced (situation self.old) call reads result (situation self.new) }
+    {
+        // for the proof: it is an engine before and after, by the clause `whole`
+        let _before = self.engine.phase();
+        let came = advanced(&mut self.engine, reads);
+        let _after = self.engine.phase();
+        settle(&mut self.journal, &self.engine, &came);
+        self.pending = goes_on(&came);
+        came
     }
 
     /// The first run.
@@ -229,16 +272,13 @@ impl State {
         ensures ok { IfOk result
             (λ reply. record { reply = reply; state = self.new.state }
             ≡ runs self.old.state (OkOf call.now)) }
-        ensures trace { OnOk result (Goes self.old (OkOf call.now) self.new) }
-        ensures err { OnErr result (IsLeftBy self.old (OkOf call.now) self.new) }
+        ensures trace { OnOk result
+            (Goes (situation self.old) (OkOf call.now) None (situation self.new)) }
+        ensures err { OnErr result
+            (IsLeftBy (situation self.old) (OkOf call.now) (situation self.new)) }
     {
-        first_law();
-        // for the proof: it is an engine before and after, by the clause `whole`
-        let _before = self.engine.phase();
-        let outcome = self.engine.run(call.function, call.args.items());
-        let _after = self.engine.phase();
-        self.pending = false;
-        reply_of(outcome)
+        let came = self.start(call);
+        whole_reply(&came)
     }
 
     /// The run of the accepted call on the present inputs.
@@ -247,16 +287,34 @@ impl State {
         ensures ok { IfOk result
             (λ reply. record { reply = reply; state = self.new.state }
             ≡ runs self.old.state (called_again self.old.state.call)) }
-        ensures trace { OnOk result (Goes self.old (called_again self.old.state.call) self.new) }
-        ensures err { OnErr result (IsLeftBy self.old (called_again self.old.state.call) self.new) }
+        ensures trace { OnOk result
+            (Goes (situation self.old) (called_again self.old.state.call) None
+            (situation self.new)) }
+        ensures err { OnErr result
+            (IsLeftBy (situation self.old) (called_again self.old.state.call)
+            (situation self.new)) }
     {
-        first_law();
-        // for the proof: it is an engine before and after, by the clause `whole`
-        let _before = self.engine.phase();
-        let outcome = self.engine.propagate();
-        let _after = self.engine.phase();
-        self.pending = false;
-        reply_of(outcome)
+        let came = self.advance(None);
+        whole_reply(&came)
+    }
+
+    /// A part of it: so many stale reads at most are run anew, each with all that is inside it.
+    pub fn propagate_part(&mut self, reads: u32) -> Result<Reply, NoMemory>
+        requires called { is_some self.old.state.call ≡ true }
+        requires some { 1 ≤ reads }
+        ensures ok { IfOk result
+            (λ reply. record { reply = reply; state = self.new.state }
+            ≡ runs_part self.old.state (goes (situation self.new).past)
+            (called_again self.old.state.call)) }
+        ensures trace { OnOk result
+            (Goes (situation self.old) (called_again self.old.state.call) (Some reads)
+            (situation self.new)) }
+        ensures err { OnErr result
+            (IsLeftBy (situation self.old) (called_again self.old.state.call)
+            (situation self.new)) }
+    {
+        let came = self.advance(Some(reads));
+        part_reply(&came)
     }
 
     /// What a modifiable of an input has at the end of the run.
@@ -294,7 +352,7 @@ impl State {
     /// The work of the run.
     pub fn work(&self) -> u32
         requires { IsReady self.now.state }
-        ensures work { result ≡ latest_work (last self.now) }
+        ensures work { result ≡ (numbers_in (situation self.now)).work }
         ensures run { is_some (present_run self.now.state) ≡ true }
     {
         // for the proof: it is an engine, by the clause `whole`
@@ -302,10 +360,22 @@ impl State {
         self.engine.work()
     }
 
-    /// The record of the run. There is none where there is no run, the last one was out of fuel, or an edit came after it.
+    /// A bound of that work, which is made of first traces alone.
+    pub fn bound(&self, alloc: Global) -> Result<u32, NoMemory>
+        requires { IsReady self.now.state }
+        ensures bound { IfOk result (λ n. n ≡ (situation self.now).bound) }
+        ensures run { is_some (present_run self.now.state) ≡ true }
+    {
+        // for the proof: it is an engine, by the clause `whole`
+        let _phase = self.engine.phase();
+        bound_of(alloc, &self.engine, self.journal.bounding())
+    }
+
+    /// The record of the run. There is none where there is no run, the last one was out of fuel, or an edit or a repair is pending.
     pub fn recorded(&self, alloc: Global) -> Result<Option<Record>, NoMemory>
         ensures { IfOk result
-            (λ found. MatchOption found (¬ IsReady self.now.state) (λ r. IsRecorded self.now r)) }
+            (λ found. MatchOption found (¬ IsReady self.now.state)
+            (λ r. IsRecorded (situation self.now) r)) }
     {
         // for the proof: it is an engine, by the clause `whole`
         let _phase = self.engine.phase();
@@ -332,7 +402,7 @@ impl State {
         requires ready { IsReady self.now.state }
         requires there { input < length self.now.state.inputs }
         ensures { IfOk result
-            (λ text. TellsOf self.now.state (latest_work (last self.now)) (Show input)
+            (λ text. TellsOf self.now.state (numbers_in (situation self.now)) (Show input)
             (present_run self.now.state) text) }
     {
         progress_law();

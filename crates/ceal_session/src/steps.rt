@@ -4,16 +4,17 @@ ghost use Rattle.std.specs.Prelude.{◌≡◌, Some, false, slice_get, IfOk, OnO
 ghost use Rattle.std.specs.List.{list_any};
 ghost use Rattle.ceal_session.specs.Asking.{IsCellOf, IsCellSense};
 ghost use Rattle.ceal_session.specs.Following.{Keeps};
+ghost use Rattle.ceal_session.specs.Keeping.{situation};
 ghost use Rattle.ceal_session.specs.Senses.{function_named};
 ghost use Rattle.ceal_session.specs.Steps.{IsQuiet, made, made_of, made_with, set as set_of, set_word as set_sense, set_base as based, fits_function, called_with, called_function, called as called_of, asked, has_no_run, got, shown as shown_of, fits_cell};
 
-use crate::fits::{field_fits, new_block_fits, place_kind, words_fit};
 use crate::refusal::Refusal;
 use crate::reply::{Query, Reply};
 use crate::sense::Sense;
 use crate::senses::{has_unknown, is_unknown, words};
 use crate::state::State;
 use ceal_base::call::Call;
+use ceal_base::fitting::{field_fits, new_block_fits, place_kind, words_fit};
 use ceal_base::kind::{FieldKind, Shape};
 use ceal_base::no_memory::NoMemory;
 use ceal_base::text::Text;
@@ -29,7 +30,7 @@ fn make_if(state: &mut State, name: &Text, shape: Shape, words: &[Word]) -> Resu
         (λ reply. record { reply = reply; state = state.new.state }
         ≡ made_with state.old.state name.now shape (Some words.now)) }
     ensures quiet { IfOk result (λ reply. IsQuiet reply → state.new ≡ state.old) }
-    ensures trace { OnOk result (Keeps state.old state.new) }
+    ensures trace { OnOk result (Keeps (situation state.old) (situation state.new)) }
     ensures err { OnErr result (state.new ≡ state.old) }
 {
     if !new_block_fits(state.structs(), state.inputs(), shape, words) {
@@ -50,7 +51,7 @@ fn make_with(
         (λ reply. record { reply = reply; state = state.new.state }
         ≡ made state.old.state name.now shape senses.now) }
     ensures quiet { IfOk result (λ reply. IsQuiet reply → state.new ≡ state.old) }
-    ensures trace { OnOk result (Keeps state.old state.new) }
+    ensures trace { OnOk result (Keeps (situation state.old) (situation state.new)) }
     ensures err { OnErr result (state.new ≡ state.old) }
 {
     let unknown = has_unknown(senses);
@@ -78,7 +79,7 @@ pub fn make(
         (λ reply. record { reply = reply; state = state.new.state }
         ≡ made_of state.old.state name.now shape senses.now) }
     ensures quiet { IfOk result (λ reply. IsQuiet reply → state.new ≡ state.old) }
-    ensures trace { OnOk result (Keeps state.old state.new) }
+    ensures trace { OnOk result (Keeps (situation state.old) (situation state.new)) }
     ensures err { OnErr result (state.new ≡ state.old) }
 {
     match shape {
@@ -103,7 +104,7 @@ fn set_base(state: &mut State, place: Place, word: Word) -> Result<Reply, NoMemo
         (λ reply. record { reply = reply; state = state.new.state }
         ≡ based state.old.state place word) }
     ensures quiet { IfOk result (λ reply. IsQuiet reply → state.new ≡ state.old) }
-    ensures trace { OnOk result (Keeps state.old state.new) }
+    ensures trace { OnOk result (Keeps (situation state.old) (situation state.new)) }
     ensures err { OnErr result (state.new ≡ state.old) }
 {
     let kind = place_kind(state.structs(), state.inputs(), place);
@@ -120,7 +121,7 @@ fn set_word(state: &mut State, place: Sense, value: Sense) -> Result<Reply, NoMe
         (λ reply. record { reply = reply; state = state.new.state }
         ≡ set_sense state.old.state place value) }
     ensures quiet { IfOk result (λ reply. IsQuiet reply → state.new ≡ state.old) }
-    ensures trace { OnOk result (Keeps state.old state.new) }
+    ensures trace { OnOk result (Keeps (situation state.old) (situation state.new)) }
     ensures err { OnErr result (state.new ≡ state.old) }
 {
     match (place, value) {
@@ -136,7 +137,7 @@ pub fn set(state: &mut State, place: Sense, value: Sense) -> Result<Reply, NoMem
         (λ reply. record { reply = reply; state = state.new.state }
         ≡ set_of state.old.state place value) }
     ensures quiet { IfOk result (λ reply. IsQuiet reply → state.new ≡ state.old) }
-    ensures trace { OnOk result (Keeps state.old state.new) }
+    ensures trace { OnOk result (Keeps (situation state.old) (situation state.new)) }
     ensures err { OnErr result (state.new ≡ state.old) }
 {
     if is_unknown(place) || is_unknown(value) {

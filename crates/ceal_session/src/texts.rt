@@ -3,10 +3,10 @@
 ghost use Rattle.std.specs.Prelude.{◌≡◌, ◌++◌, IfOk, codes};
 ghost use Rattle.std.specs.Fmt.{decimal};
 ghost use Rattle.ceal_session.specs.Asking.{IsReady, IsFor};
+ghost use Rattle.ceal_session.specs.Keeping.{situation};
 ghost use Rattle.ceal_session.specs.Runs.{present_run};
 ghost use Rattle.ceal_session.specs.Texts.{block_text, value_text, TellsOf};
-ghost use Rattle.ceal_session.specs.State.{last};
-ghost use Rattle.ceal_session.specs.Works.{latest_work};
+ghost use Rattle.ceal_session.specs.State.{numbers_in};
 
 use crate::reply::Query;
 use crate::state::State;
@@ -64,7 +64,7 @@ pub fn answer(alloc: Global, state: &State, query: Query) -> Result<Text, NoMemo
     requires ready { IsReady state.now.state }
     requires there { IsFor state.now.state query }
     ensures { IfOk result
-        (λ text. TellsOf state.now.state (latest_work (last state.now)) query
+        (λ text. TellsOf state.now.state (numbers_in (situation state.now)) query
         (present_run state.now.state) text) }
 {
     match query {
@@ -73,5 +73,6 @@ pub fn answer(alloc: Global, state: &State, query: Query) -> Result<Text, NoMemo
         Query::Blocks => line(number_text(alloc, state.blocks())?),
         Query::Steps => line(number_text(alloc, state.steps())?),
         Query::Work => line(number_text(alloc, state.work())?),
+        Query::Bound => line(number_text(alloc, state.bound(alloc)?)?),
     }
 }

@@ -8,9 +8,9 @@ ghost use Rattle.ceal_session.specs.Shown.{seen, label};
 ghost use Rattle.ceal_show.specs.Graph.{IsGraphText};
 ghost use Rattle.ceal_show.specs.Shown.{IsWhole, shape_at, word_at};
 
-use crate::fits::field_kind;
 use ceal_base::kind::{FieldKind, Shape};
 use ceal_base::no_memory::NoMemory;
+use ceal_base::shapes::field_kind;
 use ceal_base::text::Text;
 use ceal_base::typed::Structs;
 use ceal_base::word::{BlockId, Place, Word};

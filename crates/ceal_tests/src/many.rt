@@ -16,7 +16,13 @@ struct Echo {
 }
 
 impl Answerer for Echo {
-    type State = Text;
+    ghost use Rattle.std.specs.Prelude.{List, ℕ};
+
+    type Beginning = Text;
+
+    ghost State = { List ℕ };
+
+    ghost opening = { λ heard. heard };
 
     ghost stands = { λ echo heard. echo.heard ≡ heard };
 
@@ -41,7 +47,7 @@ struct Echoes {
 impl Maker for Echoes {
     type Made = Echo;
 
-    ghost opening = { λ _. [] };
+    ghost beginning = { λ _. [] };
 
     fn make(&self) -> Result<Echo, NoMemory> {
         Ok(Echo {

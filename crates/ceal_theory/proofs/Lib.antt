@@ -33,8 +33,6 @@ pub mod Sound
 pub mod Walk
 pub mod CostBound
 -- The laws of repair.
-pub mod Counts
-pub mod PastLaws
 pub mod Stored
 pub mod Told
 pub mod Replays
@@ -52,8 +50,10 @@ pub mod RenamedRepair
 pub mod Segments
 pub mod FlatMachine
 -- Walks, counts, and what is known.
+pub mod Counts
 pub mod KeptSteps
 -- Slices and turns.
+pub mod PastLaws
 pub mod Uses
 pub mod Parts
 pub mod Adds

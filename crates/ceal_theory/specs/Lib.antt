@@ -24,6 +24,7 @@ pub mod MoreInputs
 pub mod Slices
 pub mod SliceLaws
 pub mod Carried
+pub mod Pasts
 pub mod Cover
 pub mod Listed
 -- the course of a turn over nodes
@@ -31,5 +32,3 @@ pub mod Groves
 pub mod Course
 -- cost
 pub mod Cost
--- what the next pass stands on: what the lines of a script leave of runs, where repairs go on in parts
-pub mod Pasts

@@ -59,17 +59,6 @@ goes NoTrace = false
 goes (Traced l) = false
 goes (Going r) = true
 
--- the entry of a line that runs: its number, that a repair goes on, or that it was out of fuel
-pub data Entry : Type 0 where
-  Counted : (work : ℕ) → Entry
-  More : Entry
-  Out : Entry
-
-abbrev pub entry_of : Past → Entry
-entry_of NoTrace = Out
-entry_of (Traced l) = Counted l.work
-entry_of (Going r) = More
-
 -- What a session has is what the definition has, up to the numbers of core blocks.
 pub data SamePast (code : Code) (inputs : List Block) (f : ℕ) (args : List Word) : Past → Past → Type 0 where
   none : SamePast code inputs f args NoTrace NoTrace
@@ -86,8 +75,3 @@ IsPastOf code inputs f args (Going r) = Sound code own inputs f args r
 abbrev pub PastLaw : Type 0
 PastLaw = (code : Code) (inputs : List Block) (f : ℕ) (args : List Word) → Fits code inputs f args → (fuel : ℕ) (first : Option Repaired) → IfSome first (λ l. Replays code inputs f args l.items)
     → (k : Option ℕ) (p : Past) → IsPastOf code inputs f args p → IsPastOf code inputs f args (past_behind code inputs fuel first k p)
-
--- what a line that repairs makes of every past that is this one up to numbers
-abbrev pub Retraces : Code → List Block → ℕ → List Word → ℕ → Option Repaired → Option ℕ → Past → Past → Type 0
-Retraces code inputs f args fuel first k q q' =
-    (p : Past) → IsPastOf code inputs f args p → SamePast code inputs f args p q → SamePast code inputs f args (past_behind code inputs fuel first k p) q'

@@ -1,8 +1,9 @@
+use Rattle.ceal_session.specs.Keeping.{situation}
 use Rattle.ceal_cli.proofs.Dumping.{recorded-core, recorded-closed}
 use Rattle.ceal_cli.proofs.dump.dump_of.Goals as goal
 
 pub text_of-text-requires-clause-core : goal.text_of-text-requires-clause-core
-text_of-text-requires-clause-core c = recorded-core c.args.session.now c.in-Some.kept (rw c.in-Some.is at c.in_ok-recorded.ensures) c.renaming_law.ensures.law
+text_of-text-requires-clause-core c = recorded-core (situation c.args.session.now) c.in-Some.kept (rw c.in-Some.is at c.in_ok-recorded.ensures) c.renaming_law.ensures.law
 
 pub text_of-text-requires-clause-ends : goal.text_of-text-requires-clause-ends
-text_of-text-requires-clause-ends c = recorded-closed c.args.session.now c.in-Some.kept (rw c.in-Some.is at c.in_ok-recorded.ensures)
+text_of-text-requires-clause-ends c = recorded-closed (situation c.args.session.now) c.in-Some.kept (rw c.in-Some.is at c.in_ok-recorded.ensures)

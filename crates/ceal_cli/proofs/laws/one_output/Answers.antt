@@ -8,8 +8,7 @@ returns c =
       records = c.one_record_law.ensures.law;
       dumps = c.one_record_law-2.ensures.law;
       verdicts = c.one_verdict_law.ensures.law;
-      replies = c.one_reply.ensures.reply;
       sessions = c.one_reply-2.ensures.reply;
     } in record {
-      law = one-output c.one_split.ensures c.one_answer.ensures.law c.one_code.ensures.law c.one_reply.ensures.command c.one_reply.ensures.state c.one_script.ensures.law c.one_script.ensures.works once;
+      law = one-output c.one_split.ensures c.one_answer.ensures.law c.one_code.ensures.law c.one_reply.ensures.reply c.one_script.ensures.law once;
     }

@@ -5,6 +5,6 @@ pub returns : goal.returns
 returns c = record {
   own = c.own_replies.ensures.own;
   refused = c.own_replies.ensures.refused;
-  once = determined c.one_reply-2.ensures.command c.one_reply-2.ensures.reply;
+  once = determined c.one_reply-2.ensures.reply;
   alone = c.one_reply.ensures.alone;
 }

@@ -1,5 +1,6 @@
 use Rattle.std.proofs.Common.{◌∙◌, refl, arith}
 use Rattle.std.specs.Option.{option_copied}
+use Rattle.ceal_cli.specs.Members.{first_situation}
 use Rattle.ceal_cli.proofs.ManyReplies.{none-told, one-told, part-told, all-told, all-begun}
 use Rattle.ceal_cli.proofs.ScriptLines.{lines_cut, copied_some, no_lines}
 use Rattle.ceal_cli.proofs.many.reply_all.Goals as goal
@@ -17,7 +18,7 @@ loop-next-preserved g c =
     let a = c.loop-next.invariant.later in
     let b = c.in_ok-reply.ensures.later in
     record {
-      so_far = one-told c.some_reply.ensures.reply c.one_reply.ensures.command c.some_reply-2.ensures.kept c.some_reply-2.ensures.script c.args.many.now.maker c.requires.sound
+      so_far = one-told c.some_reply.ensures.reply c.one_reply.ensures.reply c.some_reply-2.ensures.kept c.some_reply-2.ensures.script (first_situation c.args.many.now.maker) c.requires.sound
           _ _ _ _ _ _ _ _ left grows;
       maker = c.in_ok-reply.ensures.maker ∙ c.loop-next.invariant.maker;
       later = omega (arith, a, b);
@@ -29,7 +30,7 @@ returns-in_err-reply-clause-part g c =
     c.cut_line.ensures.lines (c.is_some.ensures ∙ copied_some _) c.line-line.ensures in
     let here = rw cut at c.loop-next.invariant.so_far in
     let grows = rw c.loop-next.invariant.maker at c.reply.ensures.part in
-    part-told c.some_reply.ensures.reply c.one_reply.ensures.command c.some_reply-2.ensures.kept c.some_reply-2.ensures.script c.args.many.now.maker c.requires.sound
+    part-told c.some_reply.ensures.reply c.one_reply.ensures.reply c.some_reply-2.ensures.kept c.some_reply-2.ensures.script (first_situation c.args.many.now.maker) c.requires.sound
     _ _ _ _ _ _ _ _ here grows
 
 pub returns-in-None-clause-all : goal.returns-in-None-clause-all
@@ -39,7 +40,7 @@ returns-in-None-clause-all g c =
     let here = rw cut at c.loop-next.invariant.so_far in
     let left = rw (c.in-None.is, no_lines) at here in
     let grows = rw c.loop-next.invariant.maker at c.in_ok-reply.ensures.all in
-    all-told _ _ _ _ _ (one-told c.some_reply.ensures.reply c.one_reply.ensures.command c.some_reply-2.ensures.kept c.some_reply-2.ensures.script c.args.many.now.maker c.requires.sound
+    all-told _ _ _ _ _ (one-told c.some_reply.ensures.reply c.one_reply.ensures.reply c.some_reply-2.ensures.kept c.some_reply-2.ensures.script (first_situation c.args.many.now.maker) c.requires.sound
     _ _ _ _ _ _ _ _ left grows)
 
 pub returns-in-None-clause-part : goal.returns-in-None-clause-part
@@ -49,5 +50,5 @@ returns-in-None-clause-part g c =
     let here = rw cut at c.loop-next.invariant.so_far in
     let left = rw (c.in-None.is, no_lines) at here in
     let grows = rw c.loop-next.invariant.maker at c.in_ok-reply.ensures.all in
-    all-begun _ _ _ _ _ (one-told c.some_reply.ensures.reply c.one_reply.ensures.command c.some_reply-2.ensures.kept c.some_reply-2.ensures.script c.args.many.now.maker c.requires.sound
+    all-begun _ _ _ _ _ (one-told c.some_reply.ensures.reply c.one_reply.ensures.reply c.some_reply-2.ensures.kept c.some_reply-2.ensures.script (first_situation c.args.many.now.maker) c.requires.sound
     _ _ _ _ _ _ _ _ left grows)

@@ -1,5 +1,6 @@
 use Rattle.std.proofs.Common.{◌∙◌, arith}
 use Rattle.std.specs.Option.{option_copied}
+use Rattle.ceal_session.specs.Keeping.{situation}
 use Rattle.ceal_cli.proofs.Growing.{at_start, one_more, some_of_it, all_written, all_begun}
 use Rattle.ceal_cli.proofs.ScriptLines.{lines_cut, copied_some, no_lines}
 use Rattle.ceal_cli.proofs.replies.reply_all.Goals as goal
@@ -23,7 +24,7 @@ returns-in_err-reply-clause-part g c =
     let cut = lines_cut c.loop-next.rest.now c.cut_line.result.0.now c.line-line.result.now (option_copied c.cut_line.result.1) c.is_some.result
     c.cut_line.ensures.lines (c.is_some.ensures ∙ copied_some _) c.line-line.ensures in
     let here = rw cut at c.loop-next.invariant.so_far in
-    some_of_it _ _ _ _ _ c.reply.new.session _ _ _ here c.reply.ensures.part
+    some_of_it _ _ _ _ _ (situation c.reply.new.session) _ _ _ here c.reply.ensures.part
 
 pub returns-in-None-clause-all : goal.returns-in-None-clause-all
 returns-in-None-clause-all g c =

@@ -1,6 +1,12 @@
 use Rattle.std.proofs.Common.{◌∙◌, inl, inr, None, Some, Err, ap, refl}
+use Rattle.ceal_session.proofs.Answering.{has-reads}
+use Rattle.ceal_session.proofs.Bounded.{line-bounded}
 use Rattle.ceal_session.proofs.ReplySteps.{if-ok, if-ok-too, on-ok, on-ok-of, on-err}
+use Rattle.ceal_session.specs.Keeping.{situation}
 use Rattle.ceal_session.proofs.session.answer_line.Goals as goal
+
+pub answer_command-requires : goal.answer_command-requires
+answer_command-requires c = record { some = has-reads c.in-Ok.command c.args.line.now c.in-Ok.ensures.found }
 
 pub returns-in-Ok-clause-reply : goal.returns-in-Ok-clause-reply
 returns-in-Ok-clause-reply c =
@@ -11,6 +17,12 @@ returns-in-Ok-clause-reply c =
 pub returns-in-Ok-clause-trace : goal.returns-in-Ok-clause-trace
 returns-in-Ok-clause-trace c =
     on-ok-of c.answer_command.result (λ h. record { command = Some c.in-Ok.command; reads = c.in-Ok.ensures.found; goes = h }) c.answer_command.ensures.trace
+
+pub returns-in-Ok-clause-bounded : goal.returns-in-Ok-clause-bounded
+returns-in-Ok-clause-bounded c =
+    on-ok-of c.answer_command.result
+    (λ h. record { command = Some c.in-Ok.command; reads = c.in-Ok.ensures.found; bounded = line-bounded (situation c.args.state.now) (situation c.answer_command.new.state) c.in-Ok.command c.traced.ensures h })
+    c.answer_command.ensures.trace
 
 pub returns-in-Ok-clause-left : goal.returns-in-Ok-clause-left
 returns-in-Ok-clause-left c =
@@ -27,4 +39,8 @@ returns-in-Err-Unreadable-clause-reply c =
 pub returns-in-Err-Unreadable-clause-trace : goal.returns-in-Err-Unreadable-clause-trace
 returns-in-Err-Unreadable-clause-trace c =
     on-ok c.from_slice.result
-    (record { command = None; reads = c.in-Err-Unreadable.ensures.unreadable (ap Err c.in-Err-Unreadable.field-0-is); goes = record { code = refl; trace = refl } })
+    (record { command = None; reads = c.in-Err-Unreadable.ensures.unreadable (ap Err c.in-Err-Unreadable.field-0-is); goes = record { code = refl; past = refl; bound = refl } })
+
+pub returns-in-Err-Unreadable-clause-bounded : goal.returns-in-Err-Unreadable-clause-bounded
+returns-in-Err-Unreadable-clause-bounded c =
+    on-ok c.from_slice.result (record { command = None; reads = c.in-Err-Unreadable.ensures.unreadable (ap Err c.in-Err-Unreadable.field-0-is); bounded = tt })

@@ -1,7 +1,9 @@
 use Rattle.std.proofs.Common.{◌≡◌, Ok, subst}
 use Rattle.ceal_compile.specs.Compiled.{IsCodeOf}
+use Rattle.ceal_session.specs.Keeping.{situation}
+use Rattle.ceal_session.specs.Standing.{IsIn}
 use Rattle.ceal_cli.proofs.Situated.{in-again}
-use Rattle.ceal_cli.specs.Members.{IsIn}
+use Rattle.ceal_cli.specs.Members.{first_situation}
 use Rattle.ceal_cli.proofs.members.MembersMaker.make.Goals as goal
 
 pub returns : goal.returns
@@ -12,6 +14,6 @@ returns c =
     let typed : q.typed ≡ i.program.typed = cc same in
     let code : q.code ≡ i.program.code = c.one_code.ensures.law i.program.typed q.code i.program.code (subst (λ t. IsCodeOf t q.code) typed (c.in_ok-program.ensures.compiled).code) c.self.invariant.compiled.code in
     record {
-      opens = subst (λ m. IsIn c.in_ok-session.session m) c.self.view_is
+      opens = subst (λ b. IsIn (situation c.in_ok-session.session) (first_situation b)) c.self.view_is
           (rw c.in_ok-session.ensures.state (in-again c.some_reply.ensures.begun i.program q i.fuel c.self.invariant.compiled typed code));
     }

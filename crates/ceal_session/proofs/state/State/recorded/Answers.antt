@@ -1,6 +1,7 @@
 use Rattle.std.proofs.Common.{◌∙◌, sym, subst}
 use Rattle.ceal_session.proofs.Recording.{record-is}
 use Rattle.ceal_session.specs.Asking.{IsReady}
+use Rattle.ceal_session.specs.Keeping.{situation}
 use Rattle.ceal_session.specs.Recording.{IsRecorded}
 use Rattle.ceal_session.proofs.state.State.recorded.Goals as goal
 
@@ -11,7 +12,7 @@ returns c =
       run = sym c.has_no_run.ensures ∙ c.if-has_no_run.false;
       edited = sym c.is_pending.ensures ∙ c.if-is_pending.false;
     } in
-    subst (λ m. IsRecorded m c.in_ok-record-in-Some.record) c.self.view_is
-    (record-is i.program i.names i.engine i.pending c.self.invariant c.phase-phase.ensures.whole (subst (λ m. IsReady m.state) (sym c.self.view_is) ready)
+    subst (λ m. IsRecorded (situation m) c.in_ok-record-in-Some.record) c.self.view_is
+    (record-is i.program i.names i.engine i.journal i.pending c.self.invariant c.phase-phase.ensures.whole (subst (λ m. IsReady m.state) (sym c.self.view_is) ready)
     c.in_ok-forest.forest c.in_ok-forest.ensures.value (record { function = c.in-Some.function; args = c.in-Some.args.now }) c.in-Some.ensures.value c.in_ok-record-in-Some.record
     (rw (c.code-code.ensures.value, c.input_blocks-inputs.ensures.value, c.items.ensures.value) at c.in_ok-record-in-Some.ensures))

@@ -1,0 +1,100 @@
+-- What a session has answered line by line, and what a sink has of it.
+use Rattle.std.specs.Prelude.{◌≡◌, ◌⊎◌, List, [], ◌∷◌, ◌++◌, ℕ, Option}
+use Rattle.ceal_base.specs.declared.recorded.Record.{Record}
+use Rattle.ceal_dump.specs.DumpText.{dump_text}
+use Rattle.ceal_session.specs.Asking.{IsReady}
+use Rattle.ceal_session.specs.Following.{Repairs}
+use Rattle.ceal_session.specs.Recording.{IsRecorded}
+use Rattle.ceal_session.specs.Replies.{Answers}
+use Rattle.ceal_session.specs.State.{Situation, numbers_in}
+use Rattle.ceal_theory.specs.Pasts.{goes}
+use Rattle.ceal_cli.specs.Dumps.{no_run_text}
+use Rattle.ceal_cli.specs.Growth.{Grows}
+use Rattle.ceal_cli.specs.Output.{IsPrefix, IsRunLine}
+
+-- A session answers the line by the text, and this is left of it.
+pub record Serves (m : Situation) (line text : List ℕ) (n : Situation) : Type 0 where
+  pub answers : Answers m.state (numbers_in m) (goes n.past) line text n.state
+  pub repairs : Repairs m line n
+
+-- A session answers the lines, one after another, by these bytes.
+unfoldable pub AreServed : Situation → List (List ℕ) → List ℕ → Type 0
+AreServed m [] out = out ≡ []
+AreServed m (line ∷ lines) out =
+    (text : List ℕ) × (next : Situation) × (rest : List ℕ) × Serves m line text next
+    × AreServed next lines rest × (out ≡ text ++ rest)
+
+-- The text begins them: it is the replies to the first of the lines, and the beginning of the
+-- next one.
+unfoldable pub BeginServed : Situation → List (List ℕ) → List ℕ → Type 0
+BeginServed m [] out = out ≡ []
+BeginServed m (line ∷ lines) out =
+    (out ≡ [])
+    ⊎ (text : List ℕ) × (next : Situation) × Serves m line text next
+    × (IsPrefix out text ⊎ (rest : List ℕ) × (out ≡ text ++ rest) × BeginServed next lines rest)
+
+-- by the replies to lines
+abbrev pub WritesReplies
+    : Option (List ℕ) → Option (List ℕ) → Situation → List (List ℕ) → Type 0
+WritesReplies old now m lines = Grows old now (λ out. AreServed m lines out)
+
+abbrev pub BeginsToReply
+    : Option (List ℕ) → Option (List ℕ) → Situation → List (List ℕ) → Type 0
+BeginsToReply old now m lines = Grows old now (λ out. BeginServed m lines out)
+
+-- A session answers the lines, and the text is the replies from that of the first run on.
+unfoldable pub AreServedFromRun : Situation → List (List ℕ) → List ℕ → Type 0
+AreServedFromRun m [] out = out ≡ []
+AreServedFromRun m (line ∷ lines) out =
+    (IsRunLine line × AreServed m (line ∷ lines) out)
+    ⊎ ((¬ IsRunLine line) × (text : List ℕ) × (next : Situation)
+    × Serves m line text next × AreServedFromRun next lines out)
+
+-- The text begins them.
+unfoldable pub BeginServedFromRun : Situation → List (List ℕ) → List ℕ → Type 0
+BeginServedFromRun m [] out = out ≡ []
+BeginServedFromRun m (line ∷ lines) out =
+    (out ≡ [])
+    ⊎ ((IsRunLine line × BeginServed m (line ∷ lines) out)
+    ⊎ ((¬ IsRunLine line) × (text : List ℕ) × (next : Situation)
+    × Serves m line text next × BeginServedFromRun next lines out))
+
+-- by the replies to lines from the first run on
+abbrev pub WritesFromRun
+    : Option (List ℕ) → Option (List ℕ) → Situation → List (List ℕ) → Type 0
+WritesFromRun old now m lines = Grows old now (λ out. AreServedFromRun m lines out)
+
+abbrev pub BeginsFromRun
+    : Option (List ℕ) → Option (List ℕ) → Situation → List (List ℕ) → Type 0
+BeginsFromRun old now m lines = Grows old now (λ out. BeginServedFromRun m lines out)
+
+-- by the reply to a line
+abbrev pub WritesReply
+    : Option (List ℕ) → Option (List ℕ) → Situation → List ℕ → Situation → Type 0
+WritesReply old now m line next = Grows old now (λ out. Serves m line out next)
+
+-- The text begins the reply to a line.
+abbrev pub BeginsReply : Situation → List ℕ → List ℕ → Type 0
+BeginsReply m line out =
+    (out ≡ []) ⊎ (text : List ℕ) × (next : Situation) × Serves m line text next × IsPrefix out text
+
+abbrev pub WritesPart : Option (List ℕ) → Option (List ℕ) → Situation → List ℕ → Type 0
+WritesPart old now m line = Grows old now (λ out. BeginsReply m line out)
+
+-- The lines are carried out, one after another, and the session is left so.
+unfoldable pub Carries : Situation → List (List ℕ) → Situation → Type 0
+Carries m [] n = n ≡ m
+Carries m (line ∷ lines) n =
+    (text : List ℕ) × (next : Situation) × Serves m line text next × Carries next lines n
+
+-- The text is that of the session's record, or says that there is none.
+abbrev pub IsDumpFrom : Situation → List ℕ → Type 0
+IsDumpFrom m out =
+    ((¬ IsReady m.state) × (out ≡ no_run_text))
+    ⊎ ((r : Record) × IsRecorded m r × (out ≡ dump_text r))
+
+-- So it is behind the lines.
+pub record IsDumpBehind (m : Situation) (lines : List (List ℕ)) (out : List ℕ) : Type 0 where
+  pub end : Situation
+  pub carries : Carries m lines end
+  pub dump : IsDumpFrom end out

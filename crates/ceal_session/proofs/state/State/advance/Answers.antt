@@ -1,0 +1,33 @@
+use Rattle.std.proofs.Common.{◌≡◌, true, Some, is_some, ap, ◌∙◌, sym, subst}
+use Rattle.ceal_session.proofs.Advanced.{advanced, holds-behind, not-new, the-call, fits-of}
+use Rattle.ceal_session.specs.Advancing.{phase_behind, IsAdvanced}
+use Rattle.ceal_session.specs.Keeping.{situation, situation_of}
+use Rattle.ceal_session.proofs.state.State.advance.Goals as goal
+
+pub advanced-came-requires-clause-called : goal.advanced-came-requires-clause-called
+advanced-came-requires-clause-called c = not-new c.self.inside.engine c.phase-before.ensures.whole (subst (λ m. is_some m.state.call ≡ true) (sym c.self.view_is) c.requires.called)
+
+pub settle-requires : goal.settle-requires
+settle-requires c =
+    let g = the-call c.self.inside.engine (subst (λ m. is_some m.state.call ≡ true) (sym c.self.view_is) c.requires.called) in
+    λ e. (c.advanced-came.ensures.brings g.0 g.1).phase ∙ ap phase_behind e
+
+pub invariant_of-self : goal.invariant_of-self
+invariant_of-self c =
+    let i = c.self.inside in
+    let o = c.advanced-came in
+    let g = the-call i.engine (subst (λ m. is_some m.state.call ≡ true) (sym c.self.view_is) c.requires.called) in
+    rw (c.settle.ensures, c.goes_on-self-inside.ensures)
+    (holds-behind i.program i.names i.engine i.journal i.pending c.self.invariant g.0 (fits-of i.engine c.phase-before.ensures.whole g.0 g.1)
+    c.args.reads o.new.engine c.phase-after.ensures.whole o.result (o.ensures.brings g.0 g.1))
+
+pub returns : goal.returns
+returns c =
+    let i = c.self.inside in
+    let o = c.advanced-came in
+    λ call again.
+    let same = subst (λ m. m.state.call ≡ Some call) (sym c.self.view_is) again in
+    subst (λ m. IsAdvanced (situation m) call c.args.reads o.result (situation_of i.program i.names o.new.engine c.settle.new.journal c.goes_on-self-inside.result)) c.self.view_is
+    (rw (c.settle.ensures, c.goes_on-self-inside.ensures)
+    (advanced i.program i.names i.engine i.journal i.pending c.self.invariant call (fits-of i.engine c.phase-before.ensures.whole call same)
+    c.args.reads o.new.engine c.phase-after.ensures.whole o.result (o.ensures.brings call same)))

@@ -1,0 +1,127 @@
+-- What the engine of a session makes of a call that runs, or goes on with a repair, and what that leaves of the session.
+use Rattle.std.specs.Prelude.{◌≡◌, ◌⊎◌, ℕ, Bool, true, false, Option, Some, None, is_some, Result, Ok, Err, List, ⊤}
+use Rattle.ceal_base.specs.Block.{Block}
+use Rattle.ceal_base.specs.declared.call.Call.{Call}
+use Rattle.ceal_code.specs.Program.{Code}
+use Rattle.ceal_engine.specs.Engine.{EngineState, IsPresent, fresh_of, has_run}
+use Rattle.ceal_engine.specs.declared.phase.Came.{Came}
+use Rattle.ceal_engine.specs.declared.phase.Came.TheVariants.{More, Done, Anew}
+use Rattle.ceal_engine.specs.declared.phase.Phase.{Phase}
+use Rattle.ceal_engine.specs.declared.phase.Phase.TheVariants.{Finished, Partial, Dropped}
+use Rattle.ceal_engine.specs.declared.run_error.RunError.{RunError}
+use Rattle.ceal_engine.specs.declared.run_error.RunError.TheVariants.{Memory, OutOfFuel}
+use Rattle.ceal_theory.specs.Computed.{first_of}
+use Rattle.ceal_theory.specs.Pasts.{Past, SamePast, IsPastOf, goes, slice_of, next_repair, past_behind}
+use Rattle.ceal_theory.specs.Slices.{Repair, is_done}
+use Rattle.ceal_session.specs.Following.{Retraces, dropped}
+use Rattle.ceal_session.specs.Journal.{JournalState, settled_at, completed}
+use Rattle.ceal_session.specs.Keeping.{past_of}
+use Rattle.ceal_session.specs.Runs.{run_of, with_run, with_part}
+use Rattle.ceal_session.specs.State.{State, Situation}
+use Rattle.ceal_session.specs.declared.reply.Reply.{Reply}
+use Rattle.ceal_session.specs.declared.reply.Reply.TheVariants.{Ok as Whole, OutOfFuel as Exhausted, More as Part, Finished as PartDone}
+use Rattle.ceal_base.specs.declared.no_memory.NoMemory.{NoMemory}
+
+-- how a run or a repair came out
+abbrev pub Outcome : Type 0
+Outcome = Result Came RunError
+
+-- whether a repair goes on
+abbrev pub is_more : Outcome → Bool
+is_more (Ok More) = true
+is_more (Ok Done) = false
+is_more (Ok Anew) = false
+is_more (Err e) = false
+
+abbrev pub phase_behind : Outcome → Phase
+phase_behind (Ok More) = Partial
+phase_behind (Ok Done) = Finished
+phase_behind (Ok Anew) = Finished
+phase_behind (Err e) = Dropped
+
+-- the journal behind it, where the run has these steps
+abbrev pub journal_behind : ℕ → JournalState → Outcome → JournalState
+journal_behind steps j (Ok More) = j
+journal_behind steps j (Ok Done) = completed j
+journal_behind steps j (Ok Anew) = settled_at steps
+journal_behind steps j (Err e) = settled_at 0
+
+-- the reply to a `run` or a whole `propagate`, and to a part of a repair
+abbrev pub reply_behind : Outcome → Result Reply NoMemory
+reply_behind (Ok c) = Ok Whole
+reply_behind (Err OutOfFuel) = Ok Exhausted
+reply_behind (Err Memory) = Err (record {})
+
+abbrev pub part_behind : Outcome → Result Reply NoMemory
+part_behind (Ok More) = Ok Part
+part_behind (Ok Done) = Ok PartDone
+part_behind (Ok Anew) = Ok PartDone
+part_behind (Err OutOfFuel) = Ok Exhausted
+part_behind (Err Memory) = Err (record {})
+
+-- what the definition's slice is, by how the repair came out
+abbrev pub IsSliceOf : Outcome → Code → List Block → Option Repair → Type 0
+IsSliceOf (Ok More) code inputs o = (r : Repair) × (o ≡ Some r) × (is_done code inputs r ≡ false)
+IsSliceOf (Ok Done) code inputs o = (r : Repair) × (o ≡ Some r) × (is_done code inputs r ≡ true)
+IsSliceOf (Ok Anew) code inputs o = o ≡ None
+IsSliceOf (Err OutOfFuel) code inputs o = (o ≡ None) ⊎ ((r : Repair) × (o ≡ Some r) × (is_done code inputs r ≡ true))
+IsSliceOf (Err Memory) code inputs o = ⊤
+
+-- a completed run is that from scratch; where it was out of fuel so is that
+abbrev pub Completes : Outcome → EngineState → Type 0
+Completes (Ok More) e = ⊤
+Completes (Ok Done) e = IsPresent e
+Completes (Ok Anew) e = IsPresent e
+Completes (Err OutOfFuel) e = fresh_of e ≡ None
+Completes (Err Memory) e = ⊤
+
+-- a repair is one of a run of the call, and goes on only where so many reads were to be run anew
+abbrev pub Began : Outcome → EngineState → Call → Option ℕ → Type 0
+Began (Ok More) e call reads = (has_run e.phase ≡ true) × (is_some reads ≡ true) × (e.call ≡ Some call)
+Began (Ok Done) e call reads = (has_run e.phase ≡ true) × (e.call ≡ Some call)
+Began (Ok Anew) e call reads = ⊤
+Began (Err error) e call reads = ⊤
+
+-- what the engine has is what the definition makes of this past
+abbrev pub Makes : Outcome → EngineState → Call → Option ℕ → Past → EngineState → Type 0
+Makes (Err Memory) e call reads p e' = ⊤
+Makes (Err OutOfFuel) e call reads p e' = ⊤
+Makes (Ok c) e call reads p e' =
+    SamePast e.code e.inputs call.function call.args (past_behind e.code e.inputs e.fuel (first_of e.code e.inputs e.fuel call.function call.args) reads p) (past_of e')
+
+-- The first engine was brought forward to the second one, and it came out so.
+pub record Brings (e : EngineState) (call : Call) (reads : Option ℕ) (outcome : Outcome) (e' : EngineState) : Type 0 where
+  pub code : e'.code ≡ e.code
+  pub fuel : e'.fuel ≡ e.fuel
+  pub inputs : e'.inputs ≡ e.inputs
+  pub called : e'.call ≡ Some call
+  pub phase : e'.phase ≡ phase_behind outcome
+  pub completes : Completes outcome e'
+  pub began : Began outcome e call reads
+  pub slice : (p : Past) → IsPastOf e.code e.inputs call.function call.args p → SamePast e.code e.inputs call.function call.args p (past_of e)
+      → IsSliceOf outcome e.code e.inputs (slice_of e.code e.inputs e.fuel reads (next_repair e.code e.inputs p))
+  pub makes : (p : Past) → IsPastOf e.code e.inputs call.function call.args p → SamePast e.code e.inputs call.function call.args p (past_of e)
+      → Makes outcome e call reads p e'
+
+-- so it is with the call that was accepted
+abbrev pub Brought : EngineState → Option ℕ → Outcome → EngineState → Type 0
+Brought e reads outcome e' = (call : Call) → e.call ≡ Some call → Brings e call reads outcome e'
+
+-- how a run came out that ended so, if it ended
+abbrev pub with_came : {A : Type 0} → Came → Result A RunError → Outcome
+with_came c (Ok x) = Ok c
+with_came c (Err e) = Err e
+
+-- The state is this one, and what the session has of runs is what the definition makes of what it had.
+pub record Leaves (m : Situation) (call : Call) (reads : Option ℕ) (s : State) (more : Bool) (n : Situation) : Type 0 where
+  pub state : n.state ≡ s
+  pub going : goes n.past ≡ more
+  pub retraces : Retraces m call reads n
+
+-- what the call leaves, by how it came out; a run that was completed is that from scratch
+abbrev pub IsAdvanced : Situation → Call → Option ℕ → Outcome → Situation → Type 0
+IsAdvanced m call reads (Ok More) n = (is_some reads ≡ true) × Leaves m call reads (with_part m.state) true n
+IsAdvanced m call reads (Ok Done) n = (is_some (run_of m.state call) ≡ true) × Leaves m call reads (with_run m.state call false) false n
+IsAdvanced m call reads (Ok Anew) n = (is_some (run_of m.state call) ≡ true) × Leaves m call reads (with_run m.state call false) false n
+IsAdvanced m call reads (Err OutOfFuel) n = (run_of m.state call ≡ None) × Leaves m call reads (with_run m.state call true) false n
+IsAdvanced m call reads (Err Memory) n = n ≡ dropped m call
