@@ -22,6 +22,10 @@ weaker f g = record { out = g.out; is = f g.out g.is; appends = g.appends }
 pub part_text : (a b : Option (List ℕ)) (P : List ℕ → Type 0) (text : List ℕ) → P text → GrowsByPrefix a b text → Grows a b (Begins P)
 part_text a b P text h grows = weaker (λ out prefix. inr (text, h, prefix)) (of_prefix a b text grows)
 
+pub whole_text : {E : Type 0} (r : Result (Unit {0}) E) (a b : Option (List ℕ)) (P : List ℕ → Type 0) (text : List ℕ) → P text → OnOk r (Appends a b text) → OnOk r (Grows a b P)
+whole_text (Ok u) a b P text h w = record { out = text; is = h; appends = w }
+whole_text (Err e) a b P text h w = tt
+
 -- So far some text was written behind which the replies to what is left, or their beginning, are to be put.
 pub record SoFar (old now : Option (List ℕ)) (start here : Situation) (all left : List (List ℕ)) : Type 0 where
   pub part : List ℕ
