@@ -9,6 +9,7 @@ use Rattle.std.specs.Map.{keys_of, lookup}
 use Rattle.indexmap.proofs.RemoveLemmas.{own_first}
 use Rattle.indexmap.proofs.MapLemmas.{index-first, Found-position}
 use Rattle.ceal_order.specs.Stamps.{is_in, Distinct, without}
+use Rattle.ceal_order.specs.Rising.{IsRising}
 use Rattle.ceal_memo.specs.Lists.{stamps_at}
 use Rattle.ceal_memo.specs.Numbers.{list_at, IsWithout}
 use Rattle.ceal_memo.proofs.Keys.{tells}
@@ -76,6 +77,20 @@ module _ {K : Type 0} (eq : K → K → Bool) (decides : (a b : K) → Decides (
       by None p = rw (beyond es n p) refl
       by (Some e) p =
           rw (list_is es n e.0 e.1 p) (subst (λ (l : List ℕ). is_in s l ≡ false) (stamps_are eq es e.0 (Some e.1) (looked es unique n e.0 e.1 p)) (none e.0))
+
+  -- where the stamps of each key rise, so do those of each list
+  pub rising_list : (es : List (K × List ℕ)) → IsDistinct eq (keys_of es) → (order : List ℕ) → ((k : K) → IsRising order (stamps_at eq es k)) → (n : ℕ) → IsRising order (list_at es n)
+  rising_list es unique order rise n = by (slice_get es n) refl
+    where
+      beyond : (fs : List (K × List ℕ)) (i : ℕ) → slice_get fs i ≡ None → list_at fs i ≡ []
+      beyond [] i at = refl
+      beyond (f ∷ fs) zero at = cc
+      beyond (f ∷ fs) (suc i) at = beyond fs i at
+
+      by : (o : Option (K × List ℕ)) → slice_get es n ≡ o → IsRising order (list_at es n)
+      by None p = rw (beyond es n p) tt
+      by (Some e) p =
+          rw (list_is es n e.0 e.1 p) (subst (λ (l : List ℕ). IsRising order l) (stamps_are eq es e.0 (Some e.1) (looked es unique n e.0 e.1 p)) (rise e.0))
 
 -- ---- all lists at once
 

@@ -3,7 +3,7 @@
 ghost use Rattle.std.specs.Prelude.{◌≡◌, ◌≢◌, ◌<◌, ◌^◌, ◌++◌, ◌∷◌, ℕ, List, [], false, None, length, IfSome, IfNone, IfOk, OnOk, OnErr, IsTrue};
 ghost use Rattle.std.specs.Map.{lookup};
 ghost use Rattle.indexmap.specs.IndexMap.{get, IsUnique, set_value_at};
-ghost use Rattle.ceal_order.specs.Stamps.{is_in, Distinct, place, without};
+ghost use Rattle.ceal_order.specs.Stamps.{is_in, place, without};
 ghost use Rattle.ceal_order.specs.Rising.{IsRising, IsFirstAfter};
 ghost use Rattle.ceal_memo.specs.Lists.{stamps_at, with_stamp, NoneBetween};
 ghost use Rattle.ceal_memo.specs.Numbers.{list_at, keys_in, IsEntered, IsEmptyAt, IsFound};
@@ -76,13 +76,14 @@ impl<K: Eq + Hash + Drop> Lists<K> {
     }
 
     /// Takes a stamp out of the list with a number.
-    pub fn take(&mut self, number: u32, stamp: Stamp)
-        requires once { Distinct (list_at self.old number) }
+    pub fn take(&mut self, order: &Order, number: u32, stamp: Stamp)
+        requires here { IsTrue (is_in stamp.0 order.now.stamps) }
+        requires rising { IsRising order.now.stamps (list_at self.old number) }
         ensures keys { keys_in self.new ≡ keys_in self.old }
         ensures here { list_at self.new number ≡ without stamp.0 (list_at self.old number) }
         ensures others { (n : ℕ) → n ≢ number → list_at self.new n ≡ list_at self.old n }
     {
-        let empty = take_at(&mut self.by_key, number as usize, stamp);
+        let empty = take_at(&mut self.by_key, number as usize, order, stamp);
         if empty {
             self.spares.note(number);
         }
@@ -139,9 +140,11 @@ fn insert_at<K: Eq + Hash>(
 fn take_at<K: Eq + Hash>(
     lists: &mut IndexMap<K, Rising, BuildHasherDefault<Mixer>>,
     number: usize,
+    order: &Order,
     stamp: Stamp,
 ) -> bool
-    requires once { Distinct (list_at lists.old.entries number) }
+    requires here { IsTrue (is_in stamp.0 order.now.stamps) }
+    requires rising { IsRising order.now.stamps (list_at lists.old.entries number) }
     ensures { lists.new.entries
         ≡ set_value_at lists.old.entries number
         (without stamp.0 (list_at lists.old.entries number)) }
@@ -149,7 +152,7 @@ fn take_at<K: Eq + Hash>(
     let Some(list) = lists.get_index_mut(number) else {
         return false;
     };
-    list.take_out_near(stamp);
+    list.take_out_along(order, stamp);
     list.is_empty()
 }
 

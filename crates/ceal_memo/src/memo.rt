@@ -2,8 +2,8 @@
 
 ghost use Rattle.std.specs.Prelude.{◌≡◌, ◌≢◌, ◌<◌, ℕ, List, [], true, IfSome, IfNone, IfOk, OnOk, OnErr, IsTrue};
 ghost use Rattle.ceal_base.specs.declared.forest.Key.{Key as AllocKey};
-ghost use Rattle.ceal_order.specs.Stamps.{is_in, Distinct, place, without};
-ghost use Rattle.ceal_order.specs.Rising.{IsFirstAfter};
+ghost use Rattle.ceal_order.specs.Stamps.{is_in, place, without};
+ghost use Rattle.ceal_order.specs.Rising.{IsRising, IsFirstAfter};
 ghost use Rattle.ceal_memo.specs.declared.key.ReadKey.{ReadKey as KeyOfRead};
 ghost use Rattle.ceal_memo.specs.declared.home.Home.TheVariants.{Read, Alloc};
 ghost use Rattle.ceal_memo.specs.Lists.{with_stamp, NoneBetween};
@@ -99,7 +99,9 @@ impl Memo {
     }
 
     /// Takes the entry of a stamp out. A stamp without an entry changes nothing.
-    pub fn remove(&mut self, stamp: Stamp)
+    pub fn remove(&mut self, order: &Order, stamp: Stamp)
+        requires here { IsTrue (is_in stamp.0 order.now.stamps) }
+        requires follows { Follows order.now.stamps self.old }
         ensures reads { (key : KeyOfRead)
             → reads_of self.new key ≡ without stamp.0 (reads_of self.old key) }
         ensures allocs { (key : AllocKey)
@@ -110,7 +112,7 @@ impl Memo {
         ensures follows { (order : List ℕ) → Follows order self.old → Follows order self.new }
     {
         let home = self.homes.take(stamp);
-        forget(&mut self.reads, &mut self.allocs, home, stamp);
+        forget(&mut self.reads, &mut self.allocs, order, home, stamp);
     }
 
     /// The earliest read with a key after one stamp and before another.
@@ -153,17 +155,24 @@ impl Memo {
 }
 
 // Takes a stamp out of the list that is its home.
-fn forget(reads: &mut Lists<ReadKey>, allocs: &mut Lists<Key>, home: Home, stamp: Stamp)
+fn forget(
+    reads: &mut Lists<ReadKey>,
+    allocs: &mut Lists<Key>,
+    order: &Order,
+    home: Home,
+    stamp: Stamp,
+)
+    requires here { IsTrue (is_in stamp.0 order.now.stamps) }
     requires reads { (n : ℕ) → is_in stamp.0 (list_at reads.old n) ≡ true → home ≡ Read n }
     requires allocs { (n : ℕ) → is_in stamp.0 (list_at allocs.old n) ≡ true → home ≡ Alloc n }
-    requires reads_once { (n : ℕ) → Distinct (list_at reads.old n) }
-    requires allocs_once { (n : ℕ) → Distinct (list_at allocs.old n) }
+    requires reads_rise { (n : ℕ) → IsRising order.now.stamps (list_at reads.old n) }
+    requires allocs_rise { (n : ℕ) → IsRising order.now.stamps (list_at allocs.old n) }
     ensures reads { IsWithout stamp.0 reads.old reads.new }
     ensures allocs { IsWithout stamp.0 allocs.old allocs.new }
 {
     match home {
         Home::Nowhere => (),
-        Home::Read(number) => reads.take(number, stamp),
-        Home::Alloc(number) => allocs.take(number, stamp),
+        Home::Read(number) => reads.take(order, number, stamp),
+        Home::Alloc(number) => allocs.take(order, number, stamp),
     }
 }

@@ -10,7 +10,7 @@ use Rattle.ceal_order.proofs.Searching.{count_none, one_place}
 
 -- ---- the numbers of stamps
 
-numbers-append : (ss ts : List Stamp) → numbers (ss ++ ts) ≡ numbers ss ++ numbers ts
+pub numbers-append : (ss ts : List Stamp) → numbers (ss ++ ts) ≡ numbers ss ++ numbers ts
 numbers-append [] ts = refl
 numbers-append (s ∷ ss) ts = ap (λ (l : List ℕ). s.0 ∷ l) (numbers-append ss ts)
 

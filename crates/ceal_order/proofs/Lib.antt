@@ -14,4 +14,5 @@ pub mod Powers
 pub mod Neighbours
 pub mod Spreading
 pub mod Searching
-pub mod Gaps
+pub mod TreeLemmas
+pub mod Parts

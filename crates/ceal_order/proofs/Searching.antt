@@ -1,5 +1,5 @@
 -- Looking for a place among rising stamps.
-use Rattle.std.proofs.Common.{◌≡◌, ◌↔◌, Bool, ◌<◌, ◌≤◌, ◌+◌, ℕ, suc, zero, inl, inr, true, false, List, [], ◌∷◌, length, get_or, refl, sym, ap, subst, ◌∙◌, arith}
+use Rattle.std.proofs.Common.{◌≡◌, ◌≢◌, ◌↔◌, Bool, ◌<◌, ◌≤◌, ◌+◌, ℕ, suc, zero, inl, inr, true, false, List, [], ◌∷◌, ◌++◌, length, get_or, refl, sym, ap, subst, ◌∙◌, arith}
 use Rattle.std.proofs.lemmas.Bool.Decides.{eqb_tells}
 use Rattle.std.proofs.lemmas.Bool.{cases_lt, lt-ltb, le-ltb, iff_false}
 use Rattle.ceal_order.specs.declared.stamp.Stamp.{Stamp}
@@ -150,6 +150,60 @@ module _ (order : List ℕ) where
     | inl before ↦ absurd (let no = count_front s xs (count_before order s xs) rising within before in omega (arith, no))
     | inr le ↦ le
   ]
+
+  -- ---- the count of parts
+
+  pub count_append : (s : ℕ) (xs ys : List ℕ) → count_before order s (xs ++ ys) ≡ count_before order s xs + count_before order s ys
+  count_append s [] ys = omega arith
+  count_append s (x ∷ xs) ys = elim (cases_lt (place x order) (place s order)) [
+    | inl less ↦ rw (lt-ltb (place x order) (place s order) less) (let rest = count_append s xs ys in omega (arith, rest))
+    | inr le ↦ rw (le-ltb (place x order) (place s order) le) (count_append s xs ys)
+  ]
+
+  pub rising_front : (xs ys : List ℕ) → IsRising order (xs ++ ys) → IsRising order xs
+  rising_front [] ys rising = tt
+  rising_front (x ∷ xs) ys rising = (rising.0, before_front x xs ys rising.1, rising_front xs ys rising.2)
+    where
+      before_front : (s : ℕ) (zs ys : List ℕ) → IsBeforeAll order s (zs ++ ys) → IsBeforeAll order s zs
+      before_front s [] ys before = tt
+      before_front s (z ∷ zs) ys before = (before.0, before_front s zs ys before.1)
+
+  pub rising_back : (xs ys : List ℕ) → IsRising order (xs ++ ys) → IsRising order ys
+  rising_back [] ys rising = rising
+  rising_back (x ∷ xs) ys rising = rising_back xs ys rising.2
+
+  -- where one of those behind stands before a stamp, all of those in front do
+  pub count_all : (s : ℕ) (xs ys : List ℕ) → IsRising order (xs ++ ys) → 0 < count_before order s ys → count_before order s xs ≡ length xs
+  count_all s [] ys rising some = refl
+  count_all s (x ∷ xs) ys rising some = elim (cases_lt (place x order) (place s order)) [
+    | inl less ↦ rw (lt-ltb (place x order) (place s order) less) (let rest = count_all s xs ys rising.2 some in omega (arith, rest))
+    | inr le ↦ absurd (let none = count_none s x (xs ++ ys) le rising.1 in omega (arith, none, some, count_append s xs ys))
+  ]
+
+  -- where one of those in front does not, none of those behind does
+  pub count_no_more : (s : ℕ) (xs ys : List ℕ) → IsRising order (xs ++ ys) → count_before order s xs < length xs → count_before order s ys ≡ 0
+  count_no_more s xs ys rising less = elim (cases_lt 0 (count_before order s ys)) [
+    | inl some ↦ absurd (let all = count_all s xs ys rising some in omega (arith, all, less))
+    | inr none ↦ omega (arith, none)
+  ]
+
+  -- a stamp that is not the one at the count is none of these
+  pub count_past : (s : ℕ) (xs : List ℕ) → IsRising order xs → (count_before order s xs < length xs → get_or xs (count_before order s xs) 0 ≢ s) → (k : ℕ) → k < length xs → get_or xs k 0 ≢ s
+  count_past s xs rising other k within same =
+      let here : place (get_or xs k 0) order ≡ place s order = ap (λ (i : ℕ). place i order) same in
+      elim (cases_lt k (count_before order s xs)) [
+        | inl less ↦ (let up = front_of_count s xs k rising within less in omega (arith, up, here))
+        | inr le ↦ elim (cases_lt (count_before order s xs) k) [
+          | inl less ↦
+              let up = rising_at xs (count_before order s xs) k rising less within in
+              let back = back_of_count s xs rising (omega arith) in
+              omega (arith, up, back, here)
+          | inr ge ↦ (let e : k ≡ count_before order s xs = omega arith in other (omega arith) (subst (λ (i : ℕ). get_or xs i 0 ≡ s) e same))
+        ]
+      ]
+
+  pub count_here : (s : ℕ) (xs : List ℕ) (n : ℕ) → IsRising order xs → n ≡ count_before order s xs → get_or xs n 0 ≢ s → (k : ℕ) → k < length xs → get_or xs k 0 ≢ s
+  count_here s xs n rising is other = count_past s xs rising (λ less same. other (subst (λ (i : ℕ). get_or xs i 0 ≡ s) (sym is) same))
 
   -- ---- the same of stamps, each of which was got from an index
 

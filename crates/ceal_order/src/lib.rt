@@ -10,15 +10,17 @@
 //!
 //! What is kept by time is kept in lists of stamps that rise along the order: each stands before those that follow it.
 //! `rising` is such a list, searched by halves; it stands in a `short_list`, which takes no memory for one stamp alone, and
-//! for more a `gap_buffer`, in which a change near the last one moves few items. `laws` says along which other orders stamps still rise.
+//! for more a `sequence`, which keeps chunks of them in a balanced `tree`. `laws` says along which other orders stamps still rise.
 #![tactic(auto)]
 
-mod gap_buffer;
 mod labels;
 pub mod laws;
 mod link;
 pub mod order;
 pub mod rising;
 mod run;
+mod search;
+mod sequence;
 pub mod short_list;
 pub mod stamp;
+mod tree;

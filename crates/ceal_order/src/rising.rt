@@ -1,7 +1,7 @@
 // Rising stamps.
 
-ghost use Rattle.std.specs.Prelude.{◌≡◌, ◌↔◌, ◌<◌, ◌≤◌, [], false, length, insert, remove, slice_index, IfOk, IfSome, IfNone, OnOk, OnErr, IsTrue};
-ghost use Rattle.ceal_order.specs.Stamps.{is_in, Distinct, place, without};
+ghost use Rattle.std.specs.Prelude.{◌≡◌, ◌↔◌, ◌<◌, ◌≤◌, [], false, length, insert, remove, IfOk, IfSome, IfNone, OnOk, OnErr, IsTrue};
+ghost use Rattle.ceal_order.specs.Stamps.{is_in, place, without};
 ghost use Rattle.ceal_order.specs.Rising.{numbers, count_before, IsRising, IsFirstAfter, NoneAfter, IsParted};
 
 use crate::order::Order;
@@ -107,39 +107,30 @@ impl Rising {
         }
     }
 
-    /// The same of stamps none of which stands twice, looked at from the last change outwards, so that neighbours are
-    /// taken out one after another at little cost.
-    pub fn take_out_near(&mut self, stamp: Stamp)
-        requires once { Distinct self.old }
+    /// Takes a stamp out, where it is there, along an order.
+    pub fn take_out_along(&mut self, order: &Order, stamp: Stamp)
+        requires here { IsTrue (is_in stamp.0 order.now.stamps) }
+        requires rising { IsRising order.now.stamps self.old }
         ensures { self.new ≡ without stamp.0 self.old }
     {
-        if let Some(at) = nearest_index(&self.stamps, stamp) {
+        let at = searched(order, &self.stamps, stamp);
+        if at == self.stamps.len() {
+            return;
+        }
+        if self.stamps.get(at) == stamp {
             self.stamps.remove(at);
         }
     }
 }
 
-// How many stand before a stamp, found by halves; at once where all do.
+// How many stand before a stamp, found by halves.
 fn searched(order: &Order, stamps: &ShortList<Stamp>, stamp: Stamp) -> usize
     requires here { IsTrue (is_in stamp.0 order.now.stamps) }
     requires rising { IsRising order.now.stamps (numbers stamps.now) }
     ensures count { result ≡ count_before order.now.stamps stamp.0 (numbers stamps.now) }
     ensures within { result ≤ length stamps.now }
 {
-    let mut low = 0;
-    let mut high = stamps.len();
-    if high > 0 && order.before(stamps.get(high - 1), stamp) {
-        return high;
-    }
-    while low < high {
-        let middle = low + (high - low) / 2;
-        if order.before(stamps.get(middle), stamp) {
-            low = middle + 1;
-        } else {
-            high = middle;
-        }
-    }
-    low
+    stamps.count_before(order, stamp)
 }
 
 // The nearest one behind a stamp.
@@ -188,32 +179,4 @@ fn index_of(stamps: &ShortList<Stamp>, stamp: Stamp) -> Option<usize>
         }
     }
     None
-}
-
-// Where a stamp stands that stands once at most, looked for from the last change outwards.
-fn nearest_index(stamps: &ShortList<Stamp>, stamp: Stamp) -> Option<usize>
-    requires once { Distinct (numbers stamps.now) }
-    ensures within { IfSome result (λ at. at < length stamps.now) }
-    ensures some { IfSome result
-        (λ at. remove (numbers stamps.now) at ≡ without stamp.0 (numbers stamps.now)) }
-    ensures none { IfNone result (without stamp.0 (numbers stamps.now) ≡ numbers stamps.now) }
-{
-    let gap = stamps.gap();
-    for distance in 0..stamps.len() {
-        if distance < stamps.len() - gap && is_at(stamps, gap + distance, stamp) {
-            return Some(gap + distance);
-        }
-        if distance < gap && is_at(stamps, gap - 1 - distance, stamp) {
-            return Some(gap - 1 - distance);
-        }
-    }
-    None
-}
-
-// Whether this stamp stands at an index.
-fn is_at(stamps: &ShortList<Stamp>, at: usize, stamp: Stamp) -> bool
-    requires { at < length stamps.now }
-    ensures { IsTrue result ↔ (slice_index (numbers stamps.now) at ≡ stamp.0) }
-{
-    stamps.get(at) == stamp
 }

@@ -1,14 +1,18 @@
 // Items of which there is mostly one.
 
-ghost use Rattle.std.specs.Prelude.{◌≡◌, ◌<◌, ◌≤◌, [], ◌∷◌, length, insert, remove, slice_index_or, IfOk, OnOk, OnErr};
+ghost use Rattle.std.specs.Prelude.{◌≡◌, ◌<◌, ◌≤◌, [], ◌∷◌, length, insert, remove, slice_index_or, IfOk, OnOk, OnErr, IsTrue};
+ghost use Rattle.ceal_order.specs.Stamps.{is_in};
+ghost use Rattle.ceal_order.specs.Rising.{numbers, count_before, IsRising};
 
-use crate::gap_buffer::GapBuffer;
+use crate::order::Order;
+use crate::sequence::Sequence;
+use crate::stamp::Stamp;
 use ceal_base::no_memory::NoMemory;
 use std::alloc::Global;
 use std::marker::Model;
 
 /// A list of items, of which there is mostly one at most. That one stands in the list itself and takes no memory of its own;
-/// from the second on they stand in a gap buffer, and stay there.
+/// from the second on they stand in a sequence, and stay there.
 #[derive(Drop)]
 pub struct ShortList<T> {
     form: Form<T>,
@@ -19,7 +23,7 @@ pub struct ShortList<T> {
 enum Form<T> {
     Empty,
     One(T),
-    Many(Box<GapBuffer<T>>),
+    Many(Box<Sequence<T>>),
 }
 
 impl<T> Model for ShortList<T> {
@@ -52,17 +56,6 @@ impl<T: Copy> ShortList<T> {
             Form::Empty => 0,
             Form::One(_item) => 1,
             Form::Many(items) => items.len(),
-        }
-    }
-
-    /// Where the last change was, as far as that is known.
-    pub fn gap(&self) -> usize
-        ensures { result ≤ length self.now }
-    {
-        match &self.form {
-            Form::Empty => 0,
-            Form::One(_item) => 0,
-            Form::Many(items) => items.gap(),
         }
     }
 
@@ -110,17 +103,33 @@ impl<T: Copy> ShortList<T> {
     }
 }
 
+impl ShortList<Stamp> {
+    /// How many stand before a stamp.
+    pub fn count_before(&self, order: &Order, stamp: Stamp) -> usize
+        requires here { IsTrue (is_in stamp.0 order.now.stamps) }
+        requires rising { IsRising order.now.stamps (numbers self.now) }
+        ensures count { result ≡ count_before order.now.stamps stamp.0 (numbers self.now) }
+        ensures within { result ≤ length self.now }
+    {
+        match &self.form {
+            Form::Empty => 0,
+            Form::One(only) => usize::from(order.before(*only, stamp)),
+            Form::Many(items) => items.count_before(order, stamp),
+        }
+    }
+}
+
 // An item, and another one before it or behind it.
 fn pair<T: Copy>(
     alloc: Global,
     first: T,
     index: usize,
     item: T,
-) -> Result<Box<GapBuffer<T>>, NoMemory>
+) -> Result<Box<Sequence<T>>, NoMemory>
     requires { index ≤ 1 }
     ensures { IfOk result (λ items. items.value ≡ insert (first ∷ []) index item) }
 {
-    let mut items = GapBuffer::new(alloc);
+    let mut items = Sequence::new(alloc);
     items.insert(0, first)?;
     items.insert(index, item)?;
     Ok(Box::new(alloc, items)?)

@@ -246,7 +246,7 @@ impl Tables {
         ensures queue { self.new.stale ≡ self.old.stale }
         ensures kept { Kept self.new }
     {
-        self.memo.remove(alloc);
+        self.memo.remove(self.trace.order(), alloc);
         drop(self.trace.remove(alloc));
     }
 
@@ -294,7 +294,7 @@ impl Tables {
         let (place, _value) = recorded(&self.trace, read);
         self.hand_on(read, place);
         self.mods.remove_read(self.trace.order(), place, read);
-        self.memo.remove(read);
+        self.memo.remove(self.trace.order(), read);
         drop(self.trace.remove(read));
         drop(self.trace.remove(end));
     }

@@ -94,7 +94,7 @@ fn adds_and_removes<R: Abort>(rt: &R, alloc: Global, order: &mut Order, memo: &m
     let second = order.insert_after(first);
     let key = read_key(rt, alloc, 3, 4);
     memo.add_read(order, key, second).expect(rt, "memory");
-    memo.remove(second);
+    memo.remove(order, second);
     let key = read_key(rt, alloc, 3, 4);
     equal(rt, found_read(memo, order, key, first, third), None);
 }

@@ -1,5 +1,19 @@
 use Rattle.ceal_memo.proofs.Taking.{reads_less, allocs_less, follows_less, none_still, none_less, memo_unchanged, kept_less}
+use Rattle.ceal_base.specs.contracts.forest.KeyPartialEq.TheImpl as alloc_key
+use Rattle.ceal_memo.specs.contracts.key.ReadKeyPartialEq.TheImpl as read_key
+use Rattle.ceal_memo.proofs.Keys.{read-Decides, alloc-Decides}
+use Rattle.ceal_memo.proofs.Looking.{rising_list}
 use Rattle.ceal_memo.proofs.memo.Memo.remove.Goals as goal
+
+pub forget-requires-clause-reads_rise : goal.forget-requires-clause-reads_rise
+forget-requires-clause-reads_rise c =
+    let follows = rw (← c.self.view_is) at c.requires.follows in
+    rising_list read_key.ghosts.eq read-Decides c.self.inside.reads c.self.invariant.reads_unique c.args.order.now.stamps follows.reads
+
+pub forget-requires-clause-allocs_rise : goal.forget-requires-clause-allocs_rise
+forget-requires-clause-allocs_rise c =
+    let follows = rw (← c.self.view_is) at c.requires.follows in
+    rising_list alloc_key.ghosts.eq alloc-Decides c.self.inside.allocs c.self.invariant.allocs_unique c.args.order.now.stamps follows.allocs
 
 pub invariant_of-self : goal.invariant_of-self
 invariant_of-self c =

@@ -6,6 +6,9 @@ use Rattle.ceal_repair.proofs.Changing.{node-has}
 use Rattle.ceal_repair.proofs.TakingOut.{alloc-cut-kept, no-end}
 use Rattle.ceal_repair.proofs.tables.Tables.cut_alloc.Goals as goal
 
+pub remove-requires-clause-here : goal.remove-requires-clause-here
+remove-requires-clause-here c = rw c.order.ensures (node-has c.args.alloc.0 (Alloc c.requires.here.0 c.requires.here.1) c.args.self.now.trace.nodes c.requires.here.2)
+
 pub remove-requires-2-clause-here : goal.remove-requires-2-clause-here
 remove-requires-2-clause-here c = node-has c.args.alloc.0 (Alloc c.requires.here.0 c.requires.here.1) c.args.self.now.trace.nodes c.requires.here.2
 

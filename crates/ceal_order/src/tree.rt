@@ -1,0 +1,425 @@
+// Items in a tree of chunks, from left to right. Each fork has a chunk of items and counts the items of itself and of its
+// trees, so that an item is found by its index on one way down. The two trees under a fork differ by one in height at
+// most, so that the tree is about as deep as the logarithm of the number of its chunks, wherever items came and went
+// (Adelson-Velsky and Landis, 1962). Trees are joined round a fork (Blelloch, Ferizovic and Sun, *Just join for parallel
+// ordered sets*, 2016). No contract speaks of heights.
+
+ghost use Rattle.std.specs.Prelude.{◌≡◌, ◌<◌, ◌≤◌, ◌+◌, ◌++◌, min, [], length, insert, remove, slice_index_or, IfOk, OnOk, OnErr};
+ghost use Rattle.ceal_order.specs.Tree.{items_of, IsCounted, Counts};
+
+use ceal_base::no_memory::NoMemory;
+use std::alloc::Global;
+use std::mem;
+
+// A chunk has no more items than this in a tree.
+pub const CHUNK_ITEMS: usize = 64;
+
+// A full chunk keeps so many where it is halved.
+const HALF_CHUNK: usize = 32;
+
+#[cycle(tree)]
+#[derive(Drop)]
+pub enum Tree<T> {
+    Empty,
+    Fork(Box<Fork<T>>),
+}
+
+#[cycle(tree)]
+#[derive(Drop)]
+pub struct Fork<T> {
+    pub items: Vec<T>,
+    pub count: usize,
+    pub height: u8,
+    pub earlier: Tree<T>,
+    pub later: Tree<T>,
+}
+
+// How many forks stand one under another, at most.
+fn height<T: Copy>(tree: &Tree<T>) -> u8 {
+    match tree {
+        Tree::Empty => 0,
+        Tree::Fork(fork) => fork.height,
+    }
+}
+
+/// How many items there are.
+pub fn count<T: Copy>(tree: &Tree<T>) -> usize
+    requires { IsCounted tree.now }
+    ensures { result ≡ min (length (items_of tree.now)) 18446744073709551615 }
+{
+    match tree {
+        Tree::Empty => 0,
+        Tree::Fork(fork) => fork.count,
+    }
+}
+
+/// The item at an index.
+pub fn item_at<T: Copy>(tree: &Tree<T>, index: usize) -> T
+    requires counted { IsCounted tree.now }
+    requires few { length (items_of tree.now) ≤ 18446744073709551615 }
+    requires within { index < length (items_of tree.now) }
+    ensures { (other : T) → slice_index_or (items_of tree.now) index other ≡ result }
+{
+    match tree {
+        Tree::Empty => unreachable!(),
+        Tree::Fork(fork) => {
+            let before = count(&fork.earlier);
+            if index < before {
+                return item_at(&fork.earlier, index);
+            }
+            let here = fork.items.len();
+            if index - before < here {
+                return fork.items[index - before];
+            }
+            item_at(&fork.later, index - before - here)
+        }
+    }
+}
+
+/// A fork of no items.
+pub fn leaf<T: Copy>(alloc: Global) -> Result<Box<Fork<T>>, NoMemory>
+    ensures { IfOk result (λ fork. fork.value.items.items ≡ []) }
+{
+    Ok(Box::new(
+        alloc,
+        Fork {
+            items: Vec::new(alloc),
+            count: 0,
+            height: 0,
+            earlier: Tree::Empty,
+            later: Tree::Empty,
+        },
+    )?)
+}
+
+// A fork over these two trees, in place of its own, with its height and its count.
+fn forked<T: Copy>(earlier: Tree<T>, mut fork: Box<Fork<T>>, later: Tree<T>) -> Box<Fork<T>>
+    requires earlier { IsCounted earlier }
+    requires later { IsCounted later }
+    ensures items { items_of result.value.earlier ++ result.value.items.items ++ items_of result.value.later
+        ≡ items_of earlier ++ fork.value.items.items ++ items_of later }
+    ensures counted { Counts result.value }
+{
+    let under = height(&earlier).max(height(&later));
+    fork.height = under.saturating_add(1);
+    fork.count = count(&earlier)
+        .saturating_add(fork.items.len())
+        .saturating_add(count(&later));
+    fork.earlier = earlier;
+    fork.later = later;
+    fork
+}
+
+// Two forks, the second of which was the earlier tree of the first: it comes to stand over the first.
+fn earlier_on_top<T: Copy>(
+    mut fork: Box<Fork<T>>,
+    mut top: Box<Fork<T>>,
+    last: Tree<T>,
+) -> Box<Fork<T>>
+    requires top { Counts top.value }
+    requires last { IsCounted last }
+    ensures items { items_of result.value.earlier ++ result.value.items.items ++ items_of result.value.later
+        ≡ (items_of top.value.earlier ++ top.value.items.items ++ items_of top.value.later)
+        ++ fork.value.items.items ++ items_of last }
+    ensures counted { Counts result.value }
+{
+    let first = mem::replace(&mut top.earlier, Tree::Empty);
+    let between = mem::replace(&mut top.later, Tree::Empty);
+    forked(first, top, Tree::Fork(forked(between, fork, last)))
+}
+
+// Two forks, the second of which was the later tree of the first: it comes to stand over the first.
+fn later_on_top<T: Copy>(
+    first: Tree<T>,
+    mut fork: Box<Fork<T>>,
+    mut top: Box<Fork<T>>,
+) -> Box<Fork<T>>
+    requires first { IsCounted first }
+    requires top { Counts top.value }
+    ensures items { items_of result.value.earlier ++ result.value.items.items ++ items_of result.value.later
+        ≡ items_of first ++ fork.value.items.items
+        ++ (items_of top.value.earlier ++ top.value.items.items ++ items_of top.value.later) }
+    ensures counted { Counts result.value }
+{
+    let between = mem::replace(&mut top.earlier, Tree::Empty);
+    let last = mem::replace(&mut top.later, Tree::Empty);
+    forked(Tree::Fork(forked(first, fork, between)), top, last)
+}
+
+// A fork whose earlier tree is not the higher one.
+fn leaning_later<T: Copy>(mut fork: Box<Fork<T>>) -> Box<Fork<T>>
+    requires { Counts fork.value }
+    ensures items { items_of result.value.earlier ++ result.value.items.items ++ items_of result.value.later
+        ≡ items_of fork.value.earlier ++ fork.value.items.items ++ items_of fork.value.later }
+    ensures counted { Counts result.value }
+{
+    if height(&fork.earlier) <= height(&fork.later) {
+        return fork;
+    }
+    let later = mem::replace(&mut fork.later, Tree::Empty);
+    match mem::replace(&mut fork.earlier, Tree::Empty) {
+        Tree::Empty => forked(Tree::Empty, fork, later),
+        Tree::Fork(top) => earlier_on_top(fork, top, later),
+    }
+}
+
+// A fork whose later tree is not the higher one.
+fn leaning_earlier<T: Copy>(mut fork: Box<Fork<T>>) -> Box<Fork<T>>
+    requires { Counts fork.value }
+    ensures items { items_of result.value.earlier ++ result.value.items.items ++ items_of result.value.later
+        ≡ items_of fork.value.earlier ++ fork.value.items.items ++ items_of fork.value.later }
+    ensures counted { Counts result.value }
+{
+    if height(&fork.later) <= height(&fork.earlier) {
+        return fork;
+    }
+    let earlier = mem::replace(&mut fork.earlier, Tree::Empty);
+    match mem::replace(&mut fork.later, Tree::Empty) {
+        Tree::Empty => forked(earlier, fork, Tree::Empty),
+        Tree::Fork(top) => later_on_top(earlier, fork, top),
+    }
+}
+
+// A fork over two trees, of which the later one may be higher by two than the earlier one: they are brought to differ by one at most.
+fn with_later<T: Copy>(earlier: Tree<T>, fork: Box<Fork<T>>, later: Tree<T>) -> Box<Fork<T>>
+    requires earlier { IsCounted earlier }
+    requires later { IsCounted later }
+    ensures items { items_of result.value.earlier ++ result.value.items.items ++ items_of result.value.later
+        ≡ items_of earlier ++ fork.value.items.items ++ items_of later }
+    ensures counted { Counts result.value }
+{
+    if height(&later) <= height(&earlier).saturating_add(1) {
+        return forked(earlier, fork, later);
+    }
+    match later {
+        Tree::Empty => forked(earlier, fork, Tree::Empty),
+        Tree::Fork(top) => later_on_top(earlier, fork, leaning_later(top)),
+    }
+}
+
+// The same where the earlier one may be higher by two than the later one.
+fn with_earlier<T: Copy>(earlier: Tree<T>, fork: Box<Fork<T>>, later: Tree<T>) -> Box<Fork<T>>
+    requires earlier { IsCounted earlier }
+    requires later { IsCounted later }
+    ensures items { items_of result.value.earlier ++ result.value.items.items ++ items_of result.value.later
+        ≡ items_of earlier ++ fork.value.items.items ++ items_of later }
+    ensures counted { Counts result.value }
+{
+    if height(&earlier) <= height(&later).saturating_add(1) {
+        return forked(earlier, fork, later);
+    }
+    match earlier {
+        Tree::Empty => forked(Tree::Empty, fork, later),
+        Tree::Fork(top) => earlier_on_top(fork, leaning_earlier(top), later),
+    }
+}
+
+/// One tree of two and a fork between them.
+pub fn joined<T: Copy>(earlier: Tree<T>, fork: Box<Fork<T>>, later: Tree<T>) -> Tree<T>
+    requires earlier { IsCounted earlier }
+    requires later { IsCounted later }
+    ensures items { items_of result ≡ items_of earlier ++ fork.value.items.items ++ items_of later }
+    ensures counted { IsCounted result }
+{
+    let before = height(&earlier);
+    let behind = height(&later);
+    if before > behind.saturating_add(1) {
+        match earlier {
+            Tree::Empty => Tree::Fork(forked(Tree::Empty, fork, later)),
+            Tree::Fork(mut top) => {
+                let first = mem::replace(&mut top.earlier, Tree::Empty);
+                let between = mem::replace(&mut top.later, Tree::Empty);
+                let last = joined(between, fork, later);
+                Tree::Fork(with_later(first, top, last))
+            }
+        }
+    } else if behind > before.saturating_add(1) {
+        match later {
+            Tree::Empty => Tree::Fork(forked(earlier, fork, Tree::Empty)),
+            Tree::Fork(mut top) => {
+                let between = mem::replace(&mut top.earlier, Tree::Empty);
+                let last = mem::replace(&mut top.later, Tree::Empty);
+                let first = joined(earlier, fork, between);
+                Tree::Fork(with_earlier(first, top, last))
+            }
+        }
+    } else {
+        Tree::Fork(forked(earlier, fork, later))
+    }
+}
+
+// One tree of the items of both.
+fn merged<T: Copy>(earlier: Tree<T>, later: Tree<T>) -> Tree<T>
+    requires earlier { IsCounted earlier }
+    requires later { IsCounted later }
+    ensures items { items_of result ≡ items_of earlier ++ items_of later }
+    ensures counted { IsCounted result }
+{
+    match later {
+        Tree::Empty => earlier,
+        Tree::Fork(fork) => {
+            let (first, rest) = taken_first(fork);
+            joined(earlier, first, rest)
+        }
+    }
+}
+
+// The fork of the first chunk, and a tree of the others.
+fn taken_first<T: Copy>(mut fork: Box<Fork<T>>) -> (Box<Fork<T>>, Tree<T>)
+    requires { Counts fork.value }
+    ensures items { result.0.value.items.items ++ items_of result.1
+        ≡ items_of fork.value.earlier ++ fork.value.items.items ++ items_of fork.value.later }
+    ensures counted { IsCounted result.1 }
+{
+    let later = mem::replace(&mut fork.later, Tree::Empty);
+    match mem::replace(&mut fork.earlier, Tree::Empty) {
+        Tree::Empty => (fork, later),
+        Tree::Fork(earlier) => {
+            let (first, rest) = taken_first(earlier);
+            (first, joined(rest, fork, later))
+        }
+    }
+}
+
+/// The tree with one more item at an index. Where there is no memory for it, the items are as before.
+pub fn with_item<T: Copy>(
+    alloc: Global,
+    tree: Tree<T>,
+    index: usize,
+    item: T,
+) -> (Tree<T>, Result<(), NoMemory>)
+    requires counted { IsCounted tree }
+    requires few { length (items_of tree) ≤ 18446744073709551615 }
+    requires within { index < length (items_of tree) }
+    ensures ok { OnOk result.1 (items_of result.0 ≡ insert (items_of tree) index item) }
+    ensures err { OnErr result.1 (items_of result.0 ≡ items_of tree) }
+    ensures counted { IsCounted result.0 }
+{
+    match tree {
+        Tree::Empty => unreachable!(),
+        Tree::Fork(mut fork) => {
+            let earlier = mem::replace(&mut fork.earlier, Tree::Empty);
+            let later = mem::replace(&mut fork.later, Tree::Empty);
+            let before = count(&earlier);
+            if index < before {
+                let (earlier, done) = with_item(alloc, earlier, index, item);
+                return (joined(earlier, fork, later), done);
+            }
+            let here = fork.items.len();
+            if index - before < here {
+                return with_item_here(alloc, earlier, fork, later, index - before, item);
+            }
+            let (later, done) = with_item(alloc, later, index - before - here, item);
+            (joined(earlier, fork, later), done)
+        }
+    }
+}
+
+// The same at an index of the chunk of a fork, over these two trees in place of its own. A full chunk is halved.
+fn with_item_here<T: Copy>(
+    alloc: Global,
+    earlier: Tree<T>,
+    mut fork: Box<Fork<T>>,
+    later: Tree<T>,
+    index: usize,
+    item: T,
+) -> (Tree<T>, Result<(), NoMemory>)
+    requires earlier { IsCounted earlier }
+    requires later { IsCounted later }
+    requires within { index < length fork.value.items.items }
+    ensures ok { OnOk result.1 (items_of result.0
+        ≡ items_of earlier ++ insert fork.value.items.items index item ++ items_of later) }
+    ensures err { OnErr result.1 (items_of result.0
+        ≡ items_of earlier ++ fork.value.items.items ++ items_of later) }
+    ensures counted { IsCounted result.0 }
+{
+    if fork.items.len() < CHUNK_ITEMS {
+        let done = put(&mut fork.items, index, item);
+        return (Tree::Fork(forked(earlier, fork, later)), done);
+    }
+    match second_half(alloc, &mut fork.items) {
+        Err(error) => (Tree::Fork(forked(earlier, fork, later)), Err(error)),
+        Ok(mut second) => {
+            let done = put_in_one(&mut fork.items, &mut second.items, index, item);
+            let later = joined(Tree::Empty, second, later);
+            (joined(earlier, fork, later), done)
+        }
+    }
+}
+
+/// Puts an item into a chunk.
+pub fn put<T: Copy>(items: &mut Vec<T>, index: usize, item: T) -> Result<(), NoMemory>
+    requires { index ≤ length items.old.items }
+    ensures ok { OnOk result (items.new.items ≡ insert items.old.items index item) }
+    ensures err { OnErr result (items.new.items ≡ items.old.items) }
+{
+    match items.insert(index, item) {
+        Ok(()) => Ok(()),
+        Err(_refused) => Err(NoMemory),
+    }
+}
+
+// Puts an item into one of two chunks.
+fn put_in_one<T: Copy>(
+    first: &mut Vec<T>,
+    second: &mut Vec<T>,
+    index: usize,
+    item: T,
+) -> Result<(), NoMemory>
+    requires { index ≤ length (first.old.items ++ second.old.items) }
+    ensures ok { OnOk result (first.new.items ++ second.new.items
+        ≡ insert (first.old.items ++ second.old.items) index item) }
+    ensures err { OnErr result (first.new.items ++ second.new.items
+        ≡ first.old.items ++ second.old.items) }
+{
+    let here = first.len();
+    if index <= here {
+        put(first, index, item)?;
+        return Ok(());
+    }
+    put(second, index - here, item)?;
+    Ok(())
+}
+
+// Takes the second half of a chunk into a fork of its own.
+fn second_half<T: Copy>(alloc: Global, items: &mut Vec<T>) -> Result<Box<Fork<T>>, NoMemory>
+    ensures ok { IfOk result (λ second. items.new.items ++ second.value.items.items ≡ items.old.items) }
+    ensures err { OnErr result (items.new.items ≡ items.old.items) }
+{
+    let mut second = leaf(alloc)?;
+    if items.len() <= HALF_CHUNK {
+        return Ok(second);
+    }
+    second.items = items.split_off(HALF_CHUNK)?;
+    Ok(second)
+}
+
+/// The tree without the item at an index. A chunk that has become empty goes.
+pub fn without_item<T: Copy>(tree: Tree<T>, index: usize) -> Tree<T>
+    requires counted { IsCounted tree }
+    requires few { length (items_of tree) ≤ 18446744073709551615 }
+    requires within { index < length (items_of tree) }
+    ensures items { items_of result ≡ remove (items_of tree) index }
+    ensures counted { IsCounted result }
+{
+    match tree {
+        Tree::Empty => unreachable!(),
+        Tree::Fork(mut fork) => {
+            let earlier = mem::replace(&mut fork.earlier, Tree::Empty);
+            let later = mem::replace(&mut fork.later, Tree::Empty);
+            let before = count(&earlier);
+            if index < before {
+                return joined(without_item(earlier, index), fork, later);
+            }
+            let here = fork.items.len();
+            if index - before < here {
+                if here == 1 {
+                    return merged(earlier, later);
+                }
+                fork.items.remove(index - before);
+                return Tree::Fork(forked(earlier, fork, later));
+            }
+            joined(earlier, fork, without_item(later, index - before - here))
+        }
+    }
+}
