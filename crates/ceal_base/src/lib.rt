@@ -14,6 +14,7 @@ pub mod digits;
 pub mod fault;
 pub mod fitting;
 pub mod forest;
+pub mod hashing;
 pub mod items;
 pub mod kind;
 pub mod laws;

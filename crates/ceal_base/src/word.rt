@@ -44,20 +44,20 @@ impl Word {
 }
 
 impl BlockId {
-    /// The number alone: which of the two kinds it is of is left out.
+    /// The number for hashes. Those of core blocks begin in the middle, so that they are others than those of inputs.
     fn number(self) -> u32
         ensures number { result ≡ number_of self }
     {
         match self {
             BlockId::Input(number) => number,
-            BlockId::Core(number) => number,
+            BlockId::Core(number) => number.wrapping_add(2_147_483_648),
         }
     }
 }
 
 impl Place {
-    /// The block's number and the field's, in one number.
-    fn number(self) -> u64
+    /// The block's number for hashes and the field's, in one number.
+    pub fn number(self) -> u64
         ensures number { result ≡ place_number self }
     {
         self.block.number() as u64 * 4_294_967_296 + self.field as u64
@@ -71,7 +71,7 @@ impl Word {
     {
         match self {
             Word::Num(number) => number.cast_unsigned(),
-            Word::Null => 9_223_372_036_854_775_808,
+            Word::Null => 18_446_744_073_709_551_615,
             Word::Block(block) => block.number() as u64 + 4_611_686_018_427_387_904,
             Word::At(place) => place.number(),
         }

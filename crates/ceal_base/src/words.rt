@@ -5,12 +5,13 @@ ghost use Rattle.std.specs.Cmp.Lexicographic.{pointwise, lists_per, lists_equiv}
 ghost use Rattle.std.specs.Hash as fed;
 ghost use Rattle.ceal_base.specs.contracts.word.WordPartialEq.TheImpl.Laws as word_eq;
 ghost use Rattle.ceal_base.specs.contracts.word.WordEq.TheImpl.Laws as word_equal;
-ghost use Rattle.ceal_base.specs.Hashing.{digest_behind, mixed as one_more};
+ghost use Rattle.ceal_base.specs.Hashing.{digest_behind};
 ghost use Rattle.std.proofs.Common.{rules};
 ghost use Rattle.std.proofs.Common.{refl};
 ghost use Rattle.std.proofs.lemmas.Slice.Eq.{slice_eq-Decides};
 ghost use Rattle.std.specs.Hash.{same_Alike};
 
+use crate::hashing::mixed;
 use crate::no_memory::NoMemory;
 use crate::word::Word;
 use smallvec::SmallVec;
@@ -147,15 +148,6 @@ impl PartialEq for Words {
 
 impl Eq for Words {
     ghost laws = { lists_equiv word_equal.laws-law };
-}
-
-// One more number behind a digest.
-fn mixed(digest: u64, number: u64) -> u64
-    ensures mixed { result ≡ one_more digest number }
-{
-    digest
-        .wrapping_mul(11_400_714_819_323_198_485)
-        .wrapping_add(number)
 }
 
 // Many words as one number, so that a hasher is fed once.
