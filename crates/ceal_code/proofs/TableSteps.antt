@@ -1,13 +1,14 @@
 -- The tables of a trace's memory, call by call.
 use Rattle.std.proofs.Common.{◌≡◌, ℕ, zero, suc, ◌+◌, ◌==◌, ◌&&◌, Bool, true, false, cond, if◌then◌else◌, Option, Some, None, List, [], ◌∷◌, ◌++◌, length, append_assoc, append-nil, slice_get, refl, sym, ap, ◌∙◌, unwrap_or, arith}
-use Rattle.std.specs.HashMap.{get}
+use Rattle.std.specs.BTreeMap.{get}
 use Rattle.std.specs.Option.{option_map}
+use Rattle.std.specs.Ordering.{is_eq, nat_cmp}
 use Rattle.std.proofs.Math.Path.{fun_ext}
 use Rattle.ceal_base.specs.Block.{Block}
 use Rattle.ceal_base.specs.Operators.{same_block}
 use Rattle.ceal_base.specs.Shapes.{kinds_of_shape}
 use Rattle.ceal_base.specs.Trace.{Trace, Nothing, Stepped, Allocated, Wrote, WasRead, flat}
-use Rattle.ceal_base.specs.contracts.word.BlockIdPartialEq.TheImpl.{ghosts}
+use Rattle.ceal_base.specs.contracts.word.BlockIdOrd.TheImpl.{ghosts}
 use Rattle.ceal_base.specs.declared.forest.Item.{Item}
 use Rattle.ceal_base.specs.declared.forest.Item.TheVariants.{End}
 use Rattle.ceal_base.specs.declared.forest.Key.{Key}
@@ -86,10 +87,13 @@ word-after code x s b f = filled-at code s b (x b) f
 
 pub ruleset after_steps = (word-after)
 
--- `==` in code
-pub eq-block : (a b : BlockId) → ghosts.eq a b ≡ same_block a b
-eq-block (Input m) (Input n) = refl
-eq-block (Core m) (Core n) = refl
+-- the order of numbers in code: they are compared as equal where they are one
+nat-compared : (m n : ℕ) → is_eq (nat_cmp m n) ≡ (m == n)
+nat-compared m n = grind arith
+
+pub eq-block : (a b : BlockId) → is_eq (ghosts.cmp a b) ≡ same_block a b
+eq-block (Input m) (Input n) = nat-compared m n
+eq-block (Core m) (Core n) = nat-compared m n
 eq-block (Input m) (Core n) = refl
 eq-block (Core m) (Input n) = refl
 
@@ -115,47 +119,47 @@ store-new m e = fun_ext (λ p. rw e refl)
 
 -- a block is learnt
 pub made-learnt : (old next : TraceMemory) (id : BlockId) (block : Block) → code_in next ≡ code_in old → inputs_in next ≡ inputs_in old
-    → ((b : BlockId) → get ghosts.eq next.made b ≡ cond (ghosts.eq id b) (Some block) (get ghosts.eq old.made b))
+    → ((b : BlockId) → get ghosts.cmp next.made b ≡ cond (is_eq (ghosts.cmp id b)) (Some block) (get ghosts.cmp old.made b))
     → plain_in next ≡ learnt (plain_in old) id block
 unfolding plain_in learnt
 made-learnt old next id block e k update = fun_ext (λ b.
-    ap (λ o. made_or o (input_plain (code_in next) (inputs_in next) b)) (update b ∙ ap (λ (t : Bool). cond t (Some block) (get ghosts.eq old.made b)) (eq-block id b ∙ sym (block-flip id b)))
+    ap (λ o. made_or o (input_plain (code_in next) (inputs_in next) b)) (update b ∙ ap (λ (t : Bool). cond t (Some block) (get ghosts.cmp old.made b)) (eq-block id b ∙ sym (block-flip id b)))
     ∙ rw (e, k) (go b (same_block b id)))
   where
-    go : (b : BlockId) (t : Bool) → made_or (cond t (Some block) (get ghosts.eq old.made b)) (input_plain (code_in old) (inputs_in old) b)
-        ≡ (if t then Some block else made_or (get ghosts.eq old.made b) (input_plain (code_in old) (inputs_in old) b))
+    go : (b : BlockId) (t : Bool) → made_or (cond t (Some block) (get ghosts.cmp old.made b)) (input_plain (code_in old) (inputs_in old) b)
+        ≡ (if t then Some block else made_or (get ghosts.cmp old.made b) (input_plain (code_in old) (inputs_in old) b))
     go b true = refl
     go b false = refl
 
 -- a block is made
 pub contents-clear : (old next : TraceMemory) (fields : Fields) (id : BlockId) (shape : Shape) (key : Key) → code_in next ≡ code_in old → inputs_in next ≡ inputs_in old
     → ((code : Code) (s : Store) (p : Place) → word_in code s (Some fields) p ≡ unwritten code s (Some shape) p)
-    → ((b : BlockId) → get ghosts.eq next.contents b ≡ cond (ghosts.eq id b) (Some fields) (get ghosts.eq old.contents b))
+    → ((b : BlockId) → get ghosts.cmp next.contents b ≡ cond (is_eq (ghosts.cmp id b)) (Some fields) (get ghosts.cmp old.contents b))
     → shape ≡ shape_of (code_in old) key → store_in next ≡ cleared (code_in old) (store_in old) id key
 unfolding store_in cleared
 contents-clear old next fields id shape key e i fresh update k = fun_ext (λ q.
-    ap (λ o. word_in (code_in next) (bases (code_in next) (inputs_in next)) o q) (update q.block ∙ ap (λ b. cond b (Some fields) (get ghosts.eq old.contents q.block)) (eq-block id q.block ∙ sym (block-flip id q.block)))
+    ap (λ o. word_in (code_in next) (bases (code_in next) (inputs_in next)) o q) (update q.block ∙ ap (λ b. cond b (Some fields) (get ghosts.cmp old.contents q.block)) (eq-block id q.block ∙ sym (block-flip id q.block)))
     ∙ rw (e, i) (go q (same_block q.block id)))
   where
     go : (q : Place) (b : Bool)
-        → word_in (code_in old) (bases (code_in old) (inputs_in old)) (cond b (Some fields) (get ghosts.eq old.contents q.block)) q
-        ≡ (if b then cell_default (field_kind (code_in old).structs (shape_of (code_in old) key) q.field) else word_in (code_in old) (bases (code_in old) (inputs_in old)) (get ghosts.eq old.contents q.block) q)
+        → word_in (code_in old) (bases (code_in old) (inputs_in old)) (cond b (Some fields) (get ghosts.cmp old.contents q.block)) q
+        ≡ (if b then cell_default (field_kind (code_in old).structs (shape_of (code_in old) key) q.field) else word_in (code_in old) (bases (code_in old) (inputs_in old)) (get ghosts.cmp old.contents q.block) q)
     go q true = fresh (code_in old) (bases (code_in old) (inputs_in old)) q ∙ rw k refl
     go q false = refl
 
 -- a block is known
 pub contents-known : (old next : TraceMemory) (fields : Fields) (id : BlockId) (block : Block) → code_in next ≡ code_in old → inputs_in next ≡ inputs_in old
     → ((code : Code) (s : Store) (p : Place) → word_in code s (Some fields) p ≡ unwritten code s (Some block.shape) p)
-    → ((b : BlockId) → get ghosts.eq next.contents b ≡ cond (ghosts.eq id b) (Some fields) (get ghosts.eq old.contents b))
+    → ((b : BlockId) → get ghosts.cmp next.contents b ≡ cond (is_eq (ghosts.cmp id b)) (Some fields) (get ghosts.cmp old.contents b))
     → store_in next ≡ defaulted (code_in old) (store_in old) id block
 unfolding store_in defaulted
 contents-known old next fields id block e i fresh update = fun_ext (λ q.
-    ap (λ o. word_in (code_in next) (bases (code_in next) (inputs_in next)) o q) (update q.block ∙ ap (λ b. cond b (Some fields) (get ghosts.eq old.contents q.block)) (eq-block id q.block ∙ sym (block-flip id q.block)))
+    ap (λ o. word_in (code_in next) (bases (code_in next) (inputs_in next)) o q) (update q.block ∙ ap (λ b. cond b (Some fields) (get ghosts.cmp old.contents q.block)) (eq-block id q.block ∙ sym (block-flip id q.block)))
     ∙ rw (e, i) (go q (same_block q.block id)))
   where
     go : (q : Place) (b : Bool)
-        → word_in (code_in old) (bases (code_in old) (inputs_in old)) (cond b (Some fields) (get ghosts.eq old.contents q.block)) q
-        ≡ (if b then cell_default (field_kind (code_in old).structs block.shape q.field) else word_in (code_in old) (bases (code_in old) (inputs_in old)) (get ghosts.eq old.contents q.block) q)
+        → word_in (code_in old) (bases (code_in old) (inputs_in old)) (cond b (Some fields) (get ghosts.cmp old.contents q.block)) q
+        ≡ (if b then cell_default (field_kind (code_in old).structs block.shape q.field) else word_in (code_in old) (bases (code_in old) (inputs_in old)) (get ghosts.cmp old.contents q.block) q)
     go q true = fresh (code_in old) (bases (code_in old) (inputs_in old)) q
     go q false = refl
 
@@ -168,9 +172,9 @@ opened code s (Some found) fields blank p e h = rw e refl
 -- a place is written
 pub contents-put : (old next : TraceMemory) (blank : Fields) (place : Place) (value : Word) → code_in next ≡ code_in old → inputs_in next ≡ inputs_in old
     → ((code : Code) (s : Store) (p : Place) → word_in code s (Some blank) p ≡ unwritten code s None p)
-    → ((code : Code) (s : Store) (p : Place) → word_in code s (get ghosts.eq next.contents place.block) p
-    ≡ (if p.field == place.field then value else word_in code s (Some (unwrap_or (get ghosts.eq old.contents place.block) blank)) p))
-    → ((b : BlockId) → ghosts.eq place.block b ≡ false → get ghosts.eq next.contents b ≡ get ghosts.eq old.contents b)
+    → ((code : Code) (s : Store) (p : Place) → word_in code s (get ghosts.cmp next.contents place.block) p
+    ≡ (if p.field == place.field then value else word_in code s (Some (unwrap_or (get ghosts.cmp old.contents place.block) blank)) p))
+    → ((b : BlockId) → is_eq (ghosts.cmp place.block b) ≡ false → get ghosts.cmp next.contents b ≡ get ghosts.cmp old.contents b)
     → store_in next ≡ stored (store_in old) place value
 unfolding store_in stored
 contents-put old next blank place value e i fresh here others = fun_ext (λ q. rw (e, i) (go q (same_block place.block q.block) refl))
@@ -179,14 +183,14 @@ contents-put old next blank place value e i fresh here others = fun_ext (λ q. r
     base = bases (code_in old) (inputs_in old)
 
     go : (q : Place) (b : Bool) → same_block place.block q.block ≡ b
-        → word_in (code_in old) base (get ghosts.eq next.contents q.block) q
-        ≡ (if same_block q.block place.block && q.field == place.field then value else word_in (code_in old) base (get ghosts.eq old.contents q.block) q)
+        → word_in (code_in old) base (get ghosts.cmp next.contents q.block) q
+        ≡ (if same_block q.block place.block && q.field == place.field then value else word_in (code_in old) base (get ghosts.cmp old.contents q.block) q)
     go q true h =
         rw (block-flip place.block q.block, h)
-        (ap (λ b. word_in (code_in old) base (get ghosts.eq next.contents b) q) (sym (block-same place.block q.block h))
+        (ap (λ b. word_in (code_in old) base (get ghosts.cmp next.contents b) q) (sym (block-same place.block q.block h))
         ∙ (here (code_in old) base q ∙ ap (λ w. if q.field == place.field then value else w)
-        (opened (code_in old) base (get ghosts.eq old.contents place.block) (unwrap_or (get ghosts.eq old.contents place.block) blank) blank q refl (fresh (code_in old) base)
-        ∙ ap (λ b. word_in (code_in old) base (get ghosts.eq old.contents b) q) (block-same place.block q.block h))))
+        (opened (code_in old) base (get ghosts.cmp old.contents place.block) (unwrap_or (get ghosts.cmp old.contents place.block) blank) blank q refl (fresh (code_in old) base)
+        ∙ ap (λ b. word_in (code_in old) base (get ghosts.cmp old.contents b) q) (block-same place.block q.block h))))
     go q false h =
         rw (block-flip place.block q.block, h) (ap (λ o. word_in (code_in old) base o q) (others q.block (eq-block place.block q.block ∙ h)))
 

@@ -1,10 +1,10 @@
 -- The plain words and the contents of modifiables, as the code keeps them.
 use Rattle.std.specs.Prelude.{Option, Some, None, List, [], ◌∷◌, get_or, unwrap_or, if◌then◌else◌}
-use Rattle.std.specs.HashMap.{get}
+use Rattle.std.specs.BTreeMap.{get}
 use Rattle.ceal_base.specs.Block.{Block}
 use Rattle.ceal_base.specs.Operators.{same_block}
 use Rattle.ceal_base.specs.Shapes.{default_of_field}
-use Rattle.ceal_base.specs.contracts.word.BlockIdPartialEq.TheImpl.{ghosts}
+use Rattle.ceal_base.specs.contracts.word.BlockIdOrd.TheImpl.{ghosts}
 use Rattle.ceal_base.specs.declared.forest.Item.{Item}
 use Rattle.ceal_base.specs.declared.forest.Item.TheVariants.{Step, Alloc, Write, Read, End}
 use Rattle.ceal_base.specs.declared.kind.FieldKind.{FieldKind}
@@ -39,7 +39,7 @@ made_or None input = input
 
 -- the plain words of the inputs, and of the blocks that are known
 unfoldable pub plain_in : TraceMemory → Plain
-plain_in m = λ b. made_or (get ghosts.eq m.made b) (input_plain (code_in m) (inputs_in m) b)
+plain_in m = λ b. made_or (get ghosts.cmp m.made b) (input_plain (code_in m) (inputs_in m) b)
 
 -- what a field has that was not written since: its default in a block that was made, else what the store had
 abbrev pub unwritten : Code → Store → Option Shape → Place → Word
@@ -53,7 +53,7 @@ word_in code s (Some fields) p = unwrap_or (get_or fields.words.items p.field No
 
 -- the contents, over the bases of the inputs
 unfoldable pub store_in : TraceMemory → Store
-store_in m = λ p. word_in (code_in m) (bases (code_in m) (inputs_in m)) (get ghosts.eq m.contents p.block) p
+store_in m = λ p. word_in (code_in m) (bases (code_in m) (inputs_in m)) (get ghosts.cmp m.contents p.block) p
 
 -- the blocks, each with the contents of its modifiables
 abbrev pub memory_in : TraceMemory → BlockId → Option Block

@@ -1,10 +1,11 @@
 // The memory that a trace leaves, item by item.
 
 ghost use Rattle.std.specs.Prelude.{◌≡◌, ◌==◌, false, Some, slice_get, unwrap_or, if◌then◌else◌, IfOk, OnOk};
-ghost use Rattle.std.specs.HashMap.{get};
+ghost use Rattle.std.specs.BTreeMap.{get};
 ghost use Rattle.std.specs.Option.{option_map};
+ghost use Rattle.std.specs.Ordering.{is_eq};
 ghost use Rattle.ceal_base.specs.Shapes.{kinds_of_shape};
-ghost use Rattle.ceal_base.specs.contracts.word.BlockIdPartialEq.TheImpl.{ghosts};
+ghost use Rattle.ceal_base.specs.contracts.word.BlockIdOrd.TheImpl.{ghosts};
 ghost use Rattle.ceal_base.specs.Trace.{Trace, flat};
 ghost use Rattle.ceal_base.specs.declared.word.BlockId.{BlockId as Number};
 ghost use Rattle.ceal_base.specs.declared.word.Place.{Place as Cell};
@@ -27,7 +28,7 @@ use ceal_base::no_memory::NoMemory;
 use ceal_base::shapes::field_kind;
 use ceal_base::word::{BlockId, Place, Word};
 use std::alloc::Global;
-use std::collections::HashMap;
+use std::collections::BTreeMap;
 
 /// The memory of a trace that is walked: the plain words of the inputs and of the blocks that are known, and the
 /// contents of modifiables, over the bases of the inputs. The words of the inputs are read where they lie.
@@ -36,8 +37,8 @@ pub struct TraceMemory<'a> {
     alloc: Global,
     code: &'a Code,
     inputs: &'a Inputs,
-    made: HashMap<BlockId, BlockWords>,
-    contents: HashMap<BlockId, Fields>,
+    made: BTreeMap<BlockId, BlockWords>,
+    contents: BTreeMap<BlockId, Fields>,
 }
 
 /// The plain word of a field: a default in place of the content of a modifiable.
@@ -103,18 +104,18 @@ fn input_word(code: &Code, inputs: &Inputs, block: BlockId, field: u32) -> Optio
 
 /// Gives a place another content; of a block of which nothing was written the fields are those given.
 fn put_word(
-    contents: &mut HashMap<BlockId, Fields>,
+    contents: &mut BTreeMap<BlockId, Fields>,
     unwritten: Fields,
     place: Place,
     value: Word,
 ) -> Result<(), NoMemory>
     ensures here { OnOk result ((code : Parts) (s : Store) (p : Cell) →
-        word_in code s (get ghosts.eq contents.new place.block) p
+        word_in code s (get ghosts.cmp contents.new place.block) p
         ≡ (if p.field == place.field then value
         else word_in code s
-        (Some (unwrap_or (get ghosts.eq contents.old place.block) unwritten)) p)) }
-    ensures others { OnOk result ((b : Number) → ghosts.eq place.block b ≡ false →
-        get ghosts.eq contents.new b ≡ get ghosts.eq contents.old b) }
+        (Some (unwrap_or (get ghosts.cmp contents.old place.block) unwritten)) p)) }
+    ensures others { OnOk result ((b : Number) → is_eq (ghosts.cmp place.block b) ≡ false →
+        get ghosts.cmp contents.new b ≡ get ghosts.cmp contents.old b) }
 {
     let fields = contents.entry(place.block)?.or_insert(unwritten);
     fields.set(place.field, value)?;
@@ -155,8 +156,8 @@ impl<'a> TraceMemory<'a> {
             alloc,
             code,
             inputs,
-            made: HashMap::new(alloc),
-            contents: HashMap::new(alloc),
+            made: BTreeMap::new(alloc),
+            contents: BTreeMap::new(alloc),
         }
     }
 

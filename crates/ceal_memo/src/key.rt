@@ -3,13 +3,14 @@
 ghost use Rattle.std.specs.Prelude.{◌≡◌, ◌+◌, ◌*◌, ◌++◌, ◌↔◌, IsTrue, IfOk};
 ghost use Rattle.std.specs.Hash as fed;
 ghost use Rattle.std.specs.Hash.{same_Alike};
-ghost use Rattle.ceal_base.specs.Hashing.{number_of, place_number, digest_behind, mixed};
+ghost use Rattle.ceal_base.specs.Hashing.{place_number, digest_behind, mixed};
 ghost use Rattle.ceal_base.proofs.Equality.{words-Decides};
 ghost use Rattle.std.proofs.Common.{arith};
 
 use ceal_base::forest::UnitId;
+use ceal_base::hashing::mixed;
 use ceal_base::no_memory::NoMemory;
-use ceal_base::word::{BlockId, Place};
+use ceal_base::word::Place;
 use ceal_base::words::Words;
 use std::hash::{Hash, Hasher};
 
@@ -47,36 +48,22 @@ impl ReadKey {
 impl ReadKey {
     // The place, the unit and the variable as one number. Two keys may have the same.
     fn number(&self) -> u64
-        ensures { result
-            ≡ mixed (place_number self.now.place) (self.now.unit.0 * 4294967296 + self.now.var) }
+        ensures { result ≡ mixed
+            (mixed 0 (place_number self.now.place)) (self.now.unit.0 * 4294967296 + self.now.var) }
     {
-        let block = block_number(self.place.block);
-        let place = block as u64 * 4_294_967_296 + self.place.field as u64;
         let closure = self.unit.0 as u64 * 4_294_967_296 + self.var as u64;
-        place
-            .wrapping_mul(11_400_714_819_323_198_485)
-            .wrapping_add(closure)
-    }
-}
-
-// The number of a block, whichever of the two kinds it is of.
-fn block_number(block: BlockId) -> u32
-    ensures { result ≡ number_of block }
-{
-    match block {
-        BlockId::Input(number) => number,
-        BlockId::Core(number) => number,
+        mixed(mixed(0, self.place.number()), closure)
     }
 }
 
 // A key is hashed by two writes, since each costs more than what mixes two numbers.
 impl Hash for ReadKey {
     ghost hash_input = { λ k. fed.u64
-        (mixed (place_number k.place) (k.unit.0 * 4294967296 + k.var))
+        (mixed (mixed 0 (place_number k.place)) (k.unit.0 * 4294967296 + k.var))
         ++ fed.u64 (digest_behind 0 k.args) };
 
     ghost respects_eq = { (same_Alike (λ k. fed.u64
-        (mixed (place_number k.place) (k.unit.0 * 4294967296 + k.var))
+        (mixed (mixed 0 (place_number k.place)) (k.unit.0 * 4294967296 + k.var))
         ++ fed.u64 (digest_behind 0 k.args)) (λ a b. Prim.grind (arith, words-Decides))).fed };
 
     fn hash<H: Hasher>(&self, state: &mut H) {

@@ -4,10 +4,11 @@ ghost use Rattle.std.specs.Prelude.{◌≡◌, ◌<◌, ◌≤◌, [], length, i
 ghost use Rattle.ceal_order.specs.Stamps.{is_in};
 ghost use Rattle.ceal_order.specs.Rising.{numbers, count_before, IsRising};
 
+use crate::chunks::{CHUNK_ITEMS, put, with_item, without_item};
 use crate::order::Order;
 use crate::search::{before_in_chunk, before_in_tree};
 use crate::stamp::Stamp;
-use crate::tree::{CHUNK_ITEMS, Tree, count, item_at, joined, leaf, put, with_item, without_item};
+use crate::tree::{Tree, count, item_at, joined, leaf};
 use ceal_base::no_memory::NoMemory;
 use std::alloc::Global;
 use std::marker::Model;

@@ -4,18 +4,12 @@
 // (Adelson-Velsky and Landis, 1962). Trees are joined round a fork (Blelloch, Ferizovic and Sun, *Just join for parallel
 // ordered sets*, 2016). No contract speaks of heights.
 
-ghost use Rattle.std.specs.Prelude.{◌≡◌, ◌<◌, ◌≤◌, ◌+◌, ◌++◌, min, [], length, insert, remove, slice_index_or, IfOk, OnOk, OnErr};
+ghost use Rattle.std.specs.Prelude.{◌≡◌, ◌<◌, ◌≤◌, ◌+◌, ◌++◌, min, [], length, slice_index_or, IfOk};
 ghost use Rattle.ceal_order.specs.Tree.{items_of, IsCounted, Counts};
 
 use ceal_base::no_memory::NoMemory;
 use std::alloc::Global;
 use std::mem;
-
-// A chunk has no more items than this in a tree.
-pub const CHUNK_ITEMS: usize = 64;
-
-// A full chunk keeps so many where it is halved.
-const HALF_CHUNK: usize = 32;
 
 #[cycle(tree)]
 #[derive(Drop)]
@@ -92,8 +86,8 @@ pub fn leaf<T: Copy>(alloc: Global) -> Result<Box<Fork<T>>, NoMemory>
     )?)
 }
 
-// A fork over these two trees, in place of its own, with its height and its count.
-fn forked<T: Copy>(earlier: Tree<T>, mut fork: Box<Fork<T>>, later: Tree<T>) -> Box<Fork<T>>
+/// A fork over these two trees, in place of its own, with its height and its count.
+pub fn forked<T: Copy>(earlier: Tree<T>, mut fork: Box<Fork<T>>, later: Tree<T>) -> Box<Fork<T>>
     requires earlier { IsCounted earlier }
     requires later { IsCounted later }
     ensures items { items_of result.value.earlier ++ result.value.items.items ++ items_of result.value.later
@@ -248,8 +242,8 @@ pub fn joined<T: Copy>(earlier: Tree<T>, fork: Box<Fork<T>>, later: Tree<T>) -> 
     }
 }
 
-// One tree of the items of both.
-fn merged<T: Copy>(earlier: Tree<T>, later: Tree<T>) -> Tree<T>
+/// One tree of the items of both.
+pub fn merged<T: Copy>(earlier: Tree<T>, later: Tree<T>) -> Tree<T>
     requires earlier { IsCounted earlier }
     requires later { IsCounted later }
     ensures items { items_of result ≡ items_of earlier ++ items_of later }
@@ -264,8 +258,8 @@ fn merged<T: Copy>(earlier: Tree<T>, later: Tree<T>) -> Tree<T>
     }
 }
 
-// The fork of the first chunk, and a tree of the others.
-fn taken_first<T: Copy>(mut fork: Box<Fork<T>>) -> (Box<Fork<T>>, Tree<T>)
+/// The fork of the first chunk, and a tree of the others.
+pub fn taken_first<T: Copy>(mut fork: Box<Fork<T>>) -> (Box<Fork<T>>, Tree<T>)
     requires { Counts fork.value }
     ensures items { result.0.value.items.items ++ items_of result.1
         ≡ items_of fork.value.earlier ++ fork.value.items.items ++ items_of fork.value.later }
@@ -277,149 +271,6 @@ fn taken_first<T: Copy>(mut fork: Box<Fork<T>>) -> (Box<Fork<T>>, Tree<T>)
         Tree::Fork(earlier) => {
             let (first, rest) = taken_first(earlier);
             (first, joined(rest, fork, later))
-        }
-    }
-}
-
-/// The tree with one more item at an index. Where there is no memory for it, the items are as before.
-pub fn with_item<T: Copy>(
-    alloc: Global,
-    tree: Tree<T>,
-    index: usize,
-    item: T,
-) -> (Tree<T>, Result<(), NoMemory>)
-    requires counted { IsCounted tree }
-    requires few { length (items_of tree) ≤ 18446744073709551615 }
-    requires within { index < length (items_of tree) }
-    ensures ok { OnOk result.1 (items_of result.0 ≡ insert (items_of tree) index item) }
-    ensures err { OnErr result.1 (items_of result.0 ≡ items_of tree) }
-    ensures counted { IsCounted result.0 }
-{
-    match tree {
-        Tree::Empty => unreachable!(),
-        Tree::Fork(mut fork) => {
-            let earlier = mem::replace(&mut fork.earlier, Tree::Empty);
-            let later = mem::replace(&mut fork.later, Tree::Empty);
-            let before = count(&earlier);
-            if index < before {
-                let (earlier, done) = with_item(alloc, earlier, index, item);
-                return (joined(earlier, fork, later), done);
-            }
-            let here = fork.items.len();
-            if index - before < here {
-                return with_item_here(alloc, earlier, fork, later, index - before, item);
-            }
-            let (later, done) = with_item(alloc, later, index - before - here, item);
-            (joined(earlier, fork, later), done)
-        }
-    }
-}
-
-// The same at an index of the chunk of a fork, over these two trees in place of its own. A full chunk is halved.
-fn with_item_here<T: Copy>(
-    alloc: Global,
-    earlier: Tree<T>,
-    mut fork: Box<Fork<T>>,
-    later: Tree<T>,
-    index: usize,
-    item: T,
-) -> (Tree<T>, Result<(), NoMemory>)
-    requires earlier { IsCounted earlier }
-    requires later { IsCounted later }
-    requires within { index < length fork.value.items.items }
-    ensures ok { OnOk result.1 (items_of result.0
-        ≡ items_of earlier ++ insert fork.value.items.items index item ++ items_of later) }
-    ensures err { OnErr result.1 (items_of result.0
-        ≡ items_of earlier ++ fork.value.items.items ++ items_of later) }
-    ensures counted { IsCounted result.0 }
-{
-    if fork.items.len() < CHUNK_ITEMS {
-        let done = put(&mut fork.items, index, item);
-        return (Tree::Fork(forked(earlier, fork, later)), done);
-    }
-    match second_half(alloc, &mut fork.items) {
-        Err(error) => (Tree::Fork(forked(earlier, fork, later)), Err(error)),
-        Ok(mut second) => {
-            let done = put_in_one(&mut fork.items, &mut second.items, index, item);
-            let later = joined(Tree::Empty, second, later);
-            (joined(earlier, fork, later), done)
-        }
-    }
-}
-
-/// Puts an item into a chunk.
-pub fn put<T: Copy>(items: &mut Vec<T>, index: usize, item: T) -> Result<(), NoMemory>
-    requires { index ≤ length items.old.items }
-    ensures ok { OnOk result (items.new.items ≡ insert items.old.items index item) }
-    ensures err { OnErr result (items.new.items ≡ items.old.items) }
-{
-    match items.insert(index, item) {
-        Ok(()) => Ok(()),
-        Err(_refused) => Err(NoMemory),
-    }
-}
-
-// Puts an item into one of two chunks.
-fn put_in_one<T: Copy>(
-    first: &mut Vec<T>,
-    second: &mut Vec<T>,
-    index: usize,
-    item: T,
-) -> Result<(), NoMemory>
-    requires { index ≤ length (first.old.items ++ second.old.items) }
-    ensures ok { OnOk result (first.new.items ++ second.new.items
-        ≡ insert (first.old.items ++ second.old.items) index item) }
-    ensures err { OnErr result (first.new.items ++ second.new.items
-        ≡ first.old.items ++ second.old.items) }
-{
-    let here = first.len();
-    if index <= here {
-        put(first, index, item)?;
-        return Ok(());
-    }
-    put(second, index - here, item)?;
-    Ok(())
-}
-
-// Takes the second half of a chunk into a fork of its own.
-fn second_half<T: Copy>(alloc: Global, items: &mut Vec<T>) -> Result<Box<Fork<T>>, NoMemory>
-    ensures ok { IfOk result (λ second. items.new.items ++ second.value.items.items ≡ items.old.items) }
-    ensures err { OnErr result (items.new.items ≡ items.old.items) }
-{
-    let mut second = leaf(alloc)?;
-    if items.len() <= HALF_CHUNK {
-        return Ok(second);
-    }
-    second.items = items.split_off(HALF_CHUNK)?;
-    Ok(second)
-}
-
-/// The tree without the item at an index. A chunk that has become empty goes.
-pub fn without_item<T: Copy>(tree: Tree<T>, index: usize) -> Tree<T>
-    requires counted { IsCounted tree }
-    requires few { length (items_of tree) ≤ 18446744073709551615 }
-    requires within { index < length (items_of tree) }
-    ensures items { items_of result ≡ remove (items_of tree) index }
-    ensures counted { IsCounted result }
-{
-    match tree {
-        Tree::Empty => unreachable!(),
-        Tree::Fork(mut fork) => {
-            let earlier = mem::replace(&mut fork.earlier, Tree::Empty);
-            let later = mem::replace(&mut fork.later, Tree::Empty);
-            let before = count(&earlier);
-            if index < before {
-                return joined(without_item(earlier, index), fork, later);
-            }
-            let here = fork.items.len();
-            if index - before < here {
-                if here == 1 {
-                    return merged(earlier, later);
-                }
-                fork.items.remove(index - before);
-                return Tree::Fork(forked(earlier, fork, later));
-            }
-            joined(earlier, fork, without_item(later, index - before - here))
         }
     }
 }

@@ -1,6 +1,6 @@
 use Rattle.std.proofs.Common.{◌≡◌, ◌+◌, ◌-◌, length, sym, arith}
 use Rattle.ceal_order.proofs.TreeLemmas.{insert-back}
-use Rattle.ceal_order.proofs.tree.put_in_one.Goals as goal
+use Rattle.ceal_order.proofs.chunks.put_in_one.Goals as goal
 
 pub returns-clause-ok : goal.returns-clause-ok
 returns-clause-ok g c =

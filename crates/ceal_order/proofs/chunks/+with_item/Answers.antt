@@ -2,7 +2,7 @@ use Rattle.std.proofs.Common.{◌≡◌, ◌≤◌, ◌+◌, ◌-◌, length, in
 use Rattle.std.proofs.lemmas.Result.{on_ok_weaker}
 use Rattle.ceal_order.specs.Tree.{items_of}
 use Rattle.ceal_order.proofs.TreeLemmas.{length-parts, insert-middle, insert-last}
-use Rattle.ceal_order.proofs.tree.+with_item.Goals as goal
+use Rattle.ceal_order.proofs.chunks.+with_item.Goals as goal
 
 pub returns-then-index-before-2-clause-ok : goal.returns-then-index-before-2-clause-ok
 returns-then-index-before-2-clause-ok g t c =
