@@ -20,7 +20,7 @@ returns-then-index-before-2-clause-items g t c =
     let few = rw c.in-Fork.is at c.requires.few in
     let long = length-parts (items_of c.in-Fork.fork.value.earlier) c.in-Fork.fork.value.items.items (items_of c.in-Fork.fork.value.later) in
     let at : c.args.index ≡ length (items_of c.in-Fork.fork.value.earlier) + (c.args.index - c.count-before.result) = omega (arith, before, few, long, c.if-index-before.false) in
-    let less = rw c.remove.ensures.items at c.filled-then-index-before-2.ensures.items in
+    let less = rw c.remove.ensures.items at c.filled.ensures.items in
     let made = rw (c.deref_mut-then-index-before-2.ensures.value, c.replace-earlier.ensures.value, c.replace-later.ensures.value, c.deref_mut-in-Fork.ensures.value, c.deref_mut.ensures.value) at less in
     rw c.in-Fork.is (made ∙ sym (remove-middle _ _ _ _ _ at (omega (arith, here, c.if-index-before-2.true, c.in-Fork.fork.value.items.ok.0))))
 
