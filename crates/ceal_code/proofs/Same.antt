@@ -1,6 +1,6 @@
 -- What the operators of sameness say: equal.
 use Rattle.std.proofs.Common.{◌≡◌, ℕ, ℤ, Bool, true, false, ◌==◌, ◌&&◌, Some, None, refl, ap, ap₂, arith}
-use Rattle.std.specs.Ordering.{int_eq}
+use Rattle.std.specs.Ordering.{int_eq, is_eq, nat_cmp}
 use Rattle.ceal_base.specs.Access.{is_struct}
 use Rattle.ceal_base.specs.Operators.{same_block, same_place, same_word}
 use Rattle.ceal_base.specs.declared.kind.Shape.{Shape}
@@ -29,6 +29,10 @@ nat-same m n h = grind (arith, h)
 
 pub nat-refl : (n : ℕ) → (n == n) ≡ true
 nat-refl n = grind arith
+
+-- numbers are compared as equal where they are one
+pub nat-compared : (m n : ℕ) → is_eq (nat_cmp m n) ≡ (m == n)
+nat-compared m n = grind arith
 
 int-same : (m n : ℤ) → int_eq m n ≡ true → m ≡ n
 int-same m n h = grind (arith, h)

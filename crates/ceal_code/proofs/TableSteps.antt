@@ -2,7 +2,7 @@
 use Rattle.std.proofs.Common.{◌≡◌, ℕ, zero, suc, ◌+◌, ◌==◌, ◌&&◌, Bool, true, false, cond, if◌then◌else◌, Option, Some, None, List, [], ◌∷◌, ◌++◌, length, append_assoc, append-nil, slice_get, refl, sym, ap, ◌∙◌, unwrap_or, arith}
 use Rattle.std.specs.BTreeMap.{get}
 use Rattle.std.specs.Option.{option_map}
-use Rattle.std.specs.Ordering.{is_eq, nat_cmp}
+use Rattle.std.specs.Ordering.{is_eq}
 use Rattle.std.proofs.Math.Path.{fun_ext}
 use Rattle.ceal_base.specs.Block.{Block}
 use Rattle.ceal_base.specs.Operators.{same_block}
@@ -18,7 +18,7 @@ use Rattle.ceal_base.specs.declared.word.BlockId.{BlockId}
 use Rattle.ceal_base.specs.declared.word.BlockId.TheVariants.{Input, Core}
 use Rattle.ceal_base.specs.declared.word.Place.{Place}
 use Rattle.ceal_base.specs.declared.word.Word.{Word}
-use Rattle.ceal_code.proofs.Same.{block-same, block-refl}
+use Rattle.ceal_code.proofs.Same.{nat-compared, block-same, block-refl}
 use Rattle.ceal_code.specs.After.{store_after}
 use Rattle.ceal_code.specs.Init.{made}
 use Rattle.ceal_code.specs.PlainWords.{block_shape, block_word}
@@ -87,10 +87,7 @@ word-after code x s b f = filled-at code s b (x b) f
 
 pub ruleset after_steps = (word-after)
 
--- the order of numbers in code: they are compared as equal where they are one
-nat-compared : (m n : ℕ) → is_eq (nat_cmp m n) ≡ (m == n)
-nat-compared m n = grind arith
-
+-- the order of blocks in code: they are compared as equal where they are one
 pub eq-block : (a b : BlockId) → is_eq (ghosts.cmp a b) ≡ same_block a b
 eq-block (Input m) (Input n) = nat-compared m n
 eq-block (Core m) (Core n) = nat-compared m n
