@@ -8,6 +8,10 @@ abbrev pub items_of : {A : Type 0} → Tree A → List A
 items_of Empty = []
 items_of (Fork' p items count height earlier later) = items_of earlier ++ items.items ++ items_of later
 
+-- the items of a fork, between those of its trees
+abbrev pub items_under : {A : Type 0} → Fork A → List A
+items_under fork = items_of fork.earlier ++ fork.items.items ++ items_of fork.later
+
 -- each fork of a tree has the count of the items under it
 abbrev pub IsCounted : {A : Type 0} → Tree A → Type 0
 IsCounted Empty = Unit {0}
@@ -17,7 +21,7 @@ IsCounted (Fork' p items count height earlier later) =
 -- a fork has the count of the items under it
 abbrev pub Counts : {A : Type 0} → Fork A → Type 0
 Counts fork =
-    (fork.count ≡ min (length (items_of fork.earlier ++ fork.items.items ++ items_of fork.later)) 18446744073709551615) × IsCounted fork.earlier × IsCounted fork.later
+    (fork.count ≡ min (length (items_under fork)) 18446744073709551615) × IsCounted fork.earlier × IsCounted fork.later
 
 -- a sequence has few items, and those in its tree are counted
 pub record Fits {A : Type 0} (front : Tree A) (last : List A) : Type 0 where

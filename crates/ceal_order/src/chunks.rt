@@ -119,7 +119,8 @@ fn put_in_one<T: Copy>(
 
 // Takes the second half of a chunk into a fork of its own.
 fn second_half<T: Copy>(alloc: Global, items: &mut Vec<T>) -> Result<Box<Fork<T>>, NoMemory>
-    ensures ok { IfOk result (λ second. items.new.items ++ second.value.items.items ≡ items.old.items) }
+    ensures ok { IfOk result
+        (λ second. items.new.items ++ second.value.items.items ≡ items.old.items) }
     ensures err { OnErr result (items.new.items ≡ items.old.items) }
 {
     let mut second = leaf(alloc)?;

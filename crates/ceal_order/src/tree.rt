@@ -5,7 +5,7 @@
 // ordered sets*, 2016). No contract speaks of heights.
 
 ghost use Rattle.std.specs.Prelude.{◌≡◌, ◌<◌, ◌≤◌, ◌+◌, ◌++◌, min, [], length, slice_index_or, IfOk};
-ghost use Rattle.ceal_order.specs.Tree.{items_of, IsCounted, Counts};
+ghost use Rattle.ceal_order.specs.Tree.{items_of, items_under, IsCounted, Counts};
 
 use ceal_base::no_memory::NoMemory;
 use std::alloc::Global;
@@ -90,7 +90,7 @@ pub fn leaf<T: Copy>(alloc: Global) -> Result<Box<Fork<T>>, NoMemory>
 pub fn forked<T: Copy>(earlier: Tree<T>, mut fork: Box<Fork<T>>, later: Tree<T>) -> Box<Fork<T>>
     requires earlier { IsCounted earlier }
     requires later { IsCounted later }
-    ensures items { items_of result.value.earlier ++ result.value.items.items ++ items_of result.value.later
+    ensures items { items_under result.value
         ≡ items_of earlier ++ fork.value.items.items ++ items_of later }
     ensures counted { Counts result.value }
 {
@@ -112,9 +112,8 @@ fn earlier_on_top<T: Copy>(
 ) -> Box<Fork<T>>
     requires top { Counts top.value }
     requires last { IsCounted last }
-    ensures items { items_of result.value.earlier ++ result.value.items.items ++ items_of result.value.later
-        ≡ (items_of top.value.earlier ++ top.value.items.items ++ items_of top.value.later)
-        ++ fork.value.items.items ++ items_of last }
+    ensures items { items_under result.value
+        ≡ items_under top.value ++ fork.value.items.items ++ items_of last }
     ensures counted { Counts result.value }
 {
     let first = mem::replace(&mut top.earlier, Tree::Empty);
@@ -130,9 +129,8 @@ fn later_on_top<T: Copy>(
 ) -> Box<Fork<T>>
     requires first { IsCounted first }
     requires top { Counts top.value }
-    ensures items { items_of result.value.earlier ++ result.value.items.items ++ items_of result.value.later
-        ≡ items_of first ++ fork.value.items.items
-        ++ (items_of top.value.earlier ++ top.value.items.items ++ items_of top.value.later) }
+    ensures items { items_under result.value
+        ≡ items_of first ++ fork.value.items.items ++ items_under top.value }
     ensures counted { Counts result.value }
 {
     let between = mem::replace(&mut top.earlier, Tree::Empty);
@@ -143,8 +141,7 @@ fn later_on_top<T: Copy>(
 // A fork whose earlier tree is not the higher one.
 fn leaning_later<T: Copy>(mut fork: Box<Fork<T>>) -> Box<Fork<T>>
     requires { Counts fork.value }
-    ensures items { items_of result.value.earlier ++ result.value.items.items ++ items_of result.value.later
-        ≡ items_of fork.value.earlier ++ fork.value.items.items ++ items_of fork.value.later }
+    ensures items { items_under result.value ≡ items_under fork.value }
     ensures counted { Counts result.value }
 {
     if height(&fork.earlier) <= height(&fork.later) {
@@ -160,8 +157,7 @@ fn leaning_later<T: Copy>(mut fork: Box<Fork<T>>) -> Box<Fork<T>>
 // A fork whose later tree is not the higher one.
 fn leaning_earlier<T: Copy>(mut fork: Box<Fork<T>>) -> Box<Fork<T>>
     requires { Counts fork.value }
-    ensures items { items_of result.value.earlier ++ result.value.items.items ++ items_of result.value.later
-        ≡ items_of fork.value.earlier ++ fork.value.items.items ++ items_of fork.value.later }
+    ensures items { items_under result.value ≡ items_under fork.value }
     ensures counted { Counts result.value }
 {
     if height(&fork.later) <= height(&fork.earlier) {
@@ -178,7 +174,7 @@ fn leaning_earlier<T: Copy>(mut fork: Box<Fork<T>>) -> Box<Fork<T>>
 fn with_later<T: Copy>(earlier: Tree<T>, fork: Box<Fork<T>>, later: Tree<T>) -> Box<Fork<T>>
     requires earlier { IsCounted earlier }
     requires later { IsCounted later }
-    ensures items { items_of result.value.earlier ++ result.value.items.items ++ items_of result.value.later
+    ensures items { items_under result.value
         ≡ items_of earlier ++ fork.value.items.items ++ items_of later }
     ensures counted { Counts result.value }
 {
@@ -195,7 +191,7 @@ fn with_later<T: Copy>(earlier: Tree<T>, fork: Box<Fork<T>>, later: Tree<T>) -> 
 fn with_earlier<T: Copy>(earlier: Tree<T>, fork: Box<Fork<T>>, later: Tree<T>) -> Box<Fork<T>>
     requires earlier { IsCounted earlier }
     requires later { IsCounted later }
-    ensures items { items_of result.value.earlier ++ result.value.items.items ++ items_of result.value.later
+    ensures items { items_under result.value
         ≡ items_of earlier ++ fork.value.items.items ++ items_of later }
     ensures counted { Counts result.value }
 {
@@ -262,7 +258,7 @@ pub fn merged<T: Copy>(earlier: Tree<T>, later: Tree<T>) -> Tree<T>
 pub fn taken_first<T: Copy>(mut fork: Box<Fork<T>>) -> (Box<Fork<T>>, Tree<T>)
     requires { Counts fork.value }
     ensures items { result.0.value.items.items ++ items_of result.1
-        ≡ items_of fork.value.earlier ++ fork.value.items.items ++ items_of fork.value.later }
+        ≡ items_under fork.value }
     ensures counted { IsCounted result.1 }
 {
     let later = mem::replace(&mut fork.later, Tree::Empty);
