@@ -6,10 +6,12 @@
 //! trace: after a first run it is the first trace, after a propagation its repair. The body keeps what `ceal_repair` keeps of
 //! a run: the nodes, the lists of the modifiables, the queue of stale reads, the memo, and the heap. So the time of a
 //! propagation goes with what is run anew, and not with the trace. A repair may be done in slices, with edits between them:
-//! `specs/Partial` says what becomes of it. `running` has what edits and new inputs do to a run, `reading` reads words and
+//! `specs/Partial` says what becomes of it. `asking` tests what calls
+//! require, `running` has what edits and new inputs do to a run, `reading` reads words and
 //! contents, and `items` lists the flat items of nodes.
 #![tactic(auto)]
 
+mod asking;
 pub mod engine;
 mod items;
 mod kept_call;
