@@ -1,10 +1,11 @@
 -- Where numbers stand first.
 use Rattle.std.proofs.Common.{◌≡◌, ℕ, suc, ◌+◌, ◌==◌, Bool, true, false, cond, if◌then◌else◌, Option, Some, None, is_some, unwrap_or, Bor, List, [], ◌∷◌, ◌++◌, length, length-append, append_assoc, append-nil, refl, sym, ap, ◌∙◌, subst, arith}
-use Rattle.std.specs.HashMap.{get}
+use Rattle.std.specs.BTreeMap.{get}
 use Rattle.std.specs.Option.{option_map, option_copied}
+use Rattle.std.specs.Ordering.{is_eq}
 use Rattle.std.proofs.Math.Path.{fun_ext}
 use Rattle.ceal_base.specs.Same.{index_of}
-use Rattle.ceal_base.specs.contracts.word.BlockIdPartialEq.TheImpl.{ghosts}
+use Rattle.ceal_base.specs.contracts.word.BlockIdOrd.TheImpl.{ghosts}
 use Rattle.ceal_base.specs.declared.forest.Item.{Item}
 use Rattle.ceal_base.specs.declared.forest.Item.TheVariants.{Step, Alloc, Write, Read, End}
 use Rattle.ceal_base.specs.declared.word.BlockId.{BlockId}
@@ -60,15 +61,15 @@ module _ (old next : Numbers) (block : ℕ) (counted : next.count ≡ old.count 
   more = let n = length-append bs (block ∷ []) in let k = h.count in omega (arith, counted, n, k)
 
   -- a block that was not counted before
-  pub added-new : get ghosts.eq old.given (Core block) ≡ None
-      → ((b : BlockId) → get ghosts.eq next.given b ≡ cond (ghosts.eq (Core block) b) (Some old.count) (get ghosts.eq old.given b))
+  pub added-new : get ghosts.cmp old.given (Core block) ≡ None
+      → ((b : BlockId) → get ghosts.cmp next.given b ≡ cond (is_eq (ghosts.cmp (Core block) b)) (Some old.count) (get ghosts.cmp old.given b))
       → Counts next (bs ++ block ∷ [])
   added-new none update = record { count = more; each = λ b. update (Core b) ∙ rw (eq-block (Core block) (Core b), place-push bs block b) (go b (block == b) refl) }
     where
       absent : place_in bs block ≡ None
       absent = sym (h.each block) ∙ none
 
-      go : (b : ℕ) (t : Bool) → (block == b) ≡ t → cond t (Some old.count) (get ghosts.eq old.given (Core b)) ≡ or_last (place_in bs b) t (length bs)
+      go : (b : ℕ) (t : Bool) → (block == b) ≡ t → cond t (Some old.count) (get ghosts.cmp old.given (Core b)) ≡ or_last (place_in bs b) t (length bs)
       go b true e =
           let none-here : place_in bs b ≡ None = subst (λ c. place_in bs c ≡ None) (nat-same block b e) absent in
           rw (none-here) (ap (λ n. Some n) h.count)
@@ -79,7 +80,7 @@ module _ (old next : Numbers) (block : ℕ) (counted : next.count ≡ old.count 
           stays None = refl
 
   -- one that was
-  pub added-known : (k : ℕ) → get ghosts.eq old.given (Core block) ≡ Some k → next.given ≡ old.given → Counts next (bs ++ block ∷ [])
+  pub added-known : (k : ℕ) → get ghosts.cmp old.given (Core block) ≡ Some k → next.given ≡ old.given → Counts next (bs ++ block ∷ [])
   added-known k found same = record { count = more; each = λ b. rw (same, place-push bs block b) (h.each b ∙ go b (block == b) refl) }
     where
       known : place_in bs block ≡ Some k

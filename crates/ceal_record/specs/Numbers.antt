@@ -1,8 +1,8 @@
 -- The numbers of core blocks in the order of their allocations, as the code keeps them.
 use Rattle.std.specs.Prelude.{◌≡◌, ℕ, suc, ◌==◌, Option, Some, None, unwrap_or, List, [], ◌∷◌, length, if◌then◌else◌}
-use Rattle.std.specs.HashMap.{get}
+use Rattle.std.specs.BTreeMap.{get}
 use Rattle.std.specs.Option.{option_map}
-use Rattle.ceal_base.specs.contracts.word.BlockIdPartialEq.TheImpl.{ghosts}
+use Rattle.ceal_base.specs.contracts.word.BlockIdOrd.TheImpl.{ghosts}
 use Rattle.ceal_base.specs.declared.word.BlockId.TheVariants.{Core}
 use Rattle.ceal_record.specs.declared.numbers.Numbers.{Numbers}
 
@@ -13,9 +13,9 @@ place_in (c ∷ cs) b = if c == b then Some 0 else option_map (λ n. suc n) (pla
 
 -- the number that a block is given; for one that is not there the count
 unfoldable pub number_of : Numbers → ℕ → ℕ
-number_of t b = unwrap_or (get ghosts.eq t.given (Core b)) t.count
+number_of t b = unwrap_or (get ghosts.cmp t.given (Core b)) t.count
 
 -- Each of the blocks with these numbers is given the place where it stands first.
 pub record Counts (t : Numbers) (bs : List ℕ) : Type 0 where
   pub count : t.count ≡ length bs
-  pub each : (b : ℕ) → get ghosts.eq t.given (Core b) ≡ place_in bs b
+  pub each : (b : ℕ) → get ghosts.cmp t.given (Core b) ≡ place_in bs b

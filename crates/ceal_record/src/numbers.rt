@@ -12,13 +12,13 @@ use ceal_base::no_memory::NoMemory;
 use ceal_base::word::{BlockId, Place, Word};
 use ceal_base::words::Words;
 use std::alloc::Global;
-use std::collections::HashMap;
+use std::collections::BTreeMap;
 
 /// The numbers that core blocks are given, in their order: 0, 1 and so on.
 #[derive(Drop)]
 pub struct Numbers {
     pub alloc: Global,
-    pub given: HashMap<BlockId, u32>,
+    pub given: BTreeMap<BlockId, u32>,
     pub count: u32,
 }
 
@@ -72,7 +72,7 @@ impl Numbers {
     {
         let mut numbers = Numbers {
             alloc,
-            given: HashMap::new(alloc),
+            given: BTreeMap::new(alloc),
             count: 0,
         };
         let mut items = items;
