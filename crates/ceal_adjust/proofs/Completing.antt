@@ -20,7 +20,8 @@ use Rattle.ceal_theory.proofs.Course.{work-law}
 use Rattle.ceal_theory.proofs.MachineLaws.{leads-stays, leads-then, leads-turn}
 use Rattle.ceal_theory.proofs.Turns.{at, turn-kept, finishes-fix, finishes-anew}
 use Rattle.ceal_theory.specs.Adjust.{Adjusts, Firsts}
-use Rattle.ceal_adjust.specs.Answers.{EndsAt, IsBeyond, Completes, RunsOut, Answered, IsRepair, IsAnswer}
+use Rattle.ceal_adjust.specs.Answers.{Exceeds, Keeps, EndsAt, IsBeyond, Completes, RunsOut, Answered, IsRepair, IsAnswer}
+use Rattle.ceal_adjust.specs.declared.complete.Limit.{Limit}
 use Rattle.ceal_adjust.specs.declared.complete.Limit.TheVariants.{Written}
 use Rattle.ceal_theory.specs.Computed.{adjusted, first_of}
 use Rattle.ceal_theory.specs.Laws.{Edited}
@@ -36,6 +37,23 @@ turned code now m t e h = subst (λ k. turn k own m ≡ t) e h
 -- after one turn more
 pub leads-more : (code : Code) (start m m' : Machine) (out written : List Item) → Leads code own start m out → turn code own m ≡ Went written m' → Leads code own start m' (out ++ written)
 leads-more code start m m' out written h e = leads-then code own start m m' out written h (leads-turn code own m m' written e)
+
+-- where it is beyond the limit
+pub is-beyond : (code : Code) (limit : Limit) (start m : Machine) (out : List Item) (steps work : ℕ) → Leads code own start m out → steps ≡ steps_in out → m.state.work ≡ work → Exceeds limit steps work → IsBeyond code limit start
+is-beyond code limit start m out steps work h e k l = record {
+  machine = m;
+  out = out;
+  leads = h;
+  beyond = subst (λ n. Exceeds limit n m.state.work) e (subst (λ w. Exceeds limit steps w) (sym k) l);
+}
+
+-- where it has ended, within the limit
+pub ends-at : (code : Code) (limit : Limit) (start m : Machine) (out : List Item) (steps work : ℕ) (s : State) → Leads code own start m out → steps ≡ steps_in out → m.state.work ≡ work → Keeps limit steps work
+    → turn code own m ≡ Ended → m.state ≡ s → EndsAt code limit start out s
+ends-at code limit start m out steps work s h e k l t n = record {
+  ended = record { machine = m; leads = h; ended = t; within = subst (λ n. Keeps limit n m.state.work) e (subst (λ w. Keeps limit steps w) (sym k) l) };
+  state = n;
+}
 
 -- where the machine has ended, within the fuel
 pub has-completed : (code : Code) (fuel : ℕ) (start : Machine) (out : List Item) (s : State) (work : ℕ) → EndsAt code (Written fuel) start out s → work ≡ s.work → Completes code fuel start out work

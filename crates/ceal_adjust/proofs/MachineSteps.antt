@@ -119,3 +119,11 @@ machine-work IsRunning s stack n fs is = refl
 
 pub work-in : (r : Repair) (work : ℕ) → work ≡ (state_in r).work → (machine_in r).state.work ≡ work
 work-in r work e = machine-work r.mode (state_in r) r.stack r.levels r.frames.items (drop r.rest r.items) ∙ sym e
+
+machine-state : (mode : CodeMode) (s : State) (stack : CodeStack) (n : ℕ) (fs : List Frame) (is : List Item) → (machine_of mode s stack n fs is).state ≡ s
+unfolding machine_of
+machine-state IsFixing s stack n fs is = refl
+machine-state IsRunning s stack n fs is = refl
+
+pub state-is : (r : Repair) → (machine_in r).state ≡ state_in r
+state-is r = machine-state r.mode (state_in r) r.stack r.levels r.frames.items (drop r.rest r.items)

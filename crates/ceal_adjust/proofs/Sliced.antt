@@ -1,15 +1,21 @@
 -- Turns of a repair that goes on, and what slices come to by them.
-use Rattle.std.proofs.Common.{◌≡◌, ℕ, zero, suc, ◌+◌, ◌≤◌, ◌<◌, ⊤, true, false, Bool, Option, Some, None, List, [], ◌∷◌, ◌++◌, append_assoc, inl, inr, ◌⊎◌, refl, sym, ap, subst, ◌∙◌, arith}
+use Rattle.std.proofs.Common.{◌≡◌, ℕ, zero, suc, ◌+◌, ◌≤◌, ◌<◌, true, false, Bool, Option, Some, None, List, [], ◌∷◌, ◌++◌, append_assoc, inl, inr, ◌⊎◌, refl, sym, ap, subst, ◌∙◌, arith}
 use Rattle.std.proofs.lemmas.Bool.{cases_order}
+use Rattle.std.specs.Bool.{⊤}
 use Rattle.ceal_base.specs.Block.{Block}
-use Rattle.ceal_base.specs.Trace.{Trace, Nothing, Stepped, Allocated, Wrote, WasRead, followed, flat}
+use Rattle.ceal_base.proofs.TraceLemmas.{trace-flat}
+use Rattle.ceal_base.specs.Trace.{trace_of, Trace, Nothing, Stepped, Allocated, Wrote, WasRead, followed, flat}
 use Rattle.ceal_base.specs.declared.forest.Item.{Item}
 use Rattle.ceal_base.specs.declared.forest.Item.TheVariants.{Read, End}
+use Rattle.ceal_base.specs.declared.forest.UnitId.{UnitId}
 use Rattle.ceal_base.specs.declared.word.BlockId.TheVariants.{Core}
+use Rattle.ceal_base.specs.declared.word.Place.{Place}
 use Rattle.ceal_base.specs.declared.word.Word.{Word}
 use Rattle.ceal_code.specs.Fitting.{Fits}
 use Rattle.ceal_code.specs.Program.{Code}
-use Rattle.ceal_code.specs.Replay.{IsHonest}
+use Rattle.ceal_code.proofs.Same.{some-same}
+use Rattle.ceal_code.specs.Replay.{Store, IsHonest, plain_of}
+use Rattle.ceal_code.specs.Value.{Plain}
 use Rattle.ceal_code.specs.Tables.{plain_in, store_in}
 use Rattle.ceal_code.specs.declared.trace_memory.TraceMemory.{TraceMemory}
 use Rattle.ceal_adjust.specs.Alone.{alone, state_of, IsRan, IsAt}
@@ -25,13 +31,15 @@ use Rattle.ceal_adjust.specs.declared.turn.Ran.{Ran}
 use Rattle.ceal_adjust.specs.declared.turn.Turned.TheVariants.{Honest, Went, Over}
 use Rattle.ceal_theory.proofs.Course.{turn-course-law}
 use Rattle.ceal_theory.proofs.FlatTake.{first-flat, followed-nothing}
-use Rattle.ceal_theory.proofs.SliceLaws.{slice-law, slices-law, start-law, is-done-law, turn-law, turns-law, turns-over-law}
+use Rattle.ceal_theory.proofs.SliceLaws.{begin-law, slice-law, slices-law, start-law, is-done-law, turn-law, turns-law, turns-over-law}
 use Rattle.ceal_theory.specs.Course.{TurnCourse}
 use Rattle.ceal_theory.specs.Levels.{first, levels, skipped, after_item}
-use Rattle.ceal_theory.specs.Repair.{own}
+use Rattle.ceal_theory.proofs.Inputs.{fits-more}
+use Rattle.ceal_theory.specs.Laws.{Edited}
+use Rattle.ceal_theory.specs.Repair.{own, resumed}
 use Rattle.ceal_theory.specs.SliceLaws.{FirstStale, Turned, TurnedOver, Turns, unit_alone}
-use Rattle.ceal_theory.specs.Slices.{Repair, Part, Runs, Slices, sliced, repair_at, goes_on, with_inputs, starting, Sound, is_done}
-use Rattle.ceal_theory.specs.Turns.{Machine}
+use Rattle.ceal_theory.specs.Slices.{Repair, Part, Runs, Slices, sliced, repair_at, goes_on, beginning, with_inputs, starting, Sound, is_done}
+use Rattle.ceal_theory.specs.Turns.{Machine, Running, Bottom, Leads}
 use Rattle.ceal_theory.proofs.Walk.{agrees-front}
 use Rattle.ceal_theory.specs.Walk.{store_after, AgreesAll}
 
@@ -53,6 +61,58 @@ skipped-inside inside back = skipped-flat 0 inside (End ∷ back)
 inside-first : (inside : Trace) (back : List Item) → first (levels (flat inside ++ End ∷ back)) ≡ inside
 inside-first inside back = first-flat inside (End ∷ back) ∙ followed-nothing inside
 
+-- the machine of the read's unit
+begins-by : (code : Code) (inputs : List Block) (r : Repair) (front : List Item) (p : Place) (u : UnitId) (v : ℕ) (args : List Word) (inside : Trace) (back after : List Item) (content : Word) (s : Store) (x : Plain) (next spent : ℕ)
+    → x ≡ with_inputs code inputs r.known → s ≡ store_after code (starting code inputs r.known) front → next ≡ r.number → spent ≡ r.spent
+    → content ≡ store_after code (starting code inputs r.known) front p → after ≡ flat inside ++ End ∷ back
+    → record {
+      state = record { store = s; plain = x; number = next; work = spent };
+      mode = Running (resumed code u v args content) (first (levels after));
+      frames = Bottom;
+    }
+    ≡ unit_alone code inputs r front p u v args inside
+begins-by code inputs r front p u v args inside back after content s x next spent a b c d e h = rw (e, a, b, c, d, h, inside-first inside back) refl
+
+-- the items after a turn
+spliced-by : (front : List Item) (p : Place) (u : UnitId) (v : ℕ) (args : List Word) (c d : Word) (out after : List Item) (inside : Trace) (back : List Item) → c ≡ d → after ≡ flat inside ++ End ∷ back
+    → front ++ Read p c u v args ∷ (out ++ End ∷ skipped 1 after) ≡ front ++ Read p d u v args ∷ (out ++ End ∷ back)
+spliced-by front p u v args c d out after inside back e h = rw (e, h, skipped-inside inside back) refl
+
+-- what agrees, and what is stale, where the walk begins the same
+pub agrees-there : (code now : Code) (s t : Store) (is js : List Item) → now ≡ code → t ≡ s → is ≡ js → AgreesAll now t is → AgreesAll code s js
+agrees-there code now s t is js e k l h = rw (e, k, l) at h
+
+pub stale-there : (code now : Code) (s t : Store) (is js : List Item) (x : Stale) → now ≡ code → t ≡ s → is ≡ js → IsStale now t is x → IsStale code s js x
+stale-there code now s t is js x e k l h = rw (e, k, l) at h
+
+-- no block of a trace that may be edited has a number from the next one on
+none-above : (code : Code) (old inputs : List Block) (f : ℕ) (args : List Word) (l : Trace) (next : ℕ) → Edited code old inputs f args l next → Sound code own inputs f args (beginning code inputs l next)
+none-above code old inputs f args l next e = begin-law code own old inputs f args l next next e (λ j k h. h) e.above
+
+-- a repair that begins
+module _ (code : Code) (inputs : List Block) (l : Trace) (next : ℕ) (q : RepairInCode) (items : q.forest ≡ flat l) (is_next : q.next ≡ next) (spent : q.spent ≡ 0) (x : Plain) (plain : x ≡ plain_of code inputs l)
+    (below : (b : ℕ) → b < next → knowing nothing q.known (Core b) ≡ x (Core b)) (others : (b : ℕ) → next ≤ b → knowing nothing q.known (Core b) ≡ None) where
+  module _ (old : List Block) (f : ℕ) (args : List Word) (e : Edited code old inputs f args l next) where
+    begun-known : (b : ℕ) → (b ≡ next) ⊎ ((b < next) ⊎ (next < b)) → knowing nothing q.known (Core b) ≡ plain_of code inputs l (Core b)
+    begun-known b (inl k) = others b (omega (arith, k)) ∙ sym ((none-above code old inputs f args l next e).free b (omega (arith, k)))
+    begun-known b (inr (inl k)) = below b k ∙ ap (λ p. p (Core b)) plain
+    begun-known b (inr (inr k)) = others b (omega (arith, k)) ∙ sym ((none-above code old inputs f args l next e).free b (omega (arith, k)))
+
+    begun-stands : StandsFor q (beginning code inputs l next)
+    begun-stands = record { items = items; known = λ b. begun-known b (cases_order b next); next = is_next; spent = spent }
+
+    pub begun-holds : HoldsFor code inputs f args q
+    begun-holds = record {
+      fits = fits-more code old inputs e.extended f args e.call e.fit;
+      repair = beginning code inputs l next;
+      stands = begun-stands;
+      sound = none-above code old inputs f args l next e;
+    }
+
+  pub begun-for : (old : List Block) (f : ℕ) (args : List Word) (m : Trace) → flat l ≡ flat m → Edited code old inputs f args m next → StandsFor q (beginning code inputs l next)
+  begun-for old f args m e edited =
+      begun-stands old f args (subst (λ l. Edited code old inputs f args l next) (some-same m l (sym (trace-flat m) ∙ (ap trace_of (sym e) ∙ trace-flat l))) edited)
+
 module _ (code : Code) (inputs : List Block) (f : ℕ) (args : List Word) (fits : Fits code inputs f args) (fuel : ℕ) (r : Repair) (sound : Sound code own inputs f args r) where
   -- one turn
   module _ (q : RepairInCode) (stands : StandsFor q r) (m : TraceMemory) (x : Stale) (there : IsAt code inputs r m x) where
@@ -63,9 +123,11 @@ module _ (code : Code) (inputs : List Block) (f : ℕ) (args : List Word) (fits 
     split = there.stale.split ∙ ap (λ is. x.front.now ++ Read x.closure.place there.stale.value x.closure.unit x.closure.var x.closure.args ∷ is) first_read.items
 
     begins : alone code (state_of m q) x ≡ unit_alone code inputs r x.front.now x.closure.place x.closure.unit x.closure.var x.closure.args first_read.inside
-    begins = rw (there.plain, there.store, stands.next, stands.spent, there.stale.content, first_read.items, inside-first first_read.inside first_read.back) refl
+    begins =
+        begins-by code inputs r x.front.now x.closure.place x.closure.unit x.closure.var x.closure.args first_read.inside first_read.back x.after.now x.content (store_in m) (plain_in m) q.next q.spent
+        there.plain there.store stands.next stands.spent there.stale.content first_read.items
 
-    course : (machine : Machine) (out : List Item) → Rattle.ceal_theory.specs.Turns.Leads code own (alone code (state_of m q) x) machine out
+    course : (machine : Machine) (out : List Item) → Leads code own (alone code (state_of m q) x) machine out
         → TurnCourse code own inputs r x.front.now x.closure.place x.closure.unit x.closure.var x.closure.args first_read.inside first_read.back machine out
     course machine out leads =
         turn-course-law code own inputs r x.front.now x.closure.place there.stale.value x.closure.unit x.closure.var x.closure.args first_read.inside first_read.back split there.stale.agrees there.stale.stale
@@ -101,7 +163,9 @@ module _ (code : Code) (inputs : List Block) (f : ℕ) (args : List Word) (fits 
           z,
           end.1,
           record {
-            items = rw (e, there.stale.content, first_read.items, skipped-inside first_read.inside first_read.back) (sym end.2);
+            items = ap (λ k. k.forest) e
+                ∙ (spliced-by x.front.now x.closure.place x.closure.unit x.closure.var x.closure.args x.content (store_after code (starting code inputs r.known) x.front.now x.closure.place) ran.inside.items x.after.now
+                first_read.inside first_read.back there.stale.content first_read.items ∙ sym end.2);
             known = rw e (known-all ran h end.0 later.sound);
             next = rw e (sym h.number);
             spent = rw e (sym h.work);
