@@ -1,5 +1,5 @@
 -- The items in front of a place, one by one.
-use Rattle.std.proofs.Common.{◌≡◌, ℕ, zero, suc, ◌+◌, Some, List, [], ◌∷◌, ◌++◌, take, drop, slice_get, refl, sym, ap, ◌∙◌, subst, arith}
+use Rattle.std.proofs.Common.{◌≡◌, ℕ, zero, suc, ◌+◌, Some, List, [], ◌∷◌, ◌++◌, ◌≤◌, length, take, drop, slice_get, refl, sym, ap, ◌∙◌, subst, arith}
 use Rattle.ceal_base.specs.declared.forest.Item.{Item}
 use Rattle.ceal_base.specs.declared.forest.Item.TheVariants.{Step, Alloc, Write, Read, End}
 use Rattle.ceal_code.proofs.Same.{some-same, none-some}
@@ -35,3 +35,15 @@ module _ (code now : Code) (s t u : Store) (is : List Item) (n : ℕ) (i : Item)
 
   pub front-agrees : AgreesAll code s (take n is) → Agrees t i → AgreesAll code s (take (n + 1) is)
   front-agrees h a = rw (take-next is n i at) (agrees-append code s (take n is) (i ∷ []) h (rw there at a, tt))
+
+-- where the levels or the items are over, the rest is what is there
+pub skipped-empty : (n : ℕ) (is : List Item) → length is ≡ 0 → skipped n is ≡ is
+unfolding skipped
+skipped-empty zero [] e = refl
+skipped-empty (suc n) [] e = refl
+skipped-empty n (i ∷ is) e = absurd cc
+
+pub skipped-none : (n : ℕ) (is : List Item) → n ≤ 0 → skipped n is ≡ is
+unfolding skipped
+skipped-none zero is e = refl
+skipped-none (suc n) is e = absurd (omega (arith, e))

@@ -19,9 +19,10 @@ use Rattle.ceal_code.specs.Value.{Plain}
 use Rattle.ceal_code.specs.Tables.{plain_in, store_in}
 use Rattle.ceal_code.specs.declared.trace_memory.TraceMemory.{TraceMemory}
 use Rattle.ceal_adjust.specs.Alone.{alone, state_of, IsRan, IsAt}
-use Rattle.ceal_adjust.specs.Answers.{HasEnded, IsBeyond}
+use Rattle.ceal_adjust.specs.Answers.{HasEnded, EndsAt, IsBeyond}
 use Rattle.ceal_adjust.specs.KnownBlocks.{nothing, knowing}
 use Rattle.ceal_adjust.specs.Slicing.{StandsFor, HoldsFor, IsStale, IsTurn, IsSliceOf, Comes, IsConcluded, IfGiven}
+use Rattle.ceal_adjust.specs.declared.complete.Limit.{Limit}
 use Rattle.ceal_adjust.specs.declared.complete.Limit.TheVariants.{Work}
 use Rattle.ceal_adjust.specs.declared.slices.Repair.{Repair as RepairInCode}
 use Rattle.ceal_adjust.specs.declared.slices.Sliced.{Sliced}
@@ -36,7 +37,7 @@ use Rattle.ceal_theory.specs.Course.{TurnCourse}
 use Rattle.ceal_theory.specs.Levels.{first, levels, skipped, after_item}
 use Rattle.ceal_theory.proofs.Inputs.{fits-more}
 use Rattle.ceal_theory.specs.Laws.{Edited}
-use Rattle.ceal_theory.specs.Repair.{own, resumed}
+use Rattle.ceal_theory.specs.Repair.{State, own, resumed}
 use Rattle.ceal_theory.specs.SliceLaws.{FirstStale, Turned, TurnedOver, Turns, unit_alone}
 use Rattle.ceal_theory.specs.Slices.{Repair, Part, Runs, Slices, sliced, repair_at, goes_on, beginning, with_inputs, starting, Sound, is_done}
 use Rattle.ceal_theory.specs.Turns.{Machine, Running, Bottom, Leads}
@@ -84,6 +85,24 @@ agrees-there code now s t is js e k l h = rw (e, k, l) at h
 
 pub stale-there : (code now : Code) (s t : Store) (is js : List Item) (x : Stale) → now ≡ code → t ≡ s → is ≡ js → IsStale now t is x → IsStale code s js x
 stale-there code now s t is js x e k l h = rw (e, k, l) at h
+
+-- the same machine
+pub beyond-there : (code now : Code) (limit : Limit) (m start : Machine) → now ≡ code → m ≡ start → IsBeyond now limit m → IsBeyond code limit start
+beyond-there code now limit m start e k h = subst (λ n. IsBeyond code limit n) k (subst (λ c. IsBeyond c limit m) e h)
+
+pub ends-there : (code now : Code) (limit : Limit) (m start : Machine) (out : List Item) (s : State) → now ≡ code → m ≡ start → EndsAt now limit m out s → EndsAt code limit start out s
+ends-there code now limit m start out s e k h = subst (λ n. EndsAt code limit n out s) k (subst (λ c. EndsAt c limit m out s) e h)
+
+-- what the unit has come to
+pub is-ran : (code : Code) (fuel : ℕ) (start : Machine) (s : State) (ran : Ran) → EndsAt code (Work fuel) start ran.inside.items s → ran.next ≡ s.number → ran.spent ≡ s.work
+    → ((b : ℕ) → b < ran.next → knowing nothing ran.known (Core b) ≡ s.plain (Core b)) → ((b : ℕ) → ran.next ≤ b → knowing nothing ran.known (Core b) ≡ None) → IsRan code fuel start ran
+is-ran code fuel start s ran e n k below others = record {
+  ended = e.ended;
+  number = ap (λ t. t.number) e.state ∙ sym n;
+  work = ap (λ t. t.work) e.state ∙ sym k;
+  below = λ b l. below b l ∙ ap (λ t. t.plain (Core b)) (sym e.state);
+  others = others;
+}
 
 -- no block of a trace that may be edited has a number from the next one on
 none-above : (code : Code) (old inputs : List Block) (f : ℕ) (args : List Word) (l : Trace) (next : ℕ) → Edited code old inputs f args l next → Sound code own inputs f args (beginning code inputs l next)
@@ -158,8 +177,7 @@ module _ (code : Code) (inputs : List Block) (f : ℕ) (args : List Word) (fits 
     is-gone ran h p e =
         let end = (course h.ended.machine ran.inside.items h.ended.leads).ended h.ended.ended in
         let z : Repair = repair_at h.ended.machine.state end.0 in
-        let later = slice-law code own inputs f args fits r sound (Some 1) z end.1 in
-        (
+        let later = slice-law code own inputs f args fits r sound (Some 1) z end.1 in (
           z,
           end.1,
           record {
@@ -184,6 +202,19 @@ pub record Reached (code : Code) (inputs : List Block) (f : ℕ) (args : List Wo
 abbrev pub Within : Option ℕ → ℕ → Type 0
 Within None n = ⊤
 Within (Some k) n = n ≤ k
+
+pub within-zero : (o : Option ℕ) → Within o 0
+within-zero None = tt
+within-zero (Some k) = omega arith
+
+pub within-more : (o : Option ℕ) (n : ℕ) → Within o n → ¬ (o ≡ Some n) → Within o (n + 1)
+within-more None n h d = tt
+within-more (Some k) n h d = of (cases_order n k)
+  where
+    of : (n ≡ k) ⊎ ((n < k) ⊎ (k < n)) → n + 1 ≤ k
+    of (inl e) = absurd (d (ap Some (sym e)))
+    of (inr (inl l)) = omega (arith, l)
+    of (inr (inr g)) = absurd (omega (arith, g, h))
 
 one-more : {code : Code} {inputs : List Block} {n : ℕ} {r z z' : Repair} → Turns code own inputs n r z → Slices code own inputs (Some 1) z z' → Turns code own inputs (suc n) r z'
 one-more Turns.none s = Turns.turn s Turns.none

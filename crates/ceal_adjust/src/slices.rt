@@ -71,12 +71,7 @@ pub fn begin_repair(
 }
 
 /// Whether no read is stale.
-fn is_honest(
-    alloc: Global,
-    code: &Code,
-    repair: &Repair,
-    inputs: &Inputs,
-) -> Result<bool, NoMemory>
+fn is_honest(alloc: Global, code: &Code, repair: &Repair, inputs: &Inputs) -> Result<bool, NoMemory>
     ensures { IfOk result (λ honest. (r : AnyRepair) (f : ℕ) (args : List AnyWord)
         → Fits code.now inputs.now f args → StandsFor repair.now r
         → Sound code.now own inputs.now f args r

@@ -170,7 +170,13 @@ fn put_back(alloc: Global, stale: Stale<'_>, ran: Ran) -> Result<Repair, NoMemor
         spent,
     } = ran;
     let back = behind_end(after)?;
-    let forest = spliced(alloc, front, read_item(closure, content), inside.as_slice(), back)?;
+    let forest = spliced(
+        alloc,
+        front,
+        read_item(closure, content),
+        inside.as_slice(),
+        back,
+    )?;
     Ok(Repair {
         forest,
         known,

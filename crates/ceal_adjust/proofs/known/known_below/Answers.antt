@@ -8,8 +8,8 @@ loop-number-init c = below-zero (plain_in c.args.memory.now) c.empty-known.resul
 
 pub loop-number-preserved : goal.loop-number-preserved
 loop-number-preserved c = elim c.match-branch-2.branch [
-  in-Some+in_ok-push w ↦ rw (w.known-is, w.in_ok-push.ensures)
+  | in-Some+in_ok-push w ↦ rw (w.known-is, w.in_ok-push.ensures)
       (below-some (plain_in c.args.memory.now) c.loop-number.number c.loop-number.known w.in-Some.block c.loop-number.invariant (rw w.in-Some.is at c.in_ok-block.ensures))
   | in_default w ↦ rw w.known-is
       (below-none (plain_in c.args.memory.now) c.loop-number.number c.loop-number.known c.loop-number.invariant (rw w.in_default.is at c.in_ok-block.ensures))
-  ]
+]
