@@ -16,13 +16,17 @@ use Rattle.ceal_theory.proofs.FromScratch.{scratch-first}
 use Rattle.ceal_theory.proofs.Functions.{first-found, adjusted-found, adjusted-sound}
 use Rattle.ceal_theory.proofs.Honesty.{fix-work}
 use Rattle.ceal_theory.proofs.Inputs.{fits-more}
-use Rattle.ceal_theory.proofs.Turns.{at, turn-kept, turn-ahead, finishes-fix, finishes-anew}
+use Rattle.ceal_theory.proofs.Course.{work-law}
+use Rattle.ceal_theory.proofs.MachineLaws.{leads-stays, leads-then, leads-turn}
+use Rattle.ceal_theory.proofs.Turns.{at, turn-kept, finishes-fix, finishes-anew}
 use Rattle.ceal_theory.specs.Adjust.{Adjusts, Firsts}
-use Rattle.ceal_adjust.specs.Answers.{Comes, Completes, Exceeds, Answered, IsRepair, IsAnswer}
+use Rattle.ceal_adjust.specs.Answers.{Exceeds, Keeps, EndsAt, IsBeyond, Completes, RunsOut, Answered, IsRepair, IsAnswer}
+use Rattle.ceal_adjust.specs.declared.complete.Limit.{Limit}
+use Rattle.ceal_adjust.specs.declared.complete.Limit.TheVariants.{Written}
 use Rattle.ceal_theory.specs.Computed.{adjusted, first_of}
 use Rattle.ceal_theory.specs.Laws.{Edited}
 use Rattle.ceal_theory.specs.Repair.{State, own, begins}
-use Rattle.ceal_theory.specs.Turns.{Machine, Turn, Fixing, Running, Bottom, Ended, Went, turn, Resumes, Finishes, Goes}
+use Rattle.ceal_theory.specs.Turns.{Machine, Turn, Fixing, Running, Bottom, Ended, Went, turn, Resumes, Finishes, Leads}
 use Rattle.ceal_adjust.specs.declared.adjust.Adjusted.{Adjusted}
 use Rattle.ceal_adjust.specs.declared.adjust.Adjusted.TheVariants.{Done, OutOfFuel}
 
@@ -30,44 +34,39 @@ use Rattle.ceal_adjust.specs.declared.adjust.Adjusted.TheVariants.{Done, OutOfFu
 pub turned : (code now : Code) (m : Machine) (t : Turn) → now ≡ code → turn now own m ≡ t → turn code own m ≡ t
 turned code now m t e h = subst (λ k. turn k own m ≡ t) e h
 
-module _ (code : Code) (fuel : ℕ) where
-  -- after one turn more
-  pub comes-more : (start m m' : Machine) (out written : List Item) (steps more : ℕ) → Comes code fuel start m out steps
-      → turn code own m ≡ Went written m' → more ≡ steps_in written → steps + more ≤ fuel → Comes code fuel start m' (out ++ written) (steps + more)
-  comes-more start m m' out written steps more c e k l = record {
-    back = λ s' rest h. rw (append_assoc out written rest) (c.back s' (written ++ rest) (kept s' rest h));
-    ahead = λ s' items h. after s' items (c.ahead s' items h);
-    counted = rw (steps_in-append out written) (omega (arith, c.counted, k));
-    within = l;
-  }
-    where
-      kept : (s' : State) (rest : List Item) → Finishes code own m' s' rest → Finishes code own m s' (written ++ rest)
-      kept = rw e at (turn-kept code own m)
+-- after one turn more
+pub leads-more : (code : Code) (start m m' : Machine) (out written : List Item) → Leads code own start m out → turn code own m ≡ Went written m' → Leads code own start m' (out ++ written)
+leads-more code start m m' out written h e = leads-then code own start m m' out written h (leads-turn code own m m' written e)
 
-      after : (s' : State) (items : List Item) → Goes code own m s' out items → Goes code own m' s' (out ++ written) items
-      after s' items g =
-          let a : Goes code own m' s' written g.rest = rw e at (turn-ahead code own g.finishes) in
-          record { rest = a.rest; same = g.same ∙ (ap (λ r. out ++ r) a.same ∙ sym (append_assoc out written a.rest)); finishes = a.finishes }
+-- where it is beyond the limit
+pub is-beyond : (code : Code) (limit : Limit) (start m : Machine) (out : List Item) (steps work : ℕ) → Leads code own start m out → steps ≡ steps_in out → m.state.work ≡ work → Exceeds limit steps work → IsBeyond code limit start
+is-beyond code limit start m out steps work h e k l = record {
+  machine = m;
+  out = out;
+  leads = h;
+  beyond = subst (λ n. Exceeds limit n m.state.work) e (subst (λ w. Exceeds limit steps w) (sym k) l);
+}
 
-  -- where the machine has ended
-  pub comes-done : (start m : Machine) (out : List Item) (steps work : ℕ) → Comes code fuel start m out steps
-      → turn code own m ≡ Ended → m.state.work ≡ work → Completes code fuel start out work
-  comes-done start m out steps work c e k = record {
-    after = m.state;
-    finishes = rw (append-nil out) at (c.back m.state [] (rw e at (turn-kept code own m)));
-    counted = k;
-    within = omega (arith, c.counted, c.within);
-  }
+-- where it has ended, within the limit
+pub ends-at : (code : Code) (limit : Limit) (start m : Machine) (out : List Item) (steps work : ℕ) (s : State) → Leads code own start m out → steps ≡ steps_in out → m.state.work ≡ work → Keeps limit steps work
+    → turn code own m ≡ Ended → m.state ≡ s → EndsAt code limit start out s
+ends-at code limit start m out steps work s h e k l t n = record {
+  ended = record { machine = m; leads = h; ended = t; within = subst (λ n. Keeps limit n m.state.work) e (subst (λ w. Keeps limit steps w) (sym k) l) };
+  state = n;
+}
 
-  -- where it writes more steps than the fuel allows
-  pub comes-out : (start m m' : Machine) (out written : List Item) (steps more : ℕ) → Comes code fuel start m out steps
-      → turn code own m ≡ Went written m' → more ≡ steps_in written → fuel < steps + more → Exceeds code fuel start
-  comes-out start m m' out written steps more c e k l s' items h =
-      let g = c.ahead s' items h in
-      let a : Goes code own m' s' written g.rest = rw e at (turn-ahead code own g.finishes) in
-      let n : steps_in items ≡ steps_in out + (steps_in written + steps_in a.rest) =
-      ap steps_in g.same ∙ (steps_in-append out g.rest ∙ ap (λ r. steps_in out + r) (ap steps_in a.same ∙ steps_in-append written a.rest)) in
-      omega (arith, n, k, l, c.counted)
+-- where the machine has ended, within the fuel
+pub has-completed : (code : Code) (fuel : ℕ) (start : Machine) (out : List Item) (s : State) (work : ℕ) → EndsAt code (Written fuel) start out s → work ≡ s.work → Completes code fuel start out work
+has-completed code fuel start out s work e k = record {
+  after = e.ended.machine.state;
+  finishes = rw (append-nil out) at (e.ended.leads.back e.ended.machine.state [] (rw e.ended.ended at (turn-kept code own e.ended.machine)));
+  counted = ap (λ t. t.work) e.state ∙ sym k;
+  within = e.ended.within;
+}
+
+-- where it has written more steps than the fuel allows
+pub has-run-out : (code : Code) (fuel : ℕ) (start : Machine) → IsBeyond code (Written fuel) start → RunsOut code fuel start
+has-run-out code fuel start b s' items h = omega (arith, (work-law code own start b.machine b.out b.leads s' items h).1, b.beyond)
 
 -- the machine at the beginning of a first trace
 abbrev pub begin : Code → List Block → ℕ → List Word → Machine
@@ -90,7 +89,7 @@ module _ (code : Code) (inputs : List Block) (f : ℕ) (args : List Word) (fits 
       let d = first-run code inputs f args fits r.items work firsts in
       record { items = r.items; flat_form = r.same; same = found; finished = _; ends = d.ends fuel (omega (arith, few, steps)) }
 
-  pub first-out : Exceeds code fuel (begin code inputs f args) → fresh code f args inputs fuel ≡ None
+  pub first-out : RunsOut code fuel (begin code inputs f args) → fresh code f args inputs fuel ≡ None
   first-out h = go (fresh code f args inputs fuel) refl
     where
       go : (o : Option Finished) → fresh code f args inputs fuel ≡ o → o ≡ None
@@ -115,7 +114,7 @@ module _ (code : Code) (old new : List Block) (f : ℕ) (args : List Word) (l : 
       let q = ended code old new f args e.call e.fit e.extended l e.trace number e.above fuel (record { items = r.items; work = work }) found steps in
       record { items = r.items; flat_form = r.same; same = found; finished = q.0; ends = q.1 }
 
-  pub adjust-out : Exceeds code fuel (begin-fix code new l number) → fresh code f args new fuel ≡ None
+  pub adjust-out : RunsOut code fuel (begin-fix code new l number) → fresh code f args new fuel ≡ None
   adjust-out h = go (fresh code f args new fuel) refl
     where
       go : (o : Option Finished) → fresh code f args new fuel ≡ o → o ≡ None

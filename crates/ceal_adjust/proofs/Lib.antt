@@ -4,3 +4,6 @@ pub mod Spotting
 pub mod MachineSteps
 pub mod Completing
 pub mod Starting
+pub mod Knowing
+pub mod Fronts
+pub mod Sliced

@@ -17,7 +17,7 @@ use Rattle.ceal_code.specs.declared.stack.Stack.{Stack as CodeStack}
 use Rattle.ceal_theory.proofs.FlatTake.{loose-one, skipped-levels, take-found, take-found-read, found-beyond, found-beyond-read}
 use Rattle.ceal_theory.specs.Levels.{first, around, levels, loose, beyond, FoundAlloc, find_alloc, FoundRead, taken_alloc, taken_read}
 use Rattle.ceal_theory.specs.Repair.{State, own, clears, works, resumed}
-use Rattle.ceal_theory.specs.Turns.{Frames, Machine, Turn, Went, opened, making, reading, acting}
+use Rattle.ceal_theory.specs.Turns.{Frames, Bottom, Running as MachineRunning, Machine, Turn, Went, opened, making, reading, acting}
 use Rattle.ceal_adjust.specs.Closures.{find_closure}
 use Rattle.ceal_adjust.specs.Machines.{code_of, state_in, frames_in, after, left_over, machine_of, machine_in}
 use Rattle.ceal_adjust.specs.declared.frame.Frame.{Frame}
@@ -44,6 +44,14 @@ pub open-stale : (code : Code) (s : State) (fs : List Frame) (is : List Item) (s
     ≡ record { state = s; mode = opened code same c.unit c.var c.args now (first (levels is)); frames = frames_in (reverse fs) (around (levels is)) }
 unfolding machine_of
 open-stale code s fs is stack under same c now e l n = rw (e, resumed-in code stack under c now l n, loose-one (levels is)) refl
+
+-- the unit of a read by itself
+pub alone-begins : (code now : Code) (s : State) (is after : List Item) (stack under : CodeStack) (c : Closure) (content : Word) → now ≡ code
+    → stack_in stack ≡ entered now c.unit.0 (given now c.unit.0 c.var c.args content) (stack_in under) → stack_in under ≡ Empty → is ≡ after
+    → machine_of IsRunning s stack 1 [] is ≡ record { state = s; mode = MachineRunning (resumed code c.unit c.var c.args content) (first (levels after)); frames = Bottom }
+unfolding machine_of
+alone-begins code now s is after stack under c content k e l n =
+    rw (n, resumed-in code stack under c content (e ∙ ap (λ h. entered h c.unit.0 (given h c.unit.0 c.var c.args content) (stack_in under)) k) l, loose-one (levels after)) refl
 
 -- a block is taken
 pub make-taken : (code : Code) (s t : State) (fs : List Frame) (is : List Item) (n : ℕ) (key : Key) (v u i : ℕ) (env : Variables) (below : Stack)
@@ -119,3 +127,11 @@ machine-work IsRunning s stack n fs is = refl
 
 pub work-in : (r : Repair) (work : ℕ) → work ≡ (state_in r).work → (machine_in r).state.work ≡ work
 work-in r work e = machine-work r.mode (state_in r) r.stack r.levels r.frames.items (drop r.rest r.items) ∙ sym e
+
+machine-state : (mode : CodeMode) (s : State) (stack : CodeStack) (n : ℕ) (fs : List Frame) (is : List Item) → (machine_of mode s stack n fs is).state ≡ s
+unfolding machine_of
+machine-state IsFixing s stack n fs is = refl
+machine-state IsRunning s stack n fs is = refl
+
+pub state-is : (r : Repair) → (machine_in r).state ≡ state_in r
+state-is r = machine-state r.mode (state_in r) r.stack r.levels r.frames.items (drop r.rest r.items)

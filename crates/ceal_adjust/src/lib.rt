@@ -9,8 +9,12 @@
 pub mod adjust;
 mod complete;
 mod frame;
+pub mod known;
 mod mark;
 mod old;
 mod places;
 mod repair;
 mod search;
+pub mod slices;
+mod stale;
+mod turn;

@@ -65,7 +65,7 @@ fn one_more(n: u32) -> Result<u32, NoMemory>
 }
 
 /// The item of a read that finds this content.
-fn read_item(closure: Closure, value: Word) -> Item
+pub fn read_item(closure: Closure, value: Word) -> Item
     ensures { result ≡ ReadItem closure.place value closure.unit closure.var closure.args }
 {
     let Closure {
@@ -118,6 +118,54 @@ impl<'a> Repair<'a> {
         }
     }
 
+    /// The unit of a read by itself, after so many steps, with what is inside the read left over: the items up to the End
+    /// that closes it.
+    #[tactic(auto, using(crate::proofs::MachineSteps::frame_steps), unfolding(crate::specs::Machines::machine_of))]
+    pub fn alone(
+        memory: TraceMemory<'a>,
+        items: Old<'a>,
+        number: u32,
+        work: u32,
+        stack: Stack,
+    ) -> Repair<'a>
+        ensures code { code_of result ≡ code_in memory.entry }
+        ensures machine { machine_in result ≡ machine_of Mode.Running (record {
+          store = store_in memory.entry;
+          plain = plain_in memory.entry;
+          number = number;
+          work = work;
+        })
+            stack 1 [] items.entry }
+    {
+        let alloc = stack.allocator();
+        Repair {
+            alloc,
+            memory,
+            items,
+            rest: 0,
+            number,
+            work,
+            mode: Mode::Running,
+            stack,
+            levels: 1,
+            frames: Vec::new(alloc),
+        }
+    }
+
+    /// What is known, and the contents of modifiables.
+    pub fn memory(&self) -> &TraceMemory<'a>
+        ensures value { result.now ≡ self.now.memory }
+    {
+        &self.memory
+    }
+
+    /// The number of the next new block.
+    pub fn number(&self) -> u32
+        ensures value { result ≡ (state_in self.now).number }
+    {
+        self.number
+    }
+
     /// How many steps were run anew.
     pub fn work(&self) -> u32
         ensures value { result ≡ (state_in self.now).work }
@@ -131,6 +179,7 @@ impl<'a> Repair<'a> {
         ensures code { code_of self.new ≡ code_of self.old }
         ensures turn { turn_in result (machine_in self.new)
             ≡ closed (state_in self.old) (left_over self.old) (after self.old self.old.levels) }
+        ensures state { state_in self.new ≡ state_in self.old }
     {
         match self.frames.pop() {
             None => return Turn::Ended,
@@ -182,6 +231,8 @@ impl<'a> Repair<'a> {
         ensures code { OnOk result (code_of self.new ≡ code_of self.old) }
         ensures turn { IfOk result (λ t. turn (code_of self.old) own (machine_in self.old)
             ≡ turn_in t (machine_in self.new)) }
+        ensures still { IfOk result
+            (λ t. t ≡ Turn.Ended → state_in self.new ≡ state_in self.old) }
     {
         match self.mode {
             Mode::Fixing => self.propagate(),

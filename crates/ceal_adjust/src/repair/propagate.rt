@@ -22,6 +22,7 @@ impl<'a> Repair<'a> {
             (frames_in (reverse self.old.frames.items) (around (around (ahead self.old))))
             (WasRead closure.place value closure.unit closure.var closure.args
             (first (ahead self.old)) (first (around (ahead self.old))))) }
+        ensures goes { IfOk result (λ t. t ≡ Turn.Ended → ⊥) }
     {
         let now = self.memory.value(closure.place);
         self.frames.push(Frame::Fix)?;
@@ -39,6 +40,8 @@ impl<'a> Repair<'a> {
             (frames_in (reverse self.old.frames.items)
             (around (levels_of (item.now ∷ drop self.old.rest self.old.items))))
             (first (levels_of (item.now ∷ drop self.old.rest self.old.items)))) }
+        ensures still { IfOk result
+            (λ t. t ≡ Turn.Ended → state_in self.new ≡ state_in self.old) }
     {
         match item {
             Item::Step => Ok(Turn::Went {
@@ -84,6 +87,8 @@ impl<'a> Repair<'a> {
             (state_in self.old)
             (frames_in (reverse self.old.frames.items) (around (ahead self.old)))
             (first (ahead self.old))) }
+        ensures still { IfOk result
+            (λ t. t ≡ Turn.Ended → state_in self.new ≡ state_in self.old) }
     {
         match self.items.item(self.rest) {
             None => {

@@ -96,6 +96,7 @@ impl<'a> Repair<'a> {
             (state_in self.old) (after self.old self.old.levels) key var unit.unit unit.index
             (arguments unit.env.items) (stack_in self.old.stack) (left_over self.old)
             (taken_alloc (find_alloc key self.old.levels (drop self.old.rest self.old.items)))) }
+        ensures goes { IfOk result (λ t. t ≡ Turn.Ended → ⊥) }
     {
         match self.make_block(&key, var, unit) {
             Ok(block) => Ok(wrote(true, Item::Alloc { block, key })),
@@ -152,6 +153,7 @@ impl<'a> Repair<'a> {
             (stack_in self.old.stack) (left_over self.old)
             (taken_read
             (find_closure closure self.old.levels (drop self.old.rest self.old.items)))) }
+        ensures goes { IfOk result (λ t. t ≡ Turn.Ended → ⊥) }
     {
         match self.read_in(&closure) {
             Ok(now) => Ok(wrote(true, read_item(closure, now))),
@@ -171,6 +173,8 @@ impl<'a> Repair<'a> {
             (λ t. turn_in t (machine_in self.new) ≡ acting (code_of self.old) own
             (state_in self.old) (after self.old self.old.levels) (left_over self.old)
             (act_in act (stack_in self.old.stack))) }
+        ensures still { IfOk result
+            (λ t. t ≡ Turn.Ended → state_in self.new ≡ state_in self.old) }
     {
         match act {
             Act::Over => Ok(self.close()),

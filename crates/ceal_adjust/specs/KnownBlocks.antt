@@ -1,0 +1,32 @@
+-- Known core blocks, as the code keeps them.
+use Rattle.std.specs.Prelude.{◌≡◌, ℕ, Option, Some, None, List, [], ◌∷◌}
+use Rattle.ceal_base.specs.Block.{Block}
+use Rattle.ceal_base.specs.declared.word.BlockId.TheVariants.{Core}
+use Rattle.ceal_code.specs.Program.{Code}
+use Rattle.ceal_code.specs.Replay.{Store, learnt}
+use Rattle.ceal_code.specs.Tables.{defaulted}
+use Rattle.ceal_code.specs.Value.{Plain}
+
+-- a core block with its number
+pub record Numbered : Type 0 where
+  pub number : ℕ
+  pub block : Block
+
+-- no block is known
+abbrev pub nothing : Plain
+nothing b = None
+
+-- with these blocks
+unfoldable pub knowing : Plain → List Numbered → Plain
+knowing x [] = x
+knowing x (k ∷ ks) = knowing (learnt x (Core k.number) k.block) ks
+
+-- with their modifiables at their defaults
+unfoldable pub defaulting : Code → Store → List Numbered → Store
+defaulting code s [] = s
+defaulting code s (k ∷ ks) = defaulting code (defaulted code s (Core k.number) k.block) ks
+
+-- what is known of a number is this block, if there is one
+abbrev pub IsKnown : ℕ → Option Block → Option Numbered → Type 0
+IsKnown number o None = o ≡ None
+IsKnown number o (Some k) = (k.number ≡ number) × (o ≡ Some k.block)
