@@ -403,6 +403,19 @@ record FirstThere (code : Code) (s : Save) (l : Trace) : Type 0 where
   few : steps_of first.items ≤ s.fuel
   beside : Beside code s.kept.inputs s.kept.function s.kept.args (Traced (record { items = l; work = s.work })) (Traced first)
 
+record IsFirstTrace (code : Code) (s : Save) (a : Repaired) : Type 0 where
+  replays : Replays code s.kept.inputs s.kept.function s.kept.args a.items
+  honest : IsHonest code s.kept.inputs a.items
+
+first-trace : (code : Code) (s : Save) → Fits code s.kept.inputs s.kept.function s.kept.args → (a : Repaired)
+    → first_of code s.kept.inputs s.fuel s.kept.function s.kept.args ≡ Some a → IsFirstTrace code s a
+first-trace code s fits a e =
+    go (first_of code s.kept.inputs s.fuel s.kept.function s.kept.args) (fresh code s.kept.function s.kept.args s.kept.inputs s.fuel) e (first-law code s.kept.inputs s.kept.function s.kept.args fits s.fuel)
+  where
+    go : (o : Option Repaired) (p : Option Finished) → o ≡ Some a → FirstOutcome code s.kept.inputs s.kept.function s.kept.args o p → IsFirstTrace code s a
+    go _ _ i FirstOutcome.none = none-some a i
+    go _ _ i (FirstOutcome.some {a = b} t) = subst (IsFirstTrace code s) (some-same b a i) (record { replays = t.replays; honest = t.honest })
+
 first-there : (code : Code) (s : Save) → Fits code s.kept.inputs s.kept.function s.kept.args → (l : Trace) → Replays code s.kept.inputs s.kept.function s.kept.args l → IsHonest code s.kept.inputs l
     → steps_of l ≤ s.fuel → FirstThere code s l
 first-there code s fits l is honest few =
@@ -410,7 +423,7 @@ first-there code s fits l is honest few =
     let f = s.kept.function in
     let args = s.kept.args in
     let there = first-of code inputs f args l (record { fits = fits; replays = is; honest = honest }) s.fuel few in
-    let t = first-trace there.first there.is in
+    let t = first-trace code s fits there.first there.is in
     let bs = core_numbers (blocks_of l) in
     let cs = core_numbers (blocks_of there.first.items) in
     record {
@@ -421,19 +434,6 @@ first-there code s fits l is honest few =
       few = subst (λ n. n ≤ s.fuel) (sym there.steps) few;
       beside = Beside.traced (zipped bs cs) (zip-one bs cs is.distinct t.replays.distinct) (unique-law code inputs f args fits l there.first.items is t.replays honest t.honest).traces;
     }
-  where
-    record IsFirstTrace (a : Repaired) : Type 0 where
-      replays : Replays code s.kept.inputs s.kept.function s.kept.args a.items
-      honest : IsHonest code s.kept.inputs a.items
-
-    first-trace : (a : Repaired) → first_of code s.kept.inputs s.fuel s.kept.function s.kept.args ≡ Some a → IsFirstTrace a
-    first-trace a e = go (first_of code s.kept.inputs s.fuel s.kept.function s.kept.args) (fresh code s.kept.function s.kept.args s.kept.inputs s.fuel) e (first-law code s.kept.inputs s.kept.function s.kept.args fits s.fuel)
-      where
-        go : (o : Option Repaired) (p : Option Finished) → o ≡ Some a → FirstOutcome code s.kept.inputs s.kept.function s.kept.args o p → IsFirstTrace a
-        go _ _ i FirstOutcome.none = none-some a i
-        go _ _ i (FirstOutcome.some {a = b} t) =
-            let same : b ≡ a = some-same b a i in
-            subst IsFirstTrace same (record { replays = t.replays; honest = t.honest })
 
 pub stranger : FactsLaw → CallLaw → OneCommandLaw → OneAnswerLaw → AlikeLaw → StrangerLaw
 stranger facts calls command_law answer alike program s trace compiled h items lines =
