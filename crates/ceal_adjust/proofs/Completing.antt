@@ -1,11 +1,11 @@
 -- What a machine that is turned until it has ended, or has written more steps than the fuel allows, comes to.
-use Rattle.std.proofs.Common.{◌≡◌, ℕ, ◌+◌, ◌≤◌, ◌<◌, Option, Some, None, List, [], ◌++◌, append_assoc, append-nil, refl, sym, ap, subst, ◌∙◌, arith}
+use Rattle.std.proofs.Common.{◌≡◌, ℕ, ◌≤◌, Option, Some, None, List, [], ◌++◌, append-nil, refl, sym, ap, subst, ◌∙◌, arith}
 use Rattle.ceal_base.specs.Block.{Block}
 use Rattle.ceal_base.specs.Finished.{Finished}
 use Rattle.ceal_base.specs.Trace.{Trace, Nothing, flat, steps_in, steps_of}
 use Rattle.ceal_base.specs.declared.forest.Item.{Item}
 use Rattle.ceal_base.specs.declared.word.Word.{Word}
-use Rattle.ceal_base.proofs.TraceLemmas.{steps_in-append, steps-flat}
+use Rattle.ceal_base.proofs.TraceLemmas.{steps-flat}
 use Rattle.ceal_code.specs.Fitting.{Fits}
 use Rattle.ceal_code.specs.Fresh.{fresh}
 use Rattle.ceal_code.specs.Program.{Code}
@@ -17,7 +17,7 @@ use Rattle.ceal_theory.proofs.Functions.{first-found, adjusted-found, adjusted-s
 use Rattle.ceal_theory.proofs.Honesty.{fix-work}
 use Rattle.ceal_theory.proofs.Inputs.{fits-more}
 use Rattle.ceal_theory.proofs.Course.{work-law}
-use Rattle.ceal_theory.proofs.MachineLaws.{leads-stays, leads-then, leads-turn}
+use Rattle.ceal_theory.proofs.MachineLaws.{leads-then, leads-turn}
 use Rattle.ceal_theory.proofs.Turns.{at, turn-kept, finishes-fix, finishes-anew}
 use Rattle.ceal_theory.specs.Adjust.{Adjusts, Firsts}
 use Rattle.ceal_adjust.specs.Answers.{Exceeds, Keeps, EndsAt, IsBeyond, Completes, RunsOut, Answered, IsRepair, IsAnswer}

@@ -1,5 +1,5 @@
 -- The items in front of a place, one by one.
-use Rattle.std.proofs.Common.{◌≡◌, ℕ, zero, suc, ◌+◌, Some, List, [], ◌∷◌, ◌++◌, ◌≤◌, length, take, drop, slice_get, refl, sym, ap, ◌∙◌, subst, arith}
+use Rattle.std.proofs.Common.{◌≡◌, ℕ, zero, suc, ◌+◌, Some, List, [], ◌∷◌, ◌++◌, ◌≤◌, length, take, slice_get, refl, sym, ap, ◌∙◌, arith}
 use Rattle.ceal_base.specs.declared.forest.Item.{Item}
 use Rattle.ceal_base.specs.declared.forest.Item.TheVariants.{Step, Alloc, Write, Read, End}
 use Rattle.ceal_code.proofs.Same.{some-same, none-some}
@@ -14,11 +14,6 @@ pub take-next : (is : List Item) (n : ℕ) (i : Item) → slice_get is n ≡ Som
 take-next [] n i e = none-some i e
 take-next (j ∷ is) zero i e = ap (λ x. x ∷ []) (some-same j i e)
 take-next (j ∷ is) (suc n) i e = let k : suc n + 1 ≡ suc (n + 1) = omega arith in rw k (ap (λ xs. j ∷ xs) (take-next is n i e))
-
-pub parted-at : (is : List Item) (n : ℕ) (i : Item) → slice_get is n ≡ Some i → is ≡ take n is ++ i ∷ drop (n + 1) is
-parted-at [] n i e = none-some i e
-parted-at (j ∷ is) zero i e = ap (λ x. x ∷ is) (some-same j i e)
-parted-at (j ∷ is) (suc n) i e = let k : suc n + 1 ≡ suc (n + 1) = omega arith in rw k (ap (λ xs. j ∷ xs) (parted-at is n i e))
 
 -- the effect of one item
 one-stored : (code : Code) (s : Store) (i : Item) → store_flat code s (i ∷ []) ≡ store_after code s (i ∷ [])

@@ -1,20 +1,18 @@
 -- Known blocks one after another, and what a memory has that knows them.
-use Rattle.std.proofs.Common.{◌≡◌, ℕ, zero, suc, ◌+◌, ◌<◌, ◌≤◌, Bool, true, false, if◌then◌else◌, pos, Option, Some, None, List, [], ◌∷◌, ◌++◌, length, take, slice_get, refl, sym, ap, ◌∙◌, inl, inr, ◌⊎◌, arith}
+use Rattle.std.proofs.Common.{◌≡◌, ℕ, zero, suc, ◌+◌, ◌<◌, ◌≤◌, Bool, true, false, if◌then◌else◌, Option, Some, None, List, [], ◌∷◌, ◌++◌, length, take, slice_get, refl, sym, ap, ◌∙◌, inl, inr, ◌⊎◌, arith}
 use Rattle.std.proofs.Math.Path.{fun_ext}
 use Rattle.ceal_base.specs.Block.{Block}
 use Rattle.ceal_base.specs.Operators.{same_block}
-use Rattle.ceal_base.specs.declared.kind.Shape.{Shape}
-use Rattle.ceal_base.specs.declared.typed.StructInfo.{StructInfo}
 use Rattle.ceal_base.specs.declared.word.BlockId.{BlockId}
 use Rattle.ceal_base.specs.declared.word.BlockId.TheVariants.{Input, Core}
 use Rattle.ceal_base.specs.declared.word.Place.{Place}
 use Rattle.ceal_base.specs.declared.word.Word.{Word}
 use Rattle.ceal_code.proofs.Same.{some-same, none-some}
-use Rattle.ceal_code.specs.PlainWords.{block_shape, block_word}
+use Rattle.ceal_code.specs.PlainWords.{block_word}
 use Rattle.ceal_code.specs.Program.{Code}
-use Rattle.ceal_code.specs.Replay.{Store, learnt, input_plain, content_in, cell_default, bases}
+use Rattle.ceal_code.specs.Replay.{Store, learnt, input_plain, bases}
 use Rattle.ceal_code.specs.Tables.{defaulted}
-use Rattle.ceal_code.specs.Value.{Plain, field_kind}
+use Rattle.ceal_code.specs.Value.{Plain}
 use Rattle.ceal_adjust.specs.KnownBlocks.{Numbered, nothing, knowing, defaulting, IsKnown}
 use Rattle.std.proofs.lemmas.Bool.{cases_order}
 use Rattle.ceal_theory.specs.Slices.{with_inputs, default_in, starting}
@@ -124,16 +122,6 @@ words-more o n words w h e b k = rw (h b k) (take-more b.words n w (sym (e ∙ a
 
 pub words-end : (o : Option Block) (n : ℕ) (words : List Word) → UpTo o n words → None ≡ block_word o n → (b : Block) → o ≡ Some b → words ≡ b.words
 words-end o n words h e b k = h b k ∙ take-end b.words n (sym (e ∙ ap (λ o. block_word o n) k))
-
--- a block from its shape and its words
-pub block-is : (o : Option Block) (shape : Shape) (words : List Word) → Some shape ≡ block_shape o → ((b : Block) → o ≡ Some b → words ≡ b.words)
-    → o ≡ Some (record { shape = shape; words = words })
-block-is None shape words e h = none-some shape (sym e)
-block-is (Some block) shape words e h = rw (some-same shape block.shape e, h block refl) refl
-
-pub block-none : (o : Option Block) → None ≡ block_shape o → o ≡ None
-block-none None e = refl
-block-none (Some block) e = none-some block.shape e
 
 -- the known blocks below a number
 pub record Below (x : Plain) (n : ℕ) (ks : List Numbered) : Type 0 where

@@ -1,10 +1,10 @@
 -- Turns of a repair that goes on, and what slices come to by them.
-use Rattle.std.proofs.Common.{◌≡◌, ℕ, zero, suc, ◌+◌, ◌≤◌, ◌<◌, true, false, Bool, Option, Some, None, List, [], ◌∷◌, ◌++◌, append_assoc, inl, inr, ◌⊎◌, refl, sym, ap, subst, ◌∙◌, arith}
+use Rattle.std.proofs.Common.{◌≡◌, ℕ, zero, suc, ◌+◌, ◌≤◌, ◌<◌, true, false, Bool, Option, Some, None, List, ◌∷◌, ◌++◌, append_assoc, inl, inr, ◌⊎◌, refl, sym, ap, subst, ◌∙◌, arith}
 use Rattle.std.proofs.lemmas.Bool.{cases_order}
 use Rattle.std.specs.Bool.{⊤}
 use Rattle.ceal_base.specs.Block.{Block}
 use Rattle.ceal_base.proofs.TraceLemmas.{trace-flat}
-use Rattle.ceal_base.specs.Trace.{trace_of, Trace, Nothing, Stepped, Allocated, Wrote, WasRead, followed, flat}
+use Rattle.ceal_base.specs.Trace.{trace_of, Trace, Nothing, Stepped, Allocated, Wrote, WasRead, flat}
 use Rattle.ceal_base.specs.declared.forest.Item.{Item}
 use Rattle.ceal_base.specs.declared.forest.Item.TheVariants.{Read, End}
 use Rattle.ceal_base.specs.declared.forest.UnitId.{UnitId}
@@ -19,7 +19,7 @@ use Rattle.ceal_code.specs.Value.{Plain}
 use Rattle.ceal_code.specs.Tables.{plain_in, store_in}
 use Rattle.ceal_code.specs.declared.trace_memory.TraceMemory.{TraceMemory}
 use Rattle.ceal_adjust.specs.Alone.{alone, state_of, IsRan, IsAt}
-use Rattle.ceal_adjust.specs.Answers.{HasEnded, EndsAt, IsBeyond}
+use Rattle.ceal_adjust.specs.Answers.{EndsAt, IsBeyond}
 use Rattle.ceal_adjust.specs.KnownBlocks.{nothing, knowing}
 use Rattle.ceal_adjust.specs.Slicing.{StandsFor, HoldsFor, IsStale, IsTurn, IsSliceOf, Comes, IsConcluded, IfGiven}
 use Rattle.ceal_adjust.specs.declared.complete.Limit.{Limit}
@@ -29,16 +29,16 @@ use Rattle.ceal_adjust.specs.declared.slices.Sliced.{Sliced}
 use Rattle.ceal_adjust.specs.declared.slices.Sliced.TheVariants.{More, Done, Spent}
 use Rattle.ceal_adjust.specs.declared.stale.Stale.{Stale}
 use Rattle.ceal_adjust.specs.declared.turn.Ran.{Ran}
-use Rattle.ceal_adjust.specs.declared.turn.Turned.TheVariants.{Honest, Went, Over}
+use Rattle.ceal_adjust.specs.declared.turn.Turned.TheVariants.{Went, Over}
 use Rattle.ceal_theory.proofs.Course.{turn-course-law}
 use Rattle.ceal_theory.proofs.FlatTake.{first-flat, followed-nothing}
 use Rattle.ceal_theory.proofs.SliceLaws.{begin-law, slice-law, slices-law, start-law, is-done-law, turn-law, turns-law, turns-over-law}
 use Rattle.ceal_theory.specs.Course.{TurnCourse}
-use Rattle.ceal_theory.specs.Levels.{first, levels, skipped, after_item}
+use Rattle.ceal_theory.specs.Levels.{first, levels, skipped}
 use Rattle.ceal_theory.proofs.Inputs.{fits-more}
 use Rattle.ceal_theory.specs.Laws.{Edited}
 use Rattle.ceal_theory.specs.Repair.{State, own, resumed}
-use Rattle.ceal_theory.specs.SliceLaws.{FirstStale, Turned, TurnedOver, Turns, unit_alone}
+use Rattle.ceal_theory.specs.SliceLaws.{FirstStale, Turned, Turns, unit_alone}
 use Rattle.ceal_theory.specs.Slices.{Repair, Part, Runs, Slices, sliced, repair_at, goes_on, beginning, with_inputs, starting, Sound, is_done}
 use Rattle.ceal_theory.specs.Turns.{Machine, Running, Bottom, Leads}
 use Rattle.ceal_theory.proofs.Walk.{agrees-front}

@@ -20,7 +20,8 @@ use Rattle.ceal_theory.specs.Repair.{own}
 use Rattle.ceal_theory.specs.Slices.{Repair, Slices, sliced, Sound, is_done}
 use Rattle.ceal_theory.specs.Walk.{store_after, AgreesAll}
 
--- The repair in code is this one: the flat items, the plain words of the known core blocks, the next number, and the number spent.
+-- The repair in code is this one: the flat items, the plain words of the known core blocks, the next number, and the number
+-- spent.
 pub record StandsFor (q : RepairInCode) (r : Repair) : Type 0 where
   pub items : q.forest ≡ flat r.items
   pub known : (b : ℕ) → knowing nothing q.known (Core b) ≡ r.known (Core b)
@@ -35,7 +36,8 @@ pub record HoldsFor (code : Code) (inputs : List Block) (f : ℕ) (args : List W
   pub sound : Sound code own inputs f args repair
 
 -- the slice is there, is done or not, and is this repair
-pub record IsSliceOf (code : Code) (inputs : List Block) (reads : Option ℕ) (fuel : ℕ) (done : Bool) (r : Repair) (q : RepairInCode) : Type 0 where
+pub record IsSliceOf (code : Code) (inputs : List Block) (reads : Option ℕ) (fuel : ℕ) (done : Bool) (r : Repair)
+    (q : RepairInCode) : Type 0 where
   pub repair : Repair
   pub is : sliced code own inputs reads fuel r ≡ Some repair
   pub stands : StandsFor q repair

@@ -4,6 +4,9 @@
 //! `adjust` has the two calls, `first_forest` and `adjust`. Both turn one machine, a `repair` (`complete`): it walks the
 //! old flat items once, with a cursor that only moves on, and runs units anew by the stepper of `ceal_code`, over the
 //! memory of the trace. `search` finds what is taken by the tables of `old` (`mark`, `places`).
+//!
+//! `slices` has repair in slices, `begin_repair` and `slice_repair`: `turn` after `turn`, each of which runs the unit of the
+//! first read that is `stale` by itself, over the blocks that are `known`.
 #![tactic(auto)]
 
 pub mod adjust;

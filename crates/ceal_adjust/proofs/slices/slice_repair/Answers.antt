@@ -1,4 +1,3 @@
-use Rattle.std.proofs.Common.{◌≡◌, Some}
 use Rattle.ceal_adjust.proofs.MachineSteps.{if-acts}
 use Rattle.ceal_adjust.proofs.Sliced.{reached-first, reached-more, is-concluded, is-done, is-spent, given-holds, within-zero, within-more}
 use Rattle.ceal_adjust.specs.declared.slices.Sliced.TheVariants.{Done}
