@@ -379,16 +379,15 @@ module _ (facts : FactsLaw) (calls : CallLaw) (command_law : OneCommandLaw) (ans
           subst (λ c. IsText s (numbers_in (at code s q d)) (answered_line s (goes (past_in (at code s q d) c)) c).reply told) same k.reply in
           let t-is : t ≡ behind (at code s q d) r.command = k.next ∙ ap (behind (at code s q d)) same in
           let more = later (answered_line s (goes (past_in (at code s p b) r.command)) r.command).state (past_in (at code s p b) r.command) (past_in (at code s q d) r.command)
-          (bound_in (at code s p b) r.command) (bound_in (at code s q d) r.command) (near-left code s p q b d near line r.command r.reads) in
-          (
+          (bound_in (at code s p b) r.command) (bound_in (at code s q d) r.command) (near-left code s p q b d near line r.command r.reads) in (
             record {
               reply = λ h. replies code s p q b d near line r.command r.reads (h r.command r.reads) text told r.reply reply;
               numbers = λ c. (
-                let one : c.command ≡ r.command = command_law line c.command r.command c.reads r.reads in
-                let runs : call_in s r.command ≡ Ok c.call = subst (λ x. call_in s x ≡ Ok c.call) one c.runs in
-                let ends : goes (past_in (at code s p b) r.command) ≡ false = subst (λ (x : Situation). goes x.past ≡ false) r.next c.ends in
-                ap numbers_in r.next ∙ (numbers code s p q b d near line r.command r.reads c.call runs ends ∙ sym (ap numbers_in t-is))
-              );
+                  let one : c.command ≡ r.command = command_law line c.command r.command c.reads r.reads in
+                  let runs : call_in s r.command ≡ Ok c.call = subst (λ x. call_in s x ≡ Ok c.call) one c.runs in
+                  let ends : goes (past_in (at code s p b) r.command) ≡ false = subst (λ (x : Situation). goes x.past ≡ false) r.next c.ends in
+                  ap numbers_in r.next ∙ (numbers code s p q b d near line r.command r.reads c.call runs ends ∙ sym (ap numbers_in t-is))
+                  );
             },
             subst (λ (x : Situation). AreAlike x t lines) (sym r.next)
                 (subst (λ (x : Situation). AreAlike (behind (at code s p b) r.command) x lines) (sym (t-is ∙ behind-is code s p q b d near line r.command r.reads)) more),

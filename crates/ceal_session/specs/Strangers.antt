@@ -55,7 +55,7 @@ AreAlike m n [] = AreOne m n
 AreAlike m n (line ∷ lines) =
     AreOne m n
     × ((text other : List ℕ) (o p : Situation) → Replies m line text o → Replies n line other p
-        → LineAlike m n line text other o p × AreAlike o p lines)
+    → LineAlike m n line text other o p × AreAlike o p lines)
 
 -- Of a save that holds nothing but its work and its bound is believed, and these until the next completed run or repair:
 -- all other replies are those of a session that has the first trace of the call, and from then on all are.

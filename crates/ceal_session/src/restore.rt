@@ -168,12 +168,7 @@ fn engine_of(alloc: Global, code: Code, saved: &Saved) -> Result<Engine, NoMemor
 }
 
 /// The state that goes on from a save that holds.
-fn resume(
-    alloc: Global,
-    program: Program,
-    names: Names,
-    saved: &Saved,
-) -> Result<State, NoMemory>
+fn resume(alloc: Global, program: Program, names: Names, saved: &Saved) -> Result<State, NoMemory>
     requires compiled { IsCompiled program }
     requires names { names ≡ saved.now.names }
     requires holds { Holding program.code saved.now }

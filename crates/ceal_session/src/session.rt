@@ -216,11 +216,7 @@ impl Session {
     /// A session that goes on from a save, if it holds. The save may be any, from any maker: the checker goes over its
     /// record, and the call is run anew, so nothing but the numbers of `work` and `bound` is taken from it on trust. Both
     /// arguments are consumed on every path.
-    pub fn restore(
-        alloc: Global,
-        program: Program,
-        saved: Saved,
-    ) -> Result<Session, RestoreError>
+    pub fn restore(alloc: Global, program: Program, saved: Saved) -> Result<Session, RestoreError>
         requires compiled { IsCompiled program }
         ensures restored { IfOk result
             (λ session. IsResumed program saved (situation session)) }
