@@ -10,7 +10,7 @@ pub mod has_dump;
 mod items;
 pub mod laws;
 pub mod read;
-mod reader;
+pub mod reader;
 mod text;
 mod words;
 pub mod write;

@@ -97,6 +97,13 @@ impl<'a> Reader<'a> {
         self.rest.is_empty()
     }
 
+    /// The bytes that are left.
+    pub fn rest(&self) -> &'a [u8]
+        ensures value { result.now ≡ self.now }
+    {
+        self.rest
+    }
+
     /// The byte at the front, and 0 at the end.
     pub fn first(&self) -> u8
         ensures value { result ≡ first_byte self.now }

@@ -3,6 +3,7 @@ pub mod State
 pub mod Refusals
 pub mod Runs
 pub mod Senses
+pub mod Naming
 pub mod Steps
 pub mod Texts
 pub mod Works
@@ -12,8 +13,10 @@ pub mod Keeping
 pub mod Asking
 pub mod Standing
 pub mod Recording
+pub mod Saving
 pub mod Laws
 pub mod Entries
+pub mod Saves
 -- what its own functions say of each other
 pub mod Undoing
 pub mod Journal

@@ -13,6 +13,7 @@ use Rattle.ceal_theory.specs.Computed.{Repaired}
 use Rattle.ceal_theory.specs.Pasts.{Past, NoTrace, Traced, Going, SamePast}
 use Rattle.ceal_theory.specs.Repair.{own}
 use Rattle.ceal_theory.specs.Slices.{Repair, Sound}
+use Rattle.ceal_session.specs.Naming.{AreSpelled, AreDistinct, HaveKnownShapes}
 use Rattle.ceal_session.specs.State.{State, Situation, last}
 use Rattle.ceal_session.specs.Steps.{IsCall}
 
@@ -55,10 +56,14 @@ pub record HasTraceOf (m : Situation) (call : Call) (l : Repaired) : Type 0 wher
 abbrev pub HasTrace : Situation → Type 0
 HasTrace m = IfSome (last m) (λ l. (call : Call) × (m.state.call ≡ Some call) × HasTraceOf m call l)
 
--- The program has this code; each input has a name; the inputs fit, and so does the accepted call; the past is one of it.
+-- The program has this code; each input has a name of its own and a known shape; the inputs fit, and so does the accepted
+-- call; the past is one of it.
 pub record Stands (m : Situation) : Type 0 where
   pub compiled : IsCompiled (record { typed = m.state.program; code = m.code })
   pub named : length m.state.names ≡ length m.state.inputs
+  pub spelled : AreSpelled m.state.names
+  pub once : AreDistinct m.state.names
+  pub shapes : HaveKnownShapes m.state.program.structs m.state.inputs
   pub fits : inputs_fit m.state.program.structs m.state.inputs ≡ true
   pub settled : IsSettled m.code m.state
   pub called : IfSome m.state.call (IsCall m.state)

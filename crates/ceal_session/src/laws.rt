@@ -2,6 +2,7 @@
 
 ghost use Rattle.ceal_session.specs.Laws.{OneCommandLaw, OneAnswerLaw, OneReplyLaw, OneStateLaw, OneScriptLaw, JoinedLaw, BegunLaw, SomeReplyLaw, SomeScriptLaw, DroppedLaw, KeptLaw};
 ghost use Rattle.ceal_session.specs.Entries.{EntriesLaw, OneTextLaw};
+ghost use Rattle.ceal_session.specs.Saves.{AlikeLaw, HeldLaw, OneSavedLaw, ResumedLaw, SavedLaw};
 
 /// A law: a line is one command's at most, and has one reply by a state and its numbers; so it has one in a situation, and one
 /// situation behind it.
@@ -59,4 +60,35 @@ pub fn entries_law()
     ceal_show::laws::fitting_is_whole();
     ceal_show::laws::some_text();
     one_reply();
+}
+
+/// A law: situations that are the same up to the numbers of core blocks have the same replies, line by line.
+pub fn alike_law()
+    ensures law { AlikeLaw }
+{
+    one_reply();
+    some_reply();
+    kept_line();
+}
+
+/// A law: the save of a session is that of the situation that it is in, and a situation has one save at most.
+pub fn saved_law()
+    ensures law { SavedLaw }
+    ensures one { OneSavedLaw }
+{
+    ceal_record::laws::renamed_law();
+    ceal_record::laws::one_record_law();
+}
+
+/// A law: a save that holds has a trace, and its situation is one that a session comes to.
+pub fn held_law()
+    ensures law { HeldLaw }
+{}
+
+/// A law: what a session saves holds, and resumed it answers each script as the session would have answered it.
+pub fn resumed_law()
+    ensures law { ResumedLaw }
+{
+    alike_law();
+    held_law();
 }

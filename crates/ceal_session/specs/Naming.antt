@@ -1,0 +1,19 @@
+-- The names of inputs, and their shapes.
+use Rattle.std.specs.Prelude.{◌≡◌, ℕ, true, List, bytes_eq}
+use Rattle.std.specs.List.{AllByRecursion, IsDistinct, list_all}
+use Rattle.ceal_base.specs.Block.{Block}
+use Rattle.ceal_base.specs.declared.typed.StructInfo.{StructInfo}
+use Rattle.ceal_script.specs.Spelling.{IsName}
+use Rattle.ceal_traceck.specs.Verdicts.{has_known_shape}
+
+-- each of them is a name
+abbrev pub AreSpelled : List (List ℕ) → Type 0
+AreSpelled names = AllByRecursion IsName names
+
+-- none of them stands twice
+abbrev pub AreDistinct : List (List ℕ) → Type 0
+AreDistinct names = IsDistinct bytes_eq names
+
+-- the struct that a shape names, if it names one, is there
+abbrev pub HaveKnownShapes : List StructInfo → List Block → Type 0
+HaveKnownShapes structs inputs = list_all (has_known_shape structs) inputs ≡ true

@@ -1,0 +1,4 @@
+pub mod ReadBack
+pub mod Loops
+pub mod Joined
+pub mod Plain
