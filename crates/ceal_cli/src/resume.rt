@@ -25,6 +25,7 @@ use ceal_session::session::{RestoreError, Session};
 use ceal_snap::laws::one_save_law;
 use ceal_snap::read::{SaveError, read_save};
 use ceal_snap::saved::Saved;
+use ceal_types::seed::Seed;
 use std::alloc::Global;
 use std::mem::forget;
 
@@ -66,7 +67,7 @@ fn resumed(
     ensures unsound { IsErrOf result NotResumed.Unsound → IsUnsound program.code bytes.now }
 {
     match save_before(alloc, bytes, part) {
-        Ok(saved) => match Session::restore(alloc, program, saved) {
+        Ok(saved) => match Session::restore_seeded(alloc, program, saved, Seed::of_text(bytes)) {
             Ok(session) => Ok(session),
             Err(RestoreError::Memory) => Err(NotResumed::Memory),
             Err(RestoreError::Unsound) => Err(NotResumed::Unsound),

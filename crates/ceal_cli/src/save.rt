@@ -25,7 +25,7 @@ use ceal_dump::has_dump::has_room;
 use ceal_io::{Sink, Stopped, write_all};
 use ceal_lex::split::split;
 use ceal_record::laws::renamed_law;
-use ceal_session::laws::{kept_line, some_reply};
+use ceal_session::laws::{kept_line, saved_law, some_reply};
 use ceal_session::session::Session;
 use ceal_snap::saved::Saved;
 use ceal_snap::write::save_text;
@@ -112,6 +112,7 @@ pub fn save<K: Sink>(
     kept_line();
     some_reply();
     renamed_law();
+    saved_law();
     let part = split(input);
     match Session::seeded(alloc, program, fuel, Seed::of_text(input)) {
         Ok(session) => {
