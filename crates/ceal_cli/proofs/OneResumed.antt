@@ -16,7 +16,7 @@ use Rattle.ceal_cli.specs.Resumed.{Resumption, IsResumable, IsNotResumed, IsRepl
 use Rattle.ceal_cli.proofs.Programs.{SplitLaw}
 
 -- flat items are those of one trace
-one-trace : (l m : Trace) → flat l ≡ flat m → l ≡ m
+pub one-trace : (l m : Trace) → flat l ≡ flat m → l ≡ m
 one-trace l m e =
     let same : Some l ≡ Some m = sym (trace-flat l) ∙ (ap trace_of e ∙ trace-flat m) in
     cc same

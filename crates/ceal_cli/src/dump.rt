@@ -14,7 +14,7 @@ ghost use Rattle.ceal_cli.specs.Lines.{script_lines};
 ghost use Rattle.ceal_cli.specs.Output.{Begins};
 ghost use Rattle.ceal_cli.specs.declared.words.Mode.TheVariants.{Dump};
 
-use crate::carrying::carry_out_all;
+use crate::carry::carry_out_all;
 use crate::lines::script;
 use ceal_base::no_memory::NoMemory;
 use ceal_base::recorded::Record;

@@ -7,7 +7,7 @@ ghost use Rattle.ceal_cli.specs.Serving.{WritesFromRun, BeginsFromRun};
 ghost use Rattle.ceal_cli.specs.Lines.{script_lines};
 ghost use Rattle.ceal_cli.specs.Output.{IsRunLine};
 
-use crate::carrying::carry_out;
+use crate::carry::carry_out;
 use crate::lines::{cut_line, line};
 use crate::replies::reply_all;
 use ceal_io::{Sink, Stopped};

@@ -10,7 +10,7 @@
 #![tactic(auto)]
 
 mod answer;
-mod carrying;
+mod carry;
 mod command_line;
 mod dump;
 mod from_run;

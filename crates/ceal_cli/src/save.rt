@@ -16,7 +16,7 @@ ghost use Rattle.ceal_cli.specs.Output.{Begins};
 ghost use Rattle.ceal_cli.specs.Saves.{with_source};
 ghost use Rattle.ceal_cli.specs.declared.words.Mode.TheVariants.{Save};
 
-use crate::carrying::carry_out_all;
+use crate::carry::carry_out_all;
 use crate::lines::{script, source};
 use ceal_base::no_memory::NoMemory;
 use ceal_base::text::Text;
