@@ -1,10 +1,13 @@
 pub mod Accepted
 pub mod Asked
 pub mod Carrying
+pub mod Continued
 pub mod Dumping
 pub mod Found
 pub mod FromRun
 pub mod Growing
+pub mod Joined
+pub mod Kept
 pub mod Led
 pub mod LineEnds
 pub mod ManyReplies
@@ -17,6 +20,7 @@ pub mod OutputLaws
 pub mod PlainWords
 pub mod Prefixes
 pub mod Programs
+pub mod Putting
 pub mod Resuming
 pub mod RowLaws
 pub mod Saving

@@ -1,5 +1,6 @@
 -- what the crate promises
 pub mod Answers
+pub mod Continuing
 pub mod Dumps
 pub mod Fuel
 pub mod Growth

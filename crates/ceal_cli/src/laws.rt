@@ -2,6 +2,7 @@
 
 ghost use Rattle.ceal_many.specs.Laws.{IsDetermined, OwnRepliesLaw, RefusedLaw as Others_refused_law, AloneLaw};
 ghost use Rattle.ceal_session.specs.Replies.{Replies};
+ghost use Rattle.ceal_cli.specs.Continuing.{ResumableLaw, ResumedOutputLaw};
 ghost use Rattle.ceal_cli.specs.Laws.{AcceptedLaw, ShortLaw, OneOutputLaw, AnsweredLaw, UntakenLaw, CheckedLaw, ListedLaw, RefusedLaw, RepliedLaw, DumpedLaw, SavedLaw, ToldLaw, JudgedLaw, TakenLaw, GeneratedLaw, VerifiedLaw};
 
 use crate::members::Member;
@@ -85,6 +86,25 @@ pub fn verified()
     ceal_compile::compile::one_answer();
     ceal_compile::laws::one_code();
     ceal_traceck::laws::sound_law();
+}
+
+/// What `save` wrote of an input, a line `%%` and more lines behind it are taken by `resume`, and it writes what `run` writes
+/// for the lines of both scripts, from those of the second one on: a session that is saved and resumed answers as one that
+/// goes on.
+pub fn resumed_output()
+    ensures taken { ResumableLaw }
+    ensures replies { ResumedOutputLaw }
+{
+    ceal_lex::split::one_split();
+    ceal_compile::compile::one_answer();
+    ceal_compile::laws::one_code();
+    ceal_compile::laws::accepted_is_compiled();
+    ceal_snap::laws::one_save_law();
+    ceal_snap::laws::no_mark_law();
+    ceal_session::laws::one_reply();
+    ceal_session::laws::one_script();
+    ceal_session::laws::some_reply();
+    ceal_session::laws::resumed_law();
 }
 
 /// With `many`, the replies to the lines for one of the first 64 names are those that its session alone gives to them, so
