@@ -1,6 +1,6 @@
 //! The tests, by public calls, of what runs and repairs: repair over whole traces (`adjust`, with `edits`), the run over nodes
-//! (`nodes`), the engine (with `drive`; beside `adjust` in `side_by_side`, and where memory is refused in `refused`), and the recorded
-//! traces (`dumps`). No crate stands on this one.
+//! (`nodes`), the engine (with `drive`; beside `adjust` in `side_by_side`, and where memory is refused in `refused`), the recorded
+//! traces (`dumps`) and the saved sessions (`saves`). No crate stands on this one.
 #![tactic(auto)]
 
 #[cfg(test)]
@@ -19,5 +19,7 @@ mod engine;
 mod nodes;
 #[cfg(test)]
 mod refused;
+#[cfg(test)]
+mod saves;
 #[cfg(test)]
 mod side_by_side;

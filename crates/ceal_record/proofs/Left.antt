@@ -20,7 +20,7 @@ use Rattle.ceal_record.proofs.Places.{number-index}
 use Rattle.ceal_record.specs.Numbers.{number_of, Counts}
 use Rattle.ceal_record.specs.Recorded.{left_by, numbers_of, in_order}
 use Rattle.ceal_record.specs.declared.numbers.Numbers.{Numbers}
-use Rattle.ceal_theory.specs.Named.{RenamingLaw}
+use Rattle.ceal_theory.specs.Named.{RenamedBy, RenamingLaw}
 use Rattle.ceal_theory.specs.Segments.{items_by, RenamedItemsLaw}
 use Rattle.ceal_traceck.proofs.Remembering.{allocated-flat, same-below}
 use Rattle.ceal_traceck.specs.Items.{allocated, AreMade}
@@ -84,8 +84,12 @@ forest-in-order items-law t items forest counts is l e =
     is ∙ (ap (λ f. items_by f items) (number-index t (core_numbers (allocated items)) counts ∙ ap index_of numbers)
     ∙ (ap (items_by (index_of (numbers_of l))) e ∙ sym (items-law (index_of (numbers_of l)) l)))
 
--- it is a trace of the call
+-- it is the trace renamed one to one, and so a trace of the call
+pub ordered : RenamingLaw → (code : Code) (inputs : List Block) (f : ℕ) (args : List Word) → Fits code inputs f args → (l : Trace) → Replays code inputs f args l
+    → RenamedBy code inputs f args (index_of (numbers_of l)) l
+ordered renaming code inputs f args fits l r = renaming code inputs f args fits l r (index_of (numbers_of l)) (index-one (numbers_of l))
+
 pub replays-in-order : RenamingLaw → (code : Code) (inputs : List Block) (f : ℕ) (args : List Word) → Fits code inputs f args → (l : Trace) → Replays code inputs f args l
     → Replays code inputs f args (in_order l)
 unfolding in_order
-replays-in-order renaming code inputs f args fits l r = (renaming code inputs f args fits l r (index_of (numbers_of l)) (index-one (numbers_of l))).replays
+replays-in-order renaming code inputs f args fits l r = (ordered renaming code inputs f args fits l r).replays

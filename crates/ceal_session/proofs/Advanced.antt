@@ -231,6 +231,7 @@ module _ (p : Typed) (names : List (List ℕ)) (e : EngineState) (j : JournalSta
   dropped-kept outcome b ph = record {
     compiled = rw b.code h.compiled;
     named = h.named ∙ ap length (sym b.inputs);
+    spelled = h.spelled;
     done = λ i. absurd (grind (arith, ph, i));
     edited = λ i. absurd (grind (arith, ph, i));
     partial = λ i. absurd (grind (arith, ph, i));
@@ -245,6 +246,7 @@ module _ (p : Typed) (names : List (List ℕ)) (e : EngineState) (j : JournalSta
   holds-behind (Ok More) b = record {
     compiled = rw b.code h.compiled;
     named = h.named ∙ ap length (sym b.inputs);
+    spelled = h.spelled;
     done = λ i. absurd (let ph = b.phase in grind (arith, ph, i));
     edited = λ i. refl;
     partial = λ i. refl;
@@ -270,6 +272,7 @@ module _ (p : Typed) (names : List (List ℕ)) (e : EngineState) (j : JournalSta
   holds-behind (Ok Done) b = record {
     compiled = rw b.code h.compiled;
     named = h.named ∙ ap length (sym b.inputs);
+    spelled = h.spelled;
     done = λ i. refl;
     edited = λ i. absurd (let ph = b.phase in grind (arith, ph, i));
     partial = λ i. absurd (let ph = b.phase in grind (arith, ph, i));
@@ -285,6 +288,7 @@ module _ (p : Typed) (names : List (List ℕ)) (e : EngineState) (j : JournalSta
   holds-behind (Ok Anew) b = record {
     compiled = rw b.code h.compiled;
     named = h.named ∙ ap length (sym b.inputs);
+    spelled = h.spelled;
     done = λ i. refl;
     edited = λ i. absurd (let ph = b.phase in grind (arith, ph, i));
     partial = λ i. absurd (let ph = b.phase in grind (arith, ph, i));

@@ -18,6 +18,7 @@ module _ (program : Program) (e : EngineState) (code : e.code ≡ program.code) 
   begun-holds compiled = record {
     compiled = rw code compiled;
     named = ap length (sym inputs);
+    spelled = tt;
     done = λ i. refl;
     edited = λ i. absurd (grind (arith, phase, i));
     partial = λ i. absurd (grind (arith, phase, i));

@@ -35,18 +35,22 @@ module _ (p : Typed) (code : Code) (c : IsCodeOf p code) where
     pub core-of : (f : ℕ) → args_fit structs x (slice_get code.functions f) args ≡ true → IsCore (slice_get p.functions f)
     core-of f h = fits-core (slice_get p.functions f) (sym (same_calls p code c structs x f args) ∙ h)
 
+  module _ (s : State) (f : ℕ) (args : List Word) (same : s.program ≡ p) where
+    is-call : (o : Option TypedFunction) → call_fits s.program.structs (inputs_alone s.inputs) o args ≡ is_call_of s o args
+    is-call None = refl
+    is-call (Some g) = refl
+
+    args-are : args_fit code.structs (inputs_alone s.inputs) (slice_get code.functions f) args ≡ is_call_of s (slice_get p.functions f) args
+    args-are =
+        same_calls p code c code.structs (inputs_alone s.inputs) f args
+        ∙ ap (λ structs. call_fits structs (inputs_alone s.inputs) (slice_get p.functions f) args) (same-structs ∙ ap (λ p. p.structs) (sym same))
+        ∙ is-call (slice_get p.functions f)
+
   -- the arguments of a call that is accepted fit the code's function, which is a core function
   pub call-fits : valid code ≡ true → (s : State) (f : ℕ) (args : List Word) → s.program ≡ p → inputs_fit code.structs s.inputs ≡ true
       → is_call_of s (slice_get p.functions f) args ≡ true → Fits code s.inputs f args
-  call-fits ok s f args same fit h = record {
-    is_valid = ok;
-    blocks = fit;
-    words =
-        same_calls p code c code.structs (inputs_alone s.inputs) f args
-        ∙ ap (λ structs. call_fits structs (inputs_alone s.inputs) (slice_get p.functions f) args) (same-structs ∙ ap (λ p. p.structs) (sym same))
-        ∙ is-call (slice_get p.functions f) ∙ h;
-  }
-    where
-      is-call : (o : Option TypedFunction) → call_fits s.program.structs (inputs_alone s.inputs) o args ≡ is_call_of s o args
-      is-call None = refl
-      is-call (Some g) = refl
+  call-fits ok s f args same fit h = record { is_valid = ok; blocks = fit; words = args-are s f args same ∙ h }
+
+  -- and a call that fits is one that is accepted
+  pub call-back : (s : State) (f : ℕ) (args : List Word) → s.program ≡ p → Fits code s.inputs f args → is_call_of s (slice_get p.functions f) args ≡ true
+  call-back s f args same h = sym (args-are s f args same) ∙ h.words

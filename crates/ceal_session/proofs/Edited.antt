@@ -23,10 +23,12 @@ use Rattle.ceal_cost.specs.Bounds.{first_cost, aligned_of}
 use Rattle.ceal_engine.specs.Engine.{EngineState, IsWhole, alone, with_base, edited, trace, has_run, stands_for}
 use Rattle.ceal_engine.specs.declared.phase.Phase.{Phase}
 use Rattle.ceal_engine.specs.declared.phase.Phase.TheVariants.{New, Finished, Pending, Partial, Dropped}
+use Rattle.ceal_script.specs.Spelling.{IsName}
 use Rattle.ceal_session.proofs.Bringing.{whole-runs}
 use Rattle.ceal_session.proofs.Compiled.{same-structs}
 use Rattle.ceal_session.proofs.Extending.{extended-on, extended-both, extended-edited, extended-longer, same-bases}
 use Rattle.ceal_session.proofs.Ran.{first-ends, has-first}
+use Rattle.ceal_session.proofs.Shaped.{spelled-more}
 use Rattle.ceal_session.proofs.Undoing.{base-count, undone-more, put-back, undone-count, undone-longer, are-within-more, are-within-push, shapes-undone}
 use Rattle.ceal_session.specs.Asking.{IsCellOf}
 use Rattle.ceal_session.specs.Following.{Keeps}
@@ -179,6 +181,7 @@ module _ (p : Typed) (names : List (List ℕ)) (e : EngineState) (j : JournalSta
     edited-holds = record {
       compiled = rw code h.compiled;
       named = h.named ∙ sym same-count;
+      spelled = h.spelled;
       done = λ i. absurd (not-finished e.phase (sym phase ∙ i));
       edited = λ i. refl;
       partial = λ i. refl;
@@ -297,8 +300,8 @@ module _ (p : Typed) (names : List (List ℕ)) (e : EngineState) (j : JournalSta
         go None s w = tt
         go (Some c) s w = on-trace c s (trace e) w
 
-    pub longer-holds : Holds p names' e' j pending
-    longer-holds = record {
+    pub longer-holds : IsName name → Holds p names' e' j pending
+    longer-holds is-name = record {
       compiled = rw code h.compiled;
       named =
           let a = length-append names (name ∷ []) in
@@ -306,6 +309,7 @@ module _ (p : Typed) (names : List (List ℕ)) (e : EngineState) (j : JournalSta
           let n = h.named in
           let i = ap length inputs in
           omega (arith, a, c, n, i);
+      spelled = spelled-more names name h.spelled is-name;
       done = λ i. h.done (sym phase ∙ i);
       edited = λ i. h.edited (sym phase ∙ i);
       partial = λ i. h.partial (sym phase ∙ i);

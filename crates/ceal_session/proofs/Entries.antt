@@ -8,7 +8,7 @@ use Rattle.ceal_session.proofs.Answering.{can-tell}
 use Rattle.ceal_session.specs.Asking.{IsReady, CanTell}
 use Rattle.ceal_session.specs.Entries.{Entry, entry_of, entries_by, AreEntries, goes_on, taken, told_behind, AreReplies, EntriesLaw, OneTextLaw}
 use Rattle.ceal_session.specs.Laws.{OneCommandLaw, OneAnswerLaw, OneStateLaw}
-use Rattle.ceal_session.specs.Replies.{Answers, Replies, Leads, behind}
+use Rattle.ceal_session.specs.Replies.{Reads, Answers, Replies, Leads, behind}
 use Rattle.ceal_session.specs.Standing.{IsPastIn, Stands}
 use Rattle.ceal_session.specs.State.{State, Situation, Numbers, completed, latest_work, numbers_in}
 use Rattle.ceal_session.specs.Steps.{answered_line}
@@ -88,7 +88,7 @@ told-on latest (Going r) bound later = refl
 
 -- the situation behind each line stands
 abbrev pub BehindLaw : Type 0
-BehindLaw = (m : Situation) (command : Option Command) → Stands m → Stands (behind m command)
+BehindLaw = (m : Situation) (line : List ℕ) (command : Option Command) → Reads line command → Stands m → Stands (behind m command)
 
 -- the lines have these entries, and the text that goes with them
 record Found (m : Situation) (latest : Numbers) (lines : List (List ℕ)) (out : List ℕ) : Type 0 where
@@ -162,7 +162,7 @@ module _ (stands : BehindLaw) where
   found m end latest [] out st al h = record { entries = []; are = refl; text = h.0 }
   found m end latest (line ∷ lines) out st al (text, mid, rest, r, leads, e) =
       on-line m latest st al line text mid r lines out rest e
-      (λ next al. found (behind m r.command) end next lines rest (stands m r.command st) al (subst (λ t. Leads t lines rest end) r.next leads))
+      (λ next al. found (behind m r.command) end next lines rest (stands m line r.command r.reads st) al (subst (λ t. Leads t lines rest end) r.next leads))
       (call_in m.state r.command) refl
 
   pub entries : EntriesLaw

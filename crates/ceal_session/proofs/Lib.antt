@@ -16,6 +16,7 @@ pub mod Telling
 pub mod OneReply
 pub mod Extending
 pub mod Ran
+pub mod Shaped
 pub mod SomeReply
 pub mod KeptReply
 pub mod Scripts
@@ -27,3 +28,10 @@ pub mod Held
 pub mod Answered
 pub mod Begun
 pub mod Recording
+pub mod Tables
+pub mod Saved
+pub mod Follows
+pub mod Alike
+pub mod Restored
+pub mod Resumed
+pub mod Strangers

@@ -1,6 +1,8 @@
 -- In a situation that a session comes to each line has a reply, and the situation behind it is such a one.
 use Rattle.std.proofs.Common.{◌≡◌, ◌⊎◌, inl, inr, ℕ, ◌<◌, ◌||◌, Bool, true, false, Option, Some, None, Result, Ok, Err, List, [], ◌∷◌, ◌++◌, length, map, is_none, is_some, if◌then◌else◌, refl, sym, ap, ◌∙◌, subst, slice_get, take, length-append, arith}
-use Rattle.std.specs.List.{list_any}
+use Rattle.std.specs.List.{list_any, IsDistinct}
+use Rattle.std.proofs.lemmas.Map.Keys.{IsDistinct-push}
+use Rattle.std.proofs.lemmas.Cmp.{nat_list_eq_equiv}
 use Rattle.std.specs.Prelude.{IsSome, IsTrue, IfSome, bytes_eq, codes}
 use Rattle.ceal_base.specs.Block.{Block, Blocks, block_at}
 use Rattle.ceal_base.specs.Finished.{Finished}
@@ -28,6 +30,7 @@ use Rattle.ceal_code.specs.Laws.{ProgressLaw}
 use Rattle.ceal_code.specs.Program.{Code}
 use Rattle.ceal_code.specs.Value.{is_cell}
 use Rattle.ceal_script.specs.Lines.{IsLineOf}
+use Rattle.ceal_script.specs.Spelling.{IsName}
 use Rattle.ceal_script.specs.declared.command.Command.{Command}
 use Rattle.ceal_script.specs.declared.command.Command.TheVariants.{Blank, Mod, New, Set, Run, Propagate, Slice, Get, Show, Blocks as BlocksCommand, Steps as StepsCommand, Work as WorkCommand, Bound as BoundCommand}
 use Rattle.ceal_session.proofs.Answering.{called-first, can-tell, cell-sense}
@@ -35,11 +38,13 @@ use Rattle.ceal_session.proofs.Compiled.{call-fits, same-structs}
 use Rattle.ceal_session.proofs.Extending.{extended-same, extended-longer, extended-edited, extended-on, extended-both, same-bases, shapes-back}
 use Rattle.ceal_session.proofs.KeptReply.{LineFacts, past-of}
 use Rattle.ceal_session.proofs.Ran.{Ran, ran}
+use Rattle.ceal_session.proofs.Shaped.{makes-named, line-named, mod-known, struct-known, shapes-more, shapes-kept, spelled-more}
 use Rattle.ceal_session.specs.Asking.{CanTell, IsCellOf, IsCellSense}
 use Rattle.ceal_session.specs.Following.{dropped as dropped_by}
 use Rattle.ceal_session.specs.Laws.{Replied, BegunLaw, SomeReplyLaw, DroppedLaw}
+use Rattle.ceal_session.specs.Naming.{IsNamed}
 use Rattle.ceal_session.specs.Refusals.{refusal_text}
-use Rattle.ceal_session.specs.Replies.{behind}
+use Rattle.ceal_session.specs.Replies.{Reads, behind}
 use Rattle.ceal_session.specs.Runs.{memory_of, present_run, run_of, with_run, with_part}
 use Rattle.ceal_session.specs.Senses.{is_unknown, words_of, mod_shape, struct_shape, struct_named, function_named, place_sense, value_sense}
 use Rattle.ceal_session.specs.Standing.{IsRepairIn, IsPastIn, Stands}
@@ -62,6 +67,7 @@ use Rattle.ceal_session.specs.declared.sense.Sense.{Sense}
 use Rattle.ceal_session.specs.declared.sense.Sense.TheVariants.{Unknown, Plain, Word as IsWord}
 use Rattle.ceal_show.specs.Graph.{IsGraphText}
 use Rattle.ceal_show.specs.Shown.{IsWhole}
+use Rattle.ceal_traceck.specs.Verdicts.{is_known, has_known_shape}
 
 -- the laws that a line is a command's or none's, that a memory whose words fit is whole, and that a whole memory has texts
 abbrev pub LineLaw : Type 0
@@ -76,6 +82,7 @@ TextLaw = (structs : List StructInfo) (m : Blocks) (name : ℕ → List ℕ) (ro
 
 -- a session begins so that it stands
 pub begun-stands : BegunLaw
+unfolding IsDistinct
 begun-stands p fuel compiled = record {
   state = refl;
   code = refl;
@@ -83,6 +90,9 @@ begun-stands p fuel compiled = record {
   sound = record {
     compiled = compiled;
     named = refl;
+    spelled = tt;
+    once = tt;
+    shapes = refl;
     fits = refl;
     settled = record { fits = refl; extended = extended-same p.code []; count = refl };
     called = tt;
@@ -203,8 +213,8 @@ module _ (progress : ProgressLaw) (line_law : LineLaw) (whole_law : WholeLaw) (t
         sound = more-law code _ s.inputs t.inputs call.function call.args (fits-call call c) code-fit (extended-longer code s.inputs block) r h.sound;
       }
 
-      with-input : Calm (stays t Done)
-      with-input = record {
+      with-input : IsName name → list_any (bytes_eq name) s.names ≡ false → has_known_shape s.program.structs block ≡ true → Calm (stays t Done)
+      with-input spells new known = record {
         text = codes "ok\n";
         is = refl;
         stands = record {
@@ -214,6 +224,9 @@ module _ (progress : ProgressLaw) (line_law : LineLaw) (whole_law : WholeLaw) (t
               let b = length-append s.inputs (block ∷ []) in
               let n = st.named in
               omega (arith, a, b, n);
+          spelled = spelled-more s.names name st.spelled spells;
+          once = IsDistinct-push nat_list_eq_equiv s.names name st.once new;
+          shapes = shapes-more s.program.structs s.inputs block st.shapes known;
           fits = fit;
           settled = record {
             fits = settled-fit;
@@ -231,23 +244,24 @@ module _ (progress : ProgressLaw) (line_law : LineLaw) (whole_law : WholeLaw) (t
         extended = extended-longer code s.inputs block;
       }
 
-    made-with : (name : List ℕ) (shape : Shape) (o : Option (List Word)) → Calm (made_with s name shape o)
-    made-with name shape None = refused C4
-    made-with name shape (Some words) = go (block_fits s.program.structs (memory_of s) (block_of shape words)) refl
+    made-with : (name : List ℕ) → IsName name → list_any (bytes_eq name) s.names ≡ false → (shape : Shape) → is_known s.program.structs shape ≡ true → (o : Option (List Word))
+        → Calm (made_with s name shape o)
+    made-with name spells new shape known None = refused C4
+    made-with name spells new shape known (Some words) = go (block_fits s.program.structs (memory_of s) (block_of shape words)) refl
       where
         go : (b : Bool) → block_fits s.program.structs (memory_of s) (block_of shape words) ≡ b
             → Calm (if b then stays (with_input s name (block_of shape words)) Done else refuses s C4)
-        go true e = with-input name (block_of shape words) e
+        go true e = with-input name (block_of shape words) e spells new known
         go false e = refused C4
 
-    made-good : (name : List ℕ) (o : Option Shape) (senses : List Sense) → Calm (made_of s name o senses)
-    made-good name None senses = refused C2
-    made-good name (Some shape) senses = go (list_any is_unknown senses) (list_any (bytes_eq name) s.names)
+    made-good : (name : List ℕ) → IsName name → (o : Option Shape) → IfSome o (λ shape. is_known s.program.structs shape ≡ true) → (senses : List Sense) → Calm (made_of s name o senses)
+    made-good name spells None known senses = refused C2
+    made-good name spells (Some shape) known senses = go (list_any is_unknown senses) (list_any (bytes_eq name) s.names) refl
       where
-        go : (a b : Bool) → Calm (if a then refuses s C2 else if b then refuses s C3 else made_with s name shape (words_of senses))
-        go true b = refused C2
-        go false true = refused C3
-        go false false = made-with name shape (words_of senses)
+        go : (a b : Bool) → list_any (bytes_eq name) s.names ≡ b → Calm (if a then refuses s C2 else if b then refuses s C3 else made_with s name shape (words_of senses))
+        go true b e = refused C2
+        go false true e = refused C3
+        go false false e = made-with name spells e shape known (words_of senses)
 
     -- another base
     module _ (p : Place) (word : Word) (cell : IsCellOf s p) (h : fits_cell s (kind_at s.program.structs (memory_of s) p) word ≡ true) where
@@ -287,6 +301,9 @@ module _ (progress : ProgressLaw) (line_law : LineLaw) (whole_law : WholeLaw) (t
             stands = record {
               compiled = st.compiled;
               named = st.named ∙ sym e.count;
+              spelled = st.spelled;
+              once = st.once;
+              shapes = shapes-kept s.program.structs s.inputs u.inputs e.kept e.count st.shapes;
               fits = e.fits;
               settled = record { fits = st.settled.fits; extended = extended-on code s.settled s.inputs u.inputs st.settled.extended edited; count = st.settled.count ∙ sym e.count };
               called = all-called s u.inputs e.kept s.call st.called;
@@ -343,6 +360,9 @@ module _ (progress : ProgressLaw) (line_law : LineLaw) (whole_law : WholeLaw) (t
     with-call call out past h t = record {
       compiled = st.compiled;
       named = st.named;
+      spelled = st.spelled;
+      once = st.once;
+      shapes = st.shapes;
       fits = st.fits;
       settled = record { fits = subst (λ k. inputs_fit k s.inputs ≡ true) (sym structs) st.fits; extended = extended-same code s.inputs; count = refl };
       called = h;
@@ -421,6 +441,9 @@ module _ (progress : ProgressLaw) (line_law : LineLaw) (whole_law : WholeLaw) (t
       stands = record {
         compiled = st.compiled;
         named = st.named;
+        spelled = st.spelled;
+        once = st.once;
+        shapes = st.shapes;
         fits = st.fits;
         settled = record { fits = st.settled.fits; extended = st.settled.extended; count = st.settled.count };
         called = st.called;
@@ -507,29 +530,39 @@ module _ (progress : ProgressLaw) (line_law : LineLaw) (whole_law : WholeLaw) (t
     asked-good : (reply : Reply) → CanTell s reply → Calm (stays s reply)
     asked-good reply h = let t = text-of reply h in record { text = t.0; is = t.1; stands = st; moves = calm s refl; extended = extended-same code s.inputs }
 
-    command-good : (command : Command) → Good m (call_of s command) (answered s (goes (past_in m (Some command))) command) (past_in m (Some command))
-    command-good Blank = record { text = []; is = refl; stands = st; moves = calm s refl; extended = extended-same code s.inputs }
-    command-good (Mod name kind value) = made-good name (mod_shape s kind) (value_sense s value ∷ [])
-    command-good (New name shape values) = made-good name (struct_shape (struct_named s shape)) (map (value_sense s) values)
-    command-good (Set place value) = set-good (place_sense s place) (value_sense s value) (cell-sense s place)
-    command-good (Run function args) = run-good (called s (function_named s function) (map (value_sense s) args)) (accepted (Run function args))
-    command-good Propagate = run-good (called_again s.call) (accepted Propagate)
-    command-good (Slice reads) = part-good reads (called_again s.call) (again-call s.call refl st.called)
-    command-good (Get place) = asked-good _ (can-tell s false st.named (Get place))
-    command-good (Show name) = asked-good _ (can-tell s false st.named (Show name))
-    command-good BlocksCommand = asked-good _ (can-tell s false st.named BlocksCommand)
-    command-good StepsCommand = asked-good _ (can-tell s false st.named StepsCommand)
-    command-good WorkCommand = asked-good _ (can-tell s false st.named WorkCommand)
-    command-good BoundCommand = asked-good _ (can-tell s false st.named BoundCommand)
+    command-good : (command : Command) → IsNamed command → Good m (call_of s command) (answered s (goes (past_in m (Some command))) command) (past_in m (Some command))
+    command-good Blank n = record { text = []; is = refl; stands = st; moves = calm s refl; extended = extended-same code s.inputs }
+    command-good (Mod name kind value) n = made-good name n (mod_shape s kind) (mod-known s kind) (value_sense s value ∷ [])
+    command-good (New name shape values) n = made-good name n (struct_shape (struct_named s shape)) (struct-known s shape) (map (value_sense s) values)
+    command-good (Set place value) n = set-good (place_sense s place) (value_sense s value) (cell-sense s place)
+    command-good (Run function args) n = run-good (called s (function_named s function) (map (value_sense s) args)) (accepted (Run function args))
+    command-good Propagate n = run-good (called_again s.call) (accepted Propagate)
+    command-good (Slice reads) n = part-good reads (called_again s.call) (again-call s.call refl st.called)
+    command-good (Get place) n = asked-good _ (can-tell s false st.named (Get place))
+    command-good (Show name) n = asked-good _ (can-tell s false st.named (Show name))
+    command-good BlocksCommand n = asked-good _ (can-tell s false st.named BlocksCommand)
+    command-good StepsCommand n = asked-good _ (can-tell s false st.named StepsCommand)
+    command-good WorkCommand n = asked-good _ (can-tell s false st.named WorkCommand)
+    command-good BoundCommand n = asked-good _ (can-tell s false st.named BoundCommand)
 
-    line-good : (command : Option Command) → Good m (call_in s command) (answered_line s (goes (past_in m command)) command) (past_in m command)
-    line-good None = refused C1
-    line-good (Some command) = command-good command
+    line-good : (command : Option Command) → IfSome command IsNamed → Good m (call_in s command) (answered_line s (goes (past_in m command)) command) (past_in m command)
+    line-good None n = refused C1
+    line-good (Some command) n = command-good command n
 
     -- the bound says nothing of what stands
     pub with-bound : (state : State) (past : Past) (bound : ℕ) → Stands (record { state = state; code = code; past = past; bound = m.bound })
         → Stands (record { state = state; code = code; past = past; bound = bound })
-    with-bound state past bound h = record { compiled = h.compiled; named = h.named; fits = h.fits; settled = h.settled; called = h.called; past = h.past }
+    with-bound state past bound h = record {
+      compiled = h.compiled;
+      named = h.named;
+      spelled = h.spelled;
+      once = h.once;
+      shapes = h.shapes;
+      fits = h.fits;
+      settled = h.settled;
+      called = h.called;
+      past = h.past;
+    }
 
     -- the past before a line that runs, where it is the first one
     before-line : (call : Call) → Accepted s call → (s.call ≡ Some call) ⊎ ((s.call ≡ None) × (m.past ≡ NoTrace))
@@ -539,9 +572,9 @@ module _ (progress : ProgressLaw) (line_law : LineLaw) (whole_law : WholeLaw) (t
     fits-called None h = tt
     fits-called (Some call) h = fits-call call h
 
-    pub facts : (command : Option Command) → LineFacts m command
-    facts command =
-        let g = line-good command in
+    pub facts : (command : Option Command) → IfSome command IsNamed → LineFacts m command
+    facts command n =
+        let g = line-good command n in
         let state = (answered_line s (goes (past_in m command)) command).state in record {
           stands = with-bound state (past_in m command) (bound_in m command) g.stands;
           called = g.moves.called;
@@ -560,26 +593,27 @@ module _ (progress : ProgressLaw) (line_law : LineLaw) (whole_law : WholeLaw) (t
   replied : (m : Situation) (line : List ℕ) → Stands m → Replied m line
   replied m line st = elim (line_law line) [
     | inl c ↦
-        let g = command-good m st c.0 in
+        let n = makes-named c.0 line c.1 in
+        let g = command-good m st c.0 n in
         record {
           text = g.text;
           next = behind m (Some c.0);
           replies = record { command = Some c.0; reads = c.1; reply = g.is; next = refl };
-          stands = (facts m st (Some c.0)).stands;
+          stands = (facts m st (Some c.0) n).stands;
         }
     | inr none ↦ record {
       text = refusal_text C1;
       next = behind m None;
       replies = record { command = None; reads = none; reply = refl; next = refl };
-      stands = (facts m st None).stands;
+      stands = (facts m st None tt).stands;
     }
   ]
 
 pub some-reply : ProgressLaw → LineLaw → WholeLaw → TextLaw → SomeReplyLaw
 some-reply progress line_law whole_law text_law m line st = replied progress line_law whole_law text_law m line st
 
-pub line-facts : ProgressLaw → LineLaw → WholeLaw → TextLaw → (m : Situation) (command : Option Command) → Stands m → LineFacts m command
-line-facts progress line_law whole_law text_law m command st = facts progress line_law whole_law text_law m st command
+pub line-facts : ProgressLaw → LineLaw → WholeLaw → TextLaw → (m : Situation) (line : List ℕ) (command : Option Command) → Reads line command → Stands m → LineFacts m command
+line-facts progress line_law whole_law text_law m line command reads st = facts progress line_law whole_law text_law m st command (line-named line command reads)
 
 pub dropped-law : ProgressLaw → LineLaw → WholeLaw → TextLaw → DroppedLaw
 dropped-law progress line_law whole_law text_law session m command call h e =

@@ -18,6 +18,7 @@ use Rattle.ceal_theory.specs.Adjust.{Extended}
 use Rattle.ceal_theory.specs.Computed.{Repaired, first_of}
 use Rattle.ceal_theory.specs.Pasts.{Past, NoTrace, Traced, Going}
 use Rattle.ceal_session.specs.Journal.{Measure, Number, Between, JournalState}
+use Rattle.ceal_session.specs.Naming.{AreSpelled}
 use Rattle.ceal_session.specs.State.{State, Situation}
 use Rattle.ceal_session.specs.Undoing.{undone, AreWithin}
 
@@ -127,6 +128,7 @@ pub record WasHonest (e : EngineState) (settled : List Block) (call : Call) (l :
 pub record Holds (program : Typed) (names : List (List ℕ)) (e : EngineState) (j : JournalState) (pending : Bool) : Type 0 where
   pub compiled : IsCompiled (record { typed = program; code = e.code })
   pub named : length names ≡ length e.inputs
+  pub spelled : AreSpelled names
   -- an edit or a repair is pending in Pending and in Partial, and not in Finished
   pub done : e.phase ≡ Finished → pending ≡ false
   pub edited : e.phase ≡ Pending → pending ≡ true

@@ -17,6 +17,7 @@ pub mod Saving
 pub mod Laws
 pub mod Entries
 pub mod Saves
+pub mod Strangers
 -- what its own functions say of each other
 pub mod Undoing
 pub mod Journal

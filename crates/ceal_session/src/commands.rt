@@ -1,9 +1,11 @@
 // What a command is answered, and the state after it.
 
 ghost use Rattle.std.specs.Prelude.{◌≡◌, ◌≤◌, [], ◌∷◌, Some, None, IfOk, OnOk, OnErr, map};
+ghost use Rattle.ceal_script.specs.Spelling.{IsName};
 ghost use Rattle.ceal_session.specs.Asking.{HasReads};
 ghost use Rattle.ceal_session.specs.Following.{Keeps, Goes, IsLeftBy};
 ghost use Rattle.ceal_session.specs.Keeping.{situation};
+ghost use Rattle.ceal_session.specs.Naming.{IsNamed};
 ghost use Rattle.ceal_session.specs.Senses.{mod_shape as shape_of_mod, struct_shape as shape_of_struct, struct_named, function_named, value_sense as sense_of_value, place_sense as sense_of_place};
 ghost use Rattle.ceal_session.specs.Steps.{IsQuiet, IsFirst, runs, runs_part, called, called_again, call_of, reads_of, made_of, set as set_of, answered};
 ghost use Rattle.ceal_theory.specs.Pasts.{goes};
@@ -28,6 +30,7 @@ fn make_modifiable(
     kind: &KindWord,
     value: &ValueWord,
 ) -> Result<Reply, NoMemory>
+    requires named { IsName name.now }
     ensures ok { IfOk result
         (λ reply. record { reply = reply; state = state.new.state }
         ≡ made_of state.old.state name.now (shape_of_mod state.old.state kind.now)
@@ -49,6 +52,7 @@ fn make_block(
     shape: &Text,
     values: &[ValueWord],
 ) -> Result<Reply, NoMemory>
+    requires named { IsName name.now }
     ensures ok { IfOk result
         (λ reply. record { reply = reply; state = state.new.state }
         ≡ made_of state.old.state name.now
@@ -175,6 +179,7 @@ fn start_part(state: &mut State, reads: u32) -> Result<Reply, NoMemory>
 /// The reply to a command. Where there is no memory, the state is as before, or as after a run that was out of fuel.
 pub fn reply_to(alloc: Global, state: &mut State, command: &Command) -> Result<Reply, NoMemory>
     requires some { HasReads command.now }
+    requires named { IsNamed command.now }
     ensures ok { IfOk result
         (λ reply. record { reply = reply; state = state.new.state }
         ≡ answered state.old.state (goes (situation state.new).past) command.now) }

@@ -91,6 +91,16 @@ impl Journal {
         }
     }
 
+    /// Nothing was edited, and the bound is this number.
+    pub fn told(alloc: Global, bound: u32) -> Journal
+        ensures { result ≡ settled_at bound }
+    {
+        Journal {
+            since: Vec::new(alloc),
+            bounding: Bounding::Number(bound),
+        }
+    }
+
     pub fn len(&self) -> usize
         ensures { result ≡ length self.now.since }
     {

@@ -3,6 +3,7 @@
 ghost use Rattle.ceal_session.specs.Laws.{OneCommandLaw, OneAnswerLaw, OneReplyLaw, OneStateLaw, OneScriptLaw, JoinedLaw, BegunLaw, SomeReplyLaw, SomeScriptLaw, DroppedLaw, KeptLaw};
 ghost use Rattle.ceal_session.specs.Entries.{EntriesLaw, OneTextLaw};
 ghost use Rattle.ceal_session.specs.Saves.{AlikeLaw, HeldLaw, OneSavedLaw, ResumedLaw, SavedLaw};
+ghost use Rattle.ceal_session.specs.Strangers.{StrangerLaw};
 
 /// A law: a line is one command's at most, and has one reply by a state and its numbers; so it has one in a situation, and one
 /// situation behind it.
@@ -66,9 +67,13 @@ pub fn entries_law()
 pub fn alike_law()
     ensures law { AlikeLaw }
 {
-    one_reply();
+    ceal_code::laws::progress_law();
+    ceal_script::line::command_or_none();
+    ceal_show::laws::fitting_is_whole();
+    ceal_show::laws::some_text();
     some_reply();
     kept_line();
+    one_reply();
 }
 
 /// A law: the save of a session is that of the situation that it is in, and a situation has one save at most.
@@ -89,6 +94,19 @@ pub fn held_law()
 pub fn resumed_law()
     ensures law { ResumedLaw }
 {
+    ceal_theory::names::renaming_law();
     alike_law();
-    held_law();
+}
+
+/// A law: of a save that holds, whoever wrote it, nothing but its work and its bound is believed, and these until the next
+/// completed run or repair.
+pub fn stranger_law()
+    ensures law { StrangerLaw }
+{
+    ceal_code::laws::progress_law();
+    ceal_script::line::command_or_none();
+    ceal_show::laws::fitting_is_whole();
+    ceal_show::laws::some_text();
+    one_reply();
+    alike_law();
 }

@@ -1,10 +1,11 @@
 // A session.
 
-ghost use Rattle.std.specs.Prelude.{◌≡◌, ◌≤◌, codes, length, IfOk, OnOk, OnErr, IsErrOf, MatchOption};
+ghost use Rattle.std.specs.Prelude.{◌≡◌, ◌≤◌, codes, length, IfOk, OnOk, OnErr, IfSome, IsErrOf, MatchOption};
 ghost use Rattle.ceal_compile.specs.Compiled.{IsCompiled};
 ghost use Rattle.ceal_session.specs.Asking.{CanTell, HasReads, IsReady};
 ghost use Rattle.ceal_session.specs.Following.{IsAllowed, opened, Goes, Repairs, Bounds, IsLeft, IsLeftBy};
 ghost use Rattle.ceal_session.specs.Keeping.{situation};
+ghost use Rattle.ceal_session.specs.Naming.{AreSpelled, IsNamed};
 ghost use Rattle.ceal_session.specs.Recording.{IsRecorded};
 ghost use Rattle.ceal_session.specs.Replies.{Answers};
 ghost use Rattle.ceal_session.specs.Saving.{Holding, IsResumed, IsSaved};
@@ -16,6 +17,8 @@ ghost use Rattle.ceal_theory.specs.Pasts.{goes};
 use crate::commands::reply_to;
 use crate::refusal::{Refusal, text as refusal_line};
 use crate::reply::Reply;
+use crate::restore::restored;
+use crate::saving::saved;
 use crate::state::State;
 use crate::texts::answer;
 use ceal_base::no_memory::NoMemory;
@@ -102,6 +105,7 @@ fn text(alloc: Global, state: &State, reply: Reply, ready: Vec<u8>) -> Result<Te
 /// The answer to a command.
 fn answer_command(alloc: Global, state: &mut State, command: &Command) -> Result<Text, NoMemory>
     requires some { HasReads command.now }
+    requires named { IsNamed command.now }
     ensures reply { IfOk result
         (λ text. IsText state.old.state (numbers_in (situation state.old))
         (answered state.old.state (goes (situation state.new).past) command.now).reply text) }
@@ -201,11 +205,12 @@ impl Session {
     /// The fuel, the replies to `work` and `bound`, the names of the inputs, and the record. There is none exactly where a
     /// line `steps` would be refused.
     pub fn saved(&self) -> Result<Option<Saved>, NoMemory>
-        ensures { IfOk result
+        ensures saved { IfOk result
             (λ found. MatchOption found (¬ IsReady self.now.state)
             (λ s. IsSaved (situation self.now) s)) }
+        ensures names { IfOk result (λ found. IfSome found (λ s. AreSpelled s.names)) }
     {
-        Err(NoMemory)
+        saved(self.alloc, &self.state)
     }
 
     /// A session that goes on from a save, if it holds. The save may be any, from any maker: the checker goes over its record,
@@ -238,8 +243,9 @@ impl Session {
         ensures holds { OnOk result (Holding program.code saved) }
         ensures unsound { IsErrOf result RestoreError.Unsound → ¬ Holding program.code saved }
     {
-        drop(program);
-        drop(saved);
-        Err(RestoreError::Memory)
+        match restored(alloc, program, &saved, seed) {
+            Ok(state) => Ok(Session { state, alloc }),
+            Err(error) => Err(error),
+        }
     }
 }

@@ -4,11 +4,13 @@ ghost use Rattle.std.specs.Prelude.{◌≡◌, ◌≢◌, ◌≤◌, ◌<◌, �
 ghost use Rattle.std.specs.List.{list_any};
 ghost use Rattle.ceal_base.specs.Fitting.{block_fits, kind_at};
 ghost use Rattle.ceal_compile.specs.Compiled.{IsCompiled};
+ghost use Rattle.ceal_script.specs.Spelling.{IsName};
 ghost use Rattle.ceal_session.specs.Asking.{IsReady, IsCellOf, steps_in, blocks_in, content_text};
 ghost use Rattle.ceal_base.specs.declared.call.Call.{Call as CallOf};
 ghost use Rattle.ceal_session.specs.Advancing.{IsAdvanced};
 ghost use Rattle.ceal_session.specs.Following.{IsAllowed, opened, Keeps, Goes, IsLeftBy};
-ghost use Rattle.ceal_session.specs.Keeping.{situation};
+ghost use Rattle.ceal_session.specs.Keeping.{situation, held_of, Holds};
+ghost use Rattle.ceal_session.specs.Naming.{AreSpelled};
 ghost use Rattle.ceal_session.specs.Recording.{IsRecorded};
 ghost use Rattle.ceal_session.specs.Runs.{memory_of, present_run};
 ghost use Rattle.ceal_session.specs.Senses.{input_named, struct_named, function_named};
@@ -99,6 +101,27 @@ impl State {
         })
     }
 
+    /// A state with a finished run, which has this journal.
+    pub fn finished(program: Numbered, names: Names, engine: Engine, journal: Journal) -> State
+        requires holds { Holds program names engine journal false }
+        ensures { result ≡ held_of program names engine journal false }
+    {
+        State {
+            program,
+            names,
+            engine,
+            journal,
+            pending: false,
+        }
+    }
+
+    /// How many steps a run may take.
+    pub fn fuel(&self) -> u32
+        ensures { result ≡ self.now.state.fuel }
+    {
+        self.engine.fuel()
+    }
+
     pub fn structs(&self) -> &[StructInfo]
         ensures { result.now ≡ self.now.state.program.structs }
     {
@@ -135,6 +158,7 @@ impl State {
     pub fn names(&self) -> &Names
         ensures names { result.now ≡ self.now.state.names }
         ensures counted { length self.now.state.names ≡ length self.now.state.inputs }
+        ensures spelled { AreSpelled self.now.state.names }
     {
         &self.names
     }
@@ -189,6 +213,7 @@ impl State {
 
     /// One more input, of a new name, and of words that fit.
     pub fn add_input(&mut self, name: &Text, shape: Shape, words: &[Word]) -> Result<(), NoMemory>
+        requires named { IsName name.now }
         requires new { list_any (bytes_eq name.now) self.old.state.names ≡ false }
         requires fits { block_fits self.old.state.program.structs (memory_of self.old.state)
             (block_of shape words.now) ≡ true }

@@ -2,6 +2,7 @@
 
 ghost use Rattle.std.specs.Prelude.{◌≡◌, Some, false, slice_get, IfOk, OnOk, OnErr, bytes_eq};
 ghost use Rattle.std.specs.List.{list_any};
+ghost use Rattle.ceal_script.specs.Spelling.{IsName};
 ghost use Rattle.ceal_session.specs.Asking.{IsCellOf, IsCellSense};
 ghost use Rattle.ceal_session.specs.Following.{Keeps};
 ghost use Rattle.ceal_session.specs.Keeping.{situation};
@@ -25,7 +26,8 @@ use std::alloc::Global;
 
 /// An input of these words, where they fit.
 fn make_if(state: &mut State, name: &Text, shape: Shape, words: &[Word]) -> Result<Reply, NoMemory>
-    requires { list_any (bytes_eq name.now) state.old.state.names ≡ false }
+    requires named { IsName name.now }
+    requires new { list_any (bytes_eq name.now) state.old.state.names ≡ false }
     ensures ok { IfOk result
         (λ reply. record { reply = reply; state = state.new.state }
         ≡ made_with state.old.state name.now shape (Some words.now)) }
@@ -47,6 +49,7 @@ fn make_with(
     shape: Shape,
     senses: &[Sense],
 ) -> Result<Reply, NoMemory>
+    requires named { IsName name.now }
     ensures ok { IfOk result
         (λ reply. record { reply = reply; state = state.new.state }
         ≡ made state.old.state name.now shape senses.now) }
@@ -75,6 +78,7 @@ pub fn make(
     shape: Option<Shape>,
     senses: &[Sense],
 ) -> Result<Reply, NoMemory>
+    requires named { IsName name.now }
     ensures ok { IfOk result
         (λ reply. record { reply = reply; state = state.new.state }
         ≡ made_of state.old.state name.now shape senses.now) }

@@ -2,11 +2,15 @@ use Rattle.std.proofs.Common.{◌∙◌, inl, inr, None, Some, Err, ap, refl}
 use Rattle.ceal_session.proofs.Answering.{has-reads}
 use Rattle.ceal_session.proofs.Bounded.{line-bounded}
 use Rattle.ceal_session.proofs.ReplySteps.{if-ok, if-ok-too, on-ok, on-ok-of, on-err}
+use Rattle.ceal_session.proofs.Shaped.{makes-named}
 use Rattle.ceal_session.specs.Keeping.{situation}
 use Rattle.ceal_session.proofs.session.answer_line.Goals as goal
 
 pub answer_command-requires : goal.answer_command-requires
-answer_command-requires c = record { some = has-reads c.in-Ok.command c.args.line.now c.in-Ok.ensures.found }
+answer_command-requires c = record {
+  some = has-reads c.in-Ok.command c.args.line.now c.in-Ok.ensures.found;
+  named = makes-named c.in-Ok.command c.args.line.now c.in-Ok.ensures.found;
+}
 
 pub returns-in-Ok-clause-reply : goal.returns-in-Ok-clause-reply
 returns-in-Ok-clause-reply c =

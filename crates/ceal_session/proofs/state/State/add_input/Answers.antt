@@ -13,7 +13,7 @@ invariant_of-self-in-Ok c =
     let o = c.in-Ok.ensures in
     rw c.in_ok-add_new.ensures.ok
     (longer-holds i.program i.names i.engine i.journal i.pending c.self.invariant c.add_input.new.self o.code o.fuel o.call o.forest o.heap o.work c.args.name.now (block_of c.args.shape c.args.words.now)
-    (subst (λ m. block_fits m.state.program.structs (memory_of m.state) (block_of c.args.shape c.args.words.now) ≡ true) (sym c.self.view_is) c.requires.fits) o.phase o.inputs)
+    (subst (λ m. block_fits m.state.program.structs (memory_of m.state) (block_of c.args.shape c.args.words.now) ≡ true) (sym c.self.view_is) c.requires.fits) o.phase o.inputs c.requires.named)
 
 pub returns-in-Ok-clause-ok : goal.returns-in-Ok-clause-ok
 returns-in-Ok-clause-ok c =

@@ -1,0 +1,5 @@
+use Rattle.ceal_session.proofs.Restored.{held}
+use Rattle.ceal_session.proofs.laws.held_law.Goals as goal
+
+pub returns : goal.returns
+returns c = record { law = held }

@@ -1,0 +1,5 @@
+use Rattle.ceal_session.proofs.Resumed.{resumed-law}
+use Rattle.ceal_session.proofs.laws.resumed_law.Goals as goal
+
+pub returns : goal.returns
+returns c = record { law = resumed-law c.renaming_law.ensures.law c.alike_law.ensures.law }

@@ -1,0 +1,11 @@
+use Rattle.ceal_session.proofs.Alike.{call-law}
+use Rattle.ceal_session.proofs.SomeReply.{line-facts}
+use Rattle.ceal_session.proofs.Strangers.{stranger}
+use Rattle.ceal_session.proofs.laws.stranger_law.Goals as goal
+
+pub returns : goal.returns
+returns c = record {
+  law = stranger (line-facts c.progress_law.ensures.law c.command_or_none.ensures c.fitting_is_whole.ensures.law c.some_text.ensures.law)
+      (call-law c.progress_law.ensures.law c.command_or_none.ensures c.fitting_is_whole.ensures.law c.some_text.ensures.law)
+      c.one_reply.ensures.command c.one_reply.ensures.answer c.alike_law.ensures.law;
+}
