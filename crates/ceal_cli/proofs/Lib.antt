@@ -23,7 +23,6 @@ pub mod Programs
 pub mod Putting
 pub mod Resuming
 pub mod RowLaws
-pub mod Saving
 pub mod ScriptLines
 pub mod Sides
 pub mod Situated

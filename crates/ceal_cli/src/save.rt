@@ -8,7 +8,6 @@ ghost use Rattle.ceal_io.specs.Streams.{Rose};
 ghost use Rattle.ceal_session.specs.Keeping.{situation};
 ghost use Rattle.ceal_session.specs.Following.{IsAllowed};
 ghost use Rattle.ceal_session.specs.Naming.{AreSpelled};
-ghost use Rattle.ceal_session.specs.Standing.{IsIn};
 ghost use Rattle.ceal_cli.specs.Growth.{Grows, WritesOutput, WritesPrefix};
 ghost use Rattle.ceal_cli.specs.Serving.{IsSaveBehind, IsSaveFrom};
 ghost use Rattle.ceal_cli.specs.Lines.{script_lines};
@@ -36,12 +35,11 @@ use std::alloc::Global;
 // The source part, a line `%%`, and the save. Where one of its counts has no room in 32 bits, there is no memory for so many.
 fn text_of(alloc: Global, source: &[u8], saved: &Saved) -> Result<Text, NoMemory>
     requires names { AreSpelled saved.now.names }
-    requires count { length saved.now.names ≡ length saved.now.kept.inputs }
     requires core { all_core saved.now.kept.forest ≡ true }
     requires ends { closed 0 saved.now.kept.forest ≡ true }
     ensures { IfOk result (λ text. text ≡ with_source source.now saved.now) }
 {
-    if !has_room(&saved.kept) {
+    if saved.items().len() >= 1 << 32 || !has_room(&saved.kept) {
         return Err(NoMemory);
     }
     let save = save_text(alloc, saved)?;
@@ -53,9 +51,6 @@ fn text_of(alloc: Global, source: &[u8], saved: &Saved) -> Result<Text, NoMemory
 
 // The save of the session behind its source part, or the line that there is no run to save.
 fn save_of(alloc: Global, source: &[u8], session: &Session) -> Result<Text, NoMemory>
-    requires spelled { AreSpelled (situation session.now).state.names }
-    requires named { length (situation session.now).state.names
-        ≡ length (situation session.now).state.inputs }
     ensures { IfOk result (λ text. IsSaveFrom source.now (situation session.now) text) }
 {
     renaming_law();
@@ -77,14 +72,12 @@ fn write_save<K: Sink>(
     script: &[u8],
     sink: &mut K,
 ) -> Result<(), Stopped>
-    requires begun { IsIn (situation session.old) (situation session.old) }
     ensures all { OnOk result (Grows (K.written sink.old) (K.written sink.new)
         (IsSaveBehind source.now (situation session.old) (script_lines script.now))) }
     ensures part { Grows (K.written sink.old) (K.written sink.new)
         (Begins (IsSaveBehind source.now (situation session.old) (script_lines script.now))) }
     ensures fault { IsErrOf result Stopped.Failed → Rose (K.faults sink.old) (K.faults sink.new) }
 {
-    kept_line();
     carry_out_all(session, script)?;
     match save_of(alloc, source, session) {
         Ok(text) => write_all(sink, text.items()),
