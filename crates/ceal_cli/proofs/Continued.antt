@@ -5,6 +5,7 @@ use Rattle.std.specs.Fmt.{decimal}
 use Rattle.ceal_base.specs.Trace.{Trace, flat}
 use Rattle.ceal_base.specs.declared.call.Call.{Call}
 use Rattle.ceal_base.specs.declared.fault.Fault.{Fault}
+use Rattle.ceal_base.specs.declared.fault.Span.{Span}
 use Rattle.ceal_base.specs.declared.recorded.Record.{Record}
 use Rattle.ceal_base.specs.declared.typed.Typed.{Typed}
 use Rattle.ceal_code.specs.Fitting.{Fits}
@@ -74,8 +75,7 @@ empty-is-blank = record { words = []; has_words = tt; says = tt }
 
 empty-line : OneCommandLaw → (m : Situation) (text : List ℕ) (n : Situation) → Replies m [] text n → (text ≡ []) × (n ≡ m)
 empty-line one m text n h =
-    let is : h.command ≡ Some Blank = one [] h.command (Some Blank) h.reads empty-is-blank in
-    (
+    let is : h.command ≡ Some Blank = one [] h.command (Some Blank) h.reads empty-is-blank in (
       subst (λ c. IsText m.state (numbers_in m) (answered_line m.state (goes (past_in m c)) c).reply text) is h.reply,
       h.next ∙ ap (behind m) is,
     )
@@ -115,5 +115,5 @@ module _ (input : List ℕ) (part : Split) (split : IsSplit input part) (marked 
 
   pub source-before : source_of input part ≡ has-mark.before
   source-before =
-      let to : part.source.to ≡ length has-mark.before = ap (λ (s : _). s.to) has-mark.source in
+      let to : part.source.to ≡ length has-mark.before = ap (λ (s : Span). s.to) has-mark.source in
       ap (λ n. take n input) to ∙ (ap (take (length has-mark.before)) has-mark.first.mark.whole ∙ take-append_seam has-mark.before (has-mark.first.mark.line ++ has-mark.after))

@@ -1,5 +1,6 @@
 -- A line `%%` that is put behind bytes without a mark is the first one.
 use Rattle.std.proofs.Common.{◌≡◌, ℕ, zero, suc, ◌+◌, ◌-◌, ◌<◌, ◌≤◌, ◌^◌, ◌==◌, ◌&&◌, inl, inr, Bool, true, false, not, Some, List, [], ◌∷◌, ◌++◌, length, slice_get, take, drop, refl, sym, ap, ◌∙◌, subst, arith, append_assoc, length-append}
+use Rattle.std.proofs.lemmas.Bool.{cases_lt}
 use Rattle.std.specs.Prelude.{codes}
 use Rattle.ceal_lex.specs.Parts.{IsMark, IsBeforeLine, IsLine, HasMark, HasFirstMark, IsMarked, IsSplit, source_of}
 use Rattle.ceal_lex.specs.Tokens.{span}
@@ -128,43 +129,44 @@ ends-behind (x ∷ b) d ([], e) k =
     absurd (omega (arith, k, size))
 ends-behind (x ∷ b) d (y ∷ ys, e) k = ends-behind b d (ys, tail-of x y (b ++ d) (ys ++ (10 ∷ [])) e) (omega (arith, k))
 
+no-feed-then : (t : List ℕ) → NoFeed t → NoFeed (t ++ [])
+unfolding NoFeed
+no-feed-then [] n = tt
+no-feed-then (x ∷ t) n = (n.0, no-feed-then t n.1)
+
+ends-before : (b before : List ℕ) → length b < length before → IsBeforeLine before → Ends before
+unfolding Ends
+ends-before b before k (inl e) = let size = ap length e in absurd (omega (arith, k, size))
+ends-before b before k (inr e) = e
+
 -- in the place of the first mark of an input, with other bytes behind it
-pub other-behind : (input before after rest : List ℕ) → HasFirstMark input before after → HasFirstMark (before ++ (mark_line ++ rest)) before rest
-unfolding the-mark
-other-behind input before after rest h = record { mark = the-mark before rest h.mark.starts; first = λ b a m. go b a m }
-  where
-    starts-with-feed : (b : List ℕ) → length b < length before → IsBeforeLine before → Ends before
-    unfolding Ends
-    starts-with-feed b k (inl e) = let size = ap length e in absurd (omega (arith, k, size))
-    starts-with-feed b k (inr e) = e
+module _ (input before after rest : List ℕ) (h : HasFirstMark input before after) where
+  earlier : (b a : List ℕ) (m : HasMark (before ++ (mark_line ++ rest)) b a) → length b < length before → IsLine m.text m.line a → length before ≤ length b
+  earlier b a m k (inl is) =
+      let cut = shorter before (mark_line ++ rest) b (m.line ++ a) m.whole k in
+      let feed = ends-behind b cut.0 (subst Ends cut.1 (ends-before b before k h.mark.starts)) (subst (λ (l : List ℕ). length b < length l) cut.1 k) in
+      let fits = line-fits m.text cut.0 (mark_line ++ rest) a (cut.2 ∙ ap (λ (l : List ℕ). l ++ a) is) feed (no-feed-in m.text m.mark) in
+      let line = m.text ++ (10 ∷ []) in
+      let behind = h.mark.line ++ after in
+      let same : before ≡ b ++ (line ++ fits.0) = cut.1 ∙ ap (λ (l : List ℕ). b ++ l) fits.1 in
+      let whole : input ≡ b ++ (line ++ (fits.0 ++ behind)) = h.mark.whole
+      ∙ (ap (λ (l : List ℕ). l ++ behind) same ∙ (append_assoc b (line ++ fits.0) behind ∙ ap (λ (l : List ℕ). b ++ l) (append_assoc line fits.0 behind))) in
+      h.first b (fits.0 ++ behind) (record { text = m.text; line = line; mark = m.mark; is_line = inl refl; starts = m.starts; whole = whole })
+  earlier b a m k (inr is) =
+      let cut = shorter before (mark_line ++ rest) b (m.line ++ a) m.whole k in
+      let feed = ends-behind b cut.0 (subst Ends cut.1 (ends-before b before k h.mark.starts)) (subst (λ (l : List ℕ). length b < length l) cut.1 k) in
+      let all : cut.0 ++ (mark_line ++ rest) ≡ m.text ++ [] = cut.2 ∙ (ap (λ (l : List ℕ). l ++ a) is.0 ∙ ap (λ (l : List ℕ). m.text ++ l) is.1) in
+      absurd (no-last (m.text ++ []) cut.0 (mark_line ++ rest) all feed (no-feed-then m.text (no-feed-in m.text m.mark)))
 
-    by-line : (b a : List ℕ) (m : HasMark (before ++ (mark_line ++ rest)) b a) → length b < length before → IsLine m.text m.line a → length before ≤ length b
-    by-line b a m k (inl is) =
-        let cut = shorter before (mark_line ++ rest) b (m.line ++ a) m.whole k in
-        let feed = ends-behind b cut.0 (subst Ends cut.1 (starts-with-feed b k h.mark.starts)) (subst (λ (l : List ℕ). length b < length l) cut.1 k) in
-        let fits = line-fits m.text cut.0 (mark_line ++ rest) a (cut.2 ∙ ap (λ (l : List ℕ). l ++ a) is) feed (no-feed-in m.text m.mark) in
-        let line = m.text ++ (10 ∷ []) in
-        let behind = h.mark.line ++ after in
-        let same : before ≡ b ++ (line ++ fits.0) = cut.1 ∙ ap (λ (l : List ℕ). b ++ l) fits.1 in
-        let whole : input ≡ b ++ (line ++ (fits.0 ++ behind)) = h.mark.whole
-        ∙ (ap (λ (l : List ℕ). l ++ behind) same ∙ (append_assoc b (line ++ fits.0) behind ∙ ap (λ (l : List ℕ). b ++ l) (append_assoc line fits.0 behind))) in
-        h.first b (fits.0 ++ behind) (record { text = m.text; line = line; mark = m.mark; is_line = inl refl; starts = m.starts; whole = whole })
-    by-line b a m k (inr is) =
-        let cut = shorter before (mark_line ++ rest) b (m.line ++ a) m.whole k in
-        let feed = ends-behind b cut.0 (subst Ends cut.1 (starts-with-feed b k h.mark.starts)) (subst (λ (l : List ℕ). length b < length l) cut.1 k) in
-        let all : cut.0 ++ (mark_line ++ rest) ≡ m.text ++ [] = cut.2 ∙ (ap (λ (l : List ℕ). l ++ a) is.0 ∙ ap (λ (l : List ℕ). m.text ++ l) is.1) in
-        absurd (no-last (m.text ++ []) cut.0 (mark_line ++ rest) all feed (no-feed-then m.text (no-feed-in m.text m.mark)))
-      where
-        no-feed-then : (t : List ℕ) → NoFeed t → NoFeed (t ++ [])
-        unfolding NoFeed
-        no-feed-then [] n = tt
-        no-feed-then (x ∷ t) n = (n.0, no-feed-then t n.1)
+  none-earlier : (b a : List ℕ) → HasMark (before ++ (mark_line ++ rest)) b a → length before ≤ length b
+  none-earlier b a m = elim (cases_lt (length b) (length before)) [
+    | inl less ↦ earlier b a m less m.is_line
+    | inr more ↦ more
+  ]
 
-    go : (b a : List ℕ) → HasMark (before ++ (mark_line ++ rest)) b a → length before ≤ length b
-    go b a m = elim-order (length b) (length before) (λ k. by-line b a m k m.is_line)
-      where
-        elim-order : (n k : ℕ) → (n < k → k ≤ n) → k ≤ n
-        elim-order n k f = grind (arith, f)
+  pub other-behind : HasFirstMark (before ++ (mark_line ++ rest)) before rest
+  unfolding the-mark
+  other-behind = record { mark = the-mark before rest h.mark.starts; first = λ b a m. none-earlier b a m }
 
 -- the parts of bytes with a mark between these
 pub put-parts : List ℕ → List ℕ → Split

@@ -60,6 +60,10 @@ module _ (old new : Option (List ℕ)) (bytes text : List ℕ) (all : Consumes o
     pub done_for : (R S : Type 0) → IfSome old (λ input. length input ≤ INPUT_LIMIT → IsTaken mode input → R → S → (Done ≡ Done) ⊎ (Done ≡ Memory))
     done_for R S = for_input (λ input. length input ≤ INPUT_LIMIT → IsTaken mode input → R → S → (Done ≡ Done) ⊎ (Done ≡ Memory)) (λ short h r s. inl refl)
 
+    pub not_taken_for : (R S : Type 0) → IfSome old (λ input. length input ≤ INPUT_LIMIT → (IsTaken mode input → ⊥) → R → S → (Refused ≡ Refused) ⊎ (Refused ≡ Memory))
+    not_taken_for R S =
+        for_input (λ input. length input ≤ INPUT_LIMIT → (IsTaken mode input → ⊥) → R → S → (Refused ≡ Refused) ⊎ (Refused ≡ Memory)) (λ short none r s. inl refl)
+
     pub not_refused_for : (R S : Type 0) → IsTaken mode text
         → IfSome old (λ input. length input ≤ INPUT_LIMIT → (IsTaken mode input → ⊥) → R → S → (Done ≡ Refused) ⊎ (Done ≡ Memory))
     not_refused_for R S h =

@@ -24,9 +24,11 @@ returns-in_ok-told-in-Ok-clause-all g c =
     c.split-part.result c.split-part.ensures.parts (situation c.in-Ok.session) c.in-Ok.ensures.session _ _ c.kept_line.ensures.law (rw (← c.script.ensures) c.in_ok-told-in-Ok.ensures.all)
 
 pub returns-in_ok-told-in-Ok-clause-taken : goal.returns-in_ok-told-in-Ok-clause-taken
-returns-in_ok-told-in-Ok-clause-taken g c =
-    ((λ _. taken c.args.input.now c.split.result c.split.ensures.parts c.args.program c.requires.program c.requires.compiled c.script-bytes.result.now c.script-bytes.ensures
-    c.split-part.result c.split-part.ensures.parts (situation c.in-Ok.session) c.in-Ok.ensures.session), λ _. refl)
+returns-in_ok-told-in-Ok-clause-taken g c = (
+  (λ _. taken c.args.input.now c.split.result c.split.ensures.parts c.args.program c.requires.program c.requires.compiled c.script-bytes.result.now c.script-bytes.ensures
+      c.split-part.result c.split-part.ensures.parts (situation c.in-Ok.session) c.in-Ok.ensures.session),
+  λ _. refl,
+)
 
 pub returns-in_err-write_all-in-Err-Unreadable-clause-part : goal.returns-in_err-write_all-in-Err-Unreadable-clause-part
 returns-in_err-write_all-in-Err-Unreadable-clause-part g c =
@@ -76,8 +78,7 @@ returns-in_ok-write_all-in-Err-Unsound-clause-all g c =
 
 pub returns-in_ok-write_all-in-Err-Unsound-clause-taken : goal.returns-in_ok-write_all-in-Err-Unsound-clause-taken
 returns-in_ok-write_all-in-Err-Unsound-clause-taken g c =
-    let why = rw c.in-Err-Unsound.field-0-is at c.in-Err-Unsound.ensures.unsound in
-    (
+    let why = rw c.in-Err-Unsound.field-0-is at c.in-Err-Unsound.ensures.unsound in (
       (λ t. absurd (cc t)),
       λ h. absurd (not-refused c.one_split.ensures c.one_answer.ensures.law c.one_code.ensures.law c.one_save_law.ensures.law Resume c.args.input.now not_holding h
           (is-unsound c.args.input.now c.split.result c.split.ensures.parts c.args.program c.requires.program c.requires.compiled c.script-bytes.result.now c.script-bytes.ensures (why refl))),

@@ -1,5 +1,5 @@
 use Rattle.std.proofs.Common.{arith}
-use Rattle.ceal_cli.proofs.TopLaws.{output_for, answer_for, refusal_for, prefix_for, short_for, taken_for, refused_for, done_for, not_refused_for, not_done_for, none_for}
+use Rattle.ceal_cli.proofs.TopLaws.{output_for, answer_for, refusal_for, prefix_for, short_for, taken_for, refused_for, done_for, not_refused_for, not_done_for, not_taken_for, none_for}
 use Rattle.ceal_cli.proofs.top.answer_input.Goals as goal
 
 pub returns-in-Ok-true-clause-output : goal.returns-in-Ok-true-clause-output
@@ -30,6 +30,9 @@ pub returns-in-Ok-false-clause-refused : goal.returns-in-Ok-false-clause-refused
 returns-in-Ok-false-clause-refused g c =
     λ _. refused_for _ _ _ _ c.in-Ok.ensures.all c.in-Ok.ensures.end c.deref.ensures.value c.args.mode
     (λ h. let t = c.in-Ok-false.ensures.taken.1 h in let f = c.in-Ok-false.field-0-test in absurd (cc (t, f)))
+
+pub returns-in-Ok-false-clause-refuses : goal.returns-in-Ok-false-clause-refuses
+returns-in-Ok-false-clause-refuses g c = not_taken_for _ _ _ _ c.in-Ok.ensures.all c.in-Ok.ensures.end c.deref.ensures.value c.args.mode _ _
 
 pub returns-in-Ok-false-clause-complete : goal.returns-in-Ok-false-clause-complete
 returns-in-Ok-false-clause-complete g c =
