@@ -1,5 +1,5 @@
 -- What is written of a script that is cut in two, saved and resumed.
-use Rattle.std.proofs.Common.{◌≡◌, ◌<◌, ◌^◌, inl, inr, ℕ, true, List, [], ◌∷◌, ◌++◌, length, refl, sym, ap, ◌∙◌, subst, append_assoc, length-append, arith}
+use Rattle.std.proofs.Common.{◌≡◌, ◌<◌, ◌^◌, ◌⊎◌, inl, inr, ℕ, true, List, [], ◌∷◌, ◌++◌, length, refl, sym, ap, ◌∙◌, subst, append_assoc, length-append, arith}
 use Rattle.ceal_base.specs.Trace.{Trace, flat}
 use Rattle.ceal_base.specs.declared.recorded.Record.{Record}
 use Rattle.ceal_code.specs.Program.{Code}
@@ -129,7 +129,7 @@ module _ (known : Known) (fuel : ℕ) (input written more again long : List ℕ)
 
   -- the program is read from it again
   there : Programmed again
-  unfolding c put-parts
+  unfolding c
   there =
       let same : c.1.part ≡ h.first.part = known.split input c.1.part h.first.part c.1.split h.first.split in
       let bytes : source_of input c.1.part ≡ source_of again parts = ap (source_of input) same
@@ -148,7 +148,6 @@ module _ (known : Known) (fuel : ℕ) (input written more again long : List ℕ)
   bytes-is = ap (λ t. script_of t parts) again-is ∙ put-script before rest
 
   second : Resumption rest
-  unfolding put-parts
   second =
       let size = ap length again-is in
       let front = length-append before (mark_line ++ rest) in

@@ -1,5 +1,6 @@
 -- A line `%%` that is put behind bytes without a mark is the first one.
 use Rattle.std.proofs.Common.{◌≡◌, ℕ, zero, suc, ◌+◌, ◌-◌, ◌<◌, ◌≤◌, ◌^◌, ◌==◌, ◌&&◌, inl, inr, Bool, true, false, not, Some, List, [], ◌∷◌, ◌++◌, length, slice_get, take, drop, refl, sym, ap, ◌∙◌, subst, arith, append_assoc, length-append}
+use Rattle.std.proofs.Math.Seq.{take-append_seam, drop-append-add}
 use Rattle.std.proofs.lemmas.Bool.{cases_lt}
 use Rattle.std.specs.Prelude.{codes}
 use Rattle.ceal_lex.specs.Parts.{IsMark, IsBeforeLine, IsLine, HasMark, HasFirstMark, IsMarked, IsSplit, source_of}
@@ -169,7 +170,7 @@ module _ (input before after rest : List ℕ) (h : HasFirstMark input before aft
   other-behind = record { mark = the-mark before rest h.mark.starts; first = λ b a m. none-earlier b a m }
 
 -- the parts of bytes with a mark between these
-pub put-parts : List ℕ → List ℕ → Split
+abbrev pub put-parts : List ℕ → List ℕ → Split
 put-parts front more = record {
   source = span 0 (length front);
   marked = true;
@@ -178,7 +179,6 @@ put-parts front more = record {
 
 pub put-split : (front more : List ℕ) → length (front ++ (mark_line ++ more)) < 2 ^ 32 → HasFirstMark (front ++ (mark_line ++ more)) front more
     → IsSplit (front ++ (mark_line ++ more)) (put-parts front more)
-unfolding put-parts
 put-split front more small first =
     let whole = length-append front (mark_line ++ more) in
     let behind = length-append mark_line more in
@@ -188,11 +188,7 @@ put-split front more small first =
     }
 
 pub put-source : (front more : List ℕ) → source_of (front ++ (mark_line ++ more)) (put-parts front more) ≡ front
-unfolding put-parts
-put-source [] more = refl
-put-source (b ∷ front) more = ap (λ (l : List ℕ). b ∷ l) (put-source front more)
+put-source front more = take-append_seam front (mark_line ++ more)
 
 pub put-script : (front more : List ℕ) → script_of (front ++ (mark_line ++ more)) (put-parts front more) ≡ more
-unfolding put-parts
-put-script [] more = refl
-put-script (b ∷ front) more = put-script front more
+put-script front more = drop-append-add front (mark_line ++ more) 3
