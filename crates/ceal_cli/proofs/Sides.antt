@@ -1,5 +1,5 @@
 -- What is written for an input is its answer where it is taken, and else its refusal.
-use Rattle.std.proofs.Common.{◌≡◌, inl, inr, ℕ, List, refl}
+use Rattle.std.proofs.Common.{inl, inr, ℕ, List}
 use Rattle.ceal_compile.specs.Laws.{OneCodeLaw}
 use Rattle.ceal_compile.specs.Source.{IsAccepted}
 use Rattle.ceal_snap.specs.Answers.{OneSaveLaw}
@@ -23,18 +23,6 @@ taken-accepted (Many fuel) input h = h
 taken-accepted (Save fuel) input h = h
 taken-accepted Resume input h = (h.0.program, h.0.reads)
 taken-accepted (Gen kind seed size) input h = h
-
--- in each mode but `resume` an accepted input is taken
-pub accepted-taken : (mode : Mode) (input : List ℕ) → (mode ≡ Resume → ⊥) → IsAccepted input → IsTaken mode input
-accepted-taken Check input other h = h
-accepted-taken Listing input other h = h
-accepted-taken Verify input other h = h
-accepted-taken (Run fuel) input other h = h
-accepted-taken (Dump fuel) input other h = h
-accepted-taken (Many fuel) input other h = h
-accepted-taken (Save fuel) input other h = h
-accepted-taken Resume input other h = absurd (other refl)
-accepted-taken (Gen kind seed size) input other h = h
 
 pub answer-taken : (mode : Mode) (input out : List ℕ) → ReadsInput mode → IsAnswer mode input out → IsTaken mode input
 answer-taken Check input out reads h = h.0
