@@ -166,7 +166,7 @@ module _ (s : State) where
   text-any v w (Told StepsOf) h text k = k
 
 -- the same past, whatever the work of a trace is
-data Beside (code : Code) (inputs : List Block) (f : ℕ) (args : List Word) : Past → Past → Type 0 where
+pub data Beside (code : Code) (inputs : List Block) (f : ℕ) (args : List Word) : Past → Past → Type 0 where
   none : Beside code inputs f args NoTrace NoTrace
   traced : {a b : Repaired} (ps : Pairs) → OneToOne ps → TraceAlike ps a.items b.items → Beside code inputs f args (Traced a) (Traced b)
   going : {r q : Repair} → Sound code own inputs f args r → Carried code inputs 0 r q → Beside code inputs f args (Going r) (Going q)
@@ -196,7 +196,7 @@ module _ (code : Code) (inputs : List Block) (f : ℕ) (args : List Word) (fits 
   next-beside (Beside.traced {a = a} {b = b} ps one alike) h i = begin-traces code inputs f args fits fuel a b ps one alike h i
   next-beside (Beside.going s c) h i = NextAs.some s i c
 
-abbrev BesideIn : Code → List Block → Option Call → Past → Past → Type 0
+abbrev pub BesideIn : Code → List Block → Option Call → Past → Past → Type 0
 BesideIn code inputs None p q = (p ≡ NoTrace) × (q ≡ NoTrace)
 BesideIn code inputs (Some call) p q = Beside code inputs call.function call.args p q
 
@@ -218,14 +218,14 @@ in-more code old new (Some call) fits fit ext p q h = go h
     go (Beside.traced ps one alike) = Beside.traced ps one alike
     go (Beside.going s c) = beside-same (more-past code old new call.function call.args fits fit ext (SamePast.going s c))
 
-abbrev at : Code → State → Past → ℕ → Situation
+abbrev pub at : Code → State → Past → ℕ → Situation
 at code s p bound = record { state = s; code = code; past = p; bound = bound }
 
 -- both are situations that a session comes to
-record Near (code : Code) (s : State) (p q : Past) (b d : ℕ) : Type 0 where
-  left : Stands (at code s p b)
-  right : Stands (at code s q d)
-  past : BesideIn code s.inputs s.call p q
+pub record Near (code : Code) (s : State) (p q : Past) (b d : ℕ) : Type 0 where
+  pub left : Stands (at code s p b)
+  pub right : Stands (at code s q d)
+  pub past : BesideIn code s.inputs s.call p q
 
 module _ (facts : FactsLaw) (calls : CallLaw) (command_law : OneCommandLaw) (answer : OneAnswerLaw) (alike : AlikeLaw) where
   module _ (code : Code) (s : State) (p q : Past) (b d : ℕ) (near : Near code s p q b d) where
@@ -369,26 +369,25 @@ module _ (facts : FactsLaw) (calls : CallLaw) (command_law : OneCommandLaw) (ans
   pub are-alike : (code : Code) (s : State) (p q : Past) (b d : ℕ) → Near code s p q b d → (lines : List (List ℕ)) → AreAlike (at code s p b) (at code s q d) lines
   unfolding AreAlike
   are-alike code s p q b d near [] = are-one code s p q b d near
-  are-alike code s p q b d near (line ∷ lines) = (are-one code s p q b d near, step)
+  are-alike code s p q b d near (line ∷ lines) = (are-one code s p q b d near, step (λ t x y u v k. are-alike code t x y u v k lines))
     where
-      step : (text told : List ℕ) (o t : Situation) → Replies (at code s p b) line text o → Replies (at code s q d) line told t
+      step : ((t : State) (x y : Past) (u v : ℕ) → Near code t x y u v → AreAlike (at code t x u) (at code t y v) lines) → (text told : List ℕ) (o t : Situation) → Replies (at code s p b) line text o → Replies (at code s q d) line told t
           → LineAlike (at code s p b) (at code s q d) line text told o t × AreAlike o t lines
-      step text told o t r k =
+      step later text told o t r k =
           let same : k.command ≡ r.command = command_law line k.command r.command k.reads r.reads in
           let reply : IsText s (numbers_in (at code s q d)) (answered_line s (goes (past_in (at code s q d) r.command)) r.command).reply told =
           subst (λ c. IsText s (numbers_in (at code s q d)) (answered_line s (goes (past_in (at code s q d) c)) c).reply told) same k.reply in
           let t-is : t ≡ behind (at code s q d) r.command = k.next ∙ ap (behind (at code s q d)) same in
-          let more = are-alike code (answered_line s (goes (past_in (at code s p b) r.command)) r.command).state (past_in (at code s p b) r.command) (past_in (at code s q d) r.command)
-          (bound_in (at code s p b) r.command) (bound_in (at code s q d) r.command) (near-left code s p q b d near line r.command r.reads) lines in
-          (
+          let more = later (answered_line s (goes (past_in (at code s p b) r.command)) r.command).state (past_in (at code s p b) r.command) (past_in (at code s q d) r.command)
+          (bound_in (at code s p b) r.command) (bound_in (at code s q d) r.command) (near-left code s p q b d near line r.command r.reads) in (
             record {
               reply = λ h. replies code s p q b d near line r.command r.reads (h r.command r.reads) text told r.reply reply;
               numbers = λ c. (
-                let one : c.command ≡ r.command = command_law line c.command r.command c.reads r.reads in
-                let runs : call_in s r.command ≡ Ok c.call = subst (λ x. call_in s x ≡ Ok c.call) one c.runs in
-                let ends : goes (past_in (at code s p b) r.command) ≡ false = subst (λ (x : Situation). goes x.past ≡ false) r.next c.ends in
-                ap numbers_in r.next ∙ (numbers code s p q b d near line r.command r.reads c.call runs ends ∙ sym (ap numbers_in t-is))
-              );
+                  let one : c.command ≡ r.command = command_law line c.command r.command c.reads r.reads in
+                  let runs : call_in s r.command ≡ Ok c.call = subst (λ x. call_in s x ≡ Ok c.call) one c.runs in
+                  let ends : goes (past_in (at code s p b) r.command) ≡ false = subst (λ (x : Situation). goes x.past ≡ false) r.next c.ends in
+                  ap numbers_in r.next ∙ (numbers code s p q b d near line r.command r.reads c.call runs ends ∙ sym (ap numbers_in t-is))
+                  );
             },
             subst (λ (x : Situation). AreAlike x t lines) (sym r.next)
                 (subst (λ (x : Situation). AreAlike (behind (at code s p b) r.command) x lines) (sym (t-is ∙ behind-is code s p q b d near line r.command r.reads)) more),
@@ -403,6 +402,19 @@ record FirstThere (code : Code) (s : Save) (l : Trace) : Type 0 where
   few : steps_of first.items ≤ s.fuel
   beside : Beside code s.kept.inputs s.kept.function s.kept.args (Traced (record { items = l; work = s.work })) (Traced first)
 
+record IsFirstTrace (code : Code) (s : Save) (a : Repaired) : Type 0 where
+  replays : Replays code s.kept.inputs s.kept.function s.kept.args a.items
+  honest : IsHonest code s.kept.inputs a.items
+
+first-trace : (code : Code) (s : Save) → Fits code s.kept.inputs s.kept.function s.kept.args → (a : Repaired)
+    → first_of code s.kept.inputs s.fuel s.kept.function s.kept.args ≡ Some a → IsFirstTrace code s a
+first-trace code s fits a e =
+    go (first_of code s.kept.inputs s.fuel s.kept.function s.kept.args) (fresh code s.kept.function s.kept.args s.kept.inputs s.fuel) e (first-law code s.kept.inputs s.kept.function s.kept.args fits s.fuel)
+  where
+    go : (o : Option Repaired) (p : Option Finished) → o ≡ Some a → FirstOutcome code s.kept.inputs s.kept.function s.kept.args o p → IsFirstTrace code s a
+    go _ _ i FirstOutcome.none = none-some a i
+    go _ _ i (FirstOutcome.some {a = b} t) = subst (IsFirstTrace code s) (some-same b a i) (record { replays = t.replays; honest = t.honest })
+
 first-there : (code : Code) (s : Save) → Fits code s.kept.inputs s.kept.function s.kept.args → (l : Trace) → Replays code s.kept.inputs s.kept.function s.kept.args l → IsHonest code s.kept.inputs l
     → steps_of l ≤ s.fuel → FirstThere code s l
 first-there code s fits l is honest few =
@@ -410,7 +422,7 @@ first-there code s fits l is honest few =
     let f = s.kept.function in
     let args = s.kept.args in
     let there = first-of code inputs f args l (record { fits = fits; replays = is; honest = honest }) s.fuel few in
-    let t = first-trace there.first there.is in
+    let t = first-trace code s fits there.first there.is in
     let bs = core_numbers (blocks_of l) in
     let cs = core_numbers (blocks_of there.first.items) in
     record {
@@ -421,19 +433,6 @@ first-there code s fits l is honest few =
       few = subst (λ n. n ≤ s.fuel) (sym there.steps) few;
       beside = Beside.traced (zipped bs cs) (zip-one bs cs is.distinct t.replays.distinct) (unique-law code inputs f args fits l there.first.items is t.replays honest t.honest).traces;
     }
-  where
-    record IsFirstTrace (a : Repaired) : Type 0 where
-      replays : Replays code s.kept.inputs s.kept.function s.kept.args a.items
-      honest : IsHonest code s.kept.inputs a.items
-
-    first-trace : (a : Repaired) → first_of code s.kept.inputs s.fuel s.kept.function s.kept.args ≡ Some a → IsFirstTrace a
-    first-trace a e = go (first_of code s.kept.inputs s.fuel s.kept.function s.kept.args) (fresh code s.kept.function s.kept.args s.kept.inputs s.fuel) e (first-law code s.kept.inputs s.kept.function s.kept.args fits s.fuel)
-      where
-        go : (o : Option Repaired) (p : Option Finished) → o ≡ Some a → FirstOutcome code s.kept.inputs s.kept.function s.kept.args o p → IsFirstTrace a
-        go _ _ i FirstOutcome.none = none-some a i
-        go _ _ i (FirstOutcome.some {a = b} t) =
-            let same : b ≡ a = some-same b a i in
-            subst IsFirstTrace same (record { replays = t.replays; honest = t.honest })
 
 pub stranger : FactsLaw → CallLaw → OneCommandLaw → OneAnswerLaw → AlikeLaw → StrangerLaw
 stranger facts calls command_law answer alike program s trace compiled h items lines =
