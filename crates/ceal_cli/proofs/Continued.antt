@@ -1,16 +1,13 @@
 -- A session that is saved and resumed writes what one would have written that went on.
-use Rattle.std.proofs.Common.{◌≡◌, ◌<◌, ◌^◌, inl, inr, ℕ, Bool, true, false, if◌then◌else◌, Option, Some, None, Result, Ok, Err, IfSome, List, [], ◌∷◌, ◌++◌, length, take, codes, refl, sym, ap, ◌∙◌, subst, append_assoc, append-nil, length-append, arith}
+use Rattle.std.proofs.Common.{◌≡◌, inl, inr, ℕ, Bool, true, false, if◌then◌else◌, Option, Some, None, Result, IfSome, List, [], ◌∷◌, ◌++◌, length, take, codes, refl, sym, ap, ◌∙◌, subst, append_assoc}
 use Rattle.std.proofs.Math.Seq.{take-append_seam}
-use Rattle.std.specs.Fmt.{decimal}
-use Rattle.ceal_base.specs.Trace.{Trace, flat}
 use Rattle.ceal_base.specs.declared.call.Call.{Call}
 use Rattle.ceal_base.specs.declared.fault.Fault.{Fault}
 use Rattle.ceal_base.specs.declared.fault.Span.{Span}
 use Rattle.ceal_base.specs.declared.recorded.Record.{Record}
 use Rattle.ceal_base.specs.declared.typed.Typed.{Typed}
 use Rattle.ceal_code.specs.Fitting.{Fits}
-use Rattle.ceal_code.specs.Program.{Code}
-use Rattle.ceal_compile.specs.Source.{IsMisspelled, IsLexed, PartComes, IsProgram}
+use Rattle.ceal_compile.specs.Source.{PartComes}
 use Rattle.ceal_dump.specs.DumpText.{dump_text, inputs_text, call_text, trace_text, memory_text}
 use Rattle.ceal_lex.specs.Faults.{IsFirstFault}
 use Rattle.ceal_lex.specs.Parts.{IsBeforeLine, IsMarked, IsSplit, PartsAre, source_of}
@@ -18,14 +15,13 @@ use Rattle.ceal_lex.specs.Tokens.{AreTokens}
 use Rattle.ceal_lex.specs.declared.parts.Split.{Split}
 use Rattle.ceal_script.specs.Lines.{IsLineOf}
 use Rattle.ceal_script.specs.Words.{HasWords}
-use Rattle.ceal_script.specs.declared.command.Command.{Command}
 use Rattle.ceal_script.specs.declared.command.Command.TheVariants.{Blank}
 use Rattle.ceal_session.proofs.Compiled.{call-fits, same-structs}
 use Rattle.ceal_base.specs.Fitting.{inputs_fit}
 use Rattle.ceal_session.specs.Asking.{IsReady}
 use Rattle.ceal_session.specs.Laws.{OneCommandLaw}
 use Rattle.ceal_session.specs.Recording.{IsRecorded}
-use Rattle.ceal_session.specs.Replies.{Reads, Replies, Leads, behind}
+use Rattle.ceal_session.specs.Replies.{Replies, Leads, behind}
 use Rattle.ceal_session.specs.Saving.{IsSaved}
 use Rattle.ceal_session.specs.Standing.{IsPastIn, Stands}
 use Rattle.ceal_session.specs.State.{Situation, completed, numbers_in}

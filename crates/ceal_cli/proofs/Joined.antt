@@ -1,8 +1,7 @@
 -- What is written of a script that is cut in two, saved and resumed.
-use Rattle.std.proofs.Common.{◌≡◌, ◌<◌, ◌^◌, ◌⊎◌, inl, inr, ℕ, true, List, [], ◌∷◌, ◌++◌, length, refl, sym, ap, ◌∙◌, subst, append_assoc, length-append, arith}
-use Rattle.ceal_base.specs.Trace.{Trace, flat}
+use Rattle.std.proofs.Common.{◌≡◌, ◌<◌, ◌^◌, ◌⊎◌, inl, inr, ℕ, List, [], ◌∷◌, ◌++◌, length, refl, sym, ap, ◌∙◌, subst, append_assoc, length-append, arith}
+use Rattle.ceal_base.specs.Trace.{flat}
 use Rattle.ceal_base.specs.declared.recorded.Record.{Record}
-use Rattle.ceal_code.specs.Program.{Code}
 use Rattle.ceal_compile.specs.Compiled.{IsCompiled}
 use Rattle.ceal_compile.specs.Laws.{OneCodeLaw, SomeCompiledLaw}
 use Rattle.ceal_compile.specs.Source.{IsProgram}
@@ -15,7 +14,7 @@ use Rattle.ceal_session.specs.Recording.{IsRecorded}
 use Rattle.ceal_session.specs.Replies.{Leads}
 use Rattle.ceal_session.specs.Runs.{begun}
 use Rattle.ceal_session.specs.Saves.{GoesOn, ResumedLaw}
-use Rattle.ceal_session.specs.Saving.{IsSaved, resumed}
+use Rattle.ceal_session.specs.Saving.{resumed}
 use Rattle.ceal_session.specs.Standing.{Stands}
 use Rattle.ceal_session.specs.State.{Situation}
 use Rattle.ceal_snap.specs.Answers.{OneSaveLaw}
@@ -28,7 +27,7 @@ use Rattle.ceal_cli.specs.Resumed.{Resumption, IsResumable, IsRepliedAfter, line
 use Rattle.ceal_cli.specs.Saves.{mark_line, save_of, with_source, IsSavedBehind}
 use Rattle.ceal_cli.specs.declared.words.Mode.TheVariants.{Run, Resume}
 use Rattle.ceal_cli.proofs.Continued.{comes-again, has-mark, recorded-saved, save-ends, source-before, told-record, without-empty}
-use Rattle.ceal_cli.proofs.Kept.{KeptBehind, leads-kept}
+use Rattle.ceal_cli.proofs.Kept.{leads-kept}
 use Rattle.ceal_cli.proofs.OneResumed.{one-part, one-saved, one-trace}
 use Rattle.ceal_cli.proofs.Programs.{SplitLaw, AnswerLaw, one-reading, read-again}
 use Rattle.ceal_cli.proofs.Putting.{other-behind, put-mark, put-parts, put-script, put-source, put-split}

@@ -2,21 +2,18 @@
 use Rattle.std.proofs.Common.{◌≡◌, ℕ, Bool, true, false, if◌then◌else◌, Option, Some, None, Result, Ok, Err, List, [], ◌∷◌, refl, ap, ◌∙◌}
 use Rattle.std.specs.List.{list_any}
 use Rattle.std.specs.Prelude.{◌||◌, bytes_eq, map}
-use Rattle.ceal_base.specs.Block.{Block}
-use Rattle.ceal_base.specs.Finished.{Finished}
 use Rattle.ceal_base.specs.Fitting.{kind_at, block_fits}
 use Rattle.ceal_base.specs.declared.call.Call.{Call}
 use Rattle.ceal_base.specs.declared.kind.Shape.{Shape}
-use Rattle.ceal_base.specs.declared.word.Place.{Place}
 use Rattle.ceal_base.specs.declared.word.Word.{Word}
 use Rattle.ceal_base.specs.declared.word.Word.TheVariants.{Num, Null, Block as BlockWord, At}
 use Rattle.ceal_script.specs.declared.command.Command.{Command}
 use Rattle.ceal_script.specs.declared.command.Command.TheVariants.{Blank, Mod, New, Set, Run, Propagate, Slice, Get, Show, Blocks, Steps, Work, Bound}
-use Rattle.ceal_session.specs.Replies.{Replies, Leads, behind}
-use Rattle.ceal_session.specs.Runs.{memory_of, run_of}
+use Rattle.ceal_session.specs.Replies.{Replies, Leads}
+use Rattle.ceal_session.specs.Runs.{memory_of}
 use Rattle.ceal_session.specs.Senses.{place_sense, value_sense, is_unknown, words_of, mod_shape, struct_shape, struct_named, function_named}
 use Rattle.ceal_session.specs.State.{State, Situation}
-use Rattle.ceal_session.specs.Steps.{Step, answered, answered_line, block_of, called, called_again, fits_cell, made_of, made, made_with, made_if, runs, runs_part, set, set_base, set_word}
+use Rattle.ceal_session.specs.Steps.{Step, answered_line, block_of, called, called_again, fits_cell, made_of, made, made_with, runs, runs_part, set, set_word}
 use Rattle.ceal_session.specs.Works.{past_in}
 use Rattle.ceal_session.specs.declared.refusal.Refusal.{Refusal}
 use Rattle.ceal_session.specs.declared.sense.Sense.{Sense}

@@ -1,5 +1,5 @@
 -- An input is resumed from one save at most, or it is not.
-use Rattle.std.proofs.Common.{◌≡◌, inl, inr, ℕ, Option, Some, List, sym, ap, ◌∙◌, subst}
+use Rattle.std.proofs.Common.{◌≡◌, inl, inr, ℕ, Some, List, sym, ap, ◌∙◌, subst}
 use Rattle.ceal_base.proofs.TraceLemmas.{trace-flat}
 use Rattle.ceal_base.specs.Trace.{Trace, flat, trace_of}
 use Rattle.ceal_base.specs.declared.typed.Typed.{Typed}

@@ -1,5 +1,5 @@
 -- What is written for an input that is resumed, and for one that is not.
-use Rattle.std.proofs.Common.{◌≡◌, inl, inr, ℕ, true, Option, Ok, List, refl, subst}
+use Rattle.std.proofs.Common.{◌≡◌, inl, inr, ℕ, Option, Ok, List, refl, subst}
 use Rattle.ceal_code.specs.Program.{Code}
 use Rattle.ceal_compile.specs.Compiled.{IsCompiled}
 use Rattle.ceal_compile.specs.Source.{IsProgram}

@@ -20,7 +20,7 @@ use Rattle.ceal_session.specs.Runs.{begun}
 use Rattle.ceal_session.specs.Saves.{SavedLaw}
 use Rattle.ceal_session.specs.Saving.{IsSaved}
 use Rattle.ceal_session.specs.Standing.{IsIn, IsSamePast, Stands}
-use Rattle.ceal_session.specs.State.{State, Situation, completed, last, numbers_in}
+use Rattle.ceal_session.specs.State.{State, Situation, completed, numbers_in}
 use Rattle.ceal_session.specs.Steps.{asked, call_of, has_no_run}
 use Rattle.ceal_session.specs.declared.refusal.Refusal.TheVariants.{C7, C8}
 use Rattle.ceal_session.specs.declared.reply.Query.TheVariants.{Steps}

@@ -1,5 +1,5 @@
 -- An input has an output in each mode, and a workload its text.
-use Rattle.std.proofs.Common.{◌≡◌, ◌<◌, ◌^◌, ◌||◌, ◌⊎◌, inl, inr, ℕ, Bool, true, false, if◌then◌else◌, Option, Some, None, is_none, Result, Ok, Err, List, [], ◌∷◌, length, refl, sym, ◌∙◌}
+use Rattle.std.proofs.Common.{◌≡◌, ◌<◌, ◌^◌, ◌||◌, ◌⊎◌, inl, inr, ℕ, Bool, true, false, if◌then◌else◌, Option, Some, None, is_none, Result, Ok, Err, List, [], length, refl, sym, ◌∙◌}
 use Rattle.ceal_base.specs.declared.call.Call.{Call}
 use Rattle.ceal_base.specs.declared.fault.Fault.{Fault}
 use Rattle.ceal_base.specs.declared.typed.Typed.{Typed}
@@ -8,7 +8,7 @@ use Rattle.ceal_base.specs.declared.recorded.Record.{Record}
 use Rattle.ceal_code.specs.Program.{Code}
 use Rattle.ceal_compile.specs.FaultLine.{fault_line}
 use Rattle.ceal_compile.specs.Laws.{OneCodeLaw, SomeCodeLaw, SomeCompiledLaw}
-use Rattle.ceal_compile.specs.Source.{Comes, IsAccepted, IsProgram}
+use Rattle.ceal_compile.specs.Source.{Comes}
 use Rattle.ceal_dump.specs.Answers.{DumpOrNoneLaw}
 use Rattle.ceal_dump.specs.DumpText.{dump_text, IsDump}
 use Rattle.ceal_gen.specs.Text.{workload_text}

@@ -1,5 +1,5 @@
 -- From the bytes that were read to the input that the source told.
-use Rattle.std.proofs.Common.{arith, ◌≡◌, ◌≤◌, ◌⊎◌, inl, inr, ℕ, Option, Some, None, Result, List, [], ◌++◌, length, IfSome, refl, sym, ap, ◌∙◌, subst, append-nil}
+use Rattle.std.proofs.Common.{arith, ◌≡◌, ◌≤◌, ◌⊎◌, inl, inr, ℕ, Option, Some, None, List, [], ◌++◌, length, IfSome, refl, sym, ap, ◌∙◌, subst, append-nil}
 use Rattle.std.specs.Io.KnownBytes.{Consumes, IsAtEnd}
 use Rattle.std.proofs.KnownBytes.{Consumes-nil}
 use Rattle.ceal_cli.specs.Growth.{WritesAnswer, WritesRefusal, WritesOutput, WritesPrefix, WritesGenerated, WritesGeneratedPrefix}

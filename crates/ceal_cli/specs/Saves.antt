@@ -1,6 +1,6 @@
 -- What is written to go on from later: the source part, a line `%%`, and the save of the situation behind a
 -- script.
-use Rattle.std.specs.Prelude.{◌≡◌, ℕ, List, ◌++◌, codes}
+use Rattle.std.specs.Prelude.{ℕ, List, ◌++◌, codes}
 use Rattle.ceal_base.specs.declared.recorded.Record.{Record}
 use Rattle.ceal_code.specs.Program.{Code}
 use Rattle.ceal_session.specs.Replies.{opening, Leads}

@@ -1,7 +1,6 @@
 // What is written for an input that was read.
 
-ghost use Rattle.std.specs.Prelude.{◌≡◌, ◌≢◌, ◌<◌, ◌≤◌, ◌^◌, ◌↔◌, IsTrue, length, IfOk, OnOk, IsErrOf};
-ghost use Rattle.ceal_base.specs.Answers.{IfFault};
+ghost use Rattle.std.specs.Prelude.{◌≢◌, ◌<◌, ◌^◌, ◌↔◌, IsTrue, length, IfOk, OnOk, IsErrOf};
 ghost use Rattle.ceal_compile.specs.Compiled.{IsCompiled};
 ghost use Rattle.ceal_compile.specs.Source.{IsFirstFault, IsProgram};
 ghost use Rattle.ceal_session.specs.Following.{IsAllowed};

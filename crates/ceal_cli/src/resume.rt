@@ -1,6 +1,6 @@
 // The replies of a session that is resumed.
 
-ghost use Rattle.std.specs.Prelude.{◌≡◌, ◌<◌, ◌^◌, ◌↔◌, IsTrue, length, codes, IfOk, OnOk, IsErrOf};
+ghost use Rattle.std.specs.Prelude.{◌<◌, ◌^◌, ◌↔◌, IsTrue, length, IfOk, OnOk, IsErrOf};
 ghost use Rattle.ceal_compile.specs.Compiled.{IsCompiled};
 ghost use Rattle.ceal_compile.specs.Source.{IsProgram};
 ghost use Rattle.ceal_io.specs.Streams.{Rose};
