@@ -39,7 +39,9 @@ end
 
 /// The save of the increment of 4, with this fuel and these names.
 fn increment(alloc: Global, fuel: &str, names: &str) -> Result<String, NoMemory> {
-    let text = format!(in alloc; "ceal-save 1\nfuel {fuel}\nwork 2\nbound 2\nnames {names}{RECORD}")?;
+    let text = format!(in alloc;
+        "ceal-save 1\nfuel {fuel}\nwork 2\nbound 2\nnames {names}{RECORD}"
+    )?;
     Ok(text)
 }
 

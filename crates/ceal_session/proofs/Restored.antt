@@ -55,8 +55,7 @@ pub held : HeldLaw
 held program s compiled h =
     let code = program.code in
     let structs : code.structs ≡ program.typed.structs = same-structs program.typed code compiled.code in
-    let fits : Fits code s.kept.inputs s.kept.function s.kept.args = h.yes.0.call in
-    (
+    let fits : Fits code s.kept.inputs s.kept.function s.kept.args = h.yes.0.call in (
       h.yes.1.0,
       items code s h,
       record {

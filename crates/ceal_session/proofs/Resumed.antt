@@ -44,7 +44,7 @@ same-state s t a b c d e f g h = go s.program t.program s.fuel t.fuel s.names t.
   where
     go : (p p' : Typed) (n n' : ℕ) (ns ns' : List (List ℕ)) (i i' j j' : List Block) (k k' : Option Call) (o o' q q' : Bool) → p ≡ p' → n ≡ n' → ns ≡ ns' → i ≡ i' → j ≡ j' → k ≡ k' → o ≡ o' → q ≡ q'
         → ◌≡◌ {A = State} (record { program = p; fuel = n; names = ns; inputs = i; settled = j; call = k; out_of_fuel = o; pending = q })
-            (record { program = p'; fuel = n'; names = ns'; inputs = i'; settled = j'; call = k'; out_of_fuel = o'; pending = q' })
+        (record { program = p'; fuel = n'; names = ns'; inputs = i'; settled = j'; call = k'; out_of_fuel = o'; pending = q' })
     go p p' n n' ns ns' i i' j j' k k' o o' q q' a b c d e f g h = rw (a, b, c, d, e, f, g, h) refl
 
 -- a run that is there was not out of fuel
@@ -151,13 +151,13 @@ resumed-law renaming alike program m s st code typed allowed h =
       trace = t;
       items = h.kept.is.items;
       answers = λ lines out end leads. (
-        let there : IsIn (resumed program.typed program.code s t) m =
-        subst (λ c. IsIn (resumed program.typed c s t) m) code (subst (λ p. IsIn (resumed p m.code s t) m) typed (resumed-in renaming m s st allowed h)) in
-        let a = held program s compiled holds in
-        let stands : Stands (resumed program.typed program.code s t) = subst (λ l. Stands (resumed program.typed program.code s l)) (same-trace s.kept.forest a.0 t a.1 h.kept.is.items) a.2 in
-        let r = alike (resumed program.typed program.code s t) m end lines out stands there leads in
-        (r.0, r.1, r.3)
-      );
+          let there : IsIn (resumed program.typed program.code s t) m =
+          subst (λ c. IsIn (resumed program.typed c s t) m) code (subst (λ p. IsIn (resumed p m.code s t) m) typed (resumed-in renaming m s st allowed h)) in
+          let a = held program s compiled holds in
+          let stands : Stands (resumed program.typed program.code s t) = subst (λ l. Stands (resumed program.typed program.code s l)) (same-trace s.kept.forest a.0 t a.1 h.kept.is.items) a.2 in
+          let r = alike (resumed program.typed program.code s t) m end lines out stands there leads in
+          (r.0, r.1, r.3)
+          );
     }
   where
     compiled : IsCompiled program

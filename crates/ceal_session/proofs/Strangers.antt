@@ -166,7 +166,7 @@ module _ (s : State) where
   text-any v w (Told StepsOf) h text k = k
 
 -- the same past, whatever the work of a trace is
-data Beside (code : Code) (inputs : List Block) (f : ℕ) (args : List Word) : Past → Past → Type 0 where
+pub data Beside (code : Code) (inputs : List Block) (f : ℕ) (args : List Word) : Past → Past → Type 0 where
   none : Beside code inputs f args NoTrace NoTrace
   traced : {a b : Repaired} (ps : Pairs) → OneToOne ps → TraceAlike ps a.items b.items → Beside code inputs f args (Traced a) (Traced b)
   going : {r q : Repair} → Sound code own inputs f args r → Carried code inputs 0 r q → Beside code inputs f args (Going r) (Going q)
@@ -196,7 +196,7 @@ module _ (code : Code) (inputs : List Block) (f : ℕ) (args : List Word) (fits 
   next-beside (Beside.traced {a = a} {b = b} ps one alike) h i = begin-traces code inputs f args fits fuel a b ps one alike h i
   next-beside (Beside.going s c) h i = NextAs.some s i c
 
-abbrev BesideIn : Code → List Block → Option Call → Past → Past → Type 0
+abbrev pub BesideIn : Code → List Block → Option Call → Past → Past → Type 0
 BesideIn code inputs None p q = (p ≡ NoTrace) × (q ≡ NoTrace)
 BesideIn code inputs (Some call) p q = Beside code inputs call.function call.args p q
 
@@ -218,14 +218,14 @@ in-more code old new (Some call) fits fit ext p q h = go h
     go (Beside.traced ps one alike) = Beside.traced ps one alike
     go (Beside.going s c) = beside-same (more-past code old new call.function call.args fits fit ext (SamePast.going s c))
 
-abbrev at : Code → State → Past → ℕ → Situation
+abbrev pub at : Code → State → Past → ℕ → Situation
 at code s p bound = record { state = s; code = code; past = p; bound = bound }
 
 -- both are situations that a session comes to
-record Near (code : Code) (s : State) (p q : Past) (b d : ℕ) : Type 0 where
-  left : Stands (at code s p b)
-  right : Stands (at code s q d)
-  past : BesideIn code s.inputs s.call p q
+pub record Near (code : Code) (s : State) (p q : Past) (b d : ℕ) : Type 0 where
+  pub left : Stands (at code s p b)
+  pub right : Stands (at code s q d)
+  pub past : BesideIn code s.inputs s.call p q
 
 module _ (facts : FactsLaw) (calls : CallLaw) (command_law : OneCommandLaw) (answer : OneAnswerLaw) (alike : AlikeLaw) where
   module _ (code : Code) (s : State) (p q : Past) (b d : ℕ) (near : Near code s p q b d) where
@@ -369,26 +369,25 @@ module _ (facts : FactsLaw) (calls : CallLaw) (command_law : OneCommandLaw) (ans
   pub are-alike : (code : Code) (s : State) (p q : Past) (b d : ℕ) → Near code s p q b d → (lines : List (List ℕ)) → AreAlike (at code s p b) (at code s q d) lines
   unfolding AreAlike
   are-alike code s p q b d near [] = are-one code s p q b d near
-  are-alike code s p q b d near (line ∷ lines) = (are-one code s p q b d near, step)
+  are-alike code s p q b d near (line ∷ lines) = (are-one code s p q b d near, step (λ t x y u v k. are-alike code t x y u v k lines))
     where
-      step : (text told : List ℕ) (o t : Situation) → Replies (at code s p b) line text o → Replies (at code s q d) line told t
+      step : ((t : State) (x y : Past) (u v : ℕ) → Near code t x y u v → AreAlike (at code t x u) (at code t y v) lines) → (text told : List ℕ) (o t : Situation) → Replies (at code s p b) line text o → Replies (at code s q d) line told t
           → LineAlike (at code s p b) (at code s q d) line text told o t × AreAlike o t lines
-      step text told o t r k =
+      step later text told o t r k =
           let same : k.command ≡ r.command = command_law line k.command r.command k.reads r.reads in
           let reply : IsText s (numbers_in (at code s q d)) (answered_line s (goes (past_in (at code s q d) r.command)) r.command).reply told =
           subst (λ c. IsText s (numbers_in (at code s q d)) (answered_line s (goes (past_in (at code s q d) c)) c).reply told) same k.reply in
           let t-is : t ≡ behind (at code s q d) r.command = k.next ∙ ap (behind (at code s q d)) same in
-          let more = are-alike code (answered_line s (goes (past_in (at code s p b) r.command)) r.command).state (past_in (at code s p b) r.command) (past_in (at code s q d) r.command)
-          (bound_in (at code s p b) r.command) (bound_in (at code s q d) r.command) (near-left code s p q b d near line r.command r.reads) lines in
-          (
+          let more = later (answered_line s (goes (past_in (at code s p b) r.command)) r.command).state (past_in (at code s p b) r.command) (past_in (at code s q d) r.command)
+          (bound_in (at code s p b) r.command) (bound_in (at code s q d) r.command) (near-left code s p q b d near line r.command r.reads) in (
             record {
               reply = λ h. replies code s p q b d near line r.command r.reads (h r.command r.reads) text told r.reply reply;
               numbers = λ c. (
-                let one : c.command ≡ r.command = command_law line c.command r.command c.reads r.reads in
-                let runs : call_in s r.command ≡ Ok c.call = subst (λ x. call_in s x ≡ Ok c.call) one c.runs in
-                let ends : goes (past_in (at code s p b) r.command) ≡ false = subst (λ (x : Situation). goes x.past ≡ false) r.next c.ends in
-                ap numbers_in r.next ∙ (numbers code s p q b d near line r.command r.reads c.call runs ends ∙ sym (ap numbers_in t-is))
-              );
+                  let one : c.command ≡ r.command = command_law line c.command r.command c.reads r.reads in
+                  let runs : call_in s r.command ≡ Ok c.call = subst (λ x. call_in s x ≡ Ok c.call) one c.runs in
+                  let ends : goes (past_in (at code s p b) r.command) ≡ false = subst (λ (x : Situation). goes x.past ≡ false) r.next c.ends in
+                  ap numbers_in r.next ∙ (numbers code s p q b d near line r.command r.reads c.call runs ends ∙ sym (ap numbers_in t-is))
+                  );
             },
             subst (λ (x : Situation). AreAlike x t lines) (sym r.next)
                 (subst (λ (x : Situation). AreAlike (behind (at code s p b) r.command) x lines) (sym (t-is ∙ behind-is code s p q b d near line r.command r.reads)) more),

@@ -22,6 +22,6 @@ IsNamed (Mod name kind value) = IsName name
 IsNamed (New name shape values) = IsName name
 IsNamed _ = Unit {0}
 
--- the struct that a shape names, if it names one, is there
+-- the struct that an input's shape names, if it names one, is there
 abbrev pub HaveKnownShapes : List StructInfo → List Block → Type 0
 HaveKnownShapes structs inputs = list_all (has_known_shape structs) inputs ≡ true

@@ -56,8 +56,8 @@ pub record HasTraceOf (m : Situation) (call : Call) (l : Repaired) : Type 0 wher
 abbrev pub HasTrace : Situation → Type 0
 HasTrace m = IfSome (last m) (λ l. (call : Call) × (m.state.call ≡ Some call) × HasTraceOf m call l)
 
--- The program has this code; each input has a name of its own and a known shape; the inputs fit, and so does the accepted
--- call; the past is one of it.
+-- The program has this code; each input has a name of its own and a known shape; the inputs fit, and so does the
+-- accepted call; the past is one of it.
 pub record Stands (m : Situation) : Type 0 where
   pub compiled : IsCompiled (record { typed = m.state.program; code = m.code })
   pub named : length m.state.names ≡ length m.state.inputs

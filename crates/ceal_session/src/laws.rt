@@ -98,8 +98,8 @@ pub fn resumed_law()
     alike_law();
 }
 
-/// A law: of a save that holds, whoever wrote it, nothing but its work and its bound is believed, and these until the next
-/// completed run or repair.
+/// A law: of a save that holds, whoever wrote it, nothing but its work and its bound is believed, and these until the
+/// next completed run or repair.
 pub fn stranger_law()
     ensures law { StrangerLaw }
 {

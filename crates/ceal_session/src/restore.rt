@@ -81,6 +81,12 @@ fn has_few_steps(items: &[Item], fuel: u32) -> bool
     true
 }
 
+fn is_yes(verdict: Verdict) -> bool
+    ensures { IsTrue result ↔ (verdict ≡ Yes) }
+{
+    verdict == Verdict::Yes
+}
+
 /// Whether the checker says yes to a record.
 fn is_accepted(alloc: Global, code: &Code, kept: &Record) -> Result<bool, NoMemory>
     requires valid { valid code.now ≡ true }
@@ -88,7 +94,7 @@ fn is_accepted(alloc: Global, code: &Code, kept: &Record) -> Result<bool, NoMemo
 {
     one_verdict_law();
     let verdict = check_trace(alloc, code, kept)?;
-    Ok(verdict == Verdict::Yes)
+    Ok(is_yes(verdict))
 }
 
 /// Whether there is a name for each input.
@@ -162,12 +168,7 @@ fn engine_of(alloc: Global, code: Code, saved: &Saved) -> Result<Engine, NoMemor
 }
 
 /// The state that goes on from a save that holds.
-fn resume(
-    alloc: Global,
-    program: Program,
-    names: Names,
-    saved: &Saved,
-) -> Result<State, NoMemory>
+fn resume(alloc: Global, program: Program, names: Names, saved: &Saved) -> Result<State, NoMemory>
     requires compiled { IsCompiled program }
     requires names { names ≡ saved.now.names }
     requires holds { Holding program.code saved.now }

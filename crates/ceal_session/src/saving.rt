@@ -27,7 +27,8 @@ fn names_of(alloc: Global, names: &Names) -> Result<Vec<Text>, NoMemory>
     Err(NoMemory)
 }
 
-/// The save of the run. There is none where there is no run, the last one was out of fuel, or an edit or a repair is pending.
+/// The save of the run. There is none where there is no run, the last one was out of fuel, or an edit or a repair is
+/// pending.
 pub fn saved(alloc: Global, state: &State) -> Result<Option<Saved>, NoMemory>
     ensures saved { IfOk result
         (λ found. MatchOption found (¬ IsReady state.now.state)

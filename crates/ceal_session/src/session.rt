@@ -202,8 +202,8 @@ impl Session {
         self.state.recorded(self.alloc)
     }
 
-    /// The fuel, the replies to `work` and `bound`, the names of the inputs, and the record. There is none exactly where a
-    /// line `steps` would be refused.
+    /// The fuel, the replies to `work` and `bound`, the names of the inputs, and the record. There is none exactly where
+    /// a line `steps` would be refused.
     pub fn saved(&self) -> Result<Option<Saved>, NoMemory>
         ensures saved { IfOk result
             (λ found. MatchOption found (¬ IsReady self.now.state)
@@ -213,14 +213,10 @@ impl Session {
         saved(self.alloc, &self.state)
     }
 
-    /// A session that goes on from a save, if it holds. The save may be any, from any maker: the checker goes over its record,
-    /// and the call is run anew, so nothing but the numbers of `work` and `bound` is taken from it on trust. Both arguments
-    /// are consumed on every path.
-    pub fn restore(
-        alloc: Global,
-        program: Program,
-        saved: Saved,
-    ) -> Result<Session, RestoreError>
+    /// A session that goes on from a save, if it holds. The save may be any, from any maker: the checker goes over its
+    /// record, and the call is run anew, so nothing but the numbers of `work` and `bound` is taken from it on trust. Both
+    /// arguments are consumed on every path.
+    pub fn restore(alloc: Global, program: Program, saved: Saved) -> Result<Session, RestoreError>
         requires compiled { IsCompiled program }
         ensures restored { IfOk result
             (λ session. IsResumed program saved (situation session)) }
