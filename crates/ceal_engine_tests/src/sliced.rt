@@ -58,7 +58,7 @@ impl<'a> Step<'a> {
 fn begun(call: Call<'_>, inputs: &Inputs) -> Result<Repair, Fail>
     requires { valid call.code.now ≡ true }
     ensures holds { IfOk result
-        (HoldsFor call.code.now inputs.now call.function call.args.now) }
+        (HoldsFor call.entry.code.now inputs.now call.entry.function call.entry.args.now) }
 {
     if !fits(call.code, call.function, call.args, inputs) {
         return Err(Fail::from("it takes no such call"));
@@ -93,7 +93,8 @@ fn sliced(
     requires valid { valid call.code.now ≡ true }
     requires holds { HoldsFor call.code.now before.now call.function call.args.now repair }
     ensures holds { IfOk result
-        (λ s. IfGiven s (HoldsFor call.code.now after.now call.function call.args.now)) }
+        (λ s. IfGiven s (HoldsFor call.entry.code.now after.now
+        call.entry.function call.entry.args.now)) }
 {
     if repair.spent > 1000 || repair.next > 1_000_000 {
         drop(repair);
@@ -117,7 +118,8 @@ fn next(call: Call<'_>, repair: Repair, inputs: &mut Inputs, step: Step<'_>) -> 
     requires valid { valid call.code.now ≡ true }
     requires holds { HoldsFor call.code.now inputs.old call.function call.args.now repair }
     ensures holds { IfOk result
-        (λ s. IfGiven s (HoldsFor call.code.now inputs.new call.function call.args.now)) }
+        (λ s. IfGiven s (HoldsFor call.entry.code.now inputs.new
+        call.entry.function call.entry.args.now)) }
 {
     match inputs.copy() {
         Err(NoMemory) => {
@@ -188,9 +190,11 @@ fn left(
     engine: &Engine,
     progress: Progress,
 ) -> Result<Option<Repair>, Fail>
-    requires holds { IfGiven sliced (HoldsFor call.code.now inputs.now call.function call.args.now) }
+    requires holds { IfGiven sliced
+        (HoldsFor call.code.now inputs.now call.function call.args.now) }
     ensures holds { IfOk result
-        (λ o. IfSome o (HoldsFor call.code.now inputs.now call.function call.args.now)) }
+        (λ o. IfSome o (HoldsFor call.entry.code.now inputs.now
+        call.entry.function call.entry.args.now)) }
 {
     match sliced {
         Sliced::Spent => Err(Fail::from("it is out of fuel")),
@@ -224,7 +228,8 @@ fn both(
     requires valid { valid call.code.now ≡ true }
     requires holds { HoldsFor call.code.now inputs.old call.function call.args.now repair }
     ensures holds { IfOk result
-        (λ o. IfSome o (HoldsFor call.code.now inputs.new call.function call.args.now)) }
+        (λ o. IfSome o (HoldsFor call.entry.code.now inputs.new
+        call.entry.function call.entry.args.now)) }
 {
     let sliced = next(call, repair, inputs, step)?;
     match engine_next(engine, inputs, step.reads) {
