@@ -1,7 +1,7 @@
 """Tries what `./run` does: `python3 -m tools.self_tests proved|unproved`. Without the proved program only what needs few answers is tried."""
 import os, pathlib, re, signal, subprocess, sys, tempfile, time
 
-from tools import answers, rows
+from tools import answers, rows, scripts
 from tools.answers import PROGRAM, TOP
 
 RUN = str(TOP / 'run')
@@ -48,6 +48,7 @@ def refused_at_once(folder):
         ('a fuel of none', ['--fuel', '0', example], 64, '--fuel goes with'),
         ('a fuel that is no number', ['run', '--fuel=much', example], 64, '--fuel goes with'),
         ('a fuel for check', ['check', '--fuel', '5', example], 64, '--fuel goes with'),
+        ('a fuel for resume', ['resume', '--fuel', '5', example], 64, '--fuel goes with'),
         ('a workload of an unknown kind', ['gen', 'lst', '1', '3'], 64, 'gen takes'),
         ('a workload that is too large', ['gen', 'list', '1', '40001'], 64, 'gen takes'),
         ('a graph of check', ['--dot', 'check', example], 64, '--dot does not go with check'),
@@ -196,6 +197,26 @@ def dumps(folder):
     call('verify with a wrong dump', ['verify', 'examples/map.ceal', f'{folder}/dump'], 0, b'no K1: unreadable dump\n')
 
 
+def saves(folder, made):
+    """A run that is saved, and resumed with a script, from one file, from two and from three."""
+    source = pathlib.Path(made['source.ceal']).read_bytes()
+    first, more = pathlib.Path(folder, 'first'), pathlib.Path(folder, 'more')
+    first.write_bytes(b'mod a int 4\nmod b int 0\nrun inc a b\n')
+    more.write_bytes(b'get b\nset a 9\npropagate\nget b\nwork\n')
+    reply = b'5\nok\nok\n10\n1\n'
+    saved = call('save', ['save', made['source.ceal'], str(first)], 0)
+    tell('the source text of a save', [] if saved.startswith(source + b'%%\nceal-save 1\nfuel 1000000\n') else [f'wrote {saved[:300]!r}'])
+    for name, text in (('saved', saved), ('save', scripts.parts(saved)[2]), ('whole', saved + b'%%\n' + more.read_bytes())):
+        pathlib.Path(folder, name).write_bytes(text)
+    call('resume', ['resume', f'{folder}/whole'], 0, reply)
+    call('resume with a script in a file', ['resume', f'{folder}/saved', str(more)], 0, reply)
+    call('resume with a save in a file', ['resume', made['source.ceal'], f'{folder}/save', str(more)], 0, reply)
+    call('resume with what was saved in a file', ['resume', made['source.ceal'], f'{folder}/saved', str(more)], 0, reply)
+    pathlib.Path(folder, 'save').write_bytes(scripts.parts(saved)[2].replace(b'\ni 4\n', b'\ni 7\n', 1))
+    call('resume with a changed save', ['resume', made['source.ceal'], f'{folder}/save', str(more)], 1, b'refused V2: save does not hold\n')
+    call('resume without a save', ['resume', made['source.ceal'], str(more)], 1, b'refused V1: unreadable save\n')
+
+
 def pages():
     """The pictures and sessions of the pages, made anew."""
     for page in (TOP / 'README.md', *sorted((TOP / 'docs').glob('*.md'))):
@@ -242,7 +263,7 @@ def unchanged():
             words = [it.decode(errors='replace') for it in row.words]
             kind = words[0] if words else '', row.status
             seen[kind] = seen.get(kind, 0) + 1
-            if kind[0] in ('run', 'check', 'list', 'dump', 'verify', 'many') and row.status in (0, 1) and seen[kind] <= 5 and '' not in words:
+            if kind[0] in ('run', 'check', 'list', 'dump', 'verify', 'many', 'save', 'resume') and row.status in (0, 1) and seen[kind] <= 5 and '' not in words:
                 pathlib.Path(file.name).write_bytes(row.given())
                 call(f'row {row.name}', [*words, file.name], row.status, b''.join(row.output))
 
@@ -257,6 +278,7 @@ def main(is_proved):
             faults(made)
             options(made)
             dumps(folder)
+            saves(folder, made)
             pages()
             long_lists()
             streams()

@@ -10,7 +10,7 @@ from tools.answers import CRATE, PROGRAM, TOP
 
 ROWS = TOP / 'crates/ceal_rows/data/rows.txt'
 PASSED = re.compile(r'(\d+) passed[,;] (\d+) failed')
-NOTHING = 'Nothing of this proves anything: tests try some inputs, and a proof speaks of all. `bash .ci/run` proves (docs/GATE.md).'
+NOTHING = 'Nothing of this proves anything: tests try some inputs, and a proof speaks of all. `bash .ci/run` proves (CONTRIBUTING.md).'
 
 
 class Part:

@@ -1,6 +1,7 @@
--- A script has one dump, a dump has one verdict, and the lines of many sessions have one text of replies.
-use Rattle.std.proofs.Common.{◌≡◌, inl, inr, ℕ, Option, Some, None, List, [], ◌∷◌, refl, sym, ap, ap₂, ◌∙◌, subst}
+-- A script has one dump and one save, a dump has one verdict, and the lines of many sessions have one text of replies.
+use Rattle.std.proofs.Common.{◌≡◌, inl, inr, ℕ, Option, Some, None, List, [], ◌∷◌, sym, ap, ap₂, ◌∙◌, subst}
 use Rattle.ceal_base.specs.declared.call.Call.{Call}
+use Rattle.ceal_base.specs.declared.recorded.Record.{Record}
 use Rattle.ceal_code.specs.Program.{Code}
 use Rattle.ceal_dump.specs.Answers.{OneRecordLaw as One_dump_law}
 use Rattle.ceal_dump.specs.DumpText.{dump_text}
@@ -15,31 +16,32 @@ use Rattle.ceal_session.specs.Steps.{asked}
 use Rattle.ceal_session.specs.declared.reply.Query.TheVariants.{Steps}
 use Rattle.ceal_session.specs.declared.reply.Reply.{Reply}
 use Rattle.ceal_session.specs.declared.reply.Reply.TheVariants.{Nothing, Ok as Done, OutOfFuel, More, Finished, Refused, Told}
+use Rattle.ceal_snap.specs.Answers.{OneSaveLaw}
 use Rattle.ceal_theory.specs.Computed.{Repaired}
 use Rattle.ceal_traceck.specs.Laws.{OneVerdictLaw}
 use Rattle.ceal_traceck.specs.Verdicts.{Means}
 use Rattle.ceal_cli.specs.ManySessions.{joined, AreManyReplies}
-use Rattle.ceal_cli.specs.Dumps.{IsDumpIn, IsDumpBy, IsDumpOf, IsDumped}
+use Rattle.ceal_cli.specs.Dumps.{IsRecordIn, IsWrittenBy, IsDumpOf, IsDumped}
+use Rattle.ceal_cli.specs.Saves.{save_of, with_source, IsSaveOf, IsSavedBehind}
 use Rattle.ceal_cli.specs.Verdicts.{verdict_text, IsVerdictLine}
 
--- what is known of one record, dump and verdict, and of many sessions
+-- what is known of one record, dump, verdict and save, and of many sessions
 pub record Once : Type 0 where
   pub records : OneRecordLaw
   pub dumps : One_dump_law
   pub verdicts : OneVerdictLaw
   pub sessions : One_many_law Replies
+  pub saves : OneSaveLaw
 
 -- what is written of a situation
-module _ (records : OneRecordLaw) where
-  text-in : (m : Situation) (c : Option Call) (o : Option Repaired) (a b : List ℕ) → IsDumpIn m c o a → IsDumpIn m c o b → a ≡ b
-  text-in m None o a b h k = absurd h
-  text-in m (Some call) None a b h k = absurd h
-  text-in m (Some call) (Some l) a b h k =
-      let same : h.0 ≡ k.0 = records m.code m.state.inputs call l.items h.0 k.0 h.1 k.1 in
-      h.2 ∙ (ap dump_text same ∙ sym k.2)
+module _ (records : OneRecordLaw) (write : Record → List ℕ) where
+  record-in : (m : Situation) (c : Option Call) (o : Option Repaired) (r s : Record) → IsRecordIn m c o r → IsRecordIn m c o s → r ≡ s
+  record-in m None o r s h k = absurd h
+  record-in m (Some call) None r s h k = absurd h
+  record-in m (Some call) (Some l) r s h k = records m.code m.state.inputs call l.items r s h k
 
-  text-by : (reply : Reply) (m : Situation) (a b : List ℕ) → IsDumpBy reply m a → IsDumpBy reply m b → a ≡ b
-  text-by (Told q) m a b h k = text-in m m.state.call (last m) a b h k
+  text-by : (reply : Reply) (m : Situation) (a b : List ℕ) → IsWrittenBy reply m write a → IsWrittenBy reply m write b → a ≡ b
+  text-by (Told q) m a b h k = h.2 ∙ (ap write (record-in m m.state.call (last m) h.0 k.0 h.1 k.1) ∙ sym k.2)
   text-by Nothing m a b h k = h ∙ sym k
   text-by Done m a b h k = h ∙ sym k
   text-by OutOfFuel m a b h k = h ∙ sym k
@@ -47,10 +49,17 @@ module _ (records : OneRecordLaw) where
   text-by Finished m a b h k = h ∙ sym k
   text-by (Refused r) m a b h k = h ∙ sym k
 
-  pub one-dumped : OneScriptLaw → (code : Code) (s : State) (lines : List (List ℕ)) (a b : List ℕ) → IsDumped code s lines a → IsDumped code s lines b → a ≡ b
-  one-dumped script code s lines a b h k =
+module _ (records : OneRecordLaw) (script : OneScriptLaw) where
+  pub one-dumped : (code : Code) (s : State) (lines : List (List ℕ)) (a b : List ℕ) → IsDumped code s lines a → IsDumped code s lines b → a ≡ b
+  one-dumped code s lines a b h k =
       let same : h.end ≡ k.end = (script (opening code s) lines h.replies k.replies h.end k.end h.leads k.leads).1 in
-      text-by (asked k.end.state Steps) k.end a b (subst (λ m. IsDumpOf m a) same h.dump) k.dump
+      text-by records dump_text (asked k.end.state Steps) k.end a b (subst (λ m. IsDumpOf m a) same h.dump) k.dump
+
+  pub one-saved : (source : List ℕ) (code : Code) (s : State) (lines : List (List ℕ)) (a b : List ℕ)
+      → IsSavedBehind code s source lines a → IsSavedBehind code s source lines b → a ≡ b
+  one-saved source code s lines a b h k =
+      let same : h.end ≡ k.end = (script (opening code s) lines h.replies k.replies h.end k.end h.leads k.leads).1 in
+      text-by records (λ kept. with_source source (save_of k.end kept)) (asked k.end.state Steps) k.end a b (subst (λ m. IsSaveOf m source a) same h.save) k.save
 
 -- a session has one reply, and goes on to one situation
 pub determined : OneReplyLaw → IsDetermined Replies

@@ -10,25 +10,26 @@ use Rattle.ceal_compile.specs.declared.program.Program.{Program}
 use Rattle.ceal_compile.specs.FaultLine.{fault_line}
 use Rattle.ceal_compile.specs.Source.{Comes, IsAccepted, IsProgram, IsFirstFault}
 use Rattle.ceal_io.specs.Streams.{GrowsByPrefix}
-use Rattle.ceal_lex.specs.Parts.{IsSplit}
+use Rattle.ceal_lex.specs.Parts.{IsSplit, source_of}
 use Rattle.ceal_lex.specs.declared.parts.Split.{Split}
 use Rattle.ceal_record.specs.Laws.{RenamedLaw}
 use Rattle.ceal_session.specs.Following.{opened}
 use Rattle.ceal_session.specs.Laws.{BegunLaw, KeptLaw, SomeReplyLaw, SomeScriptLaw}
+use Rattle.ceal_session.specs.Saves.{SavedLaw}
 use Rattle.ceal_cli.specs.ManySessions.{AreTold}
 use Rattle.ceal_cli.specs.Fuel.{DEFAULT_FUEL}
-use Rattle.ceal_cli.specs.Growth.{Grows, WritesAnswer, WritesRefusal, WritesOutput, WritesPrefix}
-use Rattle.ceal_cli.specs.Serving.{IsDumpBehind, WritesReplies, BeginsToReply, WritesFromRun, BeginsFromRun}
+use Rattle.ceal_cli.specs.Growth.{Grows, WritesOutput, WritesPrefix}
+use Rattle.ceal_cli.specs.Serving.{IsDumpBehind, IsSaveBehind, WritesReplies, BeginsToReply, WritesFromRun, BeginsFromRun}
 use Rattle.ceal_cli.specs.Lines.{script_of, script_lines}
 use Rattle.ceal_cli.specs.Modes.{ReadsInput}
 use Rattle.ceal_cli.specs.Output.{IsPrefix, IsAnswer, IsListing, Programmed, accepted_text, Begins, IsOutputFromRun}
 use Rattle.ceal_cli.specs.Verdicts.{IsVerdictLine}
 use Rattle.ceal_cli.specs.declared.words.Mode.{Mode}
-use Rattle.ceal_cli.specs.declared.words.Mode.TheVariants.{Check, List as Listing, Run, Gen, Dump, Verify, Many}
+use Rattle.ceal_cli.specs.declared.words.Mode.TheVariants.{Check, List as Listing, Run, Dump, Verify, Many, Save}
 use Rattle.ceal_cli.proofs.Growing.{of_prefix, weaker}
 use Rattle.ceal_cli.proofs.Led.{served, served-from-run, carried}
 use Rattle.ceal_cli.proofs.Prefixes.{begun, begun-from-run}
-use Rattle.ceal_cli.proofs.Situated.{dump-in}
+use Rattle.ceal_cli.proofs.Situated.{dump-in, save-in}
 
 module _ (a b : Option (List ℕ)) (input : List ℕ) where
   -- of the word `accepted`
@@ -76,7 +77,7 @@ module _ (a b : Option (List ℕ)) (input : List ℕ) where
   -- of the line of the first fault
   pub refused_part : (mode : Mode) → ReadsInput mode → (fault : Fault) → IsFirstFault input fault → (text : List ℕ) → text ≡ fault_line input fault → GrowsByPrefix a b text → WritesPrefix a b mode input
   refused_part mode reads fault is text same grows =
-      weaker (λ out prefix. inr (fault_line input fault, inr (reads, fault, is, refl), subst (IsPrefix out) same prefix)) (of_prefix a b text grows)
+      weaker (λ out prefix. inr (fault_line input fault, inr (reads, inl (fault, is, refl)), subst (IsPrefix out) same prefix)) (of_prefix a b text grows)
 
   module _ (part : Split) (split : IsSplit input part) (p : Program) (reads : IsProgram input p.typed) (compiled : IsCompiled p) (begins : BegunLaw) (kept : KeptLaw) where
     programmed : Programmed input
@@ -107,7 +108,7 @@ module _ (a b : Option (List ℕ)) (input : List ℕ) where
       unfolding programmed
       dump-answer text behind =
           let there = carried kept (opened p fuel) behind.end (opened p fuel) lines (begins p fuel compiled) behind.carries in
-          (programmed, record { replies = there.0; end = there.1; leads = there.2; dump = dump-in renamed behind.end there.1 there.3 text behind.dump })
+          (programmed, record { replies = there.0; end = there.1; leads = there.2; dump = dump-in renamed behind.end there.1 there.3 text behind.is })
 
       pub dumped : {E : Type 0} (r : Result (Unit {0}) E) → OnOk r (Grows a b (IsDumpBehind (opened p fuel) lines)) → OnOk r (WritesOutput a b (Dump fuel) input)
       dumped (Ok u) h = weaker (λ out is. inl (dump-answer out is)) h
@@ -115,6 +116,21 @@ module _ (a b : Option (List ℕ)) (input : List ℕ) where
 
       pub dumped_part : Grows a b (Begins (IsDumpBehind (opened p fuel) lines)) → WritesPrefix a b (Dump fuel) input
       dumped_part h = weaker (λ out begun. elim begun [ inl e ↦ inl e | inr w ↦ inr (w.0, inl (dump-answer w.0 w.1), w.2) ]) h
+
+    -- of the save behind the script
+    module _ (renamed : RenamedLaw) (saves : SavedLaw) (fuel : ℕ) where
+      save-answer : (text : List ℕ) → IsSaveBehind (source_of input part) (opened p fuel) lines text → IsAnswer (Save fuel) input text
+      unfolding programmed
+      save-answer text behind =
+          let there = carried kept (opened p fuel) behind.end (opened p fuel) lines (begins p fuel compiled) behind.carries in
+          (programmed, record { replies = there.0; end = there.1; leads = there.2; save = save-in renamed saves (source_of input part) behind.end there.1 there.3 text behind.is })
+
+      pub saved : {E : Type 0} (r : Result (Unit {0}) E) → OnOk r (Grows a b (IsSaveBehind (source_of input part) (opened p fuel) lines)) → OnOk r (WritesOutput a b (Save fuel) input)
+      saved (Ok u) h = weaker (λ out is. inl (save-answer out is)) h
+      saved (Err e) h = tt
+
+      pub saved_part : Grows a b (Begins (IsSaveBehind (source_of input part) (opened p fuel) lines)) → WritesPrefix a b (Save fuel) input
+      saved_part h = weaker (λ out begun. elim begun [ inl e ↦ inl e | inr w ↦ inr (w.0, inl (save-answer w.0 w.1), w.2) ]) h
 
     -- of the replies from that of the first run on
     pub from_run : {E : Type 0} (r : Result (Unit {0}) E) → OnOk r (WritesFromRun a b (opened p DEFAULT_FUEL) lines) → OnOk r (Grows a b (IsOutputFromRun input))
@@ -135,20 +151,3 @@ module _ (a b : Option (List ℕ)) (input : List ℕ) where
 pub not_accepted : (input : List ℕ) (fault : Fault) → ((a b : Result Typed Fault) → Comes input a → Comes input b → a ≡ b)
     → IsFirstFault input fault → IsAccepted input → ⊥
 not_accepted input fault once is (program, reads) = absurd (cc (once (Ok program) (Err fault) reads is))
-
--- the output for an accepted input is the answer, and that for another one the line of its first fault
-pub answer_of : (a b : Option (List ℕ)) (mode : Mode) (input : List ℕ) → ((r s : Result Typed Fault) → Comes input r → Comes input s → r ≡ s)
-    → IsAccepted input → WritesOutput a b mode input → WritesAnswer a b mode input
-answer_of a b mode input once accepted h = weaker (λ out is. elim is [ inl answer ↦ answer | inr line ↦ absurd (not_accepted input line.1 once line.2 accepted) ]) h
-
-pub answer_accepted : (mode : Mode) (input out : List ℕ) → ReadsInput mode → IsAnswer mode input out → IsAccepted input
-answer_accepted Check input out reads h = h.0
-answer_accepted Listing input out reads h = (h.program, h.reads)
-answer_accepted Verify input out reads h = (h.0.program, h.0.reads)
-answer_accepted (Run fuel) input out reads h = (h.0.program, h.0.reads)
-answer_accepted (Dump fuel) input out reads h = (h.0.program, h.0.reads)
-answer_accepted (Many fuel) input out reads h = (h.0.program, h.0.reads)
-answer_accepted (Gen kind seed size) input out reads h = absurd reads
-
-pub refusal_of : (a b : Option (List ℕ)) (mode : Mode) (input : List ℕ) → ReadsInput mode → (IsAccepted input → ⊥) → WritesOutput a b mode input → WritesRefusal a b mode input
-refusal_of a b mode input reads none h = weaker (λ out is. elim is [ inl answer ↦ absurd (none (answer_accepted mode input out reads answer)) | inr line ↦ line ]) h

@@ -17,17 +17,21 @@ use Rattle.ceal_session.specs.Laws.{Kept, BegunLaw, DroppedLaw, KeptLaw, SomeRep
 use Rattle.ceal_session.specs.Recording.{IsRecorded}
 use Rattle.ceal_session.specs.Replies.{opening, Answers, Replies}
 use Rattle.ceal_session.specs.Runs.{begun}
+use Rattle.ceal_session.specs.Saves.{SavedLaw}
+use Rattle.ceal_session.specs.Saving.{IsSaved}
 use Rattle.ceal_session.specs.Standing.{IsIn, IsSamePast, Stands}
-use Rattle.ceal_session.specs.State.{State, Situation, completed, last, numbers_in}
+use Rattle.ceal_session.specs.State.{State, Situation, completed, numbers_in}
 use Rattle.ceal_session.specs.Steps.{asked, call_of, has_no_run}
 use Rattle.ceal_session.specs.declared.refusal.Refusal.TheVariants.{C7, C8}
 use Rattle.ceal_session.specs.declared.reply.Query.TheVariants.{Steps}
 use Rattle.ceal_session.specs.declared.reply.Reply.TheVariants.{Refused, Told}
+use Rattle.ceal_snap.specs.SaveText.{Save}
 use Rattle.ceal_theory.specs.Computed.{Repaired}
 use Rattle.ceal_theory.specs.Laws.{RenamedRepair}
 use Rattle.ceal_theory.specs.Pasts.{Past, SamePast, goes}
-use Rattle.ceal_cli.specs.Dumps.{IsDumpIn, IsDumpBy, IsDumpOf, no_run_text}
-use Rattle.ceal_cli.specs.Serving.{IsDumpFrom}
+use Rattle.ceal_cli.specs.Dumps.{IsRecordIn, IsWrittenBy, IsWrittenOf, IsDumpOf, no_run_text}
+use Rattle.ceal_cli.specs.Saves.{save_of, with_source, IsSaveOf}
+use Rattle.ceal_cli.specs.Serving.{IsDumpFrom, IsSaveFrom}
 
 -- each line has a reply, and the situation behind it is one that a session comes to
 pub goes-on : SomeReplyLaw → (s : Situation) (line : List ℕ) → Stands s → (text : List ℕ) × (n : Situation) × Replies s line text n × Stands n
@@ -51,48 +55,65 @@ left-in law m n s line h (inr d) =
       inr (record { command = d.command; reads = d.reads; call = d.call; runs = runs; left = refl }),
     )
 
--- The dump of a session's record is that of the situation that it is in.
-module _ (renamed : RenamedLaw) (m s : Situation) (h : IsIn m s) (out : List ℕ) where
-  none-ready : (IsReady s.state → ⊥) → out ≡ no_run_text → IsDumpOf s out
+-- What is written of a session's record is that of the situation that it is in.
+module _ (renamed : RenamedLaw) (m s : Situation) (h : IsIn m s) (write : Record → List ℕ) (out : List ℕ) where
+  none-ready : (IsReady m.state → ⊥) → out ≡ no_run_text → IsWrittenOf s write out
   none-ready absent e = go (has_no_run s.state) refl s.state.pending refl
     where
-      go : (a : Bool) → has_no_run s.state ≡ a → (b : Bool) → s.state.pending ≡ b → IsDumpBy (if a then Refused C7 else if b then Refused C8 else Told Steps) s out
+      go : (a : Bool) → has_no_run s.state ≡ a → (b : Bool) → s.state.pending ≡ b → IsWrittenBy (if a then Refused C7 else if b then Refused C8 else Told Steps) s write out
       go true i b j = e
       go false i true j = e
-      go false i false j = absurd (absent (record { run = i; edited = j }))
+      go false i false j = absurd (absent (subst IsReady (sym h.state) (record { run = i; edited = j })))
 
-  module _ (r : Record) (e : out ≡ dump_text r) (call : Call) (run : Repaired) (is : IsRecordOf s.code s.state.inputs call run.items r) where
-    by-trace : (o q : Option Repaired) → RenamedRepair o q → q ≡ Some run → IsDumpIn s (Some call) o out
+  module _ (r : Record) (call : Call) (run : Repaired) (is : IsRecordOf s.code s.state.inputs call run.items r) where
+    by-trace : (o q : Option Repaired) → RenamedRepair o q → q ≡ Some run → IsRecordIn s (Some call) o r
     by-trace _ _ RenamedRepair.none there = absurd (cc there)
     by-trace _ _ (RenamedRepair.some {a = a} {b = b} ps one alike work) there =
         let same : run ≡ b = cc there in
         let here : IsRecordOf s.code s.state.inputs call b.items r = subst (λ (x : Repaired). IsRecordOf s.code s.state.inputs call x.items r) same is in
-        (r, renamed s.code s.state.inputs call ps a.items b.items r one alike here, e)
+        renamed s.code s.state.inputs call ps a.items b.items r one alike here
 
-    by-past : (f : ℕ) (args : List Word) (p q : Past) → SamePast s.code s.state.inputs f args p q → completed q ≡ Some run → IsDumpIn s (Some call) (completed p) out
+    by-past : (f : ℕ) (args : List Word) (p q : Past) → SamePast s.code s.state.inputs f args p q → completed q ≡ Some run → IsRecordIn s (Some call) (completed p) r
     by-past f args _ _ SamePast.none there = absurd (cc there)
     by-past f args _ _ (SamePast.traced {a = a} {b = b} alike) there = by-trace (Some a) (Some b) alike there
     by-past f args _ _ (SamePast.going sound carried) there = absurd (cc there)
 
-  by-call : (r : Record) → out ≡ dump_text r → (call : Call) (run : Repaired) → IsRecordOf s.code s.state.inputs call run.items r
-      → (c : Option Call) → c ≡ Some call → (p q : Past) → IsSamePast s.code s.state.inputs c p q → completed q ≡ Some run → IsDumpIn s c (completed p) out
-  by-call r e call run is None called p q same there = absurd (cc called)
-  by-call r e call run is (Some c) called p q same there =
+  by-call : (r : Record) (call : Call) (run : Repaired) → IsRecordOf s.code s.state.inputs call run.items r
+      → (c : Option Call) → c ≡ Some call → (p q : Past) → IsSamePast s.code s.state.inputs c p q → completed q ≡ Some run → IsRecordIn s c (completed p) r
+  by-call r call run is None called p q same there = absurd (cc called)
+  by-call r call run is (Some c) called p q same there =
       let known : call ≡ c = cc called in
-      by-past r e c run (subst (λ (x : Call). IsRecordOf s.code s.state.inputs x run.items r) known is) c.function c.args p q same there
+      by-past r c run (subst (λ (x : Call). IsRecordOf s.code s.state.inputs x run.items r) known is) c.function c.args p q same there
 
-  recorded-in : (r : Record) → IsRecorded m r → out ≡ dump_text r → IsDumpOf s out
+  recorded-in : (r : Record) → IsRecorded m r → out ≡ write r → IsWrittenOf s write out
   recorded-in r k e =
       let ready : IsReady s.state = subst IsReady h.state k.ready in
       let told : asked s.state Steps ≡ Told Steps = rw (ready.run, ready.edited) refl in
       let is : IsRecordOf s.code s.state.inputs k.call k.run.items r =
       subst (λ x. IsRecordOf x s.state.inputs k.call k.run.items r) h.code (subst (λ (x : State). IsRecordOf m.code x.inputs k.call k.run.items r) h.state k.is) in
-      subst (λ reply. IsDumpBy reply s out) (sym told)
-      (by-call r e k.call k.run is s.state.call (ap (λ (x : State). x.call) (sym h.state) ∙ k.called) s.past m.past h.past k.traced)
+      subst (λ reply. IsWrittenBy reply s write out) (sym told)
+      (r, by-call r k.call k.run is s.state.call (ap (λ (x : State). x.call) (sym h.state) ∙ k.called) s.past m.past h.past k.traced, e)
 
-  pub dump-in : IsDumpFrom m out → IsDumpOf s out
-  dump-in (inl (absent, e)) = none-ready (λ r. absent (subst IsReady (sym h.state) r)) e
-  dump-in (inr (r, k, e)) = recorded-in r k e
+pub dump-in : RenamedLaw → (m s : Situation) → IsIn m s → (out : List ℕ) → IsDumpFrom m out → IsDumpOf s out
+dump-in renamed m s h out (inl (absent, e)) = none-ready renamed m s h dump_text out absent e
+dump-in renamed m s h out (inr (r, k, e)) = recorded-in renamed m s h dump_text out r k e
+
+-- the save of a situation with these parts
+save-with : ℕ → ℕ → ℕ → List (List ℕ) → Record → Save
+save-with fuel work bound names kept = record { fuel = fuel; work = work; bound = bound; names = names; kept = kept }
+
+same-save : (m : Situation) (s : Save) → IsSaved m s → s ≡ save_of m s.kept
+unfolding save-with
+same-save m s h =
+    ap (λ n. save-with n s.work s.bound s.names s.kept) h.fuel
+    ∙ (ap (λ n. save-with m.state.fuel n s.bound s.names s.kept) h.work
+    ∙ (ap (λ n. save-with m.state.fuel (numbers_in m).work n s.names s.kept) h.bound
+    ∙ ap (λ names. save-with m.state.fuel (numbers_in m).work m.bound names s.kept) h.names))
+
+pub save-in : RenamedLaw → SavedLaw → (source : List ℕ) (m s : Situation) → IsIn m s → (out : List ℕ) → IsSaveFrom source m out → IsSaveOf s source out
+save-in renamed saved source m s h out (inl (absent, e)) = none-ready renamed m s h (λ kept. with_source source (save_of s kept)) out absent e
+save-in renamed saved source m s h out (inr (v, k, e)) =
+    recorded-in renamed m s h (λ kept. with_source source (save_of s kept)) out v.kept k.kept (e ∙ ap (with_source source) (same-save s v (saved m s v h k)))
 
 -- what a session answers, and what is left of it, for each situation that it is in
 module _ {E : Type 0} (r : Result (List ℕ) E) (old new : Situation) (line : List ℕ) where

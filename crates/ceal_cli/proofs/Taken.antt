@@ -10,7 +10,7 @@ use Rattle.ceal_cli.specs.Fuel.{SpellsFuel}
 use Rattle.ceal_cli.specs.Workloads.{NamesWorkload, SpellsSeed, SpellsSize, kind_word}
 use Rattle.ceal_cli.specs.CommandLine.{Chooses, IsFuel, ceal_command}
 use Rattle.ceal_cli.specs.declared.words.Mode.{Mode}
-use Rattle.ceal_cli.specs.declared.words.Mode.TheVariants.{Check, List as Listing, Run, Gen, Dump, Verify, Many}
+use Rattle.ceal_cli.specs.declared.words.Mode.TheVariants.{Check, List as Listing, Run, Gen, Dump, Verify, Many, Save, Resume}
 use Rattle.ceal_gen.specs.declared.kind.Workload.{Workload}
 use Rattle.ceal_gen.specs.declared.kind.Workload.TheVariants.{List as OfList, Tree as OfTree}
 use Rattle.ceal_cli.proofs.Found.{plain_of}
@@ -46,6 +46,9 @@ LIST = codes "list"
 abbrev VERIFY : Text
 VERIFY = codes "verify"
 
+abbrev RESUME : Text
+RESUME = codes "resume"
+
 check_alone : (words : List Text) → AreMarked (CHECK ∷ []) words → Takes (CHECK ∷ []) None words
 unfolding clap_on_literals
 check_alone = takes_plain CHECK [] refl refl refl (record { dashes = refl; long = refl; short = refl }, tt)
@@ -57,6 +60,10 @@ list_alone = takes_plain LIST [] refl refl refl (record { dashes = refl; long = 
 verify_alone : (words : List Text) → AreMarked (VERIFY ∷ []) words → Takes (VERIFY ∷ []) None words
 unfolding clap_on_literals
 verify_alone = takes_plain VERIFY [] refl refl refl (record { dashes = refl; long = refl; short = refl }, tt)
+
+resume_alone : (words : List Text) → AreMarked (RESUME ∷ []) words → Takes (RESUME ∷ []) None words
+unfolding clap_on_literals
+resume_alone = takes_plain RESUME [] refl refl refl (record { dashes = refl; long = refl; short = refl }, tt)
 
 no_hyphen : (d : ℕ) → digit_value d < 10 → eqb d 45 ≡ false
 no_hyphen d h = go (eqb d 45) refl
@@ -185,6 +192,12 @@ taken words (Dump fuel) asks =
 taken words (Many fuel) asks =
     let t = names 109 (codes "any") refl fuel words asks in
     record { none = t.none; chooses = (t.word_is, t.fuel_is) }
+taken words (Save fuel) asks =
+    let t = names 115 (codes "ave") refl fuel words asks in
+    record { none = t.none; chooses = (t.word_is, t.fuel_is) }
+taken words Resume asks =
+    let t = resume_alone words asks in
+    record { none = t.taken; chooses = (t.plain_words, t.value_is) }
 taken words (Gen kind seed size) (plain, names, marked) =
     let t = generated words plain kind seed size names marked in
     record { none = t.taken; chooses = (subst (λ (l : List Text). NamesWorkload l kind seed size) (sym t.plain_words) names, t.value_is) }

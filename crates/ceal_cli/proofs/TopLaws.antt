@@ -1,12 +1,10 @@
 -- From the bytes that were read to the input that the source told.
-use Rattle.std.proofs.Common.{arith, ◌≡◌, ◌≤◌, ◌⊎◌, inl, inr, ℕ, Option, Some, None, Result, List, [], ◌++◌, length, IfSome, refl, sym, ap, ◌∙◌, subst, append-nil}
+use Rattle.std.proofs.Common.{arith, ◌≡◌, ◌≤◌, ◌⊎◌, inl, inr, ℕ, Option, Some, None, List, [], ◌++◌, length, IfSome, refl, sym, ap, ◌∙◌, subst, append-nil}
 use Rattle.std.specs.Io.KnownBytes.{Consumes, IsAtEnd}
 use Rattle.std.proofs.KnownBytes.{Consumes-nil}
-use Rattle.ceal_base.specs.declared.fault.Fault.{Fault}
-use Rattle.ceal_base.specs.declared.typed.Typed.{Typed}
-use Rattle.ceal_compile.specs.Source.{Comes, IsAccepted}
 use Rattle.ceal_cli.specs.Growth.{WritesAnswer, WritesRefusal, WritesOutput, WritesPrefix, WritesGenerated, WritesGeneratedPrefix}
-use Rattle.ceal_cli.specs.Output.{Begins, IsOutput}
+use Rattle.ceal_cli.specs.Laws.{AnsweredLaw, UntakenLaw}
+use Rattle.ceal_cli.specs.Output.{Begins, IsOutput, IsTaken}
 use Rattle.ceal_cli.specs.declared.top.Status.{Status}
 use Rattle.ceal_cli.specs.declared.top.TheConstants.{INPUT_LIMIT}
 use Rattle.ceal_cli.specs.Modes.{ReadsInput}
@@ -15,7 +13,6 @@ use Rattle.ceal_cli.specs.declared.words.Mode.{Mode}
 use Rattle.ceal_cli.specs.declared.words.Mode.TheVariants.{Gen}
 use Rattle.ceal_gen.specs.declared.kind.Workload.{Workload}
 use Rattle.ceal_cli.proofs.Growing.{nothing, weaker}
-use Rattle.ceal_cli.proofs.OutputLaws.{answer_of, refusal_of}
 use Rattle.ceal_cli.specs.declared.top.Status.TheVariants.{Done, Refused, Memory, WriteFault}
 
 -- what was read up to the end is the input
@@ -40,12 +37,12 @@ module _ (old new : Option (List ℕ)) (bytes text : List ℕ) (all : Consumes o
   pub output_for : (a b : Option (List ℕ)) (mode : Mode) → WritesOutput a b mode text → IfSome old (λ input. WritesOutput a b mode input)
   output_for a b mode h = for_input (λ input. WritesOutput a b mode input) h
 
-  pub answer_for : (a b : Option (List ℕ)) (mode : Mode) → ((r s : Result Typed Fault) → Comes text r → Comes text s → r ≡ s) → IsAccepted text → WritesOutput a b mode text
-      → IfSome old (λ input. WritesAnswer a b mode input)
-  answer_for a b mode once accepted h = for_input (λ input. WritesAnswer a b mode input) (answer_of a b mode text once accepted h)
+  pub answer_for : (a b : Option (List ℕ)) (mode : Mode) → AnsweredLaw → IsTaken mode text → WritesOutput a b mode text → IfSome old (λ input. WritesAnswer a b mode input)
+  answer_for a b mode law taken h = for_input (λ input. WritesAnswer a b mode input) (weaker (λ out is. law mode text out taken is) h)
 
-  pub refusal_for : (a b : Option (List ℕ)) (mode : Mode) → ReadsInput mode → (IsAccepted text → ⊥) → WritesOutput a b mode text → IfSome old (λ input. WritesRefusal a b mode input)
-  refusal_for a b mode reads none h = for_input (λ input. WritesRefusal a b mode input) (refusal_of a b mode text reads none h)
+  pub refusal_for : (a b : Option (List ℕ)) (mode : Mode) → UntakenLaw → ReadsInput mode → (IsTaken mode text → ⊥) → WritesOutput a b mode text
+      → IfSome old (λ input. WritesRefusal a b mode input)
+  refusal_for a b mode law reads none h = for_input (λ input. WritesRefusal a b mode input) (weaker (λ out is. law mode text out reads none is) h)
 
   pub prefix_for : (a b : Option (List ℕ)) (mode : Mode) → WritesPrefix a b mode text → IfSome old (λ input. WritesPrefix a b mode input)
   prefix_for a b mode h = for_input (λ input. WritesPrefix a b mode input) h
@@ -53,24 +50,29 @@ module _ (old new : Option (List ℕ)) (bytes text : List ℕ) (all : Consumes o
   pub short_for : length text ≤ INPUT_LIMIT → IfSome old (λ input. length input ≤ INPUT_LIMIT)
   short_for h = for_input (λ input. length input ≤ INPUT_LIMIT) h
 
-  pub accepted_for : IsAccepted text → IfSome old (λ input. IsAccepted input)
-  accepted_for h = for_input (λ input. IsAccepted input) h
+  module _ (mode : Mode) where
+    pub taken_for : IsTaken mode text → IfSome old (λ input. IsTaken mode input)
+    taken_for h = for_input (λ input. IsTaken mode input) h
 
-  pub refused_for : (IsAccepted text → ⊥) → IfSome old (λ input. IsAccepted input → ⊥)
-  refused_for h = for_input (λ input. IsAccepted input → ⊥) h
+    pub refused_for : (IsTaken mode text → ⊥) → IfSome old (λ input. IsTaken mode input → ⊥)
+    refused_for h = for_input (λ input. IsTaken mode input → ⊥) h
 
-  pub done_for : (R S : Type 0) → IfSome old (λ input. length input ≤ INPUT_LIMIT → IsAccepted input → R → S → (Done ≡ Done) ⊎ (Done ≡ Memory))
-  done_for R S = for_input (λ input. length input ≤ INPUT_LIMIT → IsAccepted input → R → S → (Done ≡ Done) ⊎ (Done ≡ Memory)) (λ short h r s. inl refl)
+    pub done_for : (R S : Type 0) → IfSome old (λ input. length input ≤ INPUT_LIMIT → IsTaken mode input → R → S → (Done ≡ Done) ⊎ (Done ≡ Memory))
+    done_for R S = for_input (λ input. length input ≤ INPUT_LIMIT → IsTaken mode input → R → S → (Done ≡ Done) ⊎ (Done ≡ Memory)) (λ short h r s. inl refl)
 
-  pub not_refused_for : (R S : Type 0) → IsAccepted text
-      → IfSome old (λ input. length input ≤ INPUT_LIMIT → (IsAccepted input → ⊥) → R → S → (Done ≡ Refused) ⊎ (Done ≡ Memory))
-  not_refused_for R S h =
-      for_input (λ input. length input ≤ INPUT_LIMIT → (IsAccepted input → ⊥) → R → S → (Done ≡ Refused) ⊎ (Done ≡ Memory)) (λ short none r s. absurd (none h))
+    pub not_taken_for : (R S : Type 0) → IfSome old (λ input. length input ≤ INPUT_LIMIT → (IsTaken mode input → ⊥) → R → S → (Refused ≡ Refused) ⊎ (Refused ≡ Memory))
+    not_taken_for R S =
+        for_input (λ input. length input ≤ INPUT_LIMIT → (IsTaken mode input → ⊥) → R → S → (Refused ≡ Refused) ⊎ (Refused ≡ Memory)) (λ short none r s. inl refl)
 
-  pub not_done_for : (R S : Type 0) → (IsAccepted text → ⊥)
-      → IfSome old (λ input. length input ≤ INPUT_LIMIT → IsAccepted input → R → S → (Refused ≡ Done) ⊎ (Refused ≡ Memory))
-  not_done_for R S none =
-      for_input (λ input. length input ≤ INPUT_LIMIT → IsAccepted input → R → S → (Refused ≡ Done) ⊎ (Refused ≡ Memory)) (λ short h r s. absurd (none h))
+    pub not_refused_for : (R S : Type 0) → IsTaken mode text
+        → IfSome old (λ input. length input ≤ INPUT_LIMIT → (IsTaken mode input → ⊥) → R → S → (Done ≡ Refused) ⊎ (Done ≡ Memory))
+    not_refused_for R S h =
+        for_input (λ input. length input ≤ INPUT_LIMIT → (IsTaken mode input → ⊥) → R → S → (Done ≡ Refused) ⊎ (Done ≡ Memory)) (λ short none r s. absurd (none h))
+
+    pub not_done_for : (R S : Type 0) → (IsTaken mode text → ⊥)
+        → IfSome old (λ input. length input ≤ INPUT_LIMIT → IsTaken mode input → R → S → (Refused ≡ Done) ⊎ (Refused ≡ Memory))
+    not_done_for R S none =
+        for_input (λ input. length input ≤ INPUT_LIMIT → IsTaken mode input → R → S → (Refused ≡ Done) ⊎ (Refused ≡ Memory)) (λ short h r s. absurd (none h))
 
 -- what was written while nothing was
 pub none_for : (left a : Option (List ℕ)) (mode : Mode) → IfSome left (λ input. WritesPrefix a a mode input)

@@ -15,7 +15,7 @@ use Rattle.ceal_traceck.specs.declared.verdict.Verdict.TheVariants.{Yes, NoFit, 
 use Rattle.ceal_cli.specs.Laws.{Verified, VerifiedLaw}
 use Rattle.ceal_cli.specs.Output.{bytes_behind}
 use Rattle.ceal_cli.specs.Verdicts.{verdict_text, unreadable_text}
-use Rattle.ceal_cli.proofs.OneOutput.{AnswerLaw}
+use Rattle.ceal_cli.proofs.Programs.{AnswerLaw}
 
 -- no other verdict has this line
 is-yes : (v : Verdict) → verdict_text Yes ≡ verdict_text v → v ≡ Yes

@@ -1,5 +1,5 @@
 -- Which answers of the top call say what.
-use Rattle.std.specs.Prelude.{ℕ, List, [], codes}
+use Rattle.std.specs.Prelude.{ℕ, List, [], ◌++◌, codes}
 use Rattle.ceal_cli.specs.declared.top.Status.{Status}
 use Rattle.ceal_cli.specs.declared.top.Status.TheVariants.{Done, Refused, Usage, TooLong, Memory, ReadFault, WriteFault}
 
@@ -48,7 +48,8 @@ abbrev pub status_text : Status → List ℕ
 status_text Done = []
 status_text Refused = []
 status_text Usage =
-    codes "usage: ceal run [--fuel N] | check | list | gen KIND SEED SIZE | dump [--fuel N] | verify | many [--fuel N]\n"
+    codes "usage: ceal run [--fuel N] | check | list | gen KIND SEED SIZE | dump [--fuel N] | verify | many [--fuel N]"
+    ++ codes " | save [--fuel N] | resume\n"
 status_text TooLong = codes "ceal: input longer than 4194304 bytes\n"
 status_text Memory = codes "ceal: out of memory\n"
 status_text ReadFault = codes "ceal: reading failed\n"

@@ -5,7 +5,7 @@ use Rattle.clap.specs.Lexer.{usize_max}
 use Rattle.ceal_cli.specs.Fuel.{DEFAULT_FUEL, SpellsFuel}
 use Rattle.ceal_cli.specs.Workloads.{NamesWorkload}
 use Rattle.ceal_cli.specs.declared.words.Mode.{Mode}
-use Rattle.ceal_cli.specs.declared.words.Mode.TheVariants.{Check, List as Listing, Run, Gen, Dump, Verify, Many}
+use Rattle.ceal_cli.specs.declared.words.Mode.TheVariants.{Check, List as Listing, Run, Gen, Dump, Verify, Many, Save, Resume}
 
 -- the option `--fuel` with one value
 abbrev pub fuel_option : Rule
@@ -38,6 +38,8 @@ Chooses words option Verify = (words ≡ codes "verify" ∷ []) × (option ≡ N
 Chooses words option (Run fuel) = (words ≡ codes "run" ∷ []) × IsFuel option fuel
 Chooses words option (Dump fuel) = (words ≡ codes "dump" ∷ []) × IsFuel option fuel
 Chooses words option (Many fuel) = (words ≡ codes "many" ∷ []) × IsFuel option fuel
+Chooses words option (Save fuel) = (words ≡ codes "save" ∷ []) × IsFuel option fuel
+Chooses words option Resume = (words ≡ codes "resume" ∷ []) × (option ≡ None)
 Chooses words option (Gen kind seed size) = NamesWorkload words kind seed size × (option ≡ None)
 
 abbrev pub ChoosesNone : List (List ℕ) → Option (List ℕ) → Type 0

@@ -16,20 +16,24 @@ use Rattle.ceal_theory.specs.Computed.{Repaired}
 abbrev pub no_run_text : List ℕ
 no_run_text = codes "no finished run\n"
 
--- the dump of the record of this trace of the call
-abbrev pub IsDumpIn : Situation → Option Call → Option Repaired → List ℕ → Type 0
-IsDumpIn m (Some call) (Some l) out =
-    (r : Record) × IsRecordOf m.code m.state.inputs call l.items r × (out ≡ dump_text r)
-IsDumpIn m _ _ out = ⊥
+-- the record of this trace of the call, in the situation
+abbrev pub IsRecordIn : Situation → Option Call → Option Repaired → Record → Type 0
+IsRecordIn m (Some call) (Some l) r = IsRecordOf m.code m.state.inputs call l.items r
+IsRecordIn m _ _ r = ⊥
 
--- by what a line `steps` would be answered
-abbrev pub IsDumpBy : Reply → Situation → List ℕ → Type 0
-IsDumpBy (Told q) m out = IsDumpIn m m.state.call (last m) out
-IsDumpBy _ m out = out ≡ no_run_text
+-- By what a line `steps` would be answered: where it is told, what is written of the record of the run
+-- of this moment, and else the line that says that there is none.
+abbrev pub IsWrittenBy : Reply → Situation → (Record → List ℕ) → List ℕ → Type 0
+IsWrittenBy (Told q) m write out =
+    (r : Record) × IsRecordIn m m.state.call (last m) r × (out ≡ write r)
+IsWrittenBy _ m write out = out ≡ no_run_text
+
+abbrev pub IsWrittenOf : Situation → (Record → List ℕ) → List ℕ → Type 0
+IsWrittenOf m write out = IsWrittenBy (asked m.state Steps) m write out
 
 -- The dump of the run of this moment; where a line `steps` would be refused, the line that says so.
 abbrev pub IsDumpOf : Situation → List ℕ → Type 0
-IsDumpOf m out = IsDumpBy (asked m.state Steps) m out
+IsDumpOf m out = IsWrittenOf m dump_text out
 
 -- So it is behind the lines, from a state where nothing was run.
 pub record IsDumped (code : Code) (s : State) (lines : List (List ℕ)) (out : List ℕ) : Type 0 where

@@ -11,11 +11,11 @@ pub record Grows (old now : Option (List ℕ)) (P : List ℕ → Type 0) : Type 
   pub is : P out
   pub appends : Appends old now out
 
--- by the answer to this input, which is accepted
+-- by the answer to this input, which is taken
 abbrev pub WritesAnswer : Option (List ℕ) → Option (List ℕ) → Mode → List ℕ → Type 0
 WritesAnswer old now mode input = Grows old now (λ out. IsAnswer mode input out)
 
--- by the line of the first fault of this input
+-- by the line of the first fault of this input, or of what is wrong with its save
 abbrev pub WritesRefusal : Option (List ℕ) → Option (List ℕ) → Mode → List ℕ → Type 0
 WritesRefusal old now mode input = Grows old now (λ out. IsRefusal mode input out)
 

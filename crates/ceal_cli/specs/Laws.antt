@@ -16,10 +16,10 @@ use Rattle.ceal_mean.specs.Fresh.{fresh}
 use Rattle.ceal_traceck.specs.Laws.{block_of}
 use Rattle.ceal_traceck.specs.declared.verdict.Verdict.TheVariants.{Yes}
 use Rattle.ceal_cli.specs.Modes.{ReadsInput}
-use Rattle.ceal_cli.specs.Output.{IsAnswer, IsGenerated, IsOutput, IsRefusal, bytes_behind}
+use Rattle.ceal_cli.specs.Output.{IsAnswer, IsGenerated, IsOutput, IsRefusal, IsTaken, bytes_behind}
 use Rattle.ceal_cli.specs.Verdicts.{verdict_text}
 use Rattle.ceal_cli.specs.declared.words.Mode.{Mode}
-use Rattle.ceal_cli.specs.declared.words.Mode.TheVariants.{Check, List as Listing, Run, Dump, Verify, Many}
+use Rattle.ceal_cli.specs.declared.words.Mode.TheVariants.{Check, List as Listing, Run, Dump, Verify, Many, Save, Resume}
 
 -- Every workload is accepted that is short enough to be an input.
 abbrev pub AcceptedLaw : Type 0
@@ -35,6 +35,15 @@ ShortLaw = (kind : Workload) (seed size : ℕ) → size ≤ 2 ^ 24
 abbrev pub OneOutputLaw : Type 0
 OneOutputLaw = (mode : Mode) (input a b : List ℕ) → IsOutput mode input a
     → IsOutput mode input b → a ≡ b
+
+-- What is written for an input is its answer where it is taken, and else its refusal.
+abbrev pub AnsweredLaw : Type 0
+AnsweredLaw = (mode : Mode) (input out : List ℕ) → IsTaken mode input → IsOutput mode input out
+    → IsAnswer mode input out
+
+abbrev pub UntakenLaw : Type 0
+UntakenLaw = (mode : Mode) (input out : List ℕ) → ReadsInput mode → ¬ IsTaken mode input
+    → IsOutput mode input out → IsRefusal mode input out
 
 -- Each input is checked: there is a word, or a line, that is written for it.
 abbrev pub CheckedLaw : Type 0
@@ -54,15 +63,22 @@ RefusedLaw = (mode : Mode) (input : List ℕ) → ReadsInput mode → length inp
 abbrev pub RepliedLaw : Type 0
 RepliedLaw = (input : List ℕ) (fuel : ℕ) → IsAccepted input → (out : List ℕ) × IsOutput (Run fuel) input out
 
--- And so it has for `dump`, for `many` and for `verify`, whatever stands behind the mark.
+-- And so it has for `dump`, for `save`, for `many` and for `verify`, whatever stands behind the mark.
 abbrev pub DumpedLaw : Type 0
 DumpedLaw = (input : List ℕ) (fuel : ℕ) → IsAccepted input → (out : List ℕ) × IsOutput (Dump fuel) input out
+
+abbrev pub SavedLaw : Type 0
+SavedLaw = (input : List ℕ) (fuel : ℕ) → IsAccepted input → (out : List ℕ) × IsOutput (Save fuel) input out
 
 abbrev pub ToldLaw : Type 0
 ToldLaw = (input : List ℕ) (fuel : ℕ) → IsAccepted input → (out : List ℕ) × IsOutput (Many fuel) input out
 
 abbrev pub JudgedLaw : Type 0
 JudgedLaw = (input : List ℕ) → IsAccepted input → (out : List ℕ) × IsOutput Verify input out
+
+-- And an input that is taken has its answer for `resume`.
+abbrev pub TakenLaw : Type 0
+TakenLaw = (input : List ℕ) → IsTaken Resume input → (out : List ℕ) × IsAnswer Resume input out
 
 -- A workload that is short enough to be an input has its text.
 abbrev pub GeneratedLaw : Type 0

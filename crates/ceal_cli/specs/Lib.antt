@@ -1,5 +1,6 @@
 -- what the crate promises
 pub mod Answers
+pub mod Continuing
 pub mod Dumps
 pub mod Fuel
 pub mod Growth
@@ -9,10 +10,13 @@ pub mod ManySessions
 pub mod Modes
 pub mod Numerals
 pub mod Output
+pub mod Resumed
+pub mod Saves
 pub mod Verdicts
 pub mod Workloads
 -- what its own functions say of each other
 pub mod CommandLine
+pub mod Going
 pub mod Limits
 pub mod Members
 pub mod Serving

@@ -1,7 +1,7 @@
 -- What a mode asks of a session.
 use Rattle.ceal_session.specs.Following.{IsAllowed}
 use Rattle.ceal_cli.specs.declared.words.Mode.{Mode}
-use Rattle.ceal_cli.specs.declared.words.Mode.TheVariants.{Check, List as Listing, Run, Gen, Dump, Verify, Many}
+use Rattle.ceal_cli.specs.declared.words.Mode.TheVariants.{Check, List as Listing, Run, Gen, Dump, Verify, Many, Save, Resume}
 
 -- a run may take as many steps as a session allows
 abbrev pub KeepsLimits : Mode → Type 0
@@ -11,4 +11,6 @@ KeepsLimits (Run fuel) = IsAllowed fuel
 KeepsLimits (Dump fuel) = IsAllowed fuel
 KeepsLimits Verify = Unit {0}
 KeepsLimits (Many fuel) = IsAllowed fuel
+KeepsLimits (Save fuel) = IsAllowed fuel
+KeepsLimits Resume = Unit {0}
 KeepsLimits (Gen kind seed size) = Unit {0}

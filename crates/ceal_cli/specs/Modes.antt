@@ -4,7 +4,7 @@ use Rattle.std.specs.declared.alloc.Global.{Global}
 use Rattle.ceal_cli.specs.Fuel.{DEFAULT_FUEL, SpellsFuel}
 use Rattle.ceal_cli.specs.Workloads.{NamesWorkload}
 use Rattle.ceal_cli.specs.declared.words.Mode.{Mode}
-use Rattle.ceal_cli.specs.declared.words.Mode.TheVariants.{Check, List as Listing, Run, Gen, Dump, Verify, Many}
+use Rattle.ceal_cli.specs.declared.words.Mode.TheVariants.{Check, List as Listing, Run, Gen, Dump, Verify, Many, Save, Resume}
 use Rattle.ceal_gen.specs.declared.kind.Workload.{Workload}
 
 abbrev pub Text : Type 0
@@ -47,6 +47,8 @@ Asks words Verify = AreMarked (codes "verify" ∷ []) words
 Asks words (Run fuel) = NamesFuel fuel (codes "run") words
 Asks words (Dump fuel) = NamesFuel fuel (codes "dump") words
 Asks words (Many fuel) = NamesFuel fuel (codes "many") words
+Asks words (Save fuel) = NamesFuel fuel (codes "save") words
+Asks words Resume = AreMarked (codes "resume" ∷ []) words
 Asks words (Gen kind seed size) =
     (plain : List Text) × NamesWorkload plain kind seed size × AreMarked plain words
 
@@ -61,6 +63,8 @@ ReadsInput (Run fuel) = Unit {0}
 ReadsInput (Dump fuel) = Unit {0}
 ReadsInput Verify = Unit {0}
 ReadsInput (Many fuel) = Unit {0}
+ReadsInput (Save fuel) = Unit {0}
+ReadsInput Resume = Unit {0}
 ReadsInput (Gen kind seed size) = ⊥
 
 -- The words ask for an answer to the input.

@@ -7,7 +7,7 @@ use Rattle.ceal_code.specs.Program.{Code}
 use Rattle.ceal_compile.specs.Compiled.{IsCodeOf}
 use Rattle.ceal_compile.specs.FaultLine.{fault_line}
 use Rattle.ceal_compile.specs.Source.{IsProgram, IsFirstFault, IsAccepted}
-use Rattle.ceal_lex.specs.Parts.{IsSplit}
+use Rattle.ceal_lex.specs.Parts.{IsSplit, source_of}
 use Rattle.ceal_lex.specs.declared.parts.Split.{Split}
 use Rattle.ceal_session.specs.Replies.{opening, Replies, Leads, IsReplied}
 use Rattle.ceal_session.specs.Runs.{begun}
@@ -15,11 +15,13 @@ use Rattle.ceal_session.specs.State.{State, Situation}
 use Rattle.ceal_cli.specs.ManySessions.{AreManyReplies}
 use Rattle.ceal_cli.specs.Dumps.{IsDumped}
 use Rattle.ceal_cli.specs.Fuel.{DEFAULT_FUEL}
+use Rattle.ceal_cli.specs.Resumed.{IsResumable, IsNotResumed, IsRepliedAfter}
+use Rattle.ceal_cli.specs.Saves.{IsSavedBehind}
 use Rattle.ceal_cli.specs.Lines.{script_of, script_lines}
 use Rattle.ceal_cli.specs.Modes.{ReadsInput}
 use Rattle.ceal_cli.specs.Verdicts.{IsVerdictLine}
 use Rattle.ceal_cli.specs.declared.words.Mode.{Mode}
-use Rattle.ceal_cli.specs.declared.words.Mode.TheVariants.{Check, List as Listing, Run, Gen, Dump, Verify, Many}
+use Rattle.ceal_cli.specs.declared.words.Mode.TheVariants.{Check, List as Listing, Run, Gen, Dump, Verify, Many, Save, Resume}
 use Rattle.ceal_gen.specs.Text.{workload_text}
 use Rattle.ceal_gen.specs.declared.kind.Workload.{Workload}
 
@@ -94,9 +96,9 @@ abbrev pub IsGenerated : Workload → ℕ → ℕ → List ℕ → Type 0
 IsGenerated kind seed size out = IsOutputFromRun (workload_text kind seed size) out
 
 -- What is written for an accepted input: `accepted`, the text of its trace code, or, from a state
--- without inputs, the replies to the lines of its script, the dump behind them, or the replies of many
--- sessions; or what the checker says of the dump behind the mark. For a workload the input is of no
--- account.
+-- without inputs, the replies to the lines of its script, the dump or the save behind them, or the replies
+-- of many sessions; or what the checker says of the dump behind the mark, or the replies to the script
+-- behind the save there. For a workload the input is of no account.
 abbrev pub IsAnswer : Mode → List ℕ → List ℕ → Type 0
 IsAnswer Check input out = IsAccepted input × (out ≡ accepted_text)
 IsAnswer Listing input out = IsListing input out
@@ -107,12 +109,31 @@ IsAnswer (Dump fuel) input out =
 IsAnswer Verify input out = (p : Programmed input) × IsVerdictLine p.code (bytes_behind p) out
 IsAnswer (Many fuel) input out =
     (p : Programmed input) × AreManyReplies p.code (first_state p fuel) (lines_behind p) out
+IsAnswer (Save fuel) input out =
+    (p : Programmed input)
+    × IsSavedBehind p.code (first_state p fuel) (source_of input p.part) (lines_behind p) out
+IsAnswer Resume input out =
+    (p : Programmed input) × IsRepliedAfter p.program p.code (bytes_behind p) out
 IsAnswer (Gen kind seed size) input out = IsGenerated kind seed size out
 
--- What a mode that reads writes for an input that is not accepted: the line of its first fault.
+-- The input is taken: it is accepted and, for `resume`, there is a save behind the mark, which holds.
+abbrev pub IsTaken : Mode → List ℕ → Type 0
+IsTaken Resume input = (p : Programmed input) × IsResumable p.code (bytes_behind p)
+IsTaken _ input = IsAccepted input
+
+-- what `resume` writes for an accepted input that is not taken
+abbrev pub IsUnresumed : Mode → List ℕ → List ℕ → Type 0
+IsUnresumed Resume input out = (p : Programmed input) × IsNotResumed p.code (bytes_behind p) out
+IsUnresumed _ input out = ⊥
+
+-- the line of the first fault
+abbrev pub IsFaultLine : List ℕ → List ℕ → Type 0
+IsFaultLine input out = (fault : Fault) × IsFirstFault input fault × (out ≡ fault_line input fault)
+
+-- What a mode that reads writes for an input that is not taken: the line of its first fault, or the one
+-- that says what is wrong with the save.
 abbrev pub IsRefusal : Mode → List ℕ → List ℕ → Type 0
-IsRefusal mode input out =
-    ReadsInput mode × (fault : Fault) × IsFirstFault input fault × (out ≡ fault_line input fault)
+IsRefusal mode input out = ReadsInput mode × (IsFaultLine input out ⊎ IsUnresumed mode input out)
 
 -- what the program writes for an input
 abbrev pub IsOutput : Mode → List ℕ → List ℕ → Type 0

@@ -6,11 +6,14 @@ use Rattle.ceal_session.specs.Asking.{IsReady}
 use Rattle.ceal_session.specs.Following.{Repairs}
 use Rattle.ceal_session.specs.Recording.{IsRecorded}
 use Rattle.ceal_session.specs.Replies.{Answers}
+use Rattle.ceal_session.specs.Saving.{IsSaved}
 use Rattle.ceal_session.specs.State.{Situation, numbers_in}
+use Rattle.ceal_snap.specs.SaveText.{Save}
 use Rattle.ceal_theory.specs.Pasts.{goes}
 use Rattle.ceal_cli.specs.Dumps.{no_run_text}
 use Rattle.ceal_cli.specs.Growth.{Grows}
 use Rattle.ceal_cli.specs.Output.{IsPrefix, IsRunLine}
+use Rattle.ceal_cli.specs.Saves.{with_source}
 
 -- A session answers the line by the text, and this is left of it.
 pub record Serves (m : Situation) (line text : List ℕ) (n : Situation) : Type 0 where
@@ -93,8 +96,20 @@ IsDumpFrom m out =
     ((¬ IsReady m.state) × (out ≡ no_run_text))
     ⊎ ((r : Record) × IsRecorded m r × (out ≡ dump_text r))
 
--- So it is behind the lines.
-pub record IsDumpBehind (m : Situation) (lines : List (List ℕ)) (out : List ℕ) : Type 0 where
+-- The text is that of the session's save, behind the source part, or says that there is none.
+abbrev pub IsSaveFrom : List ℕ → Situation → List ℕ → Type 0
+IsSaveFrom source m out =
+    ((¬ IsReady m.state) × (out ≡ no_run_text))
+    ⊎ ((s : Save) × IsSaved m s × (out ≡ with_source source s))
+
+-- A text of this sort is written of the session behind the lines.
+pub record IsBehind (P : Situation → List ℕ → Type 0) (m : Situation) (lines : List (List ℕ)) (out : List ℕ) : Type 0 where
   pub end : Situation
   pub carries : Carries m lines end
-  pub dump : IsDumpFrom end out
+  pub is : P end out
+
+abbrev pub IsDumpBehind : Situation → List (List ℕ) → List ℕ → Type 0
+IsDumpBehind m lines out = IsBehind IsDumpFrom m lines out
+
+abbrev pub IsSaveBehind : List ℕ → Situation → List (List ℕ) → List ℕ → Type 0
+IsSaveBehind source m lines out = IsBehind (IsSaveFrom source) m lines out

@@ -1,19 +1,21 @@
 // What is written for an input that was read.
 
-ghost use Rattle.std.specs.Prelude.{◌≡◌, ◌<◌, ◌≤◌, ◌^◌, ◌↔◌, IsTrue, length, IfOk, OnOk, IsErrOf};
-ghost use Rattle.ceal_base.specs.Answers.{IfFault};
+ghost use Rattle.std.specs.Prelude.{◌≢◌, ◌<◌, ◌^◌, ◌↔◌, IsTrue, length, IfOk, OnOk, IsErrOf};
 ghost use Rattle.ceal_compile.specs.Compiled.{IsCompiled};
-ghost use Rattle.ceal_compile.specs.Source.{IsAccepted, IsFirstFault, IsProgram};
+ghost use Rattle.ceal_compile.specs.Source.{IsFirstFault, IsProgram};
 ghost use Rattle.ceal_session.specs.Following.{IsAllowed};
 ghost use Rattle.ceal_io.specs.Streams.{Rose};
 ghost use Rattle.ceal_cli.specs.Growth.{WritesOutput, WritesPrefix};
 ghost use Rattle.ceal_cli.specs.Limits.{KeepsLimits};
 ghost use Rattle.ceal_cli.specs.Modes.{ReadsInput};
+ghost use Rattle.ceal_cli.specs.Output.{IsTaken};
 
 use crate::dump::dump;
 use crate::lines::script;
 use crate::many::many;
 use crate::replies::reply_all;
+use crate::resume::resume;
+use crate::save::save;
 use crate::verify::verify;
 use crate::words::Mode;
 use ceal_base::fault::{Fault, FrontError};
@@ -127,6 +129,7 @@ fn answer<K: Sink>(
     requires compiled { IsCompiled program }
     requires reads { ReadsInput mode }
     requires limits { KeepsLimits mode }
+    requires other { mode ≢ Mode.Resume }
     ensures all { OnOk result
         (WritesOutput (K.written sink.old) (K.written sink.new) mode input.now) }
     ensures part { WritesPrefix (K.written sink.old) (K.written sink.new) mode input.now }
@@ -139,14 +142,41 @@ fn answer<K: Sink>(
         Mode::Run(fuel) => run(alloc, fuel, input, program, sink),
         Mode::Dump(fuel) => dump(alloc, fuel, input, program, sink),
         Mode::Many(fuel) => many(alloc, fuel, input, program, sink),
-        Mode::Gen { .. } => unreachable!(),
+        Mode::Save(fuel) => save(alloc, fuel, input, program, sink),
+        Mode::Resume | Mode::Gen { .. } => unreachable!(),
     }
+}
+
+// Writes the output for an accepted input, and says whether it is taken: in each mode but `resume` it is.
+fn take<K: Sink>(
+    alloc: Global,
+    mode: Mode,
+    input: &[u8],
+    program: Program,
+    sink: &mut K,
+) -> Result<bool, Stopped>
+    requires small { length input.now < 2 ^ 32 }
+    requires program { IsProgram input.now program.typed }
+    requires compiled { IsCompiled program }
+    requires reads { ReadsInput mode }
+    requires limits { KeepsLimits mode }
+    ensures taken { IfOk result (λ taken. IsTrue taken ↔ IsTaken mode input.now) }
+    ensures all { OnOk result
+        (WritesOutput (K.written sink.old) (K.written sink.new) mode input.now) }
+    ensures part { WritesPrefix (K.written sink.old) (K.written sink.new) mode input.now }
+    ensures fault { IsErrOf result Stopped.Failed → Rose (K.faults sink.old) (K.faults sink.new) }
+{
+    if let Mode::Resume = mode {
+        return resume(alloc, input, program, sink);
+    }
+    answer(alloc, mode, input, program, sink)?;
+    Ok(true)
 }
 
 // Writes whether the input is accepted, without its code.
 fn check<K: Sink>(alloc: Global, input: &[u8], sink: &mut K) -> Result<bool, Stopped>
     requires small { length input.now < 2 ^ 32 }
-    ensures accepted { IfOk result (λ accepted. IsTrue accepted ↔ IsAccepted input.now) }
+    ensures taken { IfOk result (λ taken. IsTrue taken ↔ IsTaken Mode.Check input.now) }
     ensures all { OnOk result
         (WritesOutput (K.written sink.old) (K.written sink.new) Mode.Check input.now) }
     ensures part { WritesPrefix (K.written sink.old) (K.written sink.new) Mode.Check input.now }
@@ -169,12 +199,12 @@ fn check<K: Sink>(alloc: Global, input: &[u8], sink: &mut K) -> Result<bool, Sto
     }
 }
 
-// Writes the output for an input in a mode that takes its code, and says whether the input is accepted.
+// Writes the output for an input in a mode that takes its code, and says whether the input is taken.
 fn compiled<K: Sink>(alloc: Global, mode: Mode, input: &[u8], sink: &mut K) -> Result<bool, Stopped>
     requires small { length input.now < 2 ^ 32 }
     requires reads { ReadsInput mode }
     requires limits { KeepsLimits mode }
-    ensures accepted { IfOk result (λ accepted. IsTrue accepted ↔ IsAccepted input.now) }
+    ensures taken { IfOk result (λ taken. IsTrue taken ↔ IsTaken mode input.now) }
     ensures all { OnOk result
         (WritesOutput (K.written sink.old) (K.written sink.new) mode input.now) }
     ensures part { WritesPrefix (K.written sink.old) (K.written sink.new) mode input.now }
@@ -182,10 +212,7 @@ fn compiled<K: Sink>(alloc: Global, mode: Mode, input: &[u8], sink: &mut K) -> R
 {
     one_answer();
     match compile(alloc, input) {
-        Ok(program) => {
-            answer(alloc, mode, input, program, sink)?;
-            Ok(true)
-        }
+        Ok(program) => take(alloc, mode, input, program, sink),
         Err(FrontError::Memory) => Err(Stopped::Memory),
         Err(FrontError::Fault(fault)) => {
             refuse(alloc, mode, input, fault, sink)?;
@@ -194,7 +221,7 @@ fn compiled<K: Sink>(alloc: Global, mode: Mode, input: &[u8], sink: &mut K) -> R
     }
 }
 
-/// Writes the output for an input in a mode that reads, and says whether the input is accepted.
+/// Writes the output for an input in a mode that reads, and says whether the input is taken.
 pub fn write_answer<K: Sink>(
     alloc: Global,
     mode: Mode,
@@ -204,7 +231,7 @@ pub fn write_answer<K: Sink>(
     requires small { length input.now < 2 ^ 32 }
     requires reads { ReadsInput mode }
     requires limits { KeepsLimits mode }
-    ensures accepted { IfOk result (λ accepted. IsTrue accepted ↔ IsAccepted input.now) }
+    ensures taken { IfOk result (λ taken. IsTrue taken ↔ IsTaken mode input.now) }
     ensures all { OnOk result
         (WritesOutput (K.written sink.old) (K.written sink.new) mode input.now) }
     ensures part { WritesPrefix (K.written sink.old) (K.written sink.new) mode input.now }

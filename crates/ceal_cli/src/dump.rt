@@ -9,13 +9,13 @@ ghost use Rattle.ceal_io.specs.Streams.{Rose};
 ghost use Rattle.ceal_session.specs.Keeping.{situation};
 ghost use Rattle.ceal_session.specs.Following.{IsAllowed};
 ghost use Rattle.ceal_cli.specs.Growth.{Grows, WritesOutput, WritesPrefix};
-ghost use Rattle.ceal_cli.specs.Serving.{Carries, IsDumpBehind, IsDumpFrom};
+ghost use Rattle.ceal_cli.specs.Serving.{IsDumpBehind, IsDumpFrom};
 ghost use Rattle.ceal_cli.specs.Lines.{script_lines};
 ghost use Rattle.ceal_cli.specs.Output.{Begins};
 ghost use Rattle.ceal_cli.specs.declared.words.Mode.TheVariants.{Dump};
 
-use crate::from_run::carry_out;
-use crate::lines::{cut_line, line, script};
+use crate::carry::carry_out_all;
+use crate::lines::script;
 use ceal_base::no_memory::NoMemory;
 use ceal_base::recorded::Record;
 use ceal_base::text::Text;
@@ -30,24 +30,6 @@ use ceal_session::session::Session;
 use ceal_theory::names::renaming_law;
 use ceal_types::seed::Seed;
 use std::alloc::Global;
-
-// Carries out the lines of a script, whose replies are not written.
-fn carry_out_all(session: &mut Session, script: &[u8]) -> Result<(), Stopped>
-    ensures all { OnOk result (Carries (situation session.old)
-        (script_lines script.now) (situation session.new)) }
-    ensures memory { ¬ IsErrOf result Stopped.Failed }
-{
-    let mut rest = script;
-    loop {
-        let (piece, after) = cut_line(rest);
-        let line = line(piece, after.is_some());
-        carry_out(session, line)?;
-        match after {
-            Some(next) => rest = next,
-            None => return Ok(()),
-        }
-    }
-}
 
 // The dump of a record. Where one of its counts has no room in 32 bits, there is no memory for so many.
 fn text_of(alloc: Global, kept: &Record) -> Result<Text, NoMemory>

@@ -1,15 +1,15 @@
 // The replies from that of the first run on.
 
-ghost use Rattle.std.specs.Prelude.{◌≡◌, ◌↔◌, ℕ, List, IsTrue, OnOk, IsErrOf};
+ghost use Rattle.std.specs.Prelude.{◌↔◌, IsTrue, OnOk, IsErrOf};
 ghost use Rattle.ceal_io.specs.Streams.{Rose};
 ghost use Rattle.ceal_session.specs.Keeping.{situation};
-ghost use Rattle.ceal_cli.specs.Serving.{Serves, WritesFromRun, BeginsFromRun};
+ghost use Rattle.ceal_cli.specs.Serving.{WritesFromRun, BeginsFromRun};
 ghost use Rattle.ceal_cli.specs.Lines.{script_lines};
 ghost use Rattle.ceal_cli.specs.Output.{IsRunLine};
 
+use crate::carry::carry_out;
 use crate::lines::{cut_line, line};
 use crate::replies::reply_all;
-use ceal_base::no_memory::NoMemory;
 use ceal_io::{Sink, Stopped};
 use ceal_session::session::Session;
 
@@ -18,18 +18,6 @@ fn is_run_line(line: &[u8]) -> bool
     ensures { IsTrue result ↔ IsRunLine line.now }
 {
     line.starts_with(b"run ")
-}
-
-/// Carries out a line whose reply is not written.
-pub fn carry_out(session: &mut Session, line: &[u8]) -> Result<(), Stopped>
-    ensures answered { OnOk result ((text : List ℕ)
-        × Serves (situation session.old) line.now text (situation session.new)) }
-    ensures memory { ¬ IsErrOf result Stopped.Failed }
-{
-    match session.command(line) {
-        Ok(_) => Ok(()),
-        Err(NoMemory) => Err(Stopped::Memory),
-    }
 }
 
 /// Carries out the lines before the first that begins with `run `, and writes the reply to each line from that one on.

@@ -2,7 +2,8 @@
 
 ghost use Rattle.ceal_many.specs.Laws.{IsDetermined, OwnRepliesLaw, RefusedLaw as Others_refused_law, AloneLaw};
 ghost use Rattle.ceal_session.specs.Replies.{Replies};
-ghost use Rattle.ceal_cli.specs.Laws.{AcceptedLaw, ShortLaw, OneOutputLaw, CheckedLaw, ListedLaw, RefusedLaw, RepliedLaw, DumpedLaw, ToldLaw, JudgedLaw, GeneratedLaw, VerifiedLaw};
+ghost use Rattle.ceal_cli.specs.Continuing.{ResumableLaw, ResumedOutputLaw};
+ghost use Rattle.ceal_cli.specs.Laws.{AcceptedLaw, ShortLaw, OneOutputLaw, AnsweredLaw, UntakenLaw, CheckedLaw, ListedLaw, RefusedLaw, RepliedLaw, DumpedLaw, SavedLaw, ToldLaw, JudgedLaw, TakenLaw, GeneratedLaw, VerifiedLaw};
 
 use crate::members::Member;
 
@@ -31,24 +32,43 @@ pub fn one_output()
     ceal_dump::laws::one_record_law();
     ceal_traceck::laws::one_verdict_law();
     ceal_many::laws::one_reply::<Member>();
+    ceal_snap::laws::one_save_law();
+}
+
+/// What is written for an input is its answer where it is taken, and else its refusal.
+pub fn one_side()
+    ensures answered { AnsweredLaw }
+    ensures refused { UntakenLaw }
+{
+    ceal_lex::split::one_split();
+    ceal_compile::compile::one_answer();
+    ceal_compile::laws::one_code();
+    ceal_snap::laws::one_save_law();
 }
 
 /// An input has an output in each mode that reads: the line of its fault where it is not accepted, and else what is asked
-/// for, also where the bytes behind the mark are the dump of no record. And a workload has its text. The lexer counts bytes
-/// in 32 bits, so a text of `2 ^ 32` bytes or more is no input.
+/// for, also where the bytes behind the mark are the dump of no record; for `resume` it has one where a save that holds
+/// stands there. And a workload has its text. The lexer counts bytes in 32 bits, so a text of `2 ^ 32` bytes or more is no
+/// input.
 pub fn some_output()
     ensures check { CheckedLaw }
     ensures list { ListedLaw }
     ensures refusal { RefusedLaw }
     ensures replies { RepliedLaw }
     ensures dumps { DumpedLaw }
+    ensures saves { SavedLaw }
     ensures told { ToldLaw }
     ensures verdicts { JudgedLaw }
+    ensures resumed { TakenLaw }
     ensures generated { GeneratedLaw }
 {
     accepted_law();
+    ceal_lex::split::one_split();
+    ceal_compile::compile::one_answer();
+    ceal_compile::laws::one_code();
     ceal_session::laws::some_reply();
     ceal_session::laws::one_reply();
+    ceal_session::laws::held_law();
     ceal_record::laws::some_record_law();
     ceal_many::laws::some_reply::<Member>();
     ceal_dump::laws::dump_or_none();
@@ -66,6 +86,25 @@ pub fn verified()
     ceal_compile::compile::one_answer();
     ceal_compile::laws::one_code();
     ceal_traceck::laws::sound_law();
+}
+
+/// What `save` wrote of an input, a line `%%` and more lines behind it are taken by `resume`, and it writes what `run` writes
+/// for the lines of both scripts, from those of the second one on: a session that is saved and resumed answers as one that
+/// goes on.
+pub fn resumed_output()
+    ensures taken { ResumableLaw }
+    ensures replies { ResumedOutputLaw }
+{
+    ceal_lex::split::one_split();
+    ceal_compile::compile::one_answer();
+    ceal_compile::laws::one_code();
+    ceal_compile::laws::accepted_is_compiled();
+    ceal_snap::laws::one_save_law();
+    ceal_snap::laws::no_mark_law();
+    ceal_session::laws::one_reply();
+    ceal_session::laws::one_script();
+    ceal_session::laws::some_reply();
+    ceal_session::laws::resumed_law();
 }
 
 /// With `many`, the replies to the lines for one of the first 64 names are those that its session alone gives to them, so

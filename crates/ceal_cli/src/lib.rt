@@ -3,11 +3,14 @@
 //! An input is a source part, a line `%%` and the lines of a script. `ceal check` says whether the source part is
 //! accepted, `ceal list` writes its trace code, and `ceal run` replies to the script. `ceal dump` writes the record of
 //! the run behind the script, `ceal verify` checks such a dump, and `ceal many` replies to a script whose lines name the
-//! session that they are for. `ceal gen` reads no input: it replies to the script of a workload, an input that a kind, a
-//! seed and a size stand for.
+//! session that they are for. `ceal save` writes what `ceal resume` goes on from: the source part, a line `%%` and the
+//! save of the session behind the script; what is added behind one more line `%%` is the script that `ceal resume`
+//! replies to. `ceal gen` reads no input: it replies to the script of a workload, an input that a kind, a seed and a size
+//! stand for.
 #![tactic(auto)]
 
 mod answer;
+mod carry;
 mod command_line;
 mod dump;
 mod from_run;
@@ -19,6 +22,8 @@ mod many;
 mod members;
 mod numerals;
 mod replies;
+mod resume;
+mod save;
 mod top;
 mod verify;
 mod words;

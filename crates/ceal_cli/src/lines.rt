@@ -2,9 +2,22 @@
 
 ghost use Rattle.std.specs.Prelude.{◌≡◌, ◌∷◌, ◌++◌, ◌==◌, position, IfSome, if◌then◌else◌};
 ghost use Rattle.std.specs.Option.{option_copied};
+ghost use Rattle.ceal_lex.specs.Parts.{source_of};
 ghost use Rattle.ceal_cli.specs.Lines.{script_of, pieces_of, pieces_left, without_return as no_return};
 
 use ceal_lex::parts::Split;
+
+/// The source part of an input.
+pub fn source<'a>(input: &'a [u8], part: &Split) -> &'a [u8]
+    ensures { result.now ≡ source_of input.now part.now }
+{
+    let to = part.source.to as usize;
+    if to < input.len() {
+        &input[..to]
+    } else {
+        input
+    }
+}
 
 /// The script part of an input.
 pub fn script<'a>(input: &'a [u8], part: &Split) -> &'a [u8]

@@ -4,18 +4,18 @@ ghost use Rattle.std.specs.Prelude.{◌≡◌, ◌≢◌, ◌≤◌, ◌⊎◌, 
 ghost use Rattle.std.specs.Io.KnownBytes.{Keeps, IsAtEnd};
 ghost use Rattle.ceal_io.specs.Streams.{Rose, LosesAtMost, LosesCount};
 ghost use Rattle.ceal_cli.specs.Answers.{IsWhole, IsAfterReading, IsSilent, status_number as number_of, status_text};
-ghost use Rattle.ceal_compile.specs.Source.{IsAccepted};
 ghost use Rattle.ceal_cli.specs.Growth.{WritesAnswer, WritesRefusal, WritesOutput, WritesPrefix, WritesGenerated, WritesGeneratedPrefix};
 ghost use Rattle.ceal_cli.specs.Limits.{KeepsLimits};
+ghost use Rattle.ceal_cli.specs.Output.{IsTaken};
 ghost use Rattle.ceal_cli.specs.Modes.{texts, Asks, AreDefined, AskToRead, AskToGenerate, ReadsInput};
 ghost use Rattle.ceal_cli.specs.declared.words.Mode.{Mode as ModeOf};
 ghost use Rattle.ceal_gen.specs.declared.kind.Workload.{Workload as WorkloadOf};
 
 use crate::answer::write_answer;
 use crate::generate::generate;
+use crate::laws::one_side;
 use crate::words::{Mode, asked_mode};
 use ceal_base::no_memory::NoMemory;
-use ceal_compile::compile::one_answer;
 use ceal_gen::kind::Workload;
 use ceal_io::{ReadError, Sink, Source, Stopped, read_all};
 use std::alloc::Global;
@@ -25,7 +25,7 @@ use std::alloc::Global;
 pub enum Status {
     /// what was asked for was done and written whole
     Done,
-    /// the source part is not accepted; the line of its fault was written whole
+    /// the source part is not accepted, or there is no save that holds to go on from; the line that says why was written whole
     Refused,
     /// the words ask for nothing
     Usage,
@@ -67,9 +67,10 @@ fn answer_input<S: Source, K: Sink>(
     ensures prefix { IfSome (S.left source.old)
         (λ input. WritesPrefix (K.written sink.old) (K.written sink.new) mode input) }
     ensures silent { IsSilent result → Keeps (K.written sink.old) (K.written sink.new) }
-    ensures done { result ≡ Status.Done → IfSome (S.left source.old) (λ input. IsAccepted input) }
+    ensures done { result ≡ Status.Done
+        → IfSome (S.left source.old) (λ input. IsTaken mode input) }
     ensures refused { result ≡ Status.Refused
-        → IfSome (S.left source.old) (λ input. ¬ IsAccepted input) }
+        → IfSome (S.left source.old) (λ input. ¬ IsTaken mode input) }
     ensures usage { result ≢ Status.Usage }
     ensures too_long { result ≡ Status.TooLong
         → LosesCount (S.left source.old) (S.left source.new) (INPUT_LIMIT + 1) }
@@ -78,17 +79,17 @@ fn answer_input<S: Source, K: Sink>(
     ensures write_fault { result ≡ Status.WriteFault
         → Rose (K.faults sink.old) (K.faults sink.new) }
     ensures complete { IfSome (S.left source.old)
-        (λ input. length input ≤ INPUT_LIMIT → IsAccepted input
+        (λ input. length input ≤ INPUT_LIMIT → IsTaken mode input
         → ¬ Rose (S.faults source.old) (S.faults source.new)
         → ¬ Rose (K.faults sink.old) (K.faults sink.new)
         → (result ≡ Status.Done) ⊎ (result ≡ Status.Memory)) }
     ensures refuses { IfSome (S.left source.old)
-        (λ input. length input ≤ INPUT_LIMIT → ¬ IsAccepted input
+        (λ input. length input ≤ INPUT_LIMIT → ¬ IsTaken mode input
         → ¬ Rose (S.faults source.old) (S.faults source.new)
         → ¬ Rose (K.faults sink.old) (K.faults sink.new)
         → (result ≡ Status.Refused) ⊎ (result ≡ Status.Memory)) }
 {
-    one_answer();
+    one_side();
     let input = match read_all(alloc, source, INPUT_LIMIT) {
         Ok(input) => input,
         Err(ReadError::Memory) => return Status::Memory,
@@ -171,10 +172,10 @@ pub fn ceal_main<S: Source, K: Sink>(
         → WritesGeneratedPrefix (K.written sink.old) (K.written sink.new) kind seed size }
 
     // When each answer comes.
-    ensures done { result ≡ Status.Done → AskToRead (texts words.now)
-        → IfSome (S.left source.old) (λ input. IsAccepted input) }
-    ensures refused { result ≡ Status.Refused
-        → IfSome (S.left source.old) (λ input. ¬ IsAccepted input) }
+    ensures done { result ≡ Status.Done → (mode : ModeOf) → Asks (texts words.now) mode
+        → ReadsInput mode → IfSome (S.left source.old) (λ input. IsTaken mode input) }
+    ensures refused { result ≡ Status.Refused → (mode : ModeOf) → Asks (texts words.now) mode
+        → IfSome (S.left source.old) (λ input. ¬ IsTaken mode input) }
     ensures asked { result ≡ Status.Refused → AskToRead (texts words.now) }
     ensures usage { result ≡ Status.Usage → ¬ AreDefined (texts words.now) }
     ensures too_long { result ≡ Status.TooLong
@@ -190,14 +191,14 @@ pub fn ceal_main<S: Source, K: Sink>(
     ensures untouched { ¬ AreDefined (texts words.now)
         → Keeps (K.written sink.old) (K.written sink.new) }
 
-    // Where no read and no write failed, an input within the limit is answered by whether it is accepted.
-    ensures complete { AskToRead (texts words.now)
-        → IfSome (S.left source.old) (λ input. length input ≤ INPUT_LIMIT → IsAccepted input
+    // Where no read and no write failed, an input within the limit is answered by whether it is taken.
+    ensures complete { (mode : ModeOf) → Asks (texts words.now) mode → ReadsInput mode
+        → IfSome (S.left source.old) (λ input. length input ≤ INPUT_LIMIT → IsTaken mode input
         → ¬ Rose (S.faults source.old) (S.faults source.new)
         → ¬ Rose (K.faults sink.old) (K.faults sink.new)
         → (result ≡ Status.Done) ⊎ (result ≡ Status.Memory)) }
-    ensures refuses { AskToRead (texts words.now)
-        → IfSome (S.left source.old) (λ input. length input ≤ INPUT_LIMIT → ¬ IsAccepted input
+    ensures refuses { (mode : ModeOf) → Asks (texts words.now) mode → ReadsInput mode
+        → IfSome (S.left source.old) (λ input. length input ≤ INPUT_LIMIT → ¬ IsTaken mode input
         → ¬ Rose (S.faults source.old) (S.faults source.new)
         → ¬ Rose (K.faults sink.old) (K.faults sink.new)
         → (result ≡ Status.Refused) ⊎ (result ≡ Status.Memory)) }
@@ -220,7 +221,7 @@ pub fn status_line(status: Status) -> &'static str
     match status {
         Status::Done | Status::Refused => "",
         Status::Usage => {
-            "usage: ceal run [--fuel N] | check | list | gen KIND SEED SIZE | dump [--fuel N] | verify | many [--fuel N]\n"
+            "usage: ceal run [--fuel N] | check | list | gen KIND SEED SIZE | dump [--fuel N] | verify | many [--fuel N] | save [--fuel N] | resume\n"
         }
         Status::TooLong => "ceal: input longer than 4194304 bytes\n",
         Status::Memory => "ceal: out of memory\n",

@@ -34,6 +34,10 @@ pub enum Mode {
     Verify,
     /// the replies to a script of many sessions, where a run may take so many steps
     Many(u32),
+    /// the source part and the save of the session behind the script, where a run may take so many steps
+    Save(u32),
+    /// the replies to the script behind the save behind the mark
+    Resume,
 }
 
 /// What the seed and the size of a workload are at most.
@@ -79,6 +83,8 @@ fn chosen(words: &[&str], option: Option<&str>) -> Option<Mode>
         (["run"], option) => Some(Mode::Run(fuel(option)?)),
         (["dump"], option) => Some(Mode::Dump(fuel(option)?)),
         (["many"], option) => Some(Mode::Many(fuel(option)?)),
+        (["save"], option) => Some(Mode::Save(fuel(option)?)),
+        (["resume"], None) => Some(Mode::Resume),
         (["gen", kind, seed, size], None) => workload(kind, seed, size),
         _ => None,
     }

@@ -1,8 +1,8 @@
 -- what crates above cite
 pub mod Steps
--- the rest
 pub mod Numbers
-pub mod ReadBack
 pub mod Records
 pub mod Loops
+-- the rest
+pub mod ReadBack
 pub mod Decided

@@ -87,7 +87,6 @@ impl Engine {
         ensures only { self.now.phase ≡ New
             → Fits self.now.code self.now.inputs function args.now → IsTrue result }
     {
-        self.phase() == Phase::New
-            && do_args_fit(self.code(), function, args, self.input_blocks())
+        self.phase() == Phase::New && do_args_fit(self.code(), function, args, self.input_blocks())
     }
 }

@@ -1,4 +1,6 @@
+-- what crates above cite
 pub mod ReadBack
+-- the rest
 pub mod Loops
 pub mod Joined
 pub mod Plain

@@ -7,4 +7,4 @@ use Rattle.ceal_cli.proofs.dump.write_dump.Goals as goal
 pub returns-in-Ok-clause-part : goal.returns-in-Ok-clause-part
 returns-in-Ok-clause-part g c =
     part_text _ _ (IsDumpBehind (situation c.args.session.now) (script_lines c.args.script.now)) c.items.result.now
-    (record { end = situation c.carry_out_all.new.session; carries = c.in_ok-carry_out_all.ensures.all; dump = rw c.items.ensures.value c.in-Ok.ensures }) c.write_all.ensures.prefix
+    (record { end = situation c.carry_out_all.new.session; carries = c.in_ok-carry_out_all.ensures.all; is = rw c.items.ensures.value c.in-Ok.ensures }) c.write_all.ensures.prefix

@@ -9,6 +9,7 @@ returns c =
       dumps = c.one_record_law-2.ensures.law;
       verdicts = c.one_verdict_law.ensures.law;
       sessions = c.one_reply-2.ensures.reply;
+      saves = c.one_save_law.ensures.law;
     } in record {
       law = one-output c.one_split.ensures c.one_answer.ensures.law c.one_code.ensures.law c.one_reply.ensures.reply c.one_script.ensures.law once;
     }

@@ -1,5 +1,5 @@
 use Rattle.std.proofs.Common.{arith}
-use Rattle.ceal_cli.proofs.TopLaws.{output_for, answer_for, refusal_for, prefix_for, short_for, accepted_for, refused_for, done_for, not_refused_for, not_done_for, none_for}
+use Rattle.ceal_cli.proofs.TopLaws.{output_for, answer_for, refusal_for, prefix_for, short_for, taken_for, refused_for, done_for, not_refused_for, not_done_for, not_taken_for, none_for}
 use Rattle.ceal_cli.proofs.top.answer_input.Goals as goal
 
 pub returns-in-Ok-true-clause-output : goal.returns-in-Ok-true-clause-output
@@ -16,11 +16,11 @@ returns-in-Ok-true-clause-prefix g c =
 
 pub returns-in-Ok-true-clause-done : goal.returns-in-Ok-true-clause-done
 returns-in-Ok-true-clause-done g c =
-    λ _. accepted_for _ _ _ _ c.in-Ok.ensures.all c.in-Ok.ensures.end c.deref.ensures.value (c.in-Ok-true.ensures.accepted.0 c.in-Ok-true.field-0-test)
+    λ _. taken_for _ _ _ _ c.in-Ok.ensures.all c.in-Ok.ensures.end c.deref.ensures.value c.args.mode (c.in-Ok-true.ensures.taken.0 c.in-Ok-true.field-0-test)
 
 pub returns-in-Ok-true-clause-refuses : goal.returns-in-Ok-true-clause-refuses
 returns-in-Ok-true-clause-refuses g c =
-    not_refused_for _ _ _ _ c.in-Ok.ensures.all c.in-Ok.ensures.end c.deref.ensures.value _ _ (c.in-Ok-true.ensures.accepted.0 c.in-Ok-true.field-0-test)
+    not_refused_for _ _ _ _ c.in-Ok.ensures.all c.in-Ok.ensures.end c.deref.ensures.value c.args.mode _ _ (c.in-Ok-true.ensures.taken.0 c.in-Ok-true.field-0-test)
 
 pub returns-in-Ok-false-clause-prefix : goal.returns-in-Ok-false-clause-prefix
 returns-in-Ok-false-clause-prefix g c =
@@ -28,13 +28,16 @@ returns-in-Ok-false-clause-prefix g c =
 
 pub returns-in-Ok-false-clause-refused : goal.returns-in-Ok-false-clause-refused
 returns-in-Ok-false-clause-refused g c =
-    λ _. refused_for _ _ _ _ c.in-Ok.ensures.all c.in-Ok.ensures.end c.deref.ensures.value
-    (λ h. let t = c.in-Ok-false.ensures.accepted.1 h in let f = c.in-Ok-false.field-0-test in absurd (cc (t, f)))
+    λ _. refused_for _ _ _ _ c.in-Ok.ensures.all c.in-Ok.ensures.end c.deref.ensures.value c.args.mode
+    (λ h. let t = c.in-Ok-false.ensures.taken.1 h in let f = c.in-Ok-false.field-0-test in absurd (cc (t, f)))
+
+pub returns-in-Ok-false-clause-refuses : goal.returns-in-Ok-false-clause-refuses
+returns-in-Ok-false-clause-refuses g c = not_taken_for _ _ _ _ c.in-Ok.ensures.all c.in-Ok.ensures.end c.deref.ensures.value c.args.mode _ _
 
 pub returns-in-Ok-false-clause-complete : goal.returns-in-Ok-false-clause-complete
 returns-in-Ok-false-clause-complete g c =
-    not_done_for _ _ _ _ c.in-Ok.ensures.all c.in-Ok.ensures.end c.deref.ensures.value _ _
-    (λ h. let t = c.in-Ok-false.ensures.accepted.1 h in let f = c.in-Ok-false.field-0-test in absurd (cc (t, f)))
+    not_done_for _ _ _ _ c.in-Ok.ensures.all c.in-Ok.ensures.end c.deref.ensures.value c.args.mode _ _
+    (λ h. let t = c.in-Ok-false.ensures.taken.1 h in let f = c.in-Ok-false.field-0-test in absurd (cc (t, f)))
 
 pub returns-in-Ok-false-clause-output : goal.returns-in-Ok-false-clause-output
 returns-in-Ok-false-clause-output g c =
@@ -49,20 +52,20 @@ returns-clause-prefix g c =
     prefix_for _ _ _ _ c.in-Ok.ensures.all c.in-Ok.ensures.end c.deref.ensures.value _ _ _ c.write_answer.ensures.part
 
 pub returns-in-Ok-true-clause-complete : goal.returns-in-Ok-true-clause-complete
-returns-in-Ok-true-clause-complete g c = done_for _ _ _ _ c.in-Ok.ensures.all c.in-Ok.ensures.end c.deref.ensures.value _ _
+returns-in-Ok-true-clause-complete g c = done_for _ _ _ _ c.in-Ok.ensures.all c.in-Ok.ensures.end c.deref.ensures.value c.args.mode _ _
 
 pub returns-in-Err-TooLong-clause-prefix : goal.returns-in-Err-TooLong-clause-prefix
 returns-in-Err-TooLong-clause-prefix g c = none_for _ _ c.args.mode
 
 pub returns-in-Ok-true-clause-answered : goal.returns-in-Ok-true-clause-answered
 returns-in-Ok-true-clause-answered g c =
-    λ _. answer_for _ _ _ _ c.in-Ok.ensures.all c.in-Ok.ensures.end c.deref.ensures.value _ _ _ (c.one_answer.ensures.law _)
-    (c.in-Ok-true.ensures.accepted.0 c.in-Ok-true.field-0-test) c.in-Ok-true.ensures.all
+    λ _. answer_for _ _ _ _ c.in-Ok.ensures.all c.in-Ok.ensures.end c.deref.ensures.value _ _ c.args.mode c.one_side.ensures.answered
+    (c.in-Ok-true.ensures.taken.0 c.in-Ok-true.field-0-test) c.in-Ok-true.ensures.all
 
 pub returns-in-Ok-false-clause-told : goal.returns-in-Ok-false-clause-told
 returns-in-Ok-false-clause-told g c =
-    λ _. refusal_for _ _ _ _ c.in-Ok.ensures.all c.in-Ok.ensures.end c.deref.ensures.value _ _ _ c.requires.reads
-    (λ h. let t = c.in-Ok-false.ensures.accepted.1 h in let f = c.in-Ok-false.field-0-test in absurd (cc (t, f))) c.in-Ok-false.ensures.all
+    λ _. refusal_for _ _ _ _ c.in-Ok.ensures.all c.in-Ok.ensures.end c.deref.ensures.value _ _ c.args.mode c.one_side.ensures.refused c.requires.reads
+    (λ h. let t = c.in-Ok-false.ensures.taken.1 h in let f = c.in-Ok-false.field-0-test in absurd (cc (t, f))) c.in-Ok-false.ensures.all
 
 pub returns-in-Ok-false-clause-within : goal.returns-in-Ok-false-clause-within
 returns-in-Ok-false-clause-within g c =

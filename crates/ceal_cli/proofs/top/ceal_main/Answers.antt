@@ -45,12 +45,20 @@ returns-in-Ok-Some-Gen-clause-generated_prefix g c =
 pub returns-in-Ok-Some-Gen-clause-done : goal.returns-in-Ok-Some-Gen-clause-done
 returns-in-Ok-Some-Gen-clause-done g c =
     let asked = rw (c.in-Ok-Some-Gen.field-0-is, c.in-Ok-Some-Gen.field-0-0-is) at c.in-Ok-Some-Gen.ensures in
-    λ _ reads. absurd (not_both _ (c.in-Ok-Some-Gen.kind, c.in-Ok-Some-Gen.seed, c.in-Ok-Some-Gen.size, asked) reads)
+    λ _ mode asks reads. absurd (not_both _ (c.in-Ok-Some-Gen.kind, c.in-Ok-Some-Gen.seed, c.in-Ok-Some-Gen.size, asked) (mode, asks, reads))
+
+pub returns-in-Ok-Some-Gen-clause-refused : goal.returns-in-Ok-Some-Gen-clause-refused
+returns-in-Ok-Some-Gen-clause-refused g c = λ is mode asks. absurd (no_refusal c.answer_workload.result c.answer_workload.ensures.answer is)
+
+pub returns-in-Ok-Some-Gen-clause-complete : goal.returns-in-Ok-Some-Gen-clause-complete
+returns-in-Ok-Some-Gen-clause-complete g c =
+    let asked = rw (c.in-Ok-Some-Gen.field-0-is, c.in-Ok-Some-Gen.field-0-0-is) at c.in-Ok-Some-Gen.ensures in
+    λ mode asks reads. absurd (not_both _ (c.in-Ok-Some-Gen.kind, c.in-Ok-Some-Gen.seed, c.in-Ok-Some-Gen.size, asked) (mode, asks, reads))
 
 pub returns-in-Ok-Some-Gen-clause-refuses : goal.returns-in-Ok-Some-Gen-clause-refuses
 returns-in-Ok-Some-Gen-clause-refuses g c =
     let asked = rw (c.in-Ok-Some-Gen.field-0-is, c.in-Ok-Some-Gen.field-0-0-is) at c.in-Ok-Some-Gen.ensures in
-    λ reads. absurd (not_both _ (c.in-Ok-Some-Gen.kind, c.in-Ok-Some-Gen.seed, c.in-Ok-Some-Gen.size, asked) reads)
+    λ mode asks reads. absurd (not_both _ (c.in-Ok-Some-Gen.kind, c.in-Ok-Some-Gen.seed, c.in-Ok-Some-Gen.size, asked) (mode, asks, reads))
 
 pub returns-in-Ok-Some-Gen-clause-answered : goal.returns-in-Ok-Some-Gen-clause-answered
 returns-in-Ok-Some-Gen-clause-answered g c =
@@ -88,8 +96,8 @@ returns-in-Ok-Some g c =
       unread = λ none. absurd (none (c.in-Ok-Some.mode, asked, input));
       generated = λ _ kind seed size asks. absurd (not_both _ (kind, seed, size, asks) (c.in-Ok-Some.mode, asked, input));
       generated_prefix = λ kind seed size asks. absurd (not_both _ (kind, seed, size, asks) (c.in-Ok-Some.mode, asked, input));
-      done = λ is _. c.answer_input.ensures.done is;
-      refused = c.answer_input.ensures.refused;
+      done = λ is mode asks _. rw (one_mode _ mode c.in-Ok-Some.mode asks asked) (c.answer_input.ensures.done is);
+      refused = λ is mode asks. rw (one_mode _ mode c.in-Ok-Some.mode asks asked) (c.answer_input.ensures.refused is);
       asked = λ _. (c.in-Ok-Some.mode, asked, input);
       usage = λ is. absurd (c.answer_input.ensures.usage is);
       too_long = c.answer_input.ensures.too_long;
@@ -97,8 +105,8 @@ returns-in-Ok-Some g c =
       write_fault = c.answer_input.ensures.write_fault;
       undefined = λ none. absurd (none (c.in-Ok-Some.mode, asked));
       untouched = λ none. absurd (none (c.in-Ok-Some.mode, asked));
-      complete = λ _. c.answer_input.ensures.complete;
-      refuses = λ _. c.answer_input.ensures.refuses;
+      complete = λ mode asks _. rw (one_mode _ mode c.in-Ok-Some.mode asks asked) c.answer_input.ensures.complete;
+      refuses = λ mode asks _. rw (one_mode _ mode c.in-Ok-Some.mode asks asked) c.answer_input.ensures.refuses;
       generates = λ generates. absurd (not_both _ generates (c.in-Ok-Some.mode, asked, input));
     }
 

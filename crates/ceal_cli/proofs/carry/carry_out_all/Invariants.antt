@@ -2,7 +2,7 @@ use Rattle.std.proofs.Common.{length}
 use Rattle.ceal_session.specs.Keeping.{situation}
 use Rattle.ceal_cli.specs.Lines.{script_lines}
 use Rattle.ceal_cli.proofs.Carrying.{CarriedSoFar}
-use Rattle.ceal_cli.proofs.dump.carry_out_all.Given as goal
+use Rattle.ceal_cli.proofs.carry.carry_out_all.Given as goal
 
 -- the lines before what is left were carried out
 abbrev pub invariant-loop-next : goal.invariant-loop-next

@@ -2,7 +2,7 @@ use Rattle.std.proofs.Common.{◌∙◌}
 use Rattle.std.specs.Option.{option_copied}
 use Rattle.ceal_cli.proofs.Carrying.{one-carried, all-carried}
 use Rattle.ceal_cli.proofs.ScriptLines.{lines_cut, copied_some, no_lines}
-use Rattle.ceal_cli.proofs.dump.carry_out_all.Goals as goal
+use Rattle.ceal_cli.proofs.carry.carry_out_all.Goals as goal
 
 pub loop-next-preserved : goal.loop-next-preserved
 loop-next-preserved c =

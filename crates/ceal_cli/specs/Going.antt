@@ -1,0 +1,31 @@
+-- What is found behind the first mark of an input that is resumed.
+use Rattle.std.specs.Prelude.{◌≡◌, ℕ, true, List, Result, Ok, Err}
+use Rattle.ceal_code.specs.Program.{Code}
+use Rattle.ceal_compile.specs.declared.program.Program.{Program}
+use Rattle.ceal_lex.specs.Parts.{source_of}
+use Rattle.ceal_lex.specs.declared.parts.Split.{Split}
+use Rattle.ceal_session.specs.Saving.{Holding, IsResumed}
+use Rattle.ceal_session.specs.State.{Situation}
+use Rattle.ceal_snap.specs.SaveText.{Save, IsSave}
+use Rattle.ceal_snap.specs.declared.read.SaveError.{SaveError}
+use Rattle.ceal_snap.specs.declared.read.SaveError.TheVariants.{Memory, Unreadable}
+use Rattle.ceal_cli.specs.Resumed.{Resumption}
+
+-- The bytes before the second mark are the save that is read. They are unreadable where there is no such mark, or where
+-- they are none.
+abbrev pub IsSaveRead : List ℕ → Split → Result Save SaveError → Type 0
+IsSaveRead bytes part (Ok s) = (part.marked ≡ true) × IsSave (source_of bytes part) s
+IsSaveRead bytes part (Err Memory) = Unit {0}
+IsSaveRead bytes part (Err Unreadable) = ¬ Resumption bytes
+
+-- The session goes on from the save before the second mark, which holds.
+pub record GoesOn (program : Program) (bytes : List ℕ) (part : Split) (session : Situation) : Type 0 where
+  pub marked : part.marked ≡ true
+  pub saved : Save
+  pub is : IsSave (source_of bytes part) saved
+  pub holds : Holding program.code saved
+  pub resumed : IsResumed program saved session
+
+-- There is a save that does not hold.
+abbrev pub IsUnsound : Code → List ℕ → Type 0
+IsUnsound code bytes = (r : Resumption bytes) × ¬ Holding code r.saved

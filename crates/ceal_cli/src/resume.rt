@@ -1,0 +1,130 @@
+// The replies of a session that is resumed.
+
+ghost use Rattle.std.specs.Prelude.{◌<◌, ◌^◌, ◌↔◌, IsTrue, length, IfOk, OnOk, IsErrOf};
+ghost use Rattle.ceal_compile.specs.Compiled.{IsCompiled};
+ghost use Rattle.ceal_compile.specs.Source.{IsProgram};
+ghost use Rattle.ceal_io.specs.Streams.{Rose};
+ghost use Rattle.ceal_lex.specs.Parts.{IsSplit};
+ghost use Rattle.ceal_session.specs.Keeping.{situation};
+ghost use Rattle.ceal_cli.specs.Growth.{WritesOutput, WritesPrefix};
+ghost use Rattle.ceal_cli.specs.Going.{IsSaveRead, GoesOn, IsUnsound};
+ghost use Rattle.ceal_cli.specs.Output.{IsTaken};
+ghost use Rattle.ceal_cli.specs.Resumed.{Resumption};
+ghost use Rattle.ceal_cli.specs.declared.words.Mode.TheVariants.{Resume};
+
+use crate::lines::{script, source};
+use crate::replies::reply_all;
+use ceal_compile::compile::one_answer;
+use ceal_compile::laws::one_code;
+use ceal_compile::program::Program;
+use ceal_io::{Sink, Stopped, write_all};
+use ceal_lex::parts::Split;
+use ceal_lex::split::{one_split, split};
+use ceal_session::laws::{kept_line, some_reply};
+use ceal_session::session::{RestoreError, Session};
+use ceal_snap::laws::one_save_law;
+use ceal_snap::read::{SaveError, read_save};
+use ceal_snap::saved::Saved;
+use ceal_types::seed::Seed;
+use std::alloc::Global;
+use std::mem::forget;
+
+/// Why no session goes on.
+#[derive(Clone, Copy, PartialEq, Eq, Debug)]
+pub enum NotResumed {
+    /// there was no memory
+    Memory,
+    /// no save stands before a second mark
+    Unreadable,
+    /// the save does not hold
+    Unsound,
+}
+
+// The save before the second mark.
+fn save_before(alloc: Global, bytes: &[u8], part: &Split) -> Result<Saved, SaveError>
+    requires split { IsSplit bytes.now part.now }
+    ensures read { IsSaveRead bytes.now part.now result }
+{
+    one_split();
+    if !part.marked {
+        return Err(SaveError::Unreadable);
+    }
+    read_save(alloc, source(bytes, part))
+}
+
+// The session that goes on from the save before the second mark.
+fn resumed(
+    alloc: Global,
+    program: Program,
+    bytes: &[u8],
+    part: &Split,
+) -> Result<Session, NotResumed>
+    requires compiled { IsCompiled program }
+    requires split { IsSplit bytes.now part.now }
+    ensures session { IfOk result
+        (λ session. GoesOn program bytes.now part.now (situation session)) }
+    ensures unreadable { IsErrOf result NotResumed.Unreadable → ¬ Resumption bytes.now }
+    ensures unsound { IsErrOf result NotResumed.Unsound → IsUnsound program.code bytes.now }
+{
+    match save_before(alloc, bytes, part) {
+        Ok(saved) => match Session::restore_seeded(alloc, program, saved, Seed::of_text(bytes)) {
+            Ok(session) => Ok(session),
+            Err(RestoreError::Memory) => Err(NotResumed::Memory),
+            Err(RestoreError::Unsound) => Err(NotResumed::Unsound),
+        },
+        Err(SaveError::Memory) => {
+            drop(program);
+            Err(NotResumed::Memory)
+        }
+        Err(SaveError::Unreadable) => {
+            drop(program);
+            Err(NotResumed::Unreadable)
+        }
+    }
+}
+
+/// Writes the replies to the script behind the second mark, from the save before it on, and says whether there is one that
+/// holds. Where there is none, the line that says why is written.
+pub fn resume<K: Sink>(
+    alloc: Global,
+    input: &[u8],
+    program: Program,
+    sink: &mut K,
+) -> Result<bool, Stopped>
+    requires small { length input.now < 2 ^ 32 }
+    requires program { IsProgram input.now program.typed }
+    requires compiled { IsCompiled program }
+    ensures taken { IfOk result (λ taken. IsTrue taken ↔ IsTaken Resume input.now) }
+    ensures all { OnOk result
+        (WritesOutput (K.written sink.old) (K.written sink.new) Resume input.now) }
+    ensures part { WritesPrefix (K.written sink.old) (K.written sink.new) Resume input.now }
+    ensures fault { IsErrOf result Stopped.Failed → Rose (K.faults sink.old) (K.faults sink.new) }
+{
+    kept_line();
+    some_reply();
+    one_answer();
+    one_code();
+    one_split();
+    one_save_law();
+    let bytes = script(input, &split(input));
+    let part = split(bytes);
+    match resumed(alloc, program, bytes, &part) {
+        Ok(session) => {
+            let mut session = session;
+            let told = reply_all(&mut session, script(bytes, &part), sink);
+            // The program ends behind this: its memory goes back with the process, and not piece by piece.
+            forget(session);
+            told?;
+            Ok(true)
+        }
+        Err(NotResumed::Memory) => Err(Stopped::Memory),
+        Err(NotResumed::Unreadable) => {
+            write_all(sink, b"refused V1: unreadable save\n")?;
+            Ok(false)
+        }
+        Err(NotResumed::Unsound) => {
+            write_all(sink, b"refused V2: save does not hold\n")?;
+            Ok(false)
+        }
+    }
+}

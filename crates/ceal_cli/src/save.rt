@@ -1,0 +1,120 @@
+// What is written to go on from later.
+
+ghost use Rattle.std.specs.Prelude.{◌≡◌, ◌<◌, ◌^◌, true, length, IfOk, OnOk, IsErrOf};
+ghost use Rattle.ceal_compile.specs.Compiled.{IsCompiled};
+ghost use Rattle.ceal_compile.specs.Source.{IsProgram};
+ghost use Rattle.ceal_dump.specs.DumpText.{all_core, closed};
+ghost use Rattle.ceal_io.specs.Streams.{Rose};
+ghost use Rattle.ceal_session.specs.Keeping.{situation};
+ghost use Rattle.ceal_session.specs.Following.{IsAllowed};
+ghost use Rattle.ceal_session.specs.Naming.{AreSpelled};
+ghost use Rattle.ceal_cli.specs.Growth.{Grows, WritesOutput, WritesPrefix};
+ghost use Rattle.ceal_cli.specs.Serving.{IsSaveBehind, IsSaveFrom};
+ghost use Rattle.ceal_cli.specs.Lines.{script_lines};
+ghost use Rattle.ceal_cli.specs.Output.{Begins};
+ghost use Rattle.ceal_cli.specs.Saves.{with_source};
+ghost use Rattle.ceal_cli.specs.declared.words.Mode.TheVariants.{Save};
+
+use crate::carry::carry_out_all;
+use crate::lines::{script, source};
+use ceal_base::no_memory::NoMemory;
+use ceal_base::text::Text;
+use ceal_compile::program::Program;
+use ceal_dump::has_dump::has_room;
+use ceal_io::{Sink, Stopped, write_all};
+use ceal_lex::split::split;
+use ceal_record::laws::renamed_law;
+use ceal_session::laws::{kept_line, saved_law, some_reply};
+use ceal_session::session::Session;
+use ceal_snap::saved::Saved;
+use ceal_snap::write::save_text;
+use ceal_theory::names::renaming_law;
+use ceal_types::seed::Seed;
+use std::alloc::Global;
+
+// The source part, a line `%%`, and the save. Where one of its counts has no room in 32 bits, there is no memory for so many.
+fn text_of(alloc: Global, source: &[u8], saved: &Saved) -> Result<Text, NoMemory>
+    requires names { AreSpelled saved.now.names }
+    requires core { all_core saved.now.kept.forest ≡ true }
+    requires ends { closed 0 saved.now.kept.forest ≡ true }
+    ensures { IfOk result (λ text. text ≡ with_source source.now saved.now) }
+{
+    if saved.items().len() >= 1 << 32 || !has_room(&saved.kept) {
+        return Err(NoMemory);
+    }
+    let save = save_text(alloc, saved)?;
+    let mut text = Text::from_slice(alloc, source)?;
+    text.append(b"%%\n")?;
+    text.append(save.items())?;
+    Ok(text)
+}
+
+// The save of the session behind its source part, or the line that there is no run to save.
+fn save_of(alloc: Global, source: &[u8], session: &Session) -> Result<Text, NoMemory>
+    ensures { IfOk result (λ text. IsSaveFrom source.now (situation session.now) text) }
+{
+    renaming_law();
+    match session.saved()? {
+        None => Text::from_slice(alloc, b"no finished run\n"),
+        Some(saved) => {
+            let text = text_of(alloc, source, &saved);
+            drop(saved);
+            text
+        }
+    }
+}
+
+// Carries out a script, and writes the save behind it.
+fn write_save<K: Sink>(
+    alloc: Global,
+    session: &mut Session,
+    source: &[u8],
+    script: &[u8],
+    sink: &mut K,
+) -> Result<(), Stopped>
+    ensures all { OnOk result (Grows (K.written sink.old) (K.written sink.new)
+        (IsSaveBehind source.now (situation session.old) (script_lines script.now))) }
+    ensures part { Grows (K.written sink.old) (K.written sink.new)
+        (Begins (IsSaveBehind source.now (situation session.old) (script_lines script.now))) }
+    ensures fault { IsErrOf result Stopped.Failed → Rose (K.faults sink.old) (K.faults sink.new) }
+{
+    carry_out_all(session, script)?;
+    match save_of(alloc, source, session) {
+        Ok(text) => write_all(sink, text.items()),
+        Err(NoMemory) => Err(Stopped::Memory),
+    }
+}
+
+/// Writes the source part, a line `%%`, and the save of the session behind the script.
+pub fn save<K: Sink>(
+    alloc: Global,
+    fuel: u32,
+    input: &[u8],
+    program: Program,
+    sink: &mut K,
+) -> Result<(), Stopped>
+    requires small { length input.now < 2 ^ 32 }
+    requires program { IsProgram input.now program.typed }
+    requires compiled { IsCompiled program }
+    requires fuel { IsAllowed fuel }
+    ensures all { OnOk result
+        (WritesOutput (K.written sink.old) (K.written sink.new) (Save fuel) input.now) }
+    ensures part { WritesPrefix (K.written sink.old) (K.written sink.new) (Save fuel) input.now }
+    ensures fault { IsErrOf result Stopped.Failed → Rose (K.faults sink.old) (K.faults sink.new) }
+{
+    kept_line();
+    some_reply();
+    renamed_law();
+    saved_law();
+    let part = split(input);
+    match Session::seeded(alloc, program, fuel, Seed::of_text(input)) {
+        Ok(session) => {
+            let mut session = session;
+            let (source, script) = (source(input, &part), script(input, &part));
+            let told = write_save(alloc, &mut session, source, script, sink);
+            drop(session);
+            told
+        }
+        Err(NoMemory) => Err(Stopped::Memory),
+    }
+}
