@@ -448,14 +448,21 @@ fn comes_to<R: Abort>(rt: &R, engine: &mut Engine, progress: Progress) -> Result
     Ok(())
 }
 
+/// The content of an input that is one modifiable.
+fn contains<R: Abort>(rt: &R, engine: &Engine, n: u32, number: i64)
+    requires { engine.now.phase ≡ Finished }
+{
+    let place = modifiable(n);
+    holds(rt, engine.has_modifiable(place));
+    holds(rt, engine.value(place) == Word::Num(number));
+}
+
 /// The run is up to date, with this work, and these contents of the second and the last input.
 fn is_at<R: Abort>(rt: &R, engine: &Engine, work: u32, contents: (i64, i64)) {
     holds(rt, engine.phase() == Phase::Finished);
     equal(rt, (engine.steps(), engine.work()), (6, work));
-    holds(rt, engine.has_modifiable(modifiable(1)));
-    holds(rt, engine.value(modifiable(1)) == Word::Num(contents.0));
-    holds(rt, engine.has_modifiable(modifiable(3)));
-    holds(rt, engine.value(modifiable(3)) == Word::Num(contents.1));
+    contains(rt, engine, 1, contents.0);
+    contains(rt, engine, 3, contents.1);
 }
 
 /// The numbers 1, 0, 5 and 0 as inputs, and a run of the two increments over them.
