@@ -1,1 +1,2 @@
 mod FirstEdit
+mod GoesOn

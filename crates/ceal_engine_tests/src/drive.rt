@@ -1,57 +1,12 @@
 // An engine that is driven by calls which are asked whether they may be made.
 
-ghost use Rattle.std.specs.Prelude.{◌≡◌, ◌<◌, ◌+◌, ◌^◌, true, length, IsTrue};
-ghost use Rattle.ceal_base.specs.Fitting.{block_fits};
-ghost use Rattle.ceal_code.specs.Fitting.{Fits};
-ghost use Rattle.ceal_engine.specs.Engine as state;
-ghost use Rattle.ceal_engine.specs.Engine.{alone};
-ghost use Rattle.ceal_engine.specs.declared.phase.Phase.TheVariants.{New};
-
-use ceal_base::fitting::{field_fits, new_block_fits, place_kind};
-use ceal_base::kind::{FieldKind, Shape};
+use ceal_base::kind::Shape;
 use ceal_base::memory::{BlockWords, Inputs};
 use ceal_base::word::{BlockId, Place, Word};
 use ceal_engine::engine::Engine;
-use ceal_engine::phase::Phase;
+use ceal_engine::phase::{Phase, Progress};
 use ceal_engine::run_error::RunError;
-use ceal_samples::calls::do_args_fit;
 use std::test::Fail;
-
-/// Whether an input with these words may be added.
-pub(crate) fn takes_input(engine: &Engine, shape: Shape, words: &[Word]) -> bool
-    ensures fits { IsTrue result
-        → block_fits engine.now.code.structs (alone engine.now.inputs)
-        (record { shape = shape; words = words.now }) ≡ true }
-    ensures room { IsTrue result → length engine.now.inputs + 1 < 2 ^ 32 }
-{
-    let inputs = engine.input_blocks();
-    inputs.items().len() < 100_000
-        && new_block_fits(engine.code().structs.items(), inputs, shape, words)
-}
-
-/// Whether the place is a modifiable, and the word fits it.
-pub(crate) fn takes(engine: &Engine, place: Place, word: Word) -> bool
-    ensures { IsTrue result → state.takes engine.now place word ≡ true }
-{
-    let inputs = engine.input_blocks();
-    let structs = engine.code().structs.items();
-    match place_kind(structs, inputs, place) {
-        Some(FieldKind::CellPtr(number)) => {
-            field_fits(structs, inputs, FieldKind::CellPtr(number), word)
-        }
-        Some(FieldKind::CellInt) => field_fits(structs, inputs, FieldKind::CellInt, word),
-        _ => false,
-    }
-}
-
-/// Whether nothing was called, and the call may be run.
-pub(crate) fn takes_call(engine: &Engine, function: u32, args: &[Word]) -> bool
-    ensures new { IsTrue result → engine.now.phase ≡ New }
-    ensures fits { IsTrue result → Fits engine.now.code engine.now.inputs function args.now }
-{
-    engine.phase() == Phase::New
-        && do_args_fit(engine.code(), function, args, engine.input_blocks())
-}
 
 /// How a run failed.
 fn failed(error: RunError) -> Fail {
@@ -62,7 +17,7 @@ fn failed(error: RunError) -> Fail {
 }
 
 pub(crate) fn add(engine: &mut Engine, shape: Shape, words: &[Word]) -> Result<(), Fail> {
-    if !takes_input(engine, shape, words) {
+    if !engine.takes_input(shape, words) {
         return Err(Fail::from("it takes no such input"));
     }
     engine.add_input(shape, words)?;
@@ -70,7 +25,7 @@ pub(crate) fn add(engine: &mut Engine, shape: Shape, words: &[Word]) -> Result<(
 }
 
 pub(crate) fn edit(engine: &mut Engine, place: Place, word: Word) -> Result<(), Fail> {
-    if !takes(engine, place, word) {
+    if !engine.takes_edit(place, word) {
         return Err(Fail::from("it takes no such edit"));
     }
     engine.edit(place, word)?;
@@ -78,7 +33,7 @@ pub(crate) fn edit(engine: &mut Engine, place: Place, word: Word) -> Result<(), 
 }
 
 pub(crate) fn run(engine: &mut Engine, function: u32, args: &[Word]) -> Result<(), Fail> {
-    if !takes_call(engine, function, args) {
+    if !engine.takes_call(function, args) {
         return Err(Fail::from("it takes no such call"));
     }
     engine.run(function, args).map_err(failed)
@@ -89,6 +44,14 @@ pub(crate) fn propagate(engine: &mut Engine) -> Result<(), Fail> {
         return Err(Fail::from("nothing was called"));
     }
     engine.propagate().map_err(failed)
+}
+
+/// A slice of so many reads.
+pub(crate) fn slice(engine: &mut Engine, reads: u32) -> Result<Progress, Fail> {
+    if engine.phase() == Phase::New || reads < 1 {
+        return Err(Fail::from("it takes no slice"));
+    }
+    engine.slice(reads).map_err(failed)
 }
 
 /// The inputs with no pointer to a block: what is added first, since a pointer may lead to a later input.

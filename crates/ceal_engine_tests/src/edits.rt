@@ -92,7 +92,7 @@ fn extends(code: &Code, old: &[BlockWords], new: &[BlockWords]) -> bool
 }
 
 /// Whether the new inputs are an edit of the old ones.
-fn is_edit(code: &Code, before: &Inputs, after: &Inputs) -> bool
+pub(crate) fn is_edit(code: &Code, before: &Inputs, after: &Inputs) -> bool
     ensures fit { IsTrue result → inputs_fit code.now.structs after.now ≡ true }
     ensures extended { IsTrue result → Extended code.now before.now after.now }
 {

@@ -1,6 +1,7 @@
 //! The tests, by public calls, of what runs and repairs: repair over whole traces (`adjust`, with `edits`), the run over nodes
-//! (`nodes`), the engine (with `drive`; beside `adjust` in `side_by_side`, and where memory is refused in `refused`), the recorded
-//! traces (`dumps`) and the saved sessions (`saves`). No crate stands on this one.
+//! (`nodes`), the engine (with `drive`; beside `adjust` in `side_by_side`, in slices in `sliced`, and where memory is refused in
+//! `recovered`), the recorded traces (`dumps`), and sessions: where memory is refused (`refused`), and saved (`saves`). No crate
+//! stands on this one.
 #![tactic(auto)]
 
 #[cfg(test)]
@@ -18,8 +19,12 @@ mod engine;
 #[cfg(test)]
 mod nodes;
 #[cfg(test)]
+mod recovered;
+#[cfg(test)]
 mod refused;
 #[cfg(test)]
 mod saves;
 #[cfg(test)]
 mod side_by_side;
+#[cfg(test)]
+mod sliced;
