@@ -1,24 +1,29 @@
--- Sets of numbers as words of bits.
-use Rattle.std.proofs.Common.{◌≡◌, ◌≢◌, ◌⊎◌, inl, inr, ℕ, zero, suc, ◌+◌, ◌-◌, ◌*◌, ◌/◌, ◌%◌, ◌^◌, ◌<◌, ◌≤◌, max, Bool, true, false, ◌==◌, ◌||◌, ◌&&◌, not, Option, Some, Result, Ok, Err, OnErr, List, [], ◌∷◌, ◌++◌, length, if◌then◌else◌, refl, ap, sym, ◌∙◌, subst, arith, w64, add-one, ltb, length-append, add-zero, add-suc}
+-- Sets of numbers as chunks of bits.
+use Rattle.std.proofs.Common.{◌≡◌, ◌≢◌, ◌⊎◌, inl, inr, ℕ, zero, suc, ◌+◌, ◌-◌, ◌*◌, ◌/◌, ◌%◌, ◌^◌, ◌<◌, ◌≤◌, max, Bool, true, false, ◌==◌, ◌||◌, ◌&&◌, not, Option, Some, Result, Ok, Err, OnErr, List, [], ◌∷◌, ◌++◌, length, if◌then◌else◌, refl, ap, sym, ◌∙◌, subst, arith, w64, add-one, ltb, length-append, append_assoc, add-zero, add-suc, take}
 use Rattle.std.specs.Int.{bit_at, bit_not}
-use Rattle.std.specs.Prelude.{bit_and, bit_or}
+use Rattle.std.specs.Prelude.{bit_and, bit_or, insert, slice_get, slice_set}
 use Rattle.std.proofs.lemmas.Nat.Bits.{bit_at-lt, bit_at-zero, bit_at_or, bit_at_clear_same, bit_at_clear_other, bit_at_set_same, bit_at_set_other, bit_at_above, same_from_bits_below}
 use Rattle.std.proofs.lemmas.Bool.Decides.{eqb_tells, leb_tells}
 use Rattle.std.proofs.lemmas.Bool.{lt-ltb, le-ltb}
-use Rattle.std.proofs.lemmas.Nat.{le_or_l, leading_length}
-use Rattle.std.specs.Int.Count.{count_leading_zeros}
+use Rattle.std.proofs.lemmas.Nat.{le_or_l}
 use Rattle.std.proofs.Math.Bool.{or_assoc}
+use Rattle.std.specs.Int.Bits.{or_zero_l}
 use Rattle.std.proofs.lemmas.List.{append-nil}
 use mir.Val.{bits}
-use Rattle.ceal_flow.specs.Bits.{word_at, has_bit, members_below, members}
+use Rattle.ceal_flow.specs.declared.bits.Chunk.{Chunk}
+use Rattle.ceal_flow.specs.Bits.{bits_of, has_bit, inside, members_below, members, AscendFrom, AreOrdered, AreBefore, IsNotBefore}
 use Rattle.ceal_flow.specs.Sets.{is_in, is_that, IsAscending}
-use Rattle.ceal_flow.proofs.OneAnswer.{one-list}
+use Rattle.ceal_flow.proofs.ChunkFacts.{all-before, before-later, before-more, before-none, before-there, bits-here, bits-none, none-at-end, prefix-before, put-here, set-here, take-here, take-none, take-others}
 
--- what lies past the end is 0
-pub word-past : (words : List ℕ) (k : ℕ) → length words ≤ k → word_at words k ≡ 0
-word-past [] k h = refl
-word-past (w ∷ ws) zero h = absurd (omega arith)
-word-past (w ∷ ws) (suc k) h = word-past ws k (omega arith)
+-- no chunk is there past the last number
+pub bits-late : (a : ℕ) (cs : List Chunk) (k : ℕ) → AscendFrom a cs → 2 ^ 26 ≤ k → bits_of cs k ≡ 0
+bits-late a [] k h l = refl
+bits-late a (c ∷ cs) k h l =
+    let low = h.1 in
+    elim (eqb_tells c.at k) [
+      | inl p ↦ let q = p.1 in absurd (omega (arith, q, low, l))
+      | inr p ↦ rw p.0 (bits-late (c.at + 1) cs k h.2 l)
+    ]
 
 -- a word without the bit of a number
 pub but-bit : (n v at j : ℕ) (except : Option ℕ) → except ≡ Some v → v / 64 ≡ at → j < 64
@@ -69,7 +74,7 @@ put-differs x y bits e l n =
 le-or-lt : (a b : ℕ) → (a ≤ b) ⊎ (b < a)
 le-or-lt a b = elim (leb_tells a b) [ inl p ↦ inl p.1 | inr p ↦ inr p.1 ]
 
-no-more : (a : ℕ) (t : Bool) → a ≡ max a (if t then 0 else 0)
+pub no-more : (a : ℕ) (t : Bool) → a ≡ max a (if t then 0 else 0)
 no-more a true = omega arith
 no-more a false = omega arith
 
@@ -88,35 +93,22 @@ or-bit (suc zero) (suc (suc b)) c t la lb e = absurd (omega arith)
 or-bit (suc (suc a)) b c t la lb e = absurd (omega arith)
 
 -- bit for bit, the one set and the other but one number
-abbrev pub JoinedAt : List ℕ → List ℕ → List ℕ → Option ℕ → ℕ → ℕ → Type 0
+abbrev pub JoinedAt : List Chunk → List Chunk → List Chunk → Option ℕ → ℕ → ℕ → Type 0
 JoinedAt new old others except k j =
-    bit_at (word_at new k) j ≡ max (bit_at (word_at old k) j) (if is_that except (k * 64 + j) then 0 else bit_at (word_at others k) j)
+    bit_at (bits_of new k) j ≡ max (bit_at (bits_of old k) j) (if is_that except (k * 64 + j) then 0 else bit_at (bits_of others k) j)
 
-pub has-joined : (new old others : List ℕ) (except : Option ℕ) (w : ℕ) → JoinedAt new old others except (w / 64) (w % 64)
-    → has_bit new w ≡ (has_bit old w || (has_bit others w && not (is_that except w)))
-has-joined new old others except w h =
-    let same : w / 64 * 64 + w % 64 ≡ w = omega arith in
-    or-bit (bit_at (word_at old (w / 64)) (w % 64)) (bit_at (word_at others (w / 64)) (w % 64)) (bit_at (word_at new (w / 64)) (w % 64)) (is_that except w)
-    (bit_at-lt (word_at old (w / 64)) (w % 64)) (bit_at-lt (word_at others (w / 64)) (w % 64))
-    (subst (λ v. bit_at (word_at new (w / 64)) (w % 64)
-    ≡ max (bit_at (word_at old (w / 64)) (w % 64)) (if is_that except v then 0 else bit_at (word_at others (w / 64)) (w % 64))) same h)
-
--- at every number, where it is so below the end of the other set and nothing is changed from there on
-pub all-joined : (new old others : List ℕ) (except : Option ℕ) (i : ℕ) → length others ≤ i
-    → ((k j : ℕ) → k < i → j < 64 → JoinedAt new old others except k j) → ((k : ℕ) → i ≤ k → word_at new k ≡ word_at old k)
+pub has-joined : (new old others : List Chunk) (except : Option ℕ) → ((k j : ℕ) → j < 64 → JoinedAt new old others except k j)
     → (w : ℕ) → has_bit new w ≡ (has_bit old w || (has_bit others w && not (is_that except w)))
-all-joined new old others except i l joined left w = elim (le-or-lt i (w / 64)) [
-  | inl far ↦
-      let none = word-past others (w / 64) (omega (arith, l, far)) in
-      let zeros : bit_at (word_at others (w / 64)) (w % 64) ≡ 0 = rw none (bit_at-zero (w % 64)) in
-      let t = is_that except (w / 64 * 64 + w % 64) in
-      has-joined new old others except w
-      (rw (left (w / 64) far, zeros) (no-more (bit_at (word_at old (w / 64)) (w % 64)) (is_that except (w / 64 * 64 + w % 64))))
-  | inr near ↦ has-joined new old others except w (joined (w / 64) (w % 64) near (omega arith))
-]
+has-joined new old others except h w =
+    let same : w / 64 * 64 + w % 64 ≡ w = omega arith in
+    or-bit (bit_at (bits_of old (w / 64)) (w % 64)) (bit_at (bits_of others (w / 64)) (w % 64)) (bit_at (bits_of new (w / 64)) (w % 64)) (is_that except w)
+    (bit_at-lt (bits_of old (w / 64)) (w % 64)) (bit_at-lt (bits_of others (w / 64)) (w % 64))
+    (subst (λ v. bit_at (bits_of new (w / 64)) (w % 64)
+    ≡ max (bit_at (bits_of old (w / 64)) (w % 64)) (if is_that except v then 0 else bit_at (bits_of others (w / 64)) (w % 64))) same
+    (h (w / 64) (w % 64) (omega arith)))
 
 -- one more, where a bit is not what it was
-pub record Added (old new : List ℕ) : Type 0 where
+pub record Added (old new : List Chunk) : Type 0 where
   pub number : ℕ
   pub out : has_bit old number ≡ false
   pub inside : has_bit new number ≡ true
@@ -134,54 +126,64 @@ bit-added (suc zero) (suc zero) c false la lb e n = absurd (n (sym e))
 bit-added (suc zero) (suc (suc b)) c t la lb e n = absurd (omega arith)
 bit-added (suc (suc a)) b c t la lb e n = absurd (omega arith)
 
-pub has-added : (new old others : List ℕ) (except : Option ℕ) (k j : ℕ) → j < 64 → JoinedAt new old others except k j
-    → bit_at (word_at old k) j ≢ bit_at (word_at new k) j → Added old new
+pub has-added : (new old others : List Chunk) (except : Option ℕ) (k j : ℕ) → j < 64 → JoinedAt new old others except k j
+    → bit_at (bits_of old k) j ≢ bit_at (bits_of new k) j → Added old new
 has-added new old others except k j l h n =
     let word_is : (k * 64 + j) / 64 ≡ k = omega (arith, l) in
     let bit_is : (k * 64 + j) % 64 ≡ j = omega (arith, l) in
-    let both = bit-added (bit_at (word_at old k) j) (bit_at (word_at others k) j) (bit_at (word_at new k) j) (is_that except (k * 64 + j))
-    (bit_at-lt (word_at old k) j) (bit_at-lt (word_at others k) j) h n in
+    let both = bit-added (bit_at (bits_of old k) j) (bit_at (bits_of others k) j) (bit_at (bits_of new k) j) (is_that except (k * 64 + j))
+    (bit_at-lt (bits_of old k) j) (bit_at-lt (bits_of others k) j) h n in
     record { number = k * 64 + j; out = rw (word_is, bit_is) both.0; inside = rw (word_is, bit_is) both.1 }
 
--- one word more
-module _ (old cur new others : List ℕ) (except : Option ℕ) (i bits : ℕ)
-    (joined : (k j : ℕ) → k < i → j < 64 → JoinedAt cur old others except k j) (left : (k : ℕ) → i ≤ k → word_at cur k ≡ word_at old k)
-    (here : word_at new i ≡ bit_or (word_at cur i) bits) (elsewhere : (k : ℕ) → k ≢ i → word_at new k ≡ word_at cur k)
-    (bits_are : (j : ℕ) → j < 64 → bit_at bits j ≡ (if is_that except (i * 64 + j) then 0 else bit_at (word_at others i) j)) where
-  pub step-joined : (k j : ℕ) → k < i + 1 → j < 64 → JoinedAt new old others except k j
-  step-joined k j lk lj = elim (eqb_tells k i) [
+-- one chunk more
+module _ (old cur new others : List Chunk) (except : Option ℕ) (i bits : ℕ) (c : Chunk) (ordered : AreOrdered others)
+    (there : slice_get others i ≡ Some c)
+    (joined : (k j : ℕ) → j < 64 → JoinedAt cur old (take i others) except k j)
+    (here : bits_of new c.at ≡ bit_or (bits_of cur c.at) bits) (elsewhere : (k : ℕ) → k ≢ c.at → bits_of new k ≡ bits_of cur k)
+    (bits_are : (j : ℕ) → j < 64 → bit_at bits j ≡ (if is_that except (c.at * 64 + j) then 0 else bit_at c.bits j)) where
+  -- the chunk was not joined yet
+  as-before : (j : ℕ) → j < 64 → bit_at (bits_of cur c.at) j ≡ bit_at (bits_of old c.at) j
+  as-before j l =
+      let none : bit_at (bits_of (take i others) c.at) j ≡ 0 = ap (λ n. bit_at n j) (take-none c 0 others i ordered there) ∙ bit_at-zero j in
+      subst (λ x. bit_at (bits_of cur c.at) j ≡ max (bit_at (bits_of old c.at) j) (if is_that except (c.at * 64 + j) then 0 else x)) none (joined c.at j l)
+      ∙ sym (no-more (bit_at (bits_of old c.at) j) (is_that except (c.at * 64 + j)))
+
+  step-joined-by : (k j : ℕ) → j < 64 → JoinedAt new old (take (suc i) others) except k j
+  step-joined-by k j l = elim (eqb_tells k c.at) [
     | inl p ↦
-        let e : JoinedAt new old others except i j =
-        rw (here, bit_at_or, bits_are j lj, left i (omega arith)) refl in
-        subst (λ x. JoinedAt new old others except x j) (sym p.1) e
-    | inr p ↦
-        let q = p.1 in
-        rw (elsewhere k q) (joined k j (omega (arith, q, lk)) lj)
+        let e : JoinedAt new old (take (suc i) others) except c.at j =
+        rw (here, bit_at_or, bits_are j l, as-before j l, take-here c 0 others i ordered there) refl in
+        subst (λ x. JoinedAt new old (take (suc i) others) except x j) (sym p.1) e
+    | inr p ↦ rw (elsewhere k p.1, take-others c others i k there p.1) (joined k j l)
   ]
 
-  pub step-left : (k : ℕ) → i + 1 ≤ k → word_at new k ≡ word_at old k
-  step-left k l =
-      let other : k ≢ i = λ e. absurd (omega (arith, e, l)) in elsewhere k other ∙ left k (omega (arith, l))
+  pub step-joined : (k j : ℕ) → j < 64 → JoinedAt new old (take (i + 1) others) except k j
+  step-joined k j l =
+      let one : suc i ≡ i + 1 = omega arith in subst (λ n. JoinedAt new old (take n others) except k j) one (step-joined-by k j l)
 
-  pub step-more : (a b : Bool) → (a ≡ true → (k j : ℕ) × (k < i) × (j < 64) × (bit_at (word_at old k) j ≢ bit_at (word_at cur k) j))
-      → (b ≡ true → (j : ℕ) × (j < 64) × (bit_at (word_at cur i) j ≢ bit_at (word_at new i) j)) → (a || b) ≡ true
-      → (k j : ℕ) × (k < i + 1) × (j < 64) × (bit_at (word_at old k) j ≢ bit_at (word_at new k) j)
+  pub step-more : (a b : Bool) → (a ≡ true → (k j : ℕ) × (j < 64) × (bit_at (bits_of old k) j ≢ bit_at (bits_of cur k) j))
+      → (b ≡ true → (j : ℕ) × (j < 64) × (bit_at (bits_of cur c.at) j ≢ bit_at (bits_of new c.at) j)) → (a || b) ≡ true
+      → (k j : ℕ) × (j < 64) × (bit_at (bits_of old k) j ≢ bit_at (bits_of new k) j)
   step-more true b before now e =
       let h = before refl in
-      let l = h.2 in
-      let other : h.0 ≢ i = λ s. absurd (omega (arith, s, l)) in
-      (h.0, h.1, omega (arith, l), h.3, rw (elsewhere h.0 other) h.4)
+      elim (eqb_tells h.0 c.at) [
+        | inl p ↦
+            let was : bit_at (bits_of cur h.0) h.1 ≡ bit_at (bits_of old h.0) h.1 =
+            subst (λ x. bit_at (bits_of cur x) h.1 ≡ bit_at (bits_of old x) h.1) (sym p.1) (as-before h.1 h.2) in
+            absurd (h.3 (sym was))
+        | inr p ↦ (h.0, h.1, h.2, rw (elsewhere h.0 p.1) h.3)
+      ]
   step-more false true before now e =
-      let h = now refl in (i, h.0, omega arith, h.1, subst (λ x. bit_at x h.0 ≢ bit_at (word_at new i) h.0) (left i (omega arith)) h.2)
+      let h = now refl in (c.at, h.0, h.1, rw (← as-before h.0 h.1) h.2)
   step-more false false before now e = cc
 
-pub step-same : (a b : Bool) (old cur new : List ℕ) → (a ≡ false → cur ≡ old) → (b ≡ false → new ≡ cur) → (a || b) ≡ false → new ≡ old
+pub step-same : (a b : Bool) (old cur new : List Chunk) → (a ≡ false → cur ≡ old) → (b ≡ false → new ≡ cur) → (a || b) ≡ false → new ≡ old
 step-same true b old cur new h k e = cc
 step-same false true old cur new h k e = cc
 step-same false false old cur new h k e = k refl ∙ h refl
 
 -- the list of the numbers in a set
-module _ (words : List ℕ) where
+module _ (words : List Chunk) where
   pub below-nil : members_below words 0 ≡ []
   unfolding members_below
   below-nil = refl
@@ -219,20 +221,24 @@ one-more v n here there same = elim (eqb_tells n v) [
       ])
 ]
 
-in-below : (words : List ℕ) (n v : ℕ) → is_in v (members_below words n) ≡ (ltb v n && has_bit words v)
+in-below : (words : List Chunk) (n v : ℕ) → is_in v (members_below words n) ≡ (ltb v n && has_bit words v)
 unfolding members_below
 in-below words zero v = rw (le-ltb v 0 (omega arith)) refl
 in-below words (suc n) v =
     rw (in-append v (members_below words n) (if has_bit words n then n ∷ [] else []), in-below words n v)
     (one-more v n (has_bit words n) (has_bit words v) (λ e. ap (has_bit words) (sym e)))
 
+-- a bit past the last number is 0
+none-past : (words : List Chunk) → AreOrdered words → (v : ℕ) → 2 ^ 32 ≤ v → has_bit words v ≡ false
+none-past words o v l =
+    let far : 2 ^ 26 ≤ v / 64 = omega (arith, l) in
+    let none = bits-late 0 words (v / 64) o far in rw (none, bit_at-zero) refl
+
 -- a number is in the list where its bit is 1
-pub in-members : (words : List ℕ) (v : ℕ) → is_in v (members words) ≡ has_bit words v
-in-members words v = rw in-below (elim (le-or-lt (64 * length words) v) [
-  | inl l ↦
-      let none = word-past words (v / 64) (omega (arith, l)) in
-      rw (le-ltb v (64 * length words) l, none, bit_at-zero) refl
-  | inr l ↦ rw (lt-ltb v (64 * length words) l) refl
+pub in-members : (words : List Chunk) → AreOrdered words → (v : ℕ) → is_in v (members words) ≡ has_bit words v
+in-members words o v = rw in-below (elim (le-or-lt (2 ^ 32) v) [
+  | inl l ↦ rw (le-ltb v (2 ^ 32) l, none-past words o v l) refl
+  | inr l ↦ rw (lt-ltb v (2 ^ 32) l) refl
 ])
 
 -- it is ascending
@@ -260,7 +266,7 @@ below-less-by : (b : Bool) (n : ℕ) (xs : List ℕ) → all-less n xs → all-l
 below-less-by true n xs h = push-less n (suc n) xs (omega arith) (all-less-more n (suc n) xs (omega arith) h)
 below-less-by false n xs h = rw append-nil (all-less-more n (suc n) xs (omega arith) h)
 
-below-less : (words : List ℕ) (n : ℕ) → all-less n (members_below words n)
+below-less : (words : List Chunk) (n : ℕ) → all-less n (members_below words n)
 unfolding members_below all-less
 below-less words zero = tt
 below-less words (suc n) = below-less-by (has_bit words n) n (members_below words n) (below-less words n)
@@ -269,27 +275,22 @@ below-ascends-by : (b : Bool) (n : ℕ) (xs : List ℕ) → all-less n xs → Is
 below-ascends-by true n xs l a = push-ascends n xs l a
 below-ascends-by false n xs l a = rw append-nil a
 
-below-ascends : (words : List ℕ) (n : ℕ) → IsAscending (members_below words n)
+below-ascends : (words : List Chunk) (n : ℕ) → IsAscending (members_below words n)
 unfolding members_below
 below-ascends words zero = tt
 below-ascends words (suc n) = below-ascends-by (has_bit words n) n (members_below words n) (below-less words n) (below-ascends words n)
 
-pub members-ascend : (words : List ℕ) → IsAscending (members words)
-members-ascend words = below-ascends words (64 * length words)
+pub members-ascend : (words : List Chunk) → IsAscending (members words)
+members-ascend words = below-ascends words (2 ^ 32)
 
 -- what holds holds after an error
 pub on-err : {T E P : Type 0} (r : Result T E) → P → OnErr r P
 on-err (Ok x) h = tt
 on-err (Err e) h = h
 
--- words with the same bits are the same set
-pub same-bits : (old new : List ℕ) → ((k : ℕ) → word_at new k ≡ word_at old k) → (v : ℕ) → has_bit new v ≡ has_bit old v
+-- chunks with the same bits are the same set
+pub same-bits : (old new : List Chunk) → ((k : ℕ) → bits_of new k ≡ bits_of old k) → (v : ℕ) → has_bit new v ≡ has_bit old v
 same-bits old new same v = ap (λ n. bit_at n (v % 64) == 1) (same (v / 64))
-
-pub members-same : (old new : List ℕ) → ((v : ℕ) → has_bit new v ≡ has_bit old v) → members new ≡ members old
-members-same old new same =
-    one-list (members new) (members old) (members-ascend new) (members-ascend old)
-    (λ v h. in-members old v ∙ sym (same v) ∙ sym (in-members new v) ∙ h) (λ v h. in-members new v ∙ same v ∙ sym (in-members old v) ∙ h)
 
 -- how many there are
 count-by : (b : Bool) → ℕ
@@ -306,7 +307,7 @@ unfolding count-by
 at-most-one true = omega arith
 at-most-one false = omega arith
 
-below-few : (words : List ℕ) (n : ℕ) → length (members_below words n) ≤ n
+below-few : (words : List Chunk) (n : ℕ) → length (members_below words n) ≤ n
 unfolding members_below count-by
 below-few words zero = omega arith
 below-few words (suc n) =
@@ -314,35 +315,15 @@ below-few words (suc n) =
     let m = length-by (has_bit words n) n (members_below words n) in
     let one = at-most-one (has_bit words n) in omega (arith, l, m, one)
 
-pub members-few : (words : List ℕ) → length words ≤ 2 ^ 26 → length (members words) ≤ 2 ^ 32
-members-few words l = let h = below-few words (64 * length words) in omega (arith, l, h)
+pub members-few : (words : List Chunk) → length (members words) ≤ 2 ^ 32
+members-few words = below-few words (2 ^ 32)
 
 -- no number is in the set from n on
-below-same : (words : List ℕ) (n k : ℕ) → ((v : ℕ) → n ≤ v → v < n + k → has_bit words v ≡ false) → members_below words (n + k) ≡ members_below words n
+below-same : (words : List Chunk) (n k : ℕ) → ((v : ℕ) → n ≤ v → v < n + k → has_bit words v ≡ false) → members_below words (n + k) ≡ members_below words n
 unfolding members_below
 below-same words n zero h = rw add-zero refl
 below-same words n (suc k) h =
     rw (add-suc, h (n + k) (omega arith) (omega arith), append-nil) (below-same words n k (λ v a b. h v a (omega (arith, b))))
-
-above-bit : (words : List ℕ) (c w m v : ℕ) → word_at words c ≡ w → w < 2 ^ m → 64 * c + m ≤ v → v < 64 * (c + 1) → has_bit words v ≡ false
-above-bit words c w m v e lw lo hi =
-    let q : v / 64 ≡ c = omega (arith, lo, hi) in
-    let r : m ≤ v % 64 = omega (arith, lo, hi, q) in
-    let none : bit_at w (v % 64) ≡ 0 = bit_at_above w m (v % 64) lw r in
-    rw (q, e, none) refl
-
--- the last word has no bit above its highest
-pub end-members : (words : List ℕ) (w : ℕ) → 0 < length words → word_at words (length words - 1) ≡ w → w < 2 ^ 64
-    → members_below words (length words * 64 - count_leading_zeros 64 w) ≡ members words
-end-members words w some e lw =
-    let c = length words - 1 in
-    let z = count_leading_zeros 64 w in
-    let top = leading_length 64 w lw in
-    let m = top.0 in
-    let all : z + m ≡ 64 = top.1 in
-    let start : length words * 64 - z ≡ 64 * c + m = omega (arith, all, some) in
-    let finish : 64 * length words ≡ (64 * c + m) + z = omega (arith, all, some) in
-    rw (start, finish) (sym (below-same words (64 * c + m) z (λ v lo hi. above-bit words c w m v e top.2 lo (omega (arith, hi, all)))))
 
 -- a set that has all numbers of another has as many, and more where it has one more
 less-by : (a b : Bool) → (a ≡ true → b ≡ true) → count-by a ≤ count-by b
@@ -350,11 +331,11 @@ unfolding count-by
 less-by true b h = rw (h refl) (omega arith)
 less-by false b h = omega arith
 
-below-length : (words : List ℕ) (n : ℕ) → length (members_below words (suc n)) ≡ length (members_below words n) + count-by (has_bit words n)
+below-length : (words : List Chunk) (n : ℕ) → length (members_below words (suc n)) ≡ length (members_below words n) + count-by (has_bit words n)
 unfolding members_below
 below-length words n = length-by (has_bit words n) n (members_below words n)
 
-module _ (old new : List ℕ) (grows : (v : ℕ) → has_bit old v ≡ true → has_bit new v ≡ true) where
+module _ (old new : List Chunk) (grows : (v : ℕ) → has_bit old v ≡ true → has_bit new v ≡ true) where
   below-grows : (n : ℕ) → length (members_below old n) ≤ length (members_below new n)
   below-grows zero = rw (below-nil old, below-nil new) (omega arith)
   below-grows (suc n) =
@@ -384,46 +365,21 @@ pub or-left : (a b : Bool) → a ≡ true → (a || b) ≡ true
 or-left true b e = refl
 or-left false b e = cc
 
--- a bit past the last word is 0
-has-within : (words : List ℕ) (v : ℕ) → has_bit words v ≡ true → v < 64 * length words
-has-within words v e = elim (le-or-lt (64 * length words) v) [
-  | inl l ↦
-      let none = word-past words (v / 64) (omega (arith, l)) in
-      let zero_is : has_bit words v ≡ false = rw (none, bit_at-zero) refl in cc
-  | inr l ↦ l
+-- and so a set to which a number was added has more
+pub members-more : (old new : List Chunk) → AreOrdered new → ((v : ℕ) → has_bit old v ≡ true → has_bit new v ≡ true) → Added old new
+    → length (members old) < length (members new)
+members-more old new o grows a = elim (le-or-lt (2 ^ 32) a.number) [
+  | inl l ↦ let none = none-past new o a.number l in let yes = a.inside in cc
+  | inr l ↦ below-more-by old new grows a.number (2 ^ 32) a.out a.inside l
 ]
 
-none-past : (words : List ℕ) (v : ℕ) → 64 * length words ≤ v → has_bit words v ≡ false
-none-past words v l = let none = word-past words (v / 64) (omega (arith, l)) in rw (none, bit_at-zero) refl
-
--- a larger bound adds nothing
-below-past : (words : List ℕ) (n k : ℕ) → 64 * length words ≤ n → members_below words (n + k) ≡ members_below words n
-unfolding members_below
-below-past words n zero l = rw add-zero refl
-below-past words n (suc k) l =
-    let none : has_bit words (n + k) ≡ false = none-past words (n + k) (omega (arith, l)) in
-    rw (add-suc, none, append-nil) (below-past words n k l)
-
--- and so a set to which a number was added has more
-pub members-more : (old new : List ℕ) → ((v : ℕ) → has_bit old v ≡ true → has_bit new v ≡ true) → Added old new → length (members old) < length (members new)
-members-more old new grows a =
-    let inside = has-within new a.number a.inside in
-    let n = 64 * length old in
-    let m = 64 * length new in
-    let here = below-more-by old new grows a.number (m + n) a.out a.inside (omega (arith, inside)) in
-    let old_is = below-past old n m (omega arith) in
-    let new_is = below-past new m n (omega arith) in
-    let turn : m + n ≡ n + m = omega arith in
-    subst (λ x. length (members_below old n) < length x) new_is (subst (λ x. length x < length (members_below new (m + n))) old_is
-    (subst (λ k. length (members_below old k) < length (members_below new (m + n))) turn here))
-
 -- the bit of a number
-pub bit-put : (old new : List ℕ) (v : ℕ) → word_at new (v / 64) ≡ bit_or (word_at old (v / 64)) (1 * 2 ^ (v % 64) % 2 ^ 64)
-    → ((k : ℕ) → k ≢ v / 64 → word_at new k ≡ word_at old k) → (w : ℕ) → has_bit new w ≡ (v == w || has_bit old w)
+pub bit-put : (old new : List Chunk) (v : ℕ) → bits_of new (v / 64) ≡ bit_or (bits_of old (v / 64)) (1 * 2 ^ (v % 64) % 2 ^ 64)
+    → ((k : ℕ) → k ≢ v / 64 → bits_of new k ≡ bits_of old k) → (w : ℕ) → has_bit new w ≡ (v == w || has_bit old w)
 bit-put old new v here elsewhere w = elim (eqb_tells v w) [
   | inl p ↦
       let within : v % 64 < 64 = omega arith in
-      let set = bit_at_set_same w64 (word_at old (v / 64)) (v % 64) within in
+      let set = bit_at_set_same w64 (bits_of old (v / 64)) (v % 64) within in
       let one : has_bit new v ≡ true = rw (here, set) refl in
       rw p.0 (subst (λ x. has_bit new x ≡ true) p.1 one)
   | inr p ↦ rw p.0 (elim (eqb_tells (w / 64) (v / 64)) [
@@ -431,8 +387,79 @@ bit-put old new v here elsewhere w = elim (eqb_tells v w) [
         let n = p.1 in let m = q.1 in
         let within : v % 64 < 64 = omega arith in
         let other : w % 64 ≢ v % 64 = λ s. n (omega (arith, s, m)) in
-        let set = bit_at_set_other w64 (word_at old (v / 64)) (v % 64) within (w % 64) other in
+        let set = bit_at_set_other w64 (bits_of old (v / 64)) (v % 64) within (w % 64) other in
         rw (m, here, set) refl
     | inr q ↦ rw (elsewhere (w / 64) q.1) refl
   ])
 ]
+
+-- bits are put at the place of a chunk
+module _ (old : List Chunk) (i at bits : ℕ) (o : AreOrdered old) where
+  pub put-there : (was new : ℕ) → new ≡ bit_or was bits → slice_get old i ≡ Some (record { at = at; bits = was })
+      → bits_of (slice_set old i (record { at = at; bits = new })) at ≡ bit_or (bits_of old at) bits
+  put-there was new is e =
+      set-here at was new 0 old i o e
+      ∙ is ∙ ap (λ n. bit_or n bits) (sym (bits-here 0 old i (record { at = at; bits = was }) o e))
+
+  pub put-new : AreBefore old i at → ((c : Chunk) → slice_get old i ≡ Some c → at < c.at) → at < 2 ^ 26
+      → bits_of (insert old i (record { at = at; bits = bits })) at ≡ bit_or (bits_of old at) bits
+  put-new b n l =
+      put-here (record { at = at; bits = bits }) l old i b
+      ∙ sym (ap (λ n. bit_or n bits) (bits-none 0 old i at o b n) ∙ or_zero_l bits)
+
+-- the list of numbers, chunk by chunk
+pub inside-nil : (c : Chunk) → inside c 0 ≡ []
+unfolding inside
+inside-nil c = refl
+
+pub inside-more : (c : Chunk) (n : ℕ) → inside c (n + 1) ≡ inside c n ++ (if bit_at c.bits n == 1 then (c.at * 64 + n) ∷ [] else [])
+unfolding inside
+inside-more c n = rw add-one refl
+
+pub below-inside : (words : List Chunk) (c : Chunk) → bits_of words c.at ≡ c.bits → (n : ℕ) → n ≤ 64
+    → members_below words (c.at * 64 + n) ≡ members_below words (c.at * 64) ++ inside c n
+unfolding members_below inside
+below-inside words c h zero l = rw (add-zero, append-nil) refl
+below-inside words c h (suc n) l =
+    let rest = below-inside words c h n (omega (arith, l)) in
+    let at_is : (c.at * 64 + n) / 64 ≡ c.at = omega (arith, l) in
+    let bit_is : (c.at * 64 + n) % 64 ≡ n = omega (arith, l) in
+    let has_is : has_bit words (c.at * 64 + n) ≡ (bit_at c.bits n == 1) = rw (at_is, bit_is, h) refl in
+    rw (add-suc, has_is, rest) (append_assoc (members_below words (c.at * 64)) (inside c n) (if bit_at c.bits n == 1 then (c.at * 64 + n) ∷ [] else []))
+
+-- no chunk is at these numbers
+none-between : (words : List Chunk) (i v to : ℕ) → AreOrdered words → AreBefore words i (v / 64) → IsNotBefore words i to → v < to * 64 → has_bit words v ≡ false
+none-between words i v to o b n l =
+    let none = bits-none 0 words i (v / 64) o b (λ c e. let h = n c e in omega (arith, h, l)) in rw (none, bit_at-zero) refl
+
+pub below-first : (words : List Chunk) (to : ℕ) → AreOrdered words → IsNotBefore words 0 to → members_below words (to * 64) ≡ []
+below-first words to o n =
+    let start : to * 64 ≡ 0 + to * 64 = omega arith in
+    rw start (below-same words 0 (to * 64) (λ v lo hi. none-between words 0 v to o (before-none words (v / 64)) n (omega (arith, hi))) ∙ below-nil words)
+
+-- one chunk more was listed
+pub below-next : (words : List Chunk) (i : ℕ) (c : Chunk) (o : AreOrdered words) (e : slice_get words i ≡ Some c) (listed : List ℕ)
+    → ((to : ℕ) → AreBefore words i to → IsNotBefore words i to → listed ≡ members_below words (to * 64))
+    → (to : ℕ) → AreBefore words (i + 1) to → IsNotBefore words (i + 1) to → listed ++ inside c 64 ≡ members_below words (to * 64)
+below-next words i c o e listed h to b n =
+    let one : i + 1 ≡ suc i = omega arith in
+    let before = prefix-before c 0 words i o e in
+    let later = before-there c words i to (subst (λ m. AreBefore words m to) one b) e in
+    let first = h c.at before (λ d f. let s : c ≡ d = cc in subst (λ x. c.at ≤ x.at) s (omega arith)) in
+    let start : to * 64 ≡ (c.at * 64 + 64) + (to * 64 - (c.at * 64 + 64)) = omega (arith, later) in
+    let rest = below-same words (c.at * 64 + 64) (to * 64 - (c.at * 64 + 64)) (λ v lo hi.
+    none-between words (suc i) v to o
+    (before-more words i (v / 64) c (before-later words i c.at (v / 64) before (omega (arith, lo))) e (omega (arith, lo)))
+    (subst (λ m. IsNotBefore words m to) one n) (omega (arith, hi, later))) in
+    ap (λ xs. xs ++ inside c 64) first ∙ sym (below-inside words c (bits-here 0 words i c o e) 64 (omega arith)) ∙ sym rest
+    ∙ ap (members_below words) (sym start)
+
+pub below-all : (words : List Chunk) (i : ℕ) (o : AreOrdered words) (listed : List ℕ) → i ≡ length words
+    → ((to : ℕ) → AreBefore words i to → IsNotBefore words i to → listed ≡ members_below words (to * 64)) → listed ≡ members_below words (2 ^ 26 * 64)
+below-all words i o listed e h = h (2 ^ 26) (all-before 0 words i o) (λ c f. absurd (none-at-end words c (subst (λ n. slice_get words n ≡ Some c) e f)))
+
+bit-none : (v : ℕ) → has_bit [] v ≡ false
+bit-none v = rw (bit_at-zero (v % 64)) refl
+
+pub members-none : members [] ≡ []
+members-none = let zero_is : 2 ^ 32 ≡ 0 + 2 ^ 32 = omega arith in ap (members_below []) zero_is ∙ below-same [] 0 (2 ^ 32) (λ v lo hi. bit-none v) ∙ below-nil []

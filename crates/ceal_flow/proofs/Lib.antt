@@ -10,6 +10,7 @@ pub mod PlaceSteps
 pub mod PutSteps
 pub mod Simulation
 pub mod SameRun
+pub mod ChunkFacts
 pub mod BitFacts
 pub mod OneAnswer
 pub mod SomeAnswer

@@ -1,103 +1,175 @@
-// Sets of numbers as words of 64 bits.
+// Sets of numbers as chunks of 64 bits, which ascend: where few numbers are near each other, a set takes little memory.
 
-ghost use Rattle.std.specs.Prelude.{◌≡◌, ◌≢◌, ◌<◌, ◌≤◌, ◌^◌, ◌*◌, ◌+◌, ◌||◌, ◌&&◌, not, true, false, ℕ, [], ◌∷◌, ◌++◌, length, max, bit_or, if◌then◌else◌, IfOk, OnOk};
+ghost use Rattle.std.specs.Prelude.{◌≡◌, ◌≢◌, ◌<◌, ◌≤◌, ◌^◌, ◌*◌, ◌+◌, ◌/◌, ◌==◌, ◌||◌, ◌&&◌, not, true, false, ℕ, [], ◌∷◌, ◌++◌, Some, slice_get, slice_set, length, bit_or, if◌then◌else◌, IfSome, IfNone, IfOk, OnOk, OnErr};
 ghost use Rattle.std.specs.Int.{bit_at};
-ghost use Rattle.ceal_flow.specs.Bits.{word_at, has_bit, members, members_below};
+ghost use Rattle.ceal_flow.specs.declared.bits.Chunk.{Chunk as ChunkOf};
+ghost use Rattle.ceal_flow.specs.Bits.{bits_of, has_bit, inside, members, AreOrdered, AreBefore, IsNotBefore};
 ghost use Rattle.ceal_flow.specs.Sets.{is_that};
 
 use ceal_base::no_memory::NoMemory;
 use std::alloc::Global;
 
-fn word(words: &[u64], at: usize) -> u64
-    ensures { result ≡ word_at words.now at }
+/// The numbers of a set from `64 * at` on, a bit for each of 64.
+#[derive(Clone, Copy, PartialEq, Eq, Debug)]
+pub struct Chunk {
+    pub at: u32,
+    pub bits: u64,
+}
+
+/// The first index from `from` on whose chunk is not before `at`.
+pub fn skip(chunks: &[Chunk], from: usize, at: u32) -> usize
+    requires within { from ≤ length chunks.now }
+    requires before { AreBefore chunks.now from at }
+    ensures within { result ≤ length chunks.now }
+    ensures before { AreBefore chunks.now result at }
+    ensures place { IsNotBefore chunks.now result at }
 {
-    words.get(at).copied().unwrap_or(0)
+    for i in from..chunks.len() {
+        if chunks[i].at >= at {
+            return i;
+        }
+    }
+    chunks.len()
+}
+
+/// The bits of the chunk `at`, if it stands at its place.
+fn bits_there(chunks: &[Chunk], index: usize, at: u32) -> Option<u64>
+    requires place { IsNotBefore chunks.now index at }
+    ensures some { IfSome result (λ bits. slice_get chunks.now index
+        ≡ Some (record { at = at; bits = bits })) }
+    ensures none { IfNone result
+        ((c : ChunkOf) → slice_get chunks.now index ≡ Some c → at < c.at) }
+{
+    match chunks.get(index) {
+        Some(chunk) => {
+            if chunk.at == at {
+                Some(chunk.bits)
+            } else {
+                None
+            }
+        }
+        None => None,
+    }
+}
+
+/// The bits of the chunk `at`, whose place this is; none, where it is not there.
+fn bits_at(chunks: &[Chunk], index: usize, at: u32) -> u64
+    requires ordered { AreOrdered chunks.now }
+    requires before { AreBefore chunks.now index at }
+    requires place { IsNotBefore chunks.now index at }
+    ensures value { result ≡ bits_of chunks.now at }
+{
+    bits_there(chunks, index, at).unwrap_or(0)
+}
+
+fn is_set(bits: u64, j: u32) -> bool
+    requires small { j < 64 }
+    ensures value { result ≡ (bit_at bits j == 1) }
+{
+    (bits >> j) & 1 == 1
 }
 
 /// Whether the number is in the set.
-pub fn has(words: &[u64], v: u32) -> bool
-    ensures value { result ≡ has_bit words.now v }
+pub fn has(chunks: &[Chunk], v: u32) -> bool
+    requires ordered { AreOrdered chunks.now }
+    ensures value { result ≡ has_bit chunks.now v }
 {
-    let word = word(words, v as usize / 64);
-    (word >> (v % 64)) & 1 == 1
+    let at = v / 64;
+    is_set(bits_at(chunks, skip(chunks, 0, at), at), v % 64)
 }
 
-/// Makes the words as many as these, by words of 0 behind them.
-pub fn grow(words: &mut Vec<u64>, count: usize) -> Result<(), NoMemory>
-    ensures same { (k : ℕ) → word_at words.new.items k ≡ word_at words.old.items k }
-    ensures longer { OnOk result (count ≤ length words.new.items) }
-    ensures few { length words.new.items ≤ max (length words.old.items) count }
+fn replace(chunks: &mut Vec<Chunk>, index: usize, chunk: Chunk)
+    requires within { index < length chunks.old.items }
+    ensures value { chunks.new.items ≡ slice_set chunks.old.items index chunk }
 {
-    if words.len() < count {
-        words.resize(count, 0)?;
+    chunks[index] = chunk;
+}
+
+fn joined(old: u64, bits: u64) -> u64
+    ensures value { result ≡ bit_or old bits }
+    ensures fits { result < 2 ^ 64 }
+{
+    old | bits
+}
+
+/// Adds bits to a chunk, whose place this is, and says whether any was added.
+pub fn put(chunks: &mut Vec<Chunk>, index: usize, at: u32, bits: u64) -> Result<bool, NoMemory>
+    requires ordered { AreOrdered chunks.old.items }
+    requires within { index ≤ length chunks.old.items }
+    requires before { AreBefore chunks.old.items index at }
+    requires place { IsNotBefore chunks.old.items index at }
+    requires small { at < 2 ^ 26 }
+    ensures here { OnOk result
+        (bits_of chunks.new.items at ≡ bit_or (bits_of chunks.old.items at) bits) }
+    ensures others { OnOk result
+        ((k : ℕ) → k ≢ at → bits_of chunks.new.items k ≡ bits_of chunks.old.items k) }
+    ensures same { IfOk result
+        (λ changed. changed ≡ false → chunks.new.items ≡ chunks.old.items) }
+    ensures more { IfOk result
+        (λ changed. changed ≡ true → (j : ℕ) × (j < 64)
+        × (bit_at (bits_of chunks.old.items at) j ≢ bit_at (bits_of chunks.new.items at) j)) }
+    ensures err { OnErr result (chunks.new.items ≡ chunks.old.items) }
+    ensures ordered { AreOrdered chunks.new.items }
+    ensures before { AreBefore chunks.new.items index at }
+    ensures within { index ≤ length chunks.new.items }
+{
+    match bits_there(chunks.as_slice(), index, at) {
+        Some(old) => {
+            let bits = joined(old, bits);
+            if bits == old {
+                return Ok(false);
+            }
+            replace(chunks, index, Chunk { at, bits });
+        }
+        None => {
+            if bits == 0 {
+                return Ok(false);
+            }
+            chunks.insert(index, Chunk { at, bits })?;
+        }
     }
-    Ok(())
+    Ok(true)
 }
 
-fn set_word(words: &mut Vec<u64>, at: usize, word: u64)
-    requires { at < length words.old.items }
-    ensures here { word_at words.new.items at ≡ word }
-    ensures others { (k : ℕ) → k ≢ at → word_at words.new.items k ≡ word_at words.old.items k }
-    ensures length { length words.new.items ≡ length words.old.items }
-{
-    words[at] = word;
-}
-
-/// Adds these bits to a word, and says whether any was added.
-pub fn put_bits(words: &mut Vec<u64>, at: usize, bits: u64) -> bool
-    requires within { at < length words.old.items }
-    ensures here { word_at words.new.items at ≡ bit_or (word_at words.old.items at) bits }
-    ensures others { (k : ℕ) → k ≢ at → word_at words.new.items k ≡ word_at words.old.items k }
-    ensures same { result ≡ false → words.new.items ≡ words.old.items }
-    ensures more { result ≡ true
-        → (j : ℕ) × (j < 64)
-        × (bit_at (word_at words.old.items at) j ≢ bit_at (word_at words.new.items at) j) }
-    ensures length { length words.new.items ≡ length words.old.items }
-{
-    let old = word(words.as_slice(), at);
-    let joined = old | bits;
-    if joined == old {
-        return false;
-    }
-    set_word(words, at, joined);
-    true
-}
-
-/// The bits of the word at an index, without that of a number.
-fn bits_but(word: u64, at: usize, except: Option<u32>) -> u64
-    ensures { (j : ℕ) → j < 64
-        → bit_at result j ≡ (if is_that except (at * 64 + j) then 0 else bit_at word j) }
+/// The bits of a chunk, without that of a number.
+fn but(chunk: Chunk, except: Option<u32>) -> u64
+    ensures value { (j : ℕ) → j < 64
+        → bit_at result j ≡ (if is_that except (chunk.at * 64 + j) then 0 else bit_at chunk.bits j) }
 {
     match except {
-        None => word,
+        None => chunk.bits,
         Some(v) => {
-            if v as usize / 64 == at {
-                word & !(1 << (v % 64))
+            if v / 64 == chunk.at {
+                chunk.bits & !(1 << (v % 64))
             } else {
-                word
+                chunk.bits
             }
         }
     }
 }
 
 /// Adds the numbers of the other set but one, and says whether any was added.
-pub fn join_words(words: &mut Vec<u64>, others: &[u64], except: Option<u32>) -> bool
-    requires within { length others.now ≤ length words.old.items }
-    ensures joined { (w : ℕ)
-        → has_bit words.new.items w
-        ≡ (has_bit words.old.items w || (has_bit others.now w && not (is_that except w))) }
-    ensures same { result ≡ false → words.new.items ≡ words.old.items }
-    ensures more { result ≡ true
-        → (w : ℕ) × (has_bit words.old.items w ≡ false) × (has_bit words.new.items w ≡ true) }
-    ensures length { length words.new.items ≡ length words.old.items }
+pub fn add(chunks: &mut Vec<Chunk>, others: &[Chunk], except: Option<u32>) -> Result<bool, NoMemory>
+    requires ordered { AreOrdered chunks.old.items }
+    requires others { AreOrdered others.now }
+    ensures joined { OnOk result ((w : ℕ)
+        → has_bit chunks.new.items w
+        ≡ (has_bit chunks.old.items w || (has_bit others.now w && not (is_that except w)))) }
+    ensures same { IfOk result
+        (λ changed. changed ≡ false → chunks.new.items ≡ chunks.old.items) }
+    ensures more { IfOk result
+        (λ changed. changed ≡ true → (w : ℕ)
+        × (has_bit chunks.old.items w ≡ false) × (has_bit chunks.new.items w ≡ true)) }
+    ensures ordered { AreOrdered chunks.new.items }
 {
     let mut changed = false;
-    for (i, other) in others.iter().enumerate() {
-        let bits = bits_but(*other, i, except);
-        let more = put_bits(words, i, bits);
+    let mut from = 0;
+    for other in others {
+        from = skip(chunks.as_slice(), from, other.at);
+        let more = put(chunks, from, other.at, but(*other, except))?;
         changed = changed | more;
     }
-    changed
+    Ok(changed)
 }
 
 fn push_if(numbers: &mut Vec<u32>, is_there: bool, v: u32) -> Result<(), NoMemory>
@@ -110,30 +182,26 @@ fn push_if(numbers: &mut Vec<u32>, is_there: bool, v: u32) -> Result<(), NoMemor
     Ok(())
 }
 
-/// A number above all that are in the set.
-fn end(words: &[u64]) -> usize
-    requires { length words.now ≤ 2 ^ 26 }
-    ensures small { result ≤ 64 * length words.now }
-    ensures all { members_below words.now result ≡ members words.now }
+/// The numbers of a chunk, ascending.
+fn push_bits(numbers: &mut Vec<u32>, chunk: Chunk) -> Result<(), NoMemory>
+    requires small { chunk.at < 2 ^ 26 }
+    ensures value { OnOk result (numbers.new.items ≡ numbers.old.items ++ inside chunk 64) }
 {
-    let count = words.len();
-    if count == 0 {
-        return 0;
+    let first = chunk.at * 64;
+    for j in 0..64 {
+        push_if(numbers, is_set(chunk.bits, j), first + j)?;
     }
-    let last = word(words, count - 1);
-    count * 64 - last.leading_zeros() as usize
+    Ok(())
 }
 
 /// The numbers, ascending.
-pub fn numbers(alloc: Global, words: &[u64]) -> Result<Vec<u32>, NoMemory>
-    requires { length words.now ≤ 2 ^ 26 }
-    ensures value { IfOk result (λ vs. vs.items ≡ members words.now) }
+pub fn numbers(alloc: Global, chunks: &[Chunk]) -> Result<Vec<u32>, NoMemory>
+    requires ordered { AreOrdered chunks.now }
+    ensures value { IfOk result (λ vs. vs.items ≡ members chunks.now) }
 {
     let mut numbers = Vec::new(alloc);
-    let end = end(words) as u64;
-    for v in 0..end {
-        let v = v as u32;
-        push_if(&mut numbers, has(words, v), v)?;
+    for chunk in chunks {
+        push_bits(&mut numbers, *chunk)?;
     }
     Ok(numbers)
 }

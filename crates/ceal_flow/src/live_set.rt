@@ -3,27 +3,28 @@
 ghost use Rattle.std.specs.Prelude.{◌≡◌, ◌<◌, ◌≤◌, ◌==◌, ◌^◌, ◌||◌, ◌&&◌, not, true, false, ℕ, [], length, IfOk, OnOk, OnErr};
 ghost use Rattle.ceal_flow.specs.Sets.{is_in, is_that, IsAscending};
 
-use crate::bits::{grow, has, join_words, numbers, put_bits};
+use crate::bits::{Chunk, add, has, numbers, put, skip};
 use ceal_base::no_memory::NoMemory;
 use std::alloc::Global;
 use std::marker::Model;
 
-/// A set of variables of one function, which contracts see as the ascending list of their numbers. It has a bit for
-/// each variable up to the greatest, so that joining two sets takes one step for 64 variables.
+/// A set of variables of one function, which contracts see as the ascending list of their numbers. It has chunks of 64
+/// bits, and none where there is no variable: a small set takes little memory, and joining two sets takes one step a chunk.
 #[derive(Drop)]
 pub struct LiveSet {
-    words: Vec<u64>,
+    alloc: Global,
+    chunks: Vec<Chunk>,
 }
 
 impl Model for LiveSet {
-    ghost use Rattle.std.specs.Prelude.{◌≤◌, ◌^◌, List, ℕ, length};
-    ghost use Rattle.ceal_flow.specs.Bits.{members};
+    ghost use Rattle.std.specs.Prelude.{List, ℕ};
+    ghost use Rattle.ceal_flow.specs.Bits.{members, AreOrdered};
 
     ghost Value = { List ℕ };
 
-    ghost view = { λ s. members s.words.items };
+    ghost view = { λ s. members s.chunks.items };
 
-    ghost invariant = { λ s. length s.words.items ≤ 2 ^ 26 };
+    ghost invariant = { λ s. AreOrdered s.chunks.items };
 }
 
 impl LiveSet {
@@ -31,14 +32,15 @@ impl LiveSet {
         ensures value { result ≡ [] }
     {
         LiveSet {
-            words: Vec::new(alloc),
+            alloc,
+            chunks: Vec::new(alloc),
         }
     }
 
     pub fn contains(&self, v: u32) -> bool
         ensures value { result ≡ is_in v self.now }
     {
-        has(self.words.as_slice(), v)
+        has(self.chunks.as_slice(), v)
     }
 
     pub fn insert(&mut self, v: u32) -> Result<(), NoMemory>
@@ -47,9 +49,9 @@ impl LiveSet {
         ensures ascending { IsAscending self.new }
         ensures few { length self.new ≤ 2 ^ 32 }
     {
-        let at = v as usize / 64;
-        grow(&mut self.words, at + 1)?;
-        put_bits(&mut self.words, at, 1 << (v % 64));
+        let at = v / 64;
+        let index = skip(self.chunks.as_slice(), 0, at);
+        put(&mut self.chunks, index, at, 1 << (v % 64))?;
         Ok(())
     }
 
@@ -65,8 +67,11 @@ impl LiveSet {
         ensures ascending { IsAscending self.new }
         ensures few { length self.new ≤ 2 ^ 32 }
     {
-        grow(&mut self.words, other.words.len())?;
-        Ok(join_words(&mut self.words, other.words.as_slice(), except))
+        let mut grown = Vec::new(self.alloc);
+        grown.extend_from_slice(self.chunks.as_slice())?;
+        let changed = add(&mut grown, other.chunks.as_slice(), except)?;
+        self.chunks = grown;
+        Ok(changed)
     }
 
     /// The variables, ascending.
@@ -74,6 +79,6 @@ impl LiveSet {
         ensures value { IfOk result (λ vs. vs.items ≡ self.now) }
         ensures ascending { IsAscending self.now }
     {
-        numbers(alloc, self.words.as_slice())
+        numbers(alloc, self.chunks.as_slice())
     }
 }

@@ -6,6 +6,6 @@ use Rattle.ceal_flow.proofs.live_set.LiveSet.contains.Goals as goal
 
 pub returns : goal.returns
 returns c = record {
-  value = c.has.ensures.value ∙ ap (λ ws. has_bit ws c.args.v) c.as_slice.ensures.value ∙ sym (in-members c.self.inside.words.items c.args.v)
-      ∙ ap (is_in c.args.v) c.self.view_is;
+  value = c.has.ensures.value ∙ ap (λ cs. has_bit cs c.args.v) c.as_slice.ensures.value
+      ∙ sym (in-members c.self.inside.chunks.items c.self.invariant c.args.v) ∙ ap (is_in c.args.v) c.self.view_is;
 }

@@ -1,48 +1,46 @@
-use Rattle.std.proofs.Common.{arith, ◌<◌, ap, ap₂, sym, subst, ◌∙◌, ◌||◌, ◌&&◌, not, length}
+use Rattle.std.proofs.Common.{◌≡◌, ◌<◌, ◌++◌, ap, ap₂, sym, subst, ◌∙◌, ◌||◌, ◌&&◌, not, length}
 use Rattle.ceal_flow.specs.Bits.{has_bit, members}
 use Rattle.ceal_flow.specs.Sets.{is_in, is_that}
-use Rattle.ceal_flow.proofs.BitFacts.{in-members, members-ascend, members-few, members-more, members-same, on-err, or-left, same-bits}
+use Rattle.ceal_flow.proofs.BitFacts.{in-members, members-ascend, members-few, members-more, or-left}
 use Rattle.ceal_flow.proofs.live_set.LiveSet.join.Goals as goal
 
-pub returns-in_err-grow-clause-err : goal.returns-in_err-grow-clause-err
-returns-in_err-grow-clause-err c = on-err c.from_residual.result
-    (members-same c.self.inside.words.items c.grow.new.words.items (same-bits _ _ c.grow.ensures.same) ∙ c.self.view_is)
+pub returns-in_err-extend_from_slice-clause-ascending : goal.returns-in_err-extend_from_slice-clause-ascending
+returns-in_err-extend_from_slice-clause-ascending c = rw c.self.view_is at (members-ascend c.self.inside.chunks.items)
 
-pub returns-in_err-grow-clause-ascending : goal.returns-in_err-grow-clause-ascending
-returns-in_err-grow-clause-ascending c = members-ascend c.grow.new.words.items
+pub returns-in_err-extend_from_slice-clause-few : goal.returns-in_err-extend_from_slice-clause-few
+returns-in_err-extend_from_slice-clause-few c = rw c.self.view_is at (members-few c.self.inside.chunks.items)
 
-pub returns-in_err-grow-clause-few : goal.returns-in_err-grow-clause-few
-returns-in_err-grow-clause-few c = members-few c.grow.new.words.items (omega (arith, c.grow.ensures.few, c.self.invariant, c.other.invariant))
+pub returns-in_err-changed-clause-ascending : goal.returns-in_err-changed-clause-ascending
+returns-in_err-changed-clause-ascending c = rw c.self.view_is at (members-ascend c.self.inside.chunks.items)
+
+pub returns-in_err-changed-clause-few : goal.returns-in_err-changed-clause-few
+returns-in_err-changed-clause-few c = rw c.self.view_is at (members-few c.self.inside.chunks.items)
 
 pub returns-clause-ok : goal.returns-clause-ok
 returns-clause-ok c = λ w.
-    let old = c.self.inside.words.items in
-    let grown = c.grow.new.words.items in
-    let other = c.other.inside.words.items in
-    let new = c.join_words.new.words.items in
-    let old_is = same-bits old grown c.grow.ensures.same w ∙ sym (in-members old w) ∙ ap (is_in w) c.self.view_is in
-    let other_is = ap (λ ws. has_bit ws w) c.as_slice.ensures.value ∙ sym (in-members other w) ∙ ap (is_in w) c.other.view_is in
-    in-members new w ∙ c.join_words.ensures.joined w ∙ ap₂ (λ a b. a || (b && not (is_that c.args.except w))) old_is other_is
-
-pub returns-clause-same : goal.returns-clause-same
-returns-clause-same c = λ e.
-    ap members (c.join_words.ensures.same e) ∙ members-same c.self.inside.words.items c.grow.new.words.items (same-bits _ _ c.grow.ensures.same)
-    ∙ c.self.view_is
+    let old = c.self.inside.chunks.items in
+    let other = c.other.inside.chunks.items in
+    let new = c.add.new.chunks.items in
+    let copied : c.extend_from_slice.new.self.items ≡ old = c.in_ok-extend_from_slice.ensures.items ∙ ap₂ (λ xs ys. xs ++ ys) c.new-grown.ensures.items c.as_slice.ensures.value in
+    let old_is = ap (λ cs. has_bit cs w) copied ∙ sym (in-members old c.self.invariant w) ∙ ap (is_in w) c.self.view_is in
+    let other_is = ap (λ cs. has_bit cs w) c.as_slice-2.ensures.value ∙ sym (in-members other c.other.invariant w) ∙ ap (is_in w) c.other.view_is in
+    in-members new c.in_ok-changed.ensures.ordered w ∙ c.in_ok-changed.ensures.joined w
+    ∙ ap₂ (λ a b. a || (b && not (is_that c.args.except w))) old_is other_is
 
 pub returns-clause-more : goal.returns-clause-more
 returns-clause-more c = λ e.
-    let old = c.self.inside.words.items in
-    let grown = c.grow.new.words.items in
-    let new = c.join_words.new.words.items in
-    let added = c.join_words.ensures.more e in
-    let more : length (members grown) < length (members new) =
-    members-more grown new (λ v h. c.join_words.ensures.joined v ∙ or-left (has_bit grown v) _ h)
-    (record { number = added.0; out = added.1; inside = added.2 }) in
-    let same = members-same old grown (same-bits old grown c.grow.ensures.same) ∙ c.self.view_is in
-    subst (λ xs. length xs < length (members new)) same more
+    let old = c.self.inside.chunks.items in
+    let new = c.add.new.chunks.items in
+    let copied : c.extend_from_slice.new.self.items ≡ old = c.in_ok-extend_from_slice.ensures.items ∙ ap₂ (λ xs ys. xs ++ ys) c.new-grown.ensures.items c.as_slice.ensures.value in
+    let added = c.in_ok-changed.ensures.more e in
+    let out = ap (λ cs. has_bit cs added.0) (sym copied) ∙ added.1 in
+    subst (λ xs. length xs < length (members new)) c.self.view_is
+    (members-more old new c.in_ok-changed.ensures.ordered
+    (λ v h. c.in_ok-changed.ensures.joined v ∙ or-left (has_bit c.extend_from_slice.new.self.items v) _ (ap (λ cs. has_bit cs v) copied ∙ h))
+    (record { number = added.0; out = out; inside = added.2 }))
 
 pub returns-clause-ascending : goal.returns-clause-ascending
-returns-clause-ascending c = members-ascend c.join_words.new.words.items
+returns-clause-ascending c = members-ascend c.add.new.chunks.items
 
 pub returns-clause-few : goal.returns-clause-few
-returns-clause-few c = members-few c.join_words.new.words.items (omega (arith, c.join_words.ensures.length, c.grow.ensures.few, c.self.invariant, c.other.invariant))
+returns-clause-few c = members-few c.add.new.chunks.items
