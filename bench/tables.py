@@ -1,6 +1,6 @@
 """The tables of docs/PERFORMANCE.md."""
 from measuring import NOISE
-from workloads import large_sources
+from workloads import large_sources, long_chains
 
 
 def time_text(seconds):
@@ -78,10 +78,11 @@ def update_table(measured, names):
 
 
 def whole_table(programs, names, quick):
-    """Generated workloads, and the word check on large sources."""
+    """Generated workloads, the word check on large sources, and the word list on long chains."""
     size = '400' if quick else '40000'
     asked = [(f'gen {kind} 1 {size}', ['gen', kind, '1', size], '') for kind in ('list', 'tree')]
     asked += [(f'check, {title}', ['check'], text) for title, text in large_sources()]
+    asked += [(f'list, {title}', ['list'], text) for title, text in long_chains()]
     head = ['Words'] + [f'{name}: {what}' for name in names for what in ('time', 'memory')]
     rows = []
     for title, words, text in asked:

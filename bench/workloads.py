@@ -162,6 +162,13 @@ def large_sources():
     yield '30,000 declarations in one function', 'ceal f(mod int *a) { int x = read(a);\n' + ''.join(f'  int v{k} = x + {k};\n' for k in range(30000)) + '}\n%%\n'
 
 
+def long_chains():
+    """Two functions of 60,000 declarations, each by the one before it, for the word list: few variables are live at once."""
+    for title, first, more in (('copies', 'read(a)', ''), ('constants', '1', ' + 1')):
+        chain = ''.join(f'  int v{k} = v{k - 1}{more};\n' for k in range(1, 60_000))
+        yield f'a chain of 60,000 {title}', f'ceal f(mod int *a, mod int *b) {{\n  int v0 = {first};\n{chain}  write(b, v59999);\n}}\n%%\n'
+
+
 def input_of(name, lines):
     return (TOP / 'bench/programs' / f'{name}.ceal').read_text() + '%%\n' + '\n'.join(lines) + '\n'
 
