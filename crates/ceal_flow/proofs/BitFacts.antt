@@ -1,8 +1,8 @@
 -- Sets of numbers as chunks of bits.
-use Rattle.std.proofs.Common.{◌≡◌, ◌≢◌, ◌⊎◌, inl, inr, ℕ, zero, suc, ◌+◌, ◌-◌, ◌*◌, ◌/◌, ◌%◌, ◌^◌, ◌<◌, ◌≤◌, max, Bool, true, false, ◌==◌, ◌||◌, ◌&&◌, not, Option, Some, Result, Ok, Err, OnErr, List, [], ◌∷◌, ◌++◌, length, if◌then◌else◌, refl, ap, sym, ◌∙◌, subst, arith, w64, add-one, ltb, length-append, append_assoc, add-zero, add-suc, take}
+use Rattle.std.proofs.Common.{◌≡◌, ◌≢◌, ◌⊎◌, inl, inr, ℕ, zero, suc, ◌+◌, ◌-◌, ◌*◌, ◌/◌, ◌%◌, ◌^◌, ◌<◌, ◌≤◌, max, Bool, true, false, ◌==◌, ◌||◌, ◌&&◌, not, Option, Some, List, [], ◌∷◌, ◌++◌, length, if◌then◌else◌, refl, ap, sym, ◌∙◌, subst, arith, w64, add-one, ltb, length-append, append_assoc, add-zero, add-suc, take}
 use Rattle.std.specs.Int.{bit_at, bit_not}
 use Rattle.std.specs.Prelude.{bit_and, bit_or, insert, slice_get, slice_set}
-use Rattle.std.proofs.lemmas.Nat.Bits.{bit_at-lt, bit_at-zero, bit_at_or, bit_at_clear_same, bit_at_clear_other, bit_at_set_same, bit_at_set_other, bit_at_above, same_from_bits_below}
+use Rattle.std.proofs.lemmas.Nat.Bits.{bit_at-lt, bit_at-zero, bit_at_or, bit_at_clear_same, bit_at_clear_other, bit_at_set_same, bit_at_set_other, same_from_bits_below}
 use Rattle.std.proofs.lemmas.Bool.Decides.{eqb_tells, leb_tells}
 use Rattle.std.proofs.lemmas.Bool.{lt-ltb, le-ltb}
 use Rattle.std.proofs.lemmas.Nat.{le_or_l}
@@ -188,10 +188,6 @@ module _ (words : List Chunk) where
   unfolding members_below
   below-nil = refl
 
-  pub below-more : (n : ℕ) → members_below words (n + 1) ≡ members_below words n ++ (if has_bit words n then n ∷ [] else [])
-  unfolding members_below
-  below-more n = rw add-one refl
-
 in-append : (v : ℕ) (xs ys : List ℕ) → is_in v (xs ++ ys) ≡ (is_in v xs || is_in v ys)
 in-append v [] ys = refl
 in-append v (x ∷ xs) ys = rw (in-append v xs ys) (sym (or_assoc (x == v) (is_in v xs) (is_in v ys)))
@@ -282,15 +278,6 @@ below-ascends words (suc n) = below-ascends-by (has_bit words n) n (members_belo
 
 pub members-ascend : (words : List Chunk) → IsAscending (members words)
 members-ascend words = below-ascends words (2 ^ 32)
-
--- what holds holds after an error
-pub on-err : {T E P : Type 0} (r : Result T E) → P → OnErr r P
-on-err (Ok x) h = tt
-on-err (Err e) h = h
-
--- chunks with the same bits are the same set
-pub same-bits : (old new : List Chunk) → ((k : ℕ) → bits_of new k ≡ bits_of old k) → (v : ℕ) → has_bit new v ≡ has_bit old v
-same-bits old new same v = ap (λ n. bit_at n (v % 64) == 1) (same (v / 64))
 
 -- how many there are
 count-by : (b : Bool) → ℕ

@@ -133,8 +133,8 @@ pub fn put(chunks: &mut Vec<Chunk>, index: usize, at: u32, bits: u64) -> Result<
 
 /// The bits of a chunk, without that of a number.
 fn but(chunk: Chunk, except: Option<u32>) -> u64
-    ensures value { (j : ℕ) → j < 64
-        → bit_at result j ≡ (if is_that except (chunk.at * 64 + j) then 0 else bit_at chunk.bits j) }
+    ensures value { (j : ℕ) → j < 64 → bit_at result j
+        ≡ (if is_that except (chunk.at * 64 + j) then 0 else bit_at chunk.bits j) }
 {
     match except {
         None => chunk.bits,

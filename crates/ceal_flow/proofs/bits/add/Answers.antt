@@ -1,9 +1,9 @@
-use Rattle.std.proofs.Common.{◌≡◌, ◌<◌, ◌≤◌, ◌*◌, ◌+◌, max, length, take, get_or, refl, ap, sym, subst, ◌∙◌, arith, if◌then◌else◌}
+use Rattle.std.proofs.Common.{◌≡◌, ◌*◌, ◌+◌, take, get_or, refl, subst, arith}
 use Rattle.std.specs.Int.{bit_at}
 use Rattle.std.proofs.lemmas.Nat.Bits.{bit_at-zero}
 use Rattle.std.proofs.lemmas.Option.{slice_get-get_or}
 use Rattle.std.proofs.lemmas.List.{take_all}
-use Rattle.ceal_flow.specs.Bits.{bits_of, AreBefore}
+use Rattle.ceal_flow.specs.Bits.{bits_of}
 use Rattle.ceal_flow.specs.Sets.{is_that}
 use Rattle.ceal_flow.proofs.BitFacts.{JoinedAt, has-added, has-joined, no-more, step-joined, step-more, step-same}
 use Rattle.ceal_flow.proofs.ChunkFacts.{before-later, before-none, chunk-small, next-place}

@@ -1,6 +1,5 @@
 use Rattle.std.proofs.Common.{sym, ap, ◌∙◌, ◌++◌, append_assoc}
 use Rattle.std.proofs.lemmas.List.{append-nil}
-use Rattle.ceal_flow.specs.Bits.{inside}
 use Rattle.ceal_flow.proofs.BitFacts.{inside-more, inside-nil}
 use Rattle.ceal_flow.proofs.bits.push_bits.Goals as goal
 

@@ -1,4 +1,4 @@
-use Rattle.std.proofs.Common.{arith, ap, sym, ◌∙◌, ◌==◌, ◌||◌}
+use Rattle.std.proofs.Common.{ap, sym, ◌∙◌, ◌==◌, ◌||◌}
 use Rattle.ceal_flow.specs.Sets.{is_in}
 use Rattle.ceal_flow.proofs.BitFacts.{bit-put, in-members, members-ascend, members-few}
 use Rattle.ceal_flow.proofs.ChunkFacts.{before-none}
