@@ -37,24 +37,19 @@ fn read(alloc: Global, source: &[u8]) -> Result<Tokens, FrontError>
     let mut tokens = Items::empty(alloc);
     let mut at = 0;
     while at < source.len() {
-        match read_front(alloc, &source[at..]) {
-            Ok(Front::Blank(length)) => {
+        match read_front(alloc, &source[at..])? {
+            Front::Blank(length) => {
                 at += length;
             }
-            Ok(Front::Found(kind, length)) => {
+            Front::Found(kind, length) => {
                 let span = span(at, length);
-                match tokens.push(Token { kind, span }) {
-                    Ok(()) => {
-                        at += length;
-                    }
-                    Err(NoMemory) => return Err(FrontError::Memory),
-                }
+                tokens.push(Token { kind, span })?;
+                at += length;
             }
-            Ok(Front::Broken(code, length)) => {
+            Front::Broken(code, length) => {
                 let span = span(at, length);
                 return Err(FrontError::Fault(Fault { code, span }));
             }
-            Err(NoMemory) => return Err(FrontError::Memory),
         }
     }
     Ok(tokens)
@@ -66,21 +61,15 @@ fn read_all(alloc: Global, source: &[u8], marked: bool) -> Result<Tokens, FrontE
     ensures found { IfOk result (λ tokens. AreTokens source.now marked tokens) }
     ensures fault { IfFault result (λ fault. IsFirstFault source.now fault) }
 {
-    match read(alloc, source) {
-        Ok(mut tokens) => {
-            let kind = if marked {
-                TokenKind::End
-            } else {
-                TokenKind::Cut
-            };
-            let span = span(source.len(), 0);
-            match tokens.push(Token { kind, span }) {
-                Ok(()) => Ok(tokens),
-                Err(NoMemory) => Err(FrontError::Memory),
-            }
-        }
-        Err(error) => Err(error),
-    }
+    let mut tokens = read(alloc, source)?;
+    let kind = if marked {
+        TokenKind::End
+    } else {
+        TokenKind::Cut
+    };
+    let span = span(source.len(), 0);
+    tokens.push(Token { kind, span })?;
+    Ok(tokens)
 }
 
 /// The tokens of the source part, or the first of the faults S1 and S2 in it. S1 stands at a byte that begins no

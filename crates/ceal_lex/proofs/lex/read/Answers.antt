@@ -7,36 +7,36 @@ use Rattle.ceal_lex.specs.Front.{IsBlank, IsFound}
 use Rattle.ceal_lex.proofs.Going.{Continues, after_blank, after_token, at_end, at_fault}
 use Rattle.ceal_lex.proofs.lex.read.Goals as goal
 
-pub loop-at-preserved-in-Ok-Blank : goal.loop-at-preserved-in-Ok-Blank
-loop-at-preserved-in-Ok-Blank c =
+pub loop-at-preserved-in-Blank : goal.loop-at-preserved-in-Blank
+loop-at-preserved-in-Blank c =
     let source = c.args.source.now in
-    let blank : IsBlank c.in-Ok-Blank.length (drop c.loop-at.at source) =
-    subst (IsBlank c.in-Ok-Blank.length) (take_rest source c.loop-at.at) (rw c.in-Ok-Blank.field-0-is at c.in-Ok-Blank.ensures.front) in
+    let blank : IsBlank c.in-Blank.length (drop c.loop-at.at source) =
+    subst (IsBlank c.in-Blank.length) (take_rest source c.loop-at.at) (rw c.in-Blank.is at c.in_ok-length.ensures.front) in
     record {
       within = search rules;
-      so_far = after_blank source c.loop-at.at c.loop-at.tokens c.loop-at.invariant.so_far c.in-Ok-Blank.length blank;
+      so_far = after_blank source c.loop-at.at c.loop-at.tokens c.loop-at.invariant.so_far c.in-Blank.length blank;
     }
 
 pub loop-at-preserved : goal.loop-at-preserved
 loop-at-preserved c =
     let source = c.args.source.now in
-    let found : IsFound c.in-Ok-Found.kind c.in-Ok-Found.length (drop c.loop-at.at source) =
-    subst (IsFound c.in-Ok-Found.kind c.in-Ok-Found.length) (take_rest source c.loop-at.at) (rw c.in-Ok-Found.field-0-is at c.in-Ok-Found.ensures.front) in
-    let more = after_token source c.loop-at.at c.loop-at.tokens c.loop-at.invariant.so_far c.in-Ok-Found.kind c.in-Ok-Found.length found in
-    let pushed : c.push.new.self ≡ c.loop-at.tokens ++ record { kind = c.in-Ok-Found.kind; span = record { from = c.loop-at.at; to = c.loop-at.at + c.in-Ok-Found.length } } ∷ [] =
-    c.in-Ok.ensures.ok ∙ ap (λ (s : Span). c.loop-at.tokens ++ record { kind = c.in-Ok-Found.kind; span = s } ∷ []) c.span-span.ensures in
+    let found : IsFound c.in-Found.kind c.in-Found.length (drop c.loop-at.at source) =
+    subst (IsFound c.in-Found.kind c.in-Found.length) (take_rest source c.loop-at.at) (rw c.in-Found.is at c.in_ok-length.ensures.front) in
+    let more = after_token source c.loop-at.at c.loop-at.tokens c.loop-at.invariant.so_far c.in-Found.kind c.in-Found.length found in
+    let pushed : c.push.new.self ≡ c.loop-at.tokens ++ record { kind = c.in-Found.kind; span = record { from = c.loop-at.at; to = c.loop-at.at + c.in-Found.length } } ∷ [] =
+    c.in_ok-push-in-Found.ensures.ok ∙ ap (λ (s : Span). c.loop-at.tokens ++ record { kind = c.in-Found.kind; span = s } ∷ []) c.span-span.ensures in
     record {
       within = search rules;
-      so_far = subst (Continues source (drop (c.loop-at.at + c.in-Ok-Found.length) source) (c.loop-at.at + c.in-Ok-Found.length)) (sym pushed) more;
+      so_far = subst (Continues source (drop (c.loop-at.at + c.in-Found.length) source) (c.loop-at.at + c.in-Found.length)) (sym pushed) more;
     }
 
-pub returns-in-Ok-Broken-clause-fault : goal.returns-in-Ok-Broken-clause-fault
-returns-in-Ok-Broken-clause-fault c =
+pub returns-in-Broken-clause-fault : goal.returns-in-Broken-clause-fault
+returns-in-Broken-clause-fault c =
     let source = c.args.source.now in
-    let broken : FaultStands c.in-Ok-Broken.code (drop c.loop-at.at source) c.in-Ok-Broken.length =
-    subst (λ (x : List ℕ). FaultStands c.in-Ok-Broken.code x c.in-Ok-Broken.length) (take_rest source c.loop-at.at) (rw c.in-Ok-Broken.field-0-is at c.in-Ok-Broken.ensures.front) in
-    rw c.span-span-in-Ok-Broken.ensures
-    (at_fault source c.loop-at.at c.loop-at.tokens c.loop-at.invariant.so_far c.in-Ok-Broken.code c.in-Ok-Broken.length c.loop-at.invariant.within broken)
+    let broken : FaultStands c.in-Broken.code (drop c.loop-at.at source) c.in-Broken.length =
+    subst (λ (x : List ℕ). FaultStands c.in-Broken.code x c.in-Broken.length) (take_rest source c.loop-at.at) (rw c.in-Broken.is at c.in_ok-length.ensures.front) in
+    rw c.span-span-in-Broken.ensures
+    (at_fault source c.loop-at.at c.loop-at.tokens c.loop-at.invariant.so_far c.in-Broken.code c.in-Broken.length c.loop-at.invariant.within broken)
 
 pub returns-clause-found : goal.returns-clause-found
 returns-clause-found c = at_end c.args.source.now c.loop-at.at c.loop-at.tokens c.loop-at.invariant.so_far (omega (arith, c.loop-at-test.false))

@@ -1,5 +1,5 @@
 use Rattle.std.proofs.Common.{length}
-use Rattle.ceal_parse.proofs.expression.+reduce.Given as goal
+use Rattle.ceal_parse.proofs.piece.+reduce.Given as goal
 
 abbrev pub decreases-reduce : goal.decreases-reduce
 decreases-reduce l = length l.frames.now
