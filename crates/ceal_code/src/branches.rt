@@ -150,16 +150,28 @@ pub struct Branch {
     pub left: usize,
 }
 
+/// A body that is written, with the code that it is a part of.
+#[derive(Drop)]
+struct Body<'a> {
+    alloc: Global,
+    code: &'a Code,
+    commands: &'a [Cmd],
+}
+
+/// Where a path of a body goes on: the index of a command, how deep it is, and how many commands the path may have.
+#[derive(Clone, Copy)]
+struct Point {
+    index: usize,
+    depth: usize,
+    left: usize,
+}
+
 #[tactic(auto, using(crate::proofs::BranchSteps::push_steps))]
-fn put_branch(
-    code: &Code,
-    body: &[Cmd],
-    branches: &mut Vec<Branch>,
-    branch: Branch,
-) -> Result<(), NoMemory>
-    ensures text { IfOk result (λ _. branches_text code.now body.now branches.new.items
-        ≡ branch_text code.now body.now branch
-        ++ branches_text code.now body.now branches.old.items) }
+fn put_branch(body: &Body<'_>, branches: &mut Vec<Branch>, branch: Branch) -> Result<(), NoMemory>
+    ensures text { IfOk result (λ _.
+        branches_text body.now.code.now body.now.commands.now branches.new.items
+        ≡ branch_text body.now.code.now body.now.commands.now branch
+        ++ branches_text body.now.code.now body.now.commands.now branches.old.items) }
     ensures heavier { IfOk result
         (λ _. branch_weights branches.new.items
         ≡ weight branch.left + branch_weights branches.old.items) }
@@ -168,87 +180,84 @@ fn put_branch(
     Ok(())
 }
 
+fn place(index: usize, depth: usize, left: usize) -> Point
+    ensures { result ≡ record { index = index; depth = depth; left = left } }
+{
+    Point { index, depth, left }
+}
+
 /// Puts the branch that goes on at an index.
-fn put_next(
-    code: &Code,
-    body: &[Cmd],
-    branches: &mut Vec<Branch>,
-    index: usize,
-    depth: usize,
-    left: usize,
-) -> Result<(), NoMemory>
-    ensures text { IfOk result (λ _. branches_text code.now body.now branches.new.items
-        ≡ commands code.now body.now left index depth
-        ++ branches_text code.now body.now branches.old.items) }
+fn put_next(body: &Body<'_>, branches: &mut Vec<Branch>, at: Point) -> Result<(), NoMemory>
+    ensures text { IfOk result (λ _.
+        branches_text body.now.code.now body.now.commands.now branches.new.items
+        ≡ commands body.now.code.now body.now.commands.now at.left at.index at.depth
+        ++ branches_text body.now.code.now body.now.commands.now branches.old.items) }
     ensures heavier { IfOk result
-        (λ _. branch_weights branches.new.items ≡ weight left + branch_weights branches.old.items) }
+        (λ _. branch_weights branches.new.items
+        ≡ weight at.left + branch_weights branches.old.items) }
 {
     let branch = Branch {
-        index,
-        depth,
+        index: at.index,
+        depth: at.depth,
         is_no: false,
-        left,
+        left: at.left,
     };
-    put_branch(code, body, branches, branch)?;
+    put_branch(body, branches, branch)?;
     Ok(())
 }
 
 /// Puts the no part of a condition.
-fn put_no(
-    code: &Code,
-    body: &[Cmd],
-    branches: &mut Vec<Branch>,
-    index: usize,
-    depth: usize,
-    left: usize,
-) -> Result<(), NoMemory>
-    ensures text { IfOk result (λ _. branches_text code.now body.now branches.new.items
-        ≡ (line depth (codes "else") ++ commands code.now body.now left index (depth + 1))
-        ++ branches_text code.now body.now branches.old.items) }
+fn put_no(body: &Body<'_>, branches: &mut Vec<Branch>, at: Point) -> Result<(), NoMemory>
+    ensures text { IfOk result (λ _.
+        branches_text body.now.code.now body.now.commands.now branches.new.items
+        ≡ (line at.depth (codes "else")
+        ++ commands body.now.code.now body.now.commands.now at.left at.index (at.depth + 1))
+        ++ branches_text body.now.code.now body.now.commands.now branches.old.items) }
     ensures heavier { IfOk result
-        (λ _. branch_weights branches.new.items ≡ weight left + branch_weights branches.old.items) }
+        (λ _. branch_weights branches.new.items
+        ≡ weight at.left + branch_weights branches.old.items) }
 {
     let branch = Branch {
-        index,
-        depth,
+        index: at.index,
+        depth: at.depth,
         is_no: true,
-        left,
+        left: at.left,
     };
-    put_branch(code, body, branches, branch)?;
+    put_branch(body, branches, branch)?;
     Ok(())
 }
 
 /// Puts what follows a command of a path of at most `left` commands.
 #[tactic(auto, using(crate::proofs::BranchSteps::follow_steps))]
 fn put_following(
-    code: &Code,
-    body: &[Cmd],
+    body: &Body<'_>,
     branches: &mut Vec<Branch>,
     command: &Cmd,
-    index: usize,
-    depth: usize,
-    left: usize,
+    at: Point,
 ) -> Result<(), NoMemory>
-    requires some { 0 < left }
-    requires there { index < length body.now }
-    ensures text { IfOk result (λ _. branches_text code.now body.now branches.new.items
-        ≡ follows (commands code.now body.now (left - 1)) command.now index depth
-        ++ branches_text code.now body.now branches.old.items) }
+    requires some { 0 < at.left }
+    requires there { at.index < length body.now.commands.now }
+    ensures text { IfOk result (λ _.
+        branches_text body.now.code.now body.now.commands.now branches.new.items
+        ≡ follows (commands body.now.code.now body.now.commands.now (at.left - 1)) command.now
+        at.index at.depth
+        ++ branches_text body.now.code.now body.now.commands.now branches.old.items) }
     ensures lighter { IfOk result
         (λ _. branch_weights branches.new.items + 1
-        ≤ branch_weights branches.old.items + weight left) }
+        ≤ branch_weights branches.old.items + weight at.left) }
 {
-    let left = left - 1;
-    match command.followers(index) {
+    let left = at.left - 1;
+    let depth = at.depth;
+    match command.followers(at.index) {
         Followers::Nowhere => Ok(()),
-        Followers::One(next) => {
-            put_next(code, body, branches, next, depth, left)?;
+        Followers::One(index) => {
+            put_next(body, branches, place(index, depth, left))?;
             Ok(())
         }
         Followers::Two(yes, no) => {
             let inside = deeper(depth)?;
-            put_no(code, body, branches, no, depth, left)?;
-            put_next(code, body, branches, yes, inside, left)?;
+            put_no(body, branches, place(no, depth, left))?;
+            put_next(body, branches, place(yes, inside, left))?;
             Ok(())
         }
     }
@@ -257,58 +266,52 @@ fn put_following(
 /// Adds a command's line, and puts what follows it.
 #[tactic(auto, using(crate::proofs::BranchSteps::at_steps))]
 fn write_command(
-    alloc: Global,
+    body: &Body<'_>,
     out: &mut Text,
-    code: &Code,
-    body: &[Cmd],
     branches: &mut Vec<Branch>,
     command: &Cmd,
-    index: usize,
-    depth: usize,
-    left: usize,
+    at: Point,
 ) -> Result<(), NoMemory>
-    requires some { 0 < left }
-    requires there { index < length body.now }
-    ensures text { IfOk result (λ _. out.new ++ branches_text code.now body.now branches.new.items
-        ≡ out.old ++ ((line depth (command_text code.now command.now)
-        ++ follows (commands code.now body.now (left - 1)) command.now index depth)
-        ++ branches_text code.now body.now branches.old.items)) }
+    requires some { 0 < at.left }
+    requires there { at.index < length body.now.commands.now }
+    ensures text { IfOk result (λ _.
+        out.new ++ branches_text body.now.code.now body.now.commands.now branches.new.items
+        ≡ out.old ++ ((line at.depth (command_text body.now.code.now command.now)
+        ++ follows (commands body.now.code.now body.now.commands.now (at.left - 1)) command.now
+        at.index at.depth)
+        ++ branches_text body.now.code.now body.now.commands.now branches.old.items)) }
     ensures lighter { IfOk result
         (λ _. branch_weights branches.new.items + 1
-        ≤ branch_weights branches.old.items + weight left) }
+        ≤ branch_weights branches.old.items + weight at.left) }
 {
-    put_line(alloc, out, code, depth, command)?;
-    put_following(code, body, branches, command, index, depth, left)?;
+    put_line(body.alloc, out, body.code, at.depth, command)?;
+    put_following(body, branches, command, at)?;
     Ok(())
 }
 
 /// The same for the command at an index, if there is one.
 #[tactic(auto, using(crate::proofs::PathSteps::weight_steps))]
 fn write_at(
-    alloc: Global,
+    body: &Body<'_>,
     out: &mut Text,
-    code: &Code,
-    body: &[Cmd],
     branches: &mut Vec<Branch>,
-    index: usize,
-    depth: usize,
-    left: usize,
+    at: Point,
 ) -> Result<(), NoMemory>
-    requires some { 0 < left }
-    ensures text { IfOk result (λ _. out.new ++ branches_text code.now body.now branches.new.items
-        ≡ out.old ++ (commands_at code.now (commands code.now body.now (left - 1))
-        (slice_get body.now index) index depth
-        ++ branches_text code.now body.now branches.old.items)) }
+    requires some { 0 < at.left }
+    ensures text { IfOk result (λ _.
+        out.new ++ branches_text body.now.code.now body.now.commands.now branches.new.items
+        ≡ out.old ++ (commands_at body.now.code.now
+        (commands body.now.code.now body.now.commands.now (at.left - 1))
+        (slice_get body.now.commands.now at.index) at.index at.depth
+        ++ branches_text body.now.code.now body.now.commands.now branches.old.items)) }
     ensures lighter { IfOk result
         (λ _. branch_weights branches.new.items + 1
-        ≤ branch_weights branches.old.items + weight left) }
+        ≤ branch_weights branches.old.items + weight at.left) }
 {
-    match body.get(index) {
+    match body.commands.get(at.index) {
         None => Ok(()),
         Some(command) => {
-            write_command(
-                alloc, out, code, body, branches, command, index, depth, left,
-            )?;
+            write_command(body, out, branches, command, at)?;
             Ok(())
         }
     }
@@ -316,42 +319,38 @@ fn write_at(
 
 #[tactic(auto, using(crate::proofs::BranchSteps::command_steps))]
 fn write_commands(
-    alloc: Global,
+    body: &Body<'_>,
     out: &mut Text,
-    code: &Code,
-    body: &[Cmd],
     branches: &mut Vec<Branch>,
-    index: usize,
-    depth: usize,
-    left: usize,
+    at: Point,
 ) -> Result<(), NoMemory>
-    ensures text { IfOk result (λ _. out.new ++ branches_text code.now body.now branches.new.items
-        ≡ out.old ++ (commands code.now body.now left index depth
-        ++ branches_text code.now body.now branches.old.items)) }
+    ensures text { IfOk result (λ _.
+        out.new ++ branches_text body.now.code.now body.now.commands.now branches.new.items
+        ≡ out.old ++ (commands body.now.code.now body.now.commands.now at.left at.index at.depth
+        ++ branches_text body.now.code.now body.now.commands.now branches.old.items)) }
     ensures lighter { IfOk result
         (λ _. branch_weights branches.new.items + 1
-        ≤ branch_weights branches.old.items + weight left) }
+        ≤ branch_weights branches.old.items + weight at.left) }
 {
-    if left == 0 {
+    if at.left == 0 {
         return Ok(());
     }
-    write_at(alloc, out, code, body, branches, index, depth, left)?;
+    write_at(body, out, branches, at)?;
     Ok(())
 }
 
 /// Writes the beginning of a branch, and puts what follows it.
 #[tactic(auto, using(crate::proofs::TextSteps::joins))]
 fn write_branch(
-    alloc: Global,
+    body: &Body<'_>,
     out: &mut Text,
-    code: &Code,
-    body: &[Cmd],
     branches: &mut Vec<Branch>,
     branch: Branch,
 ) -> Result<(), NoMemory>
-    ensures text { IfOk result (λ _. out.new ++ branches_text code.now body.now branches.new.items
-        ≡ out.old ++ (branch_text code.now body.now branch
-        ++ branches_text code.now body.now branches.old.items)) }
+    ensures text { IfOk result (λ _.
+        out.new ++ branches_text body.now.code.now body.now.commands.now branches.new.items
+        ≡ out.old ++ (branch_text body.now.code.now body.now.commands.now branch
+        ++ branches_text body.now.code.now body.now.commands.now branches.old.items)) }
     ensures lighter { IfOk result
         (λ _. branch_weights branches.new.items + 1
         ≤ branch_weights branches.old.items + weight branch.left) }
@@ -365,10 +364,10 @@ fn write_branch(
     if is_no {
         put_else(out, depth)?;
         let inside = deeper(depth)?;
-        write_commands(alloc, out, code, body, branches, index, inside, left)?;
+        write_commands(body, out, branches, place(index, inside, left))?;
         Ok(())
     } else {
-        write_commands(alloc, out, code, body, branches, index, depth, left)?;
+        write_commands(body, out, branches, place(index, depth, left))?;
         Ok(())
     }
 }
@@ -386,8 +385,14 @@ pub fn put_body(alloc: Global, out: &mut Text, code: &Code, body: &[Cmd]) -> Res
         is_no: false,
         left: body.len(),
     })?;
+    let commands = body;
+    let whole = Body {
+        alloc,
+        code,
+        commands,
+    };
     while let Some(branch) = branches.pop() {
-        write_branch(alloc, out, code, body, &mut branches, branch)?;
+        write_branch(&whole, out, &mut branches, branch)?;
     }
     Ok(())
 }

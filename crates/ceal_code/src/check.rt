@@ -2,7 +2,7 @@
 
 ghost use Rattle.std.specs.Prelude.{◌≡◌, ℕ, Bool, List, Option, false, true, slice_get, length};
 ghost use Rattle.ceal_code.specs.Step.{kinds_of};
-ghost use Rattle.ceal_code.specs.Valid.{all_fit, params_fit, others, unit_fits, read_fits, entry_fits, call_fits, alloc_fits, modref_fits, place_fits, is_content, content_fits, write_fits, command_ok};
+ghost use Rattle.ceal_code.specs.Valid.{all_fit, params_fit, others, unit_fits, read_fits, entry_fits, call_fits, alloc_fits, modref_fits, place_fits, type_of, is_content, content_fits, write_fits, command_ok};
 
 use crate::code::Code;
 use crate::command::Cmd;
@@ -41,18 +41,28 @@ pub fn do_all_fit(
     args.is_empty()
 }
 
+/// What the types of arguments go by: structs, the kinds of a function's variables, and which of these are known.
+#[derive(Drop)]
+struct Typing<'a> {
+    structs: &'a [StructInfo],
+    kinds: &'a [Kind],
+    known: &'a [bool],
+}
+
+/// Where a command stands: in a unit of a function of the code, where these variables are known.
+#[derive(Drop)]
+struct Site<'a> {
+    code: &'a Code,
+    function: u32,
+    known: &'a [bool],
+}
+
 /// Whether there is one argument of the right type for each parameter, where `theirs` are the kinds of the
 /// variables that the parameters are among.
 #[tactic(auto, using(crate::proofs::CheckSteps::param_steps))]
-fn do_params_fit(
-    structs: &[StructInfo],
-    kinds: &[Kind],
-    known: &[bool],
-    theirs: &[Kind],
-    params: &[VarId],
-    args: &[CodeExpr],
-) -> bool
-    ensures { result ≡ params_fit structs.now kinds.now known.now theirs.now params.now args.now }
+fn do_params_fit(typing: &Typing<'_>, theirs: &[Kind], params: &[VarId], args: &[CodeExpr]) -> bool
+    ensures { result ≡ params_fit typing.now.structs.now typing.now.kinds.now typing.now.known.now
+        theirs.now params.now args.now }
 {
     let mut params = params;
     let mut args = args;
@@ -60,7 +70,7 @@ fn do_params_fit(
         match args.split_first() {
             None => return false,
             Some((e, rest)) => {
-                if !is_fit_maybe(kind_at(theirs, *p), type_of_expr(structs, kinds, known, e)) {
+                if !is_fit_maybe(kind_at(theirs, *p), typing.type_of(e)) {
                     return false;
                 }
                 params = more;
@@ -73,16 +83,10 @@ fn do_params_fit(
 
 /// The same for the parameters but the variable that a read sets.
 #[tactic(auto, using(crate::proofs::CheckSteps::other_steps))]
-fn do_others_fit(
-    structs: &[StructInfo],
-    kinds: &[Kind],
-    known: &[bool],
-    v: VarId,
-    params: &[VarId],
-    args: &[CodeExpr],
-) -> bool
+fn do_others_fit(typing: &Typing<'_>, v: VarId, params: &[VarId], args: &[CodeExpr]) -> bool
     ensures { result
-        ≡ params_fit structs.now kinds.now known.now kinds.now (others v.0 params.now) args.now }
+        ≡ params_fit typing.now.structs.now typing.now.kinds.now typing.now.known.now
+        typing.now.kinds.now (others v.0 params.now) args.now }
 {
     let mut params = params;
     let mut args = args;
@@ -94,7 +98,7 @@ fn do_others_fit(
         match args.split_first() {
             None => return false,
             Some((e, rest)) => {
-                if !is_fit_maybe(kind_at(kinds, *p), type_of_expr(structs, kinds, known, e)) {
+                if !is_fit_maybe(kind_at(typing.kinds, *p), typing.type_of(e)) {
                     return false;
                 }
                 params = more;
@@ -105,110 +109,93 @@ fn do_others_fit(
     args.is_empty()
 }
 
-fn does_unit_fit(code: &Code, f: u32, known: &[bool], unit: UnitId, args: &[CodeExpr]) -> bool
-    ensures { result ≡ unit_fits code.now f known.now (slice_get code.now.units unit.0) args.now }
+impl<'a> Typing<'a> {
+    /// The type of an expression.
+    fn type_of(&self, e: &CodeExpr) -> Option<ExprType>
+        ensures { result ≡ type_of self.now.structs.now self.now.kinds.now self.now.known.now e.now }
+    {
+        type_of_expr(self.structs, self.kinds, self.known, e)
+    }
+}
+
+impl<'a> Site<'a> {
+    fn typing(&self) -> Typing<'a>
+        ensures structs { result.structs.now ≡ self.now.code.now.structs }
+        ensures kinds { result.kinds.now ≡ kinds_of self.now.code.now self.now.function }
+        ensures known { result.known.now ≡ self.now.known.now }
+    {
+        let code = self.code;
+        Typing {
+            structs: code.structs.items(),
+            kinds: code.kinds_of(self.function),
+            known: self.known,
+        }
+    }
+}
+
+fn does_unit_fit(site: &Site<'_>, unit: UnitId, args: &[CodeExpr]) -> bool
+    ensures { result ≡ unit_fits site.now.code.now site.now.function site.now.known.now
+        (slice_get site.now.code.now.units unit.0) args.now }
 {
-    match code.units().get(unit.0 as usize) {
+    match site.code.units().get(unit.0 as usize) {
         None => false,
         Some(unit) => {
-            let kinds = code.kinds_of(f);
-            unit.function == f
-                && do_params_fit(
-                    code.structs.items(),
-                    kinds,
-                    known,
-                    kinds,
-                    unit.params(),
-                    args,
-                )
+            let typing = site.typing();
+            unit.function == site.function
+                && do_params_fit(&typing, typing.kinds, unit.params(), args)
         }
     }
 }
 
-fn does_read_fit(
-    code: &Code,
-    f: u32,
-    known: &[bool],
-    v: VarId,
-    unit: UnitId,
-    args: &[CodeExpr],
-) -> bool
-    ensures { result
-        ≡ read_fits code.now f known.now v.0 (slice_get code.now.units unit.0) args.now }
+fn does_read_fit(site: &Site<'_>, v: VarId, unit: UnitId, args: &[CodeExpr]) -> bool
+    ensures { result ≡ read_fits site.now.code.now site.now.function site.now.known.now v.0
+        (slice_get site.now.code.now.units unit.0) args.now }
 {
-    match code.units().get(unit.0 as usize) {
+    match site.code.units().get(unit.0 as usize) {
         None => false,
         Some(unit) => {
-            unit.function == f
-                && do_others_fit(
-                    code.structs.items(),
-                    code.kinds_of(f),
-                    known,
-                    v,
-                    unit.params(),
-                    args,
-                )
+            unit.function == site.function && do_others_fit(&site.typing(), v, unit.params(), args)
         }
     }
 }
 
-fn does_entry_fit(
-    code: &Code,
-    f: u32,
-    known: &[bool],
-    g: u32,
-    unit: UnitId,
-    args: &[CodeExpr],
-) -> bool
-    ensures { result
-        ≡ entry_fits code.now f known.now g (slice_get code.now.units unit.0) args.now }
+fn does_entry_fit(site: &Site<'_>, g: u32, unit: UnitId, args: &[CodeExpr]) -> bool
+    ensures { result ≡ entry_fits site.now.code.now site.now.function site.now.known.now g
+        (slice_get site.now.code.now.units unit.0) args.now }
 {
-    match code.units().get(unit.0 as usize) {
+    match site.code.units().get(unit.0 as usize) {
         None => false,
-        Some(unit) => do_params_fit(
-            code.structs.items(),
-            code.kinds_of(f),
-            known,
-            code.kinds_of(g),
-            unit.params(),
-            args,
-        ),
+        Some(unit) => {
+            let theirs = site.code.kinds_of(g);
+            do_params_fit(&site.typing(), theirs, unit.params(), args)
+        }
     }
 }
 
-fn does_call_fit(code: &Code, f: u32, known: &[bool], g: u32, args: &[CodeExpr]) -> bool
-    ensures { result ≡ call_fits code.now f known.now g (slice_get code.now.functions g) args.now }
+fn does_call_fit(site: &Site<'_>, g: u32, args: &[CodeExpr]) -> bool
+    ensures { result ≡ call_fits site.now.code.now site.now.function site.now.known.now g
+        (slice_get site.now.code.now.functions g) args.now }
 {
-    match code.functions().get(g as usize) {
-        Some(FunctionCode::Core { entry, .. }) => {
-            does_entry_fit(code, f, known, g, *entry, args)
-        }
+    match site.code.functions().get(g as usize) {
+        Some(FunctionCode::Core { entry, .. }) => does_entry_fit(site, g, *entry, args),
         Some(FunctionCode::Init { .. }) => false,
         None => false,
     }
 }
 
-fn does_alloc_fit(
-    code: &Code,
-    f: u32,
-    known: &[bool],
-    kind: Option<Kind>,
-    function: u32,
-    args: &[CodeExpr],
-) -> bool
-    ensures { result
-        ≡ alloc_fits code.now f known.now kind (slice_get code.now.functions function) args.now }
+fn does_alloc_fit(site: &Site<'_>, kind: Option<Kind>, function: u32, args: &[CodeExpr]) -> bool
+    ensures { result ≡ alloc_fits site.now.code.now site.now.function site.now.known.now kind
+        (slice_get site.now.code.now.functions function) args.now }
 {
-    match code.functions().get(function as usize) {
+    match site.code.functions().get(function as usize) {
         Some(FunctionCode::Init { shape, params, .. }) => {
+            let Typing {
+                structs,
+                kinds,
+                known,
+            } = site.typing();
             is_fit_maybe(kind, Some(ExprType::Of(Kind::Ptr(*shape))))
-                && do_all_fit(
-                    code.structs.items(),
-                    code.kinds_of(f),
-                    known,
-                    params.items(),
-                    args,
-                )
+                && do_all_fit(structs, kinds, known, params.items(), args)
         }
         Some(FunctionCode::Core { .. }) => false,
         None => false,
@@ -281,6 +268,11 @@ pub fn is_command_ok(code: &Code, f: u32, known: &[bool], stepped: bool, command
 {
     let structs = code.structs.items();
     let kinds = code.kinds_of(f);
+    let site = Site {
+        code,
+        function: f,
+        known,
+    };
     match command {
         Cmd::Move { var, value } => is_fit_maybe(
             kind_at(kinds, *var),
@@ -291,14 +283,7 @@ pub fn is_command_ok(code: &Code, f: u32, known: &[bool], stepped: bool, command
             var,
             function,
             args,
-        } => does_alloc_fit(
-            code,
-            f,
-            known,
-            kind_at(kinds, *var),
-            *function,
-            args.items(),
-        ),
+        } => does_alloc_fit(&site, kind_at(kinds, *var), *function, args.items()),
         Cmd::Modref { var, shape } => does_modref_fit(kind_at(kinds, *var), *shape),
         Cmd::Write { place, value } => does_write_fit(
             type_of_expr(structs, kinds, known, place),
@@ -306,9 +291,7 @@ pub fn is_command_ok(code: &Code, f: u32, known: &[bool], stepped: bool, command
         ),
         Cmd::If { test, .. } => is_fit(Kind::Int, type_of_expr(structs, kinds, known, test)),
         Cmd::Done => true,
-        Cmd::Tail { unit, args } => {
-            stepped && does_unit_fit(code, f, known, *unit, args.items())
-        }
+        Cmd::Tail { unit, args } => { stepped && does_unit_fit(&site, *unit, args.items()) }
         Cmd::Read {
             var,
             place,
@@ -318,7 +301,7 @@ pub fn is_command_ok(code: &Code, f: u32, known: &[bool], stepped: bool, command
             does_place_fit(
                 kind_at(kinds, *var),
                 type_of_expr(structs, kinds, known, place),
-            ) && does_read_fit(code, f, known, *var, *unit, args.items())
+            ) && does_read_fit(&site, *var, *unit, args.items())
         }
         Cmd::Call {
             function,
@@ -326,8 +309,8 @@ pub fn is_command_ok(code: &Code, f: u32, known: &[bool], stepped: bool, command
             unit,
             rest,
         } => {
-            does_call_fit(code, f, known, *function, args.items())
-                && does_unit_fit(code, f, known, *unit, rest.items())
+            does_call_fit(&site, *function, args.items())
+                && does_unit_fit(&site, *unit, rest.items())
         }
     }
 }

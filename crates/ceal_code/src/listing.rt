@@ -60,38 +60,44 @@ fn put_units(alloc: Global, out: &mut Text, code: &Code, ns: &[usize]) -> Result
     Ok(())
 }
 
+/// The struct that an initialiser fills, among the structs of a program.
+#[derive(Drop)]
+struct Initialised<'a> {
+    alloc: Global,
+    structs: &'a [StructInfo],
+    shape: u32,
+}
+
 /// Adds the lines of a statement of an initialiser.
 #[cycle(lines)]
 #[tactic(auto, using(crate::proofs::ListingSteps::stmt_steps))]
 fn put_stmt(
-    alloc: Global,
+    of: &Initialised<'_>,
     out: &mut Text,
-    structs: &[StructInfo],
-    s: u32,
     depth: usize,
     stmt: &InitStmt,
 ) -> Result<(), NoMemory>
     ensures { IfOk result
-        (λ _. out.new ≡ out.old ++ stmt_text structs.now s depth stmt.now) }
+        (λ _. out.new ≡ out.old ++ stmt_text of.now.structs.now of.now.shape depth stmt.now) }
 {
     match stmt {
         InitStmt::Set { field, value } => {
             put_indent(out, depth)?;
             out.append_str("self->")?;
-            put_field(out, structs, s, *field)?;
+            put_field(out, of.structs, of.shape, *field)?;
             out.append_str(" = ")?;
-            put_expr(alloc, out, structs, value)?;
+            put_expr(of.alloc, out, of.structs, value)?;
             out.append_str("\n")?;
             Ok(())
         }
         InitStmt::If { test, yes, no } => {
             put_indent(out, depth)?;
             out.append_str("if ")?;
-            put_expr(alloc, out, structs, test)?;
+            put_expr(of.alloc, out, of.structs, test)?;
             out.append_str("\n")?;
             let inside = deeper(depth)?;
-            put_stmts(alloc, out, structs, s, inside, yes.items())?;
-            put_no_part(alloc, out, structs, s, depth, no.items())?;
+            put_stmts(of, out, inside, yes.items())?;
+            put_no_part(of, out, depth, no.items())?;
             Ok(())
         }
     }
@@ -100,22 +106,20 @@ fn put_stmt(
 #[cycle(lines)]
 #[tactic(auto, using(crate::proofs::TextSteps::joins))]
 fn put_no_part(
-    alloc: Global,
+    of: &Initialised<'_>,
     out: &mut Text,
-    structs: &[StructInfo],
-    s: u32,
     depth: usize,
     stmts: &[InitStmt],
 ) -> Result<(), NoMemory>
     ensures { IfOk result
-        (λ _. out.new ≡ out.old ++ else_text structs.now s depth stmts.now) }
+        (λ _. out.new ≡ out.old ++ else_text of.now.structs.now of.now.shape depth stmts.now) }
 {
     match stmts {
         [] => Ok(()),
         [_, ..] => {
             put_else(out, depth)?;
             let inside = deeper(depth)?;
-            put_stmts(alloc, out, structs, s, inside, stmts)?;
+            put_stmts(of, out, inside, stmts)?;
             Ok(())
         }
     }
@@ -124,18 +128,16 @@ fn put_no_part(
 #[cycle(lines)]
 #[tactic(auto, using(crate::proofs::ListingSteps::stmts_steps))]
 fn put_stmts(
-    alloc: Global,
+    of: &Initialised<'_>,
     out: &mut Text,
-    structs: &[StructInfo],
-    s: u32,
     depth: usize,
     stmts: &[InitStmt],
 ) -> Result<(), NoMemory>
     ensures { IfOk result
-        (λ _. out.new ≡ out.old ++ stmts_text structs.now s depth stmts.now) }
+        (λ _. out.new ≡ out.old ++ stmts_text of.now.structs.now of.now.shape depth stmts.now) }
 {
     for stmt in stmts {
-        put_stmt(alloc, out, structs, s, depth, stmt)?;
+        put_stmt(of, out, depth, stmt)?;
     }
     Ok(())
 }
@@ -171,7 +173,12 @@ fn put_function_lines(
             out.append_str("init ")?;
             out.append(name.items())?;
             out.append_str("\n")?;
-            put_stmts(alloc, out, code.structs.items(), *shape, 1, body.items())?;
+            let of = Initialised {
+                alloc,
+                structs: code.structs.items(),
+                shape: *shape,
+            };
+            put_stmts(&of, out, 1, body.items())?;
             Ok(())
         }
     }

@@ -62,20 +62,28 @@ fn known_params(alloc: Global, n: usize, params: &[VarId]) -> Result<Vec<bool>, 
     Ok(known)
 }
 
+/// A body whose paths are gone down, with its function and the code that they are a part of.
+#[derive(Drop)]
+struct Body<'a> {
+    code: &'a Code,
+    function: u32,
+    commands: &'a [Cmd],
+}
+
 /// Puts the path that goes on at an index.
 #[tactic(auto, using(crate::proofs::PathSteps::part_steps))]
 fn put(
-    code: &Code,
-    f: u32,
-    body: &[Cmd],
+    body: &Body<'_>,
     parts: &mut Vec<Part>,
     index: usize,
     known: Vec<bool>,
     left: usize,
 ) -> Result<(), NoMemory>
-    ensures paths { IfOk result (λ _. parts_ok code.now f body.now parts.new.items
-        ≡ (paths_ok code.now f body.now left index known.items true
-        && parts_ok code.now f body.now parts.old.items)) }
+    ensures paths { IfOk result (λ _.
+        parts_ok body.now.code.now body.now.function body.now.commands.now parts.new.items
+        ≡ (paths_ok body.now.code.now body.now.function body.now.commands.now
+        left index known.items true
+        && parts_ok body.now.code.now body.now.function body.now.commands.now parts.old.items)) }
     ensures heavier { IfOk result
         (λ _. weights parts.new.items ≡ weight left + weights parts.old.items) }
 {
@@ -90,20 +98,16 @@ fn put(
 
 /// Puts what follows a command.
 #[tactic(auto, using(crate::proofs::PathSteps::part_steps))]
-fn go_on(
-    code: &Code,
-    f: u32,
-    body: &[Cmd],
-    command: &Cmd,
-    part: Part,
-    parts: &mut Vec<Part>,
-) -> Result<(), NoMemory>
+fn go_on(body: &Body<'_>, command: &Cmd, part: Part, parts: &mut Vec<Part>) -> Result<(), NoMemory>
     requires some { 0 < part.left }
-    requires there { part.index < length body.now }
-    ensures paths { IfOk result (λ _. parts_ok code.now f body.now parts.new.items
-        ≡ (onward (paths_ok code.now f body.now (part.left - 1)) command.now part.index
+    requires there { part.index < length body.now.commands.now }
+    ensures paths { IfOk result (λ _.
+        parts_ok body.now.code.now body.now.function body.now.commands.now parts.new.items
+        ≡ (onward
+        (paths_ok body.now.code.now body.now.function body.now.commands.now (part.left - 1))
+        command.now part.index
         part.known.items
-        && parts_ok code.now f body.now parts.old.items)) }
+        && parts_ok body.now.code.now body.now.function body.now.commands.now parts.old.items)) }
     ensures lighter { IfOk result
         (λ _. weights parts.new.items + 1 ≤ weights parts.old.items + weight part.left) }
 {
@@ -117,22 +121,22 @@ fn go_on(
     match command {
         Cmd::Move { var, .. } => {
             learn(&mut known, *var);
-            put(code, f, body, parts, index + 1, known, left)
+            put(body, parts, index + 1, known, left)
         }
-        Cmd::Tick => put(code, f, body, parts, index + 1, known, left),
+        Cmd::Tick => put(body, parts, index + 1, known, left),
         Cmd::Alloc { var, .. } => {
             learn(&mut known, *var);
-            put(code, f, body, parts, index + 1, known, left)
+            put(body, parts, index + 1, known, left)
         }
         Cmd::Modref { var, .. } => {
             learn(&mut known, *var);
-            put(code, f, body, parts, index + 1, known, left)
+            put(body, parts, index + 1, known, left)
         }
-        Cmd::Write { .. } => put(code, f, body, parts, index + 1, known, left),
+        Cmd::Write { .. } => put(body, parts, index + 1, known, left),
         Cmd::If { yes, no, .. } => {
             let others = known.clone()?;
-            put(code, f, body, parts, *no as usize, others, left)?;
-            put(code, f, body, parts, *yes as usize, known, left)
+            put(body, parts, *no as usize, others, left)?;
+            put(body, parts, *yes as usize, known, left)
         }
         Cmd::Done => Ok(()),
         Cmd::Tail { .. } => Ok(()),
@@ -143,27 +147,23 @@ fn go_on(
 
 /// Goes over a command that is there.
 #[tactic(auto, using(crate::proofs::PathSteps::weight_steps))]
-fn pass(
-    code: &Code,
-    f: u32,
-    body: &[Cmd],
-    part: Part,
-    parts: &mut Vec<Part>,
-) -> Result<bool, NoMemory>
+fn pass(body: &Body<'_>, part: Part, parts: &mut Vec<Part>) -> Result<bool, NoMemory>
     requires some { 0 < part.left }
-    ensures paths { IfOk result (λ ok. (ok && parts_ok code.now f body.now parts.new.items)
-        ≡ (path_ok code.now f (paths_ok code.now f body.now (part.left - 1))
-        (slice_get body.now part.index)
+    ensures paths { IfOk result (λ ok.
+        (ok && parts_ok body.now.code.now body.now.function body.now.commands.now parts.new.items)
+        ≡ (path_ok body.now.code.now body.now.function
+        (paths_ok body.now.code.now body.now.function body.now.commands.now (part.left - 1))
+        (slice_get body.now.commands.now part.index)
         part.index part.known.items part.stepped
-        && parts_ok code.now f body.now parts.old.items)) }
+        && parts_ok body.now.code.now body.now.function body.now.commands.now parts.old.items)) }
     ensures lighter { IfOk result
         (λ _. weights parts.new.items + 1 ≤ weights parts.old.items + weight part.left) }
 {
-    match body.get(part.index) {
+    match body.commands.get(part.index) {
         None => Ok(false),
         Some(command) => {
-            if is_command_ok(code, f, &part.known, part.stepped, command) {
-                go_on(code, f, body, command, part, parts)?;
+            if is_command_ok(body.code, body.function, &part.known, part.stepped, command) {
+                go_on(body, command, part, parts)?;
                 Ok(true)
             } else {
                 Ok(false)
@@ -174,23 +174,19 @@ fn pass(
 
 /// Goes over the first command of a path, and puts what follows it.
 #[tactic(auto, using(crate::proofs::PathSteps::path_steps))]
-fn step(
-    code: &Code,
-    f: u32,
-    body: &[Cmd],
-    part: Part,
-    parts: &mut Vec<Part>,
-) -> Result<bool, NoMemory>
-    ensures paths { IfOk result (λ ok. (ok && parts_ok code.now f body.now parts.new.items)
-        ≡ (paths_ok code.now f body.now part.left part.index part.known.items part.stepped
-        && parts_ok code.now f body.now parts.old.items)) }
+fn step(body: &Body<'_>, part: Part, parts: &mut Vec<Part>) -> Result<bool, NoMemory>
+    ensures paths { IfOk result (λ ok.
+        (ok && parts_ok body.now.code.now body.now.function body.now.commands.now parts.new.items)
+        ≡ (paths_ok body.now.code.now body.now.function body.now.commands.now
+        part.left part.index part.known.items part.stepped
+        && parts_ok body.now.code.now body.now.function body.now.commands.now parts.old.items)) }
     ensures lighter { IfOk result
         (λ _. weights parts.new.items + 1 ≤ weights parts.old.items + weight part.left) }
 {
     if part.left == 0 {
         return Ok(false);
     }
-    let ok = pass(code, f, body, part, parts)?;
+    let ok = pass(body, part, parts)?;
     Ok(ok)
 }
 
@@ -214,8 +210,13 @@ pub fn are_paths_ok(
         stepped: false,
         left: body.len(),
     })?;
+    let whole = Body {
+        code,
+        function: f,
+        commands: body,
+    };
     while let Some(part) = parts.pop() {
-        if !step(code, f, body, part, &mut parts)? {
+        if !step(&whole, part, &mut parts)? {
             return Ok(false);
         }
     }

@@ -4,8 +4,8 @@ use Rattle.ceal_code.proofs.check.do_others_fit.Given as goal
 
 abbrev pub invariant-loop-p : goal.invariant-loop-p
 invariant-loop-p l =
-    params_fit l.structs l.kinds l.known l.kinds (others l.v.0 l.params) l.args
-    ≡ params_fit l.structs l.kinds l.known l.kinds (others l.v.0 l.fn.params) l.fn.args
+    params_fit l.typing.structs.now l.typing.kinds.now l.typing.known.now l.typing.kinds.now (others l.v.0 l.params) l.args
+    ≡ params_fit l.typing.structs.now l.typing.kinds.now l.typing.known.now l.typing.kinds.now (others l.v.0 l.fn.params) l.fn.args
 
 abbrev pub decreases-loop-p : goal.decreases-loop-p
 decreases-loop-p l = length l.params
