@@ -112,7 +112,8 @@ fn do_others_fit(typing: &Typing<'_>, v: VarId, params: &[VarId], args: &[CodeEx
 impl<'a> Typing<'a> {
     /// The type of an expression.
     fn type_of(&self, e: &CodeExpr) -> Option<ExprType>
-        ensures { result ≡ type_of self.now.structs.now self.now.kinds.now self.now.known.now e.now }
+        ensures { result
+            ≡ type_of self.now.structs.now self.now.kinds.now self.now.known.now e.now }
     {
         type_of_expr(self.structs, self.kinds, self.known, e)
     }
