@@ -176,8 +176,8 @@ slots_of c kept = record {
 -- a number whose slot keeps its words stands as it did
 state_same : (region region' : List SizeClass) (shape : Shape) (s : State) → ((x : Held) → held_in s ≡ Some x → words_of region' x.slot ≡ words_of region x.slot)
     → state_standing region' shape s ≡ state_standing region shape s
-state_same region region' shape (LiveState h) same = ap (λ (o : Option (List ℕ)). Live (record { shape = shape; key = h.key; words = words_read o; slot = h.slot })) (same h refl)
-state_same region region' shape (RevokedState h) same = ap (λ (o : Option (List ℕ)). Revoked (record { shape = shape; key = h.key; words = words_read o; slot = h.slot })) (same h refl)
+state_same region region' shape (LiveState h) same = ap (λ (o : Option (List ℕ)). Live (record { shape = shape; words = words_read o; slot = h.slot })) (same h refl)
+state_same region region' shape (RevokedState h) same = ap (λ (o : Option (List ℕ)). Revoked (record { shape = shape; words = words_read o; slot = h.slot })) (same h refl)
 state_same region region' shape ReleasedState same = refl
 
 number_same : (region region' : List SizeClass) (o : Option Number) → ((x : Held) → held_of o ≡ Some x → words_of region' x.slot ≡ words_of region x.slot)
@@ -262,8 +262,8 @@ module _ (before after : List Number) (region region' : List SizeClass) (shape :
   make_others = others_same before after region region' n is.others
       (λ m x other some. keeps x.slot (apart (held_at before) region kept (held_at after) region' n h (ap held_of is.here) is.none (λ m other. ap held_of (is.others m other)) new keeps m x some))
 
-  pub make_made : (words : List Word) → words_read (words_of region' h.slot) ≡ words → IsMade (record { numbers = after; region = region' }) (Core n) shape h.key words
-  make_made words e = (h.slot, ap (number_standing region') is.here ∙ ap (λ (ws : List Word). Live (record { shape = shape; key = h.key; words = ws; slot = h.slot })) e)
+  pub make_made : (words : List Word) → words_read (words_of region' h.slot) ≡ words → IsMade (record { numbers = after; region = region' }) (Core n) shape words
+  make_made words e = (h.slot, ap (number_standing region') is.here ∙ ap (λ (ws : List Word). Live (record { shape = shape; words = ws; slot = h.slot })) e)
 
 -- a block that is live
 state_live : (region : List SizeClass) (shape : Shape) (s : State) (block : Known) → state_standing region shape s ≡ Live block → (held : Held) × (s ≡ LiveState held)

@@ -1,7 +1,6 @@
 -- A heap: how each block stands, and the slots of the region.
 use Rattle.std.specs.Prelude.{◌≡◌, ◌≢◌, ℕ, ◌≤◌, List, length, Option, Some, None, IsSome, option_map, pos, slice_get, slice_index_or}
 use Rattle.ceal_base.specs.Block.{Block}
-use Rattle.ceal_base.specs.declared.forest.Key.{Key}
 use Rattle.ceal_base.specs.declared.kind.Shape.{Shape}
 use Rattle.ceal_base.specs.declared.word.BlockId.{BlockId}
 use Rattle.ceal_base.specs.declared.word.BlockId.TheVariants.{Input, Core}
@@ -22,10 +21,9 @@ pub record Contents : Type 0 where
   pub numbers : List Number
   pub region : List SizeClass
 
--- what is known of a block: its shape, its key, its words, and the slot that has them
+-- what is known of a block: its shape, its words, and the slot that has them
 pub record Known : Type 0 where
   pub shape : Shape
-  pub key : Key
   pub words : List Word
   pub slot : Slot
 
@@ -39,7 +37,7 @@ pub data Standing : Type 0 where
 
 -- what is known of a block, by what holds it
 abbrev pub known_in : List SizeClass → Shape → Held → Known
-known_in region shape held = record { shape = shape; key = held.key; words = read_at region held.slot; slot = held.slot }
+known_in region shape held = record { shape = shape; words = read_at region held.slot; slot = held.slot }
 
 -- how a number stands, by its state
 abbrev pub state_standing : List SizeClass → Shape → State → Standing
@@ -68,7 +66,7 @@ known (Released shape) = None
 abbrev pub block_of : Contents → BlockId → Option Known
 block_of heap b = known (standing heap b)
 
--- the block without its key and its slot
+-- the block without its slot
 abbrev pub plain_block : Known → Block
 plain_block block = record { shape = block.shape; words = block.words }
 
@@ -115,9 +113,9 @@ released (Released shape) = Released shape
 abbrev pub IsLive : Contents → BlockId → Type 0
 IsLive heap b = (block : Known) × (standing heap b ≡ Live block)
 
--- a live block of this shape, key and words
-abbrev pub IsMade : Contents → BlockId → Shape → Key → List Word → Type 0
-IsMade heap b shape key words = (slot : Slot) × (standing heap b ≡ Live (record { shape = shape; key = key; words = words; slot = slot }))
+-- a live block of this shape and words
+abbrev pub IsMade : Contents → BlockId → Shape → List Word → Type 0
+IsMade heap b shape words = (slot : Slot) × (standing heap b ≡ Live (record { shape = shape; words = words; slot = slot }))
 
 -- no number waits for another block
 abbrev pub NoneReleased : Contents → Type 0

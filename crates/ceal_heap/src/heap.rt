@@ -7,14 +7,13 @@ ghost use Rattle.ceal_heap.specs.Heap.{standing, block_of, plain_of, word_at, li
 use crate::number::Held;
 use crate::pieces::Pieces;
 use crate::table::Table;
-use ceal_base::forest::Key;
 use ceal_base::kind::Shape;
 use ceal_base::no_memory::NoMemory;
 use ceal_base::word::{BlockId, Word};
 use std::alloc::Global;
 use std::marker::Model;
 
-/// The core blocks, each with its shape, its key and its words. A live block that is revoked can be read until the
+/// The core blocks, each with its shape and its words. A live block that is revoked can be read until the
 /// revoked blocks are released; its number is given out again only then, to a block of any shape. So there are never more
 /// numbers than there were live and revoked blocks at a time. All memory is taken by `make`.
 #[derive(Drop)]
@@ -54,11 +53,11 @@ impl Heap {
 
     /// Makes a block of at most 255 words. It gets the number of a released block, or else the next number. `NoMemory`
     /// also comes where 2^32 - 1 numbers were given out and none is free.
-    pub fn make(&mut self, shape: Shape, key: Key, words: &[Word]) -> Result<NewBlock, NoMemory>
+    pub fn make(&mut self, shape: Shape, words: &[Word]) -> Result<NewBlock, NoMemory>
         requires few { length words.now ≤ 255 }
         ensures new { IfOk result (λ made. block_of self.old made.block ≡ None) }
         ensures free { IfOk result (λ made. IsFree self.old made.block made.before) }
-        ensures made { IfOk result (λ made. IsMade self.new made.block shape key words.now) }
+        ensures made { IfOk result (λ made. IsMade self.new made.block shape words.now) }
         ensures others { IfOk result (λ made. KeepsBlocks made.block self.old self.new) }
         ensures count { OnOk result (live_count self.new ≡ live_count self.old + 1) }
         ensures err { OnErr result (IsUnchanged self.old self.new) }
@@ -67,7 +66,7 @@ impl Heap {
         self.table.prepare()?;
         let slot = self.pieces.put(words)?;
         let fields = words.len() as u32;
-        let held = Held { key, slot, fields };
+        let held = Held { slot, fields };
         let given = self.table.give_out(shape, held);
         Ok(NewBlock {
             block: BlockId::Core(given.number),
@@ -94,15 +93,6 @@ impl Heap {
         ensures shape { IfSome (plain_of self.now block) (λ b. result ≡ b.shape) }
     {
         self.table.shape(number_of(block))
-    }
-
-    /// The key of a live or revoked block.
-    pub fn key(&self, block: BlockId) -> &Key
-        requires known { IsSome (block_of self.now block) }
-        ensures key { IfSome (block_of self.now block) (λ b. result.now ≡ b.key) }
-    {
-        let held = self.table.held(number_of(block));
-        &held.key
     }
 
     /// The shape of a block that can be read, and None of any other.

@@ -1,7 +1,7 @@
 //! The store of core blocks over raw words: what is live, what was revoked and can still be read, and which numbers
 //! can be given out again.
 //!
-//! Contracts see how each number stands, with shape, key, words and slot of the blocks that are live or revoked, and
+//! Contracts see how each number stands, with shape, words and slot of the blocks that are live or revoked, and
 //! the region of raw words, whose slots are exactly those of these blocks.
 //!
 //! `heap` has the calls, and `plain_words` reads blocks of a heap and of inputs alike, as the stepper of trace code does.

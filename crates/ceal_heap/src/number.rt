@@ -4,15 +4,13 @@ ghost use Rattle.std.specs.Prelude.{◌≡◌, option_copied};
 ghost use Rattle.ceal_heap.specs.Table.{held_in, revoked_state};
 ghost use Rattle.ceal_heap.specs.declared.number.State.TheVariants.{Live, Released};
 
-use ceal_base::forest::Key;
 use ceal_base::kind::Shape;
 use ceal_words::slot::Slot;
 use std::mem;
 
-/// A block that can be read: its key, the slot of its words, and how many words there are.
+/// A block that can be read: the slot of its words, and how many words there are.
 #[derive(Drop)]
 pub struct Held {
-    pub key: Key,
     pub slot: Slot,
     pub fields: u32,
 }

@@ -2,24 +2,21 @@
 use Rattle.std.proofs.Common.{◌≡◌, ◌≢◌, Bool, ℕ, inl, inr, true, false, List, [], ◌∷◌, refl, sym, ap, ◌∙◌, subst, Option, None, Some, slice_get}
 use Rattle.std.proofs.lemmas.Bool.Decides.{eqb_tells}
 use Rattle.std.proofs.lemmas.Bool.{eq-eqb, false≢true}
+use Rattle.std.specs.Prelude.{nat_eq}
 use Rattle.std.specs.Bool.{Decides}
 use Rattle.std.specs.List.{IsDistinct}
 use Rattle.std.specs.Map.{keys_of, lookup}
-use Rattle.ceal_base.specs.declared.forest.Key.{Key}
-use Rattle.ceal_base.specs.contracts.forest.KeyPartialEq.TheImpl as alloc_key
 use Rattle.ceal_order.specs.Stamps.{is_in, Distinct}
 use Rattle.ceal_order.specs.Rising.{IsRising, count_before}
 use Rattle.ceal_order.proofs.Editing.{rising_insert}
 use Rattle.ceal_order.proofs.StampLists.{in_besides, rising_once}
 use Rattle.ceal_memo.specs.declared.home.Home.{Home}
-use Rattle.ceal_memo.specs.declared.home.Home.TheVariants.{Read, Alloc}
-use Rattle.ceal_memo.specs.declared.key.ReadKey.{ReadKey}
-use Rattle.ceal_memo.specs.contracts.key.ReadKeyPartialEq.TheImpl as read_key
+use Rattle.ceal_memo.specs.declared.home.Home.TheVariants.{In}
 use Rattle.ceal_memo.specs.Homes.{home_of, HomeChange, Houses, IsKept}
 use Rattle.ceal_memo.specs.Lists.{stamps_at, with_stamp}
 use Rattle.ceal_memo.specs.Numbers.{list_at, IsEntered}
-use Rattle.ceal_memo.specs.Memo.{Entries, Follows, HasNone, ReadsChange, AllocsChange}
-use Rattle.ceal_memo.proofs.Keys.{either, read-Decides, alloc-Decides}
+use Rattle.ceal_memo.specs.Memo.{Entries, Follows, HasNone, EntriesChange}
+use Rattle.ceal_memo.proofs.Keys.{either, number-Decides}
 use Rattle.ceal_memo.proofs.Numbers.{same_value}
 use Rattle.ceal_memo.proofs.Looking.{stamps_are, list_is, found, looked, nowhere}
 
@@ -86,31 +83,25 @@ module _ (s : ℕ) (home : Home) (old new : List Home) (change : HomeChange s ho
 pub not_that : (s t : ℕ) (stamps : List ℕ) → is_in s stamps ≡ false → is_in t stamps ≡ true → t ≢ s
 not_that s t stamps none there same = false≢true (sym none ∙ subst (λ (u : ℕ). is_in u stamps ≡ true) same there)
 
--- lists of the other kind
-pub houses_still : {K : Type 0} (kind : ℕ → Home) (es : List (K × List ℕ)) (s : ℕ) (home : Home) (homes homes' : List Home) → ((n : ℕ) → is_in s (list_at es n) ≡ false)
-    → HomeChange s home homes homes' → Houses kind es homes → Houses kind es homes'
-houses_still kind es s home homes homes' none change houses n t there =
-    home_other s home homes homes' change t (not_that s t (list_at es n) (none n) there) ∙ houses n t there
-
 -- the home that a stamp has where others keep theirs
-pub houses_more : {K : Type 0} (kind : ℕ → Home) (old new : List (K × List ℕ)) (s n : ℕ) (homes homes' : List Home) → ((m : ℕ) → is_in s (list_at old m) ≡ false)
-    → HomeChange s (kind n) homes homes' → ((t : ℕ) → t ≢ s → is_in t (list_at new n) ≡ is_in t (list_at old n))
-    → ((m : ℕ) → m ≢ n → list_at new m ≡ list_at old m) → Houses kind old homes → Houses kind new homes'
-houses_more kind old new s n homes homes' none change here others houses m t there = elim (eqb_tells m n) [
+pub houses_more : (old new : List (ℕ × List ℕ)) (s n : ℕ) (homes homes' : List Home) → ((m : ℕ) → is_in s (list_at old m) ≡ false)
+    → HomeChange s (In n) homes homes' → ((t : ℕ) → t ≢ s → is_in t (list_at new n) ≡ is_in t (list_at old n))
+    → ((m : ℕ) → m ≢ n → list_at new m ≡ list_at old m) → Houses (record { lists = old }) homes → Houses (record { lists = new }) homes'
+houses_more old new s n homes homes' none change here others houses m t there = elim (eqb_tells m n) [
   | inl p ↦ elim (eqb_tells t s) [
-    | inl q ↦ ap (home_of homes') q.1 ∙ home_here s (kind n) homes homes' change ∙ ap kind (sym p.1)
+    | inl q ↦ ap (home_of homes') q.1 ∙ home_here s (In n) homes homes' change ∙ ap (λ i. In i) (sym p.1)
     | inr q ↦
         let was = sym (here t q.1) ∙ subst (λ (j : ℕ). is_in t (list_at new j) ≡ true) p.1 there in
-        home_other s (kind n) homes homes' change t q.1 ∙ houses n t was ∙ ap kind (sym p.1)
+        home_other s (In n) homes homes' change t q.1 ∙ houses n t was ∙ ap (λ i. In i) (sym p.1)
   ]
   | inr p ↦
       let was = subst (λ (l : List ℕ). is_in t l ≡ true) (others m p.1) there in
-      home_other s (kind n) homes homes' change t (not_that s t (list_at old m) (none m) was) ∙ houses m t was
+      home_other s (In n) homes homes' change t (not_that s t (list_at old m) (none m) was) ∙ houses m t was
 ]
 
--- ---- a memo
+-- ---- lists that rise
 
--- lists of one kind still rise after a stamp comes in
+-- they still do after a stamp comes in
 module _ {K : Type 0} (eq : K → K → Bool) (decides : (a b : K) → Decides (eq a b) (a ≡ b)) (order : List ℕ) (s : ℕ) (here : is_in s order ≡ true)
     (old new : List (K × List ℕ)) (unique : IsDistinct eq (keys_of old)) (rising : (k : K) → IsRising order (stamps_at eq old k)) (none : (k : K) → is_in s (stamps_at eq old k) ≡ false)
     (key : K) (n : ℕ) (entered : IsEntered eq old new key n (with_stamp order s (stamps_at eq old key))) where
@@ -150,86 +141,38 @@ module _ {K : Type 0} (eq : K → K → Bool) (decides : (a b : K) → Decides (
     | inr p ↦ rw (other_list m p.1) (once m)
   ]
 
-  pub houses_entered : (kind : ℕ → Home) (homes homes' : List Home) → HomeChange s (kind n) homes homes' → Houses kind old homes → Houses kind new homes'
-  houses_entered kind homes homes' change houses =
-      houses_more kind old new s n homes homes' (nowhere eq decides old unique s none) change
-      (λ t other. rw (more_list, entered.before) (in_besides t s (count_before order s (stamps_at eq old key)) (stamps_at eq old key) other)) other_list houses
+-- ---- a memo
 
 -- each stamp has the home that it had
-houses_same : {K : Type 0} (kind : ℕ → Home) (es : List (K × List ℕ)) (homes homes' : List Home) → ((t : ℕ) → home_of homes' t ≡ home_of homes t)
-    → Houses kind es homes → Houses kind es homes'
-houses_same kind es homes homes' same houses n t there = same t ∙ houses n t there
-
 pub kept_same : (memo : Entries) (homes homes' : List Home) → ((t : ℕ) → home_of homes' t ≡ home_of homes t) → IsKept memo homes → IsKept memo homes'
 kept_same memo homes homes' same kept = record {
-  reads = houses_same (λ n. Read n) memo.reads homes homes' same kept.reads;
-  allocs = houses_same (λ n. Alloc n) memo.allocs homes homes' same kept.allocs;
-  reads_once = kept.reads_once;
-  allocs_once = kept.allocs_once;
-  reads_unique = kept.reads_unique;
-  allocs_unique = kept.allocs_unique;
+  houses = λ n t there. same t ∙ kept.houses n t there;
+  once = kept.once;
+  unique = kept.unique;
 }
 
-module _ (order : List ℕ) (s : ℕ) (reads : List (ReadKey × List ℕ)) (allocs : List (Key × List ℕ)) (homes : List Home) (here : is_in s order ≡ true)
-    (follows : Follows order (record { reads = reads; allocs = allocs })) (none : HasNone s (record { reads = reads; allocs = allocs }))
-    (kept : IsKept (record { reads = reads; allocs = allocs }) homes) where
-  module _ (reads' : List (ReadKey × List ℕ)) (key : ReadKey) (n : ℕ) (entered : IsEntered read_key.ghosts.eq reads reads' key n (with_stamp order s (stamps_at read_key.ghosts.eq reads key))) where
-    pub read_added : ReadsChange key (with_stamp order s (stamps_at read_key.ghosts.eq reads key)) (record { reads = reads; allocs = allocs }) (record { reads = reads'; allocs = allocs })
-    read_added = record {
-      here = more_here read_key.ghosts.eq read-Decides order s here reads reads' kept.reads_unique follows.reads none.reads key n entered;
-      others = more_other read_key.ghosts.eq read-Decides order s here reads reads' kept.reads_unique follows.reads none.reads key n entered;
-      allocs = λ other. refl;
-    }
+module _ (order : List ℕ) (s : ℕ) (lists : List (ℕ × List ℕ)) (homes : List Home) (here : is_in s order ≡ true)
+    (follows : Follows order (record { lists = lists })) (none : HasNone s (record { lists = lists }))
+    (kept : IsKept (record { lists = lists }) homes) (lists' : List (ℕ × List ℕ)) (hash n : ℕ)
+    (entered : IsEntered nat_eq lists lists' hash n (with_stamp order s (stamps_at nat_eq lists hash))) where
+  pub added : EntriesChange hash (with_stamp order s (stamps_at nat_eq lists hash)) (record { lists = lists }) (record { lists = lists' })
+  added = record {
+    here = more_here nat_eq number-Decides order s here lists lists' kept.unique follows.rising none.none hash n entered;
+    others = more_other nat_eq number-Decides order s here lists lists' kept.unique follows.rising none.none hash n entered;
+  }
 
-    pub follows_read : Follows order (record { reads = reads'; allocs = allocs })
-    follows_read = record {
-      reads = rising_more read_key.ghosts.eq read-Decides order s here reads reads' kept.reads_unique follows.reads none.reads key n entered;
-      allocs = follows.allocs;
-    }
+  pub follows_more : Follows order (record { lists = lists' })
+  follows_more = record { rising = rising_more nat_eq number-Decides order s here lists lists' kept.unique follows.rising none.none hash n entered }
 
-    pub none_read : (t : ℕ) → t ≢ s → HasNone t (record { reads = reads; allocs = allocs }) → HasNone t (record { reads = reads'; allocs = allocs })
-    none_read t other absent = record {
-      reads = none_more read_key.ghosts.eq read-Decides order s here reads reads' kept.reads_unique follows.reads none.reads key n entered t other absent.reads;
-      allocs = absent.allocs;
-    }
+  pub still_none : (t : ℕ) → t ≢ s → HasNone t (record { lists = lists }) → HasNone t (record { lists = lists' })
+  still_none t other absent = record { none = none_more nat_eq number-Decides order s here lists lists' kept.unique follows.rising none.none hash n entered t other absent.none }
 
-    pub kept_read : (homes' : List Home) → HomeChange s (Read n) homes homes' → IsKept (record { reads = reads'; allocs = allocs }) homes'
-    kept_read homes' change = record {
-      reads = houses_entered read_key.ghosts.eq read-Decides order s here reads reads' kept.reads_unique follows.reads none.reads key n entered (λ m. Read m) homes homes' change kept.reads;
-      allocs = houses_still (λ m. Alloc m) allocs s (Read n) homes homes' (nowhere alloc_key.ghosts.eq alloc-Decides allocs kept.allocs_unique s none.allocs) change kept.allocs;
-      reads_once = once_more read_key.ghosts.eq read-Decides order s here reads reads' kept.reads_unique follows.reads none.reads key n entered kept.reads_once;
-      allocs_once = kept.allocs_once;
-      reads_unique = entered.unique;
-      allocs_unique = kept.allocs_unique;
-    }
-
-  module _ (allocs' : List (Key × List ℕ)) (key : Key) (n : ℕ) (entered : IsEntered alloc_key.ghosts.eq allocs allocs' key n (with_stamp order s (stamps_at alloc_key.ghosts.eq allocs key))) where
-    pub alloc_added : AllocsChange key (with_stamp order s (stamps_at alloc_key.ghosts.eq allocs key)) (record { reads = reads; allocs = allocs }) (record { reads = reads; allocs = allocs' })
-    alloc_added = record {
-      here = more_here alloc_key.ghosts.eq alloc-Decides order s here allocs allocs' kept.allocs_unique follows.allocs none.allocs key n entered;
-      others = more_other alloc_key.ghosts.eq alloc-Decides order s here allocs allocs' kept.allocs_unique follows.allocs none.allocs key n entered;
-      reads = λ other. refl;
-    }
-
-    pub follows_alloc : Follows order (record { reads = reads; allocs = allocs' })
-    follows_alloc = record {
-      reads = follows.reads;
-      allocs = rising_more alloc_key.ghosts.eq alloc-Decides order s here allocs allocs' kept.allocs_unique follows.allocs none.allocs key n entered;
-    }
-
-    pub none_alloc : (t : ℕ) → t ≢ s → HasNone t (record { reads = reads; allocs = allocs }) → HasNone t (record { reads = reads; allocs = allocs' })
-    none_alloc t other absent = record {
-      reads = absent.reads;
-      allocs = none_more alloc_key.ghosts.eq alloc-Decides order s here allocs allocs' kept.allocs_unique follows.allocs none.allocs key n entered t other absent.allocs;
-    }
-
-    pub kept_alloc : (homes' : List Home) → HomeChange s (Alloc n) homes homes' → IsKept (record { reads = reads; allocs = allocs' }) homes'
-    kept_alloc homes' change = record {
-      reads = houses_still (λ m. Read m) reads s (Alloc n) homes homes' (nowhere read_key.ghosts.eq read-Decides reads kept.reads_unique s none.reads) change kept.reads;
-      allocs = houses_entered alloc_key.ghosts.eq alloc-Decides order s here allocs allocs' kept.allocs_unique follows.allocs none.allocs key n entered (λ m. Alloc m) homes homes' change
-          kept.allocs;
-      reads_once = kept.reads_once;
-      allocs_once = once_more alloc_key.ghosts.eq alloc-Decides order s here allocs allocs' kept.allocs_unique follows.allocs none.allocs key n entered kept.allocs_once;
-      reads_unique = kept.reads_unique;
-      allocs_unique = entered.unique;
-    }
+  pub kept_more : (homes' : List Home) → HomeChange s (In n) homes homes' → IsKept (record { lists = lists' }) homes'
+  kept_more homes' change = record {
+    houses = houses_more lists lists' s n homes homes' (nowhere nat_eq number-Decides lists kept.unique s none.none) change
+        (λ t other. rw (more_list nat_eq number-Decides order s here lists lists' kept.unique follows.rising none.none hash n entered, entered.before)
+        (in_besides t s (count_before order s (stamps_at nat_eq lists hash)) (stamps_at nat_eq lists hash) other))
+        (other_list nat_eq number-Decides order s here lists lists' kept.unique follows.rising none.none hash n entered) kept.houses;
+    once = once_more nat_eq number-Decides order s here lists lists' kept.unique follows.rising none.none hash n entered kept.once;
+    unique = entered.unique;
+  }

@@ -1,9 +1,8 @@
 -- Keys are compared as what contracts see.
-use Rattle.std.proofs.Common.{◌≡◌, ◌≢◌, Bool, inl, inr, ◌⊎◌, true, false, arith, sym, ◌∙◌}
+use Rattle.std.proofs.Common.{◌≡◌, ◌≢◌, ℕ, Bool, inl, inr, ◌⊎◌, true, false, arith, sym, ◌∙◌}
 use Rattle.std.proofs.lemmas.Bool.{cases_Bool, false≢true}
+use Rattle.std.specs.Prelude.{nat_eq}
 use Rattle.std.specs.Bool.{Decides}
-use Rattle.ceal_base.specs.declared.forest.Key.{Key}
-use Rattle.ceal_base.specs.contracts.forest.KeyPartialEq.TheImpl as alloc_key
 use Rattle.ceal_base.proofs.Equality.{words-Decides}
 use Rattle.ceal_memo.specs.declared.key.ReadKey.{ReadKey}
 use Rattle.ceal_memo.specs.contracts.key.ReadKeyPartialEq.TheImpl as read_key
@@ -11,8 +10,8 @@ use Rattle.ceal_memo.specs.contracts.key.ReadKeyPartialEq.TheImpl as read_key
 pub read-Decides : (a b : ReadKey) → Decides (read_key.ghosts.eq a b) (a ≡ b)
 read-Decides a b = grind (arith, words-Decides)
 
-pub alloc-Decides : (a b : Key) → Decides (alloc_key.ghosts.eq a b) (a ≡ b)
-alloc-Decides a b = grind (arith, words-Decides)
+pub number-Decides : (a b : ℕ) → Decides (nat_eq a b) (a ≡ b)
+number-Decides a b = grind arith
 
 -- an answer, and what it says
 pub tells : {K : Type 0} (eq : K → K → Bool) → ((a b : K) → Decides (eq a b) (a ≡ b)) → (a b : K) → ((eq a b ≡ true) × (a ≡ b)) ⊎ ((eq a b ≡ false) × (a ≢ b))

@@ -4,3 +4,4 @@ pub mod Entering
 pub mod Looking
 pub mod Adding
 pub mod Taking
+pub mod Walking

@@ -1,11 +1,9 @@
 -- In which list each stamp has its entry.
-use Rattle.std.specs.Prelude.{◌≡◌, ℕ, List, true, ◌==◌, if◌then◌else◌, slice_get, unwrap_or}
+use Rattle.std.specs.Prelude.{◌≡◌, ℕ, List, true, ◌==◌, if◌then◌else◌, slice_get, unwrap_or, nat_eq}
 use Rattle.std.specs.List.{IsDistinct}
-use Rattle.ceal_base.specs.contracts.forest.KeyPartialEq.TheImpl as alloc_key
 use Rattle.ceal_order.specs.Stamps.{is_in, Distinct}
 use Rattle.ceal_memo.specs.declared.home.Home.{Home}
-use Rattle.ceal_memo.specs.declared.home.Home.TheVariants.{Nowhere, Read, Alloc}
-use Rattle.ceal_memo.specs.contracts.key.ReadKeyPartialEq.TheImpl as read_key
+use Rattle.ceal_memo.specs.declared.home.Home.TheVariants.{Nowhere, In}
 use Rattle.ceal_memo.specs.Numbers.{list_at, keys_in}
 use Rattle.ceal_memo.specs.Memo.{Entries}
 
@@ -18,14 +16,11 @@ abbrev pub HomeChange : ℕ → Home → List Home → List Home → Type 0
 HomeChange s home old new = (t : ℕ) → home_of new t ≡ (if s == t then home else home_of old t)
 
 -- each stamp of a list has that list for its home
-abbrev pub Houses : {K : Type 0} → (ℕ → Home) → List (K × List ℕ) → List Home → Type 0
-Houses kind entries homes = (n s : ℕ) → is_in s (list_at entries n) ≡ true → home_of homes s ≡ kind n
+abbrev pub Houses : Entries → List Home → Type 0
+Houses memo homes = (n s : ℕ) → is_in s (list_at memo.lists n) ≡ true → home_of homes s ≡ In n
 
--- each stamp of a memo stands once, in the list that is its home, and each key has one list
+-- each stamp of a memo stands once, in the list that is its home, and each hash has one list
 pub record IsKept (memo : Entries) (homes : List Home) : Type 0 where
-  pub reads : Houses (λ n. Read n) memo.reads homes
-  pub allocs : Houses (λ n. Alloc n) memo.allocs homes
-  pub reads_once : (n : ℕ) → Distinct (list_at memo.reads n)
-  pub allocs_once : (n : ℕ) → Distinct (list_at memo.allocs n)
-  pub reads_unique : IsDistinct read_key.ghosts.eq (keys_in memo.reads)
-  pub allocs_unique : IsDistinct alloc_key.ghosts.eq (keys_in memo.allocs)
+  pub houses : Houses memo homes
+  pub once : (n : ℕ) → Distinct (list_at memo.lists n)
+  pub unique : IsDistinct nat_eq (keys_in memo.lists)

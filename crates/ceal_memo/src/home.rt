@@ -12,12 +12,11 @@ use std::marker::Model;
 // How many homes are added beyond those that are asked for.
 const HOMES_BEYOND: usize = 63;
 
-/// In which list a stamp has its entry: the number of a list of reads, or of one of allocations.
+/// In which list a stamp has its entry, by the number of the list.
 #[derive(Clone, Copy)]
 pub enum Home {
     Nowhere,
-    Read(u32),
-    Alloc(u32),
+    In(u32),
 }
 
 /// The homes of the stamps, by their numbers. A stamp behind the end has none.

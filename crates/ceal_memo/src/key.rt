@@ -1,6 +1,6 @@
 // What a read is found again by.
 
-ghost use Rattle.std.specs.Prelude.{◌≡◌, ◌+◌, ◌*◌, ◌++◌, ◌↔◌, IsTrue, IfOk};
+ghost use Rattle.std.specs.Prelude.{◌≡◌, ◌+◌, ◌*◌, ◌++◌, ◌↔◌, IsTrue};
 ghost use Rattle.std.specs.Hash as fed;
 ghost use Rattle.std.specs.Hash.{same_Alike};
 ghost use Rattle.ceal_base.specs.Hashing.{place_number, digest_behind, mixed};
@@ -9,7 +9,6 @@ ghost use Rattle.std.proofs.Common.{arith};
 
 use ceal_base::forest::UnitId;
 use ceal_base::hashing::mixed;
-use ceal_base::no_memory::NoMemory;
 use ceal_base::word::Place;
 use ceal_base::words::Words;
 use std::hash::{Hash, Hasher};
@@ -32,20 +31,6 @@ impl ReadKey {
         self == other
     }
 
-    pub fn copy(&self) -> Result<ReadKey, NoMemory>
-        ensures equal { IfOk result (λ k. k ≡ self.now) }
-    {
-        let args = self.args.copy()?;
-        Ok(ReadKey {
-            place: self.place,
-            unit: self.unit,
-            var: self.var,
-            args,
-        })
-    }
-}
-
-impl ReadKey {
     // The place, the unit and the variable as one number. Two keys may have the same.
     fn number(&self) -> u64
         ensures { result ≡ mixed

@@ -3,9 +3,9 @@
 ghost use Rattle.std.specs.Prelude.{◌≡◌, ◌≢◌, ◌<◌, ◌^◌, ◌++◌, ◌∷◌, ℕ, List, [], false, None, length, IfSome, IfNone, IfOk, OnOk, OnErr, IsTrue};
 ghost use Rattle.std.specs.Map.{lookup};
 ghost use Rattle.indexmap.specs.IndexMap.{get, IsUnique, set_value_at};
-ghost use Rattle.ceal_order.specs.Stamps.{is_in, place, without};
-ghost use Rattle.ceal_order.specs.Rising.{IsRising, IsFirstAfter};
-ghost use Rattle.ceal_memo.specs.Lists.{stamps_at, with_stamp, NoneBetween};
+ghost use Rattle.ceal_order.specs.Stamps.{is_in, without};
+ghost use Rattle.ceal_order.specs.Rising.{IsRising};
+ghost use Rattle.ceal_memo.specs.Lists.{stamps_at, with_stamp};
 ghost use Rattle.ceal_memo.specs.Numbers.{list_at, keys_in, IsEntered, IsEmptyAt, IsFound};
 
 use crate::mixer::Mixer;
@@ -89,26 +89,12 @@ impl<K: Eq + Hash + Drop> Lists<K> {
         }
     }
 
-    /// The earliest stamp of a key after one and before another.
-    pub fn first_between(&self, order: &Order, key: &K, after: Stamp, until: Stamp) -> Option<Stamp>
-        requires after { IsTrue (is_in after.0 order.now.stamps) }
-        requires until { IsTrue (is_in until.0 order.now.stamps) }
-        requires rising { IsRising order.now.stamps (stamps_at K.eq self.now key.now) }
-        ensures first { IfSome result
-            (λ s. IsFirstAfter order.now.stamps (stamps_at K.eq self.now key.now) after.0 s.0) }
-        ensures before { IfSome result
-            (λ s. place s.0 order.now.stamps < place until.0 order.now.stamps) }
-        ensures here { IfSome result (λ s. IsTrue (is_in s.0 order.now.stamps)) }
-        ensures none { IfNone result
-            (NoneBetween order.now.stamps (stamps_at K.eq self.now key.now) after.0 until.0) }
+    /// The list of a key.
+    pub fn get(&self, key: &K) -> Option<&Rising>
+        ensures some { IfSome result (λ list. list.now ≡ stamps_at K.eq self.now key.now) }
+        ensures none { IfNone result (stamps_at K.eq self.now key.now ≡ []) }
     {
-        let list = self.by_key.get(key)?;
-        let next = list.first_after(order, after)?;
-        if order.before(next, until) {
-            Some(next)
-        } else {
-            None
-        }
+        self.by_key.get(key)
     }
 }
 

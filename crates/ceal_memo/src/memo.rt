@@ -1,31 +1,27 @@
-// The memo tables.
+// The memo table.
 
 ghost use Rattle.std.specs.Prelude.{◌≡◌, ◌≢◌, ◌<◌, ℕ, List, [], true, IfSome, IfNone, IfOk, OnOk, OnErr, IsTrue};
-ghost use Rattle.ceal_base.specs.declared.forest.Key.{Key as AllocKey};
 ghost use Rattle.ceal_order.specs.Stamps.{is_in, place, without};
 ghost use Rattle.ceal_order.specs.Rising.{IsRising, IsFirstAfter};
-ghost use Rattle.ceal_memo.specs.declared.key.ReadKey.{ReadKey as KeyOfRead};
-ghost use Rattle.ceal_memo.specs.declared.home.Home.TheVariants.{Read, Alloc};
+ghost use Rattle.ceal_memo.specs.declared.home.Home.TheVariants.{In};
 ghost use Rattle.ceal_memo.specs.Lists.{with_stamp, NoneBetween};
 ghost use Rattle.ceal_memo.specs.Numbers.{list_at, IsWithout};
-ghost use Rattle.ceal_memo.specs.Memo.{reads_of, allocs_of, Follows, HasNone, OneEntry, ReadsChange, AllocsChange};
+ghost use Rattle.ceal_memo.specs.Memo.{entries_of, entries_with, Follows, HasNone, OneEntry, EntriesChange};
 
 use crate::home::{Home, Homes};
-use crate::key::ReadKey;
 use crate::lists::Lists;
-use ceal_base::forest::Key;
+use crate::sought::{Sought, first_with_key};
 use ceal_base::no_memory::NoMemory;
 use ceal_order::order::Order;
 use ceal_order::stamp::Stamp;
 use std::alloc::Global;
 use std::marker::Model;
 
-/// Entries of recorded reads and of allocations. Contracts see, for each key, the list of the stamps of its entries.
-/// Each call that is handed an order needs that the memo follows it, and leaves it so.
+/// Entries of recorded reads and of allocations. Contracts see, for the hash of each key, the list of the stamps of the
+/// entries under it. Each call that is handed an order needs that the memo follows it, and leaves it so.
 #[derive(Drop)]
 pub struct Memo {
-    reads: Lists<ReadKey>,
-    allocs: Lists<Key>,
+    lists: Lists<u64>,
     homes: Homes,
 }
 
@@ -35,22 +31,20 @@ impl Model for Memo {
 
     ghost Value = { Entries };
 
-    ghost view = { λ m. record { reads = m.reads; allocs = m.allocs } };
+    ghost view = { λ m. record { lists = m.lists } };
 
-    ghost invariant = { λ m. IsKept (record { reads = m.reads; allocs = m.allocs }) m.homes };
+    ghost invariant = { λ m. IsKept (record { lists = m.lists }) m.homes };
 }
 
 impl Memo {
     /// A memo without entries.
     pub fn new(alloc: Global) -> Result<Memo, NoMemory>
-        ensures reads { IfOk result (λ memo. (key : KeyOfRead) → reads_of memo key ≡ []) }
-        ensures allocs { IfOk result (λ memo. (key : AllocKey) → allocs_of memo key ≡ []) }
+        ensures stamps { IfOk result (λ memo. (hash : ℕ) → entries_of memo hash ≡ []) }
         ensures none { IfOk result (λ memo. (s : ℕ) → HasNone s memo) }
         ensures follows { IfOk result (λ memo. (order : List ℕ) → Follows order memo) }
     {
         Ok(Memo {
-            reads: Lists::new(alloc),
-            allocs: Lists::new(alloc),
+            lists: Lists::new(alloc),
             homes: Homes::new(alloc),
         })
     }
@@ -62,39 +56,21 @@ impl Memo {
         let _homes = &self.homes;
     }
 
-    /// Enters a read at a stamp that has no entry.
-    pub fn add_read(&mut self, order: &Order, key: ReadKey, stamp: Stamp) -> Result<(), NoMemory>
+    /// Enters a read or an allocation under the hash of its key, at a stamp that has no entry.
+    pub fn add(&mut self, order: &Order, hash: u64, stamp: Stamp) -> Result<(), NoMemory>
         requires here { IsTrue (is_in stamp.0 order.now.stamps) }
         requires follows { Follows order.now.stamps self.old }
         requires absent { HasNone stamp.0 self.old }
         ensures ok { OnOk result
-            (ReadsChange key
-            (with_stamp order.now.stamps stamp.0 (reads_of self.old key)) self.old self.new) }
+            (EntriesChange hash
+            (with_stamp order.now.stamps stamp.0 (entries_of self.old hash)) self.old self.new) }
         ensures err { OnErr result (self.new ≡ self.old) }
         ensures others { (s : ℕ) → s ≢ stamp.0 → HasNone s self.old → HasNone s self.new }
         ensures follows { Follows order.now.stamps self.new }
     {
         self.homes.make_room(stamp)?;
-        let number = self.reads.put(order, key, stamp)?;
-        self.homes.settle(stamp, Home::Read(number));
-        Ok(())
-    }
-
-    /// Enters an allocation at a stamp that has no entry.
-    pub fn add_alloc(&mut self, order: &Order, key: Key, stamp: Stamp) -> Result<(), NoMemory>
-        requires here { IsTrue (is_in stamp.0 order.now.stamps) }
-        requires follows { Follows order.now.stamps self.old }
-        requires absent { HasNone stamp.0 self.old }
-        ensures ok { OnOk result
-            (AllocsChange key
-            (with_stamp order.now.stamps stamp.0 (allocs_of self.old key)) self.old self.new) }
-        ensures err { OnErr result (self.new ≡ self.old) }
-        ensures others { (s : ℕ) → s ≢ stamp.0 → HasNone s self.old → HasNone s self.new }
-        ensures follows { Follows order.now.stamps self.new }
-    {
-        self.homes.make_room(stamp)?;
-        let number = self.allocs.put(order, key, stamp)?;
-        self.homes.settle(stamp, Home::Alloc(number));
+        let number = self.lists.put(order, hash, stamp)?;
+        self.homes.settle(stamp, Home::In(number));
         Ok(())
     }
 
@@ -102,77 +78,52 @@ impl Memo {
     pub fn remove(&mut self, order: &Order, stamp: Stamp)
         requires here { IsTrue (is_in stamp.0 order.now.stamps) }
         requires follows { Follows order.now.stamps self.old }
-        ensures reads { (key : KeyOfRead)
-            → reads_of self.new key ≡ without stamp.0 (reads_of self.old key) }
-        ensures allocs { (key : AllocKey)
-            → allocs_of self.new key ≡ without stamp.0 (allocs_of self.old key) }
+        ensures stamps { (hash : ℕ)
+            → entries_of self.new hash ≡ without stamp.0 (entries_of self.old hash) }
         ensures gone { HasNone stamp.0 self.new }
         ensures absent { HasNone stamp.0 self.old → self.new ≡ self.old }
         ensures others { (s : ℕ) → HasNone s self.old → HasNone s self.new }
         ensures follows { (order : List ℕ) → Follows order self.old → Follows order self.new }
     {
         let home = self.homes.take(stamp);
-        forget(&mut self.reads, &mut self.allocs, order, home, stamp);
+        forget(&mut self.lists, order, home, stamp);
     }
 
-    /// The earliest read with a key after one stamp and before another.
-    pub fn first_read(
+    /// The earliest entry with a key after one stamp and before another.
+    pub fn first_between<S: Sought>(
         &self,
         order: &Order,
-        key: &ReadKey,
+        sought: &S,
         after: Stamp,
         until: Stamp,
     ) -> Option<Stamp>
         requires after { IsTrue (is_in after.0 order.now.stamps) }
         requires until { IsTrue (is_in until.0 order.now.stamps) }
         requires follows { Follows order.now.stamps self.now }
-        ensures first { IfSome result
-            (λ s. IsFirstAfter order.now.stamps (reads_of self.now key.now) after.0 s.0) }
+        requires known { (s : ℕ) → is_in s (entries_of self.now (S.hash sought.now)) ≡ true
+            → IsTrue (S.knows sought.now s) }
+        ensures first { IfSome result (λ s. IsFirstAfter order.now.stamps
+            (entries_with self.now (S.hash sought.now) (S.has_key sought.now)) after.0 s.0) }
         ensures before { IfSome result
             (λ s. place s.0 order.now.stamps < place until.0 order.now.stamps) }
         ensures here { IfSome result (λ s. IsTrue (is_in s.0 order.now.stamps)) }
-        ensures none { IfNone result
-            (NoneBetween order.now.stamps (reads_of self.now key.now) after.0 until.0) }
+        ensures none { IfNone result (NoneBetween order.now.stamps
+            (entries_with self.now (S.hash sought.now) (S.has_key sought.now)) after.0 until.0) }
     {
-        self.reads.first_between(order, key, after, until)
-    }
-
-    /// The earliest allocation with a key after one stamp and before another.
-    pub fn first_alloc(&self, order: &Order, key: &Key, after: Stamp, until: Stamp) -> Option<Stamp>
-        requires after { IsTrue (is_in after.0 order.now.stamps) }
-        requires until { IsTrue (is_in until.0 order.now.stamps) }
-        requires follows { Follows order.now.stamps self.now }
-        ensures first { IfSome result
-            (λ s. IsFirstAfter order.now.stamps (allocs_of self.now key.now) after.0 s.0) }
-        ensures before { IfSome result
-            (λ s. place s.0 order.now.stamps < place until.0 order.now.stamps) }
-        ensures here { IfSome result (λ s. IsTrue (is_in s.0 order.now.stamps)) }
-        ensures none { IfNone result
-            (NoneBetween order.now.stamps (allocs_of self.now key.now) after.0 until.0) }
-    {
-        self.allocs.first_between(order, key, after, until)
+        let list = self.lists.get(&sought.hash())?;
+        first_with_key(list, order, sought, after, until)
     }
 }
 
 // Takes a stamp out of the list that is its home.
-fn forget(
-    reads: &mut Lists<ReadKey>,
-    allocs: &mut Lists<Key>,
-    order: &Order,
-    home: Home,
-    stamp: Stamp,
-)
+fn forget(lists: &mut Lists<u64>, order: &Order, home: Home, stamp: Stamp)
     requires here { IsTrue (is_in stamp.0 order.now.stamps) }
-    requires reads { (n : ℕ) → is_in stamp.0 (list_at reads.old n) ≡ true → home ≡ Read n }
-    requires allocs { (n : ℕ) → is_in stamp.0 (list_at allocs.old n) ≡ true → home ≡ Alloc n }
-    requires reads_rise { (n : ℕ) → IsRising order.now.stamps (list_at reads.old n) }
-    requires allocs_rise { (n : ℕ) → IsRising order.now.stamps (list_at allocs.old n) }
-    ensures reads { IsWithout stamp.0 reads.old reads.new }
-    ensures allocs { IsWithout stamp.0 allocs.old allocs.new }
+    requires home { (n : ℕ) → is_in stamp.0 (list_at lists.old n) ≡ true → home ≡ In n }
+    requires rising { (n : ℕ) → IsRising order.now.stamps (list_at lists.old n) }
+    ensures { IsWithout stamp.0 lists.old lists.new }
 {
     match home {
         Home::Nowhere => (),
-        Home::Read(number) => reads.take(order, number, stamp),
-        Home::Alloc(number) => allocs.take(order, number, stamp),
+        Home::In(number) => lists.take(order, number, stamp),
     }
 }

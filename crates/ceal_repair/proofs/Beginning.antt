@@ -52,7 +52,7 @@ use Rattle.ceal_theory.specs.Cover.{known_after}
 use Rattle.ceal_theory.specs.Groves.{stepped, trace_in, bare}
 use Rattle.ceal_theory.specs.Known.{Knows, KnownItems}
 use Rattle.ceal_theory.specs.Listed.{Listed, ListedLaw}
-use Rattle.ceal_theory.specs.Repair.{State, resumed}
+use Rattle.ceal_theory.specs.Repair.{resumed}
 use Rattle.ceal_theory.specs.SliceLaws.{KnownThere, ReadyLaw}
 use Rattle.ceal_theory.specs.Slices.{Repair, with_inputs, starting}
 use Rattle.ceal_theory.specs.Turns.{Machine}

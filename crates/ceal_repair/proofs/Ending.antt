@@ -1,16 +1,14 @@
 -- A run from nothing, when its last unit is over.
-use Rattle.std.proofs.Common.{◌≡◌, ◌<◌, ◌≤◌, ℕ, if◌then◌else◌, Option, Some, None, List, [], ◌++◌, length, reverse, refl, sym, ap, subst, ◌∙◌, arith, append-nil}
+use Rattle.std.proofs.Common.{◌≡◌, ◌<◌, ◌≤◌, ℕ, Option, Some, None, List, [], ◌++◌, length, reverse, refl, sym, ap, subst, ◌∙◌, arith, append-nil}
 use Rattle.ceal_base.specs.Block.{Block}
 use Rattle.ceal_base.specs.Trace.{flat}
-use Rattle.ceal_base.specs.declared.forest.Item.TheVariants as item
 use Rattle.ceal_base.specs.declared.word.Word.{Word}
 use Rattle.ceal_code.specs.Fitting.{Fits}
 use Rattle.ceal_code.specs.Fresh.{fresh}
-use Rattle.ceal_code.specs.Init.{made}
 use Rattle.ceal_code.specs.Program.{Code}
 use Rattle.ceal_code.specs.Step.{Stack, Over, next}
 use Rattle.ceal_code.specs.Stacks.{stack_in}
-use Rattle.ceal_heap.specs.Heap.{HasSlots, ReleasesRevoked, released}
+use Rattle.ceal_heap.specs.Heap.{HasSlots, ReleasesRevoked}
 use Rattle.ceal_order.specs.declared.stamp.Stamp.{Stamp}
 use Rattle.ceal_repair.proofs.Releasing.{words-released, none-revoked, blocks-released}
 use Rattle.ceal_repair.specs.Answers.{IsFirstRun}

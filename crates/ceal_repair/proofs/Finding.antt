@@ -3,17 +3,24 @@ use Rattle.std.proofs.Common.{◌≡◌, ◌<◌, ◌≤◌, ◌+◌, ℕ, Bool,
 use Rattle.std.specs.Prelude.{option_map}
 use Rattle.ceal_order.specs.declared.stamp.Stamp.{Stamp}
 use Rattle.std.proofs.lemmas.Bool.{eq-eqb}
-use Rattle.ceal_memo.specs.Lists.{NoneBetween}
+use Rattle.ceal_base.specs.declared.forest.Key.{Key}
+use Rattle.ceal_memo.specs.Hashes.{read_hash, alloc_hash}
+use Rattle.ceal_memo.specs.Lists.{NoneBetween, those}
+use Rattle.ceal_memo.specs.Memo.{Entries, entries_of, entries_with}
+use Rattle.ceal_memo.specs.declared.key.ReadKey.{ReadKey}
 use Rattle.ceal_order.proofs.Places.{in_head, place_below, place_tells, place_head, place_tail}
 use Rattle.ceal_order.specs.Rising.{IsFirstAfter}
 use Rattle.ceal_order.specs.Stamps.{Distinct, is_in, place, head_of}
 use Rattle.ceal_repair.proofs.Changing.{before-node, behind-node}
 use Rattle.ceal_repair.proofs.Parting.{place-front, place-back, where-append, where-among}
 use Rattle.ceal_repair.proofs.Putting.{back-apart, in-back, in-front, in-parts}
-use Rattle.ceal_repair.specs.Lists.{stamps_where, before, behind, between}
-use Rattle.ceal_trace.proofs.Parts.{stamps-append, split_at}
-use Rattle.ceal_trace.specs.Nodes.{Entry, stamps_in, has_node, position}
+use Rattle.ceal_repair.proofs.Tabling.{read-key-same}
+use Rattle.ceal_repair.specs.Lists.{IsKeyed, is_so, is_hashed, allocates, recalls, allocates_at, recalls_at, stamps_where, before, behind, between}
+use Rattle.ceal_theory.proofs.Taken.{key-same}
+use Rattle.ceal_trace.proofs.Parts.{stamps-append, split_at, entry-part, not_before}
+use Rattle.ceal_trace.specs.Nodes.{Entry, stamps_in, has_node, node_at, held_by, position}
 use Rattle.ceal_trace.specs.declared.node.Node.{Node}
+use Rattle.ceal_trace.specs.declared.node.Node.TheVariants.{Root, Alloc, Write, Read, End}
 
 -- the first of a list stands before the others of it
 where-first : (f : Node → Bool) (es : List Entry) (x : ℕ) (xs : List ℕ) → Distinct (stamps_in es) → stamps_where f es ≡ x ∷ xs
@@ -220,3 +227,57 @@ module _ (f : Node → Bool) (after until : ℕ) (nodes : List Entry) (distinct 
       → IfNone o (NoneBetween (stamps_in nodes) (stamps_where f nodes) after until) → option_map (λ (s : Stamp). s.0) o ≡ head_of (stamps_where f (between after until nodes))
   found-as None a b c = sym (none-between c)
   found-as (Some s) a b c = sym (found-between s.0 a b)
+
+-- ---- nodes with a hash, and those of them with a key
+
+-- those of the nodes with a hash that have a key are all that have it, where what has the key has the hash
+module _ (has hashed : Node → Bool) (covered : (n : Node) → has n ≡ true → hashed n ≡ true) (nodes : List Entry) (distinct : Distinct (stamps_in nodes)) where
+  keyed-from : (front es : List Entry) → nodes ≡ front ++ es → those (λ s. is_so has (node_at s nodes)) (stamps_where hashed es) ≡ stamps_where has es
+  keyed-from front [] was = refl
+  keyed-from front (e ∷ es) was = go (has e.node) (hashed e.node) refl refl (keyed-from (front ++ e ∷ []) es (was ∙ sym (append_assoc front (e ∷ []) es)))
+    where
+      here : node_at e.stamp nodes ≡ Some e.node
+      here = subst (λ l. node_at e.stamp l ≡ Some e.node) (sym was) (ap held_by (entry-part e es front (not_before front e es (subst (λ l. Distinct (stamps_in l)) was distinct))))
+
+      there : is_so has (node_at e.stamp nodes) ≡ has e.node
+      there = ap (is_so has) here
+
+      go : (b c : Bool) → has e.node ≡ b → hashed e.node ≡ c → those (λ s. is_so has (node_at s nodes)) (stamps_where hashed es) ≡ stamps_where has es
+          → those (λ s. is_so has (node_at s nodes)) (stamps_where hashed (e ∷ es)) ≡ stamps_where has (e ∷ es)
+      go true true h k rest = rw (k, there, h) (ap (λ (l : List ℕ). e.stamp ∷ l) rest)
+      go true false h k rest = absurd (let no : false ≡ true = sym k ∙ covered e.node h in cc)
+      go false true h k rest = rw (k, there, h) rest
+      go false false h k rest = rw (k, h) rest
+
+  pub keyed-all : those (λ s. is_so has (node_at s nodes)) (stamps_where hashed nodes) ≡ stamps_where has nodes
+  keyed-all = keyed-from [] nodes refl
+
+-- what has the key of a read has its hash
+pub recalled-hash : (key : ReadKey) (n : Node) → recalls key n ≡ true → is_hashed (read_hash key) n ≡ true
+recalled-hash key (Read p v u x args) h =
+    eq-eqb _ _ (ap read_hash (read-key-same (record { place = p; unit = u; var = x; args = args }) key h))
+recalled-hash key (Alloc b k) h = absurd (let no : false ≡ true = h in cc)
+recalled-hash key (Write p v) h = absurd (let no : false ≡ true = h in cc)
+recalled-hash key (End r) h = absurd (let no : false ≡ true = h in cc)
+recalled-hash key Root h = absurd (let no : false ≡ true = h in cc)
+
+-- and what has the key of an allocation
+pub allocated-hash : (key : Key) (n : Node) → allocates key n ≡ true → is_hashed (alloc_hash key) n ≡ true
+allocated-hash key (Alloc b k) h = eq-eqb _ _ (ap alloc_hash (key-same k key h))
+allocated-hash key (Read p v u x args) h = absurd (let no : false ≡ true = h in cc)
+allocated-hash key (Write p v) h = absurd (let no : false ≡ true = h in cc)
+allocated-hash key (End r) h = absurd (let no : false ≡ true = h in cc)
+allocated-hash key Root h = absurd (let no : false ≡ true = h in cc)
+
+module _ (nodes : List Entry) (memo : Entries) (keyed : IsKeyed nodes memo) (distinct : Distinct (stamps_in nodes)) where
+  pub reads-listed : (key : ReadKey) → entries_with memo (read_hash key) (λ s. recalls_at key s nodes) ≡ stamps_where (recalls key) nodes
+  reads-listed key =
+      ap (those (λ s. recalls_at key s nodes)) (keyed.stamps (read_hash key)) ∙ keyed-all (recalls key) (is_hashed (read_hash key)) (recalled-hash key) nodes distinct
+
+  pub allocs-listed : (key : Key) → entries_with memo (alloc_hash key) (λ s. allocates_at key s nodes) ≡ stamps_where (allocates key) nodes
+  allocs-listed key =
+      ap (those (λ s. allocates_at key s nodes)) (keyed.stamps (alloc_hash key)) ∙ keyed-all (allocates key) (is_hashed (alloc_hash key)) (allocated-hash key) nodes distinct
+
+  -- each entry is that of a node
+  pub entries-there : (hash s : ℕ) → is_in s (entries_of memo hash) ≡ true → has_node s nodes ≡ true
+  entries-there hash s i = where-among (is_hashed hash) nodes s (subst (λ (l : List ℕ). is_in s l ≡ true) (keyed.stamps hash) i)

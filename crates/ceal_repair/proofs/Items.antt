@@ -7,12 +7,11 @@ use Rattle.ceal_base.specs.Operators.{same_place}
 use Rattle.ceal_base.specs.declared.forest.Item.{Item}
 use Rattle.ceal_base.specs.declared.forest.Item.TheVariants as item
 use Rattle.ceal_base.specs.declared.forest.UnitId.{UnitId}
-use Rattle.ceal_base.specs.declared.word.BlockId.{BlockId}
 use Rattle.ceal_base.specs.declared.word.BlockId.TheVariants.{Input, Core}
 use Rattle.ceal_base.specs.declared.word.Place.{Place}
 use Rattle.ceal_base.specs.declared.word.Word.{Word}
 use Rattle.ceal_code.specs.Known.{Subset}
-use Rattle.ceal_code.specs.Replay.{Store, In, here, there, KnownBlock, stored}
+use Rattle.ceal_code.specs.Replay.{Store, In, here, there, stored}
 use Rattle.ceal_order.specs.Stamps.{NotIn, Distinct, is_in}
 use Rattle.ceal_order.specs.declared.stamp.Stamp.{Stamp}
 use Rattle.ceal_code.specs.Stacks.{stack_in}

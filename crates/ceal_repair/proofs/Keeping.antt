@@ -5,7 +5,8 @@ use Rattle.ceal_base.specs.declared.word.BlockId.{BlockId}
 use Rattle.ceal_base.specs.declared.word.Place.{Place}
 use Rattle.ceal_base.specs.declared.word.Word.{Word}
 use Rattle.ceal_memo.specs.Lists.{with_stamp}
-use Rattle.ceal_memo.specs.Memo.{Entries, HasNone, ReadsChange, AllocsChange, reads_of, allocs_of, Follows as Memo_follows}
+use Rattle.ceal_memo.specs.Hashes.{read_hash, alloc_hash}
+use Rattle.ceal_memo.specs.Memo.{Entries, HasNone, EntriesChange, entries_of, Follows as Memo_follows}
 use Rattle.ceal_memo.specs.declared.key.ReadKey.{ReadKey}
 use Rattle.ceal_mods.specs.Cell.{with_write, with_read}
 use Rattle.ceal_mods.specs.Mods.{Contents, cell_of, Changes, IsFree, Follows as Mods_follow}
@@ -16,7 +17,7 @@ use Rattle.ceal_queue.specs.Queue.{Waiting, Follows as Queue_follows}
 use Rattle.ceal_repair.proofs.Changing.{PutAfter, put-after, read-has, are-reads, still-reads, covers-base, is-queued}
 use Rattle.ceal_repair.proofs.Queueing.{quiet-put, read-put}
 use Rattle.ceal_repair.proofs.Steps.{alloc-quiet, end-quiet, tabled-with, keyed-with, steps-covered, write-put-covered}
-use Rattle.ceal_repair.proofs.Tabling.{alloc-no-write, end-no-write, other-place, tabled-in, keyed-in, tabled-write, tabled-read, keyed-alloc, keyed-read, free-of, none-of}
+use Rattle.ceal_repair.proofs.Tabling.{alloc-no-write, end-no-write, other-place, tabled-in, keyed-in, tabled-write, tabled-read, keyed-entered, free-of, none-of}
 use Rattle.ceal_repair.specs.Covered.{queue_of, Covers, contents_after}
 use Rattle.ceal_repair.specs.Kept.{InStep, Kept, AreReads, IsAwake, base_in}
 use Rattle.ceal_repair.specs.Lists.{IsTabled, IsKeyed, writes_in, up_to}
@@ -63,15 +64,15 @@ module _ (old : Tables) (k : Kept old) (after s : ℕ) (n : Node) (tr : Timeline
   still-queued = still-reads old.trace.nodes tr.nodes old.stale.stamps ins.others.entries k.step.queued
 
   -- an allocation
-  pub alloc-kept : (b : BlockId) (key : Key) → n ≡ Alloc b key → (memo : Entries) → AllocsChange key (with_stamp (stamps_in tr.nodes) s (allocs_of old.memo key)) old.memo memo
+  pub alloc-kept : (b : BlockId) (key : Key) → n ≡ Alloc b key → (memo : Entries) → EntriesChange (alloc_hash key) (with_stamp (stamps_in tr.nodes) s (entries_of old.memo (alloc_hash key))) old.memo memo
       → Mods_follow (stamps_in tr.nodes) old.mods → Memo_follows (stamps_in tr.nodes) memo → Queue_follows (stamps_in tr.nodes) old.stale → Kept (tables tr old.mods old.stale memo)
   alloc-kept b key e memo change mf ef qf = record {
     step = record {
       whole = whole;
       closed = closed;
       tabled = subst (λ (l : List Entry). IsTabled l old.mods) (sym putting.is) (tabled-in putting.front (new_entry s n) putting.back old.mods (λ p. rw e refl) (λ p. alloc-no-write p s n (writes_in p putting.back) b key e) tabled-old);
-      keyed = subst (λ (l : List Entry). IsKeyed l memo) (sym putting.is) (keyed-alloc putting.front (new_entry s n) putting.back parted b key e old.memo memo keyed-old
-          (subst (λ (l : List Entry). AllocsChange key (with_stamp (stamps_in l) s (allocs_of old.memo key)) old.memo memo) putting.is change));
+      keyed = subst (λ (l : List Entry). IsKeyed l memo) (sym putting.is) (keyed-entered putting.front (new_entry s n) putting.back parted (alloc_hash key) (λ h. rw e refl) old.memo memo keyed-old
+          (subst (λ (l : List Entry). EntriesChange (alloc_hash key) (with_stamp (stamps_in l) s (entries_of old.memo (alloc_hash key))) old.memo memo) putting.is change));
       queued = still-queued;
       mods = mf;
       memo = ef;
@@ -89,7 +90,7 @@ module _ (old : Tables) (k : Kept old) (after s : ℕ) (n : Node) (tr : Timeline
       whole = whole;
       closed = closed;
       tabled = subst (λ (l : List Entry). IsTabled l old.mods) (sym putting.is) (tabled-in putting.front (new_entry s n) putting.back old.mods (λ p. rw e refl) (λ p. end-no-write p s n (writes_in p putting.back) r e) tabled-old);
-      keyed = subst (λ (l : List Entry). IsKeyed l old.memo) (sym putting.is) (keyed-in putting.front (new_entry s n) putting.back old.memo (λ p. rw e refl) (λ p. rw e refl) keyed-old);
+      keyed = subst (λ (l : List Entry). IsKeyed l old.memo) (sym putting.is) (keyed-in putting.front (new_entry s n) putting.back old.memo (λ h. rw e refl) keyed-old);
       queued = still-queued;
       mods = mf;
       memo = ef;
@@ -122,7 +123,7 @@ module _ (old : Tables) (k : Kept old) (after s : ℕ) (n : Node) (tr : Timeline
       whole = whole;
       closed = closed;
       tabled = write-tabled p v e mods change;
-      keyed = subst (λ (l : List Entry). IsKeyed l old.memo) (sym putting.is) (keyed-in putting.front (new_entry s n) putting.back old.memo (λ p. rw e refl) (λ p. rw e refl) keyed-old);
+      keyed = subst (λ (l : List Entry). IsKeyed l old.memo) (sym putting.is) (keyed-in putting.front (new_entry s n) putting.back old.memo (λ h. rw e refl) keyed-old);
       queued = are-reads p tr.nodes mods old.stale.stamps stale.stamps whole.order.distinct (write-tabled p v e mods change) still-queued only;
       mods = mf;
       memo = ef;
@@ -135,7 +136,7 @@ module _ (old : Tables) (k : Kept old) (after s : ℕ) (n : Node) (tr : Timeline
   -- a read with what its place holds there
   pub read-kept : (key : ReadKey) (v : Word) → n ≡ Read key.place v key.unit key.var key.args → (mods : Contents) (memo : Entries)
       → Changes old.mods mods key.place (with_read (stamps_in tr.nodes) s (cell_of old.mods key.place))
-      → ReadsChange key (with_stamp (stamps_in tr.nodes) s (reads_of old.memo key)) old.memo memo
+      → EntriesChange (read_hash key) (with_stamp (stamps_in tr.nodes) s (entries_of old.memo (read_hash key))) old.memo memo
       → v ≡ contents_after (base_in old.mods) (up_to after old.trace.nodes) key.place
       → Mods_follow (stamps_in tr.nodes) mods → Memo_follows (stamps_in tr.nodes) memo → Queue_follows (stamps_in tr.nodes) old.stale → Kept (tables tr mods old.stale memo)
   read-kept key v e mods memo change entry value mf ef qf = record {
@@ -144,8 +145,8 @@ module _ (old : Tables) (k : Kept old) (after s : ℕ) (n : Node) (tr : Timeline
       closed = closed;
       tabled = subst (λ (l : List Entry). IsTabled l mods) (sym putting.is) (tabled-read putting.front (new_entry s n) putting.back parted key.place v key.unit key.var key.args e old.mods mods tabled-old
           (subst (λ (l : List Entry). Changes old.mods mods key.place (with_read (stamps_in l) s (cell_of old.mods key.place))) putting.is change));
-      keyed = subst (λ (l : List Entry). IsKeyed l memo) (sym putting.is) (keyed-read putting.front (new_entry s n) putting.back parted key v e old.memo memo keyed-old
-          (subst (λ (l : List Entry). ReadsChange key (with_stamp (stamps_in l) s (reads_of old.memo key)) old.memo memo) putting.is entry));
+      keyed = subst (λ (l : List Entry). IsKeyed l memo) (sym putting.is) (keyed-entered putting.front (new_entry s n) putting.back parted (read_hash key) (λ h. rw e refl) old.memo memo keyed-old
+          (subst (λ (l : List Entry). EntriesChange (read_hash key) (with_stamp (stamps_in l) s (entries_of old.memo (read_hash key))) old.memo memo) putting.is entry));
       queued = still-queued;
       mods = mf;
       memo = ef;
@@ -195,7 +196,7 @@ steps-kept old k s n tr here is same others whole closed = go (Rattle.ceal_trace
             whole = whole;
             closed = closed;
             tabled = subst (λ (l : List Entry). IsTabled l old.mods) (sym at) (tabled-with x.0 x.1 (steps_set n x.1) x.2 refl old.mods (λ p. refl) (λ p. refl) (subst (λ (l : List Entry). IsTabled l old.mods) x.3 k.step.tabled));
-            keyed = subst (λ (l : List Entry). IsKeyed l old.memo) (sym at) (keyed-with x.0 x.1 (steps_set n x.1) x.2 refl old.memo (λ p. refl) (λ p. refl) (subst (λ (l : List Entry). IsKeyed l old.memo) x.3 k.step.keyed));
+            keyed = subst (λ (l : List Entry). IsKeyed l old.memo) (sym at) (keyed-with x.0 x.1 (steps_set n x.1) x.2 refl old.memo (λ h. refl) (subst (λ (l : List Entry). IsKeyed l old.memo) x.3 k.step.keyed));
             queued = λ z i. ap is_read (node-same z) ∙ k.step.queued z i;
             mods = subst (λ (l : List ℕ). Mods_follow l old.mods) (sym others.stamps) k.step.mods;
             memo = subst (λ (l : List ℕ). Memo_follows l old.memo) (sym others.stamps) k.step.memo;

@@ -1,11 +1,9 @@
 -- What a place holds after a node, and the first tables.
 use Rattle.std.proofs.Common.{◌≡◌, ℕ, inl, inr, true, false, List, [], ◌∷◌, ◌++◌, refl, sym, ap, ◌∙◌, Some, None}
 use Rattle.std.proofs.lemmas.Bool.Decides.{eqb_tells}
-use Rattle.ceal_base.specs.declared.forest.Key.{Key}
 use Rattle.ceal_base.specs.declared.word.Place.{Place}
 use Rattle.ceal_code.proofs.Same.{some-same, none-some}
-use Rattle.ceal_memo.specs.Memo.{reads_of, allocs_of, Follows as Memo_follows}
-use Rattle.ceal_memo.specs.declared.key.ReadKey.{ReadKey}
+use Rattle.ceal_memo.specs.Memo.{entries_of, Follows as Memo_follows}
 use Rattle.ceal_mods.specs.Cell.{value_before, latest_value}
 use Rattle.ceal_mods.specs.Mods.{cell_of, IsUntouched, Follows as Mods_follow}
 use Rattle.ceal_mods.specs.Writes.{Write as WriteOf, last_of}
@@ -59,14 +57,14 @@ value-next old k p s n next =
 
 -- the tables of the root alone
 pub first-kept : (t : Tables) → t.trace.nodes ≡ new_entry 0 Root ∷ [] → IsTrace t.trace → NoLooseEnd t.trace.nodes → IsUntouched t.mods → t.stale.stamps ≡ []
-    → ((key : ReadKey) → reads_of t.memo key ≡ []) → ((key : Key) → allocs_of t.memo key ≡ [])
+    → ((hash : ℕ) → entries_of t.memo hash ≡ [])
     → Mods_follow (stamps_in t.trace.nodes) t.mods → Memo_follows (stamps_in t.trace.nodes) t.memo → Queue_follows (stamps_in t.trace.nodes) t.stale → Kept t
-first-kept t nodes whole closed bare none reads allocs mf ef qf = record {
+first-kept t nodes whole closed bare none entries mf ef qf = record {
   step = record {
     whole = whole;
     closed = closed;
     tabled = record { writes = λ p. rw nodes (ap (λ (c : Cell). c.writes) (bare p)); reads = λ p. rw nodes (ap (λ (c : Cell). c.reads) (bare p)) };
-    keyed = record { allocs = λ key. rw nodes (allocs key); reads = λ key. rw nodes (reads key) };
+    keyed = record { stamps = λ hash. rw nodes (entries hash) };
     queued = λ s i. absurd (let no : false ≡ true = rw none at i in cc);
     mods = mf;
     memo = ef;

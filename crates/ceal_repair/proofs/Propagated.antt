@@ -1,5 +1,5 @@
 -- What a run that is up to date comes to.
-use Rattle.std.proofs.Common.{◌≡◌, ℕ, ◌<◌, ◌≤◌, Option, Some, None, refl, List, [], ◌+◌, length, sym, ap, ◌∙◌, append-nil, arith}
+use Rattle.std.proofs.Common.{◌≡◌, ℕ, ◌<◌, ◌≤◌, Option, Some, None, refl, List, [], length, sym, ap, ◌∙◌, append-nil, arith}
 use Rattle.ceal_base.proofs.TraceLemmas.{steps-flat}
 use Rattle.ceal_base.specs.Block.{Block}
 use Rattle.ceal_base.specs.Trace.{Trace, flat, blocks_of, steps_of, steps_in}
@@ -31,7 +31,7 @@ use Rattle.ceal_theory.specs.Cover.{known_after}
 use Rattle.ceal_theory.specs.Known.{KnownItems}
 use Rattle.ceal_theory.specs.Laws.{Edited}
 use Rattle.ceal_theory.specs.SliceLaws.{Ended}
-use Rattle.ceal_theory.specs.Slices.{Repair, Slices, sliced, beginning, goes_on, repair_at, with_inputs}
+use Rattle.ceal_theory.specs.Slices.{Repair, Slices, beginning, goes_on, repair_at, with_inputs}
 use Rattle.ceal_trace.specs.Items.{forest_of}
 
 -- ---- of any repair that turns began from

@@ -65,11 +65,11 @@ first-bases structs inputs heap old new empty fresh of_inputs others = record {
     go i field false h = of_inputs i field (grind (arith, h))
 
 -- a block that is made is a core block, with the words of its key
-pub made-core : (heap : Contents) (id : BlockId) (shape : Shape) (key : Key) (words : List Word) → IsMade heap id shape key words → (b : ℕ) × (id ≡ Core b)
-made-core heap (Core b) shape key words m = (b, refl)
-made-core heap (Input i) shape key words m = let clash = m.1 in cc
+pub made-core : (heap : Contents) (id : BlockId) (shape : Shape) (words : List Word) → IsMade heap id shape words → (b : ℕ) × (id ≡ Core b)
+made-core heap (Core b) shape words m = (b, refl)
+made-core heap (Input i) shape words m = let clash = m.1 in cc
 
-pub made-words : (code : Code) (x : Plain) (heap : Contents) (id : BlockId) (shape : Shape) (key : Key) (words : List Word) → IsMade heap id shape key words
+pub made-words : (code : Code) (x : Plain) (heap : Contents) (id : BlockId) (shape : Shape) (key : Key) (words : List Word) → IsMade heap id shape words
     → shape ≡ shape_of code key → words ≡ (made code x key).words → plain_of heap id ≡ Some (made code x key)
 made-words code x heap id shape key words m s w =
     rw m.1 (ap₂ (λ sh ws. Some (record { shape = sh; words = ws })) (s ∙ sym (made-shape code x key)) w)
@@ -88,8 +88,8 @@ free-bare structs heap id (Some shape) field free = rw free (go (is_cell (field_
     go true = refl
     go false = refl
 
-module _ (structs : List StructInfo) (inputs : List Block) (heap heap' : Contents) (mods mods' : Mods) (id : BlockId) (shape : Shape) (key : Key) (words : List Word) where
-  pub made-bases : (before : Option Shape) → IsFree heap id before → IsMade heap' id shape key words → KeepsBlocks id heap heap'
+module _ (structs : List StructInfo) (inputs : List Block) (heap heap' : Contents) (mods mods' : Mods) (id : BlockId) (shape : Shape) (words : List Word) where
+  pub made-bases : (before : Option Shape) → IsFree heap id before → IsMade heap' id shape words → KeepsBlocks id heap heap'
       → ((p : Place) → same_block p.block id ≡ true → base_in mods' p ≡ base_of structs shape [] p.field (cleared structs before p.field (base_in mods p)))
       → ((p : Place) → same_block p.block id ≡ false → base_in mods' p ≡ base_in mods p)
       → HasBases structs inputs heap mods → HasBases structs inputs heap' mods'
@@ -114,5 +114,5 @@ module _ (structs : List StructInfo) (inputs : List Block) (heap heap' : Content
 
       of_inputs : (i field : ℕ) → base_in mods' (record { block = Input i; field = field }) ≡ content_in structs (slice_get inputs i) field
       of_inputs i field =
-          let core = made-core heap' id shape key words new_one in
+          let core = made-core heap' id shape words new_one in
           others (record { block = Input i; field = field }) (rw core.1 refl) ∙ h.of_inputs i field

@@ -1,17 +1,14 @@
 -- Slices from a run that stands for a repair.
-use Rattle.std.proofs.Common.{◌≡◌, ◌≢◌, ℕ, zero, suc, ◌+◌, ◌≤◌, ◌<◌, Option, Some, None, List, [], ◌∷◌, ◌++◌, length, inl, inr, ◌⊎◌, refl, sym, ap, ◌∙◌, subst, arith}
+use Rattle.std.proofs.Common.{◌≡◌, ◌≢◌, ℕ, zero, suc, ◌≤◌, ◌<◌, Option, Some, None, List, [], ◌∷◌, inl, inr, ◌⊎◌, refl, sym, ap, ◌∙◌, subst, arith}
 use Rattle.std.proofs.lemmas.Bool.{cases_order}
 use Rattle.std.proofs.lemmas.Bool.Decides.{eqb_tells}
 use Rattle.std.specs.Prelude.{IsSome}
 use Rattle.ceal_base.specs.Block.{Block}
-use Rattle.ceal_base.specs.Trace.{steps_of}
 use Rattle.ceal_base.specs.declared.word.BlockId.TheVariants.{Core}
 use Rattle.ceal_base.specs.declared.word.Word.{Word}
-use Rattle.ceal_code.proofs.Same.{none-some}
-use Rattle.ceal_code.specs.Fitting.{Fits}
 use Rattle.ceal_code.specs.Program.{Code}
 use Rattle.ceal_code.specs.Replay.{In, here, there, IsHonest, count}
-use Rattle.ceal_heap.specs.Heap.{block_of, plain_block, plain_of, Known}
+use Rattle.ceal_heap.specs.Heap.{block_of, plain_block, Known}
 use Rattle.ceal_repair.proofs.Continuing.{GoesOn, goes-on}
 use Rattle.ceal_repair.specs.Propagation.{HasCome, IsUpToDate, IsUnderWay, IsSpent, IsWithin, IsLess}
 use Rattle.ceal_repair.proofs.KeptRun.{same-running}
@@ -21,13 +18,12 @@ use Rattle.ceal_repair.specs.Slicing.{IsPartRun, IsSliceOf, IsConcluded, IsSlice
 use Rattle.ceal_repair.specs.declared.repair.Repair.{Repair as RepairInCode}
 use Rattle.ceal_repair.specs.declared.slice.Sliced.{Sliced}
 use Rattle.ceal_repair.specs.declared.slice.Sliced.TheVariants.{More, Done, Spent, OutOfFuel}
-use Rattle.ceal_repair.specs.Turning.{Since, turns_more, later, NamesOff, IsOrigin, StandsFor, TurnedSoFar}
+use Rattle.ceal_repair.specs.Turning.{Since, turns_more, later, NamesOff, IsOrigin, StandsFor}
 use Rattle.ceal_repair.specs.declared.running.Running.{Running}
 use Rattle.ceal_theory.specs.Carried.{counted_anew}
 use Rattle.ceal_theory.proofs.SliceLaws.{other-names-law, slices-law, turns-law}
-use Rattle.ceal_theory.specs.Repair.{Single}
 use Rattle.ceal_theory.specs.SliceLaws.{Turned, Turns}
-use Rattle.ceal_theory.specs.Slices.{Repair, Slices, sliced, repair_at, goes_on, with_inputs}
+use Rattle.ceal_theory.specs.Slices.{Repair, Slices, repair_at, goes_on, with_inputs}
 
 in-count : (b : ℕ) (bs : List ℕ) → In b bs → 1 ≤ count b bs
 in-count b [] i = elim i [ ]

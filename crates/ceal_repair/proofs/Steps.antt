@@ -8,7 +8,6 @@ use Rattle.ceal_base.specs.declared.word.Place.{Place}
 use Rattle.ceal_base.specs.declared.word.Word.{Word}
 use Rattle.ceal_code.specs.Replay.{Store}
 use Rattle.ceal_memo.specs.Memo.{Entries}
-use Rattle.ceal_memo.specs.declared.key.ReadKey.{ReadKey}
 use Rattle.ceal_mods.specs.Mods.{Contents, cell_of}
 use Rattle.ceal_mods.specs.Writes.{Write as WriteOf}
 use Rattle.ceal_order.proofs.Places.{place_tells}
@@ -21,7 +20,7 @@ use Rattle.ceal_repair.proofs.Putting.{own-apart, own-gone, in-front, in-back}
 use Rattle.ceal_repair.proofs.Queueing.{IsQuiet, covers-part, covers-join, write-added, write-removed, write-idle, read-removed, read-settled, read-cut}
 use Rattle.ceal_repair.specs.Covered.{Queue, Seen, queue_of, and_one, Covers, contents_after}
 use Rattle.ceal_repair.specs.Kept.{IsAwake, base_in}
-use Rattle.ceal_repair.specs.Lists.{IsTabled, IsKeyed, reads_at, allocates, recalls, write_of, writes_in, stamps_where}
+use Rattle.ceal_repair.specs.Lists.{IsTabled, IsKeyed, is_hashed, reads_at, write_of, writes_in, stamps_where}
 use Rattle.ceal_trace.proofs.Parts.{stamps-append}
 use Rattle.ceal_trace.specs.Nodes.{Entry, stamps_in, has_node, position, new_entry, steps_set, Inserted}
 use Rattle.ceal_trace.specs.declared.node.Node.{Node}
@@ -78,12 +77,8 @@ module _ (front : List Entry) (e e' : Entry) (back : List Entry) (stamp : e'.sta
     reads = λ p. t.reads p ∙ sym (where-with (reads_at p) (r p));
   }
 
-  pub keyed-with : (memo : Entries) → ((key : Key) → allocates key e'.node ≡ allocates key e.node) → ((key : ReadKey) → recalls key e'.node ≡ recalls key e.node)
-      → IsKeyed (front ++ e ∷ back) memo → IsKeyed (front ++ e' ∷ back) memo
-  keyed-with memo a r t = record {
-    allocs = λ key. t.allocs key ∙ sym (where-with (allocates key) (a key));
-    reads = λ key. t.reads key ∙ sym (where-with (recalls key) (r key));
-  }
+  pub keyed-with : (memo : Entries) → ((hash : ℕ) → is_hashed hash e'.node ≡ is_hashed hash e.node) → IsKeyed (front ++ e ∷ back) memo → IsKeyed (front ++ e' ∷ back) memo
+  keyed-with memo h t = record { stamps = λ hash. t.stamps hash ∙ sym (where-with (is_hashed hash) (h hash)) }
 
 pub steps-covered : (q : Queue) (s : Store) (g : Seen) (front : List Entry) (e : Entry) (back : List Entry) (n : ℕ) → Covers q s g (front ++ e ∷ back) → Covers q s g (front ++ steps_set n e ∷ back)
 steps-covered q s g front e back n c =

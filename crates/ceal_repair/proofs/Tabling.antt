@@ -1,5 +1,7 @@
 -- The lists of the modifiables and of the memo stay those of the nodes.
-use Rattle.std.proofs.Common.{◌≡◌, ◌≢◌, ℕ, Bool, true, false, ◌==◌, ◌&&◌, List, [], ◌∷◌, ◌++◌, insert, refl, sym, ap, subst, ◌∙◌}
+use Rattle.std.proofs.Common.{◌≡◌, ◌≢◌, ℕ, Bool, inl, inr, true, false, ◌==◌, ◌&&◌, List, [], ◌∷◌, ◌++◌, insert, refl, sym, ap, subst, ◌∙◌}
+use Rattle.std.proofs.lemmas.Bool.{eq-eqb}
+use Rattle.std.proofs.lemmas.Bool.Decides.{eqb_tells}
 use Rattle.ceal_base.specs.Operators.{same_place}
 use Rattle.ceal_base.specs.declared.forest.Key.{Key}
 use Rattle.ceal_base.specs.declared.forest.Key.TheVariants.{Init, ModInt, ModPtr}
@@ -9,7 +11,7 @@ use Rattle.ceal_base.specs.declared.word.Place.{Place}
 use Rattle.ceal_base.specs.declared.word.Word.{Word}
 use Rattle.ceal_code.proofs.Same.{both, both-true, nat-same, nat-refl, place-refl, place-same, word-refl}
 use Rattle.ceal_memo.specs.Lists.{with_stamp}
-use Rattle.ceal_memo.specs.Memo.{Entries, HasNone, ReadsChange, AllocsChange, reads_of, allocs_of}
+use Rattle.ceal_memo.specs.Memo.{Entries, HasNone, EntriesChange, entries_of}
 use Rattle.ceal_memo.specs.declared.key.ReadKey.{ReadKey}
 use Rattle.ceal_mods.specs.Cell.{with_write, without_write, with_read, without_read}
 use Rattle.ceal_mods.specs.Mods.{Contents, cell_of, Changes, IsFree}
@@ -22,8 +24,8 @@ use Rattle.ceal_order.specs.declared.stamp.Stamp.{Stamp}
 use Rattle.ceal_repair.proofs.Covering.{place-sym}
 use Rattle.ceal_repair.proofs.Parting.{writes-append, where-append, writes-among, where-among, where-skip, writes-skip, out-write, false-of}
 use Rattle.ceal_repair.proofs.Putting.{write-put, where-put, where-cut, own-apart, in-back, stamps_of-append}
-use Rattle.ceal_repair.specs.Lists.{IsTabled, IsKeyed, reads_at, allocates, recalls, write_of, writes_in, stamps_where}
-use Rattle.ceal_theory.proofs.Taken.{words-same, key-same, unit-same}
+use Rattle.ceal_repair.specs.Lists.{IsTabled, IsKeyed, is_hashed, reads_at, write_of, writes_in, stamps_where}
+use Rattle.ceal_theory.proofs.Taken.{words-same, unit-same}
 use Rattle.ceal_theory.specs.Levels.{same_read}
 use Rattle.ceal_theory.specs.Take.{same_key, same_words}
 use Rattle.ceal_trace.specs.Nodes.{Entry, stamps_in, has_node}
@@ -39,12 +41,12 @@ words-refl : (ws : List Word) → same_words ws ws ≡ true
 words-refl [] = refl
 words-refl (w ∷ ws) = both-true _ _ (word-refl w) (words-refl ws)
 
-key-refl : (k : Key) → same_key k k ≡ true
+pub key-refl : (k : Key) → same_key k k ≡ true
 key-refl (Init f ws) = both-true _ _ (nat-refl f) (words-refl ws)
 key-refl ModInt = refl
 key-refl (ModPtr s) = nat-refl s
 
-abbrev same_as : ReadKey → ReadKey → Bool
+abbrev pub same_as : ReadKey → ReadKey → Bool
 same_as a b = same_read a.place a.unit a.var a.args b.place b.unit b.var b.args
 
 abbrev key-of : Place → UnitId → ℕ → List Word → ReadKey
@@ -53,14 +55,14 @@ key-of p u x ws = record { place = p; unit = u; var = x; args = ws }
 read-key : (p q : Place) (u w : UnitId) (x y : ℕ) (vs ws : List Word) → p ≡ q → u ≡ w → x ≡ y → vs ≡ ws → key-of p u x vs ≡ key-of q w y ws
 read-key p q u w x y vs ws e f g h = rw (e, f, g, h) refl
 
-read-key-same : (a b : ReadKey) → same_as a b ≡ true → a ≡ b
+pub read-key-same : (a b : ReadKey) → same_as a b ≡ true → a ≡ b
 read-key-same a b h =
     let m = both ((same_place a.place b.place && a.unit.0 == b.unit.0) && a.var == b.var) (same_words a.args b.args) h in
     let l = both (same_place a.place b.place && a.unit.0 == b.unit.0) (a.var == b.var) m.0 in
     let k = both (same_place a.place b.place) (a.unit.0 == b.unit.0) l.0 in
     read-key a.place b.place a.unit b.unit a.var b.var a.args b.args (place-same a.place b.place k.0) (unit-same a.unit b.unit k.1) (nat-same a.var b.var l.1) (words-same a.args b.args m.1)
 
-read-key-refl : (a : ReadKey) → same_as a a ≡ true
+pub read-key-refl : (a : ReadKey) → same_as a a ≡ true
 read-key-refl a = both-true ((same_place a.place a.place && a.unit.0 == a.unit.0) && a.var == a.var) (same_words a.args a.args)
     (both-true (same_place a.place a.place && a.unit.0 == a.unit.0) (a.var == a.var) (both-true (same_place a.place a.place) (a.unit.0 == a.unit.0) (place-refl a.place) (nat-refl a.unit.0)) (nat-refl a.var)) (words-refl a.args)
 
@@ -90,19 +92,11 @@ module _ (front : List Entry) (e : Entry) (back : List Entry) where
   }
 
   -- and one that is no read and no allocation in the memo
-  pub keyed-in : (memo : Entries) → ((key : Key) → allocates key e.node ≡ false) → ((key : ReadKey) → recalls key e.node ≡ false)
-      → IsKeyed (front ++ back) memo → IsKeyed (front ++ e ∷ back) memo
-  keyed-in memo a r t = record {
-    allocs = λ key. t.allocs key ∙ sym (where-skip (allocates key) front e back (a key));
-    reads = λ key. t.reads key ∙ sym (where-skip (recalls key) front e back (r key));
-  }
+  pub keyed-in : (memo : Entries) → ((hash : ℕ) → is_hashed hash e.node ≡ false) → IsKeyed (front ++ back) memo → IsKeyed (front ++ e ∷ back) memo
+  keyed-in memo h t = record { stamps = λ hash. t.stamps hash ∙ sym (where-skip (is_hashed hash) front e back (h hash)) }
 
-  pub keyed-out : (memo : Entries) → ((key : Key) → allocates key e.node ≡ false) → ((key : ReadKey) → recalls key e.node ≡ false)
-      → IsKeyed (front ++ e ∷ back) memo → IsKeyed (front ++ back) memo
-  keyed-out memo a r t = record {
-    allocs = λ key. t.allocs key ∙ where-skip (allocates key) front e back (a key);
-    reads = λ key. t.reads key ∙ where-skip (recalls key) front e back (r key);
-  }
+  pub keyed-out : (memo : Entries) → ((hash : ℕ) → is_hashed hash e.node ≡ false) → IsKeyed (front ++ e ∷ back) memo → IsKeyed (front ++ back) memo
+  keyed-out memo h t = record { stamps = λ hash. t.stamps hash ∙ where-skip (is_hashed hash) front e back (h hash) }
 
   -- what is in the lists
   pub write-listed : (p : Place) (v : Word) → e.node ≡ Write p v → (mods : Contents) → IsTabled (front ++ e ∷ back) mods → is_in e.stamp (stamps_of (cell_of mods p).writes) ≡ true
@@ -198,51 +192,20 @@ module _ (front : List Entry) (e : Entry) (back : List Entry) where
         reads q true k = rw (place-same q p k) (ap (λ (x : Cell). x.reads) c.here ∙ (ap (without e.stamp) (t.reads p) ∙ where-cut front e back distinct (reads_at p)))
         reads q false k = ap (λ (x : Cell). x.reads) (c.others q (other-place q p k)) ∙ (t.reads q ∙ where-skip (reads_at q) front e back (rw (is, place-sym q p k) refl))
 
-    -- an allocation is entered
-    pub keyed-alloc : (b : BlockId) (key : Key) → e.node ≡ Alloc b key → (memo new : Entries) → IsKeyed (front ++ back) memo
-        → AllocsChange key (with_stamp (stamps_in (front ++ e ∷ back)) e.stamp (allocs_of memo key)) memo new → IsKeyed (front ++ e ∷ back) new
-    keyed-alloc b key is memo new t c = record {
-      allocs = λ k. allocs k (same_key key k) refl;
-      reads = λ k. c.reads k ∙ (t.reads k ∙ sym (where-skip (recalls k) front e back (rw is refl)));
+    -- a read or an allocation is entered under its hash
+    pub keyed-entered : (own : ℕ) → ((hash : ℕ) → is_hashed hash e.node ≡ (own == hash)) → (memo new : Entries) → IsKeyed (front ++ back) memo
+        → EntriesChange own (with_stamp (stamps_in (front ++ e ∷ back)) e.stamp (entries_of memo own)) memo new → IsKeyed (front ++ e ∷ back) new
+    keyed-entered own is memo new t c = record {
+      stamps = λ hash. elim (eqb_tells own hash) [
+        | inl p ↦ subst (λ h. entries_of new h ≡ stamps_where (is_hashed h) (front ++ e ∷ back)) p.1
+            (c.here ∙ (ap (λ (l : List ℕ). with_stamp (stamps_in (front ++ e ∷ back)) e.stamp l) (t.stamps own) ∙ where-put front e back distinct (is_hashed own) (is own ∙ eq-eqb own own refl)))
+        | inr p ↦ c.others hash (λ same. p.1 (sym same)) ∙ (t.stamps hash ∙ sym (where-skip (is_hashed hash) front e back (is hash ∙ p.0)))
+      ];
     }
-      where
-        other : (k : Key) → same_key key k ≡ false → k ≢ key
-        other k h i = absurd (let no : true ≡ false = sym (key-refl key) ∙ subst (λ z. same_key key z ≡ false) i h in cc)
-
-        here : (allocates key) e.node ≡ true
-        here = rw is (key-refl key)
-
-        allocs : (k : Key) (t' : Bool) → same_key key k ≡ t' → allocs_of new k ≡ stamps_where (allocates k) (front ++ e ∷ back)
-        allocs k true h = subst (λ z. allocs_of new z ≡ stamps_where (allocates z) (front ++ e ∷ back)) (key-same key k h)
-            (c.here ∙ (ap (λ (l : List ℕ). with_stamp (stamps_in (front ++ e ∷ back)) e.stamp l) (t.allocs key) ∙ where-put front e back distinct (allocates key) here))
-        allocs k false h = c.others k (other k h) ∙ (t.allocs k ∙ sym (where-skip (allocates k) front e back (rw is h)))
-
-    -- a read is entered
-    pub keyed-read : (key : ReadKey) (v : Word) → e.node ≡ Read key.place v key.unit key.var key.args → (memo new : Entries) → IsKeyed (front ++ back) memo
-        → ReadsChange key (with_stamp (stamps_in (front ++ e ∷ back)) e.stamp (reads_of memo key)) memo new → IsKeyed (front ++ e ∷ back) new
-    keyed-read key v is memo new t c = record {
-      allocs = λ k. c.allocs k ∙ (t.allocs k ∙ sym (where-skip (allocates k) front e back (rw is refl)));
-      reads = λ k. reads k (same_as key k) refl;
-    }
-      where
-        other : (k : ReadKey) → same_as key k ≡ false → k ≢ key
-        other k h i = absurd (let no : true ≡ false = sym (read-key-refl key) ∙ subst (λ z. same_as key z ≡ false) i h in cc)
-
-        here : (recalls key) e.node ≡ true
-        here = rw is (read-key-refl key)
-
-        reads : (k : ReadKey) (t' : Bool) → same_as key k ≡ t' → reads_of new k ≡ stamps_where (recalls k) (front ++ e ∷ back)
-        reads k true h = subst (λ z. reads_of new z ≡ stamps_where (recalls z) (front ++ e ∷ back)) (read-key-same key k h)
-            (c.here ∙ (ap (λ (l : List ℕ). with_stamp (stamps_in (front ++ e ∷ back)) e.stamp l) (t.reads key) ∙ where-put front e back distinct (recalls key) here))
-        reads k false h = c.others k (other k h) ∙ (t.reads k ∙ sym (where-skip (recalls k) front e back (rw is h)))
 
     -- an entry is taken out
-    pub keyed-cut : (memo new : Entries) → IsKeyed (front ++ e ∷ back) memo
-        → ((key : ReadKey) → reads_of new key ≡ without e.stamp (reads_of memo key)) → ((key : Key) → allocs_of new key ≡ without e.stamp (allocs_of memo key)) → IsKeyed (front ++ back) new
-    keyed-cut memo new t r a = record {
-      allocs = λ key. a key ∙ (ap (without e.stamp) (t.allocs key) ∙ where-cut front e back distinct (allocates key));
-      reads = λ key. r key ∙ (ap (without e.stamp) (t.reads key) ∙ where-cut front e back distinct (recalls key));
-    }
+    pub keyed-cut : (memo new : Entries) → IsKeyed (front ++ e ∷ back) memo → ((hash : ℕ) → entries_of new hash ≡ without e.stamp (entries_of memo hash)) → IsKeyed (front ++ back) new
+    keyed-cut memo new t c = record { stamps = λ hash. c hash ∙ (ap (without e.stamp) (t.stamps hash) ∙ where-cut front e back distinct (is_hashed hash)) }
 
 -- a stamp that no node has stands in no list
 pub free-of : (s : ℕ) (nodes : List Entry) (mods : Contents) → IsTabled nodes mods → has_node s nodes ≡ false → IsFree s mods
@@ -253,6 +216,5 @@ free-of s nodes mods t h q = (
 
 pub none-of : (s : ℕ) (nodes : List Entry) (memo : Entries) → IsKeyed nodes memo → has_node s nodes ≡ false → HasNone s memo
 none-of s nodes memo t h = record {
-  reads = λ key. false-of (is_in s (reads_of memo key)) (λ k. sym (where-among (recalls key) nodes s (subst (λ (l : List ℕ). is_in s l ≡ true) (t.reads key) k)) ∙ h);
-  allocs = λ key. false-of (is_in s (allocs_of memo key)) (λ k. sym (where-among (allocates key) nodes s (subst (λ (l : List ℕ). is_in s l ≡ true) (t.allocs key) k)) ∙ h);
+  none = λ hash. false-of (is_in s (entries_of memo hash)) (λ k. sym (where-among (is_hashed hash) nodes s (subst (λ (l : List ℕ). is_in s l ≡ true) (t.stamps hash) k)) ∙ h);
 }

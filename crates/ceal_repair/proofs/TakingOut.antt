@@ -8,8 +8,7 @@ use Rattle.ceal_base.specs.declared.word.Place.{Place}
 use Rattle.ceal_base.specs.declared.word.Word.{Word}
 use Rattle.ceal_base.specs.Operators.{same_place}
 use Rattle.ceal_code.proofs.Same.{some-same, place-same}
-use Rattle.ceal_memo.specs.Memo.{Entries, HasNone, reads_of, allocs_of, Follows as Memo_follows}
-use Rattle.ceal_memo.specs.declared.key.ReadKey.{ReadKey}
+use Rattle.ceal_memo.specs.Memo.{Entries, HasNone, entries_of, Follows as Memo_follows}
 use Rattle.ceal_mods.specs.Cell.{without_write, without_read, value_before}
 use Rattle.ceal_mods.specs.Mods.{Contents, cell_of, Changes, IsFree, Follows as Mods_follow}
 use Rattle.ceal_mods.specs.Writes.{Write as WriteOf, stamps_of}
@@ -28,7 +27,7 @@ use Rattle.ceal_repair.proofs.Tabling.{alloc-no-write, end-no-write, other-place
 use Rattle.ceal_repair.proofs.Keeping.{tables}
 use Rattle.ceal_repair.specs.Covered.{queue_of, and_one, Covers, contents_after}
 use Rattle.ceal_repair.specs.Kept.{InStep, Kept, CoveredBy, AreReads, IsAwake, Records, IsHonestRecord, IsStale, base_in, contents_at}
-use Rattle.ceal_repair.specs.Lists.{IsTabled, IsKeyed, reads_at, allocates, recalls, write_of, writes_in, before}
+use Rattle.ceal_repair.specs.Lists.{IsTabled, IsKeyed, is_hashed, reads_at, write_of, writes_in, before}
 use Rattle.ceal_repair.specs.declared.tables.Tables.{Tables}
 use Rattle.ceal_trace.proofs.Parts.{changed-part}
 use Rattle.ceal_trace.specs.Nodes.{Entry, Timeline, IsTrace, NoLooseEnd, OneMoreNode, stamps_in, has_node, node_at, is_read, end_in, without_entry, value_set, with_value, valued, SameBut, held_by}
@@ -44,10 +43,7 @@ mods-deleted s mods old new f more free = λ p. record {
 }
 
 pub memo-deleted : (s : ℕ) (memo : Entries) (old new : List ℕ) → Memo_follows old memo → OneMore s new old → HasNone s memo → Memo_follows new memo
-memo-deleted s memo old new f more none = record {
-  reads = λ key. rising_deleted s (reads_of memo key) old new (f.reads key) more (none.reads key);
-  allocs = λ key. rising_deleted s (allocs_of memo key) old new (f.allocs key) more (none.allocs key);
-}
+memo-deleted s memo old new f more none = record { rising = λ hash. rising_deleted s (entries_of memo hash) old new (f.rising hash) more (none.none hash) }
 
 -- a node that is no read has no end
 pub no-end : (s : ℕ) (n : Node) (t : Timeline) → IsTrace t → node_at s t.nodes ≡ Some n → is_read (Some n) ≡ false → end_in s t.nodes ≡ None
@@ -119,15 +115,15 @@ module _ (old : Tables) (k : Kept old) (s : ℕ) (n : Node) (at_it : node_at s o
   unqueued plain = no-read s old.trace.nodes old.stale.stamps k.step.queued (ap is_read at_it ∙ plain)
 
   -- an allocation
-  pub alloc-cut-kept : (b : BlockId) (key : Key) → n ≡ Alloc b key → (memo : Entries) → ((key : ReadKey) → reads_of memo key ≡ without s (reads_of old.memo key)) → ((key : Key) → allocs_of memo key ≡ without s (allocs_of old.memo key))
+  pub alloc-cut-kept : (b : BlockId) (key : Key) → n ≡ Alloc b key → (memo : Entries) → ((hash : ℕ) → entries_of memo hash ≡ without s (entries_of old.memo hash))
       → HasNone s memo → Memo_follows (stamps_in old.trace.nodes) memo → Kept (tables tr old.mods old.stale memo)
-  alloc-cut-kept b key e memo reads allocs none ef = record {
+  alloc-cut-kept b key e memo entries none ef = record {
     step = record {
       whole = whole;
       closed = closed;
       tabled = tabled;
       keyed = subst (λ (l : List Entry). IsKeyed l memo) (sym left) (keyed-cut cutting.front cutting.e cutting.back parted old.memo memo keyed-old
-          (λ key. subst (λ z. reads_of memo key ≡ without z (reads_of old.memo key)) (sym cutting.stamp) (reads key)) (λ key. subst (λ z. allocs_of memo key ≡ without z (allocs_of old.memo key)) (sym cutting.stamp) (allocs key)));
+          (λ hash. subst (λ z. entries_of memo hash ≡ without z (entries_of old.memo hash)) (sym cutting.stamp) (entries hash)));
       queued = fewer-reads s old.trace.nodes tr.nodes old.stale.stamps more.stamps more.entries (unqueued plain) k.step.queued;
       mods = mods-deleted s old.mods (stamps_in old.trace.nodes) (stamps_in tr.nodes) k.step.mods more.stamps (free-of s tr.nodes old.mods tabled gone);
       memo = memo-deleted s memo (stamps_in old.trace.nodes) (stamps_in tr.nodes) ef more.stamps none;
@@ -212,14 +208,11 @@ module _ (old : Tables) (k : Kept old) (s : ℕ) (n : Node) (at_it : node_at s o
         none : is_in s old.stale.stamps ≡ false
         none = unqueued (rw e refl)
 
-        no-write-key : (key : Key) (i : Node) → i ≡ Write p v → allocates key i ≡ false
-        no-write-key key i h = rw h refl
-
-        no-write-read : (key : ReadKey) (i : Node) → i ≡ Write p v → recalls key i ≡ false
-        no-write-read key i h = rw h refl
+        no-write-key : (hash : ℕ) (i : Node) → i ≡ Write p v → is_hashed hash i ≡ false
+        no-write-key hash i h = rw h refl
 
         keyed : IsKeyed tr.nodes old.memo
-        keyed = subst (λ (l : List Entry). IsKeyed l old.memo) (sym left) (keyed-out cutting.front cutting.e cutting.back old.memo (λ key. no-write-key key cutting.e.node (cutting.node ∙ e)) (λ key. no-write-read key cutting.e.node (cutting.node ∙ e)) keyed-old)
+        keyed = subst (λ (l : List Entry). IsKeyed l old.memo) (sym left) (keyed-out cutting.front cutting.e cutting.back old.memo (λ hash. no-write-key hash cutting.e.node (cutting.node ∙ e)) keyed-old)
 
         now-none : is_in s stale.stamps ≡ false
         now-none = false-of (is_in s stale.stamps) (λ i. sym (only s none i) ∙ (write-cut-free p).1)
@@ -232,11 +225,8 @@ stamp-of s = record { 0 = s }
 end-no-read : (p : Place) (y : Stamp) (i : Node) → i ≡ End y → reads_at p i ≡ false
 end-no-read p y i h = rw h refl
 
-end-no-key : (key : Key) (y : Stamp) (i : Node) → i ≡ End y → allocates key i ≡ false
-end-no-key key y i h = rw h refl
-
-end-no-recall : (key : ReadKey) (y : Stamp) (i : Node) → i ≡ End y → recalls key i ≡ false
-end-no-recall key y i h = rw h refl
+end-no-key : (hash : ℕ) (y : Stamp) (i : Node) → i ≡ End y → is_hashed hash i ≡ false
+end-no-key hash y i h = rw h refl
 
 end-as : (y : Stamp) (i : Node) → i ≡ End y → IsQuiet i
 end-as y i h = rw h (end-quiet y)
@@ -251,7 +241,7 @@ tells (Write q w) = false
 module _ (old : Tables) (k : Kept old) (s z : ℕ) (p : Place) (v : Word) (r : Records p v (node_at s old.trace.nodes)) (fin : end_in s old.trace.nodes ≡ Some z)
     (one two : Timeline) (is1 : one.nodes ≡ without_entry s old.trace.nodes) (more1 : OneMoreNode s one.nodes old.trace.nodes) (is2 : two.nodes ≡ without_entry z one.nodes) (more2 : OneMoreNode z two.nodes one.nodes)
     (whole1 : IsTrace one) (mods : Contents) (change : Changes old.mods mods p (without_read s (cell_of old.mods p)))
-    (memo : Entries) (reads : (key : ReadKey) → reads_of memo key ≡ without s (reads_of old.memo key)) (allocs : (key : Key) → allocs_of memo key ≡ without s (allocs_of old.memo key)) where
+    (memo : Entries) (entered : (hash : ℕ) → entries_of memo hash ≡ without s (entries_of old.memo hash)) where
   read-part : PartAt s (Read p v r.unit r.var r.args) old.trace.nodes
   read-part = part-at s (Read p v r.unit r.var r.args) old.trace.nodes r.is
 
@@ -294,13 +284,13 @@ module _ (old : Tables) (k : Kept old) (s z : ℕ) (p : Place) (v : Word) (r : R
 
   keyed1 : IsKeyed one.nodes memo
   keyed1 = subst (λ (l : List Entry). IsKeyed l memo) (sym left1) (keyed-cut read-part.front read-part.e read-part.back parted1 old.memo memo (subst (λ (l : List Entry). IsKeyed l old.memo) read-part.was k.step.keyed)
-      (λ key. subst (λ y. reads_of memo key ≡ without y (reads_of old.memo key)) (sym read-part.stamp) (reads key)) (λ key. subst (λ y. allocs_of memo key ≡ without y (allocs_of old.memo key)) (sym read-part.stamp) (allocs key)))
+      (λ hash. subst (λ y. entries_of memo hash ≡ without y (entries_of old.memo hash)) (sym read-part.stamp) (entered hash)))
 
   tabled2 : IsTabled two.nodes mods
   tabled2 = subst (λ (l : List Entry). IsTabled l mods) (sym left2) (tabled-out end-part.front end-part.e end-part.back mods (λ q. end-no-read q (stamp-of s) end-part.e.node end-part.node) (λ q. end-no-write q end-part.e.stamp end-part.e.node (writes_in q end-part.back) (stamp-of s) end-part.node) (subst (λ (l : List Entry). IsTabled l mods) end-part.was tabled1))
 
   keyed2 : IsKeyed two.nodes memo
-  keyed2 = subst (λ (l : List Entry). IsKeyed l memo) (sym left2) (keyed-out end-part.front end-part.e end-part.back memo (λ key. end-no-key key (stamp-of s) end-part.e.node end-part.node) (λ key. end-no-recall key (stamp-of s) end-part.e.node end-part.node) (subst (λ (l : List Entry). IsKeyed l memo) end-part.was keyed1))
+  keyed2 = subst (λ (l : List Entry). IsKeyed l memo) (sym left2) (keyed-out end-part.front end-part.e end-part.back memo (λ hash. end-no-key hash (stamp-of s) end-part.e.node end-part.node) (subst (λ (l : List Entry). IsKeyed l memo) end-part.was keyed1))
 
   pub read-cut-bases : (q : Place) → base_in mods q ≡ base_in old.mods q
   read-cut-bases q = go (same_place q p) refl
@@ -439,7 +429,7 @@ module _ (old : Tables) (k : InStep old) (s : ℕ) (p : Place) (v now : Word) (r
         closed = closed;
         tabled = subst (λ (l : List Entry). IsTabled l mods) (sym there) (tabled-with look-part.front look-part.e new look-part.back refl mods (λ q. reads-as q look-part.e.node look-part.node) (λ q. writes-as q look-part.e.stamp (writes_in q look-part.back) look-part.e.node look-part.node)
             (subst (λ (l : List Entry). IsTabled l mods) look-part.was (tabled-same old.trace.nodes old.mods mods (sym cells) k.tabled)));
-        keyed = subst (λ (l : List Entry). IsKeyed l old.memo) (sym there) (keyed-with look-part.front look-part.e new look-part.back refl old.memo (λ key. allocs-as key look-part.e.node look-part.node) (λ key. recalls-as key look-part.e.node look-part.node)
+        keyed = subst (λ (l : List Entry). IsKeyed l old.memo) (sym there) (keyed-with look-part.front look-part.e new look-part.back refl old.memo (λ hash. hashed-as hash look-part.e.node look-part.node)
             (subst (λ (l : List Entry). IsKeyed l old.memo) look-part.was k.keyed));
         queued = λ z i. read-still z (queued z i);
         mods = subst (λ (l : List ℕ). Mods_follow l mods) (sym others.stamps) mods-now;
@@ -458,11 +448,8 @@ module _ (old : Tables) (k : InStep old) (s : ℕ) (p : Place) (v now : Word) (r
         writes-as : (q : Place) (st : ℕ) (l : List WriteOf) (i : Node) → i ≡ Read p v r.unit r.var r.args → write_of q st (Read p now r.unit r.var r.args) l ≡ write_of q st i l
         writes-as q st l i h = rw h refl
 
-        allocs-as : (key : Key) (i : Node) → i ≡ Read p v r.unit r.var r.args → allocates key (Read p now r.unit r.var r.args) ≡ allocates key i
-        allocs-as key i h = rw h refl
-
-        recalls-as : (key : ReadKey) (i : Node) → i ≡ Read p v r.unit r.var r.args → recalls key (Read p now r.unit r.var r.args) ≡ recalls key i
-        recalls-as key i h = rw h refl
+        hashed-as : (hash : ℕ) (i : Node) → i ≡ Read p v r.unit r.var r.args → is_hashed hash (Read p now r.unit r.var r.args) ≡ is_hashed hash i
+        hashed-as hash i h = rw h refl
 
         set-own : (e : Entry) → e.node ≡ Read p v r.unit r.var r.args → value_set now e ≡ record { stamp = e.stamp; node = Read p now r.unit r.var r.args; steps = e.steps }
         set-own e h = rw h refl

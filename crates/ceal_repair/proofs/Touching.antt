@@ -1,9 +1,9 @@
 -- The places of a new input are touched, and then get their bases.
-use Rattle.std.proofs.Common.{◌≡◌, ◌<◌, ◌≤◌, ◌+◌, ℕ, inl, inr, Bool, true, false, Option, Some, None, List, [], ◌∷◌, refl, sym, ap, subst, ◌∙◌, arith, slice_get, unwrap_or}
+use Rattle.std.proofs.Common.{◌≡◌, ◌<◌, ◌+◌, ℕ, inl, inr, Bool, true, false, Some, List, [], ◌∷◌, refl, sym, ap, subst, ◌∙◌, arith, slice_get, unwrap_or}
 use Rattle.std.specs.Prelude.{Result, Ok, Err, OnOk, OnErr}
 use Rattle.std.proofs.Math.Path.{fun_ext}
 use Rattle.std.proofs.lemmas.Bool.Decides.{eqb_tells}
-use Rattle.ceal_base.specs.Operators.{same_block, same_place}
+use Rattle.ceal_base.specs.Operators.{same_place}
 use Rattle.ceal_base.specs.Shapes.{default_of_field}
 use Rattle.ceal_base.specs.declared.kind.FieldKind.{FieldKind}
 use Rattle.ceal_base.specs.declared.kind.Shape.{Shape}
@@ -14,7 +14,7 @@ use Rattle.ceal_base.specs.declared.word.Word.{Word}
 use Rattle.ceal_code.proofs.Same.{place-same}
 use Rattle.ceal_code.specs.Replay.{stored}
 use Rattle.ceal_code.specs.Value.{is_cell, field_kind}
-use Rattle.ceal_mods.specs.Cell.{with_base, Sees}
+use Rattle.ceal_mods.specs.Cell.{with_base}
 use Rattle.ceal_mods.specs.Mods.{Contents, HasCell, cell_of, Changes, Follows as Mods_follow}
 use Rattle.ceal_mods.specs.declared.cell.Cell.{Cell}
 use Rattle.ceal_order.specs.Stamps.{is_in, head_of}

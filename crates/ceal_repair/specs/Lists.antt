@@ -1,17 +1,23 @@
 -- What the nodes of a trace record, by place and by key.
-use Rattle.std.specs.Prelude.{◌≡◌, ℕ, List, [], ◌∷◌, ◌==◌, Bool, false, if◌then◌else◌}
+use Rattle.std.specs.Prelude.{◌≡◌, ℕ, List, [], ◌∷◌, ◌==◌, Bool, false, Option, None, Some, if◌then◌else◌}
 use Rattle.ceal_base.specs.Operators.{same_place}
 use Rattle.ceal_base.specs.declared.forest.Key.{Key}
 use Rattle.ceal_base.specs.declared.word.Place.{Place}
-use Rattle.ceal_memo.specs.Memo.{Entries, reads_of, allocs_of}
+use Rattle.ceal_memo.specs.Hashes.{read_hash, alloc_hash}
+use Rattle.ceal_memo.specs.Memo.{Entries, entries_of}
 use Rattle.ceal_memo.specs.declared.key.ReadKey.{ReadKey}
 use Rattle.ceal_mods.specs.Mods.{Contents, cell_of}
 use Rattle.ceal_mods.specs.Writes.{Write as WriteOf}
 use Rattle.ceal_theory.specs.Levels.{same_read}
 use Rattle.ceal_theory.specs.Take.{same_key}
-use Rattle.ceal_trace.specs.Nodes.{Entry}
+use Rattle.ceal_trace.specs.Nodes.{Entry, node_at}
 use Rattle.ceal_trace.specs.declared.node.Node.{Node}
 use Rattle.ceal_trace.specs.declared.node.Node.TheVariants.{Alloc, Write, Read}
+
+-- whether there is a node of which something is true
+abbrev pub is_so : (Node → Bool) → Option Node → Bool
+is_so holds None = false
+is_so holds (Some node) = holds node
 
 -- whether a node is a read of a place
 abbrev pub reads_at : Place → Node → Bool
@@ -23,10 +29,24 @@ abbrev pub allocates : Key → Node → Bool
 allocates key (Alloc block k) = same_key k key
 allocates key _ = false
 
+-- whether a node is found by a key with a hash
+abbrev pub is_hashed : ℕ → Node → Bool
+is_hashed hash (Alloc block key) = alloc_hash key == hash
+is_hashed hash (Read p value unit var args) = read_hash (record { place = p; unit = unit; var = var; args = args }) == hash
+is_hashed hash _ = false
+
 -- whether a node is a read with a key: of its place, with its closure
 abbrev pub recalls : ReadKey → Node → Bool
 recalls key (Read q value unit var args) = same_read q unit var args key.place key.unit key.var key.args
 recalls key _ = false
+
+-- whether there is an allocation with a key at a stamp
+abbrev pub allocates_at : Key → ℕ → List Entry → Bool
+allocates_at key s nodes = is_so (allocates key) (node_at s nodes)
+
+-- whether there is a read with a key at a stamp
+abbrev pub recalls_at : ReadKey → ℕ → List Entry → Bool
+recalls_at key s nodes = is_so (recalls key) (node_at s nodes)
 
 -- the stamps of the nodes of which something is true, in the order of time
 abbrev pub stamps_where : (Node → Bool) → List Entry → List ℕ
@@ -48,10 +68,9 @@ pub record IsTabled (nodes : List Entry) (mods : Contents) : Type 0 where
   pub writes : (p : Place) → (cell_of mods p).writes ≡ writes_in p nodes
   pub reads : (p : Place) → (cell_of mods p).reads ≡ stamps_where (reads_at p) nodes
 
--- the memo has the allocations and the reads of the nodes
+-- the memo has the allocations and the reads of the nodes, under the hashes of their keys
 pub record IsKeyed (nodes : List Entry) (memo : Entries) : Type 0 where
-  pub allocs : (key : Key) → allocs_of memo key ≡ stamps_where (allocates key) nodes
-  pub reads : (key : ReadKey) → reads_of memo key ≡ stamps_where (recalls key) nodes
+  pub stamps : (hash : ℕ) → entries_of memo hash ≡ stamps_where (is_hashed hash) nodes
 
 -- the nodes before one
 abbrev pub before : ℕ → List Entry → List Entry

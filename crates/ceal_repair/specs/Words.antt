@@ -1,5 +1,5 @@
 -- The plain words and the bases of a run.
-use Rattle.std.specs.Prelude.{◌≡◌, ℕ, pos, true, Option, Some, None, List, [], slice_get, unwrap_or, if◌then◌else◌}
+use Rattle.std.specs.Prelude.{◌≡◌, ℕ, pos, true, Option, Some, None, List, slice_get, unwrap_or, if◌then◌else◌}
 use Rattle.ceal_base.specs.Block.{Block}
 use Rattle.ceal_base.specs.declared.kind.Shape.{Shape}
 use Rattle.ceal_base.specs.declared.typed.StructInfo.{StructInfo}

@@ -18,7 +18,7 @@
 //! at a time: it puts nodes in behind its cursor (`put`), takes allocations and reads that are left over (`take`, `read`), and passes
 //! kept nodes inside a taken read (`pass`). `turns` are made one after another; `turn` begins one, `complete` turns its unit until it is
 //! over, and `end` ends it. `cutting` revokes nodes that are left over, `bases` sets what modifiables hold before any write,
-//! `edits` does so for an input that is new to a run, and `words` reads plain words.
+//! `edits` does so for an input that is new to a run, `sought` are keys that are looked for among the nodes, and `words` reads plain words.
 #![tactic(auto)]
 
 mod bases;
@@ -33,5 +33,6 @@ mod recorded;
 mod repair;
 pub mod running;
 pub mod slice;
+mod sought;
 pub mod tables;
 mod words;

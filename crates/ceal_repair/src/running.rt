@@ -117,7 +117,7 @@ impl Running {
     {
         let block = self.words_for(alloc, code, inputs, key)?;
         let shape = made_shape(code, key);
-        let made = self.heap.make(shape, key.copy()?, few_words(&block)?)?;
+        let made = self.heap.make(shape, few_words(&block)?)?;
         let structs = code.structs.items();
         renew_bases(&mut self.tables, structs, made.block, made.before, shape)?;
         Ok(made.block)

@@ -17,9 +17,11 @@ ghost use Rattle.ceal_trace.specs.Nodes.{stamps_in, has_node, node_at, position,
 ghost use Rattle.ceal_trace.specs.declared.node.Node.TheVariants.{Root, Alloc, Write, Read, End};
 
 use crate::recorded::{is_same, recorded, written};
+use crate::sought::{SoughtAlloc, SoughtRead};
 use ceal_base::forest::Key;
 use ceal_base::no_memory::NoMemory;
 use ceal_base::word::{BlockId, Place, Word};
+use ceal_memo::hashes::{hash_of_alloc, hash_of_read};
 use ceal_memo::key::ReadKey;
 use ceal_memo::laws::follows_still as memo_follows;
 use ceal_memo::memo::Memo;
@@ -107,9 +109,9 @@ impl Tables {
         queue_follows();
         memo_follows();
         self.trace.reserve(1)?;
-        let own = key.copy()?;
-        let alloc = self.trace.insert_alloc(after, block, own);
-        self.memo.add_alloc(self.trace.order(), key, alloc)?;
+        let hash = hash_of_alloc(&key);
+        let alloc = self.trace.insert_alloc(after, block, key);
+        self.memo.add(self.trace.order(), hash, alloc)?;
         Ok(alloc)
     }
 
@@ -186,13 +188,14 @@ impl Tables {
         queue_follows();
         memo_follows();
         self.trace.reserve(1)?;
-        let args = key.args.copy()?;
-        let value = self.value_behind(key.place, after);
+        let hash = hash_of_read(&key);
+        let place = key.place;
+        let value = self.value_behind(place, after);
         let read = self
             .trace
-            .begin_read(after, key.place, value, key.unit, key.var, args);
-        self.mods.add_read(self.trace.order(), key.place, read)?;
-        self.memo.add_read(self.trace.order(), key, read)?;
+            .begin_read(after, place, value, key.unit, key.var, key.args);
+        self.mods.add_read(self.trace.order(), place, read)?;
+        self.memo.add(self.trace.order(), hash, read)?;
         Ok(Begun { read, value })
     }
 
@@ -310,7 +313,12 @@ impl Tables {
             ≡ head_of
             (stamps_where (allocates key.now) (between after.0 until.0 self.now.trace.nodes)) }
     {
-        self.memo.first_alloc(self.trace.order(), key, after, until)
+        let sought = SoughtAlloc {
+            trace: &self.trace,
+            key,
+        };
+        self.memo
+            .first_between(self.trace.order(), &sought, after, until)
     }
 
     /// The earliest read with a key after one node and before another.
@@ -324,7 +332,12 @@ impl Tables {
             ≡ head_of
             (stamps_where (recalls key.now) (between after.0 until.0 self.now.trace.nodes)) }
     {
-        self.memo.first_read(self.trace.order(), key, after, until)
+        let sought = SoughtRead {
+            trace: &self.trace,
+            key,
+        };
+        self.memo
+            .first_between(self.trace.order(), &sought, after, until)
     }
 
     /// Looks at a read before which none is queued: it has the content of its moment then, and is not queued. Says

@@ -4,7 +4,6 @@ ghost use Rattle.std.specs.Prelude.{◌≡◌, ◌≤◌, None, IsSome, length};
 ghost use Rattle.ceal_heap.specs.Heap.{block_of, IsLive, KeepsBlocks};
 
 use crate::asserts::{equal, holds};
-use ceal_base::forest::Key;
 use ceal_base::kind::Shape;
 use ceal_base::word::{BlockId, Place, Word};
 use ceal_heap::heap::Heap;
@@ -22,7 +21,7 @@ fn make<R: Abort>(rt: &R, heap: &mut Heap, words: &[Word]) -> BlockId
     ensures known { IsSome (block_of heap.new result) }
     ensures others { KeepsBlocks result heap.old heap.new }
 {
-    heap.make(CELL, Key::ModInt, words)
+    heap.make(CELL, words)
         .expect(rt, "memory")
         .block
 }
@@ -43,9 +42,6 @@ fn is_a_cell<R: Abort>(rt: &R, heap: &Heap, block: BlockId)
     requires known { IsSome (block_of heap.now block) }
 {
     equal(rt, heap.shape(block), CELL);
-    let key = Key::ModInt;
-    holds(rt, heap.key(block).same_as(&key));
-    drop(key);
 }
 
 fn makes_all_kinds<R: Abort>(rt: &R, heap: &mut Heap) {
@@ -87,7 +83,7 @@ fn revokes_the_first<R: Abort>(rt: &R, heap: &mut Heap) {
 fn releases_the_first<R: Abort>(rt: &R, heap: &mut Heap) {
     heap.release_revoked();
     equal(rt, heap.live_count(), 1);
-    let third = heap.make(NODE, Key::ModInt, &[]).expect(rt, "memory");
+    let third = heap.make(NODE, &[]).expect(rt, "memory");
     equal(rt, third.block, BlockId::Core(0));
     holds(rt, third.before == Some(CELL));
     let fourth = make(rt, heap, &[Word::Num(4)]);
@@ -150,12 +146,12 @@ fn a_hundred_thousand_blocks(rt: HostRuntime) {
 fn make_second<R: Abort>(rt: &R, heap: &mut Heap, first: BlockId) -> BlockId
     requires { IsSome (block_of heap.old first) }
 {
-    if let Ok(second) = heap.make(NODE, Key::ModPtr(0), &[Word::Num(2)]) {
+    if let Ok(second) = heap.make(NODE, &[Word::Num(2)]) {
         return second.block;
     }
     equal(rt, heap.live_count(), 1);
     equal(rt, heap.field(first, 0), Word::Num(1));
-    heap.make(NODE, Key::ModPtr(0), &[Word::Num(2)])
+    heap.make(NODE, &[Word::Num(2)])
         .expect(rt, "memory")
         .block
 }

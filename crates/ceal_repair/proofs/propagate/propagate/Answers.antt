@@ -1,6 +1,6 @@
 use Rattle.ceal_repair.proofs.Propagated.{spent-out}
 use Rattle.ceal_repair.specs.Turning.{since_begun}
-use Rattle.std.proofs.Common.{◌≡◌, false, true, Option, Some, None}
+use Rattle.std.proofs.Common.{◌≡◌, false, true, Some, None}
 use Rattle.ceal_repair.proofs.KeptRun.{has-come-in, idle-first}
 use Rattle.ceal_repair.proofs.propagate.propagate.Goals as goal
 

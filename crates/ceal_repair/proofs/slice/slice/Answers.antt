@@ -1,4 +1,4 @@
-use Rattle.std.proofs.Common.{◌≡◌, ◌≤◌, sym, ap, subst, ◌∙◌, arith}
+use Rattle.std.proofs.Common.{◌≤◌, sym, ap, subst, ◌∙◌, arith}
 use Rattle.ceal_repair.proofs.KeptRun.{idle-first}
 use Rattle.ceal_repair.proofs.SlicingRuns.{since, begun-in, concluded, goes-on-so, is-over}
 use Rattle.ceal_repair.specs.Propagation.{IsUpToDate, IsUnderWay}

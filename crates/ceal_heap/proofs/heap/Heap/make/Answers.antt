@@ -22,7 +22,7 @@ returns-in_err-slot-clause-slots c =
 pub invariant_of-self-2 : goal.invariant_of-self-2
 invariant_of-self-2 c =
     let v = c.self.inside in let after = c.give_out-given.new.self.numbers in let n = c.give_out-given.result.number in let old = c.give_out-given.result.before in
-    let h : Held = record { key = c.args.key; slot = c.in_ok-slot.slot; fields = length c.args.words.now } in
+    let h : Held = record { slot = c.in_ok-slot.slot; fields = length c.args.words.now } in
     let out : GivesOut v.table.numbers after c.args.shape h n old = subst (λ (ns : List Number). GivesOut ns after c.args.shape h n old) c.in_ok-prepare.ensures.numbers c.give_out-given.ensures in
     let is = given v.table.numbers after c.args.shape h n old out in
     make_kept v.table.numbers after v.pieces c.put.new.self c.args.shape h n c.self.invariant is c.in_ok-slot.ensures.was_new c.in_ok-slot.ensures.others
@@ -31,7 +31,7 @@ invariant_of-self-2 c =
 pub returns-clause-made : goal.returns-clause-made
 returns-clause-made c =
     let v = c.self.inside in let after = c.give_out-given.new.self.numbers in let n = c.give_out-given.result.number in let old = c.give_out-given.result.before in
-    let h : Held = record { key = c.args.key; slot = c.in_ok-slot.slot; fields = length c.args.words.now } in
+    let h : Held = record { slot = c.in_ok-slot.slot; fields = length c.args.words.now } in
     let out : GivesOut v.table.numbers after c.args.shape h n old = subst (λ (ns : List Number). GivesOut ns after c.args.shape h n old) c.in_ok-prepare.ensures.numbers c.give_out-given.ensures in
     let is = given v.table.numbers after c.args.shape h n old out in
     make_made v.table.numbers after v.pieces c.put.new.self c.args.shape h n c.self.invariant is c.in_ok-slot.ensures.was_new c.in_ok-slot.ensures.others
@@ -40,7 +40,7 @@ returns-clause-made c =
 pub returns-clause-others : goal.returns-clause-others
 returns-clause-others c =
     let v = c.self.inside in let after = c.give_out-given.new.self.numbers in let n = c.give_out-given.result.number in let old = c.give_out-given.result.before in
-    let h : Held = record { key = c.args.key; slot = c.in_ok-slot.slot; fields = length c.args.words.now } in
+    let h : Held = record { slot = c.in_ok-slot.slot; fields = length c.args.words.now } in
     let out : GivesOut v.table.numbers after c.args.shape h n old = subst (λ (ns : List Number). GivesOut ns after c.args.shape h n old) c.in_ok-prepare.ensures.numbers c.give_out-given.ensures in
     let is = given v.table.numbers after c.args.shape h n old out in
     subst (λ (heap : Contents). KeepsBlocks (Core n) heap (record { numbers = after; region = c.put.new.self })) c.self.view_is
@@ -49,14 +49,14 @@ returns-clause-others c =
 pub returns-clause-count : goal.returns-clause-count
 returns-clause-count c =
     let v = c.self.inside in let after = c.give_out-given.new.self.numbers in let n = c.give_out-given.result.number in let old = c.give_out-given.result.before in
-    let h : Held = record { key = c.args.key; slot = c.in_ok-slot.slot; fields = length c.args.words.now } in
+    let h : Held = record { slot = c.in_ok-slot.slot; fields = length c.args.words.now } in
     let out : GivesOut v.table.numbers after c.args.shape h n old = subst (λ (ns : List Number). GivesOut ns after c.args.shape h n old) c.in_ok-prepare.ensures.numbers c.give_out-given.ensures in
     let is = given v.table.numbers after c.args.shape h n old out in rw (← c.self.view_is) is.count
 
 pub returns-clause-slots : goal.returns-clause-slots
 returns-clause-slots c =
     let v = c.self.inside in let after = c.give_out-given.new.self.numbers in let n = c.give_out-given.result.number in let old = c.give_out-given.result.before in
-    let h : Held = record { key = c.args.key; slot = c.in_ok-slot.slot; fields = length c.args.words.now } in
+    let h : Held = record { slot = c.in_ok-slot.slot; fields = length c.args.words.now } in
     let out : GivesOut v.table.numbers after c.args.shape h n old = subst (λ (ns : List Number). GivesOut ns after c.args.shape h n old) c.in_ok-prepare.ensures.numbers c.give_out-given.ensures in
     let is = given v.table.numbers after c.args.shape h n old out in
     slots_of (record { numbers = after; region = c.put.new.self })
@@ -66,7 +66,7 @@ returns-clause-slots c =
 pub returns-clause-new : goal.returns-clause-new
 returns-clause-new c =
     let v = c.self.inside in let after = c.give_out-given.new.self.numbers in let n = c.give_out-given.result.number in let old = c.give_out-given.result.before in
-    let h : Held = record { key = c.args.key; slot = c.in_ok-slot.slot; fields = length c.args.words.now } in
+    let h : Held = record { slot = c.in_ok-slot.slot; fields = length c.args.words.now } in
     let out : GivesOut v.table.numbers after c.args.shape h n old = subst (λ (ns : List Number). GivesOut ns after c.args.shape h n old) c.in_ok-prepare.ensures.numbers c.give_out-given.ensures in
     let is = given v.table.numbers after c.args.shape h n old out in
     rw (← c.self.view_is) (unknown (record { numbers = v.table.numbers; region = v.pieces }) n is.none)
@@ -74,6 +74,6 @@ returns-clause-new c =
 pub returns-clause-free : goal.returns-clause-free
 returns-clause-free c =
     let v = c.self.inside in let after = c.give_out-given.new.self.numbers in let n = c.give_out-given.result.number in let old = c.give_out-given.result.before in
-    let h : Held = record { key = c.args.key; slot = c.in_ok-slot.slot; fields = length c.args.words.now } in
+    let h : Held = record { slot = c.in_ok-slot.slot; fields = length c.args.words.now } in
     let out : GivesOut v.table.numbers after c.args.shape h n old = subst (λ (ns : List Number). GivesOut ns after c.args.shape h n old) c.in_ok-prepare.ensures.numbers c.give_out-given.ensures in
     rw (← c.self.view_is) (was_free (record { numbers = v.table.numbers; region = v.pieces }) after c.args.shape h n old out)

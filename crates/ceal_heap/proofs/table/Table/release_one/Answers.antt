@@ -1,4 +1,4 @@
-use Rattle.std.proofs.Common.{◌≡◌, ◌∙◌, ap, set, arith, refl, Some}
+use Rattle.std.proofs.Common.{◌≡◌, ◌∙◌, ap, set, arith, Some}
 use Rattle.std.proofs.lemmas.Option.{slice_get_within}
 use Rattle.ceal_heap.specs.Table.{Ledger, held_in, state_is_released}
 use Rattle.ceal_heap.specs.declared.number.Number.{Number}

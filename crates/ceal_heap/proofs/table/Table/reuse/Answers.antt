@@ -1,8 +1,7 @@
-use Rattle.std.proofs.Common.{◌≡◌, ◌∙◌, ap, set, arith, Some}
+use Rattle.std.proofs.Common.{◌∙◌, ap, set, arith, Some}
 use Rattle.std.proofs.lemmas.Option.{slice_get_within}
 use Rattle.ceal_heap.specs.Table.{Ledger, state_is_live}
 use Rattle.ceal_heap.specs.declared.number.Number.{Number}
-use Rattle.ceal_heap.specs.declared.number.State.TheVariants.{Released}
 use Rattle.ceal_heap.proofs.TableLemmas.{top_free, reused, few_live, entry_of}
 use Rattle.ceal_heap.proofs.table.Table.reuse.Goals as goal
 

@@ -1,4 +1,4 @@
-use Rattle.std.proofs.Common.{◌≡◌, ℕ, inr, true, Some, Result, Ok, Err, refl, sym, ap, subst, ◌∙◌}
+use Rattle.std.proofs.Common.{◌≡◌, ℕ, inr, Some, Result, Ok, Err, refl, sym, ap, ◌∙◌}
 use Rattle.std.specs.Result.{OnOk}
 use Rattle.ceal_base.specs.declared.no_memory.NoMemory.{NoMemory}
 use Rattle.ceal_order.specs.declared.stamp.Stamp.{Stamp}
@@ -9,7 +9,6 @@ use Rattle.ceal_repair.specs.Moment.{Start, through}
 use Rattle.ceal_repair.specs.Reads.{EndsKept}
 use Rattle.ceal_repair.specs.Repairs.{code_of, inputs_of, view, Runs, PassesOn}
 use Rattle.ceal_repair.specs.declared.repair.Repair.{Repair}
-use Rattle.ceal_repair.specs.declared.tables.Tables.{Tables}
 use Rattle.ceal_repair.proofs.repair.Repair.go_on.Goals as goal
 
 pub cut_until-requires-clause-lies : goal.cut_until-requires-clause-lies

@@ -13,8 +13,8 @@ use Rattle.ceal_repair.proofs.tables.Tables.begin_read.Goals as goal
 pub add_read-requires-clause-absent : goal.add_read-requires-clause-absent
 add_read-requires-clause-absent c = (is-free c.begin_read-read.result.0 c.value_behind-value.new.self c.value_behind-value.ensures.kept.step c.begin_read-read.ensures.inserted.new c.args.key.place).1
 
-pub add_read-requires-2-clause-absent : goal.add_read-requires-2-clause-absent
-add_read-requires-2-clause-absent c = no-entry c.begin_read-read.result.0 c.value_behind-value.new.self c.value_behind-value.ensures.kept.step c.begin_read-read.ensures.inserted.new
+pub add-requires-clause-absent : goal.add-requires-clause-absent
+add-requires-clause-absent c = no-entry c.begin_read-read.result.0 c.value_behind-value.new.self c.value_behind-value.ensures.kept.step c.begin_read-read.ensures.inserted.new
 
 pub returns-clause-bases : goal.returns-clause-bases
 returns-clause-bases c = λ p.
@@ -30,7 +30,7 @@ further after r a b nodes e f h = rw (e, f) h
 
 pub returns-clause-behind : goal.returns-clause-behind
 returns-clause-behind c = λ late r i.
-    behind-put c.args.after.0 c.begin_read-read.result.0 (Read c.args.key.place c.value_behind-value.result c.args.key.unit c.args.key.var c.in_ok-args.args) c.value_behind-value.new.self.trace.nodes c.begin_read-read.new.self.nodes
+    behind-put c.args.after.0 c.begin_read-read.result.0 (Read c.args.key.place c.value_behind-value.result c.args.key.unit c.args.key.var c.args.key.args) c.value_behind-value.new.self.trace.nodes c.begin_read-read.new.self.nodes
     c.begin_read-read.ensures.inserted (here c.args.after.0 c.value_behind-value.new.self.trace c.reserve.new.self c.args.self.now.trace.nodes c.value_behind-value.ensures.trace c.reserve.ensures.nodes c.requires.here)
     r (read-has r c.value_behind-value.new.self.trace.nodes (c.value_behind-value.ensures.kept.step.queued r i))
     (further c.args.after.0 r c.value_behind-value.new.self.trace c.reserve.new.self c.args.self.now.trace.nodes c.value_behind-value.ensures.trace c.reserve.ensures.nodes (late r (rw c.value_behind-value.ensures.queue at i)))
@@ -38,10 +38,10 @@ returns-clause-behind c = λ late r i.
 pub returns-clause-kept : goal.returns-clause-kept
 returns-clause-kept c =
     let s : ℕ = c.begin_read-read.result.0 in
-    read-kept c.value_behind-value.new.self c.value_behind-value.ensures.kept c.args.after.0 s (Read c.args.key.place c.value_behind-value.result c.args.key.unit c.args.key.var c.in_ok-args.args) c.begin_read-read.new.self
+    read-kept c.value_behind-value.new.self c.value_behind-value.ensures.kept c.args.after.0 s (Read c.args.key.place c.value_behind-value.result c.args.key.unit c.args.key.var c.args.key.args) c.begin_read-read.new.self
     (here c.args.after.0 c.value_behind-value.new.self.trace c.reserve.new.self c.args.self.now.trace.nodes c.value_behind-value.ensures.trace c.reserve.ensures.nodes c.requires.here)
-    c.begin_read-read.ensures.nodes c.begin_read-read.ensures.inserted c.begin_read-read.ensures.whole c.begin_read-read.ensures.closed c.args.key c.value_behind-value.result (rw c.in_ok-args.ensures.equal refl)
-    c.add_read.new.self c.add_read-2.new.self (rw c.order.ensures at c.in_ok-add_read.ensures.ok) (rw c.order-2.ensures at c.in_ok-add_read-2.ensures.ok)
+    c.begin_read-read.ensures.nodes c.begin_read-read.ensures.inserted c.begin_read-read.ensures.whole c.begin_read-read.ensures.closed c.args.key c.value_behind-value.result refl
+    c.add_read.new.self c.add.new.self (rw c.order.ensures at c.in_ok-add_read.ensures.ok) (rw (c.order-2.ensures, c.hash_of_read-hash.ensures) at c.in_ok-add.ensures.ok)
     (c.value_behind-value.ensures.value ∙ sym (value-over c.value_behind-value.new.self (tables c.reserve.new.self c.args.self.now.mods c.args.self.now.stale c.args.self.now.memo) c.args.after.0 c.value_behind-value.ensures.trace c.value_behind-value.ensures.cells c.args.key.place))
-    (rw c.order.ensures at c.add_read.ensures.follows) (rw c.order-2.ensures at c.add_read-2.ensures.follows)
+    (rw c.order.ensures at c.add_read.ensures.follows) (rw c.order-2.ensures at c.add.ensures.follows)
     (c.follows_still-2.ensures.inserted s c.value_behind-value.new.self.stale (stamps_in c.value_behind-value.new.self.trace.nodes) (stamps_in c.begin_read-read.new.self.nodes) c.value_behind-value.ensures.kept.step.stale c.begin_read-read.ensures.inserted.others.stamps)

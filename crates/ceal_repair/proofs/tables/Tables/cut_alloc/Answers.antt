@@ -17,5 +17,5 @@ returns-clause-kept c =
     let n : Node = Alloc c.requires.here.0 c.requires.here.1 in
     alloc-cut-kept c.args.self.now c.requires.kept c.args.alloc.0 (Alloc c.requires.here.0 c.requires.here.1) c.requires.here.2 c.remove-2.new.self c.remove-2.ensures.nodes c.remove-2.ensures.others c.remove-2.ensures.whole
     (c.remove-2.ensures.closed c.requires.kept.step.closed (no-end c.args.alloc.0 (Alloc c.requires.here.0 c.requires.here.1) c.args.self.now.trace c.requires.kept.step.whole c.requires.here.2 refl))
-    c.requires.here.0 c.requires.here.1 refl c.remove.new.self c.remove.ensures.reads c.remove.ensures.allocs c.remove.ensures.gone
+    c.requires.here.0 c.requires.here.1 refl c.remove.new.self c.remove.ensures.stamps c.remove.ensures.gone
     (c.remove.ensures.follows (stamps_in c.args.self.now.trace.nodes) c.requires.kept.step.memo)

@@ -1,6 +1,5 @@
 use Rattle.std.proofs.Common.{◌≡◌, ℕ, true, false, ◌∙◌, sym, arith}
 use Rattle.ceal_order.specs.Stamps.{is_in}
-use Rattle.ceal_queue.specs.Queue.{IsEarliest}
 use Rattle.ceal_trace.specs.Nodes.{stamps_in}
 use Rattle.ceal_repair.proofs.Editing.{looking-first, none-late, looked-more, stale-same}
 use Rattle.ceal_repair.proofs.Parting.{false-of}

@@ -6,12 +6,12 @@ use Rattle.ceal_repair.proofs.Steps.{behind-put}
 use Rattle.ceal_repair.proofs.Keeping.{alloc-kept, no-entry}
 use Rattle.ceal_repair.proofs.tables.Tables.put_alloc.Goals as goal
 
-pub add_alloc-requires-clause-absent : goal.add_alloc-requires-clause-absent
-add_alloc-requires-clause-absent c = no-entry c.insert_alloc-alloc.result.0 c.args.self.now c.requires.kept.step (rw c.reserve.ensures.nodes at c.insert_alloc-alloc.ensures.inserted.new)
+pub add-requires-clause-absent : goal.add-requires-clause-absent
+add-requires-clause-absent c = no-entry c.insert_alloc-alloc.result.0 c.args.self.now c.requires.kept.step (rw c.reserve.ensures.nodes at c.insert_alloc-alloc.ensures.inserted.new)
 
 pub returns-clause-behind : goal.returns-clause-behind
 returns-clause-behind c = λ late r i.
-    behind-put c.args.after.0 c.insert_alloc-alloc.result.0 (Alloc c.args.block c.in_ok-own.own) c.args.self.now.trace.nodes c.insert_alloc-alloc.new.self.nodes
+    behind-put c.args.after.0 c.insert_alloc-alloc.result.0 (Alloc c.args.block c.args.key) c.args.self.now.trace.nodes c.insert_alloc-alloc.new.self.nodes
     (rw c.reserve.ensures.nodes at c.insert_alloc-alloc.ensures.inserted) c.requires.here r (read-has r c.args.self.now.trace.nodes (c.requires.kept.step.queued r i)) (late r i)
 
 pub returns-clause-kept : goal.returns-clause-kept
@@ -19,9 +19,9 @@ returns-clause-kept c =
     let s : ℕ = c.insert_alloc-alloc.result.0 in
     let more = rw c.reserve.ensures.nodes at c.insert_alloc-alloc.ensures.inserted in
     alloc-kept c.args.self.now c.requires.kept c.args.after.0 s (Alloc c.args.block c.args.key) c.insert_alloc-alloc.new.self c.requires.here
-    (rw (c.reserve.ensures.nodes, c.in_ok-own.ensures.equal) at c.insert_alloc-alloc.ensures.nodes) (rw (c.reserve.ensures.nodes, c.in_ok-own.ensures.equal) at c.insert_alloc-alloc.ensures.inserted)
-    c.insert_alloc-alloc.ensures.whole c.insert_alloc-alloc.ensures.closed c.args.block c.args.key refl c.add_alloc.new.self
-    (rw c.order.ensures at c.in_ok-add_alloc.ensures.ok)
+    (rw c.reserve.ensures.nodes at c.insert_alloc-alloc.ensures.nodes) (rw c.reserve.ensures.nodes at c.insert_alloc-alloc.ensures.inserted)
+    c.insert_alloc-alloc.ensures.whole c.insert_alloc-alloc.ensures.closed c.args.block c.args.key refl c.add.new.self
+    (rw (c.order.ensures, c.hash_of_alloc-hash.ensures) at c.in_ok-add.ensures.ok)
     (c.follows_still.ensures.inserted s c.args.self.now.mods (stamps_in c.args.self.now.trace.nodes) (stamps_in c.insert_alloc-alloc.new.self.nodes) c.requires.kept.step.mods more.others.stamps)
-    (rw c.order.ensures at c.add_alloc.ensures.follows)
+    (rw c.order.ensures at c.add.ensures.follows)
     (c.follows_still-2.ensures.inserted s c.args.self.now.stale (stamps_in c.args.self.now.trace.nodes) (stamps_in c.insert_alloc-alloc.new.self.nodes) c.requires.kept.step.stale more.others.stamps)
