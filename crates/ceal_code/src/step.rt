@@ -1,16 +1,19 @@
 // The next step of a stack.
 
-ghost use Rattle.std.specs.Prelude.{◌≡◌, ◌<◌, ◌^◌, true, if◌then◌else◌, IfOk, OnOk};
+ghost use Rattle.std.specs.Prelude.{◌≡◌, ◌+◌, ◌<◌, ◌^◌, true, if◌then◌else◌, IfOk, OnOk};
 ghost use Rattle.ceal_base.specs.Access.{holds};
-ghost use Rattle.ceal_code.specs.Stacks.{stack_in, act_in, act_on, ends, Does};
-ghost use Rattle.ceal_code.specs.Step.{Quiet, variable_default, entered, given, key_of, place_of, next};
+ghost use Rattle.ceal_code.specs.Init.{arguments};
+ghost use Rattle.ceal_code.specs.Stacks.{waits_in, stack_in, act_in, act_on};
+ghost use Rattle.ceal_code.specs.Step.{Run, Quiet, Makes, variable_default, entered, given, key_of, place_of, writes_at, reads_at, next};
+ghost use Rattle.ceal_code.specs.Value.{set};
 
+use crate::binding::bind_given;
 use crate::code::Code;
 use crate::command::Cmd;
 use crate::plain_words::PlainWords;
-use crate::stack::{Activation, Closure, Stack, weave};
+use crate::stack::{Activation, Closure, Stack};
 use ceal_base::access::is_true;
-use ceal_base::forest::Key;
+use ceal_base::forest::{Key, UnitId};
 use ceal_base::kind::Shape;
 use ceal_base::no_memory::NoMemory;
 use ceal_base::word::{Place, Word};
@@ -35,16 +38,6 @@ pub enum Act {
     },
     /// the closure goes on with the content of its place, and the stack comes after it
     Reads(Closure),
-}
-
-/// What a command does to the unit that it stands in.
-#[derive(Drop)]
-enum Local {
-    /// the unit is left
-    Leaves,
-    Quiet,
-    Makes { key: Key, var: u32 },
-    Writes { place: Place, value: Word },
 }
 
 /// What a read through null gives to a variable of the unit's function.
@@ -78,29 +71,6 @@ fn place_at(at: Word) -> Option<Place>
     }
 }
 
-/// A read through null: the unit goes on with the default at once.
-fn null_read(
-    code: &Code,
-    stack: &mut Stack,
-    unit: usize,
-    v: u32,
-    args: Words,
-) -> Result<Act, NoMemory>
-    ensures { IfOk result (λ a. act_in a (stack_in stack.new) ≡ Quiet (entered code.now unit
-        (given code.now unit v args (variable_default code.now unit v)) (stack_in stack.old))) }
-{
-    let value = null_content(code, unit, v);
-    let words = weave(
-        stack.allocator(),
-        code.params_of(unit),
-        v,
-        value,
-        args.items(),
-    )?;
-    stack.enter(code, unit, words.as_slice())?;
-    Ok(Act::Quiet)
-}
-
 fn target(test: Word, yes: u32, no: u32) -> usize
     ensures { result ≡ (if holds test then yes else no) }
 {
@@ -111,109 +81,152 @@ fn target(test: Word, yes: u32, no: u32) -> usize
     }
 }
 
-/// Does a command after which the unit goes on.
-fn go_on<P: PlainWords>(
+/// Gives a variable a word.
+fn assign(stack: &mut Stack, v: u32, word: Word) -> Result<Act, NoMemory>
+    requires index { stack.old.top.index < 2 ^ 63 }
+    requires runs { stack.old.runs ≡ true }
+    ensures { IfOk result (λ a. act_in a (stack_in stack.new) ≡ Quiet (Run stack.old.top.unit
+        (stack.old.top.index + 1) (set (arguments stack.old.top.env.items) v word)
+        (waits_in stack.old.waits))) }
+{
+    stack.top.set(v, word)?;
+    stack.jump(stack.top.index + 1);
+    Ok(Act::Quiet)
+}
+
+/// Makes a block, which the variable gets.
+fn make(stack: &mut Stack, key: Key, var: u32) -> Act
+    requires index { stack.old.top.index < 2 ^ 63 }
+    ensures { act_in result (stack_in stack.new) ≡ Makes key var stack.old.top.unit
+        (stack.old.top.index + 1) (arguments stack.old.top.env.items) (waits_in stack.old.waits) }
+{
+    stack.top.index += 1;
+    Act::Makes {
+        key,
+        var,
+        unit: stack.take_top(),
+    }
+}
+
+/// Writes at a place, if the word is one.
+fn write(stack: &mut Stack, at: Word, value: Word) -> Act
+    requires index { stack.old.top.index < 2 ^ 63 }
+    requires runs { stack.old.runs ≡ true }
+    ensures { act_in result (stack_in stack.new) ≡ writes_at (place_of at) value
+        (Run stack.old.top.unit (stack.old.top.index + 1)
+        (arguments stack.old.top.env.items) (waits_in stack.old.waits)) }
+{
+    stack.jump(stack.top.index + 1);
+    match place_at(at) {
+        None => Act::Quiet,
+        Some(place) => Act::Writes { place, value },
+    }
+}
+
+/// A read through null: the unit goes on with the default at once.
+fn read_null(
+    code: &Code,
+    stack: &mut Stack,
+    unit: usize,
+    v: u32,
+    args: &[Word],
+) -> Result<(), NoMemory>
+    ensures { OnOk result (stack_in stack.new ≡ entered code.now unit
+        (given code.now unit v args.now (variable_default code.now unit v))
+        (waits_in stack.old.waits)) }
+{
+    let value = null_content(code, unit, v);
+    bind_given(&mut stack.top.env, code.params_of(unit), v, value, args)?;
+    stack.begin_at(unit);
+    Ok(())
+}
+
+/// Reads at a place, if the word is one.
+fn read(
+    code: &Code,
+    stack: &mut Stack,
+    at: Word,
+    unit: UnitId,
+    v: u32,
+    args: Words,
+) -> Result<Act, NoMemory>
+    ensures { IfOk result (λ a. act_in a (stack_in stack.new)
+        ≡ reads_at code.now (place_of at) unit v args (waits_in stack.old.waits)) }
+{
+    match place_at(at) {
+        None => {
+            let begun = read_null(code, stack, unit.0 as usize, v, args.items());
+            drop(args);
+            begun?;
+            Ok(Act::Quiet)
+        }
+        Some(place) => {
+            stack.leave();
+            Ok(Act::Reads(Closure {
+                place,
+                unit,
+                var: v,
+                args,
+            }))
+        }
+    }
+}
+
+/// Does a command of the unit that runs.
+fn perform<P: PlainWords>(
     code: &Code,
     plain: &P,
-    top: &mut Activation,
+    stack: &mut Stack,
     c: &Cmd,
-) -> Result<Local, NoMemory>
-    requires { top.old.index < 2 ^ 63 }
-    ensures does { IfOk result
-        (λ l. Does code.now (P.plain plain.now) c.now top.old l top.new) }
+) -> Result<Act, NoMemory>
+    requires index { stack.old.top.index < 2 ^ 63 }
+    requires runs { stack.old.runs ≡ true }
+    ensures { IfOk result (λ a. act_on code.now (P.plain plain.now) c.now
+        stack.old.top (waits_in stack.old.waits) ≡ act_in a (stack_in stack.new)) }
 {
     match c {
         Cmd::Move { var, value } => {
-            let word = top.value(code, plain, value);
-            top.set(var.0, word)?;
-            top.index += 1;
-            Ok(Local::Quiet)
+            let word = stack.top.value(code, plain, value);
+            assign(stack, var.0, word)
         }
         Cmd::Tick => {
-            top.index += 1;
-            Ok(Local::Quiet)
+            stack.jump(stack.top.index + 1);
+            Ok(Act::Quiet)
         }
         Cmd::Alloc {
             var,
             function,
             args,
         } => {
-            let args = top.values(code, plain, args.items())?;
-            top.index += 1;
-            Ok(Local::Makes {
-                key: Key::Init {
-                    function: *function,
-                    args,
-                },
-                var: var.0,
-            })
+            let args = stack.top.values(code, plain, args.items())?;
+            let key = Key::Init {
+                function: *function,
+                args,
+            };
+            Ok(make(stack, key, var.0))
         }
-        Cmd::Modref { var, shape } => {
-            top.index += 1;
-            Ok(Local::Makes {
-                key: key_for(*shape),
-                var: var.0,
-            })
-        }
+        Cmd::Modref { var, shape } => Ok(make(stack, key_for(*shape), var.0)),
         Cmd::Write { place, value } => {
-            let at = top.value(code, plain, place);
-            let word = top.value(code, plain, value);
-            top.index += 1;
-            match place_at(at) {
-                None => Ok(Local::Quiet),
-                Some(place) => Ok(Local::Writes { place, value: word }),
-            }
+            let at = stack.top.value(code, plain, place);
+            let word = stack.top.value(code, plain, value);
+            Ok(write(stack, at, word))
         }
         Cmd::If { test, yes, no } => {
-            top.index = target(top.value(code, plain, test), *yes, *no);
-            Ok(Local::Quiet)
+            let test = stack.top.value(code, plain, test);
+            stack.jump(target(test, *yes, *no));
+            Ok(Act::Quiet)
         }
-        Cmd::Done => Ok(Local::Leaves),
-        Cmd::Tail { .. } => Ok(Local::Leaves),
-        Cmd::Read { .. } => Ok(Local::Leaves),
-        Cmd::Call { .. } => Ok(Local::Leaves),
-    }
-}
-
-/// Puts a unit on the stack at its beginning, with these words for its parameters.
-fn enter_with(code: &Code, stack: &mut Stack, unit: usize, words: Words) -> Result<(), NoMemory>
-    ensures { OnOk result (stack_in stack.new ≡ entered code.now unit words (stack_in stack.old)) }
-{
-    let entered = stack.enter(code, unit, words.items());
-    drop(words);
-    entered
-}
-
-/// Does a command that ends the unit's path; the unit is no more on the stack.
-fn leave<P: PlainWords>(
-    code: &Code,
-    plain: &P,
-    stack: &mut Stack,
-    top: &Activation,
-    c: &Cmd,
-) -> Result<Act, NoMemory>
-    requires ends { ends c.now ≡ true }
-    ensures act { IfOk result (λ a. act_in a (stack_in stack.new)
-        ≡ act_on code.now (P.plain plain.now) c.now top.now (stack_in stack.old)) }
-{
-    match c {
+        Cmd::Done => Ok(Act::Over),
+        Cmd::Tail { .. } => Ok(Act::Over),
         Cmd::Read {
             var,
             place,
             unit,
             args,
         } => {
-            let at = top.value(code, plain, place);
-            let args = top.values(code, plain, args.items())?;
-            match place_at(at) {
-                None => null_read(code, stack, unit.0 as usize, var.0, args),
-                Some(place) => Ok(Act::Reads(Closure {
-                    place,
-                    unit: *unit,
-                    var: var.0,
-                    args,
-                })),
-            }
+            let at = stack.top.value(code, plain, place);
+            let args = stack.top.values(code, plain, args.items())?;
+            read(code, stack, at, *unit, var.0, args)
         }
         Cmd::Call {
             function,
@@ -221,65 +234,22 @@ fn leave<P: PlainWords>(
             unit,
             rest,
         } => {
-            let rest = top.values(code, plain, rest.items())?;
-            enter_with(code, stack, unit.0 as usize, rest)?;
-            let args = top.values(code, plain, args.items())?;
-            enter_with(code, stack, code.entry_of(*function), args)?;
+            stack.wait(code, plain, unit.0 as usize, rest.items())?;
+            stack.go_to(code, plain, code.entry_of(*function), args.items())?;
             Ok(Act::Quiet)
-        }
-        Cmd::Done => Ok(Act::Over),
-        Cmd::Tail { .. } => Ok(Act::Over),
-        Cmd::Move { .. } => Ok(Act::Over),
-        Cmd::Tick => Ok(Act::Over),
-        Cmd::Alloc { .. } => Ok(Act::Over),
-        Cmd::Modref { .. } => Ok(Act::Over),
-        Cmd::Write { .. } => Ok(Act::Over),
-        Cmd::If { .. } => Ok(Act::Over),
-    }
-}
-
-/// Does a command of a unit that was taken off the stack.
-fn perform<P: PlainWords>(
-    code: &Code,
-    plain: &P,
-    stack: &mut Stack,
-    top: Activation,
-    c: &Cmd,
-) -> Result<Act, NoMemory>
-    requires { top.index < 2 ^ 63 }
-    ensures { IfOk result (λ a. act_in a (stack_in stack.new)
-        ≡ act_on code.now (P.plain plain.now) c.now top (stack_in stack.old)) }
-{
-    let mut top = top;
-    match go_on(code, plain, &mut top, c)? {
-        Local::Leaves => leave(code, plain, stack, &top, c),
-        Local::Quiet => {
-            stack.push(top)?;
-            Ok(Act::Quiet)
-        }
-        Local::Makes { key, var } => Ok(Act::Makes {
-            key,
-            var,
-            unit: top,
-        }),
-        Local::Writes { place, value } => {
-            stack.push(top)?;
-            Ok(Act::Writes { place, value })
         }
     }
 }
 
 /// The next step of the stack. After want of memory the stack is of no further use.
 #[tactic(auto, unfolding(crate::specs::Step::next))]
+#[inline(never)]
 pub fn advance<P: PlainWords>(code: &Code, plain: &P, stack: &mut Stack) -> Result<Act, NoMemory>
     ensures act { IfOk result (λ a. next code.now (P.plain plain.now) (stack_in stack.old)
         ≡ act_in a (stack_in stack.new)) }
 {
-    let Some(top) = stack.settle(code, plain)? else {
-        return Ok(Act::Over);
-    };
-    match code.command(top.unit, top.index) {
+    match stack.settle(code, plain)? {
         None => Ok(Act::Over),
-        Some(c) => perform(code, plain, stack, top, c),
+        Some(c) => perform(code, plain, stack, c),
     }
 }
