@@ -16,9 +16,13 @@ pub wait-none : (words : List Word) → waiting [] words ≡ Empty
 unfolding waiting
 wait-none words = refl
 
+pub wait-empty : (units : List Waiting) (words : List Word) → length units ≡ 0 → waiting units words ≡ Empty
+wait-empty [] words e = wait-none words
+wait-empty (w ∷ units) words e = absurd (omega (arith, e))
+
 pub wait-next : (units : List Waiting) (w : Waiting) (words : List Word)
     → waiting (units ++ w ∷ []) words
-      ≡ Run w.unit w.index (arguments (drop (length words - w.count) words)) (waiting units (take (length words - w.count) words))
+    ≡ Run w.unit w.index (arguments (drop (length words - w.count) words)) (waiting units (take (length words - w.count) words))
 unfolding waiting
 wait-next units w words = ap (λ us. waiting_on us words) (reverse-append units (w ∷ []))
 

@@ -1,15 +1,23 @@
 -- The stack of a run, and the next step, as the code keeps them.
 use Rattle.std.specs.Prelude.{◌≡◌, ℕ, ◌+◌, ◌-◌, ◌<◌, ◌^◌, Bool, true, false, Option, Some, None, List, [], ◌∷◌, drop, length, reverse, take, if◌then◌else◌}
+use Rattle.ceal_base.specs.declared.forest.Key.{Key}
+use Rattle.ceal_base.specs.declared.forest.Key.TheVariants.{Init}
 use Rattle.ceal_base.specs.declared.word.Word.{Word}
 use Rattle.ceal_code.specs.Init.{arguments}
 use Rattle.ceal_code.specs.Program.{Code}
-use Rattle.ceal_code.specs.Step.{Stack, Empty, Run, Act, Over, Quiet, Makes, Writes, Reads, act, command_at}
-use Rattle.ceal_code.specs.Value.{Plain}
+use Rattle.ceal_code.specs.Step.{Stack, Empty, Run, Act, Over, Quiet, Makes, Writes, Reads, act, command_at, key_of}
+use Rattle.ceal_code.specs.Value.{Plain, Variables, values}
 use Rattle.ceal_code.specs.declared.command.Cmd.{Cmd}
 use Rattle.ceal_code.specs.declared.stack.Activation.{Activation}
 use Rattle.ceal_code.specs.declared.stack.Stack.{Stack as CodeStack}
 use Rattle.ceal_code.specs.declared.step.Act.{Act as CodeAct}
 use Rattle.ceal_code.specs.declared.step.Act.TheVariants.{Over as IsOver, Quiet as IsQuiet, Makes as IsMakes, Writes as IsWrites, Reads as IsReads}
+use Rattle.ceal_code.specs.declared.step.Maker.{Maker}
+use Rattle.ceal_code.specs.declared.step.Maker.TheVariants.{Init as IsInit, Modref as IsModref}
+use Rattle.ceal_code.specs.declared.step.Making.{Making}
+use Rattle.ceal_code.specs.declared.step.Reading.{Reading}
+use Rattle.ceal_code.specs.declared.step.Step.{Step as CodeStep}
+use Rattle.ceal_code.specs.declared.step.Step.TheVariants.{Over as StepOver, Quiet as StepQuiet, Makes as StepMakes, Writes as StepWrites, Reads as StepReads}
 use Rattle.ceal_code.specs.declared.waits.Waiting.{Waiting}
 use Rattle.ceal_code.specs.declared.waits.Waits.{Waits}
 
@@ -71,3 +79,23 @@ act_in (IsReads c) st = Reads c.place c.unit c.var c.args st
 -- the step of a command of a unit over others
 abbrev pub act_on : Code → Plain → Cmd → Activation → Stack → Act
 act_on code x c a below = act code x c a.unit a.index (arguments a.env.items) below
+
+-- the key of a block that is made in a unit with these variables
+abbrev pub key_made : Code → Plain → Maker → Variables → Key
+key_made code x (IsInit f args) env = Init f (values code.structs x env args.now)
+key_made code x (IsModref shape) env = key_of shape
+
+-- what a block that is made does, and a read
+abbrev pub making_in : Code → Plain → Making → ℕ → ℕ → Variables → Stack → Act
+making_in code x m u i env below = Makes (key_made code x m.maker env) m.var u i env below
+
+abbrev pub reading_in : Code → Plain → Reading → Variables → Stack → Act
+reading_in code x r env below = Reads r.place r.unit r.var (values code.structs x env r.args.now) below
+
+-- what is done next, where arguments are not evaluated yet
+abbrev pub step_in : Code → Plain → CodeStep → CodeStack → Act
+step_in code x StepOver s = Over
+step_in code x StepQuiet s = Quiet (stack_in s)
+step_in code x (StepMakes m) s = making_in code x m s.top.unit s.top.index (arguments s.top.env.items) (waits_in s.waits)
+step_in code x (StepWrites p value) s = Writes p value (stack_in s)
+step_in code x (StepReads r) s = reading_in code x r (arguments s.top.env.items) (waits_in s.waits)

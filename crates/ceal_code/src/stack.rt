@@ -273,6 +273,32 @@ impl Stack {
         mem::replace(&mut self.top, none)
     }
 
+    /// Takes the units off the stack, which keeps its room: others can run now, and these afterwards.
+    #[tactic(auto, unfolding(crate::specs::Stacks::stack_in))]
+    pub fn set_aside(&mut self) -> Result<Stack, NoMemory>
+        ensures aside { IfOk result (λ below. stack_in below ≡ stack_in self.old) }
+        ensures empty { OnOk result (stack_in self.new ≡ Empty) }
+    {
+        self.park()?;
+        self.runs = false;
+        let mut below = Stack::empty(*self.room.allocator());
+        below.waits = self.waits.take();
+        Ok(below)
+    }
+
+    /// Puts units that were taken off in place of those that there are.
+    #[tactic(auto, unfolding(crate::specs::Stacks::stack_in))]
+    pub fn bring_back(&mut self, below: Stack) -> Result<(), NoMemory>
+        ensures back { OnOk result (stack_in self.new ≡ stack_in below) }
+    {
+        let mut below = below;
+        let parked = below.park();
+        let Stack { waits, .. } = below;
+        self.waits.put(waits);
+        self.runs = false;
+        parked
+    }
+
     /// Some unit runs; it answers false where there is none.
     #[tactic(auto, unfolding(crate::specs::Stacks::stack_in))]
     pub(crate) fn begin(&mut self) -> Result<bool, NoMemory>

@@ -3,13 +3,16 @@
 ghost use Rattle.std.specs.Prelude.{◌≡◌, ◌+◌, ◌<◌, ◌^◌, true, if◌then◌else◌, IfOk, OnOk};
 ghost use Rattle.ceal_base.specs.Access.{holds};
 ghost use Rattle.ceal_code.specs.Init.{arguments};
-ghost use Rattle.ceal_code.specs.Stacks.{waits_in, stack_in, act_in, act_on};
-ghost use Rattle.ceal_code.specs.Step.{Run, Quiet, Makes, variable_default, entered, given, key_of, place_of, writes_at, reads_at, next};
-ghost use Rattle.ceal_code.specs.Value.{set};
+ghost use Rattle.ceal_code.specs.Program.{Code as Parts};
+ghost use Rattle.ceal_code.specs.Stacks.{waits_in, stack_in, act_in, act_on, key_made, making_in, reading_in, step_in};
+ghost use Rattle.ceal_code.specs.Step.{Run, variable_default, entered, given, key_of, place_of, writes_at, next};
+ghost use Rattle.ceal_code.specs.Value.{Plain, set, values};
+ghost use Rattle.ceal_code.specs.declared.step.Act.TheVariants.{Makes as IsMakes, Reads as IsReads};
 
 use crate::binding::bind_given;
 use crate::code::Code;
 use crate::command::Cmd;
+use crate::expr::{CodeExprs, VarId};
 use crate::plain_words::PlainWords;
 use crate::stack::{Activation, Closure, Stack};
 use ceal_base::access::is_true;
@@ -17,7 +20,6 @@ use ceal_base::forest::{Key, UnitId};
 use ceal_base::kind::Shape;
 use ceal_base::no_memory::NoMemory;
 use ceal_base::word::{Place, Word};
-use ceal_base::words::Words;
 
 /// What the next step is; the stack is that after it.
 #[derive(Drop)]
@@ -38,6 +40,39 @@ pub enum Act {
     },
     /// the closure goes on with the content of its place, and the stack comes after it
     Reads(Closure),
+}
+
+/// What makes a block: an initialiser, whose arguments are not evaluated yet, or the shape of a modifiable.
+#[derive(Clone, Copy)]
+pub enum Maker<'c> {
+    Init { function: u32, args: &'c CodeExprs },
+    Modref(Shape),
+}
+
+/// A block that is made; the variable of the unit that runs gets it.
+#[derive(Clone, Copy)]
+pub struct Making<'c> {
+    pub maker: Maker<'c>,
+    pub var: u32,
+}
+
+/// A read, whose arguments are not evaluated yet.
+#[derive(Clone, Copy)]
+pub struct Reading<'c> {
+    pub place: Place,
+    pub unit: UnitId,
+    pub var: u32,
+    pub args: &'c CodeExprs,
+}
+
+/// What the next step is. Its arguments are evaluated when they are asked for: in the unit that runs, which is still there.
+#[derive(Clone, Copy)]
+pub enum Step<'c> {
+    Over,
+    Quiet,
+    Makes(Making<'c>),
+    Writes { place: Place, value: Word },
+    Reads(Reading<'c>),
 }
 
 /// What a read through null gives to a variable of the unit's function.
@@ -82,44 +117,40 @@ fn target(test: Word, yes: u32, no: u32) -> usize
 }
 
 /// Gives a variable a word.
-fn assign(stack: &mut Stack, v: u32, word: Word) -> Result<Act, NoMemory>
+fn assign(stack: &mut Stack, v: u32, word: Word) -> Result<(), NoMemory>
     requires index { stack.old.top.index < 2 ^ 63 }
     requires runs { stack.old.runs ≡ true }
-    ensures { IfOk result (λ a. act_in a (stack_in stack.new) ≡ Quiet (Run stack.old.top.unit
-        (stack.old.top.index + 1) (set (arguments stack.old.top.env.items) v word)
-        (waits_in stack.old.waits))) }
+    ensures { OnOk result (stack_in stack.new ≡ Run stack.old.top.unit (stack.old.top.index + 1)
+        (set (arguments stack.old.top.env.items) v word) (waits_in stack.old.waits)) }
 {
     stack.top.set(v, word)?;
     stack.jump(stack.top.index + 1);
-    Ok(Act::Quiet)
+    Ok(())
 }
 
-/// Makes a block, which the variable gets.
-fn make(stack: &mut Stack, key: Key, var: u32) -> Act
+/// Makes a block.
+fn make<'c>(stack: &mut Stack, making: Making<'c>) -> Step<'c>
     requires index { stack.old.top.index < 2 ^ 63 }
-    ensures { act_in result (stack_in stack.new) ≡ Makes key var stack.old.top.unit
-        (stack.old.top.index + 1) (arguments stack.old.top.env.items) (waits_in stack.old.waits) }
+    ensures { (code : Parts) (x : Plain) → step_in code x result stack.new
+        ≡ making_in code x making.entry stack.old.top.unit (stack.old.top.index + 1)
+        (arguments stack.old.top.env.items) (waits_in stack.old.waits) }
 {
     stack.top.index += 1;
-    Act::Makes {
-        key,
-        var,
-        unit: stack.take_top(),
-    }
+    Step::Makes(making)
 }
 
 /// Writes at a place, if the word is one.
-fn write(stack: &mut Stack, at: Word, value: Word) -> Act
+fn write<'c>(stack: &mut Stack, at: Word, value: Word) -> Step<'c>
     requires index { stack.old.top.index < 2 ^ 63 }
     requires runs { stack.old.runs ≡ true }
-    ensures { act_in result (stack_in stack.new) ≡ writes_at (place_of at) value
-        (Run stack.old.top.unit (stack.old.top.index + 1)
+    ensures { (code : Parts) (x : Plain) → step_in code x result stack.new
+        ≡ writes_at (place_of at) value (Run stack.old.top.unit (stack.old.top.index + 1)
         (arguments stack.old.top.env.items) (waits_in stack.old.waits)) }
 {
     stack.jump(stack.top.index + 1);
     match place_at(at) {
-        None => Act::Quiet,
-        Some(place) => Act::Writes { place, value },
+        None => Step::Quiet,
+        Some(place) => Step::Writes { place, value },
     }
 }
 
@@ -141,71 +172,64 @@ fn read_null(
     Ok(())
 }
 
-/// Reads at a place, if the word is one.
-fn read(
-    code: &Code,
-    stack: &mut Stack,
-    at: Word,
-    unit: UnitId,
-    v: u32,
-    args: Words,
-) -> Result<Act, NoMemory>
-    ensures { IfOk result (λ a. act_in a (stack_in stack.new)
-        ≡ reads_at code.now (place_of at) unit v args (waits_in stack.old.waits)) }
-{
-    match place_at(at) {
-        None => {
-            let begun = read_null(code, stack, unit.0 as usize, v, args.items());
-            drop(args);
-            begun?;
-            Ok(Act::Quiet)
-        }
-        Some(place) => {
-            stack.leave();
-            Ok(Act::Reads(Closure {
-                place,
-                unit,
-                var: v,
-                args,
-            }))
-        }
-    }
-}
-
-/// Does a command of the unit that runs.
-fn perform<P: PlainWords>(
+/// A read by a command through null.
+fn read_nothing<P: PlainWords>(
     code: &Code,
     plain: &P,
     stack: &mut Stack,
-    c: &Cmd,
-) -> Result<Act, NoMemory>
+    unit: UnitId,
+    var: VarId,
+    args: &CodeExprs,
+) -> Result<(), NoMemory>
+    ensures { OnOk result (stack_in stack.new ≡ entered code.now unit.0
+        (given code.now unit.0 var.0 (values code.now.structs (P.plain plain.now)
+        (arguments stack.old.top.env.items) args.now) (variable_default code.now unit.0 var.0))
+        (waits_in stack.old.waits)) }
+{
+    let words = stack.top.values(code, plain, args.items())?;
+    let begun = read_null(code, stack, unit.0 as usize, var.0, words.items());
+    drop(words);
+    begun
+}
+
+/// Does a command of the unit that runs.
+fn perform<'c, P: PlainWords>(
+    code: &Code,
+    plain: &P,
+    stack: &mut Stack,
+    c: &'c Cmd,
+) -> Result<Step<'c>, NoMemory>
     requires index { stack.old.top.index < 2 ^ 63 }
     requires runs { stack.old.runs ≡ true }
-    ensures { IfOk result (λ a. act_on code.now (P.plain plain.now) c.now
-        stack.old.top (waits_in stack.old.waits) ≡ act_in a (stack_in stack.new)) }
+    ensures { IfOk result (λ s. act_on code.now (P.plain plain.now) c.now
+        stack.old.top (waits_in stack.old.waits)
+        ≡ step_in code.now (P.plain plain.now) s stack.new) }
 {
     match c {
         Cmd::Move { var, value } => {
             let word = stack.top.value(code, plain, value);
-            assign(stack, var.0, word)
+            assign(stack, var.0, word)?;
+            Ok(Step::Quiet)
         }
         Cmd::Tick => {
             stack.jump(stack.top.index + 1);
-            Ok(Act::Quiet)
+            Ok(Step::Quiet)
         }
         Cmd::Alloc {
             var,
             function,
             args,
         } => {
-            let args = stack.top.values(code, plain, args.items())?;
-            let key = Key::Init {
+            let maker = Maker::Init {
                 function: *function,
                 args,
             };
-            Ok(make(stack, key, var.0))
+            Ok(make(stack, Making { maker, var: var.0 }))
         }
-        Cmd::Modref { var, shape } => Ok(make(stack, key_for(*shape), var.0)),
+        Cmd::Modref { var, shape } => {
+            let maker = Maker::Modref(*shape);
+            Ok(make(stack, Making { maker, var: var.0 }))
+        }
         Cmd::Write { place, value } => {
             let at = stack.top.value(code, plain, place);
             let word = stack.top.value(code, plain, value);
@@ -214,20 +238,27 @@ fn perform<P: PlainWords>(
         Cmd::If { test, yes, no } => {
             let test = stack.top.value(code, plain, test);
             stack.jump(target(test, *yes, *no));
-            Ok(Act::Quiet)
+            Ok(Step::Quiet)
         }
-        Cmd::Done => Ok(Act::Over),
-        Cmd::Tail { .. } => Ok(Act::Over),
+        Cmd::Done => Ok(Step::Over),
+        Cmd::Tail { .. } => Ok(Step::Over),
         Cmd::Read {
             var,
             place,
             unit,
             args,
-        } => {
-            let at = stack.top.value(code, plain, place);
-            let args = stack.top.values(code, plain, args.items())?;
-            read(code, stack, at, *unit, var.0, args)
-        }
+        } => match place_at(stack.top.value(code, plain, place)) {
+            None => {
+                read_nothing(code, plain, stack, *unit, *var, args)?;
+                Ok(Step::Quiet)
+            }
+            Some(place) => Ok(Step::Reads(Reading {
+                place,
+                unit: *unit,
+                var: var.0,
+                args,
+            })),
+        },
         Cmd::Call {
             function,
             args,
@@ -236,20 +267,108 @@ fn perform<P: PlainWords>(
         } => {
             stack.wait(code, plain, unit.0 as usize, rest.items())?;
             stack.go_to(code, plain, code.entry_of(*function), args.items())?;
-            Ok(Act::Quiet)
+            Ok(Step::Quiet)
         }
     }
 }
 
+impl Stack {
+    /// The next step of the stack, which is that after it; a block that is made and a read are to be taken from it. After
+    /// want of memory it is of no further use.
+    #[inline(never)]
+    #[tactic(auto, unfolding(crate::specs::Step::next))]
+    pub fn step<'c, P: PlainWords>(
+        &mut self,
+        code: &'c Code,
+        plain: &P,
+    ) -> Result<Step<'c>, NoMemory>
+        ensures step { IfOk result (λ s. next code.now (P.plain plain.now) (stack_in self.old)
+            ≡ step_in code.now (P.plain plain.now) s self.new) }
+    {
+        match self.settle(code, plain)? {
+            None => Ok(Step::Over),
+            Some(c) => perform(code, plain, self, c),
+        }
+    }
+
+    /// The key of the block that is made.
+    fn key_by<P: PlainWords>(
+        &self,
+        code: &Code,
+        plain: &P,
+        maker: Maker<'_>,
+    ) -> Result<Key, NoMemory>
+        ensures key { IfOk result (λ key. key ≡ key_made code.now (P.plain plain.now) maker.entry
+            (arguments self.now.top.env.items)) }
+    {
+        match maker {
+            Maker::Init { function, args } => {
+                let args = self.top.values(code, plain, args.items())?;
+                Ok(Key::Init { function, args })
+            }
+            Maker::Modref(shape) => Ok(key_for(shape)),
+        }
+    }
+
+    /// Takes the key of the block that is made, and the unit that it is for; the unit goes on over the stack.
+    pub fn made<P: PlainWords>(
+        &mut self,
+        code: &Code,
+        plain: &P,
+        making: Making<'_>,
+    ) -> Result<(Key, Activation), NoMemory>
+        ensures made { IfOk result (λ m.
+            making_in code.now (P.plain plain.now) making.entry self.old.top.unit self.old.top.index
+            (arguments self.old.top.env.items) (waits_in self.old.waits)
+            ≡ act_in (IsMakes m.0 making.entry.var m.1) (stack_in self.new)) }
+    {
+        let key = self.key_by(code, plain, making.maker)?;
+        Ok((key, self.take_top()))
+    }
+
+    /// Takes the closure of a read; the stack comes after it.
+    pub fn closure<P: PlainWords>(
+        &mut self,
+        code: &Code,
+        plain: &P,
+        reading: Reading<'_>,
+    ) -> Result<Closure, NoMemory>
+        ensures closure { IfOk result (λ c.
+            reading_in code.now (P.plain plain.now) reading.entry
+            (arguments self.old.top.env.items) (waits_in self.old.waits)
+            ≡ act_in (IsReads c) (stack_in self.new)) }
+    {
+        let args = self.top.values(code, plain, reading.args.items())?;
+        self.leave();
+        Ok(Closure {
+            place: reading.place,
+            unit: reading.unit,
+            var: reading.var,
+            args,
+        })
+    }
+}
+
 /// The next step of the stack. After want of memory the stack is of no further use.
-#[tactic(auto, unfolding(crate::specs::Step::next))]
-#[inline(never)]
 pub fn advance<P: PlainWords>(code: &Code, plain: &P, stack: &mut Stack) -> Result<Act, NoMemory>
     ensures act { IfOk result (λ a. next code.now (P.plain plain.now) (stack_in stack.old)
         ≡ act_in a (stack_in stack.new)) }
 {
-    match stack.settle(code, plain)? {
-        None => Ok(Act::Over),
-        Some(c) => perform(code, plain, stack, c),
+    match stack.step(code, plain)? {
+        Step::Over => Ok(Act::Over),
+        Step::Quiet => Ok(Act::Quiet),
+        Step::Makes(making) => {
+            let (key, unit) = stack.made(code, plain, making)?;
+            Ok(Act::Makes {
+                key,
+                var: making.var,
+                unit,
+            })
+        }
+        Step::Writes { place, value } => Ok(Act::Writes { place, value }),
+        Step::Reads(reading) => {
+            let closure = stack.closure(code, plain, reading)?;
+            Ok(Act::Reads(closure))
+        }
     }
 }

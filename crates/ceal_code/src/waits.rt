@@ -9,6 +9,7 @@ use crate::stack::Activation;
 use ceal_base::no_memory::NoMemory;
 use ceal_base::word::Word;
 use std::alloc::Global;
+use std::mem;
 
 /// A unit that waits: the index of its next command, and how many words stand for its variables.
 #[derive(Clone, Copy)]
@@ -92,5 +93,39 @@ impl Waits {
         refill(&mut top.env, tail(words, from))?;
         self.words.truncate(from);
         Ok(true)
+    }
+
+    /// Whether no unit waits.
+    fn is_empty(&self) -> bool
+        ensures { result ≡ true → waits_in self.now ≡ Empty }
+    {
+        self.units.len() == 0
+    }
+
+    /// Takes all units off; where there are none their room stays.
+    #[tactic(auto, using(crate::proofs::WaitSteps::wait_steps), unfolding(crate::specs::Stacks::waits_in))]
+    pub fn take(&mut self) -> Waits
+        ensures taken { waits_in result ≡ waits_in self.old }
+        ensures none { waits_in self.new ≡ Empty }
+    {
+        let none = Waits::empty(*self.words.allocator());
+        if self.is_empty() {
+            return none;
+        }
+        mem::replace(self, none)
+    }
+
+    /// Puts units in place of those that there are; where there are none the room stays.
+    #[tactic(auto, using(crate::proofs::WaitSteps::wait_steps), unfolding(crate::specs::Stacks::waits_in))]
+    pub fn put(&mut self, waits: Waits)
+        ensures put { waits_in self.new ≡ waits_in waits }
+    {
+        if waits.is_empty() {
+            drop(waits);
+            self.units.clear();
+            self.words.clear();
+        } else {
+            drop(mem::replace(self, waits));
+        }
     }
 }

@@ -31,5 +31,5 @@ loop-i-preserved c =
 pub returns : goal.returns
 returns c = record {
   bound = given-all c.args.params.now c.args.v c.args.value c.args.args.now c.loop-i.i c.loop-i.at (arguments c.loop-i.env.items)
-    (omega (arith, c.loop-i-test.false)) c.loop-i.invariant.count c.loop-i.invariant.same;
+      (omega (arith, c.loop-i-test.false)) c.loop-i.invariant.count c.loop-i.invariant.same;
 }

@@ -10,7 +10,7 @@ loop-i-init g c = record {
   inside = omega (arith, c.smaller-i.ensures);
   same = no-arguments _ c.clear.ensures.items
       ∙ sym (values-end c.args.scope.now.structs.now (g.P.PlainWords.plain c.args.scope.now.plain.now) (arguments c.args.scope.now.env.now)
-          c.args.params.now c.args.es.now c.smaller-i.result c.smaller-i.ensures);
+      c.args.params.now c.args.es.now c.smaller-i.result c.smaller-i.ensures);
 }
 
 pub loop-i-preserved : goal.loop-i-preserved

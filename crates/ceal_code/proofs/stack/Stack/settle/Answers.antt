@@ -9,14 +9,14 @@ returns-in-Some-clause-settled g c =
     sym c.loop-self.invariant
     ∙ (ap (settled c.args.code.now (g.P.PlainWords.plain c.args.plain.now)) (sym c.in_ok-begin.ensures.same)
     ∙ settle-found c.args.code.now (g.P.PlainWords.plain c.args.plain.now) c.begin.new.self (stack_in c.arrive.new.self) (c.in_ok-begin.ensures.runs ∙ c.if-branch.true)
-        (λ rest. rw c.in-Some.is at (c.in_ok-c.ensures.arrives rest)))
+    (λ rest. rw c.in-Some.is at (c.in_ok-c.ensures.arrives rest)))
 
 pub loop-self-preserved : goal.loop-self-preserved
 loop-self-preserved g c =
     ap (settled c.args.code.now (g.P.PlainWords.plain c.args.plain.now)) c.leave.ensures.left
     ∙ (ap (λ w. settled c.args.code.now (g.P.PlainWords.plain c.args.plain.now) (waits_in w)) c.in_ok-c.ensures.waits
     ∙ (sym (settle-over c.args.code.now (g.P.PlainWords.plain c.args.plain.now) c.begin.new.self (c.in_ok-begin.ensures.runs ∙ c.if-branch.true)
-        (λ rest. rw c.in_default.is at (c.in_ok-c.ensures.arrives rest)))
+    (λ rest. rw c.in_default.is at (c.in_ok-c.ensures.arrives rest)))
     ∙ (ap (settled c.args.code.now (g.P.PlainWords.plain c.args.plain.now)) c.in_ok-begin.ensures.same
     ∙ c.loop-self.invariant)))
 
