@@ -158,7 +158,7 @@ impl<'a> Repair<'a> {
         self.running.tables.set_steps(end, 0);
         self.cursor = end;
         self.limit = Some(until);
-        self.stack = below;
+        self.stack.bring_back(below)?;
         Ok(())
     }
 }
