@@ -273,6 +273,25 @@ impl Stack {
         mem::replace(&mut self.top, none)
     }
 
+    /// Takes all units off the stack, which keeps its room.
+    #[tactic(auto, unfolding(crate::specs::Stacks::stack_in))]
+    pub fn clear(&mut self)
+        ensures cleared { stack_in self.new ≡ Empty }
+    {
+        self.runs = false;
+        self.waits.clear();
+    }
+
+    /// With no unit, and with the room that this one has for the unit that runs; the units of this one stay.
+    #[tactic(auto, unfolding(crate::specs::Stacks::stack_in))]
+    pub fn spare(&mut self) -> Result<Stack, NoMemory>
+        ensures empty { IfOk result (λ spare. stack_in spare ≡ Empty) }
+        ensures stays { OnOk result (stack_in self.new ≡ stack_in self.old) }
+    {
+        let below = self.set_aside()?;
+        Ok(mem::replace(self, below))
+    }
+
     /// Takes the units off the stack, which keeps its room: others can run now, and these afterwards.
     #[tactic(auto, unfolding(crate::specs::Stacks::stack_in))]
     pub fn set_aside(&mut self) -> Result<Stack, NoMemory>

@@ -275,7 +275,6 @@ fn perform<'c, P: PlainWords>(
 impl Stack {
     /// The next step of the stack, which is that after it; a block that is made and a read are to be taken from it. After
     /// want of memory it is of no further use.
-    #[inline(never)]
     #[tactic(auto, unfolding(crate::specs::Step::next))]
     pub fn step<'c, P: PlainWords>(
         &mut self,

@@ -8,21 +8,22 @@ ghost use Rattle.ceal_code.specs.Step.{Empty, Run};
 use crate::stack::Activation;
 use ceal_base::no_memory::NoMemory;
 use ceal_base::word::Word;
+use smallvec::SmallVec;
 use std::alloc::Global;
 use std::mem;
 
 /// A unit that waits: the index of its next command, and how many words stand for its variables.
-#[derive(Clone, Copy)]
+#[derive(Clone, Copy, Default)]
 pub struct Waiting {
     pub unit: usize,
     pub index: usize,
     pub count: usize,
 }
 
-/// Units that wait, the next one last, and the words of their variables one after another.
+/// Units that wait, the next one last, and the words of their variables one after another. Mostly one unit waits, or none.
 #[derive(Drop)]
 pub struct Waits {
-    units: Vec<Waiting>,
+    units: SmallVec<Waiting, 1>,
     words: Vec<Word>,
 }
 
@@ -56,7 +57,7 @@ impl Waits {
         ensures empty { waits_in result ≡ Empty }
     {
         Waits {
-            units: Vec::new(alloc),
+            units: SmallVec::new(alloc),
             words: Vec::new(alloc),
         }
     }
@@ -99,7 +100,16 @@ impl Waits {
     fn is_empty(&self) -> bool
         ensures { result ≡ true → waits_in self.now ≡ Empty }
     {
-        self.units.len() == 0
+        self.units.is_empty()
+    }
+
+    /// No unit waits any more.
+    #[tactic(auto, using(crate::proofs::WaitSteps::wait_steps), unfolding(crate::specs::Stacks::waits_in))]
+    pub fn clear(&mut self)
+        ensures cleared { waits_in self.new ≡ Empty }
+    {
+        self.units.clear();
+        self.words.clear();
     }
 
     /// Takes all units off; where there are none their room stays.
@@ -122,8 +132,7 @@ impl Waits {
     {
         if waits.is_empty() {
             drop(waits);
-            self.units.clear();
-            self.words.clear();
+            self.clear();
         } else {
             drop(mem::replace(self, waits));
         }

@@ -5,4 +5,4 @@ use Rattle.ceal_code.proofs.waits.Waits.is_empty.Goals as goal
 
 pub returns : goal.returns
 unfolding waits_in
-returns c = λ e. wait-empty c.args.self.now.units.items c.args.self.now.words.items (grind (arith, e, c.len.ensures, c.args.self.now.units.ok.0))
+returns c = λ e. wait-empty c.args.self.now.units.items c.args.self.now.words.items (grind (arith, e, c.is_empty.ensures))
