@@ -1,7 +1,6 @@
 // The words of variables, and those with which units begin.
 
 ghost use Rattle.std.specs.Prelude.{◌≡◌, ◌++◌, ◌-◌, ◌+◌, ◌<◌, ◌≤◌, ◌==◌, length, replicate, min, slice_get, unwrap_or, Some, if◌then◌else◌, IfOk, OnOk};
-ghost use Rattle.std.specs.Option.{option_map};
 ghost use Rattle.ceal_base.specs.declared.word.Word.{Word};
 ghost use Rattle.ceal_code.specs.Init.{arguments};
 ghost use Rattle.ceal_code.specs.Step.{bound, chosen, woven};

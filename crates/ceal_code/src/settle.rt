@@ -54,7 +54,8 @@ impl Stack {
             (values code.now.structs (P.plain plain.now)
             (arguments self.old.top.env.items) args.now) (waits_in self.old.waits)) rest
             ≡ landing found self.new rest) }
-        ensures command { IfOk result (λ found. IfSome found (λ c. Stands code.now c.now self.new)) }
+        ensures command { IfOk result
+            (λ found. IfSome found (λ c. Stands code.now c.now self.new)) }
     {
         let at = unit.0 as usize;
         let first = code.command(at, 0);
@@ -78,7 +79,8 @@ impl Stack {
             settled_at code.now (P.plain plain.now) c.now self.old.top.unit self.old.top.index
             (arguments self.old.top.env.items) (waits_in self.old.waits) rest
             ≡ landing found self.new rest) }
-        ensures command { IfOk result (λ found. IfSome found (λ c. Stands code.now c.now self.new)) }
+        ensures command { IfOk result
+            (λ found. IfSome found (λ c. Stands code.now c.now self.new)) }
     {
         match c {
             Cmd::Done => Ok(None),
@@ -107,7 +109,8 @@ impl Stack {
             (command_at code.now self.old.top.unit self.old.top.index)
             self.old.top.unit self.old.top.index (arguments self.old.top.env.items)
             (waits_in self.old.waits) rest ≡ landing found self.new rest) }
-        ensures command { IfOk result (λ found. IfSome found (λ c. Stands code.now c.now self.new)) }
+        ensures command { IfOk result
+            (λ found. IfSome found (λ c. Stands code.now c.now self.new)) }
     {
         match code.command(self.top.unit, self.top.index) {
             None => Ok(None),
@@ -124,7 +127,8 @@ impl Stack {
         ensures settled { IfOk result (λ found.
             settled code.now (P.plain plain.now) (stack_in self.old)
             ≡ landing found self.new Empty) }
-        ensures command { IfOk result (λ found. IfSome found (λ c. Stands code.now c.now self.new)) }
+        ensures command { IfOk result
+            (λ found. IfSome found (λ c. Stands code.now c.now self.new)) }
     {
         while self.begin()? {
             if let Some(c) = self.arrive(code, plain)? {

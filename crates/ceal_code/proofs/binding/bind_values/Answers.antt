@@ -1,4 +1,4 @@
-use Rattle.std.proofs.Common.{◌-◌, ◌∙◌, sym, ap, drop, arith}
+use Rattle.std.proofs.Common.{◌-◌, ◌∙◌, sym, arith}
 use Rattle.ceal_code.specs.Init.{arguments}
 use Rattle.ceal_code.proofs.StackSteps.{no-arguments}
 use Rattle.ceal_code.proofs.GivenSteps.{values-end, values-next}
