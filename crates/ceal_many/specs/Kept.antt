@@ -7,7 +7,7 @@ use Rattle.ceal_many.specs.declared.entry.Entry.{Entry}
 use Rattle.ceal_many.specs.Standing.{Answering}
 
 -- the maker, and the sessions by their names
-pub record Kept (M A : Type 0) : Type 0 where
+pub record ManyState (M A : Type 0) : Type 0 where
   pub maker : M
   pub sessions : List (Entry A)
 
