@@ -113,12 +113,16 @@ unfoldable pub line_at : List ℕ → Block × List ℕ
 line_at bs =
     (record { shape = (shape_at bs).0; words = (words_at (shape_at bs).1).0 }, drop 1 (words_at (shape_at bs).1).1)
 
--- the given number of them, up to the end of the bytes
-unfoldable pub blocks_from : ℕ → List ℕ → List Block × List ℕ
-blocks_from zero bs = ([], bs)
-blocks_from (suc n) bs =
+-- the given number of things that are read so, one after another, up to the end of the bytes; and the bytes after them
+unfoldable pub many_from : {A : Type 0} → (List ℕ → A × List ℕ) → ℕ → List ℕ → List A × List ℕ
+many_from read zero bs = ([], bs)
+many_from read (suc n) bs =
     if length bs == 0 then ([], bs)
-    else ((line_at bs).0 ∷ (blocks_from n (line_at bs).1).0, (blocks_from n (line_at bs).1).1)
+    else ((read bs).0 ∷ (many_from read n (read bs).1).0, (many_from read n (read bs).1).1)
+
+-- so many lines of blocks
+abbrev pub blocks_from : ℕ → List ℕ → List Block × List ℕ
+blocks_from n bs = many_from line_at n bs
 
 -- a key, and the bytes after it
 unfoldable pub key_at : List ℕ → Key × List ℕ
@@ -158,12 +162,9 @@ item_at bs =
     else if first_byte bs == 114 then read_at (drop 2 bs)
     else (End, drop 2 bs)
 
--- the given number of them, up to the end of the bytes
-unfoldable pub items_from : ℕ → List ℕ → List Item × List ℕ
-items_from zero bs = ([], bs)
-items_from (suc n) bs =
-    if length bs == 0 then ([], bs)
-    else ((item_at bs).0 ∷ (items_from n (item_at bs).1).0, (items_from n (item_at bs).1).1)
+-- so many items
+abbrev pub items_from : ℕ → List ℕ → List Item × List ℕ
+items_from n bs = many_from item_at n bs
 
 -- a count and, on the lines after it, that number of blocks
 unfoldable pub inputs_at : List ℕ → List Block × List ℕ
