@@ -53,7 +53,8 @@ left_over r = loose r.levels (ahead r)
 -- the machine in a mode, by the frames and the levels of what is left over
 abbrev pub machine_at : CodeMode → State → CodeStack → ℕ → List Frame → List Trace → Machine
 machine_at IsFixing s stack n fs ts = record { state = s; mode = Fixing (first ts); frames = frames_in fs (around ts) }
-machine_at IsRunning s stack n fs ts = record { state = s; mode = Running (stack_in stack) (loose n ts); frames = frames_in fs (beyond n ts) }
+machine_at IsRunning s stack n fs ts =
+    record { state = s; mode = Running (stack_in stack) (loose n ts); frames = frames_in fs (beyond n ts) }
 
 -- the same by what is left over as items
 unfoldable pub machine_of : CodeMode → State → CodeStack → ℕ → List Frame → List Item → Machine

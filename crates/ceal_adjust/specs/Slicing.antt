@@ -20,8 +20,8 @@ use Rattle.ceal_theory.specs.Repair.{own}
 use Rattle.ceal_theory.specs.Slices.{Repair, Slices, sliced, Sound, is_done}
 use Rattle.ceal_theory.specs.Walk.{store_after, AgreesAll}
 
--- The repair in code is this one: the flat items, the plain words of the known core blocks, the next number, and the number
--- spent.
+-- The repair in code is this one: the flat items, the plain words of the known core blocks, the next number,
+-- and the number spent.
 pub record StandsFor (q : RepairInCode) (r : Repair) : Type 0 where
   pub items : q.forest ≡ flat r.items
   pub known : (b : ℕ) → knowing nothing q.known (Core b) ≡ r.known (Core b)
@@ -72,6 +72,7 @@ pub record IsStale (code : Code) (s : Store) (is : List Item) (x : Stale) : Type
 -- what one turn comes to
 abbrev pub IsTurn : Code → List Block → ℕ → Repair → Turned → Type 0
 IsTurn code inputs fuel r Honest = IsHonest code inputs r.items
-IsTurn code inputs fuel r (Went q) = (z : Repair) × Slices code own inputs (Some 1) r z × StandsFor q z × (q.spent ≤ fuel)
+IsTurn code inputs fuel r (Went q) =
+    (z : Repair) × Slices code own inputs (Some 1) r z × StandsFor q z × (q.spent ≤ fuel)
 IsTurn code inputs fuel r Over =
     (sliced code own inputs None fuel r ≡ None) × ((k : ℕ) → sliced code own inputs (Some (suc k)) fuel r ≡ None)

@@ -14,7 +14,8 @@ use Rattle.ceal_fold.specs.Folding.{folded}
 use Rattle.ceal_mean.specs.Fresh.{fresh}
 use Rattle.ceal_norm.specs.Laws.{AreUnitsOf}
 
--- every run of a core function comes to the same memory as that of the source, in as many steps and with as many new blocks
+-- every run of a core function comes to the same memory as that of the source, in as many steps and with as
+-- many new blocks
 abbrev pub Means : Code → Typed → Type 0
 Means code p = (f : ℕ) (args : List Word) (inputs : List Block) (fuel : ℕ) → IsCore (slice_get p.functions f)
     → code_fresh code f args inputs fuel ≡ fresh p f args inputs fuel

@@ -76,7 +76,8 @@ before_fault input fault = take fault.span.from input
 -- `fault CODE at LINE:COLUMN: MEANING`, and a line feed
 abbrev pub fault_text : FaultCode → ℕ → ℕ → List ℕ
 fault_text code line column =
-    codes "fault " ++ code_text code ++ codes " at " ++ decimal line ++ codes ":" ++ decimal column ++ codes ": " ++ meaning_text code ++ codes "\n"
+    codes "fault " ++ code_text code ++ codes " at " ++ decimal line ++ codes ":" ++ decimal column
+    ++ codes ": " ++ meaning_text code ++ codes "\n"
 
 -- the line of a fault of this input
 abbrev pub fault_line : List ℕ → Fault → List ℕ

@@ -31,10 +31,12 @@ call_fits structs m (Some f) words = is_none f.initialiser && words_fit structs 
 
 -- The arguments of a call fit the code's function exactly where they fit the program's.
 abbrev pub CallsLaw : Type 0
-CallsLaw = (p : Typed) (code : Code) → IsCodeOf p code → (structs : List StructInfo) (m : Blocks) (f : ℕ) (args : List Word)
+CallsLaw =
+    (p : Typed) (code : Code) → IsCodeOf p code → (structs : List StructInfo) (m : Blocks) (f : ℕ) (args : List Word)
     → args_fit structs m (slice_get code.functions f) args ≡ call_fits structs m (slice_get p.functions f) args
 
--- The program of an input and its code are a compiled program: well typed, and with code that is valid and means what it means.
+-- The program of an input and its code are a compiled program: well typed, and with code that is valid and
+-- means what it means.
 abbrev pub CompiledLaw : Type 0
 CompiledLaw = (input : List ℕ) (p : Program) → IsProgram input p.typed → IsCodeOf p.typed p.code → IsCompiled p
 

@@ -6,3 +6,4 @@ pub mod Loops
 -- the rest
 pub mod ReadBack
 pub mod Decided
+mod Samples

@@ -1,11 +1,9 @@
 -- What a loop of the reader has read, and what is left.
 use Rattle.std.proofs.Common.{◌≡◌, ℕ, zero, suc, ◌+◌, ◌-◌, ◌<◌, ◌≤◌, ◌==◌, Bool, true, false, if◌then◌else◌, List, [], ◌∷◌, ◌++◌, length, drop, length-append, length-drop, Result, Ok, Err, OnOk, refl, sym, ap, ◌∙◌, append_assoc, append-nil, arith}
 use Rattle.std.proofs.lemmas.Bool.Decides.{nat_tests}
-use Rattle.ceal_base.specs.Block.{Block}
-use Rattle.ceal_base.specs.declared.forest.Item.{Item}
 use Rattle.ceal_base.specs.declared.word.Word.{Word}
 use Rattle.ceal_base.specs.Digits.{is_digit}
-use Rattle.ceal_dump.specs.Reading.{first_byte, with_digit, number_from, number_at, small_at, int_at, block_at, place_at, pointer_at, is_pointer, word_at, words_from, words_at, line_at, blocks_from, item_at, items_from}
+use Rattle.ceal_dump.specs.Reading.{first_byte, with_digit, number_from, number_at, small_at, int_at, block_at, place_at, pointer_at, is_pointer, word_at, words_from, words_at, many_from}
 
 -- a text of parts
 pub joined : (out a b n m : List ℕ) → n ≡ out ++ a → m ≡ n ++ b → m ≡ out ++ (a ++ b)
@@ -108,43 +106,26 @@ module _ (all bs : List ℕ) (words : List Word)
       let n : length words + k ≡ length all = omega (arith, l) in
       ap (λ q. q.1) (sym (words-stop k bs e)) ∙ (rest k ∙ ap (λ n. (words_from n all).1) n)
 
--- one block more
-pub blocks-step : (n : ℕ) (bs : List ℕ) → 0 < n → (length bs == 0) ≡ false → blocks_from n bs ≡ ((line_at bs).0 ∷ (blocks_from (n - 1) (line_at bs).1).0, (blocks_from (n - 1) (line_at bs).1).1)
-unfolding blocks_from
-blocks-step zero bs h e = absurd (omega (arith, h))
-blocks-step (suc n) bs h e = let k : suc n - 1 ≡ n = omega arith in rw (e, k) refl
+-- one thing more of those that are read one after another
+module _ {A : Type 0} (read : List ℕ → A × List ℕ) where
+  many-step : (n : ℕ) (bs : List ℕ) → 0 < n → (length bs == 0) ≡ false
+      → many_from read n bs ≡ ((read bs).0 ∷ (many_from read (n - 1) (read bs).1).0, (many_from read (n - 1) (read bs).1).1)
+  unfolding many_from
+  many-step zero bs h e = absurd (omega (arith, h))
+  many-step (suc n) bs h e = let k : suc n - 1 ≡ n = omega arith in rw (e, k) refl
 
-pub blocks-none : (n : ℕ) (bs : List ℕ) → n ≡ 0 → blocks_from n bs ≡ ([], bs)
-unfolding blocks_from
-blocks-none n bs e = rw e refl
+  pub many-none : (n : ℕ) (bs : List ℕ) → n ≡ 0 → many_from read n bs ≡ ([], bs)
+  unfolding many_from
+  many-none n bs e = rw e refl
 
-pub blocks-out : (n : ℕ) (bs : List ℕ) → (length bs == 0) ≡ true → blocks_from n bs ≡ ([], bs)
-unfolding blocks_from
-blocks-out zero bs e = refl
-blocks-out (suc n) bs e = rw e refl
+  pub many-out : (n : ℕ) (bs : List ℕ) → (length bs == 0) ≡ true → many_from read n bs ≡ ([], bs)
+  unfolding many_from
+  many-out zero bs e = refl
+  many-out (suc n) bs e = rw e refl
 
--- and one item more
-pub items-step : (n : ℕ) (bs : List ℕ) → 0 < n → (length bs == 0) ≡ false → items_from n bs ≡ ((item_at bs).0 ∷ (items_from (n - 1) (item_at bs).1).0, (items_from (n - 1) (item_at bs).1).1)
-unfolding items_from
-items-step zero bs h e = absurd (omega (arith, h))
-items-step (suc n) bs h e = let k : suc n - 1 ≡ n = omega arith in rw (e, k) refl
-
-pub items-none : (n : ℕ) (bs : List ℕ) → n ≡ 0 → items_from n bs ≡ ([], bs)
-unfolding items_from
-items-none n bs e = rw e refl
-
-pub items-out : (n : ℕ) (bs : List ℕ) → (length bs == 0) ≡ true → items_from n bs ≡ ([], bs)
-unfolding items_from
-items-out zero bs e = refl
-items-out (suc n) bs e = rw e refl
-
-pub block-first : (n : ℕ) (bs next : List ℕ) (b : Block) → 0 < n → (length bs == 0) ≡ false → b ≡ (line_at bs).0 → next ≡ (line_at bs).1
-    → blocks_from n bs ≡ (b ∷ (blocks_from (n - 1) next).0, (blocks_from (n - 1) next).1)
-block-first n bs next b h e f g = rw (f, g) (blocks-step n bs h e)
-
-pub item-first : (n : ℕ) (bs next : List ℕ) (i : Item) → 0 < n → (length bs == 0) ≡ false → i ≡ (item_at bs).0 → next ≡ (item_at bs).1
-    → items_from n bs ≡ (i ∷ (items_from (n - 1) next).0, (items_from (n - 1) next).1)
-item-first n bs next i h e f g = rw (f, g) (items-step n bs h e)
+  pub many-first : (n : ℕ) (bs next : List ℕ) (a : A) → 0 < n → (length bs == 0) ≡ false → a ≡ (read bs).0 → next ≡ (read bs).1
+      → many_from read n bs ≡ (a ∷ (many_from read (n - 1) next).0, (many_from read (n - 1) next).1)
+  many-first n bs next a h e f g = rw (f, g) (many-step n bs h e)
 
 -- what was read so far, with one thing more
 module _ {A : Type 0} (done : List A) (now next all : List A × List ℕ) (same : done ++ now.0 ≡ all.0) (rest : now.1 ≡ all.1) where

@@ -17,7 +17,7 @@ use Rattle.ceal_base.specs.declared.word.Word.{Word}
 use Rattle.ceal_base.specs.declared.word.Word.TheVariants.{Num, Null, Block as BlockWord, At}
 use Rattle.ceal_dump.proofs.Numbers.{Ends, small-back, first-above, positive-back, negative-back}
 use Rattle.ceal_dump.specs.DumpText.{block_text, place_text, word_text, words_text, shape_text, block_line, block_lines, key_text, item_line, item_lines, Small, SmallBlock, SmallPlace, SmallWord, SmallWords, SmallShape, SmallBlocks, SmallKey, SmallItem, SmallItems}
-use Rattle.ceal_dump.specs.Reading.{first_byte, block_at, place_at, pointer_at, word_at, words_from, words_at, shape_at, line_at, blocks_from, key_at, alloc_at, write_at, closure_read, read_at, item_at, items_from, inputs_at, trace_at, memory_at}
+use Rattle.ceal_dump.specs.Reading.{first_byte, block_at, place_at, pointer_at, word_at, words_from, words_at, shape_at, line_at, blocks_from, key_at, alloc_at, write_at, closure_read, read_at, item_at, items_from, inputs_at, trace_at, memory_at, many_from}
 
 -- the bytes go on with no digit and no dot
 pub record Stops (bs : List ℕ) : Type 0 where
@@ -121,7 +121,7 @@ unfolding block_lines
 blocks-onto b bs more = append_assoc (block_line b) (block_lines bs) more
 
 pub blocks-back : (bs : List Block) (more : List ℕ) → SmallBlocks bs → blocks_from (length bs) (block_lines bs ++ more) ≡ (bs, more)
-unfolding blocks_from block_lines
+unfolding many_from block_lines
 blocks-back [] more h = refl
 blocks-back (b ∷ bs) more h =
     rw (blocks-onto b bs more, line-there b (block_lines bs ++ more), line-back b (block_lines bs ++ more) h.0.0 h.0.1, blocks-back bs more h.1) refl
@@ -207,7 +207,7 @@ unfolding item_lines
 items-onto i is more = append_assoc (item_line i) (item_lines is) more
 
 pub items-back : (is : List Item) (more : List ℕ) → SmallItems is → items_from (length is) (item_lines is ++ more) ≡ (is, more)
-unfolding items_from item_lines
+unfolding many_from item_lines
 items-back [] more h = refl
 items-back (i ∷ is) more h = rw (items-onto i is more, item-there i (item_lines is ++ more), item-back i (item_lines is ++ more) h.0, items-back is more h.1) refl
 

@@ -12,7 +12,7 @@ use Rattle.ceal_dump.proofs.Numbers.{small-back, small-range}
 use Rattle.ceal_dump.proofs.ReadBack.{words-stop, words-back, inputs-back, trace-back, memory-back}
 use Rattle.ceal_dump.specs.Answers.{OneRecordLaw}
 use Rattle.ceal_dump.specs.DumpText.{words_text, block_lines, item_lines, inputs_text, call_text, trace_text, memory_text, dump_text, HasDump, Small, SmallBlock, SmallPlace, SmallWord, SmallWords, SmallShape, SmallBlocks, SmallKey, SmallItem, SmallItems, InRange, IsDump}
-use Rattle.ceal_dump.specs.Reading.{first_byte, number_at, positive, negative, int_at, small_at, block_of, block_at, place_at, pointer_at, is_pointer, word_at, words_from, words_at, shape_at, line_at, blocks_from, key_at, alloc_at, write_at, read_at, item_at, items_from, inputs_at, trace_at, memory_at, call_record, record_at}
+use Rattle.ceal_dump.specs.Reading.{first_byte, number_at, positive, negative, int_at, small_at, block_of, block_at, place_at, pointer_at, is_pointer, word_at, words_from, words_at, shape_at, line_at, blocks_from, key_at, alloc_at, write_at, read_at, item_at, items_from, inputs_at, trace_at, memory_at, call_record, record_at, many_from}
 
 inputs-onto : (bs : List Block) (more : List ℕ) → inputs_text bs ++ more ≡ codes "ceal-trace 1\ninputs " ++ (decimal (length bs) ++ (10 ∷ (block_lines bs ++ more)))
 inputs-onto bs more =
@@ -143,7 +143,7 @@ unfolding line_at
 line-range bs = (shape-range bs, args-range (shape_at bs).1)
 
 blocks-range : (n : ℕ) (bs : List ℕ) → SmallBlocks (blocks_from n bs).0
-unfolding blocks_from
+unfolding many_from
 blocks-range zero bs = tt
 blocks-range (suc n) bs = if-range SmallBlocks (length bs == 0) _ _ tt (line-range bs, blocks-range n (line_at bs).1)
 
@@ -175,7 +175,7 @@ item-range bs =
     (if-range SmallItem (first_byte bs == 119) _ _ (write-range (drop 2 bs)) (if-range SmallItem (first_byte bs == 114) _ _ (read-range (drop 2 bs)) tt)))
 
 items-range : (n : ℕ) (bs : List ℕ) → SmallItems (items_from n bs).0
-unfolding items_from
+unfolding many_from
 items-range zero bs = tt
 items-range (suc n) bs = if-range SmallItems (length bs == 0) _ _ tt (item-range bs, items-range n (item_at bs).1)
 

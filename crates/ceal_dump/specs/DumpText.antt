@@ -63,7 +63,8 @@ item_line Step = codes "s\n"
 item_line (Alloc b key) = codes "a " ++ block_text b ++ codes " " ++ key_text key ++ codes "\n"
 item_line (Write p value) = codes "w " ++ place_text p ++ codes " " ++ word_text value ++ codes "\n"
 item_line (Read p value u v args) =
-    codes "r " ++ place_text p ++ codes " " ++ word_text value ++ codes " u" ++ decimal u.0 ++ codes " v" ++ decimal v ++ words_text args ++ codes "\n"
+    codes "r " ++ place_text p ++ codes " " ++ word_text value ++ codes " u" ++ decimal u.0 ++ codes " v"
+    ++ decimal v ++ words_text args ++ codes "\n"
 item_line End = codes "e\n"
 
 -- the lines of items
@@ -86,11 +87,14 @@ trace_text is = codes "trace " ++ decimal (length is) ++ codes "\n" ++ item_line
 -- the blocks of the memory, after how many inputs and core blocks they are
 abbrev pub memory_text : List Block → List Block → List ℕ
 memory_text inputs made =
-    codes "memory " ++ decimal (length inputs) ++ codes " " ++ decimal (length made) ++ codes "\n" ++ block_lines inputs ++ block_lines made
+    codes "memory " ++ decimal (length inputs) ++ codes " " ++ decimal (length made) ++ codes "\n"
+    ++ block_lines inputs ++ block_lines made
 
 -- the whole text: inputs, call, trace and memory
 unfoldable pub dump_text : Record → List ℕ
-dump_text r = inputs_text r.inputs ++ call_text r.function r.args ++ trace_text r.forest ++ memory_text r.memory.inputs r.memory.made ++ codes "end\n"
+dump_text r =
+    inputs_text r.inputs ++ call_text r.function r.args ++ trace_text r.forest
+    ++ memory_text r.memory.inputs r.memory.made ++ codes "end\n"
 
 -- each `End` closes the last of the open reads, and none is open at the end
 unfoldable pub closed : ℕ → List Item → Bool
@@ -133,8 +137,8 @@ pub record HasRoom (r : Record) : Type 0 where
   pub memory : length r.memory.inputs < 2 ^ 32
   pub made : length r.memory.made < 2 ^ 32
 
--- Numbers of blocks, fields, functions, structs, units and variables have room in 32 bits, and the others in the range of an
--- `int`. They have in every record that a program holds.
+-- Numbers of blocks, fields, functions, structs, units and variables have room in 32 bits, and the others in
+-- the range of an `int`. They have in every record that a program holds.
 abbrev pub Small : ℕ → Type 0
 Small n = n < 2 ^ 32
 

@@ -1,5 +1,5 @@
--- What is read from bytes that begin with the text of a thing: the thing, and the bytes after it. Of other bytes anything may
--- be read; the reader compares the text of the record that it has read with the bytes.
+-- What is read from bytes that begin with the text of a thing: the thing, and the bytes after it. Of other
+-- bytes anything may be read; the reader compares the text of the record that it has read with the bytes.
 use Rattle.std.specs.Prelude.{ℕ, zero, suc, ◌+◌, ◌-◌, ◌*◌, ◌^◌, ◌==◌, ◌&&◌, nat_lt, nat_le, ℤ, pos, negsuc, Bool, if◌then◌else◌, List, [], ◌∷◌, length, drop}
 use Rattle.ceal_base.specs.Block.{Block, Blocks}
 use Rattle.ceal_base.specs.Digits.{is_digit}
@@ -67,12 +67,16 @@ block_at bs = (block_of (first_byte bs) (small_at (drop 1 bs)).0, (small_at (dro
 
 -- a place, and the bytes after it
 unfoldable pub place_at : List ℕ → Place × List ℕ
-place_at bs = (record { block = (block_at bs).0; field = (small_at (drop 1 (block_at bs).1)).0 }, (small_at (drop 1 (block_at bs).1)).1)
+place_at bs = (
+  record { block = (block_at bs).0; field = (small_at (drop 1 (block_at bs).1)).0 },
+  (small_at (drop 1 (block_at bs).1)).1,
+)
 
 -- a block, or a place
 unfoldable pub pointer_at : List ℕ → Word × List ℕ
 pointer_at bs =
-    if first_byte (block_at bs).1 == 46 then (At (place_at bs).0, (place_at bs).1) else (BlockWord (block_at bs).0, (block_at bs).1)
+    if first_byte (block_at bs).1 == 46 then (At (place_at bs).0, (place_at bs).1)
+    else (BlockWord (block_at bs).0, (block_at bs).1)
 
 -- whether the byte begins a block or a place
 abbrev pub is_pointer : ℕ → Bool
@@ -106,13 +110,19 @@ shape_at bs =
 
 -- a line of a block
 unfoldable pub line_at : List ℕ → Block × List ℕ
-line_at bs = (record { shape = (shape_at bs).0; words = (words_at (shape_at bs).1).0 }, drop 1 (words_at (shape_at bs).1).1)
+line_at bs =
+    (record { shape = (shape_at bs).0; words = (words_at (shape_at bs).1).0 }, drop 1 (words_at (shape_at bs).1).1)
 
--- the given number of them, up to the end of the bytes
-unfoldable pub blocks_from : ℕ → List ℕ → List Block × List ℕ
-blocks_from zero bs = ([], bs)
-blocks_from (suc n) bs =
-    if length bs == 0 then ([], bs) else ((line_at bs).0 ∷ (blocks_from n (line_at bs).1).0, (blocks_from n (line_at bs).1).1)
+-- the given number of things that are read so, one after another, up to the end of the bytes; and the bytes after them
+unfoldable pub many_from : {A : Type 0} → (List ℕ → A × List ℕ) → ℕ → List ℕ → List A × List ℕ
+many_from read zero bs = ([], bs)
+many_from read (suc n) bs =
+    if length bs == 0 then ([], bs)
+    else ((read bs).0 ∷ (many_from read n (read bs).1).0, (many_from read n (read bs).1).1)
+
+-- so many lines of blocks
+abbrev pub blocks_from : ℕ → List ℕ → List Block × List ℕ
+blocks_from n bs = many_from line_at n bs
 
 -- a key, and the bytes after it
 unfoldable pub key_at : List ℕ → Key × List ℕ
@@ -140,7 +150,8 @@ closure_read p value bs =
 
 -- after `r `
 unfoldable pub read_at : List ℕ → Item × List ℕ
-read_at bs = closure_read (place_at bs).0 (word_at (drop 1 (place_at bs).1)).0 (drop 2 (word_at (drop 1 (place_at bs).1)).1)
+read_at bs =
+    closure_read (place_at bs).0 (word_at (drop 1 (place_at bs).1)).0 (drop 2 (word_at (drop 1 (place_at bs).1)).1)
 
 -- an item, and the bytes after it
 unfoldable pub item_at : List ℕ → Item × List ℕ
@@ -151,11 +162,9 @@ item_at bs =
     else if first_byte bs == 114 then read_at (drop 2 bs)
     else (End, drop 2 bs)
 
--- the given number of them, up to the end of the bytes
-unfoldable pub items_from : ℕ → List ℕ → List Item × List ℕ
-items_from zero bs = ([], bs)
-items_from (suc n) bs =
-    if length bs == 0 then ([], bs) else ((item_at bs).0 ∷ (items_from n (item_at bs).1).0, (items_from n (item_at bs).1).1)
+-- so many items
+abbrev pub items_from : ℕ → List ℕ → List Item × List ℕ
+items_from n bs = many_from item_at n bs
 
 -- a count and, on the lines after it, that number of blocks
 unfoldable pub inputs_at : List ℕ → List Block × List ℕ

@@ -42,13 +42,17 @@ pub record IsFirstOf (code : Code) (fuel : ℕ) (inputs : List Block) (call : Op
   pub kept : Keeps code fuel inputs IsFinished call (Some run)
   pub first : IsSomeAnd (trace_in run) (IsFirst (finished code fuel inputs call run))
 
--- what a propagation that has ended leaves: it can be kept, its items are the repair, an honest trace stays as it was, and so do
--- nodes at the beginning that agree with the walk over the inputs
-pub record IsRepairedOf (code : Code) (fuel : ℕ) (inputs : List Block) (call : Option Call) (l : Trace) (old run : Running) : Type 0 where
+-- what a propagation that has ended leaves: it can be kept, its items are the repair, an honest trace stays
+-- as it was, and so do nodes at the beginning that agree with the walk over the inputs
+pub record IsRepairedOf
+    (code : Code) (fuel : ℕ) (inputs : List Block) (call : Option Call) (l : Trace)
+    (old run : Running) : Type 0 where
   pub kept : Keeps code fuel inputs IsFinished call (Some run)
   pub repaired : IsSomeAnd (trace_in run) (IsRepaired (finished code fuel inputs call run) l)
-  pub unchanged : IsHonest code inputs l → IsUnchanged (finished code fuel inputs call run) l × (run.tables.trace ≡ old.tables.trace)
-  pub front : (front back : List Entry) → old.tables.trace.nodes ≡ front ++ back → AgreesAll code (bases code inputs) (forest_of front)
+  pub unchanged : IsHonest code inputs l
+      → IsUnchanged (finished code fuel inputs call run) l × (run.tables.trace ≡ old.tables.trace)
+  pub front : (front back : List Entry) → old.tables.trace.nodes ≡ front ++ back
+      → AgreesAll code (bases code inputs) (forest_of front)
       → (later : List Entry) × (run.tables.trace.nodes ≡ front ++ later)
 
 -- a run of the call
@@ -60,7 +64,8 @@ IsOldRun code fuel inputs (Some call) run = (l : Trace) × IsKeptRun code inputs
 abbrev pub IsRepairOf : Code → ℕ → List Block → Option Call → Running → Running → Type 0
 IsRepairOf code fuel inputs None old run = ⊥
 IsRepairOf code fuel inputs (Some call) old run =
-    (l : Trace) → IsKeptRun code inputs call.function call.args fuel l old → IsRepairedOf code fuel inputs (Some call) l old run
+    (l : Trace) → IsKeptRun code inputs call.function call.args fuel l old
+    → IsRepairedOf code fuel inputs (Some call) l old run
 
 -- a run of which nothing was run anew
 abbrev pub idle : Running → Running
@@ -83,7 +88,8 @@ IsOpenRun code fuel inputs (Some call) run = IsPartKept code fuel inputs call ru
 abbrev pub IsSliceOf : Code → ℕ → List Block → Option Call → Option ℕ → Running → Sliced → Type 0
 IsSliceOf code fuel inputs None reads old s = ⊤
 IsSliceOf code fuel inputs (Some call) reads old s =
-    (r : Repair) → IsPartRun code inputs call.function call.args fuel r old → IsSliced code inputs call.function call.args reads fuel r s
+    (r : Repair) → IsPartRun code inputs call.function call.args fuel r old
+    → IsSliced code inputs call.function call.args reads fuel r s
 
 -- where a repair goes on its steps are counted on, and a new one begins with none
 abbrev pub opened : Phase → Option Running → Option Running
@@ -96,7 +102,8 @@ opened Dropped run = option_map idle run
 -- the trace of the run is honest on these inputs
 abbrev pub IsStillHonest : Code → ℕ → List Block → Option Call → Running → Type 0
 IsStillHonest code fuel inputs None run = ⊥
-IsStillHonest code fuel inputs (Some call) run = (l : Trace) × IsKeptRun code inputs call.function call.args fuel l run × IsHonest code inputs l
+IsStillHonest code fuel inputs (Some call) run =
+    (l : Trace) × IsKeptRun code inputs call.function call.args fuel l run × IsHonest code inputs l
 
 -- a run whose nodes, heap and work are those of another
 pub record SameRun (old new : Running) : Type 0 where
@@ -111,10 +118,13 @@ pub record SetsBase (p : Place) (value : Word) (old new : Running) : Type 0 wher
   pub base : (q : Place) → base_in new.tables.mods q ≡ stored (base_in old.tables.mods) p value q
 
 -- the bases of an input of this shape and with these words were set
-pub record SetsInput (structs : List StructInfo) (input : ℕ) (shape : Shape) (words : List Word) (old new : Running) : Type 0 where
+pub record SetsInput
+    (structs : List StructInfo) (input : ℕ) (shape : Shape) (words : List Word) (old new : Running) : Type 0 where
   pub same : SameRun old new
-  pub here : (q : Place) → same_block q.block (Input input) ≡ true → base_in new.tables.mods q ≡ base_of structs shape words q.field (base_in old.tables.mods q)
-  pub others : (q : Place) → same_block q.block (Input input) ≡ false → base_in new.tables.mods q ≡ base_in old.tables.mods q
+  pub here : (q : Place) → same_block q.block (Input input) ≡ true
+      → base_in new.tables.mods q ≡ base_of structs shape words q.field (base_in old.tables.mods q)
+  pub others : (q : Place) → same_block q.block (Input input) ≡ false
+      → base_in new.tables.mods q ≡ base_in old.tables.mods q
 
 -- no place holds anything else
 pub record LeavesCells (old new : Running) : Type 0 where

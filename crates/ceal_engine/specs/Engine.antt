@@ -59,10 +59,11 @@ abbrev pub stored_at : Store → BlockId → Option Block
 stored_at m (Input n) = slice_get m.inputs n
 stored_at m (Core n) = core m n
 
--- `inputs` are the input blocks with their present bases, `forest` has the flat items of the last run's trace, `timeline` its
--- nodes and `heap` its core blocks, in Finished and Pending, and `work` is the number of steps that were run anew for it. In Partial
--- they are those of the repair that goes on, and `work` is what was spent on it so far. `memory`, `steps` and `live` say something
--- in Finished alone, and `work` in Finished and Partial
+-- `inputs` are the input blocks with their present bases, `forest` has the flat items of the last run's
+-- trace, `timeline` its nodes and `heap` its core blocks, in Finished and Pending, and `work` is the number
+-- of steps that were run anew for it. In Partial they are those of the repair that goes on, and `work` is
+-- what was spent on it so far. `memory`, `steps` and `live` say something in Finished alone, and `work` in
+-- Finished and Partial
 pub record EngineState : Type 0 where
   pub code : Code
   pub fuel : ℕ
@@ -128,11 +129,12 @@ pub record IsPresent (e : EngineState) : Type 0 where
 abbrev pub ReplaysCall : EngineState → Trace → Type 0
 ReplaysCall e l = IfSome e.call (λ call. Replays e.code e.inputs call.function call.args l)
 
--- What the engine has of its run is what the trace gives, which is honest on the present inputs; and its memory is that of the run
--- from scratch, the blocks of the trace being numbered in their order.
+-- What the engine has of its run is what the trace gives, which is honest on the present inputs; and its
+-- memory is that of the run from scratch, the blocks of the trace being numbered in their order.
 pub record IsTraced (e : EngineState) (l : Trace) : Type 0 where
   pub honest : IsHonest e.code e.inputs l
-  pub same : (r : Finished) → fresh_of e ≡ Some r → Same (core_numbers (blocks_of l)) e.memory.inputs (core e.memory) r.memory
+  pub same : (r : Finished) → fresh_of e ≡ Some r
+      → Same (core_numbers (blocks_of l)) e.memory.inputs (core e.memory) r.memory
   pub inputs : (n : ℕ) → slice_get e.memory.inputs n ≡ memory_after e.code e.inputs l (Input n)
   pub cores : (n : ℕ) → core e.memory n ≡ memory_after e.code e.inputs l (Core n)
   pub steps : e.steps ≡ steps_of l
@@ -143,8 +145,8 @@ pub record IsTidy (t : Timeline) (heap : Contents) : Type 0 where
   pub nests : Nests t.nodes
   pub lives : Lives heap t.nodes
 
--- The blocks that can be read are those of the trace, with their plain words; none of them is revoked, and the region has their slots
--- and no others.
+-- The blocks that can be read are those of the trace, with their plain words; none of them is revoked, and
+-- the region has their slots and no others.
 pub record IsHeapOf (code : Code) (inputs : List Block) (l : Trace) (heap : Contents) : Type 0 where
   pub words : (b : ℕ) → heap_words heap (Core b) ≡ plain_of code inputs l (Core b)
   pub released : (b : BlockId) (block : Known) → ¬ (standing heap b ≡ Revoked block)
@@ -185,7 +187,8 @@ pub record IsEngine (e : EngineState) : Type 0 where
   -- it is kept as nodes, which stand for its items
   pub nodes : e.forest ≡ option_map (λ t. forest_of t.nodes) e.timeline
   pub tidy : IfSome e.timeline (λ t. IfSome e.heap (IsTidy t))
-  -- the trace of a run is one of the call, the heap has its blocks, and their numbers are below the next one of the heap
+  -- the trace of a run is one of the call, the heap has its blocks, and their numbers are below the next one
+  -- of the heap
   pub replays : IsWhole e.phase → IfSome (trace e) (ReplaysCall e)
   pub held : IsWhole e.phase → IfSome (trace e) (λ l. IfSome e.heap (IsHeapOf e.code e.inputs l))
   pub numbers : IsWhole e.phase → IfSome (trace e) (λ l. IfSome e.heap (λ heap. Above (next heap) l))
@@ -211,7 +214,8 @@ fits_in structs m (Some kind) word = fits_field structs m kind word
 -- the place is that of a modifiable of an input, and the word fits it
 abbrev pub takes : EngineState → Place → Word → Bool
 takes e p word =
-    is_cell (kind_at e.code.structs (alone e.inputs) p) && fits_in e.code.structs (alone e.inputs) (kind_at e.code.structs (alone e.inputs) p) word
+    is_cell (kind_at e.code.structs (alone e.inputs) p)
+    && fits_in e.code.structs (alone e.inputs) (kind_at e.code.structs (alone e.inputs) p) word
 
 -- the inputs with another base
 abbrev pub with_base : List Block → Place → Word → List Block

@@ -119,14 +119,15 @@ state_of code fuel inputs call phase run = record {
 }
 
 -- The run's nodes stand for a trace of the call, which in Finished is honest on the present inputs.
-pub record IsKept (code : Code) (fuel : ℕ) (inputs : List Block) (phase : Phase) (call : Call) (run : Running) : Type 0 where
+pub record IsKept
+    (code : Code) (fuel : ℕ) (inputs : List Block) (phase : Phase) (call : Call) (run : Running) : Type 0 where
   pub whole : IsWhole phase
   pub trace : Trace
   pub of : IsKeptRun code inputs call.function call.args fuel trace run
   pub present : phase ≡ IsFinished → IsHonest code inputs trace
 
--- The run's nodes stand for a repair of the call that goes on; it is one with new blocks numbered in their order, but that the new
--- blocks have the numbers that the heap gave to them.
+-- The run's nodes stand for a repair of the call that goes on; it is one with new blocks numbered in their
+-- order, but that the new blocks have the numbers that the heap gave to them.
 pub record IsPartKept (code : Code) (fuel : ℕ) (inputs : List Block) (call : Call) (run : Running) : Type 0 where
   pub repair : Repair
   pub of : IsPartRun code inputs call.function call.args fuel repair run
@@ -136,7 +137,8 @@ pub record IsPartKept (code : Code) (fuel : ℕ) (inputs : List Block) (call : C
   pub carried : Carried code inputs next ordered repair
 
 -- A run of the call is kept in Finished and Pending, one of a repair that goes on in Partial.
-pub data KeepsRun (code : Code) (fuel : ℕ) (inputs : List Block) (phase : Phase) (call : Call) (run : Running) : Type 0 where
+pub data KeepsRun
+    (code : Code) (fuel : ℕ) (inputs : List Block) (phase : Phase) (call : Call) (run : Running) : Type 0 where
   whole : IsKept code fuel inputs phase call run → KeepsRun code fuel inputs phase call run
   part : phase ≡ Partial → IsPartKept code fuel inputs call run → KeepsRun code fuel inputs phase call run
 
@@ -147,7 +149,9 @@ Keeps code fuel inputs phase None (Some run) = ⊥
 Keeps code fuel inputs phase (Some call) (Some run) = KeepsRun code fuel inputs phase call run
 
 -- what is true of every engine inside
-pub record Sound (code : Code) (fuel : ℕ) (inputs : List Block) (call : Kept) (phase : Phase) (run : Option Running) : Type 0 where
+pub record Sound
+    (code : Code) (fuel : ℕ) (inputs : List Block) (call : Kept) (phase : Phase)
+    (run : Option Running) : Type 0 where
   pub is_valid : valid code ≡ true
   pub limits : InLimits fuel
   pub fit : inputs_fit code.structs inputs ≡ true

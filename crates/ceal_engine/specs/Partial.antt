@@ -103,7 +103,8 @@ pub record IsAnew (e n : EngineState) (k : Option ℕ) (r : Repair) : Type 0 whe
 -- no slice is there within the fuel, or it is done
 abbrev pub IsOut : EngineState → Option ℕ → Repair → Type 0
 IsOut e k r =
-    (sliced e.code own e.inputs k e.fuel r ≡ None) ⊎ ((r' : Repair) × (sliced e.code own e.inputs k e.fuel r ≡ Some r') × (is_done e.code e.inputs r' ≡ true))
+    (sliced e.code own e.inputs k e.fuel r ≡ None)
+    ⊎ ((r' : Repair) × (sliced e.code own e.inputs k e.fuel r ≡ Some r') × (is_done e.code e.inputs r' ≡ true))
 
 -- What so many reads, or all, make of the engine's repair, by the answer.
 abbrev pub Comes : EngineState → EngineState → Option ℕ → ℕ → Repair → Result Came RunError → Type 0
@@ -126,9 +127,11 @@ EndsSo e n next r (Err error) = Comes e n None next r (Err error)
 
 -- each block that could be read can be read still, and has the same words
 abbrev pub KeepsWords : Option Contents → Option Contents → Type 0
-KeepsWords before after = (b : ℕ) (block : Block) → words_in before (Core b) ≡ Some block → words_in after (Core b) ≡ Some block
+KeepsWords before after =
+    (b : ℕ) (block : Block) → words_in before (Core b) ≡ Some block → words_in after (Core b) ≡ Some block
 
--- The engine has the call, the trace, the blocks and the number of steps spent that it had, on inputs that extend its own.
+-- The engine has the call, the trace, the blocks and the number of steps spent that it had, on inputs that
+-- extend its own.
 pub record SameRepair (e n : EngineState) : Type 0 where
   pub code : n.code ≡ e.code
   pub call : n.call ≡ e.call
@@ -139,9 +142,12 @@ pub record SameRepair (e n : EngineState) : Type 0 where
 
 -- an engine with a run carries the repair that begins from its trace
 abbrev pub BeginsLaw : Type 0
-BeginsLaw = (e : EngineState) → IsEngine e → IsWhole e.phase → (l : Trace) → trace e ≡ Some l → (next : ℕ) → Above next l
+BeginsLaw =
+    (e : EngineState) → IsEngine e → IsWhole e.phase → (l : Trace) → trace e ≡ Some l → (next : ℕ) → Above next l
     → CarriesFrom e next (beginning e.code e.inputs l next)
 
 -- behind an edit, and with one input more, it carries the repair that it carried
 abbrev pub KeptLaw : Type 0
-KeptLaw = (e n : EngineState) → IsEngine e → IsEngine n → SameRepair e n → (next : ℕ) (r : Repair) → CarriesFrom e next r → CarriesFrom n next r
+KeptLaw =
+    (e n : EngineState) → IsEngine e → IsEngine n → SameRepair e n → (next : ℕ) (r : Repair)
+    → CarriesFrom e next r → CarriesFrom n next r

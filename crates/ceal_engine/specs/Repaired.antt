@@ -42,8 +42,8 @@ pub record IsFirst (e : EngineState) (l : Trace) : Type 0 where
   pub renamed : IsRenamed first.items l
   pub work : e.work ≡ steps_of first.items
 
--- The new trace is the repair of the old one on the present inputs with new blocks from `next` on, which have these names
--- in place of their numbers; blocks of the old trace keep theirs. The work is the repair's.
+-- The new trace is the repair of the old one on the present inputs with new blocks from `next` on, which have
+-- these names in place of their numbers; blocks of the old trace keep theirs. The work is the repair's.
 pub record IsRepairFrom (e : EngineState) (names : ℕ → ℕ) (old new : Trace) (next : ℕ) : Type 0 where
   pub repair : Repaired
   pub is : adjusted e.code e.inputs next e.fuel old ≡ Some repair
@@ -51,8 +51,8 @@ pub record IsRepairFrom (e : EngineState) (names : ℕ → ℕ) (old new : Trace
   pub renamed : IsRenamed repair.items new
   pub work : e.work ≡ repair.work
 
--- The new trace is the repair of the old one on the present inputs, from any number above the old blocks; the new blocks
--- have other names, one to one, and none is that of an old block.
+-- The new trace is the repair of the old one on the present inputs, from any number above the old blocks; the
+-- new blocks have other names, one to one, and none is that of an old block.
 pub record IsRepaired (e : EngineState) (old new : Trace) : Type 0 where
   pub names : ℕ → ℕ
   pub single : Single names
@@ -64,15 +64,18 @@ pub record IsUnchanged (e : EngineState) (old : Trace) : Type 0 where
   pub same : trace e ≡ Some old
   pub work : e.work ≡ 0
 
--- Nodes at the beginning of the old list that agree with the walk over the present inputs stand as they were, each with its
--- stamp, its content and its steps, in front of all others.
+-- Nodes at the beginning of the old list that agree with the walk over the present inputs stand as they were,
+-- each with its stamp, its content and its steps, in front of all others.
 abbrev pub KeepsFront : EngineState → EngineState → Type 0
 KeepsFront old new =
-    IfSome old.timeline (λ t. (front back : List Entry) → t.nodes ≡ front ++ back → AgreesAll old.code (bases old.code old.inputs) (forest_of front)
+    IfSome old.timeline
+    (λ t. (front back : List Entry) → t.nodes ≡ front ++ back
+    → AgreesAll old.code (bases old.code old.inputs) (forest_of front)
     → IsSomeAnd new.timeline (λ u. (later : List Entry) × (u.nodes ≡ front ++ later)))
 
 -- The flat items are those of a trace of the call that is honest on the inputs and has no more steps than the fuel.
-pub record IsRestorable (code : Code) (fuel : ℕ) (inputs : List Block) (f : ℕ) (args : List Word) (items : List Item) : Type 0 where
+pub record IsRestorable
+    (code : Code) (fuel : ℕ) (inputs : List Block) (f : ℕ) (args : List Word) (items : List Item) : Type 0 where
   pub trace : Trace
   pub flat_form : items ≡ flat trace
   pub fits : Fits code inputs f args

@@ -79,7 +79,8 @@ unfoldable mutual
       Test test (row_entry first (n + 1) after exits) (row_entry second m after exits)
       ∷ (row_blocks first (n + 1) after exits ++ row_blocks second m after exits)
   blocks_of (While' at test _ body) n after exits =
-      let inside = in_loop exits n after in Test test (row_entry body (n + 1) n inside) after ∷ row_blocks body (n + 1) n inside
+      let inside = in_loop exits n after in
+      Test test (row_entry body (n + 1) n inside) after ∷ row_blocks body (n + 1) n inside
   blocks_of (Return at) n after exits = []
   blocks_of (Break at) n after exits = []
   blocks_of (Continue at) n after exits = []

@@ -97,12 +97,14 @@ stepped g m env below (Some (Test test first second)) = record {
 stepped g m env below (Some (Act s next)) = acted g m next env below s
 stepped g m env below _ = record { memory = m; points = below }
 
--- a run from points of which the first is not over, with fuel for the given number of steps more, after the steps so far
+-- a run from points of which the first is not over, with fuel for the given number of steps more, after the
+-- steps so far
 unfoldable pub run_settled : Graph → ℕ → ℕ → Blocks → List Point → Option Finished
 run_settled g fuel steps m [] = Some (record { memory = m; steps = steps; blocks = length m.made })
 run_settled g zero steps m (p ∷ below) = None
 run_settled g (suc fuel) steps m (p ∷ below) =
-    let s = stepped g m p.env below (slice_get g.blocks p.block) in run_settled g fuel (steps + 1) s.memory (settled g s.points)
+    let s = stepped g m p.env below (slice_get g.blocks p.block) in
+    run_settled g fuel (steps + 1) s.memory (settled g s.points)
 
 -- a run from a state: it is finished where no point is left
 abbrev pub run : Graph → ℕ → ℕ → State → Option Finished

@@ -56,7 +56,8 @@ IsSimple _ = Unit {0}
 
 -- blocks act by such statements alone
 abbrev pub ActLaw : Type 0
-ActLaw = (p : Typed) (b : ℕ) (s : TypedStmt) (next : ℕ) → slice_get (graph_of p).blocks b ≡ Some (Act s next) → IsSimple s
+ActLaw =
+    (p : Typed) (b : ℕ) (s : TypedStmt) (next : ℕ) → slice_get (graph_of p).blocks b ≡ Some (Act s next) → IsSimple s
 
 -- a graph has one list of live sets
 abbrev pub OneLaw : Type 0

@@ -1,5 +1,5 @@
--- Live variables, by paths: the classical definition of data flow analysis (Kildall, POPL 1973; Aho, Lam, Sethi and Ullman,
--- *Compilers*, 2006, section 9.2).
+-- Live variables, by paths: the classical definition of data flow analysis (Kildall, POPL 1973; Aho, Lam,
+-- Sethi and Ullman, *Compilers*, 2006, section 9.2).
 use Rattle.std.specs.Prelude.{◌≡◌, ◌↔◌, ℕ, ◌<◌, not, Bool, true, Option, Some, None, List, [], ◌∷◌, ◌++◌, length, slice_get}
 use Rattle.ceal_base.specs.declared.typed.TypedExpr.{TypedExpr}
 use Rattle.ceal_base.specs.declared.typed.TypedForm.TheBlock.{Row_of-TypedExpr, end_of-TypedExpr, more_of-TypedExpr}
@@ -87,7 +87,8 @@ abbrev pub uses_at : Option GraphBlock → List ℕ
 uses_at None = []
 uses_at (Some block) = uses block
 
--- a variable is live at a block: some path leads from there to a use of it, and no block before it on the path assigns it
+-- a variable is live at a block: some path leads from there to a use of it, and no block before it on the
+-- path assigns it
 abbrev pub Live : List GraphBlock → ℕ → ℕ → Type 0
 Live blocks v b = (c : ℕ) × Path blocks (keeps v) b c × (is_in v (uses_at (slice_get blocks c)) ≡ true)
 

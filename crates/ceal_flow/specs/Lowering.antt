@@ -74,7 +74,8 @@ blocks_from n (f ∷ fs) = blocks_at f n ++ blocks_from (n + function_size f) fs
 
 -- the graph of a program
 abbrev pub graph_of : Typed → Graph
-graph_of p = record { structs = p.structs; functions = functions_from 0 p.functions; blocks = blocks_from 0 p.functions }
+graph_of p =
+    record { structs = p.structs; functions = functions_from 0 p.functions; blocks = blocks_from 0 p.functions }
 
 -- the place of each block: the first token of its statement, and the closing brace of a function for its end
 unfoldable mutual

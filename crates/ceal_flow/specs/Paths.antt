@@ -23,7 +23,8 @@ test_at test (Some block) = IsTrue (test block)
 -- a path from one block to another, jump by jump, such that the test holds of each block but the last
 pub data Path (blocks : List GraphBlock) (test : GraphBlock → Bool) : ℕ → ℕ → Type 0 where
   stays : {b : ℕ} → Path blocks test b b
-  jumps_to : {b c d : ℕ} → test_at test (slice_get blocks b) → Contains (jumps_at (slice_get blocks b)) c → Path blocks test c d → Path blocks test b d
+  jumps_to : {b c d : ℕ} → test_at test (slice_get blocks b) → Contains (jumps_at (slice_get blocks b)) c
+      → Path blocks test c d → Path blocks test b d
 
 -- every block
 abbrev pub any : GraphBlock → Bool

@@ -1,5 +1,5 @@
--- The folding of code: in each unit, uses of copies and operators on constants are replaced from the root down, and then
--- moves that nothing uses from the leaves up.
+-- The folding of code: in each unit, uses of copies and operators on constants are replaced from the root
+-- down, and then moves that nothing uses from the leaves up.
 use Rattle.std.specs.Prelude.{ℕ, ◌+◌, ◌==◌, ◌&&◌, ◌||◌, Bool, true, false, not, if◌then◌else◌, Option, Some, None, List, [], ◌∷◌}
 use Rattle.ceal_base.specs.Operators.{unary_value, binary_value}
 use Rattle.ceal_base.specs.declared.kind.Shape.TheVariants.{Struct}
@@ -80,7 +80,8 @@ unfoldable mutual
   folded_expr structs known (NumExpr n) = NumExpr n
   folded_expr structs known NullExpr = NullExpr
   folded_expr structs known (Var v) = use_of v (known v.0)
-  folded_expr structs known (Unary' op _ a) = unary_folded op (folded_operand structs known a) (constant (folded_operand structs known a))
+  folded_expr structs known (Unary' op _ a) =
+      unary_folded op (folded_operand structs known a) (constant (folded_operand structs known a))
   folded_expr structs known (Binary' op _ a _ b) =
       binary_folded op (folded_operand structs known a) (folded_operand structs known b)
       (constant (folded_operand structs known a)) (constant (folded_operand structs known b))
@@ -107,8 +108,10 @@ folded_command structs known (Write p e) = Write (folded_expr structs known p) (
 folded_command structs known (If test first second) = If (folded_expr structs known test) first second
 folded_command structs known Done = Done
 folded_command structs known (Tail w args) = Tail w (folded_exprs structs known args)
-folded_command structs known (Read v p w args) = Read v (folded_expr structs known p) w (folded_exprs structs known args)
-folded_command structs known (Call g args w rest) = Call g (folded_exprs structs known args) w (folded_exprs structs known rest)
+folded_command structs known (Read v p w args) =
+    Read v (folded_expr structs known p) w (folded_exprs structs known args)
+folded_command structs known (Call g args w rest) =
+    Call g (folded_exprs structs known args) w (folded_exprs structs known rest)
 
 -- what a variable is a copy of after a move of this expression to it
 abbrev pub copy_by : ℕ → CodeExpr → Option Copied

@@ -10,8 +10,11 @@ use Rattle.ceal_code.specs.Value.{Plain}
 
 -- each unit yields the same traces, on the same words and over the same plain words
 abbrev pub SameTraces : Code → Code → Type 0
-SameTraces c d = (x : Plain) (u : ℕ) (words : List Word) (l : Trace) → Yields c x (entered c u words Empty) l ↔ Yields d x (entered d u words Empty) l
+SameTraces c d =
+    (x : Plain) (u : ℕ) (words : List Word) (l : Trace)
+    → Yields c x (entered c u words Empty) l ↔ Yields d x (entered d u words Empty) l
 
 -- the same traces replay each call, on the same inputs
 abbrev pub SameReplays : Code → Code → Type 0
-SameReplays c d = (inputs : List Block) (f : ℕ) (args : List Word) (l : Trace) → Replays c inputs f args l ↔ Replays d inputs f args l
+SameReplays c d =
+    (inputs : List Block) (f : ℕ) (args : List Word) (l : Trace) → Replays c inputs f args l ↔ Replays d inputs f args l

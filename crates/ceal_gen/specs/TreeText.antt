@@ -16,7 +16,8 @@ leaf_line i v = codes "new " ++ node_name i ++ codes " node 0 " ++ decimal v ++ 
 -- an operator, over the nodes with twice its number and the number after that
 unfoldable pub operator_line : ℕ → ℕ → List ℕ
 operator_line i op =
-    codes "new " ++ node_name i ++ codes " node " ++ decimal op ++ codes " 0 " ++ node_name (2 * i) ++ codes " " ++ node_name (2 * i + 1) ++ codes "\n"
+    codes "new " ++ node_name i ++ codes " node " ++ decimal op ++ codes " 0 " ++ node_name (2 * i) ++ codes " "
+    ++ node_name (2 * i + 1) ++ codes "\n"
 
 -- node i by its draw: the operators are the nodes up to the size
 abbrev pub node_line : ℕ → ℕ → ℕ → List ℕ

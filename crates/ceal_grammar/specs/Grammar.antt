@@ -154,7 +154,8 @@ pub data Parameters : Type 0 where
 -- The head of a core function or of an initialiser; `shape` is the struct of `self`.
 pub data Signature : Type 0 where
   core : (at : Span) (x : Ident) (left : Span) (params : Parameters) (right : Span) → Signature
-  init : (at : Span) (x : Ident) (left inner : Span) (shape : Ident) (star own : Span) (more : List (Span × Parameter)) (right : Span) → Signature
+  init : (at : Span) (x : Ident) (left inner : Span) (shape : Ident) (star own : Span)
+      (more : List (Span × Parameter)) (right : Span) → Signature
 
 -- How many modifiables a member is: one, or a row of them, `[length]`.
 pub data Size : Type 0 where

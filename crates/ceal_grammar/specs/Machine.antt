@@ -211,12 +211,22 @@ begun d r = record { nesting = d; operators = 0; frames = []; receiver = r }
 
 -- a whole expression with one more parenthesis open
 abbrev pub opened : Whole → Span → Whole
-opened w s = record { nesting = suc w.nesting; operators = w.operators; frames = Open s w.nesting ∷ w.frames; receiver = w.receiver }
+opened w s = record {
+  nesting = suc w.nesting;
+  operators = w.operators;
+  frames = Open s w.nesting ∷ w.frames;
+  receiver = w.receiver;
+}
 
 -- an index begins after the piece p, the operand of the `&` at s
 abbrev pub indexed : Whole → Span → Piece → List Frame → Whole
 indexed w s p fs =
-    record { nesting = suc w.nesting; operators = suc w.operators; frames = Index s p.expr w.nesting ∷ fs; receiver = w.receiver }
+    record {
+      nesting = suc w.nesting;
+      operators = suc w.operators;
+      frames = Index s p.expr w.nesting ∷ fs;
+      receiver = w.receiver;
+    }
 
 -- a whole expression with one more operator that waits
 abbrev pub operated : Whole → Frame → List Frame → Whole
@@ -371,7 +381,9 @@ star_or cells form cell s k =
 
 -- a token after `mod`
 abbrev pub at_mod : TokenKind → Option Typing
-at_mod k = if is_word Words.Int k then Some (MoreType Types.ModInt) else wants (is_word Words.Struct k) (MoreType Types.ModStruct)
+at_mod k =
+    if is_word Words.Int k then Some (MoreType Types.ModInt)
+    else wants (is_word Words.Struct k) (MoreType Types.ModStruct)
 
 -- a token within a type
 abbrev pub at_type : Bool → TypePart → Span → TokenKind → Option Typing
@@ -533,13 +545,15 @@ at_opens i o k = wants (is_sign Signs.LeftBrace k) (opened_by i o)
 -- a token after the first block of an `if`
 abbrev pub at_closed : Inside → Span → Expr → List Stmt → Span → TokenKind → Option State
 at_closed i at e first s k =
-    if is_word Words.Else k then Some (In i (Modes.Otherwise at e first)) else at_body (with_statement i (If at e first [])) s k
+    if is_word Words.Else k then Some (In i (Modes.Otherwise at e first))
+    else at_body (with_statement i (If at e first [])) s k
 
 -- a token after `else`
 abbrev pub at_otherwise : Inside → Span → Expr → List Stmt → Span → TokenKind → Option State
 at_otherwise i at e first s k =
     if is_sign Signs.LeftBrace k then Some (opened_by i (OfElse at e first))
-    else wants (is_word Words.If k) (In (chained_in i (record { span = at; test = e; first = first })) (Modes.Before (To.If s)))
+    else wants (is_word Words.If k)
+    (In (chained_in i (record { span = at; test = e; first = first })) (Modes.Before (To.If s)))
 
 -- a token within a body, by the mode
 abbrev pub moved : Inside → Mode → Span → TokenKind → Option State
@@ -611,7 +625,8 @@ at_length es l m (Some n) = Some (Struct es (Structs.Sized l m n))
 -- the `]` after the length of a row
 abbrev pub at_sized : List Entry → Layout → FieldDecl → ℕ → TokenKind → Option State
 at_sized es l m n k =
-    wants (is_sign Signs.RightBracket k) (Struct es (Structs.Ends l (record { form = row_form m.form n; name = m.name })))
+    wants (is_sign Signs.RightBracket k)
+    (Struct es (Structs.Ends l (record { form = row_form m.form n; name = m.name })))
 
 -- a struct of which no member was read
 abbrev pub begun_struct : Ident → Layout
@@ -623,7 +638,8 @@ at_struct es Structs.Begun s k = at_name (λ x. Struct es (Structs.Named x)) s k
 at_struct es (Structs.Named x) s k = wants (is_sign Signs.LeftBrace k) (Struct es (Structs.Members (begun_struct x)))
 at_struct es (Structs.Members l) s k = at_member es l k
 at_struct es (Structs.Typing l part) s k =
-    typed (λ p. Struct es (Structs.Typing l p)) (λ form x. Struct es (Structs.Ends l (record { form = form; name = x }))) (at_type true part s k)
+    typed (λ p. Struct es (Structs.Typing l p))
+    (λ form x. Struct es (Structs.Ends l (record { form = form; name = x }))) (at_type true part s k)
 at_struct es (Structs.Ends l m) s k = at_member_end es l m k
 at_struct es (Structs.Length l m) s k = at_length es l m (length_of k)
 at_struct es (Structs.Sized l m n) s k = at_sized es l m n k
@@ -635,17 +651,20 @@ with_parameter h p = record { initialiser = h.initialiser; name = h.name; params
 
 -- the state at the begin of a body
 abbrev pub body_of : List Entry → Head → State
-body_of es h = In (record { entries = es; head = h; opened = []; done = []; chain = []; base = 1; nesting = 1 }) Modes.Body
+body_of es h =
+    In (record { entries = es; head = h; opened = []; done = []; chain = []; base = 1; nesting = 1 }) Modes.Body
 
 -- a token within the head of a function
 abbrev pub at_head : List Entry → HeadPlace → Span → TokenKind → Option State
 at_head es Heads.Ceal s k = at_name (λ x. InHead es (Heads.CealNamed x)) s k
 at_head es (Heads.CealNamed x) s k =
-    wants (is_sign Signs.LeftParenthesis k) (InHead es (Heads.First (record { initialiser = None; name = x; params = [] })))
+    wants (is_sign Signs.LeftParenthesis k)
+    (InHead es (Heads.First (record { initialiser = None; name = x; params = [] })))
 at_head es Heads.Init s k = at_name (λ x. InHead es (Heads.InitNamed x)) s k
 at_head es (Heads.InitNamed x) s k = wants (is_sign Signs.LeftParenthesis k) (InHead es (Heads.InitOpened x))
 at_head es (Heads.InitOpened x) s k = wants (is_word Words.Struct k) (InHead es (Heads.InitStruct x))
-at_head es (Heads.InitStruct x) s k = at_name (λ y. InHead es (Heads.Shaped (record { initialiser = Some y; name = x; params = [] }))) s k
+at_head es (Heads.InitStruct x) s k =
+    at_name (λ y. InHead es (Heads.Shaped (record { initialiser = Some y; name = x; params = [] }))) s k
 at_head es (Heads.Shaped h) s k = wants (is_sign Signs.Star k) (InHead es (Heads.Starred h))
 at_head es (Heads.Starred h) s k = wants (is_word Words.Own k) (InHead es (Heads.Named h))
 at_head es (Heads.First h) s k =
@@ -653,9 +672,11 @@ at_head es (Heads.First h) s k =
     else begun_type (λ p. InHead es (Heads.Typing h p)) (type_starts k)
 at_head es (Heads.Next h) s k = begun_type (λ p. InHead es (Heads.Typing h p)) (type_starts k)
 at_head es (Heads.Typing h part) s k =
-    typed (λ p. InHead es (Heads.Typing h p)) (λ form x. InHead es (Heads.Named (with_parameter h (record { form = form; name = x })))) (at_type false part s k)
+    typed (λ p. InHead es (Heads.Typing h p))
+    (λ form x. InHead es (Heads.Named (with_parameter h (record { form = form; name = x })))) (at_type false part s k)
 at_head es (Heads.Named h) s k =
-    if is_sign Signs.Comma k then Some (InHead es (Heads.Next h)) else wants (is_sign Signs.RightParenthesis k) (InHead es (Heads.Done h))
+    if is_sign Signs.Comma k then Some (InHead es (Heads.Next h))
+    else wants (is_sign Signs.RightParenthesis k) (InHead es (Heads.Done h))
 at_head es (Heads.Done h) s k = wants (is_sign Signs.LeftBrace k) (body_of es h)
 
 -- a reserved word that begins a part of a program

@@ -78,24 +78,35 @@ spelled d i n (number v s) rest = mark d i n (Number v) s ∷ rest
 spelled d i n (null s) rest = mark d i n (Reserved Words.Null) s ∷ rest
 spelled d i n (variable x) rest = mark d i n (Name x.text) x.span ∷ rest
 spelled d i n (own s) rest = mark d i n (Reserved Words.Own) s ∷ rest
-spelled d i n (parens l a r) rest = mark (suc d) i n (Sign Signs.LeftParenthesis) l ∷ spelled (suc d) 0 n a (mark d 0 (after a n) (Sign Signs.RightParenthesis) r ∷ rest)
-spelled d i n (arrow a s x) rest = spelled d i n a (mark d 0 (suc (after a n)) (Sign Signs.Arrow) s ∷ mark d 0 (suc (after a n)) (Name x.text) x.span ∷ rest)
+spelled d i n (parens l a r) rest =
+    mark (suc d) i n (Sign Signs.LeftParenthesis) l
+    ∷ spelled (suc d) 0 n a (mark d 0 (after a n) (Sign Signs.RightParenthesis) r ∷ rest)
+spelled d i n (arrow a s x) rest =
+    spelled d i n a
+    (mark d 0 (suc (after a n)) (Sign Signs.Arrow) s ∷ mark d 0 (suc (after a n)) (Name x.text) x.span ∷ rest)
 spelled d i n (prefix op s a) rest = mark d i (suc n) (Sign (prefix_sign op)) s ∷ spelled d 0 (suc n) a rest
 spelled d i n (address s a) rest = mark d i (suc n) (Sign Signs.Ampersand) s ∷ spelled d 0 (suc n) a rest
 spelled d i n (element s a l b r) rest =
-    mark d i (suc n) (Sign Signs.Ampersand) s ∷ spelled d 0 (suc n) a (mark (suc d) 0 (suc (after a (suc n))) (Sign Signs.LeftBracket) l
-    ∷ spelled (suc d) 0 (suc (after a (suc n))) b (mark d 0 (after b (suc (after a (suc n)))) (Sign Signs.RightBracket) r ∷ rest))
-spelled d i n (binary op a s b) rest = spelled d i n a (mark d 0 (suc (after a n)) (Sign (sign_of op)) s ∷ spelled d 0 (suc (after a n)) b rest)
+    mark d i (suc n) (Sign Signs.Ampersand) s
+    ∷ spelled d 0 (suc n) a (mark (suc d) 0 (suc (after a (suc n))) (Sign Signs.LeftBracket) l
+    ∷ spelled (suc d) 0 (suc (after a (suc n))) b
+    (mark d 0 (after b (suc (after a (suc n)))) (Sign Signs.RightBracket) r ∷ rest))
+spelled d i n (binary op a s b) rest =
+    spelled d i n a (mark d 0 (suc (after a n)) (Sign (sign_of op)) s ∷ spelled d 0 (suc (after a n)) b rest)
 
 -- the tokens of a type, and then the rest
 abbrev pub spelled_type : ℕ → ℕ → Written → List Mark → List Mark
 spelled_type d i (int s) rest = mark d i 0 (Reserved Words.Int) s ∷ rest
-spelled_type d i (pointer s x t) rest = mark d i 0 (Reserved Words.Struct) s ∷ name d x ∷ plain d (Sign Signs.Star) t ∷ rest
-spelled_type d i (mod_int s k t) rest = mark d i 0 (Reserved Words.Mod) s ∷ plain d (Reserved Words.Int) k ∷ plain d (Sign Signs.Star) t ∷ rest
+spelled_type d i (pointer s x t) rest =
+    mark d i 0 (Reserved Words.Struct) s ∷ name d x ∷ plain d (Sign Signs.Star) t ∷ rest
+spelled_type d i (mod_int s k t) rest =
+    mark d i 0 (Reserved Words.Mod) s ∷ plain d (Reserved Words.Int) k ∷ plain d (Sign Signs.Star) t ∷ rest
 spelled_type d i (mod_pointer s k x t) rest =
-    mark d i 0 (Reserved Words.Mod) s ∷ plain d (Reserved Words.Struct) k ∷ name d x ∷ plain d (Sign Signs.Star) t ∷ rest
+    mark d i 0 (Reserved Words.Mod) s ∷ plain d (Reserved Words.Struct) k ∷ name d x
+    ∷ plain d (Sign Signs.Star) t ∷ rest
 spelled_type d i (cell_int s k) rest = mark d i 0 (Reserved Words.Mod) s ∷ plain d (Reserved Words.Int) k ∷ rest
-spelled_type d i (cell_pointer s k x) rest = mark d i 0 (Reserved Words.Mod) s ∷ plain d (Reserved Words.Struct) k ∷ name d x ∷ rest
+spelled_type d i (cell_pointer s k x) rest =
+    mark d i 0 (Reserved Words.Mod) s ∷ plain d (Reserved Words.Struct) k ∷ name d x ∷ rest
 
 -- the tokens of arguments with a comma before each
 unfoldable pub spelled_more : ℕ → ℕ → List (Span × Phrase) → List Mark → List Mark
@@ -111,7 +122,8 @@ spelled_arguments d (arguments e more) rest = spelled d 1 0 e (spelled_more d 2 
 abbrev pub spelled_given : ℕ → Given → List Mark → List Mark
 spelled_given d (plainly e) rest = spelled d 0 0 e rest
 spelled_given d (reading s l e r) rest =
-    plain d (Reserved Words.Read) s ∷ plain (suc d) (Sign Signs.LeftParenthesis) l ∷ spelled (suc d) 0 0 e (plain d (Sign Signs.RightParenthesis) r ∷ rest)
+    plain d (Reserved Words.Read) s ∷ plain (suc d) (Sign Signs.LeftParenthesis) l
+    ∷ spelled (suc d) 0 0 e (plain d (Sign Signs.RightParenthesis) r ∷ rest)
 spelled_given d (allocation s y x l args r) rest =
     plain d (Reserved Words.Alloc) s ∷ name d y ∷ name d x ∷ plain (suc d) (Sign Signs.LeftParenthesis) l
     ∷ spelled_arguments (suc d) args (plain d (Sign Signs.RightParenthesis) r ∷ rest)
@@ -119,36 +131,45 @@ spelled_given d (modref_int s k l r) rest =
     plain d (Reserved Words.Modref) s ∷ plain d (Reserved Words.Int) k ∷ plain (suc d) (Sign Signs.LeftParenthesis) l
     ∷ plain d (Sign Signs.RightParenthesis) r ∷ rest
 spelled_given d (modref s y l r) rest =
-    plain d (Reserved Words.Modref) s ∷ name d y ∷ plain (suc d) (Sign Signs.LeftParenthesis) l ∷ plain d (Sign Signs.RightParenthesis) r ∷ rest
+    plain d (Reserved Words.Modref) s ∷ name d y ∷ plain (suc d) (Sign Signs.LeftParenthesis) l
+    ∷ plain d (Sign Signs.RightParenthesis) r ∷ rest
 
 -- The `if` directly after `else` counts as nesting until its statement ends.
 unfoldable mutual
   pub spelled_statement : ℕ → Statement → List Mark → List Mark
   spelled_statement d (declare w x q g semi) rest =
-      spelled_type d 0 w (name d x ∷ plain d (Sign Signs.Equals) q ∷ spelled_given d g (plain d (Sign Signs.Semicolon) semi ∷ rest))
+      spelled_type d 0 w
+      (name d x ∷ plain d (Sign Signs.Equals) q ∷ spelled_given d g (plain d (Sign Signs.Semicolon) semi ∷ rest))
   spelled_statement d (assign x q g semi) rest =
       name d x ∷ plain d (Sign Signs.Equals) q ∷ spelled_given d g (plain d (Sign Signs.Semicolon) semi ∷ rest)
   spelled_statement d (set p s x q e semi) rest =
       spelled d 0 0 p (mark d 0 (suc (after p 0)) (Sign Signs.Arrow) s ∷ mark d 0 (suc (after p 0)) (Name x.text) x.span
       ∷ plain d (Sign Signs.Equals) q ∷ spelled d 0 0 e (plain d (Sign Signs.Semicolon) semi ∷ rest))
   spelled_statement d (store s l a c e r semi) rest =
-      plain d (Reserved Words.Write) s ∷ plain (suc d) (Sign Signs.LeftParenthesis) l ∷ spelled (suc d) 0 0 a (plain (suc d) (Sign Signs.Comma) c
+      plain d (Reserved Words.Write) s ∷ plain (suc d) (Sign Signs.LeftParenthesis) l
+      ∷ spelled (suc d) 0 0 a (plain (suc d) (Sign Signs.Comma) c
       ∷ spelled (suc d) 0 0 e (plain d (Sign Signs.RightParenthesis) r ∷ plain d (Sign Signs.Semicolon) semi ∷ rest))
   spelled_statement d (call x l args r semi) rest =
       name d x ∷ plain (suc d) (Sign Signs.LeftParenthesis) l
-      ∷ spelled_arguments (suc d) args (plain d (Sign Signs.RightParenthesis) r ∷ plain d (Sign Signs.Semicolon) semi ∷ rest)
+      ∷ spelled_arguments (suc d) args
+      (plain d (Sign Signs.RightParenthesis) r ∷ plain d (Sign Signs.Semicolon) semi ∷ rest)
   spelled_statement d (branch b) rest = spelled_branch d b rest
   spelled_statement d (loop s l e r b) rest =
-      plain d (Reserved Words.While) s ∷ plain (suc d) (Sign Signs.LeftParenthesis) l ∷ spelled (suc d) 0 0 e (plain d (Sign Signs.RightParenthesis) r ∷ spelled_block d b rest)
-  spelled_statement d (exit s semi) rest = plain d (Reserved Words.Return) s ∷ plain d (Sign Signs.Semicolon) semi ∷ rest
-  spelled_statement d (break s semi) rest = plain d (Reserved Words.Break) s ∷ plain d (Sign Signs.Semicolon) semi ∷ rest
-  spelled_statement d (continue s semi) rest = plain d (Reserved Words.Continue) s ∷ plain d (Sign Signs.Semicolon) semi ∷ rest
+      plain d (Reserved Words.While) s ∷ plain (suc d) (Sign Signs.LeftParenthesis) l
+      ∷ spelled (suc d) 0 0 e (plain d (Sign Signs.RightParenthesis) r ∷ spelled_block d b rest)
+  spelled_statement d (exit s semi) rest =
+      plain d (Reserved Words.Return) s ∷ plain d (Sign Signs.Semicolon) semi ∷ rest
+  spelled_statement d (break s semi) rest =
+      plain d (Reserved Words.Break) s ∷ plain d (Sign Signs.Semicolon) semi ∷ rest
+  spelled_statement d (continue s semi) rest =
+      plain d (Reserved Words.Continue) s ∷ plain d (Sign Signs.Semicolon) semi ∷ rest
 
   -- the tokens of an `if`
   pub spelled_branch : ℕ → Branch → List Mark → List Mark
   spelled_branch d (when s l e r b other) rest =
       plain d (Reserved Words.If) s ∷ plain (suc d) (Sign Signs.LeftParenthesis) l
-      ∷ spelled (suc d) 0 0 e (plain d (Sign Signs.RightParenthesis) r ∷ spelled_block d b (spelled_otherwise d other rest))
+      ∷ spelled (suc d) 0 0 e
+      (plain d (Sign Signs.RightParenthesis) r ∷ spelled_block d b (spelled_otherwise d other rest))
 
   -- the tokens of what follows the first block of an `if`
   pub spelled_otherwise : ℕ → Otherwise → List Mark → List Mark
@@ -158,7 +179,8 @@ unfoldable mutual
 
   -- the tokens of a block
   pub spelled_block : ℕ → Block → List Mark → List Mark
-  spelled_block d (block l ss r) rest = plain (suc d) (Sign Signs.LeftBrace) l ∷ spelled_statements (suc d) ss (plain d (Sign Signs.RightBrace) r ∷ rest)
+  spelled_block d (block l ss r) rest =
+      plain (suc d) (Sign Signs.LeftBrace) l ∷ spelled_statements (suc d) ss (plain d (Sign Signs.RightBrace) r ∷ rest)
 
   -- the tokens of statements
   pub spelled_statements : ℕ → Statements → List Mark → List Mark
@@ -172,7 +194,8 @@ spelled_parameter i p rest = spelled_type 1 i p.type (name 1 p.x ∷ rest)
 -- the tokens of parameters with a comma before each
 unfoldable pub spelled_others : ℕ → List (Span × Parameter) → List Mark → List Mark
 spelled_others i [] rest = rest
-spelled_others i (p ∷ more) rest = plain 1 (Sign Signs.Comma) p.0 ∷ spelled_parameter i p.1 (spelled_others (suc i) more rest)
+spelled_others i (p ∷ more) rest =
+    plain 1 (Sign Signs.Comma) p.0 ∷ spelled_parameter i p.1 (spelled_others (suc i) more rest)
 
 -- the tokens of parameters
 abbrev pub spelled_parameters : Parameters → List Mark → List Mark
@@ -182,10 +205,13 @@ spelled_parameters (parameters p more) rest = spelled_parameter 1 p (spelled_oth
 -- `self` is no counted parameter.
 abbrev pub spelled_signature : Signature → List Mark → List Mark
 spelled_signature (core s x l ps r) rest =
-    plain 0 (Reserved Words.Ceal) s ∷ name 0 x ∷ plain 1 (Sign Signs.LeftParenthesis) l ∷ spelled_parameters ps (plain 0 (Sign Signs.RightParenthesis) r ∷ rest)
+    plain 0 (Reserved Words.Ceal) s ∷ name 0 x ∷ plain 1 (Sign Signs.LeftParenthesis) l
+    ∷ spelled_parameters ps (plain 0 (Sign Signs.RightParenthesis) r ∷ rest)
 spelled_signature (init s x l k y t o more r) rest =
-    plain 0 (Reserved Words.Init) s ∷ name 0 x ∷ plain 1 (Sign Signs.LeftParenthesis) l ∷ plain 1 (Reserved Words.Struct) k ∷ name 1 y
-    ∷ plain 1 (Sign Signs.Star) t ∷ plain 1 (Reserved Words.Own) o ∷ spelled_others 1 more (plain 0 (Sign Signs.RightParenthesis) r ∷ rest)
+    plain 0 (Reserved Words.Init) s ∷ name 0 x ∷ plain 1 (Sign Signs.LeftParenthesis) l
+    ∷ plain 1 (Reserved Words.Struct) k ∷ name 1 y
+    ∷ plain 1 (Sign Signs.Star) t ∷ plain 1 (Reserved Words.Own) o
+    ∷ spelled_others 1 more (plain 0 (Sign Signs.RightParenthesis) r ∷ rest)
 
 -- how many fields there are with a member, c of them before it
 abbrev pub counted : ℕ → Size → ℕ
@@ -196,13 +222,16 @@ counted c (row l n s r) = c + n
 abbrev pub spelled_size : ℕ → Size → List Mark → List Mark
 spelled_size c single rest = rest
 spelled_size c (row l n s r) rest =
-    plain 2 (Sign Signs.LeftBracket) l ∷ mark 2 (c + n) 0 (Number (pos n)) s ∷ plain 1 (Sign Signs.RightBracket) r ∷ rest
+    plain 2 (Sign Signs.LeftBracket) l ∷ mark 2 (c + n) 0 (Number (pos n)) s
+    ∷ plain 1 (Sign Signs.RightBracket) r ∷ rest
 
 -- the members after c fields
 unfoldable pub spelled_members : ℕ → List Member → List Mark → List Mark
 spelled_members c [] rest = rest
 spelled_members c (m ∷ ms) rest =
-    spelled_type 1 (suc c) m.type (name 1 m.x ∷ spelled_size c m.size (plain 1 (Sign Signs.Semicolon) m.semi ∷ spelled_members (counted c m.size) ms rest))
+    spelled_type 1 (suc c) m.type
+    (name 1 m.x
+    ∷ spelled_size c m.size (plain 1 (Sign Signs.Semicolon) m.semi ∷ spelled_members (counted c m.size) ms rest))
 
 -- the tokens of a struct or a function
 abbrev pub spelled_part : Part → List Mark → List Mark

@@ -132,8 +132,10 @@ close_of (block l ss r) = r
 
 -- the tree of a function
 abbrev pub function_tree : Signature → Block → FunctionDecl
-function_tree (core s x l ps r) b = record { initialiser = None; name = x; params = parameter_trees ps; body = block_trees b; close = close_of b }
-function_tree (init s x l k y t o more r) b = record { initialiser = Some y; name = x; params = other_trees more; body = block_trees b; close = close_of b }
+function_tree (core s x l ps r) b =
+    record { initialiser = None; name = x; params = parameter_trees ps; body = block_trees b; close = close_of b }
+function_tree (init s x l k y t o more r) b =
+    record { initialiser = Some y; name = x; params = other_trees more; body = block_trees b; close = close_of b }
 
 -- a row of n modifiables of this type
 abbrev pub row_form : TypeForm → ℕ → TypeForm

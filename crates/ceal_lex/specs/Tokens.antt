@@ -15,7 +15,8 @@ tokens_from at [] = []
 tokens_from at (space b ∷ ps) = tokens_from (at + 1) ps
 tokens_from at (line_comment text ∷ ps) = tokens_from (at + (2 + length text)) ps
 tokens_from at (block_comment text ∷ ps) = tokens_from (at + (4 + length text)) ps
-tokens_from at (token kind text ∷ ps) = record { kind = kind; span = span at (at + length text) } ∷ tokens_from (at + length text) ps
+tokens_from at (token kind text ∷ ps) =
+    record { kind = kind; span = span at (at + length text) } ∷ tokens_from (at + length text) ps
 
 -- the last token of a source of this many bytes: at the line `%%`, or at the end of an input that has none
 abbrev pub ending : Bool → ℕ → Token

@@ -14,7 +14,9 @@ comes sets Unreached w = false
 
 -- whatever comes to the block is in its set
 abbrev pub IsClosed : List GraphBlock → List (List ℕ) → ℕ → Type 0
-IsClosed blocks sets b = (block : GraphBlock) (w : ℕ) → slice_get blocks b ≡ Some block → comes sets block w ≡ true → is_in w (set_at sets b) ≡ true
+IsClosed blocks sets b =
+    (block : GraphBlock) (w : ℕ) → slice_get blocks b ≡ Some block → comes sets block w ≡ true
+    → is_in w (set_at sets b) ≡ true
 
 -- each set has what its block uses, and nothing that is not live there
 pub record Underway (blocks : List GraphBlock) (sets : List (List ℕ)) : Type 0 where

@@ -38,7 +38,8 @@ AnswersAlone {S} answers name s (line ∷ lines) texts =
 
 -- the names of the sessions with one more, unless it is there, or there are as many as there may be
 abbrev pub with_name : List (List ℕ) → List ℕ → List (List ℕ)
-with_name names name = if list_any (bytes_eq name) names || nat_le MOST (length names) then names else names ++ name ∷ []
+with_name names name =
+    if list_any (bytes_eq name) names || nat_le MOST (length names) then names else names ++ name ∷ []
 
 -- the names with that of a line
 abbrev pub names_with : List (List ℕ) → Said → List (List ℕ)

@@ -7,7 +7,7 @@ use Rattle.ceal_many.specs.declared.entry.Entry.{Entry}
 use Rattle.ceal_many.specs.Standing.{Answering}
 
 -- the maker, and the sessions by their names
-pub record Kept (M A : Type 0) : Type 0 where
+pub record ManyState (M A : Type 0) : Type 0 where
   pub maker : M
   pub sessions : List (Entry A)
 
@@ -25,7 +25,9 @@ abbrev pub AllMeet : {S : Type 0} → (S → Type 0) → List (Named S) → Type
 AllMeet needs states = AllByRecursion (λ s. needs s.state) states
 
 -- A session is made and answers a line, and it stands after the others.
-pub record Begins {A S : Type 0} (stands : A → S → Type 0) (answers : Answering S) (opening : S) (name line : List ℕ) (old : List (Entry A)) (text : List ℕ) (new : List (Entry A)) : Type 0 where
+pub record Begins
+    {A S : Type 0} (stands : A → S → Type 0) (answers : Answering S) (opening : S)
+    (name line : List ℕ) (old : List (Entry A)) (text : List ℕ) (new : List (Entry A)) : Type 0 where
   pub answerer : A
   pub state : S
   pub stand : stands answerer state

@@ -46,9 +46,11 @@ pub record IsDetermined {S : Type 0} (answers : Answering S) : Type 0 where
 abbrev pub OneReplyLaw : {S : Type 0} → Answering S → Type 0
 OneReplyLaw {S} answers = (opening : S) → IsDetermined answers → IsDetermined (Answers answers opening)
 
--- In two scripts with the same lines for a name, which is among the first names of both, the replies to them are the same.
+-- In two scripts with the same lines for a name, which is among the first names of both, the replies to them
+-- are the same.
 abbrev pub AloneLaw : {S : Type 0} → Answering S → Type 0
-AloneLaw {S} answers = (opening : S) (next after : List (Named S)) (lines others texts told : List (List ℕ)) (name : List ℕ)
+AloneLaw {S} answers =
+    (opening : S) (next after : List (Named S)) (lines others texts told : List (List ℕ)) (name : List ℕ)
     → IsDetermined answers
     → AreReplies answers opening [] lines texts next → AreReplies answers opening [] others told after
     → HasSession name (names_after [] lines) → HasSession name (names_after [] others)
@@ -61,14 +63,18 @@ Keeps {S} needs answers = (s : S) (line text : List ℕ) (n : S) → needs s →
 
 -- What the answers of one session keep is kept of all sessions.
 abbrev pub KeptLaw : {S : Type 0} → (S → Type 0) → Answering S → Type 0
-KeptLaw {S} needs answers = (opening : S) (ss next : List (Named S)) (line text : List ℕ) → Keeps needs answers → needs opening
+KeptLaw {S} needs answers =
+    (opening : S) (ss next : List (Named S)) (line text : List ℕ) → Keeps needs answers → needs opening
     → AllMeet needs ss → Answers answers opening ss line text next → AllMeet needs next
 
 -- Each state that meets the condition has a reply to each line, and the next state meets it too.
 abbrev pub GoesOn : {S : Type 0} → (S → Type 0) → Answering S → Type 0
-GoesOn {S} needs answers = (s : S) (line : List ℕ) → needs s → (text : List ℕ) × (n : S) × answers s line text n × needs n
+GoesOn {S} needs answers =
+    (s : S) (line : List ℕ) → needs s → (text : List ℕ) × (n : S) × answers s line text n × needs n
 
 -- Where one session answers each line, many answer all lines.
 abbrev pub SomeReplyLaw : {S : Type 0} → (S → Type 0) → Answering S → Type 0
-SomeReplyLaw {S} needs answers = (opening : S) (ss : List (Named S)) (lines : List (List ℕ)) → GoesOn needs answers → needs opening
-    → AllMeet needs ss → (texts : List (List ℕ)) × (next : List (Named S)) × AreReplies answers opening ss lines texts next
+SomeReplyLaw {S} needs answers =
+    (opening : S) (ss : List (Named S)) (lines : List (List ℕ)) → GoesOn needs answers → needs opening
+    → AllMeet needs ss
+    → (texts : List (List ℕ)) × (next : List (Named S)) × AreReplies answers opening ss lines texts next

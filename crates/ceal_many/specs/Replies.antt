@@ -1,5 +1,5 @@
--- The replies to lines of many sessions. `answers` says of one session's state which text answers a line and what the next
--- state is, and `leaves` what is left of it after want of memory.
+-- The replies to lines of many sessions. `answers` says of one session's state which text answers a line and
+-- what the next state is, and `leaves` what is left of it after want of memory.
 use Rattle.std.specs.Prelude.{◌≡◌, ◌⊎◌, ℕ, Bool, true, false, Option, Some, None, List, [], ◌∷◌}
 use Rattle.ceal_many.specs.Lines.{Said, Blank, For, Unreadable, said}
 use Rattle.ceal_many.specs.Prefixes.{prefixed, unreadable_text, full_text}
@@ -7,13 +7,16 @@ use Rattle.ceal_many.specs.Sessions.{Named, state_of, with_state, state_for, is_
 use Rattle.ceal_many.specs.Standing.{Answering, Leaving}
 
 -- The session of a name answers, and its reply is written with the prefix.
-pub record Writes {S : Type 0} (answers : Answering S) (name : List ℕ) (s : S) (line text : List ℕ) (n : S) : Type 0 where
+pub record Writes
+    {S : Type 0} (answers : Answering S) (name : List ℕ) (s : S) (line text : List ℕ) (n : S) : Type 0 where
   pub reply : List ℕ
   pub answer : answers s line reply n
   pub written : text ≡ prefixed name reply
 
 -- The session of the name answers and goes on to its next state; the others stay.
-pub record AnswersAs {S : Type 0} (answers : Answering S) (opening : S) (name : List ℕ) (ss : List (Named S)) (line text : List ℕ) (next : List (Named S)) : Type 0 where
+pub record AnswersAs
+    {S : Type 0} (answers : Answering S) (opening : S) (name : List ℕ) (ss : List (Named S))
+    (line text : List ℕ) (next : List (Named S)) : Type 0 where
   pub state : S
   pub writes : Writes answers name (state_for opening name ss) line text state
   pub others : next ≡ with_state name state ss
@@ -24,13 +27,16 @@ pub record Stays {S : Type 0} (ss : List (Named S)) (told text : List ℕ) (next
   pub same : next ≡ ss
 
 -- a new session is begun for the name, unless there are too many
-abbrev pub AnswersUnless : {S : Type 0} → Bool → Answering S → S → List ℕ → List (Named S) → List ℕ → List ℕ → List (Named S) → Type 0
+abbrev pub AnswersUnless : {S : Type 0} → Bool → Answering S → S → List ℕ → List (Named S) → List ℕ → List ℕ
+    → List (Named S) → Type 0
 AnswersUnless true answers opening name ss line text next = Stays ss full_text text next
 AnswersUnless false answers opening name ss line text next = AnswersAs answers opening name ss line text next
 
 -- The line for the session of a name is answered by the text.
-abbrev pub AnswersFor : {S : Type 0} → Answering S → S → List ℕ → List (Named S) → List ℕ → List ℕ → List (Named S) → Type 0
-AnswersFor answers opening name ss line text next = AnswersUnless (is_refused name ss) answers opening name ss line text next
+abbrev pub AnswersFor : {S : Type 0} → Answering S → S → List ℕ → List (Named S) → List ℕ → List ℕ
+    → List (Named S) → Type 0
+AnswersFor answers opening name ss line text next =
+    AnswersUnless (is_refused name ss) answers opening name ss line text next
 
 -- how a line is answered, by what it says
 abbrev pub AnswersSaid : {S : Type 0} → Answering S → S → List (Named S) → Said → List ℕ → List (Named S) → Type 0
@@ -47,12 +53,15 @@ abbrev pub LeavesOne : {S : Type 0} → Answering S → Leaving S → S → List
 LeavesOne answers leaves s line n = ((reply : List ℕ) × answers s line reply n) ⊎ leaves s line n
 
 -- A session that was not there is not there; one that was there is left by itself, and all others are as they were.
-abbrev pub LeavesAs : {S : Type 0} → Option S → Answering S → Leaving S → List ℕ → List (Named S) → List ℕ → List (Named S) → Type 0
+abbrev pub LeavesAs : {S : Type 0} → Option S → Answering S → Leaving S → List ℕ → List (Named S) → List ℕ
+    → List (Named S) → Type 0
 LeavesAs None answers leaves name ss line next = next ≡ ss
-LeavesAs {S} (Some s) answers leaves name ss line next = (n : S) × LeavesOne answers leaves s line n × (next ≡ with_state name n ss)
+LeavesAs {S} (Some s) answers leaves name ss line next =
+    (n : S) × LeavesOne answers leaves s line n × (next ≡ with_state name n ss)
 
 -- which sessions a line for a name leaves
-abbrev pub LeavesFor : {S : Type 0} → Answering S → Leaving S → List ℕ → List (Named S) → List ℕ → List (Named S) → Type 0
+abbrev pub LeavesFor : {S : Type 0} → Answering S → Leaving S → List ℕ → List (Named S) → List ℕ
+    → List (Named S) → Type 0
 LeavesFor answers leaves name ss line next = LeavesAs (state_of name ss) answers leaves name ss line next
 
 -- which sessions a line leaves, by what it says
@@ -66,7 +75,8 @@ abbrev pub Leaves : {S : Type 0} → Answering S → Leaving S → List (Named S
 Leaves answers leaves ss line next = LeavesSaid answers leaves ss (said line) next
 
 -- The lines are answered by these texts, one after another.
-unfoldable pub AreReplies : {S : Type 0} → Answering S → S → List (Named S) → List (List ℕ) → List (List ℕ) → List (Named S) → Type 0
+unfoldable pub AreReplies : {S : Type 0} → Answering S → S → List (Named S) → List (List ℕ) → List (List ℕ)
+    → List (Named S) → Type 0
 AreReplies answers opening ss [] texts next = (texts ≡ []) × (next ≡ ss)
 AreReplies {S} answers opening ss (line ∷ lines) texts next =
     (text : List ℕ) × (mid : List (Named S)) × (rest : List (List ℕ)) × Answers answers opening ss line text mid

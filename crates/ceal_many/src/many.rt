@@ -25,9 +25,9 @@ pub struct Many<M: Maker> {
 }
 
 impl<M: Maker> Model for Many<M> {
-    ghost use Rattle.ceal_many.specs.Kept.{Kept};
+    ghost use Rattle.ceal_many.specs.Kept.{ManyState};
 
-    ghost Value = { Kept M M.Made };
+    ghost Value = { ManyState M M.Made };
 
     ghost view = { λ m. record { maker = m.maker; sessions = m.sessions.items } };
 }

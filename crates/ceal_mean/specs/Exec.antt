@@ -37,7 +37,8 @@ new_block m block = record { memory = with_block m block; word = BlockWord (Core
 
 -- a new block with one modifiable, and a pointer to that modifiable
 abbrev pub new_modifiable : Blocks → Block → Taken
-new_modifiable m block = record { memory = with_block m block; word = At (record { block = Core (length m.made); field = 0 }) }
+new_modifiable m block =
+    record { memory = with_block m block; word = At (record { block = Core (length m.made); field = 0 }) }
 
 -- what a variable is given
 abbrev pub taken : Typed → List Word → Blocks → TypedValue → Taken
@@ -86,7 +87,9 @@ effect p m env rest below s (If at test first second) = record {
 }
 effect p m env rest below s (While at test body) = record {
   memory = m;
-  frames = record { todo = (if holds (value_of env m test) then map Do body ++ Again s ∷ rest else rest); env = env } ∷ below;
+  frames =
+      record { todo = (if holds (value_of env m test) then map Do body ++ Again s ∷ rest else rest); env = env }
+      ∷ below;
 }
 effect p m env rest below s _ = record { memory = m; frames = record { todo = rest; env = env } ∷ below }
 

@@ -9,7 +9,8 @@ use Rattle.ceal_mean.specs.Frame.{Frame, State}
 use Rattle.ceal_mean.specs.declared.run.Outcome.{Outcome}
 use Rattle.ceal_mean.specs.declared.run.Outcome.TheVariants.{Done, OutOfFuel}
 
--- a run from frames of which the first has a step to do, with fuel for the given number of steps more, after the steps so far
+-- a run from frames of which the first has a step to do, with fuel for the given number of steps more, after
+-- the steps so far
 unfoldable pub run_settled : Typed → ℕ → ℕ → Blocks → List Frame → Option Finished
 run_settled p fuel steps m [] = Some (record { memory = m; steps = steps; blocks = length m.made })
 run_settled p zero steps m (f ∷ below) = None

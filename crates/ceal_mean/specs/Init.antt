@@ -38,7 +38,8 @@ block_set_by env m block body = record block { words = set_by_all env m block.wo
 -- what is no initialiser counts as one of the first struct
 abbrev pub made_by : List StructInfo → Option TypedFunction → List Word → Blocks → Block
 made_by structs None args m = default_block structs (Struct 0)
-made_by structs (Some f) args m = block_set_by args m (default_block structs (Struct (unwrap_or f.initialiser 0))) f.body
+made_by structs (Some f) args m =
+    block_set_by args m (default_block structs (Struct (unwrap_or f.initialiser 0))) f.body
 
 -- `Init`: the block that the initialiser of this number makes of the arguments
 abbrev pub init_block : Typed → ℕ → List Word → Blocks → Block

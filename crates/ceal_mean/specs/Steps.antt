@@ -16,7 +16,8 @@ pub record Begun : Type 0 where
 -- the next statement of a frame, and the frames with what is left
 abbrev pub begun_with : Option Next → List Word → List Frame → Option Begun
 begun_with None env below = None
-begun_with (Some next) env below = Some (record { stmt = next.stmt; frames = record { todo = next.rest; env = env } ∷ below })
+begun_with (Some next) env below =
+    Some (record { stmt = next.stmt; frames = record { todo = next.rest; env = env } ∷ below })
 
 -- the next statement of the first frame, and the frames with what is left
 abbrev pub begun : List Frame → Option Begun

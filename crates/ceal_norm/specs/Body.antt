@@ -17,7 +17,8 @@ onward s = jump_code s (tree s (length s.graph.blocks))
 -- the command of a statement, from which a jump leads to `next`
 abbrev pub value_command : Source → ℕ → ℕ → TypedValue → Cmd
 value_command s next n (PlainValue e) = command.Move (variable n) (expr_code e)
-value_command s next n (ReadValue at e) = command.Read (variable n) (expr_code e) (unit_of s next) (closure_args s n next)
+value_command s next n (ReadValue at e) =
+    command.Read (variable n) (expr_code e) (unit_of s next) (closure_args s n next)
 value_command s next n (AllocValue at shape f name args) = command.Alloc (variable n) f (map expr_code args)
 value_command s next n (ModrefIntValue at) = command.Modref (variable n) ModInt
 value_command s next n (ModrefValue at shape) = command.Modref (variable n) (ModPtr shape)

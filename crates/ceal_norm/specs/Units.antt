@@ -1,5 +1,5 @@
--- The units of a graph (our own). Each entry heads a tree of blocks, of which its unit is made: a path ends where a jump
--- leads to an entry, and at a read, a call and the end of the function.
+-- The units of a graph (our own). Each entry heads a tree of blocks, of which its unit is made: a path ends
+-- where a jump leads to an entry, and at a read, a call and the end of the function.
 use Rattle.std.specs.Prelude.{ℕ, zero, suc, ◌+◌, ◌==◌, Bool, true, false, Option, Some, None, List, [], ◌∷◌, ◌++◌, length, map, take, slice_get, slice_index_or, unwrap_or, if◌then◌else◌}
 use Rattle.ceal_base.specs.declared.forest.UnitId.{UnitId}
 use Rattle.ceal_base.specs.declared.kind.Kind.{Kind}
@@ -83,13 +83,16 @@ jump_code s tree b i = if is_entry s.graph b then command.Tail (unit_of s b) (ar
 
 -- a test with the commands of its two parts, the first part right after it
 abbrev pub test_code : CodeExpr → ℕ → List Cmd → (ℕ → List Cmd) → List Cmd
-test_code test i first second = command.If test (i + 1) (i + 1 + length first) ∷ (first ++ second (i + 1 + length first))
+test_code test i first second =
+    command.If test (i + 1) (i + 1 + length first) ∷ (first ++ second (i + 1 + length first))
 
 -- the commands of an assignment, and of what follows it in the unit
 abbrev pub value_code : Source → Placed → ℕ → ℕ → ℕ → TypedValue → List Cmd
 value_code s onward next i n (PlainValue e) = command.Move (variable n) (expr_code e) ∷ onward next (i + 1)
-value_code s onward next i n (ReadValue at e) = command.Read (variable n) (expr_code e) (unit_of s next) (closure_args s n next) ∷ []
-value_code s onward next i n (AllocValue at shape f name args) = command.Alloc (variable n) f (map expr_code args) ∷ onward next (i + 1)
+value_code s onward next i n (ReadValue at e) =
+    command.Read (variable n) (expr_code e) (unit_of s next) (closure_args s n next) ∷ []
+value_code s onward next i n (AllocValue at shape f name args) =
+    command.Alloc (variable n) f (map expr_code args) ∷ onward next (i + 1)
 value_code s onward next i n (ModrefIntValue at) = command.Modref (variable n) ModInt ∷ onward next (i + 1)
 value_code s onward next i n (ModrefValue at shape) = command.Modref (variable n) (ModPtr shape) ∷ onward next (i + 1)
 
@@ -104,7 +107,8 @@ stmt_code s onward next i _ = command.Tick ∷ onward next (i + 1)
 
 -- the commands of a block, and of what follows it in the unit
 abbrev pub block_code : Source → Placed → ℕ → Option GraphBlock → List Cmd
-block_code s onward i (Some (Test test first second)) = test_code (expr_code test) i (onward first (i + 1)) (onward second)
+block_code s onward i (Some (Test test first second)) =
+    test_code (expr_code test) i (onward first (i + 1)) (onward second)
 block_code s onward i (Some (Act stmt next)) = stmt_code s onward next i stmt
 block_code s onward i _ = command.Done ∷ []
 
@@ -147,7 +151,8 @@ units_before s (suc b) = if is_entry s.graph b then units_before s b ++ unit_cod
 -- a function of the graph as one of trace code
 abbrev pub function_code : Source → GraphFunction → FunctionCode
 function_code s (Core name first params kinds) = code.Core name (unit_of s first) (take params kinds)
-function_code s (Init f) = code.Init f.name.text (unwrap_or f.initialiser 0) (take f.params f.kinds) (all_init_code f.body)
+function_code s (Init f) =
+    code.Init f.name.text (unwrap_or f.initialiser 0) (take f.params f.kinds) (all_init_code f.body)
 
 -- the kinds of the variables of a core function
 abbrev pub kinds_code : GraphFunction → List Kind

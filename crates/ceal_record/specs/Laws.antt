@@ -20,4 +20,5 @@ RenamedLaw = (code : Code) (inputs : List Block) (call : Call) (ps : Pairs) (l m
 
 -- each trace has a record
 abbrev pub SomeRecordLaw : Type 0
-SomeRecordLaw = (code : Code) (inputs : List Block) (call : Call) (l : Trace) → (r : Record) × IsRecordOf code inputs call l r
+SomeRecordLaw =
+    (code : Code) (inputs : List Block) (call : Call) (l : Trace) → (r : Record) × IsRecordOf code inputs call l r

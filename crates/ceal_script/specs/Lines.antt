@@ -23,13 +23,18 @@ IsBlank (word ∷ words) = IsTrue (is_comment word)
 abbrev pub Says : List (List ℕ) → Command → Type 0
 Says words Blank = IsBlank words
 -- `mod NAME int VALUE`, `mod NAME STRUCT VALUE`
-Says words (Mod name kind value) = (k v : List ℕ) × (words ≡ codes "mod" ∷ name ∷ k ∷ v ∷ []) × IsName name × SpellsKind k kind × SpellsValue v value
+Says words (Mod name kind value) =
+    (k v : List ℕ) × (words ≡ codes "mod" ∷ name ∷ k ∷ v ∷ []) × IsName name × SpellsKind k kind × SpellsValue v value
 -- `new NAME STRUCT VALUES`
-Says words (New name shape values) = (vs : List (List ℕ)) × (words ≡ codes "new" ∷ name ∷ shape ∷ vs) × IsName name × IsIdentifier shape × AllZip SpellsValue vs values
+Says words (New name shape values) =
+    (vs : List (List ℕ)) × (words ≡ codes "new" ∷ name ∷ shape ∷ vs) × IsName name × IsIdentifier shape
+    × AllZip SpellsValue vs values
 -- `set PLACE VALUE`
-Says words (Set place value) = (p v : List ℕ) × (words ≡ codes "set" ∷ p ∷ v ∷ []) × SpellsPlace p place × SpellsValue v value
+Says words (Set place value) =
+    (p v : List ℕ) × (words ≡ codes "set" ∷ p ∷ v ∷ []) × SpellsPlace p place × SpellsValue v value
 -- `run FUNCTION VALUES`
-Says words (Run function args) = (vs : List (List ℕ)) × (words ≡ codes "run" ∷ function ∷ vs) × IsIdentifier function × AllZip SpellsValue vs args
+Says words (Run function args) =
+    (vs : List (List ℕ)) × (words ≡ codes "run" ∷ function ∷ vs) × IsIdentifier function × AllZip SpellsValue vs args
 Says words Propagate = words ≡ codes "propagate" ∷ []
 -- `propagate READS`
 Says words (Slice reads) = (k : List ℕ) × (words ≡ codes "propagate" ∷ k ∷ []) × SpellsReads k reads

@@ -74,7 +74,9 @@ IsIndex digits = (i : ℕ) × (i < 255) × (digits ≡ decimal i)
 
 -- an element of a row: the row's name, and the number in brackets
 abbrev pub IsElement : List ℕ → Type 0
-IsElement word = (row index : List ℕ) × (word ≡ row ++ OPENING_BRACKET ∷ (index ++ CLOSING_BRACKET ∷ [])) × IsIdentifier row × IsIndex index
+IsElement word =
+    (row index : List ℕ) × (word ≡ row ++ OPENING_BRACKET ∷ (index ++ CLOSING_BRACKET ∷ [])) × IsIdentifier row
+    × IsIndex index
 
 -- the name of a field, or an element of a row
 abbrev pub IsField : List ℕ → Type 0

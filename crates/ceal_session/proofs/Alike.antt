@@ -6,7 +6,7 @@ use Rattle.ceal_script.specs.declared.command.Command.{Command}
 use Rattle.ceal_session.proofs.Follows.{CallFacts, follows}
 use Rattle.ceal_session.proofs.SomeReply.{LineLaw, WholeLaw, TextLaw, accepted-in, fits-call, past-before}
 use Rattle.ceal_session.specs.Following.{Goes, Repairs}
-use Rattle.ceal_session.specs.Laws.{Kept, KeptLaw, OneReplyLaw, Replied, SomeReplyLaw}
+use Rattle.ceal_session.specs.Laws.{AnswersIn, KeptLaw, OneReplyLaw, Replied, SomeReplyLaw}
 use Rattle.ceal_session.specs.Replies.{Answers, Replies, Leads, behind}
 use Rattle.ceal_session.specs.Saves.{AlikeLaw}
 use Rattle.ceal_session.specs.Standing.{Stands, IsIn}
@@ -48,7 +48,7 @@ module _ (reply : SomeReplyLaw) (kept : KeptLaw) (one : OneReplyLaw) (follows : 
   alike m n end [] out st h (e, f) = (m, (e, refl), st, subst (λ x. IsIn m x) (sym f) h)
   alike m n end (line ∷ lines) out st h (text, mid, rest, there, more, e) =
       let a : Replied m line = reply m line st in
-      let k : Kept n line a.text a.next = kept m a.next n line a.text h (answers m line a.text a.next a.replies) (repairs m line a.text a.next st a.replies) in
+      let k : AnswersIn n line a.text a.next = kept m a.next n line a.text h (answers m line a.text a.next a.replies) (repairs m line a.text a.next st a.replies) in
       let same = one n line a.text text k.next mid k.replies there in
       let r = alike a.next mid end lines rest a.stands (subst (λ x. IsIn a.next x) same.1 k.is_in) more in
       (r.0, (a.text, a.next, rest, a.replies, r.1, e ∙ ap (λ t. t ++ rest) (sym same.0)), r.2, r.3)

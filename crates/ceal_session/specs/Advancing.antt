@@ -1,4 +1,5 @@
--- What the engine of a session makes of a call that runs, or goes on with a repair, and what that leaves of the session.
+-- What the engine of a session makes of a call that runs, or goes on with a repair, and what that leaves of
+-- the session.
 use Rattle.std.specs.Prelude.{◌≡◌, ◌⊎◌, ℕ, Bool, true, false, Option, Some, None, is_some, Result, Ok, Err, List, ⊤}
 use Rattle.ceal_base.specs.Block.{Block}
 use Rattle.ceal_base.specs.declared.call.Call.{Call}
@@ -87,10 +88,12 @@ abbrev pub Makes : Outcome → EngineState → Call → Option ℕ → Past → 
 Makes (Err Memory) e call reads p e' = ⊤
 Makes (Err OutOfFuel) e call reads p e' = ⊤
 Makes (Ok c) e call reads p e' =
-    SamePast e.code e.inputs call.function call.args (past_behind e.code e.inputs e.fuel (first_of e.code e.inputs e.fuel call.function call.args) reads p) (past_of e')
+    SamePast e.code e.inputs call.function call.args
+    (past_behind e.code e.inputs e.fuel (first_of e.code e.inputs e.fuel call.function call.args) reads p) (past_of e')
 
 -- The first engine was brought forward to the second one, and it came out so.
-pub record Brings (e : EngineState) (call : Call) (reads : Option ℕ) (outcome : Outcome) (e' : EngineState) : Type 0 where
+pub record Brings
+    (e : EngineState) (call : Call) (reads : Option ℕ) (outcome : Outcome) (e' : EngineState) : Type 0 where
   pub code : e'.code ≡ e.code
   pub fuel : e'.fuel ≡ e.fuel
   pub inputs : e'.inputs ≡ e.inputs
@@ -98,9 +101,11 @@ pub record Brings (e : EngineState) (call : Call) (reads : Option ℕ) (outcome 
   pub phase : e'.phase ≡ phase_behind outcome
   pub completes : Completes outcome e'
   pub began : Began outcome e call reads
-  pub slice : (p : Past) → IsPastOf e.code e.inputs call.function call.args p → SamePast e.code e.inputs call.function call.args p (past_of e)
+  pub slice : (p : Past) → IsPastOf e.code e.inputs call.function call.args p
+      → SamePast e.code e.inputs call.function call.args p (past_of e)
       → IsSliceOf outcome e.code e.inputs (slice_of e.code e.inputs e.fuel reads (next_repair e.code e.inputs p))
-  pub makes : (p : Past) → IsPastOf e.code e.inputs call.function call.args p → SamePast e.code e.inputs call.function call.args p (past_of e)
+  pub makes : (p : Past) → IsPastOf e.code e.inputs call.function call.args p
+      → SamePast e.code e.inputs call.function call.args p (past_of e)
       → Makes outcome e call reads p e'
 
 -- so it is with the call that was accepted
@@ -113,7 +118,8 @@ with_came c (Ok x) = Ok c
 with_came c (Err e) = Err e
 
 -- The state is this one, and what the session has of runs is what the definition makes of what it had.
-pub record Leaves (m : Situation) (call : Call) (reads : Option ℕ) (s : State) (more : Bool) (n : Situation) : Type 0 where
+pub record Leaves
+    (m : Situation) (call : Call) (reads : Option ℕ) (s : State) (more : Bool) (n : Situation) : Type 0 where
   pub state : n.state ≡ s
   pub going : goes n.past ≡ more
   pub retraces : Retraces m call reads n
@@ -121,7 +127,10 @@ pub record Leaves (m : Situation) (call : Call) (reads : Option ℕ) (s : State)
 -- what the call leaves, by how it came out; a run that was completed is that from scratch
 abbrev pub IsAdvanced : Situation → Call → Option ℕ → Outcome → Situation → Type 0
 IsAdvanced m call reads (Ok More) n = (is_some reads ≡ true) × Leaves m call reads (with_part m.state) true n
-IsAdvanced m call reads (Ok Done) n = (is_some (run_of m.state call) ≡ true) × Leaves m call reads (with_run m.state call false) false n
-IsAdvanced m call reads (Ok Anew) n = (is_some (run_of m.state call) ≡ true) × Leaves m call reads (with_run m.state call false) false n
-IsAdvanced m call reads (Err OutOfFuel) n = (run_of m.state call ≡ None) × Leaves m call reads (with_run m.state call true) false n
+IsAdvanced m call reads (Ok Done) n =
+    (is_some (run_of m.state call) ≡ true) × Leaves m call reads (with_run m.state call false) false n
+IsAdvanced m call reads (Ok Anew) n =
+    (is_some (run_of m.state call) ≡ true) × Leaves m call reads (with_run m.state call false) false n
+IsAdvanced m call reads (Err OutOfFuel) n =
+    (run_of m.state call ≡ None) × Leaves m call reads (with_run m.state call true) false n
 IsAdvanced m call reads (Err Memory) n = n ≡ dropped m call

@@ -1,5 +1,6 @@
--- The replies to a script, by the plain meaning of the source and a list of entries: for each line that runs, its numbers, or
--- that a repair goes on, or that it was out of fuel. Nothing else of the compiler and of trace repair comes into the text.
+-- The replies to a script, by the plain meaning of the source and a list of entries: for each line that runs,
+-- its numbers, or that a repair goes on, or that it was out of fuel. Nothing else of the compiler and of
+-- trace repair comes into the text.
 use Rattle.std.specs.Prelude.{◌≡◌, ℕ, Bool, true, false, Option, Result, Ok, Err, List, [], ◌∷◌, ◌++◌}
 use Rattle.ceal_base.specs.declared.call.Call.{Call}
 use Rattle.ceal_script.specs.declared.command.Command.{Command}
@@ -34,7 +35,8 @@ entries_in m command = entries_by (call_in m.state command) (entry_of (past_in m
 unfoldable pub AreEntries : Situation → List (List ℕ) → List Entry → Type 0
 AreEntries m [] entries = entries ≡ []
 AreEntries m (line ∷ lines) entries =
-    (command : Option Command) × (later : List Entry) × Reads line command × AreEntries (behind m command) lines later × (entries ≡ entries_in m command ++ later)
+    (command : Option Command) × (later : List Entry) × Reads line command
+    × AreEntries (behind m command) lines later × (entries ≡ entries_in m command ++ later)
 
 -- whether a repair goes on behind the line of the first entry
 abbrev pub goes_on : List Entry → Bool
@@ -62,7 +64,8 @@ told_behind (Ok call) latest entries = taken latest entries
 unfoldable pub AreReplies : State → Told → List (List ℕ) → List ℕ → Type 0
 AreReplies s told [] out = out ≡ []
 AreReplies s told (line ∷ lines) out =
-    (text : List ℕ) × (next : State) × (rest : List ℕ) × (a : Answers s told.latest (goes_on told.coming) line text next)
+    (text : List ℕ) × (next : State) × (rest : List ℕ)
+    × (a : Answers s told.latest (goes_on told.coming) line text next)
     × AreReplies next (told_behind (call_in s a.command) told.latest told.coming) lines rest × (out ≡ text ++ rest)
 
 -- The replies of lines are this text.
@@ -72,8 +75,11 @@ pub record Tells (m : Situation) (lines : List (List ℕ)) (out : List ℕ) : Ty
   pub text : AreReplies m.state (record { latest = numbers_in m; coming = entries }) lines out
 
 abbrev pub EntriesLaw : Type 0
-EntriesLaw = (m end : Situation) (lines : List (List ℕ)) (out : List ℕ) → Stands m → Leads m lines out end → Tells m lines out
+EntriesLaw =
+    (m end : Situation) (lines : List (List ℕ)) (out : List ℕ) → Stands m → Leads m lines out end → Tells m lines out
 
 -- And the entries and the text are functions of the lines.
 abbrev pub OneTextLaw : Type 0
-OneTextLaw = (s : State) (told : Told) (lines : List (List ℕ)) (a b : List ℕ) → AreReplies s told lines a → AreReplies s told lines b → a ≡ b
+OneTextLaw =
+    (s : State) (told : Told) (lines : List (List ℕ)) (a b : List ℕ) → AreReplies s told lines a
+    → AreReplies s told lines b → a ≡ b

@@ -28,13 +28,15 @@ pub record Keeps (m n : Situation) : Type 0 where
   pub past : n.past ≡ m.past
   pub bound : n.bound ≡ m.bound
 
--- Of each past of the call that the session had up to the numbers of core blocks, the session has what the definition makes of it, up
--- to them, and the definition's bound.
+-- Of each past of the call that the session had up to the numbers of core blocks, the session has what the
+-- definition makes of it, up to them, and the definition's bound.
 pub record Retraces (m : Situation) (call : Call) (reads : Option ℕ) (n : Situation) : Type 0 where
   pub code : n.code ≡ m.code
-  pub past : (p : Past) → IsPastOf m.code m.state.inputs call.function call.args p → SamePast m.code m.state.inputs call.function call.args p m.past
+  pub past : (p : Past) → IsPastOf m.code m.state.inputs call.function call.args p
+      → SamePast m.code m.state.inputs call.function call.args p m.past
       → SamePast m.code m.state.inputs call.function call.args (past_left m.code m.state (Ok call) reads p) n.past
-  pub bound : (p : Past) → IsPastOf m.code m.state.inputs call.function call.args p → SamePast m.code m.state.inputs call.function call.args p m.past
+  pub bound : (p : Past) → IsPastOf m.code m.state.inputs call.function call.args p
+      → SamePast m.code m.state.inputs call.function call.args p m.past
       → n.bound ≡ bound_left m.code m.state (Ok call) reads p m.bound
 
 -- which of the two it is
@@ -48,12 +50,13 @@ pub record Repairs (m : Situation) (line : List ℕ) (n : Situation) : Type 0 wh
   pub reads : Reads line command
   pub goes : Goes m (call_in m.state command) (reads_in command) n
 
--- After a `propagate` that repaired a trace, the work is at most the bound, and that is at most the steps of the run. Of a
--- repair in parts nothing is said.
+-- After a `propagate` that repaired a trace, the work is at most the bound, and that is at most the steps of
+-- the run. Of a repair in parts nothing is said.
 abbrev pub IsBounded : Situation → Result Call Refusal → Option ℕ → Situation → Type 0
 IsBounded m (Err r) reads n = Unit {0}
 IsBounded m (Ok call) (Some reads) n = Unit {0}
-IsBounded m (Ok call) None n = IfSome (last m) (λ l. IfSome (last n) (λ a. (a.work ≤ n.bound) × (n.bound ≤ steps_of a.items)))
+IsBounded m (Ok call) None n =
+    IfSome (last m) (λ l. IfSome (last n) (λ a. (a.work ≤ n.bound) × (n.bound ≤ steps_of a.items)))
 
 pub record Bounds (m : Situation) (line : List ℕ) (n : Situation) : Type 0 where
   pub command : Option Command

@@ -1,5 +1,5 @@
--- How a session keeps its state: inputs, call and run are an engine's, whose code is that of the program; a journal has the
--- edits since the last run or propagate that was completed.
+-- How a session keeps its state: inputs, call and run are an engine's, whose code is that of the program; a
+-- journal has the edits since the last run or propagate that was completed.
 use Rattle.std.specs.Prelude.{◌≡◌, ℕ, ◌≤◌, Bool, true, false, Option, Some, None, IfSome, List, [], length, ⊤}
 use Rattle.ceal_base.specs.Block.{Block}
 use Rattle.ceal_base.specs.Trace.{Trace, steps_of}
@@ -111,7 +111,9 @@ pub record IsRunOn (e : EngineState) (inputs : List Block) (call : Call) : Type 
 -- What a bound is made of is there: the edits are those of inputs, and both runs end.
 abbrev pub IsMeasured : EngineState → List Block → Measure → Type 0
 IsMeasured e settled (Number n) = ⊤
-IsMeasured e settled (Between edits) = AreWithin (length settled) edits × IfSome e.call (λ call. IsRunOn e (undone edits settled) call × IsRunOn e settled call)
+IsMeasured e settled (Between edits) =
+    AreWithin (length settled) edits
+    × IfSome e.call (λ call. IsRunOn e (undone edits settled) call × IsRunOn e settled call)
 
 -- The run ends on the settled inputs, and the present ones are these but for bases.
 pub record IsSettledOn (e : EngineState) (settled : List Block) (call : Call) : Type 0 where
@@ -125,7 +127,8 @@ pub record WasHonest (e : EngineState) (settled : List Block) (call : Call) (l :
   pub few : steps_of l ≤ e.fuel
 
 -- what is true of every session inside
-pub record Holds (program : Typed) (names : List (List ℕ)) (e : EngineState) (j : JournalState) (pending : Bool) : Type 0 where
+pub record Holds
+    (program : Typed) (names : List (List ℕ)) (e : EngineState) (j : JournalState) (pending : Bool) : Type 0 where
   pub compiled : IsCompiled (record { typed = program; code = e.code })
   pub named : length names ≡ length e.inputs
   pub spelled : AreSpelled names

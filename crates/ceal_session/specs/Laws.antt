@@ -17,22 +17,31 @@ OneCommandLaw = (line : List ℕ) (c d : Option Command) → Reads line c → Re
 
 -- A line has one reply, by the state, the numbers and whether a repair goes on behind it.
 abbrev pub OneAnswerLaw : Type 0
-OneAnswerLaw = (s : State) (numbers : Numbers) (more : Bool) (line a b : List ℕ) (m n : State) → Answers s numbers more line a m → Answers s numbers more line b n → a ≡ b
+OneAnswerLaw =
+    (s : State) (numbers : Numbers) (more : Bool) (line a b : List ℕ) (m n : State)
+    → Answers s numbers more line a m → Answers s numbers more line b n → a ≡ b
 
 -- The state behind it says nothing of the numbers.
 abbrev pub OneStateLaw : Type 0
-OneStateLaw = (s : State) (v w : Numbers) (more : Bool) (line a b : List ℕ) (m n : State) → Answers s v more line a m → Answers s w more line b n → m ≡ n
+OneStateLaw =
+    (s : State) (v w : Numbers) (more : Bool) (line a b : List ℕ) (m n : State) → Answers s v more line a m
+    → Answers s w more line b n → m ≡ n
 
 -- So a line has one reply in a situation, and one situation behind it, and so have lines one after another.
 abbrev pub OneReplyLaw : Type 0
-OneReplyLaw = (m : Situation) (line a b : List ℕ) (n o : Situation) → Replies m line a n → Replies m line b o → (a ≡ b) × (n ≡ o)
+OneReplyLaw =
+    (m : Situation) (line a b : List ℕ) (n o : Situation) → Replies m line a n → Replies m line b o → (a ≡ b) × (n ≡ o)
 
 abbrev pub OneScriptLaw : Type 0
-OneScriptLaw = (m : Situation) (lines : List (List ℕ)) (a b : List ℕ) (n o : Situation) → Leads m lines a n → Leads m lines b o → (a ≡ b) × (n ≡ o)
+OneScriptLaw =
+    (m : Situation) (lines : List (List ℕ)) (a b : List ℕ) (n o : Situation) → Leads m lines a n
+    → Leads m lines b o → (a ≡ b) × (n ≡ o)
 
 -- Lines behind others go on from the situation behind those.
 abbrev pub JoinedLaw : Type 0
-JoinedLaw = (m n o : Situation) (front back : List (List ℕ)) (a b : List ℕ) → Leads m front a n → Leads n back b o → Leads m (front ++ back) (a ++ b) o
+JoinedLaw =
+    (m n o : Situation) (front back : List (List ℕ)) (a b : List ℕ) → Leads m front a n → Leads n back b o
+    → Leads m (front ++ back) (a ++ b) o
 
 -- A session begins so that it stands, and is in the situation in which nothing was run.
 abbrev pub BegunLaw : Type 0
@@ -59,7 +68,7 @@ abbrev pub SomeScriptLaw : Type 0
 SomeScriptLaw = (m : Situation) (lines : List (List ℕ)) → Stands m → Led m lines
 
 -- The line is answered in the situation as the session answered it, and the session is in the situation behind it.
-pub record Kept (m : Situation) (line text : List ℕ) (session : Situation) : Type 0 where
+pub record AnswersIn (m : Situation) (line text : List ℕ) (session : Situation) : Type 0 where
   pub next : Situation
   pub replies : Replies m line text next
   pub is_in : IsIn session next
@@ -67,9 +76,12 @@ pub record Kept (m : Situation) (line text : List ℕ) (session : Situation) : T
 -- So it is with each line of a session that is in a situation.
 abbrev pub KeptLaw : Type 0
 KeptLaw = (old new m : Situation) (line text : List ℕ) → IsIn old m
-    → Answers old.state (numbers_in old) (goes new.past) line text new.state → Repairs old line new → Kept m line text new
+    → Answers old.state (numbers_in old) (goes new.past) line text new.state → Repairs old line new
+    → AnswersIn m line text new
 
--- Where there was no memory for an accepted `run` or `propagate`, what is left of it is in what is left of the situation.
+-- Where there was no memory for an accepted `run` or `propagate`, what is left of it is in what is left of
+-- the situation.
 abbrev pub DroppedLaw : Type 0
-DroppedLaw = (session m : Situation) (command : Command) (call : Call) → IsIn session m → call_of m.state command ≡ Ok call
+DroppedLaw =
+    (session m : Situation) (command : Command) (call : Call) → IsIn session m → call_of m.state command ≡ Ok call
     → IsIn (dropped session call) (dropped m call)

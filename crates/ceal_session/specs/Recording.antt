@@ -7,8 +7,8 @@ use Rattle.ceal_theory.specs.Computed.{Repaired}
 use Rattle.ceal_session.specs.Asking.{IsReady}
 use Rattle.ceal_session.specs.State.{Situation, last}
 
--- There is a finished run, whose trace is one of the accepted call on the inputs of this moment, and the record is that of
--- this trace.
+-- There is a finished run, whose trace is one of the accepted call on the inputs of this moment, and the
+-- record is that of this trace.
 pub record IsRecorded (m : Situation) (r : Record) : Type 0 where
   pub ready : IsReady m.state
   pub call : Call

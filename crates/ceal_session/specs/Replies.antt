@@ -1,9 +1,10 @@
--- The replies to the lines of a script. The situations between the lines are the definition's: behind each line, the state
--- that the plain meaning of the source gives, run anew from the edited inputs, and what change propagation over the
--- program's code has left. A line is answered by the state alone, but for `work` and `bound`, which tell the numbers of the
--- situation, and for `propagate READS`, which is answered `more` where a repair goes on behind it. Whatever is written of a
--- script speaks of these two relations, `Replies` and `Leads`: its replies, the dump and the save behind it, the replies of
--- one of many sessions, and those of a session that is resumed.
+-- The replies to the lines of a script. The situations between the lines are the definition's: behind each
+-- line, the state that the plain meaning of the source gives, run anew from the edited inputs, and what
+-- change propagation over the program's code has left. A line is answered by the state alone, but for `work`
+-- and `bound`, which tell the numbers of the situation, and for `propagate READS`, which is answered `more`
+-- where a repair goes on behind it. Whatever is written of a script speaks of these two relations, `Replies`
+-- and `Leads`: its replies, the dump and the save behind it, the replies of one of many sessions, and those
+-- of a session that is resumed.
 use Rattle.std.specs.Prelude.{◌≡◌, ℕ, Bool, Option, Some, None, List, [], ◌∷◌, ◌++◌}
 use Rattle.ceal_code.specs.Program.{Code}
 use Rattle.ceal_script.specs.Lines.{IsLineOf}
@@ -19,8 +20,8 @@ abbrev pub Reads : List ℕ → Option Command → Type 0
 Reads line (Some command) = IsLineOf command line
 Reads line None = (command : Command) → IsLineOf command line → ⊥
 
--- The line is answered by the text, where these are the latest numbers, and `more` says whether a repair goes on behind the
--- line; the state after it is `next`.
+-- The line is answered by the text, where these are the latest numbers, and `more` says whether a repair goes
+-- on behind the line; the state after it is `next`.
 pub record Answers (s : State) (numbers : Numbers) (more : Bool) (line text : List ℕ) (next : State) : Type 0 where
   pub command : Option Command
   pub reads : Reads line command
@@ -51,7 +52,8 @@ pub record Replies (m : Situation) (line text : List ℕ) (n : Situation) : Type
 unfoldable pub Leads : Situation → List (List ℕ) → List ℕ → Situation → Type 0
 Leads m [] out n = (out ≡ []) × (n ≡ m)
 Leads m (line ∷ lines) out n =
-    (text : List ℕ) × (mid : Situation) × (rest : List ℕ) × Replies m line text mid × Leads mid lines rest n × (out ≡ text ++ rest)
+    (text : List ℕ) × (mid : Situation) × (rest : List ℕ) × Replies m line text mid × Leads mid lines rest n
+    × (out ≡ text ++ rest)
 
 -- The replies to a script, from a state where nothing was run, are these bytes.
 pub record IsReplied (code : Code) (s : State) (lines : List (List ℕ)) (out : List ℕ) : Type 0 where

@@ -41,7 +41,8 @@ present_run s = run_of_call s s.call
 
 -- the state after a run or propagate, which is completed or out of fuel
 abbrev pub with_run : State → Call → Bool → State
-with_run s call out_of_fuel = record s { settled = s.inputs; call = Some call; out_of_fuel = out_of_fuel; pending = false }
+with_run s call out_of_fuel =
+    record s { settled = s.inputs; call = Some call; out_of_fuel = out_of_fuel; pending = false }
 
 -- the state after a part of a repair that goes on
 abbrev pub with_part : State → State

@@ -39,4 +39,5 @@ pub record GoesOn (m : Situation) (program : Program) (s : Save) : Type 0 where
 -- So it is with what a session saves.
 abbrev pub ResumedLaw : Type 0
 ResumedLaw = (program : Program) (m : Situation) (s : Save) → Stands m
-    → m.code ≡ program.code → m.state.program ≡ program.typed → IsAllowed m.state.fuel → IsSaved m s → GoesOn m program s
+    → m.code ≡ program.code → m.state.program ≡ program.typed → IsAllowed m.state.fuel → IsSaved m s
+    → GoesOn m program s

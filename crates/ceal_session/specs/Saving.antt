@@ -22,8 +22,8 @@ pub record IsSaved (m : Situation) (s : Save) : Type 0 where
   pub names : s.names ≡ m.state.names
   pub kept : IsRecorded m s.kept
 
--- The save holds: a session may have that fuel, each input has a name, no name stands twice, and the checker says yes to
--- the record, whose run is in the fuel.
+-- The save holds: a session may have that fuel, each input has a name, no name stands twice, and the checker
+-- says yes to the record, whose run is in the fuel.
 pub record Holding (code : Code) (s : Save) : Type 0 where
   pub fuel : IsAllowed s.fuel
   pub spelled : AreSpelled s.names

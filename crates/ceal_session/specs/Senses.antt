@@ -69,7 +69,8 @@ member_sense n fields (Some field) = field_sense n field (slice_get fields field
 -- NAME.FIELD: an embedded modifiable, or a plain field, of an input made by `new`; one made by `mod` has no fields
 abbrev pub part_sense : State → ℕ → List ℕ → Option Shape → Sense
 part_sense s n field None = Unknown
-part_sense s n field (Some (Struct number)) = member_sense n (fields_numbered s number) (field_named (fields_numbered s number) field)
+part_sense s n field (Some (Struct number)) =
+    member_sense n (fields_numbered s number) (field_named (fields_numbered s number) field)
 part_sense s n field (Some ModInt) = Unknown
 part_sense s n field (Some (ModPtr number)) = Unknown
 

@@ -17,8 +17,8 @@ use Rattle.ceal_session.specs.Naming.{AreSpelled, AreDistinct, HaveKnownShapes}
 use Rattle.ceal_session.specs.State.{State, Situation, last}
 use Rattle.ceal_session.specs.Steps.{IsCall}
 
--- The trace is one of the call on the inputs, and was an honest one on the settled ones, where it has no more steps than a
--- run may take. Where no edit came since, the inputs are the settled ones.
+-- The trace is one of the call on the inputs, and was an honest one on the settled ones, where it has no more
+-- steps than a run may take. Where no edit came since, the inputs are the settled ones.
 pub record IsTraceIn (code : Code) (s : State) (call : Call) (l : Repaired) : Type 0 where
   pub within : s.out_of_fuel ≡ false
   pub replays : Replays code s.inputs call.function call.args l.items
@@ -33,7 +33,8 @@ pub record IsRepairIn (code : Code) (s : State) (call : Call) (r : Repair) : Typ
   pub pending : s.pending ≡ true
   pub sound : Sound code own s.inputs call.function call.args r
 
--- There is a trace, or a repair that goes on, where a call was accepted and was not out of fuel, and it is one of that call.
+-- There is a trace, or a repair that goes on, where a call was accepted and was not out of fuel, and it is
+-- one of that call.
 abbrev pub IsPastIn : Code → State → Option Call → Past → Type 0
 IsPastIn code s None past = past ≡ NoTrace
 IsPastIn code s (Some call) NoTrace = s.out_of_fuel ≡ true

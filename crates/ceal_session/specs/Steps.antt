@@ -47,7 +47,8 @@ refuses s r = stays s (Refused r)
 
 -- `mod` and `new`: one more input
 abbrev pub with_input : State → List ℕ → Block → State
-with_input s name block = record s { names = s.names ++ name ∷ []; inputs = s.inputs ++ block ∷ []; settled = s.settled ++ block ∷ [] }
+with_input s name block =
+    record s { names = s.names ++ name ∷ []; inputs = s.inputs ++ block ∷ []; settled = s.settled ++ block ∷ [] }
 
 abbrev pub block_of : Shape → List Word → Block
 block_of shape words = record { shape = shape; words = words }
@@ -80,7 +81,8 @@ fits_cell s (Some kind) word = fits_field s.program.structs (memory_of s) kind w
 
 abbrev pub set_base : State → Place → Word → Step
 set_base s p word =
-    if fits_cell s (kind_at s.program.structs (memory_of s) p) word then stays (with_base s p word) Done else refuses s C4
+    if fits_cell s (kind_at s.program.structs (memory_of s) p) word then stays (with_base s p word) Done
+    else refuses s C4
 
 abbrev pub set_word : State → Sense → Sense → Step
 set_word s (IsWord (At p)) (IsWord word) = set_base s p word
@@ -91,12 +93,15 @@ set s place value = if is_unknown place || is_unknown value then refuses s C2 el
 
 -- `run`: the call, or why there is none
 abbrev pub fits_function : State → TypedFunction → List Word → Bool
-fits_function s f words = is_none f.initialiser && words_fit s.program.structs (memory_of s) (take f.params f.kinds) words
+fits_function s f words =
+    is_none f.initialiser && words_fit s.program.structs (memory_of s) (take f.params f.kinds) words
 
 abbrev pub called_with : State → ℕ → TypedFunction → Option (List Word) → Result Call Refusal
 called_with s n f None = Err C5
 called_with s n f (Some words) =
-    if fits_function s f words then if is_some s.call then Err C6 else Ok (record { function = n; args = words }) else Err C5
+    if fits_function s f words
+    then if is_some s.call then Err C6 else Ok (record { function = n; args = words })
+    else Err C5
 
 abbrev pub called_function : State → ℕ → Option TypedFunction → List Sense → Result Call Refusal
 called_function s n None senses = Err C2
@@ -141,7 +146,8 @@ part_reply (Some f) = PartDone
 abbrev pub runs_part : State → Bool → Result Call Refusal → Step
 runs_part s more (Err r) = refuses s r
 runs_part s true (Ok call) = record { reply = More; state = with_part s }
-runs_part s false (Ok call) = record { reply = part_reply (run_of s call); state = with_run s call (is_none (run_of s call)) }
+runs_part s false (Ok call) =
+    record { reply = part_reply (run_of s call); state = with_run s call (is_none (run_of s call)) }
 
 -- a question: there is a run that was not out of fuel, and no edit came after it, and no repair is pending
 abbrev pub has_no_run : State → Bool
@@ -175,7 +181,8 @@ reads_of _ = None
 abbrev pub answered : State → Bool → Command → Step
 answered s more Blank = stays s Nothing
 answered s more (Mod name kind value) = made_of s name (mod_shape s kind) (value_sense s value ∷ [])
-answered s more (New name shape values) = made_of s name (struct_shape (struct_named s shape)) (map (value_sense s) values)
+answered s more (New name shape values) =
+    made_of s name (struct_shape (struct_named s shape)) (map (value_sense s) values)
 answered s more (Set place value) = set s (place_sense s place) (value_sense s value)
 answered s more (Run function args) = runs s (called s (function_named s function) (map (value_sense s) args))
 answered s more Propagate = runs s (called_again s.call)

@@ -47,7 +47,8 @@ pub record LineAlike (m n : Situation) (line text other : List ℕ) (o p : Situa
 -- From where both have the same numbers each script has the same replies in both.
 abbrev pub AreOne : Situation → Situation → Type 0
 AreOne m n = numbers_in m ≡ numbers_in n
-    → (lines : List (List ℕ)) (out : List ℕ) (end : Situation) → Leads m lines out end → (other : Situation) × Leads n lines out other
+    → (lines : List (List ℕ)) (out : List ℕ) (end : Situation) → Leads m lines out end
+    → (other : Situation) × Leads n lines out other
 
 -- So it is with the lines one after another.
 unfoldable pub AreAlike : Situation → Situation → List (List ℕ) → Type 0
@@ -57,8 +58,9 @@ AreAlike m n (line ∷ lines) =
     × ((text other : List ℕ) (o p : Situation) → Replies m line text o → Replies n line other p
     → LineAlike m n line text other o p × AreAlike o p lines)
 
--- Of a save that holds nothing but its work and its bound is believed, and these until the next completed run or repair:
--- all other replies are those of a session that has the first trace of the call, and from then on all are.
+-- Of a save that holds nothing but its work and its bound is believed, and these until the next completed run
+-- or repair: all other replies are those of a session that has the first trace of the call, and from then on
+-- all are.
 abbrev pub StrangerLaw : Type 0
 StrangerLaw = (program : Program) (s : Save) (trace : Trace) → IsCompiled program → Holding program.code s
     → s.kept.forest ≡ flat trace → (lines : List (List ℕ))

@@ -28,9 +28,10 @@ reads_in (Some command) = reads_of command
 abbrev pub first_trace : Code → State → Call → Option Repaired
 first_trace code s call = first_of code s.inputs s.fuel call.function call.args
 
--- What the line leaves: what there was before it, where it runs no call. Else a slice of the repair that is pending, or of
--- a new one of the trace, which goes on or is done; where there is no trace, or the steps that were run anew are more than
--- the fuel, the first trace; and nothing where the run from scratch is out of fuel.
+-- What the line leaves: what there was before it, where it runs no call. Else a slice of the repair that is
+-- pending, or of a new one of the trace, which goes on or is done; where there is no trace, or the steps that
+-- were run anew are more than the fuel, the first trace; and nothing where the run from scratch is out of
+-- fuel.
 abbrev pub past_left : Code → State → Result Call Refusal → Option ℕ → Past → Past
 past_left code s (Err r) reads past = past
 past_left code s (Ok call) reads past = past_behind code s.inputs s.fuel (first_trace code s call) reads past
@@ -40,9 +41,9 @@ abbrev pub steps_in_first : Option Repaired → ℕ
 steps_in_first None = 0
 steps_in_first (Some a) = steps_of a.items
 
--- The bound, by the slice: where there is none the trace is a first one, each of whose steps is work. Where the repair is
--- done it is the cost of the first trace on the present inputs beside the first trace on the settled ones; where it goes
--- on, it stays what it was.
+-- The bound, by the slice: where there is none the trace is a first one, each of whose steps is work. Where
+-- the repair is done it is the cost of the first trace on the present inputs beside the first trace on the
+-- settled ones; where it goes on, it stays what it was.
 abbrev pub bound_by : Code → State → Call → Option Repaired → Option Repair → ℕ → ℕ
 bound_by code s call first None bound = steps_in_first first
 bound_by code s call None (Some r) bound = if is_done code s.inputs r then 0 else bound
@@ -53,7 +54,8 @@ bound_by code s call (Some a) (Some r) bound =
 abbrev pub bound_left : Code → State → Result Call Refusal → Option ℕ → Past → ℕ → ℕ
 bound_left code s (Err r) reads past bound = bound
 bound_left code s (Ok call) reads past bound =
-    bound_by code s call (first_trace code s call) (slice_of code s.inputs s.fuel reads (next_repair code s.inputs past)) bound
+    bound_by code s call (first_trace code s call)
+    (slice_of code s.inputs s.fuel reads (next_repair code s.inputs past)) bound
 
 -- what the line of a command, or of none, leaves in a situation
 abbrev pub past_in : Situation → Option Command → Past

@@ -19,10 +19,8 @@ use ceal_engine::run_error::RunError;
 fn came_anew(outcome: Result<(), RunError>) -> Result<Came, RunError>
     ensures { result ≡ with_came Anew outcome }
 {
-    match outcome {
-        Ok(()) => Ok(Came::Anew),
-        Err(error) => Err(error),
-    }
+    outcome?;
+    Ok(Came::Anew)
 }
 
 /// The first run.

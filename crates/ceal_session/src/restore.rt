@@ -16,7 +16,7 @@ ghost use Rattle.ceal_traceck.specs.Verdicts.{Means};
 ghost use Rattle.ceal_traceck.specs.declared.verdict.Verdict.TheVariants.{Yes};
 
 use crate::journal::Journal;
-use crate::session::RestoreError;
+use crate::session::{LARGEST_FUEL, RestoreError};
 use crate::state::State;
 use ceal_base::forest::Item;
 use ceal_base::no_memory::NoMemory;
@@ -34,9 +34,6 @@ use ceal_types::names::Names;
 use ceal_types::numbers::Numbered;
 use ceal_types::seed::Seed;
 use std::alloc::Global;
-
-/// The most steps that a run of a session may be allowed.
-const LARGEST_FUEL: u32 = 4_194_304;
 
 /// Whether a run of a session may be allowed so many steps.
 fn is_allowed(fuel: u32) -> bool

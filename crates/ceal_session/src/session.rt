@@ -33,6 +33,9 @@ use ceal_types::seed::Seed;
 use std::alloc::Global;
 use std::marker::Model;
 
+/// The most steps that a run of a session may be allowed.
+pub const LARGEST_FUEL: u32 = 4_194_304;
+
 /// Why a session was not restored.
 #[derive(Clone, Copy, PartialEq, Eq, Debug)]
 pub enum RestoreError {
@@ -239,9 +242,7 @@ impl Session {
         ensures holds { OnOk result (Holding program.code saved) }
         ensures unsound { IsErrOf result RestoreError.Unsound → ¬ Holding program.code saved }
     {
-        match restored(alloc, program, &saved, seed) {
-            Ok(state) => Ok(Session { state, alloc }),
-            Err(error) => Err(error),
-        }
+        let state = restored(alloc, program, &saved, seed)?;
+        Ok(Session { state, alloc })
     }
 }

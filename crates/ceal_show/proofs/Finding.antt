@@ -10,7 +10,7 @@ use Rattle.ceal_base.specs.declared.kind.Shape.{Shape}
 use Rattle.ceal_base.specs.declared.typed.StructInfo.{StructInfo}
 use Rattle.ceal_base.specs.declared.word.BlockId.{BlockId}
 use Rattle.ceal_base.specs.declared.word.Word.{Word}
-use Rattle.ceal_show.specs.Paths.{same_block, is_in, target_of, behind, Leads, IsLess, IsPathOf, AreReached}
+use Rattle.ceal_show.specs.Paths.{same_block, is_in, target_of, behind, IsPath, IsLess, IsPathOf, AreReached}
 use Rattle.ceal_show.specs.Search.{with_target, with_targets, AreClosed}
 use Rattle.ceal_show.specs.Shown.{Shown, shape_in, shape_at, words_in, words_at, word_at, target, IsThere, IsWhole}
 use Rattle.ceal_show.proofs.PathOrder.{IsAtMost, at_most_append, at_most_trans, at_most_not_less}
@@ -156,7 +156,7 @@ module _ (structs : List StructInfo) (memory : Shown) (whole : IsWhole structs m
         by_done (v ∷ front) = by_done front
 
     pub start_search : IsSome (memory root) → IsSearching memory root 0 (root ∷ [])
-    unfolding Leads
+    unfolding IsPath
     start_search there = record {
       done = [];
       waiting = visit root [] ∷ [];
@@ -179,8 +179,8 @@ module _ (structs : List StructInfo) (memory : Shown) (whole : IsWhole structs m
         by_there v (inl e) = subst (λ (x : Visit). IsSome (memory x.block)) (sym e) there
         by_there v (inr h) = absurd h
 
-        by_leads : (v : Visit) → Among v (visit root [] ∷ []) → Leads memory root v.path v.block
-        by_leads v (inl e) = subst (λ (x : Visit). Leads memory root x.path x.block) (sym e) refl
+        by_leads : (v : Visit) → Among v (visit root [] ∷ []) → IsPath memory root v.path v.block
+        by_leads v (inl e) = subst (λ (x : Visit). IsPath memory root x.path x.block) (sym e) refl
         by_leads v (inr h) = absurd h
 
         by_once : (v w : Visit) → Among v (visit root [] ∷ []) → Among w (visit root [] ∷ []) → v.path ≡ w.path
@@ -230,12 +230,12 @@ module _ (memory : Shown) (root : BlockId) (done : List Visit) (s : Searched mem
   sound = subst (Sound memory root) nothing_waits s.sound
 
   -- a path from a block that is met leads to one that is met by a path that is not larger
-  met_from : (path : List ℕ) (v : Visit) → Among v done → (b : BlockId) → Leads memory v.block path b → Meets done b (v.path ++ path)
-  unfolding Leads
+  met_from : (path : List ℕ) (v : Visit) → Among v done → (b : BlockId) → IsPath memory v.block path b → Meets done b (v.path ++ path)
+  unfolding IsPath
   met_from [] v h b e = record { by = v; among = h; same = e; least = inl (sym (append-nil v.path)) }
   met_from (field ∷ path) v h b (c, e, k) =
       let m = closed v h field c e in
-      let r = met_from path m.by m.among b (subst (λ (x : BlockId). Leads memory x path b) (sym m.same) k) in
+      let r = met_from path m.by m.among b (subst (λ (x : BlockId). IsPath memory x path b) (sym m.same) k) in
       record {
         by = r.by;
         among = r.among;
@@ -245,7 +245,7 @@ module _ (memory : Shown) (root : BlockId) (done : List Visit) (s : Searched mem
             (subst (IsAtMost (m.by.path ++ path)) (append_assoc v.path (field ∷ []) path) (at_most_append m.by.path (v.path ++ field ∷ []) path m.least));
       }
 
-  met_by : (b : BlockId) (path : List ℕ) → Leads memory root path b → Meets done b path
+  met_by : (b : BlockId) (path : List ℕ) → IsPath memory root path b → Meets done b path
   met_by b path h = met_from path (visit root []) sound.start b h
 
   is_path : (v : Visit) → Among v done → IsPathOf memory root v.block v.path

@@ -6,18 +6,18 @@ use Rattle.std.proofs.lemmas.Bool.{false≢true}
 use Rattle.ceal_base.specs.declared.typed.StructInfo.{StructInfo}
 use Rattle.ceal_base.specs.declared.word.BlockId.{BlockId}
 use Rattle.ceal_show.specs.Graph.{Scene, lines_text, IsGraphText}
-use Rattle.ceal_show.specs.Paths.{is_in, Leads, IsLess, IsBelow, AreRising, IsPathOf, AreReached}
+use Rattle.ceal_show.specs.Paths.{is_in, IsPath, IsLess, IsBelow, AreRising, IsPathOf, AreReached}
 use Rattle.ceal_show.specs.Shown.{Shown}
 use Rattle.ceal_show.proofs.PathOrder.{less_trans, less_irrefl, less_total}
 use Rattle.ceal_show.proofs.Same.{same_tells}
 
-leads_one : (memory : Shown) (path : List ℕ) (a b c : BlockId) → Leads memory a path b → Leads memory a path c → b ≡ c
-unfolding Leads
+leads_one : (memory : Shown) (path : List ℕ) (a b c : BlockId) → IsPath memory a path b → IsPath memory a path c → b ≡ c
+unfolding IsPath
 leads_one memory [] a b c h k = sym h ∙ k
 leads_one memory (field ∷ path) a b c (d, e, h) (d', f, k) =
     let g : Some d ≡ Some d' = sym e ∙ f in
     let same : d ≡ d' = cc in
-    leads_one memory path d' b c (subst (λ (x : BlockId). Leads memory x path b) same h) k
+    leads_one memory path d' b c (subst (λ (x : BlockId). IsPath memory x path b) same h) k
 
 abbrev HasPath : List ℕ → List (List ℕ) → Type 0
 HasPath p [] = ⊥

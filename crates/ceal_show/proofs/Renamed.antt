@@ -13,7 +13,7 @@ use Rattle.ceal_base.specs.declared.word.BlockId.TheVariants.{Input, Core}
 use Rattle.ceal_base.specs.declared.word.Word.{Word}
 use Rattle.ceal_base.specs.declared.word.Word.TheVariants.{Num, Null, Block as BlockWord, At}
 use Rattle.ceal_show.specs.Graph.{core_count, cores_before, label_text, Scene, word_text, fields_text, block_text, lines_text, IsGraphText}
-use Rattle.ceal_show.specs.Paths.{same_block, is_in, target_of, behind, Leads, IsPathOf, AreReached}
+use Rattle.ceal_show.specs.Paths.{same_block, is_in, target_of, behind, IsPath, IsPathOf, AreReached}
 use Rattle.ceal_show.specs.Renaming.{renamed_word, renamed_block, IsRenaming}
 use Rattle.ceal_show.specs.Shown.{Shown, shape_in, shape_at, words_in, words_at, word_at, target, IsThere, IsWhole}
 use Rattle.ceal_show.proofs.Same.{same_tells, same_self}
@@ -66,8 +66,8 @@ module _ (structs : List StructInfo) (rename : BlockId → BlockId) (from to : S
       by_word None f g = absurd cc
       by_word (Some w) f g = subst (IsThere from) g (whole.named b field w f)
 
-  forth : (path : List ℕ) (a b : BlockId) → IsSome (from a) → Leads from a path b → Leads to (rename a) path (rename b)
-  unfolding Leads
+  forth : (path : List ℕ) (a b : BlockId) → IsSome (from a) → IsPath from a path b → IsPath to (rename a) path (rename b)
+  unfolding IsPath
   forth [] a b h e = ap rename e
   forth (field ∷ path) a b h (c, e, k) = (rename c, behind-renamed a field h ∙ ap (option_map rename) e, forth path c b (behind_there a field c e) k)
 
@@ -75,7 +75,7 @@ module _ (structs : List StructInfo) (rename : BlockId → BlockId) (from to : S
   record Back (a : BlockId) (path : List ℕ) (c : BlockId) : Type 0 where
     block : BlockId
     same : rename block ≡ c
-    leads : Leads from a path block
+    leads : IsPath from a path block
     there : IsSome (from block)
 
   one_back : (field : ℕ) (a d : BlockId) → IsSome (from a) → behind to (rename a) field ≡ Some d → (b : BlockId) × (behind from a field ≡ Some b) × (rename b ≡ d)
@@ -85,16 +85,16 @@ module _ (structs : List StructInfo) (rename : BlockId → BlockId) (from to : S
       by_target None f g = absurd cc
       by_target (Some b) f g = (b, f, cc)
 
-  back : (path : List ℕ) (a c : BlockId) → IsSome (from a) → Leads to (rename a) path c → Back a path c
-  unfolding Leads
+  back : (path : List ℕ) (a c : BlockId) → IsSome (from a) → IsPath to (rename a) path c → Back a path c
+  unfolding IsPath
   back [] a c h e = record { block = a; same = e; leads = refl; there = h }
   back (field ∷ path) a c h (d, e, k) =
       let s = one_back field a d h e in
-      let t = back path s.0 c (behind_there a field s.0 s.1) (subst (λ (x : BlockId). Leads to x path c) (sym s.2) k) in
+      let t = back path s.0 c (behind_there a field s.0 s.1) (subst (λ (x : BlockId). IsPath to x path c) (sym s.2) k) in
       record { block = t.block; same = t.same; leads = (s.0, s.1, t.leads); there = t.there }
 
-  leads_there : (path : List ℕ) (a b : BlockId) → IsSome (from a) → Leads from a path b → IsSome (from b)
-  unfolding Leads
+  leads_there : (path : List ℕ) (a b : BlockId) → IsSome (from a) → IsPath from a path b → IsSome (from b)
+  unfolding IsPath
   leads_there [] a b h e = subst (λ (x : BlockId). IsSome (from x)) e h
   leads_there (field ∷ path) a b h (c, e, k) = leads_there path c b (behind_there a field c e) k
 
@@ -108,7 +108,7 @@ module _ (structs : List StructInfo) (rename : BlockId → BlockId) (from to : S
       least = λ other k less.
           let s = back other root (rename b) start k in
           let e = r.one_to_one s.block b s.there (leads_there path root b start p.leads) s.same in
-          p.least other (subst (Leads from root other) e s.leads) less;
+          p.least other (subst (IsPath from root other) e s.leads) less;
     }
 
     each-renamed : (blocks : List BlockId) (paths : List (List ℕ)) → AllZip (IsPathOf from root) blocks paths → AllZip (IsPathOf to (rename root)) (map rename blocks) paths

@@ -7,7 +7,7 @@ use Rattle.ceal_base.specs.declared.kind.FieldKind.TheVariants.{Plain, CellPtr}
 use Rattle.ceal_base.specs.declared.kind.Kind.TheVariants.{Int, Ptr, ModPtr}
 use Rattle.ceal_base.specs.declared.word.BlockId.TheVariants.{Input, Core}
 use Rattle.ceal_show.specs.Graph.{Scene, fields_text, lines_text}
-use Rattle.ceal_show.specs.Paths.{IsLess, Leads}
+use Rattle.ceal_show.specs.Paths.{IsLess, IsPath}
 use Rattle.ceal_show.specs.Sample.{sample}
 
 -- a shorter path is less; of one length, the one with the smaller number at the first difference
@@ -18,8 +18,8 @@ earlier : IsLess (2 ∷ 0 ∷ 7 ∷ []) (2 ∷ 1 ∷ 0 ∷ [])
 earlier = inr (refl, inr (refl, inl (omega arith)))
 
 -- by the pair's third field, which points to a modifiable in the last cell
-leads : Leads (block_at sample) (Input 1) (2 ∷ []) (Core 0)
-unfolding Leads
+leads : IsPath (block_at sample) (Input 1) (2 ∷ []) (Core 0)
+unfolding IsPath
 leads = (Core 0, refl, refl)
 
 scene : Scene

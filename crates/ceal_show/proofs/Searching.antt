@@ -3,7 +3,7 @@ use Rattle.std.proofs.Common.{◌≡◌, ℕ, ◌+◌, ◌<◌, ◌≤◌, Bool,
 use Rattle.std.specs.Prelude.{◌⊎◌, IsSome}
 use Rattle.std.proofs.lemmas.Bool.{false≢true, cases_lt}
 use Rattle.ceal_base.specs.declared.word.BlockId.{BlockId}
-use Rattle.ceal_show.specs.Paths.{same_block, is_in, behind, Leads, IsLess, IsBelow, AreRising}
+use Rattle.ceal_show.specs.Paths.{same_block, is_in, behind, IsPath, IsLess, IsBelow, AreRising}
 use Rattle.ceal_show.specs.Shown.{Shown}
 use Rattle.ceal_show.proofs.PathOrder.{IsAtMost, less_trans, less_append, less_last, less_more}
 use Rattle.ceal_show.proofs.Same.{same_tells}
@@ -39,7 +39,7 @@ pub record Meets (all : List Visit) (b : BlockId) (path : List ℕ) : Type 0 whe
 pub record Sound (memory : Shown) (root : BlockId) (all : List Visit) : Type 0 where
   pub start : Among (visit root []) all
   pub there : (v : Visit) → Among v all → IsSome (memory v.block)
-  pub leads : (v : Visit) → Among v all → Leads memory root v.path v.block
+  pub leads : (v : Visit) → Among v all → IsPath memory root v.path v.block
   pub rising : AreRising (paths_of all)
   pub once : (v w : Visit) → Among v all → Among w all → v.block ≡ w.block → v.path ≡ w.path
 
@@ -118,14 +118,14 @@ rising_push (w ∷ []) v r h = (h w (inl refl), (tt, tt))
 rising_push (w ∷ x ∷ all) v r h = (r.0, rising_push (x ∷ all) v r.1 (λ y k. h y (inr k)))
 
 -- Leading.
-pub leads_more : (memory : Shown) (path : List ℕ) (a b c : BlockId) (field : ℕ) → Leads memory a path b → behind memory b field ≡ Some c → Leads memory a (path ++ field ∷ []) c
-unfolding Leads
+pub leads_more : (memory : Shown) (path : List ℕ) (a b c : BlockId) (field : ℕ) → IsPath memory a path b → behind memory b field ≡ Some c → IsPath memory a (path ++ field ∷ []) c
+unfolding IsPath
 leads_more memory [] a b c field h e = (c, subst (λ (x : BlockId). behind memory x field ≡ Some c) (sym h) e, refl)
 leads_more memory (f ∷ path) a b c field h e = (h.0, h.1, leads_more memory path h.0 b c field h.2 e)
 
 module _ (memory : Shown) (root : BlockId) where
   -- one more block is met
-  sound_more : (all : List Visit) (v : Visit) → Sound memory root all → is_in v.block (blocks_of all) ≡ false → IsSome (memory v.block) → Leads memory root v.path v.block
+  sound_more : (all : List Visit) (v : Visit) → Sound memory root all → is_in v.block (blocks_of all) ≡ false → IsSome (memory v.block) → IsPath memory root v.path v.block
       → ((w : Visit) → Among w all → IsLess w.path v.path) → Sound memory root (all ++ v ∷ [])
   sound_more all v s out there leads below = record {
     start = among_left (visit root []) all (v ∷ []) s.start;
@@ -136,7 +136,7 @@ module _ (memory : Shown) (root : BlockId) where
     ];
     leads = λ w h. elim (among_parts w all (v ∷ []) h) [
       | inl k ↦ s.leads w k
-      | inr (inl e) ↦ subst (λ (x : Visit). Leads memory root x.path x.block) (sym e) leads
+      | inr (inl e) ↦ subst (λ (x : Visit). IsPath memory root x.path x.block) (sym e) leads
       | inr (inr k) ↦ absurd k
     ];
     rising = rising_push all v s.rising below;

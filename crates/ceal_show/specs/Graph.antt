@@ -77,22 +77,26 @@ abbrev pub word_text : Scene → Word → List ℕ
 word_text scene (Num n) = signed_decimal n
 word_text scene Null = codes "null"
 word_text scene (BlockWord b) = label_text scene.name scene.blocks b
-word_text scene (At p) = label_text scene.name scene.blocks p.block ++ suffix_text scene.structs (shape_at scene.memory p.block) p.field
+word_text scene (At p) =
+    label_text scene.name scene.blocks p.block ++ suffix_text scene.structs (shape_at scene.memory p.block) p.field
 
 -- ` NAME=VALUE`
 abbrev pub field_word_text : Scene → Shape → ℕ → Word → List ℕ
-field_word_text scene shape field word = codes " " ++ field_name scene.structs shape field ++ codes "=" ++ word_text scene word
+field_word_text scene shape field word =
+    codes " " ++ field_name scene.structs shape field ++ codes "=" ++ word_text scene word
 
 -- the same for each word, the first of which is that of this field
 unfoldable pub fields_text : Scene → Shape → ℕ → List Word → List ℕ
 fields_text scene shape field [] = []
-fields_text scene shape field (word ∷ words) = field_word_text scene shape field word ++ fields_text scene shape (field + 1) words
+fields_text scene shape field (word ∷ words) =
+    field_word_text scene shape field word ++ fields_text scene shape (field + 1) words
 
 -- the line of a block: its label, its kind and its fields
 abbrev pub block_text : Scene → BlockId → Option Shape → List ℕ
 block_text scene b None = []
 block_text scene b (Some shape) =
-    label_text scene.name scene.blocks b ++ codes " " ++ kind_text scene.structs shape ++ fields_text scene shape 0 (words_at scene.memory b) ++ codes "\n"
+    label_text scene.name scene.blocks b ++ codes " " ++ kind_text scene.structs shape
+    ++ fields_text scene shape 0 (words_at scene.memory b) ++ codes "\n"
 
 -- a line for each block
 unfoldable pub lines_text : Scene → List BlockId → List ℕ
@@ -100,7 +104,10 @@ lines_text scene [] = []
 lines_text scene (b ∷ bs) = block_text scene b (shape_at scene.memory b) ++ lines_text scene bs
 
 -- The text is that of the memory that the root reaches: a line for each block in the order of the paths, and `end`.
-pub record IsGraphText (structs : List StructInfo) (memory : Shown) (name : ℕ → List ℕ) (root : BlockId) (text : List ℕ) : Type 0 where
+pub record IsGraphText
+    (structs : List StructInfo) (memory : Shown) (name : ℕ → List ℕ) (root : BlockId)
+    (text : List ℕ) : Type 0 where
   pub blocks : List BlockId
   pub reached : AreReached memory root blocks
-  pub is_text : text ≡ lines_text (record { structs = structs; memory = memory; name = name; blocks = blocks }) blocks ++ codes "end\n"
+  pub is_text : text
+      ≡ lines_text (record { structs = structs; memory = memory; name = name; blocks = blocks }) blocks ++ codes "end\n"

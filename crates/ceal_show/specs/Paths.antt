@@ -27,9 +27,9 @@ abbrev pub behind : Shown → BlockId → ℕ → Option BlockId
 behind memory b field = target_of (word_at memory b field)
 
 -- A path is a list of field numbers; it leads from the one block to the other.
-unfoldable pub Leads : Shown → BlockId → List ℕ → BlockId → Type 0
-Leads memory a [] b = a ≡ b
-Leads memory a (field ∷ path) b = (c : BlockId) × (behind memory a field ≡ Some c) × Leads memory c path b
+unfoldable pub IsPath : Shown → BlockId → List ℕ → BlockId → Type 0
+IsPath memory a [] b = a ≡ b
+IsPath memory a (field ∷ path) b = (c : BlockId) × (behind memory a field ≡ Some c) × IsPath memory c path b
 
 -- at the first difference the first path has the smaller number
 abbrev pub IsEarlier : List ℕ → List ℕ → Type 0
@@ -42,8 +42,8 @@ IsLess p q = (length p < length q) ⊎ (length p ≡ length q) × IsEarlier p q
 
 -- The path leads from the root to the block, and no lesser one does.
 pub record IsPathOf (memory : Shown) (root b : BlockId) (path : List ℕ) : Type 0 where
-  pub leads : Leads memory root path b
-  pub least : (other : List ℕ) → Leads memory root other b → IsLess other path → ⊥
+  pub leads : IsPath memory root path b
+  pub least : (other : List ℕ) → IsPath memory root other b → IsLess other path → ⊥
 
 -- the path is less than the first of these
 abbrev pub IsBelow : List ℕ → List (List ℕ) → Type 0
@@ -60,4 +60,4 @@ pub record AreReached (memory : Shown) (root : BlockId) (blocks : List BlockId) 
   pub paths : List (List ℕ)
   pub each : AllZip (IsPathOf memory root) blocks paths
   pub rising : AreRising paths
-  pub all : (b : BlockId) (path : List ℕ) → Leads memory root path b → IsTrue (is_in b blocks)
+  pub all : (b : BlockId) (path : List ℕ) → IsPath memory root path b → IsTrue (is_in b blocks)

@@ -14,7 +14,9 @@ cell_input = record { shape = ModPtr 0; words = BlockWord (Core 2) ∷ [] }
 abbrev pub pair_input : Block
 pair_input = record {
   shape = Struct 1;
-  words = BlockWord (Core 2) ∷ BlockWord (Core 1) ∷ At (record { block = Core 0; field = 1 }) ∷ At (record { block = Input 0; field = 0 }) ∷ [];
+  words =
+      BlockWord (Core 2) ∷ BlockWord (Core 1) ∷ At (record { block = Core 0; field = 1 })
+      ∷ At (record { block = Input 0; field = 0 }) ∷ [];
 }
 
 abbrev pub last_cell : Block

@@ -37,4 +37,5 @@ AreAmong blocks (Some b) = IsTrue (is_in b blocks)
 -- Each block is in the memory, and so are those to which it leads, which are among the blocks.
 pub record AreClosed (memory : Shown) (blocks : List BlockId) : Type 0 where
   pub there : (b : BlockId) → IsTrue (is_in b blocks) → IsSome (memory b)
-  pub closed : (b : BlockId) (field : ℕ) (c : BlockId) → IsTrue (is_in b blocks) → behind memory b field ≡ Some c → IsTrue (is_in c blocks)
+  pub closed : (b : BlockId) (field : ℕ) (c : BlockId) → IsTrue (is_in b blocks)
+      → behind memory b field ≡ Some c → IsTrue (is_in c blocks)

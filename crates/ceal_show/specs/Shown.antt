@@ -48,5 +48,7 @@ IsThere memory (Some b) = IsSome (memory b)
 
 -- Each block has one word for each field of its shape, and each block that a word names is there.
 pub record IsWhole (structs : List StructInfo) (memory : Shown) : Type 0 where
-  pub fields : (b : BlockId) (block : Block) → memory b ≡ Some block → length block.words ≡ length (kinds_of_shape structs block.shape)
-  pub named : (b : BlockId) (field : ℕ) (word : Word) → word_at memory b field ≡ Some word → IsThere memory (target word)
+  pub fields : (b : BlockId) (block : Block) → memory b ≡ Some block
+      → length block.words ≡ length (kinds_of_shape structs block.shape)
+  pub named : (b : BlockId) (field : ℕ) (word : Word) → word_at memory b field ≡ Some word
+      → IsThere memory (target word)

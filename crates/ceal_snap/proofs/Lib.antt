@@ -4,3 +4,4 @@ pub mod ReadBack
 pub mod Loops
 pub mod Joined
 pub mod Plain
+mod Samples

@@ -21,7 +21,8 @@ Above number l = (b : ℕ) → number ≤ b → count b (core_numbers (blocks_of
 
 -- the repair of the old items on these inputs is these items, with this work; the new blocks have the names of the
 -- numbers from one on
-pub record AdjustsAs (code : Code) (inputs : List Block) (names : ℕ → ℕ) (number : ℕ) (old new : Trace) (work : ℕ) : Type 0 where
+pub record AdjustsAs
+    (code : Code) (inputs : List Block) (names : ℕ → ℕ) (number : ℕ) (old new : Trace) (work : ℕ) : Type 0 where
   pub after : State
   pub fix : Fix code names (begins code inputs (plain_of code inputs old) number) old after new
   pub counted : after.work ≡ work
@@ -31,10 +32,13 @@ abbrev pub Adjusts : Code → List Block → ℕ → Trace → Trace → ℕ →
 Adjusts code inputs = AdjustsAs code inputs own
 
 -- the first trace of a call: it is run anew with nothing left over; its blocks have the names of the numbers from 0 on
-pub record FirstsAs (code : Code) (inputs : List Block) (names : ℕ → ℕ) (f : ℕ) (args : List Word) (new : Trace) (work : ℕ) : Type 0 where
+pub record FirstsAs
+    (code : Code) (inputs : List Block) (names : ℕ → ℕ) (f : ℕ) (args : List Word) (new : Trace)
+    (work : ℕ) : Type 0 where
   pub after : State
   pub left : Trace
-  pub anew : Anew code names (begins code inputs (input_plain code inputs) 0) (started code f args) Nothing after new left
+  pub anew : Anew code names (begins code inputs (input_plain code inputs) 0)
+      (started code f args) Nothing after new left
   pub counted : after.work ≡ work
 
 -- its blocks have the numbers from 0 on

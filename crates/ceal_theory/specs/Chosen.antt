@@ -35,7 +35,9 @@ pub record Free (chosen : List ℕ) (l : Trace) : Type 0 where
 -- A repair that has ended in a state: its items are those of the repair with the chosen numbers in place of the new
 -- ones, and its work is that of the repair. They determine the run from scratch, where the contents are those of the
 -- state at the end; their blocks have the plain words that the state has.
-pub record EndedRepair (code : Code) (old new : List Block) (f : ℕ) (args : List Word) (l : Trace) (number : ℕ) (chosen : List ℕ) (after : State) (out : List Item) : Type 0 where
+pub record EndedRepair
+    (code : Code) (old new : List Block) (f : ℕ) (args : List Word) (l : Trace) (number : ℕ)
+    (chosen : List ℕ) (after : State) (out : List Item) : Type 0 where
   pub bound : ℕ
   pub a : Repaired
   pub is : (n : ℕ) → after.work ≤ n → adjusted code new number n l ≡ Some a
@@ -48,7 +50,9 @@ pub record EndedRepair (code : Code) (old new : List Block) (f : ℕ) (args : Li
   pub words : (b : BlockId) (block : Block) → plain_of code new items b ≡ Some block → after.plain b ≡ Some block
 
 -- so with a first trace, each of whose steps is work
-pub record EndedFirst (code : Code) (inputs : List Block) (f : ℕ) (args : List Word) (chosen : List ℕ) (after : State) (out : List Item) : Type 0 where
+pub record EndedFirst
+    (code : Code) (inputs : List Block) (f : ℕ) (args : List Word) (chosen : List ℕ)
+    (after : State) (out : List Item) : Type 0 where
   pub bound : ℕ
   pub a : Repaired
   pub is : (n : ℕ) → after.work ≤ n → first_of code inputs n f args ≡ Some a
@@ -67,32 +71,44 @@ repair_begins code new l = record { state = begins code new (plain_of code new l
 
 -- the machine that makes a first trace, at its beginning
 abbrev pub first_begins : Code → List Block → ℕ → List Word → Machine
-first_begins code inputs f args = record { state = begins code inputs (input_plain code inputs) 0; mode = Running (started code f args) Nothing; frames = Bottom }
+first_begins code inputs f args = record {
+  state = begins code inputs (input_plain code inputs) 0;
+  mode = Running (started code f args) Nothing;
+  frames = Bottom;
+}
 
 -- what holds of names that are chosen turn by turn
 pub record ChosenLaws (code : Code) : Type 0 where
-  -- at a beginning, where some numbers were handed out before; after what all names have in common; and after a turn that
-  -- makes a block of any number
+  -- at a beginning, where some numbers were handed out before; after what all names have in common; and after
+  -- a turn that makes a block of any number
   pub begun : (m : Machine) (chosen : List ℕ) → m.state.number ≡ length chosen → ComesBy code m m chosen []
   pub more : (start m m' : Machine) (chosen : List ℕ) (out is : List Item) → ComesBy code start m chosen out
-      → ((names : ℕ → ℕ) → Leads code names m m' is) → m'.state.number ≡ m.state.number → ComesBy code start m' chosen (out ++ is)
+      → ((names : ℕ → ℕ) → Leads code names m m' is) → m'.state.number ≡ m.state.number
+      → ComesBy code start m' chosen (out ++ is)
   pub numbered : (start m m' : Machine) (chosen : List ℕ) (out is : List Item) → ComesBy code start m chosen out
-      → (b : ℕ) → ((names : ℕ → ℕ) → names m.state.number ≡ b → Leads code names m m' is) → m'.state.number ≡ m.state.number + 1 → ComesBy code start m' (chosen ++ b ∷ []) (out ++ is)
+      → (b : ℕ) → ((names : ℕ → ℕ) → names m.state.number ≡ b → Leads code names m m' is)
+      → m'.state.number ≡ m.state.number + 1 → ComesBy code start m' (chosen ++ b ∷ []) (out ++ is)
   -- where the machine has ended
-  pub ends : (old new : List Block) (f : ℕ) (args : List Word) (l : Trace) (number : ℕ) → Edited code old new f args l number
-      → (m : Machine) (chosen : List ℕ) (out : List Item) → ComesBy code (repair_begins code new l) m chosen out → Free chosen l
+  pub ends : (old new : List Block) (f : ℕ) (args : List Word) (l : Trace) (number : ℕ)
+      → Edited code old new f args l number
+      → (m : Machine) (chosen : List ℕ) (out : List Item) → ComesBy code (repair_begins code new l) m chosen out
+      → Free chosen l
       → ((names : ℕ → ℕ) → turn code names m ≡ Ended)
       → EndedRepair code old new f args l number chosen m.state out
   -- where its work is more than the run from scratch may take
-  pub over : (old new : List Block) (f : ℕ) (args : List Word) (l : Trace) (number : ℕ) → Edited code old new f args l number
-      → (m : Machine) (chosen : List ℕ) (out : List Item) → ComesBy code (repair_begins code new l) m chosen out → Free chosen l
+  pub over : (old new : List Block) (f : ℕ) (args : List Word) (l : Trace) (number : ℕ)
+      → Edited code old new f args l number
+      → (m : Machine) (chosen : List ℕ) (out : List Item) → ComesBy code (repair_begins code new l) m chosen out
+      → Free chosen l
       → (fuel : ℕ) → fuel < m.state.work → fresh code f args new fuel ≡ None
   pub first_ends : (inputs : List Block) (f : ℕ) (args : List Word) → Fits code inputs f args
-      → (m : Machine) (chosen : List ℕ) (out : List Item) → ComesBy code (first_begins code inputs f args) m chosen out → Distinct chosen
+      → (m : Machine) (chosen : List ℕ) (out : List Item)
+      → ComesBy code (first_begins code inputs f args) m chosen out → Distinct chosen
       → ((names : ℕ → ℕ) → turn code names m ≡ Ended)
       → EndedFirst code inputs f args chosen m.state out
   pub first_over : (inputs : List Block) (f : ℕ) (args : List Word) → Fits code inputs f args
-      → (m : Machine) (chosen : List ℕ) (out : List Item) → ComesBy code (first_begins code inputs f args) m chosen out → Distinct chosen
+      → (m : Machine) (chosen : List ℕ) (out : List Item)
+      → ComesBy code (first_begins code inputs f args) m chosen out → Distinct chosen
       → (fuel : ℕ) → fuel < m.state.work → fresh code f args inputs fuel ≡ None
 
 -- It holds of all code.

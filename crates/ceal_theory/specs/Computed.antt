@@ -83,14 +83,18 @@ mend_by code again s p u v args value inside =
     mend_if code again s p u v args inside kept (same_word (s.store p) value)
 
 -- an allocation: the old block is taken where there is one with its key, and else a new one is made
-abbrev pub make_by : Code → (ℕ → ℕ) → Runner → State → Trace → Key → ℕ → ℕ → ℕ → Variables → Stack → Option TakenAlloc → Option Ran
+abbrev pub make_by : Code → (ℕ → ℕ) → Runner → State → Trace → Key → ℕ → ℕ → ℕ → Variables → Stack
+    → Option TakenAlloc → Option Ran
 make_by code names again s old key v u i env below (Some t) =
-    ran_with (λ l. Stepped (Allocated t.block key l)) (again (clears code (works s) t.block key) (Run u i (set env v (pointer key t.block)) below) t.leftover)
+    ran_with (λ l. Stepped (Allocated t.block key l))
+    (again (clears code (works s) t.block key) (Run u i (set env v (pointer key t.block)) below) t.leftover)
 make_by code names again s old key v u i env below None =
-    ran_with (λ l. Stepped (Allocated (Core (names s.number)) key l)) (again (grows code names (works s) key) (Run u i (set env v (pointer key (Core (names s.number)))) below) old)
+    ran_with (λ l. Stepped (Allocated (Core (names s.number)) key l))
+    (again (grows code names (works s) key) (Run u i (set env v (pointer key (Core (names s.number)))) below) old)
 
 -- a read: an old one is taken where there is one with its key, and else its unit runs
-abbrev pub read_by : Code → Runner → State → Trace → Place → UnitId → ℕ → List Word → Stack → Option TakenRead → Option Ran
+abbrev pub read_by : Code → Runner → State → Trace → Place → UnitId → ℕ → List Word → Stack → Option TakenRead
+    → Option Ran
 read_by code again s old p u v args below (Some r) =
     and_run (mend_by code again (works s) p u v args r.value r.inside)
     (λ a. ran_with (λ l. Stepped (WasRead p (s.store p) u v args a.items l)) (again a.state below r.leftover))
@@ -102,9 +106,12 @@ read_by code again s old p u v args below None =
 abbrev pub perform : Code → (ℕ → ℕ) → Runner → State → Trace → Act → Option Ran
 perform code names again s old Over = Some (record { state = s; items = Nothing; left = old })
 perform code names again s old (Quiet after) = ran_with Stepped (again (works s) after old)
-perform code names again s old (Makes key v u i env below) = make_by code names again s old key v u i env below (take_alloc key old)
-perform code names again s old (Writes p value after) = ran_with (λ l. Stepped (Wrote p value l)) (again (puts (works s) p value) after old)
-perform code names again s old (Reads p u v args below) = read_by code again s old p u v args below (take_read p u v args old)
+perform code names again s old (Makes key v u i env below) =
+    make_by code names again s old key v u i env below (take_alloc key old)
+perform code names again s old (Writes p value after) =
+    ran_with (λ l. Stepped (Wrote p value l)) (again (puts (works s) p value) after old)
+perform code names again s old (Reads p u v args below) =
+    read_by code again s old p u v args below (take_read p u v args old)
 
 -- a stack is run anew with a leftover, at most so deep
 unfoldable pub anew : Code → (ℕ → ℕ) → ℕ → Runner

@@ -39,4 +39,6 @@ CountLaw = (code : Code) (x : Plain) (st : Stack) (l : Trace) → Yields code x 
 
 -- a repair makes at most as many blocks as it has work
 abbrev pub BlocksLaw : Type 0
-BlocksLaw = (code : Code) (names : ℕ → ℕ) (s s' : State) (old new : Trace) → Fix code names s old s' new → s'.number + s.work ≤ s.number + s'.work
+BlocksLaw =
+    (code : Code) (names : ℕ → ℕ) (s s' : State) (old new : Trace) → Fix code names s old s' new
+    → s'.number + s.work ≤ s.number + s'.work

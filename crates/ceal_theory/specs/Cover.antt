@@ -49,13 +49,15 @@ closed w p = λ q. if same_place q p then false else w q
 unfoldable pub opened : Waiting → Place → Bool → Waiting
 opened w p b = λ q. if same_place q p then w q || b else w q
 
--- Each read that is not honest is queued, or a queued read of its place stands before it with no write of the place between.
+-- Each read that is not honest is queued, or a queued read of its place stands before it with no write of the
+-- place between.
 abbrev pub Covered : Code → Queue → Store → Waiting → Nodes → Type 0
 Covered code q s w Nil = ⊤
 Covered code q s w (Node n Step rest) = Covered code q s w rest
 Covered code q s w (Node n (Alloc b key) rest) = Covered code q (cleared code s b key) w rest
 Covered code q s w (Node n (Write p value) rest) = Covered code q (stored s p value) (closed w p) rest
-Covered code q s w (Node n (Read p value u v args) rest) = ((s p ≡ value) ⊎ (opened w p (q n) p ≡ true)) × Covered code q s (opened w p (q n)) rest
+Covered code q s w (Node n (Read p value u v args) rest) =
+    ((s p ≡ value) ⊎ (opened w p (q n) p ≡ true)) × Covered code q s (opened w p (q n)) rest
 Covered code q s w (Node n End rest) = Covered code q s w rest
 
 -- the first read of the place that no write of it comes before
@@ -86,29 +88,40 @@ abbrev pub Absent : ℕ → Nodes → Type 0
 Absent m Nil = ⊤
 Absent m (Node n i rest) = ((n == m) ≡ false) × Absent m rest
 
--- A change of what the store has at one place keeps the cover, where the first read of the place is queued: so with an edit
--- of a base, with a write that is put in or taken out, and with a queued read that is taken out.
+-- A change of what the store has at one place keeps the cover, where the first read of the place is queued:
+-- so with an edit of a base, with a write that is put in or taken out, and with a queued read that is taken
+-- out.
 abbrev pub ChangeLaw : Type 0
 ChangeLaw = (code : Code) (q : Queue) (s : Store) (p : Place) (value : Word) (l : Nodes)
     → (Covered code q s none_waits l → Covered code (with_queued q (first_read p l)) (stored s p value) none_waits l)
-    × ((w : Waiting) (wait : Bool) → Covered code q s w l → Covered code (with_queued q (first_read p l)) s (opened (closed w p) p wait) l)
+    × ((w : Waiting) (wait : Bool) → Covered code q s w l
+    → Covered code (with_queued q (first_read p l)) s (opened (closed w p) p wait) l)
 
--- Where none of the first nodes is queued they are honest, and what follows is covered. So the first queued read, if it is
--- stale, is the first stale read; and where nothing is queued all is honest.
+-- Where none of the first nodes is queued they are honest, and what follows is covered. So the first queued
+-- read, if it is stale, is the first stale read; and where nothing is queued all is honest.
 abbrev pub FirstQueuedLaw : Type 0
-FirstQueuedLaw = (code : Code) (q : Queue) (s : Store) (front l : Nodes) → NoneQueued q front → Covered code q s none_waits (before front l)
+FirstQueuedLaw =
+    (code : Code) (q : Queue) (s : Store) (front l : Nodes) → NoneQueued q front
+    → Covered code q s none_waits (before front l)
     → AgreesAll code s (items_of front) × Covered code q (store_after code s (items_of front)) none_waits l
 
--- the first queued read, where it is honest, goes from the queue, and the next one of its place, with no write between, comes
--- in its stead
+-- the first queued read, where it is honest, goes from the queue, and the next one of its place, with no
+-- write between, comes in its stead
 abbrev pub PopLaw : Type 0
-PopLaw = (code : Code) (q : Queue) (s : Store) (front : Nodes) (n : ℕ) (p : Place) (value : Word) (u : UnitId) (v : ℕ) (args : List Word) (l : Nodes)
-    → NoneQueued q front → Absent n l → Covered code q s none_waits (before front (Node n (Read p value u v args) l)) → store_after code s (items_of front) p ≡ value
-    → Covered code (with_queued (without q n) (first_read p l)) s none_waits (before front (Node n (Read p value u v args) l))
+PopLaw =
+    (code : Code) (q : Queue) (s : Store) (front : Nodes) (n : ℕ) (p : Place) (value : Word) (u : UnitId)
+    (v : ℕ) (args : List Word) (l : Nodes)
+    → NoneQueued q front → Absent n l
+    → Covered code q s none_waits (before front (Node n (Read p value u v args) l))
+    → store_after code s (items_of front) p ≡ value
+    → Covered code (with_queued (without q n) (first_read p l)) s none_waits
+    (before front (Node n (Read p value u v args) l))
 
 -- honest nodes may be put in front of covered ones
 abbrev pub FrontLaw : Type 0
-FrontLaw = (code : Code) (q : Queue) (s : Store) (front l : Nodes) → AgreesAll code s (items_of front) → Covered code q (store_after code s (items_of front)) none_waits l
+FrontLaw =
+    (code : Code) (q : Queue) (s : Store) (front l : Nodes) → AgreesAll code s (items_of front)
+    → Covered code q (store_after code s (items_of front)) none_waits l
     → Covered code q s none_waits (before front l)
 
 -- the core blocks of these, and those that the items allocate
@@ -121,23 +134,34 @@ known_after bs (Write p value ∷ is) = known_after bs is
 known_after bs (Read p value u v args ∷ is) = known_after bs is
 known_after bs (End ∷ is) = known_after bs is
 
--- A read of a trace: the items before it, all of them honest, the store at it, what it is, what is inside it, and the items
--- after its end.
-pub data At (code : Code) : Store → Trace → List Item → Store → Place → Word → UnitId → ℕ → List Word → Trace → List Item → Type 0 where
+-- A read of a trace: the items before it, all of them honest, the store at it, what it is, what is inside it,
+-- and the items after its end.
+pub data At (code : Code) : Store → Trace → List Item → Store → Place → Word → UnitId → ℕ → List Word → Trace
+    → List Item → Type 0 where
   here : {s : Store} {p : Place} {value : Word} {u : UnitId} {v : ℕ} {args : List Word} {inside rest : Trace}
       → At code s (WasRead p value u v args inside rest) [] s p value u v args inside (flat rest)
-  step : {s w : Store} {rest : Trace} {front back : List Item} {p : Place} {value : Word} {u : UnitId} {v : ℕ} {args : List Word} {inside : Trace}
-      → At code s rest front w p value u v args inside back → At code s (Stepped rest) (Step ∷ front) w p value u v args inside back
-  alloc : {s w : Store} {b : BlockId} {key : Key} {rest : Trace} {front back : List Item} {p : Place} {value : Word} {u : UnitId} {v : ℕ} {args : List Word} {inside : Trace}
-      → At code (cleared code s b key) rest front w p value u v args inside back → At code s (Allocated b key rest) (Alloc b key ∷ front) w p value u v args inside back
-  write : {s w : Store} {x : Place} {y : Word} {rest : Trace} {front back : List Item} {p : Place} {value : Word} {u : UnitId} {v : ℕ} {args : List Word} {inside : Trace}
-      → At code (stored s x y) rest front w p value u v args inside back → At code s (Wrote x y rest) (Write x y ∷ front) w p value u v args inside back
-  inner : {s w : Store} {x : Place} {y : Word} {c : UnitId} {n : ℕ} {ws : List Word} {within rest : Trace} {front back : List Item} {p : Place} {value : Word} {u : UnitId} {v : ℕ} {args : List Word} {inside : Trace}
+  step : {s w : Store} {rest : Trace} {front back : List Item} {p : Place} {value : Word} {u : UnitId} {v : ℕ}
+      {args : List Word} {inside : Trace}
+      → At code s rest front w p value u v args inside back
+      → At code s (Stepped rest) (Step ∷ front) w p value u v args inside back
+  alloc : {s w : Store} {b : BlockId} {key : Key} {rest : Trace} {front back : List Item} {p : Place}
+      {value : Word} {u : UnitId} {v : ℕ} {args : List Word} {inside : Trace}
+      → At code (cleared code s b key) rest front w p value u v args inside back
+      → At code s (Allocated b key rest) (Alloc b key ∷ front) w p value u v args inside back
+  write : {s w : Store} {x : Place} {y : Word} {rest : Trace} {front back : List Item} {p : Place}
+      {value : Word} {u : UnitId} {v : ℕ} {args : List Word} {inside : Trace}
+      → At code (stored s x y) rest front w p value u v args inside back
+      → At code s (Wrote x y rest) (Write x y ∷ front) w p value u v args inside back
+  inner : {s w : Store} {x : Place} {y : Word} {c : UnitId} {n : ℕ} {ws : List Word} {within rest : Trace}
+      {front back : List Item} {p : Place} {value : Word} {u : UnitId} {v : ℕ} {args : List Word} {inside : Trace}
       → s x ≡ y → At code s within front w p value u v args inside back
-      → At code s (WasRead x y c n ws within rest) (Read x y c n ws ∷ front) w p value u v args inside (back ++ End ∷ flat rest)
-  outer : {s t w : Store} {x : Place} {y : Word} {c : UnitId} {n : ℕ} {ws : List Word} {within rest : Trace} {front back : List Item} {p : Place} {value : Word} {u : UnitId} {v : ℕ} {args : List Word} {inside : Trace}
+      → At code s (WasRead x y c n ws within rest) (Read x y c n ws ∷ front) w p value u v args inside
+      (back ++ End ∷ flat rest)
+  outer : {s t w : Store} {x : Place} {y : Word} {c : UnitId} {n : ℕ} {ws : List Word} {within rest : Trace}
+      {front back : List Item} {p : Place} {value : Word} {u : UnitId} {v : ℕ} {args : List Word} {inside : Trace}
       → s x ≡ y → Honest code s within t → At code t rest front w p value u v args inside back
-      → At code s (WasRead x y c n ws within rest) (Read x y c n ws ∷ (flat within ++ End ∷ front)) w p value u v args inside back
+      → At code s (WasRead x y c n ws within rest)
+      (Read x y c n ws ∷ (flat within ++ End ∷ front)) w p value u v args inside back
 
 -- who waits after these
 abbrev pub waits_after : Queue → Waiting → Nodes → Waiting
@@ -158,44 +182,62 @@ abbrev pub MoreOn : Queue → Queue → Nodes → Type 0
 MoreOn q q' Nil = ⊤
 MoreOn q q' (Node n i rest) = (q n ≡ true → q' n ≡ true) × MoreOn q q' rest
 
--- The one law of the queue, of which the others are instances: the store and who waits may change at any places whose first
--- read in these nodes is queued.
+-- The one law of the queue, of which the others are instances: the store and who waits may change at any
+-- places whose first read in these nodes is queued.
 abbrev pub CoverLaw : Type 0
 CoverLaw = (code : Code) (q q' : Queue) (l : Nodes) → MoreOn q q' l → (s s' : Store) (w : Waiting)
-    → ((p : Place) → ((s p ≡ s' p) × (w p ≡ false)) ⊎ Queued q' (first_read p l)) → Covered code q s w l → Covered code q' s' none_waits l
+    → ((p : Place) → ((s p ≡ s' p) × (w p ≡ false)) ⊎ Queued q' (first_read p l)) → Covered code q s w l
+    → Covered code q' s' none_waits l
 
--- Old nodes between a front and a back give place to new ones that are honest, as in a turn: the cover stays where the first read
--- after is queued of each place whose content differs there or of which somebody waited.
+-- Old nodes between a front and a back give place to new ones that are honest, as in a turn: the cover stays
+-- where the first read after is queued of each place whose content differs there or of which somebody waited.
 abbrev pub ReplaceLaw : Type 0
-ReplaceLaw = (code : Code) (q q' : Queue) (s : Store) (front old new back : Nodes) → NoneQueued q front → Covered code q s none_waits (before front (before old back))
+ReplaceLaw =
+    (code : Code) (q q' : Queue) (s : Store) (front old new back : Nodes) → NoneQueued q front
+    → Covered code q s none_waits (before front (before old back))
     → AgreesAll code (store_after code s (items_of front)) (items_of new) → MoreOn q q' back
-    → ((p : Place) → ((store_after code (store_after code s (items_of front)) (items_of old) p ≡ store_after code (store_after code s (items_of front)) (items_of new) p) × (waits_after q none_waits old p ≡ false))
+    → ((p : Place)
+    → ((store_after code (store_after code s (items_of front)) (items_of old) p
+    ≡ store_after code (store_after code s (items_of front)) (items_of new) p)
+    × (waits_after q none_waits old p ≡ false))
     ⊎ Queued q' (first_read p back))
     → Covered code q' s none_waits (before front (before new back))
 
 -- What an engine does to its nodes keeps the cover, where none of the nodes in front is queued.
 pub record NodeChanges (code : Code) : Type 0 where
   -- a write is put in or taken out, and the next read of its place is queued
-  pub put_write : (q : Queue) (s : Store) (front back : Nodes) (n : ℕ) (p : Place) (value : Word) → NoneQueued q front → Covered code q s none_waits (before front back)
+  pub put_write : (q : Queue) (s : Store) (front back : Nodes) (n : ℕ) (p : Place) (value : Word)
+      → NoneQueued q front → Covered code q s none_waits (before front back)
       → Covered code (with_queued q (first_read p back)) s none_waits (before front (Node n (Write p value) back))
-  pub cut_write : (q : Queue) (s : Store) (front back : Nodes) (n : ℕ) (p : Place) (value : Word) → NoneQueued q front → Covered code q s none_waits (before front (Node n (Write p value) back))
+  pub cut_write : (q : Queue) (s : Store) (front back : Nodes) (n : ℕ) (p : Place) (value : Word)
+      → NoneQueued q front → Covered code q s none_waits (before front (Node n (Write p value) back))
       → Covered code (with_queued q (first_read p back)) s none_waits (before front back)
   -- a read is revoked, queued or not, and the next read of its place is queued
-  pub cut_read : (q : Queue) (s : Store) (front back : Nodes) (n : ℕ) (p : Place) (value : Word) (u : UnitId) (v : ℕ) (args : List Word) → NoneQueued q front
-      → Covered code q s none_waits (before front (Node n (Read p value u v args) back)) → Covered code (with_queued q (first_read p back)) s none_waits (before front back)
+  pub cut_read : (q : Queue) (s : Store) (front back : Nodes) (n : ℕ) (p : Place) (value : Word) (u : UnitId)
+      (v : ℕ) (args : List Word) → NoneQueued q front
+      → Covered code q s none_waits (before front (Node n (Read p value u v args) back))
+      → Covered code (with_queued q (first_read p back)) s none_waits (before front back)
   -- a new read is put in that has the content of its moment
-  pub put_read : (q : Queue) (s : Store) (front back : Nodes) (n : ℕ) (p : Place) (value : Word) (u : UnitId) (v : ℕ) (args : List Word) → NoneQueued q front → store_after code s (items_of front) p ≡ value
-      → Covered code q s none_waits (before front back) → Covered code q s none_waits (before front (Node n (Read p value u v args) back))
+  pub put_read : (q : Queue) (s : Store) (front back : Nodes) (n : ℕ) (p : Place) (value : Word) (u : UnitId)
+      (v : ℕ) (args : List Word) → NoneQueued q front → store_after code s (items_of front) p ≡ value
+      → Covered code q s none_waits (before front back)
+      → Covered code q s none_waits (before front (Node n (Read p value u v args) back))
   -- an end is put in or taken out
-  pub put_end : (q : Queue) (s : Store) (front back : Nodes) (n : ℕ) → NoneQueued q front → Covered code q s none_waits (before front back) → Covered code q s none_waits (before front (Node n End back))
-  pub cut_end : (q : Queue) (s : Store) (front back : Nodes) (n : ℕ) → NoneQueued q front → Covered code q s none_waits (before front (Node n End back)) → Covered code q s none_waits (before front back)
+  pub put_end : (q : Queue) (s : Store) (front back : Nodes) (n : ℕ) → NoneQueued q front
+      → Covered code q s none_waits (before front back) → Covered code q s none_waits (before front (Node n End back))
+  pub cut_end : (q : Queue) (s : Store) (front back : Nodes) (n : ℕ) → NoneQueued q front
+      → Covered code q s none_waits (before front (Node n End back)) → Covered code q s none_waits (before front back)
   -- an allocation is put in or taken out where the modifiables of its block have their defaults
   pub put_alloc : (q : Queue) (s : Store) (front back : Nodes) (n : ℕ) (b : BlockId) (key : Key) → NoneQueued q front
-      → ((p : Place) → cleared code (store_after code s (items_of front)) b key p ≡ store_after code s (items_of front) p)
-      → Covered code q s none_waits (before front back) → Covered code q s none_waits (before front (Node n (Alloc b key) back))
+      → ((p : Place)
+      → cleared code (store_after code s (items_of front)) b key p ≡ store_after code s (items_of front) p)
+      → Covered code q s none_waits (before front back)
+      → Covered code q s none_waits (before front (Node n (Alloc b key) back))
   pub cut_alloc : (q : Queue) (s : Store) (front back : Nodes) (n : ℕ) (b : BlockId) (key : Key) → NoneQueued q front
-      → ((p : Place) → cleared code (store_after code s (items_of front)) b key p ≡ store_after code s (items_of front) p)
-      → Covered code q s none_waits (before front (Node n (Alloc b key) back)) → Covered code q s none_waits (before front back)
+      → ((p : Place)
+      → cleared code (store_after code s (items_of front)) b key p ≡ store_after code s (items_of front) p)
+      → Covered code q s none_waits (before front (Node n (Alloc b key) back))
+      → Covered code q s none_waits (before front back)
 
 abbrev pub NodeChangesLaw : Type 0
 NodeChangesLaw = (code : Code) → NodeChanges code

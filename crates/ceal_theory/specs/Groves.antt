@@ -22,7 +22,8 @@ pub data Grove : Type 0 where
   Bare : Grove
   Made : (stamp : ℕ) (block : BlockId) (key : Key) (steps : ℕ) (rest : Grove) → Grove
   Put : (stamp : ℕ) (place : Place) (value : Word) (steps : ℕ) (rest : Grove) → Grove
-  Got : (stamp : ℕ) (place : Place) (value : Word) (unit : UnitId) (var : ℕ) (args : List Word) (steps : ℕ) (inside : Grove) (end end_steps : ℕ) (rest : Grove) → Grove
+  Got : (stamp : ℕ) (place : Place) (value : Word) (unit : UnitId) (var : ℕ) (args : List Word) (steps : ℕ)
+      (inside : Grove) (end end_steps : ℕ) (rest : Grove) → Grove
 
 -- a trace with steps in front
 abbrev pub stepped : ℕ → Trace → Trace
@@ -34,7 +35,8 @@ abbrev pub trace_in : Grove → Trace
 trace_in Bare = Nothing
 trace_in (Made s b key n rest) = Allocated b key (stepped n (trace_in rest))
 trace_in (Put s p v n rest) = Wrote p v (stepped n (trace_in rest))
-trace_in (Got s p v u x args n inside e m rest) = WasRead p v u x args (stepped n (trace_in inside)) (stepped m (trace_in rest))
+trace_in (Got s p v u x args n inside e m rest) =
+    WasRead p v u x args (stepped n (trace_in inside)) (stepped m (trace_in rest))
 
 -- a stamp, its item, and the steps before it
 abbrev pub knot : ℕ → Item → ℕ → Knot
@@ -45,7 +47,8 @@ abbrev pub knots : Grove → List Knot
 knots Bare = []
 knots (Made s b key n rest) = knot s (Alloc b key) n ∷ knots rest
 knots (Put s p v n rest) = knot s (Write p v) n ∷ knots rest
-knots (Got s p v u x args n inside e m rest) = knot s (Read p v u x args) n ∷ (knots inside ++ knot e End m ∷ knots rest)
+knots (Got s p v u x args n inside e m rest) =
+    knot s (Read p v u x args) n ∷ (knots inside ++ knot e End m ∷ knots rest)
 
 -- one grove and then another
 abbrev pub joined : Grove → Grove → Grove
@@ -87,9 +90,12 @@ pub data Closes : List Knot → Type 0 where
 -- the nodes close this number of open reads
 pub data Closed : ℕ → List Knot → Type 0 where
   done : Closed zero []
-  alloc' : {n : ℕ} {ks : List Knot} (s : ℕ) (b : BlockId) (key : Key) (m : ℕ) → Closed n ks → Closed n (knot s (Alloc b key) m ∷ ks)
-  write' : {n : ℕ} {ks : List Knot} (s : ℕ) (p : Place) (v : Word) (m : ℕ) → Closed n ks → Closed n (knot s (Write p v) m ∷ ks)
-  read' : {n : ℕ} {ks : List Knot} (s : ℕ) (p : Place) (v : Word) (u : UnitId) (x : ℕ) (args : List Word) (m : ℕ) → Closed (suc n) ks → Closed n (knot s (Read p v u x args) m ∷ ks)
+  alloc' : {n : ℕ} {ks : List Knot} (s : ℕ) (b : BlockId) (key : Key) (m : ℕ) → Closed n ks
+      → Closed n (knot s (Alloc b key) m ∷ ks)
+  write' : {n : ℕ} {ks : List Knot} (s : ℕ) (p : Place) (v : Word) (m : ℕ) → Closed n ks
+      → Closed n (knot s (Write p v) m ∷ ks)
+  read' : {n : ℕ} {ks : List Knot} (s : ℕ) (p : Place) (v : Word) (u : UnitId) (x : ℕ) (args : List Word)
+      (m : ℕ) → Closed (suc n) ks → Closed n (knot s (Read p v u x args) m ∷ ks)
   end' : {n : ℕ} {ks : List Knot} (s m : ℕ) → Closed n ks → Closed (suc n) (knot s End m ∷ ks)
 
 -- What is left over of an open read: a grove up to its end, and after it what closes the others.
@@ -155,20 +161,25 @@ abbrev pub LacksRead : Place → UnitId → ℕ → List Word → List Knot → 
 LacksRead p u x args [] = ⊤
 LacksRead p u x args (k ∷ ks) = LacksReadItem p u x args k.item × LacksRead p u x args ks
 
--- Taking is kept by revoking: to revoke the first node of what is left over, with its end, where it is not the one that is
--- asked for, changes nothing of what is taken but for steps; so the first node that is the one is what is taken, and where
--- none is, nothing is.
+-- Taking is kept by revoking: to revoke the first node of what is left over, with its end, where it is not
+-- the one that is asked for, changes nothing of what is taken but for steps; so the first node that is the
+-- one is what is taken, and where none is, nothing is.
 pub record Takings : Type 0 where
-  pub alloc_kept : (key : Key) (g : Grove) → first_has key g ≡ false → bare_alloc (take_alloc key (trace_in (cut g))) ≡ bare_alloc (take_alloc key (trace_in g))
+  pub alloc_kept : (key : Key) (g : Grove) → first_has key g ≡ false
+      → bare_alloc (take_alloc key (trace_in (cut g))) ≡ bare_alloc (take_alloc key (trace_in g))
   pub alloc_found : (key : Key) (s : ℕ) (b : BlockId) (k : Key) (n : ℕ) (rest : Grove) → same_key k key ≡ true
-      → take_alloc key (trace_in (Made s b k n rest)) ≡ Some (record { block = b; leftover = stepped n (trace_in rest) })
+      → take_alloc key (trace_in (Made s b k n rest))
+      ≡ Some (record { block = b; leftover = stepped n (trace_in rest) })
   pub alloc_absent : (key : Key) (g : Grove) → Lacks key (knots g) → take_alloc key (trace_in g) ≡ None
   pub read_kept : (p : Place) (u : UnitId) (x : ℕ) (args : List Word) (g : Grove) → first_reads p u x args g ≡ false
       → bare_read (take_read p u x args (trace_in (cut g))) ≡ bare_read (take_read p u x args (trace_in g))
-  pub read_found : (p : Place) (u : UnitId) (x : ℕ) (args : List Word) (s : ℕ) (q : Place) (v : Word) (w : UnitId) (y : ℕ) (words : List Word) (n : ℕ) (inside : Grove) (e m : ℕ) (rest : Grove)
+  pub read_found : (p : Place) (u : UnitId) (x : ℕ) (args : List Word) (s : ℕ) (q : Place) (v : Word)
+      (w : UnitId) (y : ℕ) (words : List Word) (n : ℕ) (inside : Grove) (e m : ℕ) (rest : Grove)
       → same_read q w y words p u x args ≡ true
-      → take_read p u x args (trace_in (Got s q v w y words n inside e m rest)) ≡ Some (record { value = v; inside = stepped n (trace_in inside); leftover = stepped m (trace_in rest) })
-  pub read_absent : (p : Place) (u : UnitId) (x : ℕ) (args : List Word) (g : Grove) → LacksRead p u x args (knots g) → take_read p u x args (trace_in g) ≡ None
+      → take_read p u x args (trace_in (Got s q v w y words n inside e m rest))
+      ≡ Some (record { value = v; inside = stepped n (trace_in inside); leftover = stepped m (trace_in rest) })
+  pub read_absent : (p : Place) (u : UnitId) (x : ℕ) (args : List Word) (g : Grove)
+      → LacksRead p u x args (knots g) → take_read p u x args (trace_in g) ≡ None
 
 abbrev pub TakingLaw : Type 0
 TakingLaw = Takings

@@ -18,13 +18,15 @@ abbrev mutual
   kept_fix (Fix.read m f) = kept_mend m + kept_fix f
 
   -- the steps that are kept inside a read that is taken
-  pub kept_mend : {code : Code} {names : ℕ → ℕ} {s t : State} {p : Place} {u : UnitId} {v : ℕ} {args : List Word} {value : Word} {old new : Trace}
+  pub kept_mend : {code : Code} {names : ℕ → ℕ} {s t : State} {p : Place} {u : UnitId} {v : ℕ}
+      {args : List Word} {value : Word} {old new : Trace}
       → Mend code names s p u v args value old t new → ℕ
   kept_mend (Mend.kept e f) = kept_fix f
   kept_mend (Mend.stale e a) = kept_anew a
 
   -- the steps that are kept in what runs anew
-  pub kept_anew : {code : Code} {names : ℕ → ℕ} {s s' : State} {st : Stack} {old new left : Trace} → Anew code names s st old s' new left → ℕ
+  pub kept_anew : {code : Code} {names : ℕ → ℕ} {s s' : State} {st : Stack} {old new left : Trace}
+      → Anew code names s st old s' new left → ℕ
   kept_anew (Anew.over e) = 0
   kept_anew (Anew.quiet e a) = kept_anew a
   kept_anew (Anew.takes_alloc e t a) = kept_anew a

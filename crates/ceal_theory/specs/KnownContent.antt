@@ -46,7 +46,10 @@ pub record KnownContents (code : Code) (is : List Item) (bs : List ℕ) : Type 0
   pub allocated : (b : ℕ) → In b bs → (key : Key) × Allocates b key is
   pub input : (p : Place) (i : ℕ) → p.block ≡ Input i → (w : Word) → content_after code p w is ≡ written_after p w is
   pub core : (p : Place) (b : ℕ) (key : Key) → p.block ≡ Core b → Allocates b key is → (w : Word)
-      → content_after code p w is ≡ written_after p (cell_default (field_kind code.structs (shape_of code key) p.field)) is
+      → content_after code p w is
+      ≡ written_after p (cell_default (field_kind code.structs (shape_of code key) p.field)) is
 
 abbrev pub KnownContentLaw : Type 0
-KnownContentLaw = (code : Code) (n : ℕ) (is : List Item) (bs : List ℕ) → KnownItems n [] is bs → Distinct (allocs is) → KnownContents code is bs
+KnownContentLaw =
+    (code : Code) (n : ℕ) (is : List Item) (bs : List ℕ) → KnownItems n [] is bs → Distinct (allocs is)
+    → KnownContents code is bs

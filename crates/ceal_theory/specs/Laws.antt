@@ -18,11 +18,13 @@ use Rattle.ceal_theory.specs.Computed.{Repaired, adjusted, first_of}
 -- the memory after the trace, with the store at its end, where the i-th block stands for the core block of number i
 abbrev pub MemoryAfter : Code → List Block → Trace → Store → Blocks → Type 0
 MemoryAfter code inputs l after m =
-    Same (core_numbers (blocks_of l)) (inputs_after code after 0 inputs) (λ b. block_after code (plain_of code inputs l) after (Core b)) m
+    Same (core_numbers (blocks_of l)) (inputs_after code after 0 inputs)
+    (λ b. block_after code (plain_of code inputs l) after (Core b)) m
 
 -- What change propagation starts from: a trace of a call on old inputs, new inputs that extend them, and a number above
 -- all blocks of the trace.
-pub record Edited (code : Code) (old new : List Block) (f : ℕ) (args : List Word) (l : Trace) (number : ℕ) : Type 0 where
+pub record Edited
+    (code : Code) (old new : List Block) (f : ℕ) (args : List Word) (l : Trace) (number : ℕ) : Type 0 where
   pub call : Fits code old f args
   pub fit : inputs_fit code.structs new ≡ true
   pub extended : Extended code old new
@@ -30,7 +32,8 @@ pub record Edited (code : Code) (old new : List Block) (f : ℕ) (args : List Wo
   pub above : Above number l
 
 -- a trace of the call that is honest on these inputs, whose blocks below a number are blocks of the old trace
-pub record Updated (code : Code) (inputs : List Block) (f : ℕ) (args : List Word) (number : ℕ) (old new : Trace) : Type 0 where
+pub record Updated
+    (code : Code) (inputs : List Block) (f : ℕ) (args : List Word) (number : ℕ) (old new : Trace) : Type 0 where
   pub replays : Replays code inputs f args new
   pub honest : IsHonest code inputs new
   pub blocks : (b : ℕ) → b < number → count b (core_numbers (blocks_of new)) ≤ count b (core_numbers (blocks_of old))
@@ -77,7 +80,8 @@ RenamedRepairLaw = (code : Code) (old new : List Block) (f : ℕ) (args : List W
 
 -- Where the run from scratch ends within n steps, the repair is there with that much work at most; its kept and
 -- its new steps together are the run's. Where the repair is there and has n steps at most, the run ends.
-pub record SameEnd (code : Code) (inputs : List Block) (f : ℕ) (args : List Word) (number n : ℕ) (l : Trace) : Type 0 where
+pub record SameEnd
+    (code : Code) (inputs : List Block) (f : ℕ) (args : List Word) (number n : ℕ) (l : Trace) : Type 0 where
   pub repaired : (r : Finished) → fresh code f args inputs n ≡ Some r
       → (a : Repaired) × (adjusted code inputs number n l ≡ Some a) × (steps_of a.items ≡ r.steps) × a.work ≤ r.steps
   pub ended : (a : Repaired) → adjusted code inputs number n l ≡ Some a → steps_of a.items ≤ n
@@ -99,7 +103,8 @@ numbers from (suc n) = from ∷ numbers (from + 1) n
 
 -- a first trace with what the run from scratch comes to: each of its steps is work, its blocks have the numbers of the
 -- run's allocations, and its memory is the run's
-pub record FirstTrace (code : Code) (inputs : List Block) (f : ℕ) (args : List Word) (a : Repaired) (r : Finished) : Type 0 where
+pub record FirstTrace
+    (code : Code) (inputs : List Block) (f : ℕ) (args : List Word) (a : Repaired) (r : Finished) : Type 0 where
   pub replays : Replays code inputs f args a.items
   pub honest : IsHonest code inputs a.items
   pub work : a.work ≡ r.steps
@@ -108,9 +113,11 @@ pub record FirstTrace (code : Code) (inputs : List Block) (f : ℕ) (args : List
   pub memory : MemoryAfter code inputs a.items honest.after r.memory
 
 -- a first trace and the run from scratch: both are there, or neither
-pub data FirstOutcome (code : Code) (inputs : List Block) (f : ℕ) (args : List Word) : Option Repaired → Option Finished → Type 0 where
+pub data FirstOutcome (code : Code) (inputs : List Block) (f : ℕ) (args : List Word) : Option Repaired
+    → Option Finished → Type 0 where
   none : FirstOutcome code inputs f args None None
-  some : {a : Repaired} {r : Finished} → FirstTrace code inputs f args a r → FirstOutcome code inputs f args (Some a) (Some r)
+  some : {a : Repaired} {r : Finished} → FirstTrace code inputs f args a r
+      → FirstOutcome code inputs f args (Some a) (Some r)
 
 -- the first trace is that of the run from scratch, and is not there where that has no end within n steps
 abbrev pub FirstLaw : Type 0
@@ -120,5 +127,7 @@ FirstLaw = (code : Code) (inputs : List Block) (f : ℕ) (args : List Word) → 
 -- the function gives exactly what the rules give with so much work at most
 abbrev pub FunctionLaw : Type 0
 FunctionLaw = (code : Code) (inputs : List Block) (n : ℕ) (a : Repaired)
-    → ((number : ℕ) (l : Trace) → (adjusted code inputs number n l ≡ Some a) ↔ (Adjusts code inputs number l a.items a.work × a.work ≤ n))
-    × ((f : ℕ) (args : List Word) → (first_of code inputs n f args ≡ Some a) ↔ (Firsts code inputs f args a.items a.work × a.work ≤ n))
+    → ((number : ℕ) (l : Trace)
+    → (adjusted code inputs number n l ≡ Some a) ↔ (Adjusts code inputs number l a.items a.work × a.work ≤ n))
+    × ((f : ℕ) (args : List Word)
+    → (first_of code inputs n f args ≡ Some a) ↔ (Firsts code inputs f args a.items a.work × a.work ≤ n))

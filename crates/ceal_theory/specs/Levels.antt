@@ -87,7 +87,8 @@ same_read place unit var words p u v args = same_place place p && unit.0 == u.0 
 
 -- the value of a read of this place with this unit, variable and arguments
 abbrev pub value_of_read : Item → Place → UnitId → ℕ → List Word → Option Word
-value_of_read (Read place value unit var words) p u v args = if same_read place unit var words p u v args then Some value else None
+value_of_read (Read place value unit var words) p u v args =
+    if same_read place unit var words p u v args then Some value else None
 value_of_read Step p u v args = None
 value_of_read (Alloc block key) p u v args = None
 value_of_read (Write place value) p u v args = None
@@ -108,7 +109,8 @@ read_or None is n later = later
 unfoldable pub find_read : Place → UnitId → ℕ → List Word → ℕ → List Item → Option FoundRead
 find_read p u v args zero is = None
 find_read p u v args (suc n) [] = None
-find_read p u v args (suc n) (i ∷ is) = read_or (value_of_read i p u v args) is (suc n) (find_read p u v args (after_item i (suc n)) is)
+find_read p u v args (suc n) (i ∷ is) =
+    read_or (value_of_read i p u v args) is (suc n) (find_read p u v args (after_item i (suc n)) is)
 
 -- what is taken where an item is found
 abbrev pub taken_alloc : Option FoundAlloc → Option TakenAlloc
@@ -118,18 +120,27 @@ taken_alloc (Some f) = Some (record { block = f.block; leftover = loose f.levels
 -- a read that was found, as trees
 abbrev pub taken_read : Option FoundRead → Option TakenRead
 taken_read None = None
-taken_read (Some f) = Some (record { value = f.value; inside = first (levels f.rest); leftover = loose f.levels (around (levels f.rest)) })
+taken_read (Some f) = Some (record {
+  value = f.value;
+  inside = first (levels f.rest);
+  leftover = loose f.levels (around (levels f.rest));
+})
 
 -- To take from what is left over is to find in the levels of flat items; the levels around them stay.
 abbrev pub FlatTakeLaw : Type 0
 FlatTakeLaw = (n : ℕ) (is : List Item)
     → ((key : Key) → (take_alloc key (loose n (levels is)) ≡ taken_alloc (find_alloc key n is))
     × ((f : FoundAlloc) → find_alloc key n is ≡ Some f → beyond f.levels (levels f.rest) ≡ beyond n (levels is)))
-    × ((p : Place) (u : UnitId) (v : ℕ) (args : List Word) → (take_read p u v args (loose n (levels is)) ≡ taken_read (find_read p u v args n is))
-    × ((f : FoundRead) → find_read p u v args n is ≡ Some f → beyond f.levels (around (levels f.rest)) ≡ beyond n (levels is)))
+    × ((p : Place) (u : UnitId) (v : ℕ) (args : List Word)
+    → (take_read p u v args (loose n (levels is)) ≡ taken_read (find_read p u v args n is))
+    × ((f : FoundRead) → find_read p u v args n is ≡ Some f
+    → beyond f.levels (around (levels f.rest)) ≡ beyond n (levels is)))
     × (levels (skipped n is) ≡ beyond n (levels is))
 
 -- a part that begins with whole items
 abbrev pub FlatLevelsLaw : Type 0
-FlatLevelsLaw = (f : Trace) (is : List Item) → (first (levels (flat f ++ is)) ≡ followed f (first (levels is))) × (around (levels (flat f ++ is)) ≡ around (levels is))
+FlatLevelsLaw =
+    (f : Trace) (is : List Item)
+    → (first (levels (flat f ++ is)) ≡ followed f (first (levels is)))
+    × (around (levels (flat f ++ is)) ≡ around (levels is))
     × (first (levels (flat f)) ≡ f) × (around (levels (flat f)) ≡ [])

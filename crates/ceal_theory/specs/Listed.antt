@@ -19,9 +19,13 @@ use Rattle.ceal_theory.specs.Walk.{store_after, AgreesAll}
 pub record Listed (code : Code) (inputs : List Block) (r : Repair) (front : List Item) : Type 0 where
   pub items : KnownItems (length inputs) [] front (known_after [] front)
   pub once : Distinct (allocs front)
-  pub last : (p : Place) → KnownBlock (length inputs) (known_after [] front) p.block → store_after code (starting code inputs r.known) front p ≡ written_after p (starting code inputs r.known p) front
+  pub last : (p : Place) → KnownBlock (length inputs) (known_after [] front) p.block
+      → store_after code (starting code inputs r.known) front p ≡ written_after p (starting code inputs r.known p) front
 
 -- so it is with honest items at the beginning of a repair that holds
 abbrev pub ListedLaw : Type 0
-ListedLaw = (code : Code) (names : ℕ → ℕ) (inputs : List Block) (f : ℕ) (args : List Word) → Fits code inputs f args → (r : Repair) → Sound code names inputs f args r
-    → (front back : List Item) → flat r.items ≡ front ++ back → AgreesAll code (starting code inputs r.known) front → Listed code inputs r front
+ListedLaw =
+    (code : Code) (names : ℕ → ℕ) (inputs : List Block) (f : ℕ) (args : List Word) → Fits code inputs f args
+    → (r : Repair) → Sound code names inputs f args r
+    → (front back : List Item) → flat r.items ≡ front ++ back
+    → AgreesAll code (starting code inputs r.known) front → Listed code inputs r front

@@ -13,7 +13,8 @@ use Rattle.ceal_theory.specs.Adjust.{Extended}
 -- the old inputs have the bases that they had
 abbrev pub SameBases : Code → List Block → List Block → Type 0
 SameBases code old new = (i field : ℕ) → i < length old
-    → bases code old (record { block = Input i; field = field }) ≡ bases code new (record { block = Input i; field = field })
+    → bases code old (record { block = Input i; field = field })
+    ≡ bases code new (record { block = Input i; field = field })
 
 -- a trace of a call is one on inputs that extend the old ones; where no old base is another, it stays honest
 pub record OnMore (code : Code) (old new : List Block) (f : ℕ) (args : List Word) (l : Trace) : Type 0 where
@@ -22,5 +23,7 @@ pub record OnMore (code : Code) (old new : List Block) (f : ℕ) (args : List Wo
   pub honest : SameBases code old new → IsHonest code old l → IsHonest code new l
 
 abbrev pub MoreInputsLaw : Type 0
-MoreInputsLaw = (code : Code) (old new : List Block) (f : ℕ) (args : List Word) → Fits code old f args → inputs_fit code.structs new ≡ true → Extended code old new
+MoreInputsLaw =
+    (code : Code) (old new : List Block) (f : ℕ) (args : List Word) → Fits code old f args
+    → inputs_fit code.structs new ≡ true → Extended code old new
     → (l : Trace) → Replays code old f args l → OnMore code old new f args l

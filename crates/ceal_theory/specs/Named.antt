@@ -51,7 +51,8 @@ trace_by r Nothing = Nothing
 trace_by r (Stepped rest) = Stepped (trace_by r rest)
 trace_by r (Allocated b key rest) = Allocated (id_by r b) (key_by r key) (trace_by r rest)
 trace_by r (Wrote p v rest) = Wrote (place_by r p) (word_by r v) (trace_by r rest)
-trace_by r (WasRead p v u x args inside rest) = WasRead (place_by r p) (word_by r v) u x (words_by r args) (trace_by r inside) (trace_by r rest)
+trace_by r (WasRead p v u x args inside rest) =
+    WasRead (place_by r p) (word_by r v) u x (words_by r args) (trace_by r inside) (trace_by r rest)
 
 -- the k-th number from the first new one on becomes the k-th name, and what is below it stays
 abbrev pub naming : ℕ → (ℕ → ℕ) → ℕ → ℕ
@@ -68,7 +69,9 @@ pub data NamedPair (l : Trace) (number : ℕ) (names : ℕ → ℕ) (b c : ℕ) 
 
 -- The repair with names is the repair with the names in place of the numbers; so it is a trace of the call, honest, and
 -- its blocks are old ones and names.
-pub record Named (code : Code) (inputs : List Block) (f : ℕ) (args : List Word) (l : Trace) (number : ℕ) (names : ℕ → ℕ) (a m : Trace) : Type 0 where
+pub record Named
+    (code : Code) (inputs : List Block) (f : ℕ) (args : List Word) (l : Trace) (number : ℕ)
+    (names : ℕ → ℕ) (a m : Trace) : Type 0 where
   pub same : m ≡ trace_by (naming number names) a
   pub pairs : Pairs
   pub one : OneToOne pairs
@@ -78,22 +81,29 @@ pub record Named (code : Code) (inputs : List Block) (f : ℕ) (args : List Word
   pub honest : IsHonest code inputs m
 
 -- the repair with these names is there where the repair is, and is that one with the names, with the same work
-pub record NamedRepair (code : Code) (inputs : List Block) (f : ℕ) (args : List Word) (l : Trace) (number : ℕ) (names : ℕ → ℕ) (n : ℕ) : Type 0 where
+pub record NamedRepair
+    (code : Code) (inputs : List Block) (f : ℕ) (args : List Word) (l : Trace) (number : ℕ)
+    (names : ℕ → ℕ) (n : ℕ) : Type 0 where
   pub there : (a : Repaired) → adjusted code inputs number n l ≡ Some a
       → (m : Trace) × AdjustsAs code inputs names 0 l m a.work × Named code inputs f args l number names a.items m
   pub back : (m : Trace) (work : ℕ) → AdjustsAs code inputs names 0 l m work → work ≤ n
-      → (a : Repaired) × (adjusted code inputs number n l ≡ Some a) × (a.work ≡ work) × Named code inputs f args l number names a.items m
+      → (a : Repaired) × (adjusted code inputs number n l ≡ Some a) × (a.work ≡ work)
+      × Named code inputs f args l number names a.items m
 
 abbrev pub NamedLaw : Type 0
-NamedLaw = (code : Code) (old new : List Block) (f : ℕ) (args : List Word) (l : Trace) (number : ℕ) → Edited code old new f args l number
+NamedLaw =
+    (code : Code) (old new : List Block) (f : ℕ) (args : List Word) (l : Trace) (number : ℕ)
+    → Edited code old new f args l number
     → (names : ℕ → ℕ) → Single names → Apart names l → (n : ℕ) → NamedRepair code new f args l number names n
 
 -- the first trace with these names is there where the first trace is, and is that one with the names
-pub record NamedFirst (code : Code) (inputs : List Block) (f : ℕ) (args : List Word) (names : ℕ → ℕ) (n : ℕ) : Type 0 where
+pub record NamedFirst
+    (code : Code) (inputs : List Block) (f : ℕ) (args : List Word) (names : ℕ → ℕ) (n : ℕ) : Type 0 where
   pub there : (a : Repaired) → first_of code inputs n f args ≡ Some a
       → (m : Trace) × FirstsAs code inputs names f args m a.work × Named code inputs f args Nothing 0 names a.items m
   pub back : (m : Trace) (work : ℕ) → FirstsAs code inputs names f args m work → work ≤ n
-      → (a : Repaired) × (first_of code inputs n f args ≡ Some a) × (a.work ≡ work) × Named code inputs f args Nothing 0 names a.items m
+      → (a : Repaired) × (first_of code inputs n f args ≡ Some a) × (a.work ≡ work)
+      × Named code inputs f args Nothing 0 names a.items m
 
 abbrev pub NamedFirstLaw : Type 0
 NamedFirstLaw = (code : Code) (inputs : List Block) (f : ℕ) (args : List Word) → Fits code inputs f args
@@ -110,10 +120,12 @@ then_from (b ∷ bs) bound (suc k) = then_from bs bound k
 abbrev pub HandedLaw : Type 0
 HandedLaw = (bs : List ℕ) (bound : ℕ) → Distinct bs → ((b : ℕ) → In b bs → b < bound)
     → Single (then_from bs bound) × ((k b : ℕ) → slice_get bs k ≡ Some b → then_from bs bound k ≡ b)
-    × ((l : Trace) → Above bound l → ((b : ℕ) → In b bs → count b (core_numbers (blocks_of l)) ≡ 0) → Apart (then_from bs bound) l)
+    × ((l : Trace) → Above bound l → ((b : ℕ) → In b bs → count b (core_numbers (blocks_of l)) ≡ 0)
+    → Apart (then_from bs bound) l)
 
 -- a trace renamed by a function that is one to one on its blocks is alike it, so it is a trace of the call
-pub record RenamedBy (code : Code) (inputs : List Block) (f : ℕ) (args : List Word) (r : ℕ → ℕ) (l : Trace) : Type 0 where
+pub record RenamedBy
+    (code : Code) (inputs : List Block) (f : ℕ) (args : List Word) (r : ℕ → ℕ) (l : Trace) : Type 0 where
   pub pairs : Pairs
   pub one : OneToOne pairs
   pub each : (b c : ℕ) → Tied b c pairs → (c ≡ r b) × (1 ≤ count b (core_numbers (blocks_of l)))
@@ -122,6 +134,10 @@ pub record RenamedBy (code : Code) (inputs : List Block) (f : ℕ) (args : List 
   pub honest : IsHonest code inputs l → IsHonest code inputs (trace_by r l)
 
 abbrev pub RenamingLaw : Type 0
-RenamingLaw = (code : Code) (inputs : List Block) (f : ℕ) (args : List Word) → Fits code inputs f args → (l : Trace) → Replays code inputs f args l
-    → (r : ℕ → ℕ) → ((b c : ℕ) → 1 ≤ count b (core_numbers (blocks_of l)) → 1 ≤ count c (core_numbers (blocks_of l)) → r b ≡ r c → b ≡ c)
+RenamingLaw =
+    (code : Code) (inputs : List Block) (f : ℕ) (args : List Word) → Fits code inputs f args → (l : Trace)
+    → Replays code inputs f args l
+    → (r : ℕ → ℕ)
+    → ((b c : ℕ) → 1 ≤ count b (core_numbers (blocks_of l)) → 1 ≤ count c (core_numbers (blocks_of l))
+    → r b ≡ r c → b ≡ c)
     → RenamedBy code inputs f args r l

@@ -31,7 +31,8 @@ number_above (b ∷ bs) = max (suc b) (number_above bs)
 -- the repair from which a slice goes on: the one that is pending, or a new one of the trace
 abbrev pub next_repair : Code → List Block → Past → Option Repair
 next_repair code inputs NoTrace = None
-next_repair code inputs (Traced l) = Some (beginning code inputs l.items (number_above (core_numbers (blocks_of l.items))))
+next_repair code inputs (Traced l) =
+    Some (beginning code inputs l.items (number_above (core_numbers (blocks_of l.items))))
 next_repair code inputs (Going r) = Some r
 
 -- the trace of a repair that is done; where the run from scratch is out of fuel there is none
@@ -49,9 +50,11 @@ abbrev pub slice_of : Code → List Block → ℕ → Option ℕ → Option Repa
 slice_of code inputs fuel k None = None
 slice_of code inputs fuel k (Some r) = sliced code own inputs k fuel r
 
--- What is behind a `propagate`, or a `propagate K`, of a call whose first trace on the present inputs is this, if the run ends.
+-- What is behind a `propagate`, or a `propagate K`, of a call whose first trace on the present inputs is
+-- this, if the run ends.
 abbrev pub past_behind : Code → List Block → ℕ → Option Repaired → Option ℕ → Past → Past
-past_behind code inputs fuel first k past = left_by code inputs first (slice_of code inputs fuel k (next_repair code inputs past))
+past_behind code inputs fuel first k past =
+    left_by code inputs first (slice_of code inputs fuel k (next_repair code inputs past))
 
 -- whether a repair goes on
 abbrev pub goes : Past → Bool
@@ -63,7 +66,8 @@ goes (Going r) = true
 pub data SamePast (code : Code) (inputs : List Block) (f : ℕ) (args : List Word) : Past → Past → Type 0 where
   none : SamePast code inputs f args NoTrace NoTrace
   traced : {a b : Repaired} → RenamedRepair (Some a) (Some b) → SamePast code inputs f args (Traced a) (Traced b)
-  going : {r q : Repair} → Sound code own inputs f args r → Carried code inputs 0 r q → SamePast code inputs f args (Going r) (Going q)
+  going : {r q : Repair} → Sound code own inputs f args r → Carried code inputs 0 r q
+      → SamePast code inputs f args (Going r) (Going q)
 
 -- what is past belongs to the call: a trace of it, or a repair that holds for it
 abbrev pub IsPastOf : Code → List Block → ℕ → List Word → Past → Type 0
@@ -73,5 +77,8 @@ IsPastOf code inputs f args (Going r) = Sound code own inputs f args r
 
 -- so it is behind each line that repairs
 abbrev pub PastLaw : Type 0
-PastLaw = (code : Code) (inputs : List Block) (f : ℕ) (args : List Word) → Fits code inputs f args → (fuel : ℕ) (first : Option Repaired) → IfSome first (λ l. Replays code inputs f args l.items)
-    → (k : Option ℕ) (p : Past) → IsPastOf code inputs f args p → IsPastOf code inputs f args (past_behind code inputs fuel first k p)
+PastLaw =
+    (code : Code) (inputs : List Block) (f : ℕ) (args : List Word) → Fits code inputs f args
+    → (fuel : ℕ) (first : Option Repaired) → IfSome first (λ l. Replays code inputs f args l.items)
+    → (k : Option ℕ) (p : Past) → IsPastOf code inputs f args p
+    → IsPastOf code inputs f args (past_behind code inputs fuel first k p)

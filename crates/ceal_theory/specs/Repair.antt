@@ -64,22 +64,28 @@ mutual
   -- the items are gone through in order from the one state to the other, and become the second items
   pub data Fix (code : Code) (names : ℕ → ℕ) : State → Trace → State → Trace → Type 0 where
     end : {s : State} → Fix code names s Nothing s Nothing
-    step : {s s' : State} {rest rest' : Trace} → Fix code names s rest s' rest' → Fix code names s (Stepped rest) s' (Stepped rest')
+    step : {s s' : State} {rest rest' : Trace} → Fix code names s rest s' rest'
+        → Fix code names s (Stepped rest) s' (Stepped rest')
     alloc : {s s' : State} {b : BlockId} {key : Key} {rest rest' : Trace}
-        → Fix code names (clears code s b key) rest s' rest' → Fix code names s (Allocated b key rest) s' (Allocated b key rest')
+        → Fix code names (clears code s b key) rest s' rest'
+        → Fix code names s (Allocated b key rest) s' (Allocated b key rest')
     write : {s s' : State} {p : Place} {value : Word} {rest rest' : Trace}
         → Fix code names (puts s p value) rest s' rest' → Fix code names s (Wrote p value rest) s' (Wrote p value rest')
-    read : {s t s' : State} {p : Place} {value : Word} {u : UnitId} {v : ℕ} {args : List Word} {inside inside' rest rest' : Trace}
+    read : {s t s' : State} {p : Place} {value : Word} {u : UnitId} {v : ℕ} {args : List Word}
+        {inside inside' rest rest' : Trace}
         → Mend code names s p u v args value inside t inside'
         → Fix code names t rest s' rest'
         → Fix code names s (WasRead p value u v args inside rest) s' (WasRead p (s.store p) u v args inside' rest')
 
   -- One read with this key, its old value and its old items gets these new items. Its new value is the store's; where
-  -- that is another one the read is stale, and its unit is run anew with the old items as leftover, whose rest is revoked.
-  pub data Mend (code : Code) (names : ℕ → ℕ) : State → Place → UnitId → ℕ → List Word → Word → Trace → State → Trace → Type 0 where
+  -- that is another one the read is stale, and its unit is run anew with the old items as leftover, whose
+  -- rest is revoked.
+  pub data Mend (code : Code) (names : ℕ → ℕ) : State → Place → UnitId → ℕ → List Word → Word → Trace → State
+      → Trace → Type 0 where
     kept : {s t : State} {p : Place} {u : UnitId} {v : ℕ} {args : List Word} {value : Word} {inside inside' : Trace}
         → s.store p ≡ value → Fix code names s inside t inside' → Mend code names s p u v args value inside t inside'
-    stale : {s t : State} {p : Place} {u : UnitId} {v : ℕ} {args : List Word} {value : Word} {inside inside' left : Trace}
+    stale : {s t : State} {p : Place} {u : UnitId} {v : ℕ} {args : List Word} {value : Word}
+        {inside inside' left : Trace}
         → ¬ (s.store p ≡ value)
         → Anew code names s (resumed code u v args (s.store p)) inside t inside' left
         → Mend code names s p u v args value inside t inside'
@@ -91,27 +97,32 @@ mutual
         → next code s.plain st ≡ Quiet after
         → Anew code names (works s) after old s' new left
         → Anew code names s st old s' (Stepped new) left
-    takes_alloc : {s s' : State} {st below : Stack} {key : Key} {v u i : ℕ} {env : Variables} {old new left : Trace} {t : TakenAlloc}
+    takes_alloc : {s s' : State} {st below : Stack} {key : Key} {v u i : ℕ} {env : Variables}
+        {old new left : Trace} {t : TakenAlloc}
         → next code s.plain st ≡ Makes key v u i env below
         → take_alloc key old ≡ Some t
-        → Anew code names (clears code (works s) t.block key) (Run u i (set env v (pointer key t.block)) below) t.leftover s' new left
+        → Anew code names (clears code (works s) t.block key)
+        (Run u i (set env v (pointer key t.block)) below) t.leftover s' new left
         → Anew code names s st old s' (Stepped (Allocated t.block key new)) left
     makes : {s s' : State} {st below : Stack} {key : Key} {v u i : ℕ} {env : Variables} {old new left : Trace}
         → next code s.plain st ≡ Makes key v u i env below
         → take_alloc key old ≡ None
-        → Anew code names (grows code names (works s) key) (Run u i (set env v (pointer key (Core (names s.number)))) below) old s' new left
+        → Anew code names (grows code names (works s) key)
+        (Run u i (set env v (pointer key (Core (names s.number)))) below) old s' new left
         → Anew code names s st old s' (Stepped (Allocated (Core (names s.number)) key new)) left
     writes : {s s' : State} {st after : Stack} {p : Place} {value : Word} {old new left : Trace}
         → next code s.plain st ≡ Writes p value after
         → Anew code names (puts (works s) p value) after old s' new left
         → Anew code names s st old s' (Stepped (Wrote p value new)) left
-    takes_read : {s t s' : State} {st below : Stack} {p : Place} {u : UnitId} {v : ℕ} {args : List Word} {old inside' new left : Trace} {r : TakenRead}
+    takes_read : {s t s' : State} {st below : Stack} {p : Place} {u : UnitId} {v : ℕ} {args : List Word}
+        {old inside' new left : Trace} {r : TakenRead}
         → next code s.plain st ≡ Reads p u v args below
         → take_read p u v args old ≡ Some r
         → Mend code names (works s) p u v args r.value r.inside t inside'
         → Anew code names t below r.leftover s' new left
         → Anew code names s st old s' (Stepped (WasRead p (s.store p) u v args inside' new)) left
-    reads : {s t s' : State} {st below : Stack} {p : Place} {u : UnitId} {v : ℕ} {args : List Word} {old between inside' new left : Trace}
+    reads : {s t s' : State} {st below : Stack} {p : Place} {u : UnitId} {v : ℕ} {args : List Word}
+        {old between inside' new left : Trace}
         → next code s.plain st ≡ Reads p u v args below
         → take_read p u v args old ≡ None
         → Anew code names (works s) (resumed code u v args (s.store p)) old t inside' between

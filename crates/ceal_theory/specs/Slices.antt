@@ -49,29 +49,41 @@ starting code inputs x = λ p. starting_in code inputs x p.block p.field
 
 -- the state in which a slice begins
 abbrev pub goes_on : Code → List Block → Repair → State
-goes_on code inputs r = record { store = starting code inputs r.known; plain = with_inputs code inputs r.known; number = r.number; work = r.spent }
+goes_on code inputs r = record {
+  store = starting code inputs r.known;
+  plain = with_inputs code inputs r.known;
+  number = r.number;
+  work = r.spent;
+}
 
--- A part of the repair of items, by rules: from the number of reads that may still be run anew before it to the number after it.
--- Where none may, all later items stay as they are.
+-- A part of the repair of items, by rules: from the number of reads that may still be run anew before it to
+-- the number after it. Where none may, all later items stay as they are.
 pub data Part (code : Code) (names : ℕ → ℕ) : ℕ → State → Trace → ℕ → State → Trace → Type 0 where
   stays : {s : State} {l : Trace} → Part code names zero s l zero s l
   end : {k : ℕ} {s : State} → Part code names (suc k) s Nothing (suc k) s Nothing
-  step : {k j : ℕ} {s s' : State} {rest rest' : Trace} → Part code names (suc k) s rest j s' rest' → Part code names (suc k) s (Stepped rest) j s' (Stepped rest')
+  step : {k j : ℕ} {s s' : State} {rest rest' : Trace} → Part code names (suc k) s rest j s' rest'
+      → Part code names (suc k) s (Stepped rest) j s' (Stepped rest')
   alloc : {k j : ℕ} {s s' : State} {b : BlockId} {key : Key} {rest rest' : Trace}
-      → Part code names (suc k) (clears code s b key) rest j s' rest' → Part code names (suc k) s (Allocated b key rest) j s' (Allocated b key rest')
+      → Part code names (suc k) (clears code s b key) rest j s' rest'
+      → Part code names (suc k) s (Allocated b key rest) j s' (Allocated b key rest')
   write : {k j : ℕ} {s s' : State} {p : Place} {value : Word} {rest rest' : Trace}
-      → Part code names (suc k) (puts s p value) rest j s' rest' → Part code names (suc k) s (Wrote p value rest) j s' (Wrote p value rest')
-  kept : {k i j : ℕ} {s t s' : State} {p : Place} {value : Word} {u : UnitId} {v : ℕ} {args : List Word} {inside inside' rest rest' : Trace}
+      → Part code names (suc k) (puts s p value) rest j s' rest'
+      → Part code names (suc k) s (Wrote p value rest) j s' (Wrote p value rest')
+  kept : {k i j : ℕ} {s t s' : State} {p : Place} {value : Word} {u : UnitId} {v : ℕ} {args : List Word}
+      {inside inside' rest rest' : Trace}
       → s.store p ≡ value
       → Part code names (suc k) s inside i t inside'
       → Part code names i t rest j s' rest'
-      → Part code names (suc k) s (WasRead p value u v args inside rest) j s' (WasRead p (s.store p) u v args inside' rest')
+      → Part code names (suc k) s (WasRead p value u v args inside rest) j s'
+      (WasRead p (s.store p) u v args inside' rest')
   -- a stale read that counts
-  stale : {k j : ℕ} {s t s' : State} {p : Place} {value : Word} {u : UnitId} {v : ℕ} {args : List Word} {inside inside' left rest rest' : Trace}
+  stale : {k j : ℕ} {s t s' : State} {p : Place} {value : Word} {u : UnitId} {v : ℕ} {args : List Word}
+      {inside inside' left rest rest' : Trace}
       → ¬ (s.store p ≡ value)
       → Anew code names s (resumed code u v args (s.store p)) inside t inside' left
       → Part code names k t rest j s' rest'
-      → Part code names (suc k) s (WasRead p value u v args inside rest) j s' (WasRead p (s.store p) u v args inside' rest')
+      → Part code names (suc k) s (WasRead p value u v args inside rest) j s'
+      (WasRead p (s.store p) u v args inside' rest')
 
 -- a slice of at most k reads, or of all
 pub data Runs (code : Code) (names : ℕ → ℕ) : Option ℕ → State → Trace → State → Trace → Type 0 where
@@ -119,8 +131,10 @@ abbrev pub part_by : Code → Runner → ℕ → State → Trace → Option Cut
 part_by code again zero s l = Some (record { left = zero; state = s; items = l })
 part_by code again (suc k) s Nothing = Some (record { left = suc k; state = s; items = Nothing })
 part_by code again (suc k) s (Stepped rest) = cut_with Stepped (part_by code again (suc k) s rest)
-part_by code again (suc k) s (Allocated b key rest) = cut_with (Allocated b key) (part_by code again (suc k) (clears code s b key) rest)
-part_by code again (suc k) s (Wrote p value rest) = cut_with (Wrote p value) (part_by code again (suc k) (puts s p value) rest)
+part_by code again (suc k) s (Allocated b key rest) =
+    cut_with (Allocated b key) (part_by code again (suc k) (clears code s b key) rest)
+part_by code again (suc k) s (Wrote p value rest) =
+    cut_with (Wrote p value) (part_by code again (suc k) (puts s p value) rest)
 part_by code again (suc k) s (WasRead p value u v args inside rest) =
     let walked = part_by code again (suc k) s inside in
     and_cut (cut_if code again k s p u v args inside walked (same_word (s.store p) value))
@@ -138,8 +152,10 @@ part_within n (Some c) = if nat_le c.state.work n then Some (repair_at c.state c
 
 -- a slice of the repair on these inputs of at most k reads, where no more than n steps are spent then
 unfoldable pub sliced : Code → (ℕ → ℕ) → List Block → Option ℕ → ℕ → Repair → Option Repair
-sliced code names inputs None n r = whole_within n (fix_by code (anew code names (n + 1)) (goes_on code inputs r) r.items)
-sliced code names inputs (Some k) n r = part_within n (part_by code (anew code names (n + 1)) k (goes_on code inputs r) r.items)
+sliced code names inputs None n r =
+    whole_within n (fix_by code (anew code names (n + 1)) (goes_on code inputs r) r.items)
+sliced code names inputs (Some k) n r =
+    part_within n (part_by code (anew code names (n + 1)) k (goes_on code inputs r) r.items)
 
 -- each item mentions inputs and core blocks of the list alone, in any order
 abbrev pub Uses : ℕ → List ℕ → Trace → Type 0
@@ -150,10 +166,12 @@ Uses n bs (Wrote p value rest) = KnownBlock n bs p.block × KnownWord n bs value
 Uses n bs (WasRead p value u v args inside rest) =
     KnownBlock n bs p.block × KnownWord n bs value × KnownWords n bs args × Uses n bs inside × Uses n bs rest
 
--- The repair holds for a call on these inputs. The call yields its items over the known plain words; so each block of them
--- has the words that its key gives. Its blocks are distinct. All that is mentioned is an input or a known block. No known
--- block has a name of a number from the next one on; where each number is its own name, the next one lies above all of them.
-pub record Sound (code : Code) (names : ℕ → ℕ) (inputs : List Block) (f : ℕ) (args : List Word) (r : Repair) : Type 0 where
+-- The repair holds for a call on these inputs. The call yields its items over the known plain words; so each
+-- block of them has the words that its key gives. Its blocks are distinct. All that is mentioned is an input
+-- or a known block. No known block has a name of a number from the next one on; where each number is its own
+-- name, the next one lies above all of them.
+pub record Sound
+    (code : Code) (names : ℕ → ℕ) (inputs : List Block) (f : ℕ) (args : List Word) (r : Repair) : Type 0 where
   pub yields : Yields code (with_inputs code inputs r.known) (started code f args) r.items
   pub distinct : Distinct (core_numbers (blocks_of r.items))
   pub blocks : List ℕ
@@ -172,7 +190,8 @@ abbrev pub beginning : Code → List Block → Trace → ℕ → Repair
 beginning code inputs l number = record { items = l; known = plain_of code inputs l; number = number; spent = 0 }
 
 -- one repair is the other with its core blocks renamed one to one
-pub record AlikeRepairs (code : Code) (names names' : ℕ → ℕ) (inputs : List Block) (ps : Pairs) (r q : Repair) : Type 0 where
+pub record AlikeRepairs
+    (code : Code) (names names' : ℕ → ℕ) (inputs : List Block) (ps : Pairs) (r q : Repair) : Type 0 where
   pub one : OneToOne ps
   pub items : TraceAlike ps r.items q.items
   pub known : PlainAlike code.structs ps (with_inputs code inputs r.known) (with_inputs code inputs q.known)
@@ -186,13 +205,16 @@ pub data ComesBehind (names names' : ℕ → ℕ) (ps : Pairs) (r q : Repair) (b
   new : (k : ℕ) → b ≡ names (r.number + k) → c ≡ names' (q.number + k) → ComesBehind names names' ps r q b c
 
 -- both are not there, or the one is the other renamed, where a further pair is one of new blocks
-pub data RenamedSlices (code : Code) (names names' : ℕ → ℕ) (inputs : List Block) (ps : Pairs) (r q : Repair) : Option Repair → Option Repair → Type 0 where
+pub data RenamedSlices (code : Code) (names names' : ℕ → ℕ) (inputs : List Block) (ps : Pairs)
+    (r q : Repair) : Option Repair → Option Repair → Type 0 where
   none : RenamedSlices code names names' inputs ps r q None None
-  some : {r' q' : Repair} (qs : Pairs) → Within ps qs → AlikeRepairs code names names' inputs qs r' q' → ((b c : ℕ) → Tied b c qs → ComesBehind names names' ps r q b c)
+  some : {r' q' : Repair} (qs : Pairs) → Within ps qs → AlikeRepairs code names names' inputs qs r' q'
+      → ((b c : ℕ) → Tied b c qs → ComesBehind names names' ps r q b c)
       → RenamedSlices code names names' inputs ps r q (Some r') (Some q')
 
 -- after a slice of k reads a further one comes to what one slice of this repair comes to
-pub data Follows (code : Code) (names : ℕ → ℕ) (inputs : List Block) (k : ℕ) (r : Repair) : Option ℕ → Repair → Type 0 where
+pub data Follows (code : Code) (names : ℕ → ℕ) (inputs : List Block) (k : ℕ) (r : Repair) : Option ℕ → Repair
+    → Type 0 where
   whole : {z : Repair} → Slices code names inputs None r z → Follows code names inputs k r None z
   part : {j : ℕ} {z : Repair} → Slices code names inputs (Some (k + j)) r z → Follows code names inputs k r (Some j) z
 

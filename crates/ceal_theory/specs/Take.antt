@@ -46,7 +46,8 @@ take_alloc key (Stepped rest) = take_alloc key rest
 take_alloc key (Allocated block k rest) =
     if same_key k key then Some (record { block = block; leftover = rest }) else take_alloc key rest
 take_alloc key (Wrote place value rest) = take_alloc key rest
-take_alloc key (WasRead place value unit var args inside rest) = alloc_then rest (take_alloc key inside) (take_alloc key rest)
+take_alloc key (WasRead place value unit var args inside rest) =
+    alloc_then rest (take_alloc key inside) (take_alloc key rest)
 
 -- the read that an item is, or a later one, with the rest after what it leaves over
 abbrev pub read_then : Trace → Option TakenRead → Option TakenRead → Option TakenRead

@@ -62,14 +62,18 @@ fixing code s fs (Stepped rest) = goes_on (Step ∷ []) s (Fixing rest) fs
 fixing code s fs (Allocated b key rest) = goes_on (Alloc b key ∷ []) (clears code s b key) (Fixing rest) fs
 fixing code s fs (Wrote p value rest) = goes_on (Write p value ∷ []) (puts s p value) (Fixing rest) fs
 fixing code s fs (WasRead p value u v args inside rest) =
-    goes_on (Read p (s.store p) u v args ∷ []) s (opened code (same_word (s.store p) value) u v args (s.store p) inside) (AfterFix rest fs)
+    goes_on (Read p (s.store p) u v args ∷ []) s
+    (opened code (same_word (s.store p) value) u v args (s.store p) inside) (AfterFix rest fs)
 
 -- a turn that allocates
-abbrev pub making : Code → (ℕ → ℕ) → State → Frames → Key → ℕ → ℕ → ℕ → Variables → Stack → Trace → Option TakenAlloc → Turn
+abbrev pub making : Code → (ℕ → ℕ) → State → Frames → Key → ℕ → ℕ → ℕ → Variables → Stack → Trace
+    → Option TakenAlloc → Turn
 making code names s fs key v u i env below old (Some t) =
-    goes_on (Step ∷ Alloc t.block key ∷ []) (clears code (works s) t.block key) (Running (Run u i (set env v (pointer key t.block)) below) t.leftover) fs
+    goes_on (Step ∷ Alloc t.block key ∷ []) (clears code (works s) t.block key)
+    (Running (Run u i (set env v (pointer key t.block)) below) t.leftover) fs
 making code names s fs key v u i env below old None =
-    goes_on (Step ∷ Alloc (Core (names s.number)) key ∷ []) (grows code names (works s) key) (Running (Run u i (set env v (pointer key (Core (names s.number)))) below) old) fs
+    goes_on (Step ∷ Alloc (Core (names s.number)) key ∷ []) (grows code names (works s) key)
+    (Running (Run u i (set env v (pointer key (Core (names s.number)))) below) old) fs
 
 -- a turn that reads
 abbrev pub reading : Code → State → Frames → Place → UnitId → ℕ → List Word → Stack → Trace → Option TakenRead → Turn
@@ -77,14 +81,17 @@ reading code s fs p u v args below old (Some r) =
     goes_on (Step ∷ Read p (s.store p) u v args ∷ []) (works s)
     (opened code (same_word (s.store p) r.value) u v args (s.store p) r.inside) (AfterMend below r.leftover fs)
 reading code s fs p u v args below old None =
-    goes_on (Step ∷ Read p (s.store p) u v args ∷ []) (works s) (Running (resumed code u v args (s.store p)) old) (AfterRun below fs)
+    goes_on (Step ∷ Read p (s.store p) u v args ∷ []) (works s)
+    (Running (resumed code u v args (s.store p)) old) (AfterRun below fs)
 
 -- a turn of a run, by its next step
 abbrev pub acting : Code → (ℕ → ℕ) → State → Frames → Trace → Act → Turn
 acting code names s fs old Over = closed s old fs
 acting code names s fs old (Quiet after) = goes_on (Step ∷ []) (works s) (Running after old) fs
-acting code names s fs old (Makes key v u i env below) = making code names s fs key v u i env below old (take_alloc key old)
-acting code names s fs old (Writes p value after) = goes_on (Step ∷ Write p value ∷ []) (puts (works s) p value) (Running after old) fs
+acting code names s fs old (Makes key v u i env below) =
+    making code names s fs key v u i env below old (take_alloc key old)
+acting code names s fs old (Writes p value after) =
+    goes_on (Step ∷ Write p value ∷ []) (puts (works s) p value) (Running after old) fs
 acting code names s fs old (Reads p u v args below) = reading code s fs p u v args below old (take_read p u v args old)
 
 -- a turn, by the mode
@@ -100,18 +107,23 @@ turn code names m = moving code names m.state m.frames m.mode
 pub data Resumes (code : Code) (names : ℕ → ℕ) : State → Trace → Frames → State → List Item → Type 0 where
   bottom : {s : State} {left : Trace} → Resumes code names s left Bottom s []
   after_fix : {s t s' : State} {left rest rest' : Trace} {outer : Frames} {out : List Item}
-      → Fix code names s rest t rest' → Resumes code names t Nothing outer s' out → Resumes code names s left (AfterFix rest outer) s' (End ∷ (flat rest' ++ out))
+      → Fix code names s rest t rest' → Resumes code names t Nothing outer s' out
+      → Resumes code names s left (AfterFix rest outer) s' (End ∷ (flat rest' ++ out))
   after_mend : {s t s' : State} {left old new left' : Trace} {below : Stack} {outer : Frames} {out : List Item}
-      → Anew code names s below old t new left' → Resumes code names t left' outer s' out → Resumes code names s left (AfterMend below old outer) s' (End ∷ (flat new ++ out))
+      → Anew code names s below old t new left' → Resumes code names t left' outer s' out
+      → Resumes code names s left (AfterMend below old outer) s' (End ∷ (flat new ++ out))
   after_run : {s t s' : State} {left new left' : Trace} {below : Stack} {outer : Frames} {out : List Item}
-      → Anew code names s below left t new left' → Resumes code names t left' outer s' out → Resumes code names s left (AfterRun below outer) s' (End ∷ (flat new ++ out))
+      → Anew code names s below left t new left' → Resumes code names t left' outer s' out
+      → Resumes code names s left (AfterRun below outer) s' (End ∷ (flat new ++ out))
 
 -- the machine ends in this state, and writes these items until then
 pub data Finishes (code : Code) (names : ℕ → ℕ) : Machine → State → List Item → Type 0 where
   fixes : {s t s' : State} {todo new : Trace} {fs : Frames} {out : List Item}
-      → Fix code names s todo t new → Resumes code names t Nothing fs s' out → Finishes code names (record { state = s; mode = Fixing todo; frames = fs }) s' (flat new ++ out)
+      → Fix code names s todo t new → Resumes code names t Nothing fs s' out
+      → Finishes code names (record { state = s; mode = Fixing todo; frames = fs }) s' (flat new ++ out)
   runs : {s t s' : State} {st : Stack} {old new left : Trace} {fs : Frames} {out : List Item}
-      → Anew code names s st old t new left → Resumes code names t left fs s' out → Finishes code names (record { state = s; mode = Running st old; frames = fs }) s' (flat new ++ out)
+      → Anew code names s st old t new left → Resumes code names t left fs s' out
+      → Finishes code names (record { state = s; mode = Running st old; frames = fs }) s' (flat new ++ out)
 
 -- what is left to write of these items, after some of them
 pub record Goes (code : Code) (names : ℕ → ℕ) (m : Machine) (s' : State) (written out : List Item) : Type 0 where
@@ -121,7 +133,8 @@ pub record Goes (code : Code) (names : ℕ → ℕ) (m : Machine) (s' : State) (
 
 -- the one machine comes to the other, and has written these items: each finishes where the other does
 pub record Leads (code : Code) (names : ℕ → ℕ) (m m' : Machine) (written : List Item) : Type 0 where
-  pub back : (s' : State) (rest : List Item) → Finishes code names m' s' rest → Finishes code names m s' (written ++ rest)
+  pub back : (s' : State) (rest : List Item) → Finishes code names m' s' rest
+      → Finishes code names m s' (written ++ rest)
   pub ahead : (s' : State) (items : List Item) → Finishes code names m s' items → Goes code names m' s' written items
 
 -- what a machine finishes with where its turn is its last
@@ -138,16 +151,21 @@ TakesTurn code names m (Went written m') = Leads code names m m' written
 pub record MachineLaws (code : Code) (names : ℕ → ℕ) : Type 0 where
   pub turns : (m : Machine) → TakesTurn code names m (turn code names m)
   pub stays : (m : Machine) → Leads code names m m []
-  pub leads : (m m' m'' : Machine) (is js : List Item) → Leads code names m m' is → Leads code names m' m'' js → Leads code names m m'' (is ++ js)
-  pub fixes : (s s' : State) (l : Trace) (items : List Item) → Finishes code names (record { state = s; mode = Fixing l; frames = Bottom }) s' items
+  pub leads : (m m' m'' : Machine) (is js : List Item) → Leads code names m m' is → Leads code names m' m'' js
+      → Leads code names m m'' (is ++ js)
+  pub fixes : (s s' : State) (l : Trace) (items : List Item)
+      → Finishes code names (record { state = s; mode = Fixing l; frames = Bottom }) s' items
       ↔ ((m : Trace) × (items ≡ flat m) × Fix code names s l s' m)
-  pub runs : (s s' : State) (st : Stack) (l : Trace) (items : List Item) → Finishes code names (record { state = s; mode = Running st l; frames = Bottom }) s' items
+  pub runs : (s s' : State) (st : Stack) (l : Trace) (items : List Item)
+      → Finishes code names (record { state = s; mode = Running st l; frames = Bottom }) s' items
       ↔ ((m left : Trace) × (items ≡ flat m) × Anew code names s st l s' m left)
   -- steps in front of what is left over do not matter
   pub bare : (s : State) (st : Stack) (l : Trace) (fs : Frames)
-      → Leads code names (record { state = s; mode = Running st (Stepped l); frames = fs }) (record { state = s; mode = Running st l; frames = fs }) []
+      → Leads code names (record { state = s; mode = Running st (Stepped l); frames = fs })
+      (record { state = s; mode = Running st l; frames = fs }) []
   pub bare_after : (s : State) (mode : Mode) (below : Stack) (l : Trace) (fs : Frames)
-      → Leads code names (record { state = s; mode = mode; frames = AfterMend below (Stepped l) fs }) (record { state = s; mode = mode; frames = AfterMend below l fs }) []
+      → Leads code names (record { state = s; mode = mode; frames = AfterMend below (Stepped l) fs })
+      (record { state = s; mode = mode; frames = AfterMend below l fs }) []
 
 abbrev pub MachineLaw : Type 0
 MachineLaw = (code : Code) (names : ℕ → ℕ) → MachineLaws code names

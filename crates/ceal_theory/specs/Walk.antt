@@ -46,7 +46,8 @@ WalkLaw = (code : Code)
 
 -- the content of one place after items: that of the last write, or the default since its block was allocated
 abbrev pub content_item : Code → Place → Word → Item → Word
-content_item code p now (Alloc b key) = if same_block p.block b then cell_default (field_kind code.structs (shape_of code key) p.field) else now
+content_item code p now (Alloc b key) =
+    if same_block p.block b then cell_default (field_kind code.structs (shape_of code key) p.field) else now
 content_item code p now (Write q value) = if same_place p q then value else now
 content_item code p now Step = now
 content_item code p now (Read q value u v args) = now
@@ -58,7 +59,8 @@ content_after code p now [] = now
 content_after code p now (i ∷ is) = content_after code p (content_item code p now i) is
 
 abbrev pub ContentLaw : Type 0
-ContentLaw = (code : Code) (s : Store) (is : List Item) (p : Place) → store_after code s is p ≡ content_after code p (s p) is
+ContentLaw =
+    (code : Code) (s : Store) (is : List Item) (p : Place) → store_after code s is p ≡ content_after code p (s p) is
 
 -- the first read that does not agree, with the items before it, which do, and those after it
 pub record Stale (code : Code) (s : Store) (is : List Item) : Type 0 where
@@ -82,7 +84,9 @@ with_store s t = record s { store = t }
 
 -- an honest stretch is left as it is
 abbrev pub HonestFixLaw : Type 0
-HonestFixLaw = (code : Code) (names : ℕ → ℕ) (s : State) (l : Trace) (t : Store) → Honest code s.store l t → Fix code names s l (with_store s t) l
+HonestFixLaw =
+    (code : Code) (names : ℕ → ℕ) (s : State) (l : Trace) (t : Store) → Honest code s.store l t
+    → Fix code names s l (with_store s t) l
 
 -- what stands before the first read that is stale stays as it is
 abbrev pub PrefixLaw : Type 0

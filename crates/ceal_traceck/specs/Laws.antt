@@ -15,15 +15,17 @@ use Rattle.ceal_traceck.specs.declared.verdict.Verdict.TheVariants.{Yes}
 abbrev pub block_of : List ℕ → List Block → ℕ → Option Block
 block_of numbers made b = slice_get made (index_of numbers b)
 
--- The run from scratch of the recorded call on the recorded inputs ends with as many steps as the items have, and not with
--- fewer. The recorded memory is its memory, up to the numbers of core blocks.
+-- The run from scratch of the recorded call on the recorded inputs ends with as many steps as the items have,
+-- and not with fewer. The recorded memory is its memory, up to the numbers of core blocks.
 pub record Sound (code : Code) (r : Record) : Type 0 where
   pub trace : Trace
   pub items : r.forest ≡ flat trace
   pub memory : Blocks
-  pub same : Same (core_numbers (blocks_of trace)) r.memory.inputs (block_of (core_numbers (blocks_of trace)) r.memory.made) memory
+  pub same : Same (core_numbers (blocks_of trace)) r.memory.inputs
+      (block_of (core_numbers (blocks_of trace)) r.memory.made) memory
   pub ends : (fuel : ℕ) → steps_in r.forest ≤ fuel
-      → fresh code r.function r.args r.inputs fuel ≡ Some (record { memory = memory; steps = steps_in r.forest; blocks = length r.memory.made })
+      → fresh code r.function r.args r.inputs fuel
+      ≡ Some (record { memory = memory; steps = steps_in r.forest; blocks = length r.memory.made })
   pub short : (fuel : ℕ) → fuel < steps_in r.forest → fresh code r.function r.args r.inputs fuel ≡ None
 
 -- Where the checker says yes, the record is that of a run.

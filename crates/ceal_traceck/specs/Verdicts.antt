@@ -49,4 +49,5 @@ Means code r Yes = CallFits code r × ((l : Trace) × Replayed code r l × IsHon
 Means code r NoFit = CallFits code r → ⊥
 Means code r NotReplay = CallFits code r × ((l : Trace) → Replayed code r l → ⊥)
 Means code r NotHonest = CallFits code r × ((l : Trace) × Replayed code r l × (IsHonestRecord code r l → ⊥))
-Means code r MemoryDiffers = CallFits code r × ((l : Trace) × Replayed code r l × IsHonestRecord code r l × (Remembered code r l → ⊥))
+Means code r MemoryDiffers =
+    CallFits code r × ((l : Trace) × Replayed code r l × IsHonestRecord code r l × (Remembered code r l → ⊥))

@@ -1,4 +1,5 @@
--- Flat items beside the steps of the code: a stack runs, and other stacks wait until the reads end that it is inside of.
+-- Flat items beside the steps of the code: a stack runs, and other stacks wait until the reads end that it is
+-- inside of.
 use Rattle.std.specs.Prelude.{ℕ, Bool, IsTrue, Option, Some, None, List, [], ◌∷◌, map, reverse}
 use Rattle.ceal_base.specs.declared.forest.Item.{Item}
 use Rattle.ceal_base.specs.declared.forest.Item.TheVariants.{Step, Alloc, Write, Read, End}
@@ -20,14 +21,17 @@ use Rattle.ceal_traceck.specs.declared.replay.Walk.{Walk}
 -- Each read goes on with its recorded value, and each allocation gives its recorded block.
 pub data Accepts (code : Code) (x : Plain) : Act → List Stack → List Item → Type 0 where
   ends : Accepts code x Over [] []
-  closes : {st : Stack} {below : List Stack} {is : List Item} → Accepts code x (next code x st) below is → Accepts code x Over (st ∷ below) (End ∷ is)
-  quiet : {st : Stack} {below : List Stack} {is : List Item} → Accepts code x (next code x st) below is → Accepts code x (Quiet st) below (Step ∷ is)
+  closes : {st : Stack} {below : List Stack} {is : List Item} → Accepts code x (next code x st) below is
+      → Accepts code x Over (st ∷ below) (End ∷ is)
+  quiet : {st : Stack} {below : List Stack} {is : List Item} → Accepts code x (next code x st) below is
+      → Accepts code x (Quiet st) below (Step ∷ is)
   makes : {key : Key} {v u i : ℕ} {env : Variables} {st : Stack} {b : ℕ} {below : List Stack} {is : List Item}
       → Accepts code x (next code x (Run u i (set env v (pointer key (Core b))) st)) below is
       → Accepts code x (Makes key v u i env st) below (Step ∷ Alloc (Core b) key ∷ is)
   writes : {p : Place} {value : Word} {st : Stack} {below : List Stack} {is : List Item}
       → Accepts code x (next code x st) below is → Accepts code x (Writes p value st) below (Step ∷ Write p value ∷ is)
-  reads : {p : Place} {u : UnitId} {v : ℕ} {args : List Word} {value : Word} {st : Stack} {below : List Stack} {is : List Item}
+  reads : {p : Place} {u : UnitId} {v : ℕ} {args : List Word} {value : Word} {st : Stack} {below : List Stack}
+      {is : List Item}
       → Accepts code x (next code x (entered code u.0 (given code u.0 v args value) Empty)) (st ∷ below) is
       → Accepts code x (Reads p u v args st) below (Step ∷ Read p value u v args ∷ is)
 

@@ -1,6 +1,7 @@
 -- The names and types of a program: its tree with names resolved, or the first fault of the walk. The walk goes through
--- the entries in text order twice, first their heads and then the bodies of the functions. The types are those of C with
--- modifiables (Hammer, Acar and Chen, PLDI 2009); the faults and the order of the walk are this project's own.
+-- the entries in text order twice, first their heads and then the bodies of the functions. The types are
+-- those of C with modifiables (Hammer, Acar and Chen, PLDI 2009); the faults and the order of the walk are
+-- this project's own.
 use Rattle.std.specs.Prelude.{Result, Ok, List, [], length, map}
 use Rattle.ceal_base.specs.declared.fault.Fault.{Fault}
 use Rattle.ceal_base.specs.declared.syntax.Entry.{Entry}

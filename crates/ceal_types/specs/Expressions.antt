@@ -154,7 +154,8 @@ no_address e = fault T3 e.span
 -- the place of an element of a row: the row's address, and an index, which is an `int`
 abbrev pub element_of : Span → Ident → Kind → TypedExpr → TypedExpr → ℕ → Result TypedExpr Fault
 element_of at name kind place i row =
-    if suits Int i.kind then Ok (expression at (Some kind) (typed.Binary (Pick row) name.span place i)) else fault T1 i.span
+    if suits Int i.kind then Ok (expression at (Some kind) (typed.Binary (Pick row) name.span place i))
+    else fault T1 i.span
 
 -- the address of an element of a member, if it is a row
 abbrev pub element_of_row : Span → Ident → Kind → TypedExpr → TypedExpr → Member → Result TypedExpr Fault

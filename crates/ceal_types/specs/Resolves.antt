@@ -1,6 +1,7 @@
--- A source tree and a program agree: node by node they have one form and stand at one place, and where the tree has a name,
--- the program has the number of what the name stands for: the struct or the function of this name, the field of this name
--- in its struct, or the variable of this name that is in scope there. Which kinds are asked is said by `WellTyped`.
+-- A source tree and a program agree: node by node they have one form and stand at one place, and where the
+-- tree has a name, the program has the number of what the name stands for: the struct or the function of this
+-- name, the field of this name in its struct, or the variable of this name that is in scope there. Which
+-- kinds are asked is said by `WellTyped`.
 use Rattle.std.specs.Prelude.{◌≡◌, ◌+◌, ◌==◌, ℕ, zero, suc, false, Option, Some, None, List, [], ◌∷◌, ◌++◌, length, map, position, slice_get, if◌then◌else◌}
 use Rattle.std.specs.List.{IsDistinct, list_any}
 use Rattle.std.specs.Map.{lookup}
@@ -80,7 +81,8 @@ member_number names name = or_second (position (bytes_eq name) names) (position 
 
 -- the name is that of this field of struct s, at which a row of this length begins, 0 where none does
 abbrev pub IsMember : Typed → ℕ → Ident → ℕ → ℕ → Type 0
-IsMember p s name f row = (member_number (field_names (slice_get p.structs s)) name.text ≡ Some f) × (row_at p.structs s f ≡ Some row)
+IsMember p s name f row =
+    (member_number (field_names (slice_get p.structs s)) name.text ≡ Some f) × (row_at p.structs s f ≡ Some row)
 
 -- the type is this kind; a source text gives embedded modifiables to fields alone
 abbrev pub IsKind : Typed → TypeForm → Kind → Type 0
@@ -120,19 +122,25 @@ unfoldable mutual
   FormResolves p scope at Null x = IsForm at NullForm x
   FormResolves p scope at (Var name) x = (n : ℕ) × IsVariable scope name n × IsForm at (VarForm n) x
   FormResolves p scope at Own x = IsForm at OwnForm x
-  FormResolves p scope at (Unary' op _ a) x = (y : TypedExpr) × OperandResolves p scope a y × IsForm at (typed.Unary op y) x
+  FormResolves p scope at (Unary' op _ a) x =
+      (y : TypedExpr) × OperandResolves p scope a y × IsForm at (typed.Unary op y) x
   FormResolves p scope at (Binary' op sign _ a _ b) x =
-      (y : TypedExpr) × (z : TypedExpr) × IsSign op × OperandResolves p scope a y × OperandResolves p scope b z × IsForm at (typed.Binary op sign y z) x
+      (y : TypedExpr) × (z : TypedExpr) × IsSign op × OperandResolves p scope a y × OperandResolves p scope b z
+      × IsForm at (typed.Binary op sign y z) x
   FormResolves p scope at (Field' _ a name) x =
-      (y : TypedExpr) × (s : ℕ) × (f : ℕ) × (row : ℕ) × OperandResolves p scope a y × IsMember p s name f row × IsForm at (typed.Field y s f) x
+      (y : TypedExpr) × (s : ℕ) × (f : ℕ) × (row : ℕ) × OperandResolves p scope a y × IsMember p s name f row
+      × IsForm at (typed.Field y s f) x
   -- `&` of a field, which is no row
   FormResolves p scope at (Address' _ (more_of-Expr span (Field' _ a name) rest)) x =
-      (y : TypedExpr) × (s : ℕ) × (f : ℕ) × OperandResolves p scope a y × IsMember p s name f 0 × IsForm at (typed.Address y s f) x
+      (y : TypedExpr) × (s : ℕ) × (f : ℕ) × OperandResolves p scope a y × IsMember p s name f 0
+      × IsForm at (typed.Address y s f) x
   FormResolves p scope at (Address' _ a) x = ⊥
   -- `&` of an element of a row
   FormResolves p scope at (Pick' _ (more_of-Expr span (Field' _ a name) rest) _ i) x =
-      (y : TypedExpr) × (z : TypedExpr) × (w : TypedExpr) × (s : ℕ) × (f : ℕ) × (row : ℕ) × OperandResolves p scope a y × OperandResolves p scope i z
-      × IsMember p s name f row × IsForm at (typed.Address y s f) w × IsForm at (typed.Binary (Pick row) name.span w z) x
+      (y : TypedExpr) × (z : TypedExpr) × (w : TypedExpr) × (s : ℕ) × (f : ℕ) × (row : ℕ)
+      × OperandResolves p scope a y × OperandResolves p scope i z
+      × IsMember p s name f row × IsForm at (typed.Address y s f) w
+      × IsForm at (typed.Binary (Pick row) name.span w z) x
   FormResolves p scope at (Pick' _ a _ i) x = ⊥
 
   -- the same of an operand; one that is not there, as in no source text, counts as `null`
@@ -156,7 +164,8 @@ abbrev pub ValueResolves : Typed → Environment → Value → TypedValue → Ty
 ValueResolves p scope (Plain e) v = (x : TypedExpr) × ExprResolves p scope e x × (v ≡ PlainTyped x)
 ValueResolves p scope (Read at e) v = (x : TypedExpr) × ExprResolves p scope e x × (v ≡ ReadTyped at x)
 ValueResolves p scope (Alloc at structure name args) v =
-    (s : ℕ) × (f : ℕ) × (xs : List TypedExpr) × IsStruct p structure s × IsFunction p name f × ExprsResolve p scope args xs
+    (s : ℕ) × (f : ℕ) × (xs : List TypedExpr) × IsStruct p structure s × IsFunction p name f
+    × ExprsResolve p scope args xs
     × (v ≡ AllocTyped at s f name.span xs)
 ValueResolves p scope (ModrefInt at) v = v ≡ ModrefIntTyped at
 ValueResolves p scope (Modref at structure) v = (s : ℕ) × IsStruct p structure s × (v ≡ ModrefTyped at s)
@@ -179,19 +188,25 @@ unfoldable mutual
       (n : ℕ) × (kind : Kind) × (v : TypedValue) × IsKind p form kind × (lookup (bytes_eq name.text) scope ≡ None)
       × ValueResolves p scope value v × (t ≡ DeclareTyped at n kind v)
   StmtResolves p scope (Assign name value) t =
-      (n : ℕ) × (v : TypedValue) × IsVariable scope name n × ValueResolves p scope value v × (t ≡ AssignTyped name.span n v)
+      (n : ℕ) × (v : TypedValue) × IsVariable scope name n × ValueResolves p scope value v
+      × (t ≡ AssignTyped name.span n v)
   StmtResolves p scope (SetField at left name e) t =
-      (y : TypedExpr) × (s : ℕ) × (f : ℕ) × (row : ℕ) × (x : TypedExpr) × ExprResolves p scope left y × IsMember p s name f row
+      (y : TypedExpr) × (s : ℕ) × (f : ℕ) × (row : ℕ) × (x : TypedExpr) × ExprResolves p scope left y
+      × IsMember p s name f row
       × ExprResolves p scope e x × (t ≡ SetTyped at y s f x)
   StmtResolves p scope (Write at place e) t =
-      (y : TypedExpr) × (x : TypedExpr) × ExprResolves p scope place y × ExprResolves p scope e x × (t ≡ WriteTyped at y x)
+      (y : TypedExpr) × (x : TypedExpr) × ExprResolves p scope place y × ExprResolves p scope e x
+      × (t ≡ WriteTyped at y x)
   StmtResolves p scope (Call name args) t =
-      (f : ℕ) × (xs : List TypedExpr) × IsFunction p name f × ExprsResolve p scope args xs × (t ≡ CallTyped name.span f xs)
+      (f : ℕ) × (xs : List TypedExpr) × IsFunction p name f × ExprsResolve p scope args xs
+      × (t ≡ CallTyped name.span f xs)
   StmtResolves p scope (If' at test _ first _ second) t =
-      (x : TypedExpr) × (ts : List TypedStmt) × (us : List TypedStmt) × ExprResolves p scope test x × RowResolves p scope first ts
+      (x : TypedExpr) × (ts : List TypedStmt) × (us : List TypedStmt) × ExprResolves p scope test x
+      × RowResolves p scope first ts
       × RowResolves p scope second us × (t ≡ statements.If at x ts us)
   StmtResolves p scope (While' at test _ body) t =
-      (x : TypedExpr) × (ts : List TypedStmt) × ExprResolves p scope test x × RowResolves p scope body ts × (t ≡ statements.While at x ts)
+      (x : TypedExpr) × (ts : List TypedStmt) × ExprResolves p scope test x × RowResolves p scope body ts
+      × (t ≡ statements.While at x ts)
   StmtResolves p scope (Return at) t = t ≡ ReturnTyped at
   StmtResolves p scope (Break at) t = t ≡ BreakTyped at
   StmtResolves p scope (Continue at) t = t ≡ ContinueTyped at
@@ -199,7 +214,8 @@ unfoldable mutual
   -- the same of the statements of a block
   pub RowResolves : Typed → Environment → {n : _} → Row_of-Stmt n → List TypedStmt → Type 0
   RowResolves p scope end_of-Stmt [] = Unit {0}
-  RowResolves p scope (more_of-Stmt s rest) (t ∷ ts) = StmtResolves p scope s t × RowResolves p (in_scope scope s t) rest ts
+  RowResolves p scope (more_of-Stmt s rest) (t ∷ ts) =
+      StmtResolves p scope s t × RowResolves p (in_scope scope s t) rest ts
   RowResolves p scope end_of-Stmt (t ∷ ts) = ⊥
   RowResolves p scope (more_of-Stmt s rest) [] = ⊥
 
@@ -226,7 +242,8 @@ member_fields form name kind = record { name = name; kind = kind; row = 0 } ∷ 
 abbrev pub MembersResolve : Typed → List Name → List FieldDecl → List FieldInfo → Type 0
 MembersResolve p before [] fields = fields ≡ []
 MembersResolve p before (d ∷ ds) fields =
-    (kind : FieldKind) × (rest : List FieldInfo) × IsFieldKind p d.form kind × IsNew before d.name.text × IsNew before (element_name d.name.text 0)
+    (kind : FieldKind) × (rest : List FieldInfo) × IsFieldKind p d.form kind × IsNew before d.name.text
+    × IsNew before (element_name d.name.text 0)
     × (fields ≡ member_fields d.form d.name.text kind ++ rest)
     × MembersResolve p (before ++ map name_of_field (member_fields d.form d.name.text kind)) ds rest
 
@@ -269,8 +286,10 @@ pub record FunctionResolves (p : Typed) (f : FunctionDecl) (g : TypedFunction) :
 -- entries, and structs and functions in text order
 abbrev pub EntriesResolve : Typed → List Entry → List StructInfo → List TypedFunction → Type 0
 EntriesResolve p [] [] [] = Unit {0}
-EntriesResolve p (Struct s ∷ entries) (t ∷ structs) functions = StructResolves p s t × EntriesResolve p entries structs functions
-EntriesResolve p (Function f ∷ entries) structs (g ∷ functions) = FunctionResolves p f g × EntriesResolve p entries structs functions
+EntriesResolve p (Struct s ∷ entries) (t ∷ structs) functions =
+    StructResolves p s t × EntriesResolve p entries structs functions
+EntriesResolve p (Function f ∷ entries) structs (g ∷ functions) =
+    FunctionResolves p f g × EntriesResolve p entries structs functions
 EntriesResolve p _ _ _ = ⊥
 
 -- A tree and a program agree.

@@ -90,7 +90,8 @@ alloc_value asked at structure name shape f es =
     after (allocated asked at name shape f.0 es) (alloc_suits structure name shape f.1 es)
 
 -- a new block, if there is an initialiser of this name
-abbrev pub alloc_by : Program → Option ℕ → Scope → Kind → Span → Ident → Ident → List Expr → ℕ → Option (ℕ × Head) → Result TypedValue Fault
+abbrev pub alloc_by : Program → Option ℕ → Scope → Kind → Span → Ident → Ident → List Expr → ℕ
+    → Option (ℕ × Head) → Result TypedValue Fault
 alloc_by p own scope asked at structure name args shape None = fault N1 name.span
 alloc_by p own scope asked at structure name args shape (Some f) =
     after (alloc_value asked at structure name shape f) (typed_exprs p own scope args)
@@ -235,7 +236,8 @@ abbrev pub choose : Span → TypedExpr → (Variables → Result Block Fault) �
 choose at test second first = mapped (chosen at test first) (second first.variables)
 
 -- an `if` with its two parts, where the test is there
-abbrev pub branch : Span → (Variables → Result Block Fault) → (Variables → Result Block Fault) → Variables → TypedExpr → Result Step Fault
+abbrev pub branch : Span → (Variables → Result Block Fault) → (Variables → Result Block Fault) → Variables
+    → TypedExpr → Result Step Fault
 branch at first second v test = after (choose at test second) (first v)
 
 -- a `while`: the condition, and then the body
@@ -255,8 +257,10 @@ unfoldable mutual
   typed_stmt p own (Write at place e) v = mapped (still v) (write p own v.scope at place e)
   typed_stmt p own (Call name args) v = mapped (still v) (call p own v.scope name args)
   typed_stmt p own (If' at test _ first _ second) v =
-      after (branch at (nested (typed_row p own first)) (nested (typed_row p own second)) v) (condition p own v.scope test)
-  typed_stmt p own (While' at test _ body) v = after (loop at (nested (typed_row p own body)) v) (condition p own v.scope test)
+      after (branch at (nested (typed_row p own first)) (nested (typed_row p own second)) v)
+      (condition p own v.scope test)
+  typed_stmt p own (While' at test _ body) v =
+      after (loop at (nested (typed_row p own body)) v) (condition p own v.scope test)
   typed_stmt p own (Return at) v = Ok (step (ReturnTyped at) v)
   typed_stmt p own (Break at) v = Ok (step (BreakTyped at) v)
   typed_stmt p own (Continue at) v = Ok (step (ContinueTyped at) v)
@@ -264,7 +268,8 @@ unfoldable mutual
   -- the statements of a row, after those of a block
   pub typed_row : Program → Option ℕ → {n : _} → Row_of-Stmt n → Block → Result Block Fault
   typed_row p own end_of-Stmt b = Ok b
-  typed_row p own (more_of-Stmt s rest) b = after (typed_row p own rest) (mapped (with_step b) (typed_stmt p own s b.variables))
+  typed_row p own (more_of-Stmt s rest) b =
+      after (typed_row p own rest) (mapped (with_step b) (typed_stmt p own s b.variables))
 
 -- one more statement of a block
 abbrev pub with_stmt : Program → Option ℕ → Stmt → Block → Result Block Fault

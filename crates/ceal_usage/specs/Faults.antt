@@ -80,7 +80,8 @@ unfoldable mutual
   core_faults fs looped (SetField at left s field e) = one U1 at
   core_faults fs looped (Write at place e) = []
   core_faults fs looped (Call at f args) = if is_core (slice_get fs f) then [] else one U4 at
-  core_faults fs looped (If' at test _ first _ second) = row_core_faults fs looped first ++ row_core_faults fs looped second
+  core_faults fs looped (If' at test _ first _ second) =
+      row_core_faults fs looped first ++ row_core_faults fs looped second
   core_faults fs looped (While' at test _ body) = row_core_faults fs true body
   core_faults fs looped (Return at) = []
   core_faults fs looped (Break at) = loop_faults looped at

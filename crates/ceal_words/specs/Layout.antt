@@ -1,5 +1,6 @@
--- How a size class lies in its chunk. Piece i has `size` words from word i * size on. A piece that a slot has is marked with the
--- slot's length, a free one with 0. The first word of a free piece is the number of the next free piece.
+-- How a size class lies in its chunk. Piece i has `size` words from word i * size on. A piece that a slot has
+-- is marked with the slot's length, a free one with 0. The first word of a free piece is the number of the
+-- next free piece.
 use Rattle.std.specs.Prelude.{◌≡◌, ◌≢◌, ℕ, zero, suc, ◌*◌, ◌<◌, ◌≤◌, List, [], ◌∷◌, length, take, drop, Option, Some, None, slice_index}
 use Rattle.ceal_words.specs.Lengths.{RoundsTo}
 use Rattle.ceal_words.specs.SizeClass.{SizeClass}
@@ -32,7 +33,8 @@ IsOutside i (x ∷ xs) = (x ≢ i) × IsOutside i xs
 abbrev pub IsFreeList : ℕ → List ℕ → List ℕ → ℕ → ℕ → Type 0
 IsFreeList size words marks zero head = Unit {0}
 IsFreeList size words marks (suc n) head = (head < length marks) × (slice_index marks head ≡ 0)
-    × IsOutside head (free_list size words n (link size words head)) × IsFreeList size words marks n (link size words head)
+    × IsOutside head (free_list size words n (link size words head))
+    × IsFreeList size words marks n (link size words head)
 
 -- how many pieces are free
 abbrev pub free_count : List ℕ → ℕ

@@ -2,7 +2,8 @@
 use Rattle.std.specs.Prelude.{ℕ, ◌-◌, ◌*◌, ◌<◌, ◌≤◌}
 use Rattle.std.specs.Int.{w32, leading_zeros}
 
--- the size class of a length: the exponent of the power of two that it rounds up to, which is the number of binary digits of one less
+-- the size class of a length: the exponent of the power of two that it rounds up to, which is the number of
+-- binary digits of one less
 abbrev pub size_class : ℕ → ℕ
 size_class len = 32 - leading_zeros w32 (len - 1)
 

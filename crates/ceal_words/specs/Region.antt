@@ -45,7 +45,8 @@ KeepsAll before after = (slot : Slot) → words_of after slot ≡ words_of befor
 
 -- the lengths that round up otherwise have as many spare slots as before
 abbrev pub KeepsOtherSpares : ℕ → List SizeClass → List SizeClass → Type 0
-KeepsOtherSpares len before after = (other : ℕ) → size_class other ≢ size_class len → spare after other ≡ spare before other
+KeepsOtherSpares len before after =
+    (other : ℕ) → size_class other ≢ size_class len → spare after other ≡ spare before other
 
 -- of each length as many slots are left as before
 abbrev pub KeepsSpares : List SizeClass → List SizeClass → Type 0

@@ -31,7 +31,8 @@ given at class = record class { pieces = slice_set class.pieces at None; spare =
 
 -- the class with another word in a piece
 abbrev pub with_word : ℕ → ℕ → ℕ → SizeClass → SizeClass
-with_word at index value class = record class { pieces = slice_set class.pieces at (changed (words_at class.pieces at) index value) }
+with_word at index value class =
+    record class { pieces = slice_set class.pieces at (changed (words_at class.pieces at) index value) }
 
 -- the class with more free pieces
 abbrev pub grown : ℕ → SizeClass → SizeClass
