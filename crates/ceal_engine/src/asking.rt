@@ -1,7 +1,7 @@
 // Whether an engine's calls may be made: a test for each of their premises.
 
 ghost use Rattle.std.specs.Prelude.{◌≡◌, ◌<◌, ◌+◌, ◌^◌, true, length, slice_get, IsTrue};
-ghost use Rattle.ceal_base.specs.Fitting.{block_fits, inputs_fit, kind_in};
+ghost use Rattle.ceal_base.specs.Fitting.{block_fits, inputs_fit, kind_at, kind_in};
 ghost use Rattle.ceal_code.specs.Fitting.{Fits, args_fit};
 ghost use Rattle.ceal_code.specs.Valid.{valid};
 ghost use Rattle.ceal_code.specs.Value.{is_cell};
@@ -61,6 +61,8 @@ impl Engine {
 
     /// Whether the place is a modifiable of an input. It is one then for `value` too, once a run is finished.
     pub fn has_modifiable(&self, place: Place) -> bool
+        ensures value { result
+            ≡ is_cell (kind_at self.now.code.structs (alone self.now.inputs) place) }
         ensures there { IsTrue result → is_cell
             (kind_in self.now.code.structs (block_in self.now place.block) place.field) ≡ true }
     {
