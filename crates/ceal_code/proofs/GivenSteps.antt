@@ -1,14 +1,17 @@
 -- The words of a unit that goes on after a read, from the last parameter to the first.
-use Rattle.std.proofs.Common.{◌≡◌, ℕ, zero, suc, ◌+◌, ◌≤◌, ◌<◌, ◌==◌, Some, Bool, true, false, if◌then◌else◌, List, [], ◌∷◌, ◌++◌, length, take, drop, get_or, drop-cons, refl, sym, ap, ◌∙◌, slice_get, unwrap_or, arith}
+use Rattle.std.proofs.Common.{◌≡◌, ℕ, zero, suc, ◌+◌, ◌≤◌, ◌<◌, ◌==◌, Some, Bool, true, false, if◌then◌else◌, List, [], ◌∷◌, ◌++◌, length, take, drop, get_or, drop-cons, refl, sym, ap, ◌∙◌, slice_get, unwrap_or, min, inl, inr, arith}
 use Rattle.std.proofs.lemmas.List.{take_more}
 use Rattle.std.proofs.lemmas.Option.{unwrap_or-slice_get, slice_get_within, get_or_from_slice_get}
 use Rattle.ceal_base.specs.declared.word.Word.{Word}
 use Rattle.ceal_base.specs.declared.word.Word.TheVariants.{Null}
 use Rattle.ceal_code.specs.Step.{bound, woven, first_word, later_words}
-use Rattle.ceal_code.specs.Value.{Variables, unset, set}
+use Rattle.ceal_code.specs.Value.{Plain, Variables, unset, set, expr_value, values}
 use Rattle.ceal_code.specs.Weaving.{one_other, others}
+use Rattle.ceal_code.specs.declared.expr.CodeExpr.{CodeExpr}
 use Rattle.ceal_code.specs.declared.expr.VarId.{VarId}
-use Rattle.ceal_code.proofs.StackSteps.{woven-more}
+use Rattle.ceal_base.specs.declared.typed.StructInfo.{StructInfo}
+use Rattle.ceal_code.proofs.StackSteps.{woven-more, drop-all, bound-none, le-either}
+use Rattle.ceal_code.proofs.ValueSteps.{values-none}
 
 others-push : (v : ℕ) (ps : List VarId) (p : VarId) → others v (ps ++ p ∷ []) ≡ others v ps + one_other v p
 unfolding others
@@ -80,7 +83,7 @@ tail-at : (args : List Word) (before after one : ℕ) (b : Bool) → one ≡ (if
 tail-at args before after one true e k = let m : after ≡ before = omega (arith, e, k) in ap (λ n. drop n args) m
 tail-at args before after one false e k = let m : suc after ≡ before = omega (arith, e, k) in later-at args after ∙ ap (λ n. drop n args) m
 
-drop-next : (ps : List VarId) (j i : ℕ) (p : VarId) → i ≡ j + 1 → slice_get ps j ≡ Some p → drop j ps ≡ p ∷ drop i ps
+drop-next : {A : Type 0} (ps : List A) (j i : ℕ) (p : A) → i ≡ j + 1 → slice_get ps j ≡ Some p → drop j ps ≡ p ∷ drop i ps
 drop-next ps j i p e h =
     let m : i ≡ suc j = omega (arith, e) in
     rw m (drop-cons ps j p (slice_get_within ps j p h) ∙ ap (λ q. q ∷ drop (suc j) ps) (get_or_from_slice_get ps j p p h))
@@ -102,3 +105,32 @@ given-next ps v value args j i before after one p w x y e h k l m inv s =
     ∙ sym (ap (λ qs. bound qs (woven qs v value (drop after args))) (drop-next ps j i p e h)
     ∙ (ap (λ ws. bound (p ∷ drop i ps) ws) (woven-next p (drop i ps) v value args before after one w k l m)
     ∙ bound-more p (drop i ps) w (woven (drop i ps) v value (drop before args)))))
+
+module _ (structs : List StructInfo) (x : Plain) (env : Variables) where
+  values-more : (e : CodeExpr) (es : List CodeExpr) → values structs x env (e ∷ es) ≡ expr_value structs x env e ∷ values structs x env es
+  unfolding values
+  values-more e es = refl
+
+  bound-no-params : (words : List Word) → bound [] words ≡ unset
+  unfolding bound
+  bound-no-params words = refl
+
+  -- what expressions give, for parameters
+  pub values-end : (params : List VarId) (es : List CodeExpr) (n : ℕ) → n ≡ min (length params) (length es)
+      → bound (drop n params) (values structs x env (drop n es)) ≡ unset
+  values-end params es n e = elim (le-either (length params) (length es)) [
+    | inl h ↦ ap (λ (ps : List VarId). bound ps (values structs x env (drop n es))) (drop-all params n (omega (arith, h, e))) ∙ bound-no-params (values structs x env (drop n es))
+    | inr h ↦ ap (λ (ds : List CodeExpr). bound (drop n params) (values structs x env ds)) (drop-all es n (omega (arith, h, e)))
+        ∙ (ap (λ (ws : List Word). bound (drop n params) ws) (values-none structs x env) ∙ bound-none (drop n params))
+  ]
+
+  pub values-next : (params : List VarId) (es : List CodeExpr) (j i : ℕ) (p : VarId) (e : CodeExpr) (w : Word) (y z : Variables)
+      → i ≡ j + 1 → slice_get params j ≡ Some p → slice_get es j ≡ Some e → w ≡ expr_value structs x env e
+      → y ≡ bound (drop i params) (values structs x env (drop i es)) → z ≡ set y p.0 w
+      → z ≡ bound (drop j params) (values structs x env (drop j es))
+  values-next params es j i p e w y z n h k v inv s =
+      s ∙ (ap (λ u. set u p.0 w) inv
+      ∙ sym (ap (λ qs. bound qs (values structs x env (drop j es))) (drop-next params j i p n h)
+      ∙ (ap (λ ds. bound (p ∷ drop i params) (values structs x env ds)) (drop-next es j i e n k)
+      ∙ (ap (λ ws. bound (p ∷ drop i params) ws) (values-more e (drop i es) ∙ ap (λ u. u ∷ values structs x env (drop i es)) (sym v))
+      ∙ bound-more p (drop i params) w (values structs x env (drop i es))))))

@@ -44,3 +44,4 @@ pub mod ValueSteps
 pub mod InitSteps
 pub mod StackSteps
 pub mod GivenSteps
+pub mod WaitSteps

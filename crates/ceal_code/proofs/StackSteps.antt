@@ -1,28 +1,15 @@
--- Stacks as the code keeps them, and the words with which units begin.
+-- The words with which units begin.
 use Rattle.std.proofs.Common.{◌≡◌, ℕ, zero, suc, ◌+◌, ◌-◌, ◌<◌, ◌≤◌, ◌==◌, Some, ◌⊎◌, inl, inr, Bool, true, false, if◌then◌else◌, List, [], ◌∷◌, ◌++◌, length, replicate, drop, get_or, set as put_at, drop-cons, append-nil, append_assoc, refl, sym, ap, ◌∙◌, slice_get, unwrap_or, arith, min}
 use Rattle.std.proofs.Math.Path.{fun_ext}
-use Rattle.std.proofs.lemmas.List.{reverse-append, get_or-set_same, get_or-set_other, length-append, length-replicate}
+use Rattle.std.proofs.lemmas.List.{get_or-set_same, get_or-set_other, length-append, length-replicate}
 use Rattle.std.proofs.lemmas.Option.{unwrap_or-slice_get, slice_get_within, get_or_from_slice_get}
 use Rattle.ceal_base.specs.declared.word.Word.{Word}
 use Rattle.ceal_base.specs.declared.word.Word.TheVariants.{Null}
 use Rattle.ceal_code.proofs.Same.{nat-same}
 use Rattle.ceal_code.specs.Init.{arguments}
-use Rattle.ceal_code.specs.Step.{Stack, Empty, bound, chosen, woven, first_word, later_words, command_at, settled_at, settled}
-use Rattle.ceal_code.specs.Program.{Code}
-use Rattle.ceal_code.specs.Value.{Plain, Variables, unset, set}
+use Rattle.ceal_code.specs.Step.{bound, chosen, woven, first_word, later_words}
+use Rattle.ceal_code.specs.Value.{Variables, unset, set}
 use Rattle.ceal_code.specs.declared.expr.VarId.{VarId}
-use Rattle.ceal_code.specs.Stacks.{over, stacked, units_in}
-use Rattle.ceal_code.specs.declared.stack.Activation.{Activation}
-
-pub stack-push : (list : List Activation) (a : Activation) → units_in (list ++ a ∷ []) ≡ over a (units_in list)
-unfolding units_in
-stack-push list a = ap stacked (reverse-append list (a ∷ []))
-
-pub stack-nil : units_in [] ≡ Empty
-unfolding units_in
-stack-nil = refl
-
-pub ruleset stack_steps = (stack-push, stack-nil)
 
 -- nulls after the words of variables
 padded : (words : List Word) (n u : ℕ) → get_or (words ++ replicate n Null) u Null ≡ get_or words u Null
@@ -60,18 +47,18 @@ bind-next params words j i p w x y e h k inv l =
     ∙ sym (bound-step params words j i p w e (slice_get_within params j p h) (slice_get_within words j w k)
     ∙ rw (get_or_from_slice_get params j p p h, get_or_from_slice_get words j w w k) refl))
 
-drop-all : {A : Type 0} (xs : List A) (n : ℕ) → length xs ≤ n → drop n xs ≡ []
+pub drop-all : {A : Type 0} (xs : List A) (n : ℕ) → length xs ≤ n → drop n xs ≡ []
 drop-all [] zero h = refl
 drop-all [] (suc n) h = refl
 drop-all (x ∷ xs) zero h = absurd (omega (arith, h))
 drop-all (x ∷ xs) (suc n) h = drop-all xs n (omega (arith, h))
 
-bound-none : (params : List VarId) → bound params [] ≡ unset
+pub bound-none : (params : List VarId) → bound params [] ≡ unset
 unfolding bound
 bound-none [] = refl
 bound-none (p ∷ ps) = refl
 
-le-either : (a b : ℕ) → (a ≤ b) ⊎ (b ≤ a)
+pub le-either : (a b : ℕ) → (a ≤ b) ⊎ (b ≤ a)
 le-either zero b = inl (omega arith)
 le-either (suc a) zero = inr (omega arith)
 le-either (suc a) (suc b) = elim (le-either a b) [ inl h ↦ inl (omega (arith, h)) | inr h ↦ inr (omega (arith, h)) ]
@@ -102,10 +89,6 @@ chosen-more p ps args = refl
 
 pub ruleset choose_steps = (chosen-none, chosen-more)
 
-pub woven-none : (v : ℕ) (value : Word) (args : List Word) → woven [] v value args ≡ []
-unfolding woven
-woven-none v value args = refl
-
 pub woven-more : (p : VarId) (ps : List VarId) (v : ℕ) (value : Word) (args : List Word)
     → woven (p ∷ ps) v value args ≡ (if p.0 == v then value else first_word args) ∷ woven ps v value (if p.0 == v then args else later_words args)
 unfolding woven
@@ -116,30 +99,8 @@ woven-more p ps v value args = go (p.0 == v)
     go true = refl
     go false = refl
 
-pub ruleset weave_steps = (woven-none, woven-more)
-
 pub padded-length : (words : List Word) (v : ℕ) (more : List Word) → more ≡ words ++ replicate (v + 1 - length words) Null → v < length more
 padded-length words v more e = rw (e, length-append words (replicate (v + 1 - length words) Null), length-replicate (v + 1 - length words) Null) (omega arith)
-
-module _ (code : Code) (x : Plain) where
-  -- a unit that is over at once
-  pub settle-next : (old new : List Activation) (top : Activation) → old ≡ new ++ top ∷ []
-      → ((below rest : Stack) → settled_at code x (command_at code top.unit top.index) top.unit top.index (arguments top.env.items) below rest ≡ rest)
-      → settled code x (units_in new) ≡ settled code x (units_in old)
-  unfolding settled
-  settle-next old new top e h = rw (e, stack-push new top) (sym (h (units_in new) (settled code x (units_in new))))
-
-  -- and one that takes the next step, or calls a unit that does
-  pub settle-found : (old new : List Activation) (top a : Activation) → old ≡ new ++ top ∷ []
-      → ((below rest : Stack) → settled_at code x (command_at code top.unit top.index) top.unit top.index (arguments top.env.items) below rest ≡ over a below)
-      → settled code x (units_in old) ≡ over a (units_in new)
-  unfolding settled
-  settle-found old new top a e h = rw (e, stack-push new top) (h (units_in new) (settled code x (units_in new)))
-
-  pub settle-none : (old : List Activation) → length old ≡ 0 → settled code x (units_in old) ≡ Empty
-  unfolding settled
-  settle-none [] e = rw stack-nil refl
-  settle-none (a ∷ more) e = absurd (omega (arith, e))
 
 -- in code, word by word
 pub choose-next : (out next : List Word) (params more : List VarId) (p : VarId) (args all : List Word) (w : Word) → next ≡ out ++ w ∷ [] → w ≡ unwrap_or (slice_get args p.0) Null
@@ -151,14 +112,3 @@ choose-next out next params more p args all w e k l inv =
 pub choose-end : (out : List Word) (params : List VarId) (args all : List Word) → length params ≡ 0 → out ++ chosen params args ≡ all → out ≡ all
 choose-end out [] args all h inv = sym (append-nil out) ∙ (ap (λ ws. out ++ ws) (sym (chosen-none args)) ∙ inv)
 choose-end out (p ∷ ps) args all h inv = absurd (omega (arith, h))
-
-pub weave-next : (out next : List Word) (params more : List VarId) (p : VarId) (v : ℕ) (value : Word) (args later all : List Word) (w : Word) → next ≡ out ++ w ∷ []
-    → w ≡ (if p.0 == v then value else first_word args) → later ≡ (if p.0 == v then args else later_words args)
-    → params ≡ p ∷ more → out ++ woven params v value args ≡ all → next ++ woven more v value later ≡ all
-weave-next out next params more p v value args later all w e k m l inv =
-    ap (λ ws. ws ++ woven more v value later) e ∙ (append_assoc out (w ∷ []) (woven more v value later)
-    ∙ (ap (λ ws. out ++ ws) (rw (k, m) refl ∙ (sym (woven-more p more v value args) ∙ ap (λ ps. woven ps v value args) (sym l))) ∙ inv))
-
-pub weave-end : (out : List Word) (params : List VarId) (v : ℕ) (value : Word) (args all : List Word) → length params ≡ 0 → out ++ woven params v value args ≡ all → out ≡ all
-weave-end out [] v value args all h inv = sym (append-nil out) ∙ (ap (λ ws. out ++ ws) (sym (woven-none v value args)) ∙ inv)
-weave-end out (p ∷ ps) v value args all h inv = absurd (omega (arith, h))

@@ -1,39 +1,72 @@
 -- The stack of a run, and the next step, as the code keeps them.
-use Rattle.std.specs.Prelude.{◌≡◌, Bool, true, false, Option, Some, None, List, [], ◌∷◌, reverse}
+use Rattle.std.specs.Prelude.{◌≡◌, ℕ, ◌+◌, ◌-◌, ◌<◌, ◌^◌, Bool, true, false, Option, Some, None, List, [], ◌∷◌, drop, length, reverse, take, if◌then◌else◌}
+use Rattle.ceal_base.specs.declared.forest.Key.{Key}
+use Rattle.ceal_base.specs.declared.forest.Key.TheVariants.{Init}
+use Rattle.ceal_base.specs.declared.word.Word.{Word}
 use Rattle.ceal_code.specs.Init.{arguments}
 use Rattle.ceal_code.specs.Program.{Code}
-use Rattle.ceal_code.specs.Step.{Stack, Empty, Run, Act, Over, Quiet, Makes, Writes, Reads, act}
-use Rattle.ceal_code.specs.Value.{Plain}
+use Rattle.ceal_code.specs.Step.{Stack, Empty, Run, Act, Over, Quiet, Makes, Writes, Reads, act, command_at, key_of}
+use Rattle.ceal_code.specs.Value.{Plain, Variables, values}
 use Rattle.ceal_code.specs.declared.command.Cmd.{Cmd}
-use Rattle.ceal_code.specs.declared.command.Cmd.TheVariants.{Done, Tail, Read, Call}
 use Rattle.ceal_code.specs.declared.stack.Activation.{Activation}
 use Rattle.ceal_code.specs.declared.stack.Stack.{Stack as CodeStack}
 use Rattle.ceal_code.specs.declared.step.Act.{Act as CodeAct}
 use Rattle.ceal_code.specs.declared.step.Act.TheVariants.{Over as IsOver, Quiet as IsQuiet, Makes as IsMakes, Writes as IsWrites, Reads as IsReads}
-use Rattle.ceal_code.specs.declared.step.Local.{Local}
-use Rattle.ceal_code.specs.declared.step.Local.TheVariants.{Leaves, Quiet as StaysQuiet, Makes as StaysMaking, Writes as StaysWriting}
+use Rattle.ceal_code.specs.declared.step.Maker.{Maker}
+use Rattle.ceal_code.specs.declared.step.Maker.TheVariants.{Init as IsInit, Modref as IsModref}
+use Rattle.ceal_code.specs.declared.step.Making.{Making}
+use Rattle.ceal_code.specs.declared.step.Reading.{Reading}
+use Rattle.ceal_code.specs.declared.step.Step.{Step as CodeStep}
+use Rattle.ceal_code.specs.declared.step.Step.TheVariants.{Over as StepOver, Quiet as StepQuiet, Makes as StepMakes, Writes as StepWrites, Reads as StepReads}
+use Rattle.ceal_code.specs.declared.waits.Waiting.{Waiting}
+use Rattle.ceal_code.specs.declared.waits.Waits.{Waits}
 
 -- an activation over other units
 abbrev pub over : Activation → Stack → Stack
 over a below = Run a.unit a.index (arguments a.env.items) below
 
--- the running one first
-abbrev pub stacked : List Activation → Stack
-stacked [] = Empty
-stacked (a ∷ more) = over a (stacked more)
+-- units that wait, the next one first: its words are the last ones
+abbrev pub waiting_on : List Waiting → List Word → Stack
+waiting_on [] words = Empty
+waiting_on (w ∷ more) words =
+    Run w.unit w.index (arguments (drop (length words - w.count) words)) (waiting_on more (take (length words - w.count) words))
 
--- the running one last
-unfoldable pub units_in : List Activation → Stack
-units_in units = stacked (reverse units)
+-- the same with the next one last
+unfoldable pub waiting : List Waiting → List Word → Stack
+waiting units words = waiting_on (reverse units) words
+
+-- units that wait, as the code keeps them
+unfoldable pub waits_in : Waits → Stack
+waits_in w = waiting w.units.items w.words.items
+
+-- a unit over others, where it runs
+abbrev pub topped : Bool → Activation → Stack → Stack
+topped true a st = over a st
+topped false a st = st
 
 -- the stack that the code keeps
 unfoldable pub stack_in : CodeStack → Stack
-stack_in s = units_in s.units.items
+stack_in s = topped s.runs s.top (waits_in s.waits)
 
--- the unit over what was below it, or where there is none the rest
-abbrev pub arrived : Option Activation → Stack → Stack → Stack
-arrived None below rest = rest
-arrived (Some a) below rest = over a below
+-- how many units it has
+abbrev pub left_in : CodeStack → ℕ
+left_in s = length s.waits.units.items + (if s.runs then 1 else 0)
+
+-- the next of the units that wait has begun, or there is none
+abbrev pub Began : Bool → Waits → Activation → Waits → Type 0
+Began true old a new = waits_in old ≡ over a (waits_in new)
+Began false old a new = (waits_in old ≡ Empty) × (waits_in new ≡ Empty)
+
+-- the stack of a unit that takes the next step, or where there is none the rest
+abbrev pub landing : {A : Type 0} → Option A → CodeStack → Stack → Stack
+landing None s rest = rest
+landing (Some c) s rest = stack_in s
+
+-- a unit runs, and the command is its next one
+pub record Stands (code : Code) (c : Cmd) (s : CodeStack) : Type 0 where
+  pub runs : s.runs ≡ true
+  pub command : c ≡ command_at code s.top.unit s.top.index
+  pub small : s.top.index < 2 ^ 63
 
 -- what is done next, and the stack after it
 abbrev pub act_in : CodeAct → Stack → Act
@@ -47,17 +80,22 @@ act_in (IsReads c) st = Reads c.place c.unit c.var c.args st
 abbrev pub act_on : Code → Plain → Cmd → Activation → Stack → Act
 act_on code x c a below = act code x c a.unit a.index (arguments a.env.items) below
 
--- the command ends a path of its unit
-abbrev pub ends : Cmd → Bool
-ends Done = true
-ends (Tail w args) = true
-ends (Read v p w args) = true
-ends (Call f args w rest) = true
-ends c = false
+-- the key of a block that is made in a unit with these variables
+abbrev pub key_made : Code → Plain → Maker → Variables → Key
+key_made code x (IsInit f args) env = Init f (values code.structs x env args.now)
+key_made code x (IsModref shape) env = key_of shape
 
--- The command leaves the unit, or it does this, and the unit goes on as the other.
-abbrev pub Does : Code → Plain → Cmd → Activation → Local → Activation → Type 0
-Does code x c a Leaves b = (ends c ≡ true) × (b ≡ a)
-Does code x c a StaysQuiet b = (below : Stack) → act_on code x c a below ≡ Quiet (over b below)
-Does code x c a (StaysMaking key v) b = (below : Stack) → act_on code x c a below ≡ Makes key v b.unit b.index (arguments b.env.items) below
-Does code x c a (StaysWriting p value) b = (below : Stack) → act_on code x c a below ≡ Writes p value (over b below)
+-- what a block that is made does, and a read
+abbrev pub making_in : Code → Plain → Making → ℕ → ℕ → Variables → Stack → Act
+making_in code x m u i env below = Makes (key_made code x m.maker env) m.var u i env below
+
+abbrev pub reading_in : Code → Plain → Reading → Variables → Stack → Act
+reading_in code x r env below = Reads r.place r.unit r.var (values code.structs x env r.args.now) below
+
+-- what is done next, where arguments are not evaluated yet
+abbrev pub step_in : Code → Plain → CodeStep → CodeStack → Act
+step_in code x StepOver s = Over
+step_in code x StepQuiet s = Quiet (stack_in s)
+step_in code x (StepMakes m) s = making_in code x m s.top.unit s.top.index (arguments s.top.env.items) (waits_in s.waits)
+step_in code x (StepWrites p value) s = Writes p value (stack_in s)
+step_in code x (StepReads r) s = reading_in code x r (arguments s.top.env.items) (waits_in s.waits)

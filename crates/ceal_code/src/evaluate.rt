@@ -198,10 +198,10 @@ impl<'a, P: PlainWords> Scope<'a, P> {
         ensures { IfOk result (λ words. words ≡ values self.now.structs.now
             (P.plain self.now.plain.now) (arguments self.now.env.now) es.now) }
     {
-        let mut words = Vec::with_capacity(alloc, es.len())?;
+        let mut words = Words::empty(alloc);
         for e in es {
             words.push(self.value(e))?;
         }
-        Ok(Words::from_vec(words))
+        Ok(words)
     }
 }

@@ -10,6 +10,7 @@
 //! trace leaves, item by item.
 #![tactic(auto)]
 
+mod binding;
 mod branches;
 mod check;
 pub mod code;
@@ -33,3 +34,4 @@ mod tree;
 mod typing;
 pub mod unit;
 pub mod validate;
+mod waits;

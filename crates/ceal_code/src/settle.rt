@@ -1,24 +1,24 @@
 // Which units of a stack are over.
 
-ghost use Rattle.std.specs.Prelude.{◌≡◌, unwrap_or, if◌then◌else◌, IfOk};
+ghost use Rattle.std.specs.Prelude.{◌≡◌, true, unwrap_or, if◌then◌else◌, IfOk, IfSome, OnOk};
 ghost use Rattle.std.specs.Option.{option_map};
 ghost use Rattle.ceal_code.specs.Init.{arguments};
-ghost use Rattle.ceal_code.specs.Stacks.{arrived};
-ghost use Rattle.ceal_code.specs.Step.{Stack, command_at, entered, landed, settled_at};
+ghost use Rattle.ceal_code.specs.Stacks.{waits_in, stack_in, landing, Stands};
+ghost use Rattle.ceal_code.specs.Step.{Stack as StackOf, Empty, command_at, entered, landed, settled_at, settled};
+ghost use Rattle.ceal_code.specs.Value.{values};
 ghost use Rattle.ceal_code.specs.declared.command.Cmd.TheVariants.{Done};
 
 use crate::code::Code;
 use crate::command::Cmd;
+use crate::expr::CodeExpr;
 use crate::plain_words::PlainWords;
-use crate::stack::Activation;
+use crate::stack::Stack;
 use ceal_base::forest::UnitId;
 use ceal_base::no_memory::NoMemory;
-use ceal_base::word::Word;
-use std::alloc::Global;
 
 /// Whether a tail call that arrives at this command runs on.
 fn runs_on(c: Option<&Cmd>) -> bool
-    ensures { (arrived rest : Stack) →
+    ensures { (arrived rest : StackOf) →
         landed (unwrap_or (option_map (λ c. c.now) c.entry) Done) arrived rest
         ≡ (if result then arrived else rest) }
 {
@@ -39,67 +39,103 @@ fn runs_on(c: Option<&Cmd>) -> bool
     }
 }
 
-/// The unit that a tail call enters, unless it is over at once.
-fn land(
-    alloc: Global,
-    code: &Code,
-    unit: UnitId,
-    words: &[Word],
-) -> Result<Option<Activation>, NoMemory>
-    ensures { IfOk result (λ found. (below rest : Stack) →
-        landed (command_at code.now unit.0 0) (entered code.now unit.0 words.now below) rest
-        ≡ arrived found below rest) }
-{
-    let at = unit.0 as usize;
-    if runs_on(code.command(at, 0)) {
-        let a = Activation::enter(alloc, code, at, words)?;
-        Ok(Some(a))
-    } else {
-        Ok(None)
-    }
-}
-
-fn arrive_at<P: PlainWords>(
-    code: &Code,
-    plain: &P,
-    top: Activation,
-    c: &Cmd,
-) -> Result<Option<Activation>, NoMemory>
-    ensures { IfOk result (λ found. (below rest : Stack) →
-        settled_at code.now (P.plain plain.now) c.now
-        top.unit top.index (arguments top.env.items) below rest
-        ≡ arrived found below rest) }
-{
-    match c {
-        Cmd::Done => Ok(None),
-        Cmd::Tail { unit, args } => {
-            let words = top.values(code, plain, args.items())?;
-            land(*top.env.allocator(), code, *unit, words.items())
+impl Stack {
+    /// The unit that a tail call enters runs, unless it is over at once.
+    fn land<'c, P: PlainWords>(
+        &mut self,
+        code: &'c Code,
+        plain: &P,
+        unit: UnitId,
+        args: &[CodeExpr],
+    ) -> Result<Option<&'c Cmd>, NoMemory>
+        ensures waits { OnOk result (self.new.waits ≡ self.old.waits) }
+        ensures lands { IfOk result (λ found. (rest : StackOf) →
+            landed (command_at code.now unit.0 0) (entered code.now unit.0
+            (values code.now.structs (P.plain plain.now)
+            (arguments self.old.top.env.items) args.now) (waits_in self.old.waits)) rest
+            ≡ landing found self.new rest) }
+        ensures command { IfOk result
+            (λ found. IfSome found (λ c. Stands code.now c.now self.new)) }
+    {
+        let at = unit.0 as usize;
+        let first = code.command(at, 0);
+        if !runs_on(first) {
+            return Ok(None);
         }
-        Cmd::Move { .. } => Ok(Some(top)),
-        Cmd::Tick => Ok(Some(top)),
-        Cmd::Alloc { .. } => Ok(Some(top)),
-        Cmd::Modref { .. } => Ok(Some(top)),
-        Cmd::Write { .. } => Ok(Some(top)),
-        Cmd::If { .. } => Ok(Some(top)),
-        Cmd::Read { .. } => Ok(Some(top)),
-        Cmd::Call { .. } => Ok(Some(top)),
+        self.go_to(code, plain, at, args)?;
+        Ok(first)
     }
-}
 
-/// A unit that was taken off the stack, or the one that it ends in a call of, unless it is over.
-pub fn arrive<P: PlainWords>(
-    code: &Code,
-    plain: &P,
-    top: Activation,
-) -> Result<Option<Activation>, NoMemory>
-    ensures arrives { IfOk result (λ found. (below rest : Stack) →
-        settled_at code.now (P.plain plain.now) (command_at code.now top.unit top.index)
-        top.unit top.index (arguments top.env.items) below rest
-        ≡ arrived found below rest) }
-{
-    match code.command(top.unit, top.index) {
-        None => Ok(None),
-        Some(c) => arrive_at(code, plain, top, c),
+    /// Does a command of the unit that runs, where it takes no step.
+    fn arrive_at<'c, P: PlainWords>(
+        &mut self,
+        code: &'c Code,
+        plain: &P,
+        c: &'c Cmd,
+    ) -> Result<Option<&'c Cmd>, NoMemory>
+        requires stands { Stands code.now c.now self.old }
+        ensures waits { OnOk result (self.new.waits ≡ self.old.waits) }
+        ensures arrives { IfOk result (λ found. (rest : StackOf) →
+            settled_at code.now (P.plain plain.now) c.now self.old.top.unit self.old.top.index
+            (arguments self.old.top.env.items) (waits_in self.old.waits) rest
+            ≡ landing found self.new rest) }
+        ensures command { IfOk result
+            (λ found. IfSome found (λ c. Stands code.now c.now self.new)) }
+    {
+        match c {
+            Cmd::Done => Ok(None),
+            Cmd::Tail { unit, args } => self.land(code, plain, *unit, args.items()),
+            Cmd::Move { .. } => Ok(Some(c)),
+            Cmd::Tick => Ok(Some(c)),
+            Cmd::Alloc { .. } => Ok(Some(c)),
+            Cmd::Modref { .. } => Ok(Some(c)),
+            Cmd::Write { .. } => Ok(Some(c)),
+            Cmd::If { .. } => Ok(Some(c)),
+            Cmd::Read { .. } => Ok(Some(c)),
+            Cmd::Call { .. } => Ok(Some(c)),
+        }
+    }
+
+    /// The command of the unit that runs, or of the one that it ends in a call of, unless it is over.
+    fn arrive<'c, P: PlainWords>(
+        &mut self,
+        code: &'c Code,
+        plain: &P,
+    ) -> Result<Option<&'c Cmd>, NoMemory>
+        requires runs { self.old.runs ≡ true }
+        ensures waits { OnOk result (self.new.waits ≡ self.old.waits) }
+        ensures arrives { IfOk result (λ found. (rest : StackOf) →
+            settled_at code.now (P.plain plain.now)
+            (command_at code.now self.old.top.unit self.old.top.index)
+            self.old.top.unit self.old.top.index (arguments self.old.top.env.items)
+            (waits_in self.old.waits) rest ≡ landing found self.new rest) }
+        ensures command { IfOk result
+            (λ found. IfSome found (λ c. Stands code.now c.now self.new)) }
+    {
+        match code.command(self.top.unit, self.top.index) {
+            None => Ok(None),
+            Some(c) => self.arrive_at(code, plain, c),
+        }
+    }
+
+    /// The command of the next step, and its unit runs; units before it are over.
+    pub(crate) fn settle<'c, P: PlainWords>(
+        &mut self,
+        code: &'c Code,
+        plain: &P,
+    ) -> Result<Option<&'c Cmd>, NoMemory>
+        ensures settled { IfOk result (λ found.
+            settled code.now (P.plain plain.now) (stack_in self.old)
+            ≡ landing found self.new Empty) }
+        ensures command { IfOk result
+            (λ found. IfSome found (λ c. Stands code.now c.now self.new)) }
+    {
+        while self.begin()? {
+            if let Some(c) = self.arrive(code, plain)? {
+                return Ok(Some(c));
+            }
+            self.leave();
+        }
+        Ok(None)
     }
 }

@@ -1,24 +1,24 @@
 // Units still to do, and the words that they begin with.
 
-ghost use Rattle.std.specs.Prelude.{◌≡◌, ◌∷◌, [], ◌++◌, ◌-◌, ◌+◌, ◌<◌, ◌≤◌, ◌==◌, length, replicate, min, slice_get, unwrap_or, Some, if◌then◌else◌, IfOk, OnOk};
+ghost use Rattle.std.specs.Prelude.{◌≡◌, ◌<◌, length, true, false, IfOk, OnOk};
 ghost use Rattle.std.specs.declared.alloc.Global.{Global as Allocator};
-ghost use Rattle.ceal_base.specs.declared.word.Word.{Word};
 ghost use Rattle.ceal_code.specs.Init.{arguments};
-ghost use Rattle.ceal_code.specs.Stacks.{over, units_in, stack_in, arrived};
-ghost use Rattle.ceal_code.specs.Step.{Empty, unit_at, bound, entered, chosen, started, first_word, later_words, woven, given, settled};
+ghost use Rattle.ceal_code.specs.Stacks.{over, waits_in, stack_in, left_in};
+ghost use Rattle.ceal_code.specs.Step.{Empty, Run, entered, started, given};
 ghost use Rattle.ceal_code.specs.Value.{set, expr_value, values};
-ghost use Rattle.ceal_code.specs.Weaving.{one_other, others};
 
+use crate::binding::{bind, bind_given, bind_values, choose, set_variable};
 use crate::code::Code;
 use crate::evaluate::Scope;
-use crate::expr::{CodeExpr, VarId};
+use crate::expr::CodeExpr;
 use crate::plain_words::PlainWords;
-use crate::settle::arrive;
+use crate::waits::Waits;
 use ceal_base::forest::UnitId;
 use ceal_base::no_memory::NoMemory;
 use ceal_base::word::{Place, Word};
 use ceal_base::words::Words;
 use std::alloc::Global;
+use std::mem;
 
 /// The closure of a read: the place that is read, the unit that goes on with its content, the variable of the unit that
 /// takes the content, and the arguments for the unit's other parameters.
@@ -38,229 +38,44 @@ pub struct Activation {
     pub env: Vec<Word>,
 }
 
-/// Units still to do, the running one last.
+/// Units still to do. One of them runs, or none; the others wait. What has room for the words of a unit keeps it.
 #[derive(Drop)]
 pub struct Stack {
-    units: Vec<Activation>,
-}
-
-/// Adds nulls up to this length.
-fn fill(env: &mut Vec<Word>, count: usize) -> Result<(), NoMemory>
-    ensures { OnOk result
-        (env.new.items ≡ env.old.items ++ replicate (count - length env.old.items) Word.Null) }
-{
-    if env.len() < count {
-        env.resize(count, Word::Null)?;
-    }
-    Ok(())
-}
-
-/// Gives a variable a word, behind those that there are.
-#[inline(never)]
-fn set_beyond(env: &mut Vec<Word>, v: u32, word: Word) -> Result<(), NoMemory>
-    ensures { OnOk result (arguments env.new.items ≡ set (arguments env.old.items) v word) }
-{
-    let at = v as usize;
-    fill(env, at + 1)?;
-    env[at] = word;
-    Ok(())
-}
-
-/// Gives a variable a word where there is one.
-fn set_there(env: &mut Vec<Word>, at: usize, word: Word)
-    requires { at < length env.old.items }
-    ensures { arguments env.new.items ≡ set (arguments env.old.items) at word }
-{
-    env[at] = word;
-}
-
-/// Gives a variable a word.
-fn set_variable(env: &mut Vec<Word>, v: u32, word: Word) -> Result<(), NoMemory>
-    ensures { OnOk result (arguments env.new.items ≡ set (arguments env.old.items) v word) }
-{
-    let at = v as usize;
-    if at < env.len() {
-        set_there(env, at, word);
-        return Ok(());
-    }
-    set_beyond(env, v, word)
-}
-
-fn param_at(params: &[VarId], i: usize) -> VarId
-    requires { i < length params.now }
-    ensures { slice_get params.now i ≡ Some result }
-{
-    params[i]
-}
-
-fn argument_at(words: &[Word], i: usize) -> Word
-    requires { i < length words.now }
-    ensures { slice_get words.now i ≡ Some result }
-{
-    words[i]
-}
-
-fn smaller(a: usize, b: usize) -> usize
-    ensures { result ≡ min a b }
-{
-    if a < b { a } else { b }
-}
-
-/// The words of parameters.
-#[tactic(auto, using(crate::proofs::StackSteps::bind_steps))]
-fn bind(alloc: Global, params: &[VarId], words: &[Word]) -> Result<Vec<Word>, NoMemory>
-    ensures { IfOk result (λ env. arguments env.items ≡ bound params.now words.now) }
-{
-    let mut env = Vec::new(alloc);
-    let mut i = smaller(params.len(), words.len());
-    while i > 0 {
-        i -= 1;
-        let p = param_at(params, i);
-        let word = argument_at(words, i);
-        set_variable(&mut env, p.0, word)?;
-    }
-    Ok(env)
-}
-
-fn argument(args: &[Word], p: VarId) -> Word
-    ensures { result ≡ unwrap_or (slice_get args.now p.0) Word.Null }
-{
-    match args.get(p.0 as usize) {
-        None => Word::Null,
-        Some(word) => *word,
-    }
-}
-
-/// The words of those parameters of a function that its entry unit has.
-#[tactic(auto, using(crate::proofs::StackSteps::choose_steps))]
-fn choose(alloc: Global, params: &[VarId], args: &[Word]) -> Result<Vec<Word>, NoMemory>
-    ensures { IfOk result (λ words. words.items ≡ chosen params.now args.now) }
-{
-    let mut words = Vec::new(alloc);
-    let mut params = params;
-    while let Some((p, more)) = params.split_first() {
-        words.push(argument(args, *p))?;
-        params = more;
-    }
-    Ok(words)
-}
-
-fn word_for(p: VarId, v: u32, value: Word, args: &[Word]) -> Word
-    ensures { result ≡ (if p.0 == v then value else first_word args.now) }
-{
-    if p.0 == v {
-        return value;
-    }
-    match args.split_first() {
-        None => Word::Null,
-        Some((first, _)) => *first,
-    }
-}
-
-fn args_after(p: VarId, v: u32, args: &[Word]) -> &[Word]
-    ensures { result.now ≡ (if p.0 == v then args.now else later_words args.now) }
-{
-    if p.0 == v {
-        return args;
-    }
-    match args.split_first() {
-        None => &[],
-        Some((_, later)) => later,
-    }
-}
-
-/// A word for each of the parameters: the value for the variable, and the arguments in turn for the others.
-#[tactic(auto, using(crate::proofs::StackSteps::weave_steps))]
-pub fn weave(
-    alloc: Global,
-    params: &[VarId],
-    v: u32,
-    value: Word,
-    args: &[Word],
-) -> Result<Vec<Word>, NoMemory>
-    ensures { IfOk result (λ words. words.items ≡ woven params.now v value args.now) }
-{
-    let mut words = Vec::new(alloc);
-    let mut params = params;
-    let mut args = args;
-    while let Some((p, more)) = params.split_first() {
-        words.push(word_for(*p, v, value, args))?;
-        args = args_after(*p, v, args);
-        params = more;
-    }
-    Ok(words)
-}
-
-fn other(p: VarId, v: u32) -> usize
-    ensures value { result ≡ one_other v p }
-    ensures small { result ≤ 1 }
-{
-    if p.0 == v { 0 } else { 1 }
-}
-
-/// How many of the parameters are not the variable.
-fn count_others(params: &[VarId], v: u32) -> usize
-    ensures { result ≡ others v params.now }
-{
-    let mut count = 0;
-    for i in 0..params.len() {
-        let p = param_at(params, i);
-        let one = other(p, v);
-        count += one;
-    }
-    count
-}
-
-/// The value for the variable, and the argument at an index for any other parameter.
-fn given_word(p: VarId, v: u32, value: Word, args: &[Word], at: usize) -> Word
-    ensures { result ≡ (if p.0 == v then value else unwrap_or (slice_get args.now at) Word.Null) }
-{
-    if p.0 == v {
-        return value;
-    }
-    match args.get(at) {
-        None => Word::Null,
-        Some(word) => *word,
-    }
-}
-
-/// The words of the parameters of a unit that goes on after a read. The last ones come first, as the last variable makes
-/// room for all.
-fn bind_given(
-    alloc: Global,
-    params: &[VarId],
-    v: u32,
-    value: Word,
-    args: &[Word],
-) -> Result<Vec<Word>, NoMemory>
-    ensures { IfOk result
-        (λ env. arguments env.items ≡ bound params.now (woven params.now v value args.now)) }
-{
-    let mut env = Vec::new(alloc);
-    let mut at = count_others(params, v);
-    let mut i = params.len();
-    while i > 0 {
-        i -= 1;
-        let p = param_at(params, i);
-        let one = other(p, v);
-        at -= one;
-        let word = given_word(p, v, value, args, at);
-        set_variable(&mut env, p.0, word)?;
-    }
-    Ok(env)
+    pub(crate) runs: bool,
+    pub(crate) top: Activation,
+    pub(crate) waits: Waits,
+    room: Vec<Word>,
 }
 
 impl Activation {
+    /// No unit, which has no words.
+    pub(crate) fn none(alloc: Global) -> Activation {
+        Activation {
+            unit: 0,
+            index: 0,
+            env: Vec::new(alloc),
+        }
+    }
+
+    /// What the expressions of the unit are evaluated in.
+    fn scope<'a, P: PlainWords>(&'a self, code: &'a Code, plain: &'a P) -> Scope<'a, P>
+        ensures structs { result.structs.now ≡ code.now.structs }
+        ensures plain { result.plain.now ≡ plain.now }
+        ensures env { result.env.now ≡ self.now.env.items }
+    {
+        Scope {
+            structs: code.structs.items(),
+            plain,
+            env: self.env.as_slice(),
+        }
+    }
+
     /// What an expression gives in the unit.
     pub fn value<P: PlainWords>(&self, code: &Code, plain: &P, e: &CodeExpr) -> Word
         ensures value { result ≡ expr_value code.now.structs
             (P.plain plain.now) (arguments self.now.env.items) e.now }
     {
-        let scope = Scope {
-            structs: code.structs.items(),
-            plain,
-            env: self.env.as_slice(),
-        };
+        let scope = self.scope(code, plain);
         scope.value(e)
     }
 
@@ -274,55 +89,8 @@ impl Activation {
         ensures value { IfOk result (λ words. words ≡ values code.now.structs
             (P.plain plain.now) (arguments self.now.env.items) es.now) }
     {
-        let scope = Scope {
-            structs: code.structs.items(),
-            plain,
-            env: self.env.as_slice(),
-        };
+        let scope = self.scope(code, plain);
         scope.values(*self.env.allocator(), es)
-    }
-
-    /// The unit of this number at its beginning, with a word for each of its parameters.
-    pub fn enter(
-        alloc: Global,
-        code: &Code,
-        unit: usize,
-        words: &[Word],
-    ) -> Result<Activation, NoMemory>
-        ensures unit { IfOk result (λ a. a.unit ≡ unit) }
-        ensures index { IfOk result (λ a. a.index ≡ 0) }
-        ensures env { IfOk result
-            (λ a. arguments a.env.items ≡ bound (unit_at code.now unit).params words.now) }
-    {
-        let env = bind(alloc, code.params_of(unit), words)?;
-        Ok(Activation {
-            unit,
-            index: 0,
-            env,
-        })
-    }
-
-    /// The unit that goes on after a read, at its beginning, with the content that was read.
-    fn resumed(
-        alloc: Global,
-        code: &Code,
-        closure: &Closure,
-        value: Word,
-    ) -> Result<Activation, NoMemory>
-        ensures unit { IfOk result (λ a. a.unit ≡ closure.now.unit.0) }
-        ensures index { IfOk result (λ a. a.index ≡ 0) }
-        ensures env { IfOk result (λ a. arguments a.env.items
-            ≡ bound (unit_at code.now closure.now.unit.0).params (given code.now closure.now.unit.0
-            closure.now.var closure.now.args value)) }
-    {
-        let unit = closure.unit.0 as usize;
-        let params = code.params_of(unit);
-        let env = bind_given(alloc, params, closure.var, value, closure.args.items())?;
-        Ok(Activation {
-            unit,
-            index: 0,
-            env,
-        })
     }
 
     /// Gives a variable a word.
@@ -338,12 +106,15 @@ impl Activation {
 
 impl Stack {
     /// With no unit.
-    #[tactic(auto, using(crate::proofs::StackSteps::stack_steps), unfolding(crate::specs::Stacks::stack_in))]
+    #[tactic(auto, unfolding(crate::specs::Stacks::stack_in))]
     pub fn empty(alloc: Global) -> Stack
         ensures empty { stack_in result ≡ Empty }
     {
         Stack {
-            units: Vec::new(alloc),
+            runs: false,
+            top: Activation::none(alloc),
+            waits: Waits::empty(alloc),
+            room: Vec::new(alloc),
         }
     }
 
@@ -351,16 +122,45 @@ impl Stack {
     pub fn allocator(&self) -> Global
         ensures only { (other : Allocator) → result ≡ other }
     {
-        *self.units.allocator()
+        *self.room.allocator()
+    }
+
+    /// The unit that runs, if one does, waits from now on.
+    #[tactic(auto, unfolding(crate::specs::Stacks::stack_in))]
+    fn park(&mut self) -> Result<(), NoMemory>
+        ensures waits { OnOk result (waits_in self.new.waits ≡ stack_in self.old) }
+    {
+        if self.runs {
+            self.waits
+                .push(self.top.unit, self.top.index, self.top.env.as_slice())?;
+        }
+        Ok(())
     }
 
     /// Puts a unit on the stack, which then runs.
-    #[tactic(auto, using(crate::proofs::StackSteps::stack_steps), unfolding(crate::specs::Stacks::stack_in))]
+    #[tactic(auto, unfolding(crate::specs::Stacks::stack_in))]
     pub fn push(&mut self, unit: Activation) -> Result<(), NoMemory>
         ensures pushed { OnOk result (stack_in self.new ≡ over unit (stack_in self.old)) }
     {
-        self.units.push(unit)?;
+        self.park()?;
+        drop(mem::replace(&mut self.top, unit));
+        self.runs = true;
         Ok(())
+    }
+
+    /// The unit of this number runs from its beginning, on the words that there are, over the units that wait.
+    #[tactic(auto, unfolding(crate::specs::Stacks::stack_in))]
+    pub(crate) fn begin_at(&mut self, unit: usize)
+        ensures runs { self.new.runs ≡ true }
+        ensures unit { self.new.top.unit ≡ unit }
+        ensures index { self.new.top.index ≡ 0 }
+        ensures waits { self.new.waits ≡ self.old.waits }
+        ensures begun { stack_in self.new
+            ≡ Run unit 0 (arguments self.old.top.env.items) (waits_in self.old.waits) }
+    {
+        self.top.unit = unit;
+        self.top.index = 0;
+        self.runs = true;
     }
 
     /// Puts the unit of this number on the stack at its beginning, with a word for each of its parameters.
@@ -368,9 +168,10 @@ impl Stack {
         ensures entered { OnOk result
             (stack_in self.new ≡ entered code.now unit words.now (stack_in self.old)) }
     {
-        let alloc = *self.units.allocator();
-        let unit = Activation::enter(alloc, code, unit, words)?;
-        self.push(unit)
+        self.park()?;
+        bind(&mut self.top.env, code.params_of(unit), words)?;
+        self.begin_at(unit);
+        Ok(())
     }
 
     /// Puts the unit that goes on after a read on the stack, with the content that was read.
@@ -379,9 +180,13 @@ impl Stack {
             (given code.now closure.now.unit.0 closure.now.var closure.now.args value)
             (stack_in self.old)) }
     {
-        let alloc = *self.units.allocator();
-        let unit = Activation::resumed(alloc, code, closure, value)?;
-        self.push(unit)
+        self.park()?;
+        let unit = closure.unit.0 as usize;
+        let params = code.params_of(unit);
+        let env = &mut self.top.env;
+        bind_given(env, params, closure.var, value, closure.args.items())?;
+        self.begin_at(unit);
+        Ok(())
     }
 
     /// A call of the function by itself, on words for all its parameters.
@@ -396,23 +201,137 @@ impl Stack {
         Ok(stack)
     }
 
-    /// Takes the unit off the stack that takes the next step; units before it are over.
-    #[tactic(auto, using(crate::proofs::StackSteps::stack_steps), unfolding(crate::specs::Stacks::stack_in))]
-    pub fn settle<P: PlainWords>(
+    /// The unit of this number waits, with what the expressions give in the unit that runs.
+    pub(crate) fn wait<P: PlainWords>(
         &mut self,
         code: &Code,
         plain: &P,
-    ) -> Result<Option<Activation>, NoMemory>
-        ensures settled { IfOk result (λ found.
-            settled code.now (P.plain plain.now) (stack_in self.old)
-            ≡ arrived found (stack_in self.new) Empty) }
+        unit: usize,
+        es: &[CodeExpr],
+    ) -> Result<(), NoMemory>
+        ensures top { OnOk result (self.new.top ≡ self.old.top) }
+        ensures waits { OnOk result (waits_in self.new.waits ≡ entered code.now unit
+            (values code.now.structs (P.plain plain.now)
+            (arguments self.old.top.env.items) es.now) (waits_in self.old.waits)) }
     {
-        while let Some(top) = self.units.pop() {
-            match arrive(code, plain, top)? {
-                None => {}
-                Some(found) => return Ok(Some(found)),
-            }
+        let scope = self.top.scope(code, plain);
+        bind_values(&scope, &mut self.room, code.params_of(unit), es)?;
+        self.waits.push(unit, 0, self.room.as_slice())
+    }
+
+    /// The unit that runs is left for the one of this number, with what the expressions give in it.
+    pub(crate) fn go_to<P: PlainWords>(
+        &mut self,
+        code: &Code,
+        plain: &P,
+        unit: usize,
+        es: &[CodeExpr],
+    ) -> Result<(), NoMemory>
+        ensures runs { OnOk result (self.new.runs ≡ true) }
+        ensures unit { OnOk result (self.new.top.unit ≡ unit) }
+        ensures index { OnOk result (self.new.top.index ≡ 0) }
+        ensures waits { OnOk result (self.new.waits ≡ self.old.waits) }
+        ensures entered { OnOk result (stack_in self.new ≡ entered code.now unit
+            (values code.now.structs (P.plain plain.now)
+            (arguments self.old.top.env.items) es.now) (waits_in self.old.waits)) }
+    {
+        let scope = self.top.scope(code, plain);
+        bind_values(&scope, &mut self.room, code.params_of(unit), es)?;
+        mem::swap(&mut self.top.env, &mut self.room);
+        self.begin_at(unit);
+        Ok(())
+    }
+
+    /// The unit that runs goes on at this index.
+    #[tactic(auto, unfolding(crate::specs::Stacks::stack_in))]
+    pub(crate) fn jump(&mut self, index: usize)
+        requires runs { self.old.runs ≡ true }
+        ensures jumped { stack_in self.new ≡ Run self.old.top.unit index
+            (arguments self.old.top.env.items) (waits_in self.old.waits) }
+    {
+        self.top.index = index;
+    }
+
+    /// The unit that runs is over.
+    #[tactic(auto, unfolding(crate::specs::Stacks::stack_in))]
+    pub(crate) fn leave(&mut self)
+        ensures left { stack_in self.new ≡ waits_in self.old.waits }
+        ensures waits { self.new.waits ≡ self.old.waits }
+        ensures fewer { left_in self.new ≡ length self.old.waits.units.items }
+    {
+        self.runs = false;
+    }
+
+    /// Takes the unit that runs off the stack.
+    #[tactic(auto, unfolding(crate::specs::Stacks::stack_in))]
+    pub(crate) fn take_top(&mut self) -> Activation
+        ensures unit { result ≡ self.old.top }
+        ensures left { stack_in self.new ≡ waits_in self.old.waits }
+    {
+        self.runs = false;
+        let none = Activation::none(*self.room.allocator());
+        mem::replace(&mut self.top, none)
+    }
+
+    /// Takes all units off the stack, which keeps its room.
+    #[tactic(auto, unfolding(crate::specs::Stacks::stack_in))]
+    pub fn clear(&mut self)
+        ensures cleared { stack_in self.new ≡ Empty }
+    {
+        self.runs = false;
+        self.waits.clear();
+    }
+
+    /// With no unit, and with the room that this one has for the unit that runs; the units of this one stay.
+    #[tactic(auto, unfolding(crate::specs::Stacks::stack_in))]
+    pub fn spare(&mut self) -> Result<Stack, NoMemory>
+        ensures empty { IfOk result (λ spare. stack_in spare ≡ Empty) }
+        ensures stays { OnOk result (stack_in self.new ≡ stack_in self.old) }
+    {
+        let below = self.set_aside()?;
+        Ok(mem::replace(self, below))
+    }
+
+    /// Takes the units off the stack, which keeps its room: others can run now, and these afterwards.
+    #[tactic(auto, unfolding(crate::specs::Stacks::stack_in))]
+    pub fn set_aside(&mut self) -> Result<Stack, NoMemory>
+        ensures aside { IfOk result (λ below. stack_in below ≡ stack_in self.old) }
+        ensures empty { OnOk result (stack_in self.new ≡ Empty) }
+    {
+        self.park()?;
+        self.runs = false;
+        let mut below = Stack::empty(*self.room.allocator());
+        below.waits = self.waits.take();
+        Ok(below)
+    }
+
+    /// Puts units that were taken off in place of those that there are.
+    #[tactic(auto, unfolding(crate::specs::Stacks::stack_in))]
+    pub fn bring_back(&mut self, below: Stack) -> Result<(), NoMemory>
+        ensures back { OnOk result (stack_in self.new ≡ stack_in below) }
+    {
+        let mut below = below;
+        let parked = below.park();
+        let Stack { waits, .. } = below;
+        self.waits.put(waits);
+        self.runs = false;
+        parked
+    }
+
+    /// Some unit runs; it answers false where there is none.
+    #[tactic(auto, unfolding(crate::specs::Stacks::stack_in))]
+    pub(crate) fn begin(&mut self) -> Result<bool, NoMemory>
+        ensures same { OnOk result (stack_in self.new ≡ stack_in self.old) }
+        ensures runs { IfOk result (λ more. self.new.runs ≡ more) }
+        ensures none { IfOk result (λ more. more ≡ false → stack_in self.old ≡ Empty) }
+        ensures fewer { IfOk result
+            (λ more. more ≡ true → length self.new.waits.units.items < left_in self.old) }
+    {
+        if self.runs {
+            return Ok(true);
         }
-        Ok(None)
+        let more = self.waits.pop(&mut self.top)?;
+        self.runs = more;
+        Ok(more)
     }
 }

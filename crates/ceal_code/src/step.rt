@@ -1,20 +1,25 @@
 // The next step of a stack.
 
-ghost use Rattle.std.specs.Prelude.{◌≡◌, ◌<◌, ◌^◌, true, if◌then◌else◌, IfOk, OnOk};
+ghost use Rattle.std.specs.Prelude.{◌≡◌, ◌+◌, ◌<◌, ◌^◌, true, if◌then◌else◌, IfOk, OnOk};
 ghost use Rattle.ceal_base.specs.Access.{holds};
-ghost use Rattle.ceal_code.specs.Stacks.{stack_in, act_in, act_on, ends, Does};
-ghost use Rattle.ceal_code.specs.Step.{Quiet, variable_default, entered, given, key_of, place_of, next};
+ghost use Rattle.ceal_code.specs.Init.{arguments};
+ghost use Rattle.ceal_code.specs.Program.{Code as Parts};
+ghost use Rattle.ceal_code.specs.Stacks.{waits_in, stack_in, act_in, act_on, key_made, making_in, reading_in, step_in};
+ghost use Rattle.ceal_code.specs.Step.{Run, variable_default, entered, given, key_of, place_of, writes_at, next};
+ghost use Rattle.ceal_code.specs.Value.{Plain, set, values};
+ghost use Rattle.ceal_code.specs.declared.step.Act.TheVariants.{Makes as IsMakes, Reads as IsReads};
 
+use crate::binding::bind_given;
 use crate::code::Code;
 use crate::command::Cmd;
+use crate::expr::{CodeExprs, VarId};
 use crate::plain_words::PlainWords;
-use crate::stack::{Activation, Closure, Stack, weave};
+use crate::stack::{Activation, Closure, Stack};
 use ceal_base::access::is_true;
-use ceal_base::forest::Key;
+use ceal_base::forest::{Key, UnitId};
 use ceal_base::kind::Shape;
 use ceal_base::no_memory::NoMemory;
 use ceal_base::word::{Place, Word};
-use ceal_base::words::Words;
 
 /// What the next step is; the stack is that after it.
 #[derive(Drop)]
@@ -37,14 +42,37 @@ pub enum Act {
     Reads(Closure),
 }
 
-/// What a command does to the unit that it stands in.
-#[derive(Drop)]
-enum Local {
-    /// the unit is left
-    Leaves,
+/// What makes a block: an initialiser, whose arguments are not evaluated yet, or the shape of a modifiable.
+#[derive(Clone, Copy)]
+pub enum Maker<'c> {
+    Init { function: u32, args: &'c CodeExprs },
+    Modref(Shape),
+}
+
+/// A block that is made; the variable of the unit that runs gets it.
+#[derive(Clone, Copy)]
+pub struct Making<'c> {
+    pub maker: Maker<'c>,
+    pub var: u32,
+}
+
+/// A read, whose arguments are not evaluated yet.
+#[derive(Clone, Copy)]
+pub struct Reading<'c> {
+    pub place: Place,
+    pub unit: UnitId,
+    pub var: u32,
+    pub args: &'c CodeExprs,
+}
+
+/// What the next step is. Its arguments are evaluated when they are asked for: in the unit that runs, which is still there.
+#[derive(Clone, Copy)]
+pub enum Step<'c> {
+    Over,
     Quiet,
-    Makes { key: Key, var: u32 },
+    Makes(Making<'c>),
     Writes { place: Place, value: Word },
+    Reads(Reading<'c>),
 }
 
 /// What a read through null gives to a variable of the unit's function.
@@ -78,29 +106,6 @@ fn place_at(at: Word) -> Option<Place>
     }
 }
 
-/// A read through null: the unit goes on with the default at once.
-fn null_read(
-    code: &Code,
-    stack: &mut Stack,
-    unit: usize,
-    v: u32,
-    args: Words,
-) -> Result<Act, NoMemory>
-    ensures { IfOk result (λ a. act_in a (stack_in stack.new) ≡ Quiet (entered code.now unit
-        (given code.now unit v args (variable_default code.now unit v)) (stack_in stack.old))) }
-{
-    let value = null_content(code, unit, v);
-    let words = weave(
-        stack.allocator(),
-        code.params_of(unit),
-        v,
-        value,
-        args.items(),
-    )?;
-    stack.enter(code, unit, words.as_slice())?;
-    Ok(Act::Quiet)
-}
-
 fn target(test: Word, yes: u32, no: u32) -> usize
     ensures { result ≡ (if holds test then yes else no) }
 {
@@ -111,175 +116,258 @@ fn target(test: Word, yes: u32, no: u32) -> usize
     }
 }
 
-/// Does a command after which the unit goes on.
-fn go_on<P: PlainWords>(
+/// Gives a variable a word.
+fn assign(stack: &mut Stack, v: u32, word: Word) -> Result<(), NoMemory>
+    requires index { stack.old.top.index < 2 ^ 63 }
+    requires runs { stack.old.runs ≡ true }
+    ensures { OnOk result (stack_in stack.new ≡ Run stack.old.top.unit (stack.old.top.index + 1)
+        (set (arguments stack.old.top.env.items) v word) (waits_in stack.old.waits)) }
+{
+    stack.top.set(v, word)?;
+    stack.jump(stack.top.index + 1);
+    Ok(())
+}
+
+/// Makes a block.
+fn make<'c>(stack: &mut Stack, making: Making<'c>) -> Step<'c>
+    requires index { stack.old.top.index < 2 ^ 63 }
+    ensures { (code : Parts) (x : Plain) → step_in code x result stack.new
+        ≡ making_in code x making.entry stack.old.top.unit (stack.old.top.index + 1)
+        (arguments stack.old.top.env.items) (waits_in stack.old.waits) }
+{
+    stack.top.index += 1;
+    Step::Makes(making)
+}
+
+/// Writes at a place, if the word is one.
+fn write<'c>(stack: &mut Stack, at: Word, value: Word) -> Step<'c>
+    requires index { stack.old.top.index < 2 ^ 63 }
+    requires runs { stack.old.runs ≡ true }
+    ensures { (code : Parts) (x : Plain) → step_in code x result stack.new
+        ≡ writes_at (place_of at) value (Run stack.old.top.unit (stack.old.top.index + 1)
+        (arguments stack.old.top.env.items) (waits_in stack.old.waits)) }
+{
+    stack.jump(stack.top.index + 1);
+    match place_at(at) {
+        None => Step::Quiet,
+        Some(place) => Step::Writes { place, value },
+    }
+}
+
+/// A read through null: the unit goes on with the default at once.
+fn read_null(
+    code: &Code,
+    stack: &mut Stack,
+    unit: usize,
+    v: u32,
+    args: &[Word],
+) -> Result<(), NoMemory>
+    ensures { OnOk result (stack_in stack.new ≡ entered code.now unit
+        (given code.now unit v args.now (variable_default code.now unit v))
+        (waits_in stack.old.waits)) }
+{
+    let value = null_content(code, unit, v);
+    bind_given(&mut stack.top.env, code.params_of(unit), v, value, args)?;
+    stack.begin_at(unit);
+    Ok(())
+}
+
+/// A read by a command through null.
+fn read_nothing<P: PlainWords>(
     code: &Code,
     plain: &P,
-    top: &mut Activation,
-    c: &Cmd,
-) -> Result<Local, NoMemory>
-    requires { top.old.index < 2 ^ 63 }
-    ensures does { IfOk result
-        (λ l. Does code.now (P.plain plain.now) c.now top.old l top.new) }
+    stack: &mut Stack,
+    unit: UnitId,
+    var: VarId,
+    args: &CodeExprs,
+) -> Result<(), NoMemory>
+    ensures { OnOk result (stack_in stack.new ≡ entered code.now unit.0
+        (given code.now unit.0 var.0 (values code.now.structs (P.plain plain.now)
+        (arguments stack.old.top.env.items) args.now) (variable_default code.now unit.0 var.0))
+        (waits_in stack.old.waits)) }
+{
+    let words = stack.top.values(code, plain, args.items())?;
+    let begun = read_null(code, stack, unit.0 as usize, var.0, words.items());
+    drop(words);
+    begun
+}
+
+/// Does a command of the unit that runs.
+fn perform<'c, P: PlainWords>(
+    code: &Code,
+    plain: &P,
+    stack: &mut Stack,
+    c: &'c Cmd,
+) -> Result<Step<'c>, NoMemory>
+    requires index { stack.old.top.index < 2 ^ 63 }
+    requires runs { stack.old.runs ≡ true }
+    ensures { IfOk result (λ s. act_on code.now (P.plain plain.now) c.now
+        stack.old.top (waits_in stack.old.waits)
+        ≡ step_in code.now (P.plain plain.now) s stack.new) }
 {
     match c {
         Cmd::Move { var, value } => {
-            let word = top.value(code, plain, value);
-            top.set(var.0, word)?;
-            top.index += 1;
-            Ok(Local::Quiet)
+            let word = stack.top.value(code, plain, value);
+            assign(stack, var.0, word)?;
+            Ok(Step::Quiet)
         }
         Cmd::Tick => {
-            top.index += 1;
-            Ok(Local::Quiet)
+            stack.jump(stack.top.index + 1);
+            Ok(Step::Quiet)
         }
         Cmd::Alloc {
             var,
             function,
             args,
         } => {
-            let args = top.values(code, plain, args.items())?;
-            top.index += 1;
-            Ok(Local::Makes {
-                key: Key::Init {
-                    function: *function,
-                    args,
-                },
-                var: var.0,
-            })
+            let maker = Maker::Init {
+                function: *function,
+                args,
+            };
+            Ok(make(stack, Making { maker, var: var.0 }))
         }
         Cmd::Modref { var, shape } => {
-            top.index += 1;
-            Ok(Local::Makes {
-                key: key_for(*shape),
-                var: var.0,
-            })
+            let maker = Maker::Modref(*shape);
+            Ok(make(stack, Making { maker, var: var.0 }))
         }
         Cmd::Write { place, value } => {
-            let at = top.value(code, plain, place);
-            let word = top.value(code, plain, value);
-            top.index += 1;
-            match place_at(at) {
-                None => Ok(Local::Quiet),
-                Some(place) => Ok(Local::Writes { place, value: word }),
-            }
+            let at = stack.top.value(code, plain, place);
+            let word = stack.top.value(code, plain, value);
+            Ok(write(stack, at, word))
         }
         Cmd::If { test, yes, no } => {
-            top.index = target(top.value(code, plain, test), *yes, *no);
-            Ok(Local::Quiet)
+            let test = stack.top.value(code, plain, test);
+            stack.jump(target(test, *yes, *no));
+            Ok(Step::Quiet)
         }
-        Cmd::Done => Ok(Local::Leaves),
-        Cmd::Tail { .. } => Ok(Local::Leaves),
-        Cmd::Read { .. } => Ok(Local::Leaves),
-        Cmd::Call { .. } => Ok(Local::Leaves),
-    }
-}
-
-/// Puts a unit on the stack at its beginning, with these words for its parameters.
-fn enter_with(code: &Code, stack: &mut Stack, unit: usize, words: Words) -> Result<(), NoMemory>
-    ensures { OnOk result (stack_in stack.new ≡ entered code.now unit words (stack_in stack.old)) }
-{
-    let entered = stack.enter(code, unit, words.items());
-    drop(words);
-    entered
-}
-
-/// Does a command that ends the unit's path; the unit is no more on the stack.
-fn leave<P: PlainWords>(
-    code: &Code,
-    plain: &P,
-    stack: &mut Stack,
-    top: &Activation,
-    c: &Cmd,
-) -> Result<Act, NoMemory>
-    requires ends { ends c.now ≡ true }
-    ensures act { IfOk result (λ a. act_in a (stack_in stack.new)
-        ≡ act_on code.now (P.plain plain.now) c.now top.now (stack_in stack.old)) }
-{
-    match c {
+        Cmd::Done => Ok(Step::Over),
+        Cmd::Tail { .. } => Ok(Step::Over),
         Cmd::Read {
             var,
             place,
             unit,
             args,
-        } => {
-            let at = top.value(code, plain, place);
-            let args = top.values(code, plain, args.items())?;
-            match place_at(at) {
-                None => null_read(code, stack, unit.0 as usize, var.0, args),
-                Some(place) => Ok(Act::Reads(Closure {
-                    place,
-                    unit: *unit,
-                    var: var.0,
-                    args,
-                })),
+        } => match place_at(stack.top.value(code, plain, place)) {
+            None => {
+                read_nothing(code, plain, stack, *unit, *var, args)?;
+                Ok(Step::Quiet)
             }
-        }
+            Some(place) => Ok(Step::Reads(Reading {
+                place,
+                unit: *unit,
+                var: var.0,
+                args,
+            })),
+        },
         Cmd::Call {
             function,
             args,
             unit,
             rest,
         } => {
-            let rest = top.values(code, plain, rest.items())?;
-            enter_with(code, stack, unit.0 as usize, rest)?;
-            let args = top.values(code, plain, args.items())?;
-            enter_with(code, stack, code.entry_of(*function), args)?;
-            Ok(Act::Quiet)
+            stack.wait(code, plain, unit.0 as usize, rest.items())?;
+            stack.go_to(code, plain, code.entry_of(*function), args.items())?;
+            Ok(Step::Quiet)
         }
-        Cmd::Done => Ok(Act::Over),
-        Cmd::Tail { .. } => Ok(Act::Over),
-        Cmd::Move { .. } => Ok(Act::Over),
-        Cmd::Tick => Ok(Act::Over),
-        Cmd::Alloc { .. } => Ok(Act::Over),
-        Cmd::Modref { .. } => Ok(Act::Over),
-        Cmd::Write { .. } => Ok(Act::Over),
-        Cmd::If { .. } => Ok(Act::Over),
     }
 }
 
-/// Does a command of a unit that was taken off the stack.
-fn perform<P: PlainWords>(
-    code: &Code,
-    plain: &P,
-    stack: &mut Stack,
-    top: Activation,
-    c: &Cmd,
-) -> Result<Act, NoMemory>
-    requires { top.index < 2 ^ 63 }
-    ensures { IfOk result (λ a. act_in a (stack_in stack.new)
-        ≡ act_on code.now (P.plain plain.now) c.now top (stack_in stack.old)) }
-{
-    let mut top = top;
-    match go_on(code, plain, &mut top, c)? {
-        Local::Leaves => leave(code, plain, stack, &top, c),
-        Local::Quiet => {
-            stack.push(top)?;
-            Ok(Act::Quiet)
+impl Stack {
+    /// The next step of the stack, which is that after it; a block that is made and a read are to be taken from it. After
+    /// want of memory it is of no further use.
+    #[tactic(auto, unfolding(crate::specs::Step::next))]
+    pub fn step<'c, P: PlainWords>(
+        &mut self,
+        code: &'c Code,
+        plain: &P,
+    ) -> Result<Step<'c>, NoMemory>
+        ensures step { IfOk result (λ s. next code.now (P.plain plain.now) (stack_in self.old)
+            ≡ step_in code.now (P.plain plain.now) s self.new) }
+    {
+        match self.settle(code, plain)? {
+            None => Ok(Step::Over),
+            Some(c) => perform(code, plain, self, c),
         }
-        Local::Makes { key, var } => Ok(Act::Makes {
-            key,
-            var,
-            unit: top,
-        }),
-        Local::Writes { place, value } => {
-            stack.push(top)?;
-            Ok(Act::Writes { place, value })
+    }
+
+    /// The key of the block that is made.
+    fn key_by<P: PlainWords>(
+        &self,
+        code: &Code,
+        plain: &P,
+        maker: Maker<'_>,
+    ) -> Result<Key, NoMemory>
+        ensures key { IfOk result (λ key. key ≡ key_made code.now (P.plain plain.now) maker.entry
+            (arguments self.now.top.env.items)) }
+    {
+        match maker {
+            Maker::Init { function, args } => {
+                let args = self.top.values(code, plain, args.items())?;
+                Ok(Key::Init { function, args })
+            }
+            Maker::Modref(shape) => Ok(key_for(shape)),
         }
+    }
+
+    /// Takes the key of the block that is made, and the unit that it is for; the unit goes on over the stack.
+    pub fn made<P: PlainWords>(
+        &mut self,
+        code: &Code,
+        plain: &P,
+        making: Making<'_>,
+    ) -> Result<(Key, Activation), NoMemory>
+        ensures made { IfOk result (λ m.
+            making_in code.now (P.plain plain.now) making.entry self.old.top.unit self.old.top.index
+            (arguments self.old.top.env.items) (waits_in self.old.waits)
+            ≡ act_in (IsMakes m.0 making.entry.var m.1) (stack_in self.new)) }
+    {
+        let key = self.key_by(code, plain, making.maker)?;
+        Ok((key, self.take_top()))
+    }
+
+    /// Takes the closure of a read; the stack comes after it.
+    pub fn closure<P: PlainWords>(
+        &mut self,
+        code: &Code,
+        plain: &P,
+        reading: Reading<'_>,
+    ) -> Result<Closure, NoMemory>
+        ensures closure { IfOk result (λ c.
+            reading_in code.now (P.plain plain.now) reading.entry
+            (arguments self.old.top.env.items) (waits_in self.old.waits)
+            ≡ act_in (IsReads c) (stack_in self.new)) }
+    {
+        let args = self.top.values(code, plain, reading.args.items())?;
+        self.leave();
+        Ok(Closure {
+            place: reading.place,
+            unit: reading.unit,
+            var: reading.var,
+            args,
+        })
     }
 }
 
 /// The next step of the stack. After want of memory the stack is of no further use.
-#[tactic(auto, unfolding(crate::specs::Step::next))]
 pub fn advance<P: PlainWords>(code: &Code, plain: &P, stack: &mut Stack) -> Result<Act, NoMemory>
     ensures act { IfOk result (λ a. next code.now (P.plain plain.now) (stack_in stack.old)
         ≡ act_in a (stack_in stack.new)) }
 {
-    let Some(top) = stack.settle(code, plain)? else {
-        return Ok(Act::Over);
-    };
-    match code.command(top.unit, top.index) {
-        None => Ok(Act::Over),
-        Some(c) => perform(code, plain, stack, top, c),
+    match stack.step(code, plain)? {
+        Step::Over => Ok(Act::Over),
+        Step::Quiet => Ok(Act::Quiet),
+        Step::Makes(making) => {
+            let (key, unit) = stack.made(code, plain, making)?;
+            Ok(Act::Makes {
+                key,
+                var: making.var,
+                unit,
+            })
+        }
+        Step::Writes { place, value } => Ok(Act::Writes { place, value }),
+        Step::Reads(reading) => {
+            let closure = stack.closure(code, plain, reading)?;
+            Ok(Act::Reads(closure))
+        }
     }
 }

@@ -11,4 +11,4 @@ loop-e-preserved g c =
       ← c.e-item.is,
       ← c.loop-e.invariant,
       ← c.value.ensures.value,
-    ) c.in_ok-push.ensures.items
+    ) c.in_ok-push.ensures.ok

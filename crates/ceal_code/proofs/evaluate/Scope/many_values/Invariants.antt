@@ -5,4 +5,4 @@ use Rattle.ceal_code.proofs.evaluate.Scope.many_values.Given as goal
 
 abbrev pub invariant-loop-e : goal.invariant-loop-e
 invariant-loop-e g l =
-    l.words.items ≡ values l.self.structs.now (g.P.PlainWords.plain l.self.plain.now) (arguments l.self.env.now) (take l.e-index l.es)
+    l.words ≡ values l.self.structs.now (g.P.PlainWords.plain l.self.plain.now) (arguments l.self.env.now) (take l.e-index l.es)

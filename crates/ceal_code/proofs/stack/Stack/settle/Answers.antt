@@ -1,24 +1,26 @@
-use Rattle.std.proofs.Common.{sym, ◌∙◌, arith}
-use Rattle.ceal_code.proofs.StackSteps.{settle-next, settle-found, settle-none}
-use Rattle.ceal_code.specs.Stacks.{stack_in}
+use Rattle.std.proofs.Common.{sym, ap, ◌∙◌}
+use Rattle.ceal_code.proofs.WaitSteps.{settle-over, settle-found, settle-none}
+use Rattle.ceal_code.specs.Stacks.{waits_in, stack_in}
+use Rattle.ceal_code.specs.Step.{settled}
 use Rattle.ceal_code.proofs.stack.Stack.settle.Goals as goal
 
-pub loop-top-preserved : goal.loop-top-preserved
-loop-top-preserved g c =
-    settle-next c.args.code.now (g.P.PlainWords.plain c.args.plain.now) c.loop-top.self.units.items c.pop.new.self.items c.in-Some.top c.in-Some.ensures.items
-    (λ below rest. rw c.in-None.is at (c.in_ok-arrive.ensures.arrives below rest))
-    ∙ c.loop-top.invariant
+pub returns-in-Some-clause-settled : goal.returns-in-Some-clause-settled
+returns-in-Some-clause-settled g c =
+    sym c.loop-self.invariant
+    ∙ (ap (settled c.args.code.now (g.P.PlainWords.plain c.args.plain.now)) (sym c.in_ok-begin.ensures.same)
+    ∙ settle-found c.args.code.now (g.P.PlainWords.plain c.args.plain.now) c.begin.new.self (stack_in c.arrive.new.self) (c.in_ok-begin.ensures.runs ∙ c.if-branch.true)
+    (λ rest. rw c.in-Some.is at (c.in_ok-c.ensures.arrives rest)))
 
-pub returns-in-Some-2 : goal.returns-in-Some-2
-unfolding stack_in
-returns-in-Some-2 g c = record {
-  settled = sym c.loop-top.invariant
-      ∙ settle-found c.args.code.now (g.P.PlainWords.plain c.args.plain.now) c.loop-top.self.units.items c.pop.new.self.items c.in-Some.top c.in-Some-2.found c.in-Some.ensures.items
-      (λ below rest. rw c.in-Some-2.is at (c.in_ok-arrive.ensures.arrives below rest));
-}
+pub loop-self-preserved : goal.loop-self-preserved
+loop-self-preserved g c =
+    ap (settled c.args.code.now (g.P.PlainWords.plain c.args.plain.now)) c.leave.ensures.left
+    ∙ (ap (λ w. settled c.args.code.now (g.P.PlainWords.plain c.args.plain.now) (waits_in w)) c.in_ok-c.ensures.waits
+    ∙ (sym (settle-over c.args.code.now (g.P.PlainWords.plain c.args.plain.now) c.begin.new.self (c.in_ok-begin.ensures.runs ∙ c.if-branch.true)
+    (λ rest. rw c.in_default.is at (c.in_ok-c.ensures.arrives rest)))
+    ∙ (ap (settled c.args.code.now (g.P.PlainWords.plain c.args.plain.now)) c.in_ok-begin.ensures.same
+    ∙ c.loop-self.invariant)))
 
-pub returns : goal.returns
-unfolding stack_in
-returns g c = record {
-  settled = sym c.loop-top.invariant ∙ settle-none c.args.code.now (g.P.PlainWords.plain c.args.plain.now) c.loop-top.self.units.items (omega (arith, c.loop-top.self.units.ok.0, c.in_default.ensures.cases.0));
-}
+pub returns-clause-settled : goal.returns-clause-settled
+returns-clause-settled g c =
+    sym c.loop-self.invariant
+    ∙ settle-none c.args.code.now (g.P.PlainWords.plain c.args.plain.now) (stack_in c.loop-self.self) (c.in_ok-begin.ensures.none c.if-branch.false)

@@ -1,10 +1,10 @@
-use Rattle.std.proofs.Common.{◌≡◌, vec_len}
+use Rattle.std.proofs.Common.{◌≡◌}
+use Rattle.ceal_code.specs.Stacks.{stack_in, left_in}
 use Rattle.ceal_code.specs.Step.{settled}
-use Rattle.ceal_code.specs.Stacks.{units_in}
 use Rattle.ceal_code.proofs.stack.Stack.settle.Given as goal
 
-abbrev pub invariant-loop-top : goal.invariant-loop-top
-invariant-loop-top g l = settled l.code (g.P.PlainWords.plain l.plain) (units_in l.self.units.items) ≡ settled l.code (g.P.PlainWords.plain l.plain) (units_in l.initial.self.units.items)
+abbrev pub invariant-loop-self : goal.invariant-loop-self
+invariant-loop-self g l = settled l.code (g.P.PlainWords.plain l.plain) (stack_in l.self) ≡ settled l.code (g.P.PlainWords.plain l.plain) (stack_in l.initial.self)
 
-abbrev pub decreases-loop-top : goal.decreases-loop-top
-decreases-loop-top g l = vec_len l.self.units
+abbrev pub decreases-loop-self : goal.decreases-loop-self
+decreases-loop-self g l = left_in l.self

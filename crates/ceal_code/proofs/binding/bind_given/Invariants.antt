@@ -2,7 +2,7 @@ use Rattle.std.proofs.Common.{◌≡◌, ◌≤◌, length, take, drop}
 use Rattle.ceal_code.specs.Init.{arguments}
 use Rattle.ceal_code.specs.Step.{bound, woven}
 use Rattle.ceal_code.specs.Weaving.{others}
-use Rattle.ceal_code.proofs.stack.bind_given.Given as goal
+use Rattle.ceal_code.proofs.binding.bind_given.Given as goal
 
 abbrev pub invariant-loop-i : goal.invariant-loop-i
 invariant-loop-i l = record {

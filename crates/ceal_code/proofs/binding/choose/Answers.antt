@@ -1,6 +1,6 @@
 use Rattle.ceal_code.specs.Step.{chosen}
 use Rattle.ceal_code.proofs.StackSteps.{choose-next, choose-end}
-use Rattle.ceal_code.proofs.stack.choose.Goals as goal
+use Rattle.ceal_code.proofs.binding.choose.Goals as goal
 
 pub loop-p-preserved : goal.loop-p-preserved
 loop-p-preserved c =
@@ -8,4 +8,6 @@ loop-p-preserved c =
     c.in_ok-push.ensures.items c.argument.ensures c.in-Some.ensures.cases.0 c.loop-p.invariant
 
 pub returns : goal.returns
-returns c = choose-end c.loop-p.words.items c.loop-p.params.now c.args.args.now (chosen c.args.params.now c.args.args.now) c.in_default.ensures.cases c.loop-p.invariant
+returns c = record {
+  chosen = choose-end c.loop-p.words.items c.loop-p.params.now c.args.args.now (chosen c.args.params.now c.args.args.now) c.in_default.ensures.cases c.loop-p.invariant;
+}

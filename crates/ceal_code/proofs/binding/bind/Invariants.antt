@@ -1,7 +1,7 @@
 use Rattle.std.proofs.Common.{◌≡◌, ◌≤◌, length, drop}
 use Rattle.ceal_code.specs.Init.{arguments}
 use Rattle.ceal_code.specs.Step.{bound}
-use Rattle.ceal_code.proofs.stack.bind.Given as goal
+use Rattle.ceal_code.proofs.binding.bind.Given as goal
 
 abbrev pub invariant-loop-i : goal.invariant-loop-i
 invariant-loop-i l = record {

@@ -1,6 +1,6 @@
 use Rattle.std.proofs.Common.{◌≡◌, ◌≤◌, take}
 use Rattle.ceal_code.specs.Weaving.{others}
-use Rattle.ceal_code.proofs.stack.count_others.Given as goal
+use Rattle.ceal_code.proofs.binding.count_others.Given as goal
 
 abbrev pub invariant-loop-i : goal.invariant-loop-i
 invariant-loop-i l = record {
