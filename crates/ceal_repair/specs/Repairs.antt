@@ -2,10 +2,11 @@
 use Rattle.std.specs.Prelude.{◌≡◌, ℕ, ◌≤◌, ◌<◌, Bool, true, false, Option, Some, None, List, [], ◌∷◌, reverse}
 use Rattle.ceal_base.specs.Block.{Block}
 use Rattle.ceal_code.specs.Program.{Code}
-use Rattle.ceal_code.specs.Stacks.{stack_in, act_in}
+use Rattle.ceal_code.specs.Stacks.{stack_in, act_in, step_in}
 use Rattle.ceal_code.specs.Step.{Stack, Act as Step, Over, next}
 use Rattle.ceal_code.specs.declared.stack.Stack.{Stack as CodeStack}
 use Rattle.ceal_code.specs.declared.step.Act.{Act}
+use Rattle.ceal_code.specs.declared.step.Step.{Step as CodeStep}
 use Rattle.ceal_order.specs.declared.stamp.Stamp.{Stamp}
 use Rattle.ceal_repair.specs.Moment.{View, Start, RunningNow, PassingNow}
 use Rattle.ceal_repair.specs.Words.{words_of}
@@ -33,6 +34,10 @@ view r = record {
 -- the next step of a stack over the plain words of a repair
 abbrev pub next_in : Repair → Stack → Step
 next_in r st = next (code_of r) (words_of (code_of r) (inputs_of r) r.running.heap) st
+
+-- what a step of its stack does, whose arguments are not evaluated yet
+abbrev pub step_of : Repair → CodeStep → Step
+step_of r s = step_in (code_of r) (words_of (code_of r) (inputs_of r) r.running.heap) s r.stack
 
 -- a unit runs: that of this stack, or the one that the repair keeps
 abbrev pub RunsAt : Start → Stack → Repair → Type 0

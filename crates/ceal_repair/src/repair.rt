@@ -3,10 +3,10 @@
 ghost use Rattle.std.specs.Prelude.{◌≡◌, ◌+◌, ◌∷◌, ◌++◌, [], Some, None, true, false, IfOk, OnOk, reverse};
 ghost use Rattle.ceal_code.specs.Stacks.{stack_in, act_in};
 ghost use Rattle.ceal_code.specs.Step.{Empty};
-ghost use Rattle.ceal_code.specs.declared.step.Act.{Act as ActOf};
+ghost use Rattle.ceal_code.specs.declared.step.Step.TheVariants.{Makes as IsMaking, Reads as IsReading};
 ghost use Rattle.ceal_code.specs.declared.step.Act.TheVariants as act;
 ghost use Rattle.ceal_repair.specs.Moment.{Start};
-ghost use Rattle.ceal_repair.specs.Repairs.{code_of, inputs_of, view, next_in, Runs, RunsAt, Acts, IsOver, Turned, SameCall};
+ghost use Rattle.ceal_repair.specs.Repairs.{code_of, inputs_of, view, next_in, step_of, Runs, RunsAt, Acts, IsOver, Turned, SameCall};
 ghost use Rattle.ceal_repair.specs.Kept.{Kept};
 ghost use Rattle.ceal_order.specs.Stamps.{head_of};
 ghost use Rattle.ceal_trace.specs.Nodes.{has_node, stamps_in, with_steps, steps_at};
@@ -14,11 +14,12 @@ ghost use Rattle.ceal_trace.specs.Nodes.{has_node, stamps_in, with_steps, steps_
 use crate::frame::Frame;
 use crate::running::Running;
 use crate::words::RunWords;
+use ceal_base::forest::Key;
 use ceal_base::memory::Inputs;
 use ceal_base::no_memory::NoMemory;
 use ceal_code::code::Code;
-use ceal_code::stack::Stack;
-use ceal_code::step::{Act, advance};
+use ceal_code::stack::{Activation, Closure, Stack};
+use ceal_code::step::{Making, Reading, Step};
 use ceal_order::stamp::Stamp;
 use std::alloc::Global;
 
@@ -87,17 +88,45 @@ impl<'a> Repair<'a> {
     }
 
     /// What the unit that runs does next; the stack is that after it.
-    fn next(&mut self) -> Result<Act, NoMemory>
+    fn next(&mut self) -> Result<Step<'a>, NoMemory>
         ensures rest { self.new ≡ record self.old { stack = self.new.stack } }
-        ensures acts { IfOk result (λ a. next_in self.old (stack_in self.old.stack)
-            ≡ act_in a (stack_in self.new.stack)) }
+        ensures acts { IfOk result (λ s. next_in self.old (stack_in self.old.stack)
+            ≡ step_of self.new s) }
     {
         let words = RunWords {
             code: self.code,
             inputs: self.inputs,
             heap: &self.running.heap,
         };
-        advance(self.code, &words, &mut self.stack)
+        self.stack.step(self.code, &words)
+    }
+
+    /// The key of the block that is made, and the unit, which is taken off the stack.
+    fn made(&mut self, making: Making<'_>) -> Result<(Key, Activation), NoMemory>
+        ensures rest { self.new ≡ record self.old { stack = self.new.stack } }
+        ensures made { IfOk result (λ m. step_of self.old (IsMaking making.entry)
+            ≡ act_in (act.Makes m.0 making.entry.var m.1) (stack_in self.new.stack)) }
+    {
+        let words = RunWords {
+            code: self.code,
+            inputs: self.inputs,
+            heap: &self.running.heap,
+        };
+        self.stack.made(self.code, &words, making)
+    }
+
+    /// The closure of a read; the stack comes after it.
+    fn closure(&mut self, reading: Reading<'_>) -> Result<Closure, NoMemory>
+        ensures rest { self.new ≡ record self.old { stack = self.new.stack } }
+        ensures closure { IfOk result (λ c. step_of self.old (IsReading reading.entry)
+            ≡ act_in (act.Reads c) (stack_in self.new.stack)) }
+    {
+        let words = RunWords {
+            code: self.code,
+            inputs: self.inputs,
+            heap: &self.running.heap,
+        };
+        self.stack.closure(self.code, &words, reading)
     }
 
     /// One step more was run anew, behind the node at the cursor. Where the count has no room in 32 bits, there is no memory for
@@ -134,20 +163,22 @@ impl<'a> Repair<'a> {
             (λ more. more ≡ false → (view self.new).spent ≡ (view self.old).spent) }
     {
         match self.next()? {
-            Act::Over => self.close(),
-            Act::Quiet => {
+            Step::Over => self.close(),
+            Step::Quiet => {
                 self.quiet()?;
                 Ok(true)
             }
-            Act::Makes { key, var, unit } => {
-                self.make(key, var, unit)?;
+            Step::Makes(making) => {
+                let (key, unit) = self.made(making)?;
+                self.make(key, making.var, unit)?;
                 Ok(true)
             }
-            Act::Writes { place, value } => {
+            Step::Writes { place, value } => {
                 self.write(place, value)?;
                 Ok(true)
             }
-            Act::Reads(closure) => {
+            Step::Reads(reading) => {
+                let closure = self.closure(reading)?;
                 self.read(closure)?;
                 Ok(true)
             }

@@ -67,8 +67,7 @@ impl<'a> Repair<'a> {
             None => unreachable!(),
         };
         self.running.tables.set_steps(read, 0);
-        let stack = unit_at(self.alloc, self.code, &self.running.tables.trace, read)?;
-        self.stack = stack;
+        unit_at(&mut self.stack, self.code, &self.running.tables.trace, read)?;
         self.limit = self.running.tables.trace.end_of(read);
         self.cursor = read;
         self.frames.push(Frame::Kept { until })?;

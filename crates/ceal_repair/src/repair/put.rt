@@ -18,7 +18,6 @@ use ceal_code::initialise::pointer_to;
 use ceal_code::stack::{Activation, Closure, Stack};
 use ceal_memo::key::ReadKey;
 use ceal_order::stamp::Stamp;
-use std::mem;
 
 impl<'a> Repair<'a> {
     /// A step that leaves no item but itself.
@@ -90,9 +89,8 @@ impl<'a> Repair<'a> {
         self.step()?;
         let begun = self.running.tables.begin_read(self.cursor, key)?;
         self.cursor = begun.read;
-        let mut stack = Stack::empty(self.alloc);
-        stack.resume(self.code, &closure, begun.value)?;
-        let below = mem::replace(&mut self.stack, stack);
+        let below = self.stack.set_aside()?;
+        self.stack.resume(self.code, &closure, begun.value)?;
         self.frames.push(Frame::Begun {
             below,
             read: begun.read,
@@ -108,7 +106,7 @@ impl<'a> Repair<'a> {
             ((start : Start) → EndsRead start below read self.old → Runs start self.new) }
     {
         self.cursor = self.running.tables.finish_read(read, self.cursor)?;
-        self.stack = below;
+        self.stack.bring_back(below)?;
         Ok(())
     }
 }

@@ -108,7 +108,7 @@ impl<'a> Repair<'a> {
         if self.running.tables.look(found) {
             self.running.tables.set_steps(found, 0);
             let value = value_at(&self.running.tables.trace, found);
-            let mut stack = Stack::empty(self.alloc);
+            let mut stack = self.stack.spare()?;
             stack.resume(self.code, &closure, value)?;
             self.go_inside(found, limit, stack)?;
             Ok(true)
@@ -158,7 +158,7 @@ impl<'a> Repair<'a> {
         self.running.tables.set_steps(end, 0);
         self.cursor = end;
         self.limit = Some(until);
-        self.stack = below;
+        self.stack.bring_back(below)?;
         Ok(())
     }
 }

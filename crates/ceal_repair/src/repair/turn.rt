@@ -22,7 +22,6 @@ use ceal_theory::courses::turn_known_law;
 use ceal_theory::slices::{listed_law, ready_law};
 use ceal_trace::node::Seen;
 use ceal_trace::trace::Trace;
-use std::alloc::Global;
 
 /// The closure of a read.
 fn closure_at(trace: &Trace, read: Stamp) -> Result<Closure, NoMemory>
@@ -53,18 +52,18 @@ fn closure_at(trace: &Trace, read: Stamp) -> Result<Closure, NoMemory>
     }
 }
 
-/// The unit of a read by itself, on the value that the read records.
-pub fn unit_at(alloc: Global, code: &Code, trace: &Trace, read: Stamp) -> Result<Stack, NoMemory>
+/// The unit of a read by itself, on the value that the read records, in place of the units that there are.
+pub fn unit_at(stack: &mut Stack, code: &Code, trace: &Trace, read: Stamp) -> Result<(), NoMemory>
     requires here { (p : PlaceOf) × (v : WordOf) × Records p v (node_at read.0 trace.now.nodes) }
-    ensures unit { IfOk result (λ stack. (p : PlaceOf) (v : WordOf) (u : UnitOf) (x : ℕ)
+    ensures unit { OnOk result ((p : PlaceOf) (v : WordOf) (u : UnitOf) (x : ℕ)
         (args : List WordOf) → node_at read.0 trace.now.nodes ≡ Some (Read p v u x args)
-        → stack_in stack ≡ resumed code.now u x args v) }
+        → stack_in stack.new ≡ resumed code.now u x args v) }
 {
     let closure = closure_at(trace, read)?;
     let value = value_at(trace, read);
-    let mut stack = Stack::empty(alloc);
+    stack.clear();
     stack.resume(code, &closure, value)?;
-    Ok(stack)
+    Ok(())
 }
 
 impl<'a> Repair<'a> {
@@ -82,11 +81,10 @@ impl<'a> Repair<'a> {
         listed_law();
         ready_law();
         turn_known_law();
-        let stack = unit_at(self.alloc, self.code, &self.running.tables.trace, read)?;
+        unit_at(&mut self.stack, self.code, &self.running.tables.trace, read)?;
         self.limit = self.running.tables.trace.end_of(read);
         self.running.tables.set_steps(read, 0);
         self.cursor = read;
-        self.stack = stack;
         Ok(())
     }
 }

@@ -39,16 +39,16 @@ returns-clause-runs c = λ start a.
     let key = c.args.key in
     let put : NodeMore new.cursor.0 read.0 (Read key.place word key.unit key.var key.args) new.running.tables c.begin_read.new.self = record { nodes = f.nodes; inserted = f.inserted; bases = f.bases; behind = f.behind; kept = f.kept } in
     let k : NodeMore new.cursor.0 read.0 node new.running.tables c.begin_read.new.self = rw c.requires.key at put in
-    let below : CodeStack = c.replace-below.result in
-    let stack : stack_in old.stack ≡ stack_in below = sym (ap stack_in c.replace-below.ensures.value ∙ ap (λ (r : Repair). stack_in r.stack) h.rest) in
+    let below : CodeStack = c.in_ok-below.below in
+    let stack : stack_in old.stack ≡ stack_in below = sym (c.in_ok-below.ensures.aside ∙ ap (λ (r : Repair). stack_in r.stack) h.rest) in
     let code : new.code.now ≡ old.code.now = ap code_of h.rest in
     runs-as (code_of old) (inputs_of old) start (resumed (code_of old) c.args.closure.unit c.args.closure.var c.args.closure.args word) _
-    (record new { running = record new.running { tables = c.begin_read.new.self }; cursor = read; stack = c.replace-below.new.dest; frames = c.push.new.self })
+    (record new { running = record new.running { tables = c.begin_read.new.self }; cursor = read; stack = c.resume.new.self; frames = c.push.new.self })
     (now-begin (code_of old) (inputs_of old) start a.stack (view old) a.now p c.args.closure.unit c.args.closure.var c.args.closure.args below word new.running.tables c.begin_read.new.self read
     (none-entered old start a.stack a.now (key_in c.args.closure) c.requires.absent)
     (a.does ∙ ap (λ (s : Stack). Reads p c.args.closure.unit c.args.closure.var c.args.closure.args s) stack) h.more
     (rw (c.requires.key, cursor-kept old new h) at f.value)
     (node-behind old new h read.0 node c.begin_read.new.self k) f.open)
     (ap code_of h.rest) (ap inputs_of h.rest)
-    (ap stack_in c.replace-below.ensures.after ∙ resumed-as new.code.now old.code.now code c.args.closure.unit c.args.closure.var c.args.closure.args word (stack_in c.resume.new.self) (stack_in c.empty-stack.result) c.empty-stack.ensures.empty c.in_ok-resume.ensures.resumed)
+    (resumed-as new.code.now old.code.now code c.args.closure.unit c.args.closure.var c.args.closure.args word (stack_in c.resume.new.self) (stack_in c.set_aside.new.self) c.in_ok-below.ensures.empty c.in_ok-resume.ensures.resumed)
     (begun-view old new h c.begin_read.new.self read.0 (Begun below read) c.push.new.self.items c.in_ok-push.ensures.items)

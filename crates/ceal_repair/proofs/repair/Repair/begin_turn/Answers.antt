@@ -33,7 +33,7 @@ returns-clause-begins c = λ f args o found.
     (record old {
       running = record { tables = c.set_steps.new.self; heap = old.running.heap; spent = old.running.spent };
       cursor = c.args.read;
-      stack = c.in_ok-stack.stack;
+      stack = c.unit_at.new.stack;
       limit = c.end_of-self.result;
     })
-    refl refl s.nodes s.mods s.queue s.kept refl refl refl c.requires.idle c.end_of-self.ensures.finished c.end_of-self.ensures.open c.in_ok-stack.ensures.unit
+    refl refl s.nodes s.mods s.queue s.kept refl refl refl c.requires.idle c.end_of-self.ensures.finished c.end_of-self.ensures.open c.in_ok-unit_at.ensures.unit

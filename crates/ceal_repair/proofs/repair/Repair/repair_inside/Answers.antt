@@ -64,8 +64,8 @@ returns-clause-runs c = λ start a.
     ap reverse c.in_ok-push.ensures.items ∙ (reverse-append old.frames.items (Kept c.in-Some.until ∷ []) ∙ ap (λ (s : Stamp). Kept s ∷ reverse old.frames.items) same) in
     runs-as (code_of old) (inputs_of old) start (resumed (code_of old) r.unit r.var r.args now-word)
     (record { tables = t; heap = old.running.heap; spent = old.running.spent; cursor = c.args.read.0; limit = Some (stamped r.end); frames = Kept a.until ∷ reverse old.frames.items })
-    (record old { running = record old.running { tables = t }; cursor = c.args.read; stack = c.in_ok-stack.stack; limit = c.end_of-self.result; frames = c.push.new.self })
+    (record old { running = record old.running { tables = t }; cursor = c.args.read; stack = c.unit_at.new.stack; limit = c.end_of-self.result; frames = c.push.new.self })
     (now-mend (code_of old) (inputs_of old) start a.until (record (view old) { tables = a.before }) a.now c.args.read.0 a.stale a.limit t1 t seen a.queued (bases-cells t1.mods a.before.mods a.cells) a.kept g.nodes g.mods g.queue g.kept)
-    refl refl (c.in_ok-stack.ensures.unit r.place now-word r.unit r.var r.args (node-then (code_of old) (inputs_of old) start a.until (record (view old) { tables = a.before }) a.now c.args.read.0 a.stale a.limit t1 t seen a.queued (bases-cells t1.mods a.before.mods a.cells) a.kept g.nodes g.mods g.queue g.kept))
+    refl refl (c.in_ok-unit_at.ensures.unit r.place now-word r.unit r.var r.args (node-then (code_of old) (inputs_of old) start a.until (record (view old) { tables = a.before }) a.now c.args.read.0 a.stale a.limit t1 t seen a.queued (bases-cells t1.mods a.before.mods a.cells) a.kept g.nodes g.mods g.queue g.kept))
     (ap (λ (o : Option Stamp). record { tables = t; heap = old.running.heap; spent = old.running.spent; cursor = c.args.read.0; limit = o; frames = reverse c.push.new.self.items }) limit
     ∙ ap (λ (gs : List Frame). record { tables = t; heap = old.running.heap; spent = old.running.spent; cursor = c.args.read.0; limit = Some (stamped r.end); frames = gs }) frames)

@@ -165,7 +165,7 @@ returns-then-look-clause-runs c = λ start a.
     let s = k.stale c.if-look.true in
     let i = c.in_ok-go_inside.ensures in
     let below : CodeStack = i.frames.0 in
-    let stack : stack_in old.stack ≡ stack_in below = sym (i.frames.1 ∙ ap (λ (r : Repair). stack_in r.stack) h.rest) in
+    let stack : stack_in old.stack ≡ stack_in below = sym (i.frames.1 ∙ (c.in_ok-stack.ensures.stays ∙ ap (λ (r : Repair). stack_in r.stack) h.rest)) in
     let does = a.does ∙ ap (λ (s : Stack). Reads c.args.closure.place c.args.closure.unit c.args.closure.var c.args.closure.args s) stack in
     let m = the-match (code_of old) (inputs_of old) start a.stack (view old) a.now c.args.closure.place c.args.closure.unit c.args.closure.var c.args.closure.args below c.args.found heap new.running.tables t2 r.0 does h.more cut matches in
     let node = node-there (code_of old) (inputs_of old) start a.stack (view old) a.now c.args.closure.place c.args.closure.unit c.args.closure.var c.args.closure.args below c.args.found heap new.running.tables t2 r.0 does h.more cut matches in
@@ -185,7 +185,7 @@ returns-then-look-clause-runs c = λ start a.
     runs-as (code_of old) (inputs_of old) start (resumed (code_of old) c.args.closure.unit c.args.closure.var c.args.closure.args word) _ c.go_inside.new.self
     (now-retake (code_of old) (inputs_of old) start a.stack (view old) a.now c.args.closure.place c.args.closure.unit c.args.closure.var c.args.closure.args below c.args.found heap new.running.tables t2 r.0 does h.more cut matches (contents_at c.args.found.0 t2 c.args.closure.place) t3 t seen refl differs (bases-cells t3.mods t2.mods k.cells) k.behind g.nodes g.mods g.queue g.kept until limit)
     (ap code_of i.rest ∙ ap code_of h.rest) (ap inputs_of i.rest ∙ ap inputs_of h.rest)
-    (i.stack ∙ (resumed-as new.code.now old.code.now (ap code_of h.rest) c.args.closure.unit c.args.closure.var c.args.closure.args read (stack_in c.resume.new.self) (stack_in c.empty-stack.result) c.empty-stack.ensures.empty c.in_ok-resume.ensures.resumed
+    (i.stack ∙ (resumed-as new.code.now old.code.now (ap code_of h.rest) c.args.closure.unit c.args.closure.var c.args.closure.args read (stack_in c.resume.new.self) (stack_in c.in_ok-stack.stack) c.in_ok-stack.ensures.empty c.in_ok-resume.ensures.resumed
     ∙ ap (λ (w : Word). resumed (code_of old) c.args.closure.unit c.args.closure.var c.args.closure.args w) is-word))
     (ap view i.rest ∙ entered-view old new h t heap c.cut_until.new.self.spent c.args.found.0 c.go_inside.new.self.limit (Some (stamped m.end)) (Taken below until) c.go_inside.new.self.frames.items f.spent ends i.frames.2)
 
