@@ -1,5 +1,5 @@
 -- What is written for an input.
-use Rattle.std.proofs.Common.{◌≡◌, inl, inr, ℕ, List, [], Option, Result, Ok, Err, refl, subst}
+use Rattle.std.proofs.Common.{◌≡◌, inl, inr, ℕ, List, [], Option, Result, Ok, Err, refl}
 use Rattle.ceal_base.specs.declared.fault.Fault.{Fault}
 use Rattle.ceal_base.specs.declared.typed.Typed.{Typed}
 use Rattle.ceal_code.specs.Listing.{listing_text}
@@ -22,7 +22,7 @@ use Rattle.ceal_cli.specs.Members.{Opens}
 use Rattle.ceal_cli.specs.Serving.{AreServed, BeginServed, AreServedFromRun, BeginServedFromRun, IsDumpBehind, IsSaveBehind}
 use Rattle.ceal_cli.specs.Lines.{script_of, script_lines}
 use Rattle.ceal_cli.specs.Modes.{ReadsInput}
-use Rattle.ceal_cli.specs.Output.{IsAnswer, IsListing, IsOutput, Programmed, accepted_text, Begins, IsOutputFromRun}
+use Rattle.ceal_cli.specs.Output.{IsOutput, Programmed, accepted_text, Begins, IsOutputFromRun}
 use Rattle.ceal_cli.specs.Verdicts.{IsVerdictLine}
 use Rattle.ceal_cli.specs.declared.words.Mode.{Mode}
 use Rattle.ceal_cli.specs.declared.words.Mode.TheVariants.{Check, List as Listing, Run, Dump, Verify, Many, Save}
