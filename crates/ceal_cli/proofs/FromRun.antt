@@ -19,9 +19,6 @@ pub record Before (start here : Situation) (all left : List (List ℕ)) : Type 0
   pub whole : (out : List ℕ) → AreServedFromRun here left out → AreServedFromRun start all out
   pub begun : (out : List ℕ) → BeginServedFromRun here left out → BeginServedFromRun start all out
 
-pub none_before : (s : Situation) (lines : List (List ℕ)) → Before s s lines lines
-none_before s lines = record { whole = λ out h. h; begun = λ out h. h }
-
 module _ (start here : Situation) (all lines : List (List ℕ)) (line : List ℕ) (before : Before start here all (line ∷ lines)) where
   -- one more line was answered
   pub one_before : (next : Situation) (text : List ℕ) → (IsRunLine line → ⊥) → Serves here line text next → Before start next all lines

@@ -1,11 +1,14 @@
 -- Writing replies one after another.
-use Rattle.std.proofs.Common.{inl, inr, ℕ, List, [], ◌∷◌, ◌++◌, Option, Result, Ok, Err, OnOk, take, drop, refl, append_assoc, append-nil, take-append-drop}
+use Rattle.std.proofs.Common.{◌≤◌, inl, inr, ℕ, List, [], ◌∷◌, ◌++◌, Option, Result, Ok, Err, OnOk, take, drop, refl, append_assoc, append-nil, take-append-drop}
 use Rattle.std.specs.Io.KnownBytes.{Appends}
 use Rattle.std.proofs.KnownBytes.{Appends-trans, Appends-nil}
-use Rattle.ceal_io.specs.Streams.{GrowsByPrefix}
+use Rattle.std.specs.Prelude.{IsErrOf}
+use Rattle.ceal_io.specs.Streams.{GrowsByPrefix, Rose}
+use Rattle.ceal_io.specs.declared.streams.Stopped.{Stopped}
+use Rattle.ceal_io.specs.declared.streams.Stopped.TheVariants.{Failed}
 use Rattle.ceal_session.specs.State.{Situation}
-use Rattle.ceal_cli.specs.Growth.{Grows}
-use Rattle.ceal_cli.specs.Serving.{Serves, AreServed, BeginServed, WritesReply, WritesPart, BeginsReply, WritesReplies, BeginsToReply}
+use Rattle.ceal_cli.specs.Growth.{Grows, Puts, Writes}
+use Rattle.ceal_cli.specs.Serving.{Serves, AreServed, BeginServed, IsReply, WritesReply, WritesPart, BeginsReply, WritesReplies, BeginsToReply}
 use Rattle.ceal_cli.specs.Output.{IsPrefix, Begins}
 
 -- what was written of a piece begins it
@@ -19,12 +22,35 @@ nothing a P h = record { out = []; is = h; appends = Appends-nil a }
 pub weaker : {a b : Option (List ℕ)} {P Q : List ℕ → Type 0} → ((out : List ℕ) → P out → Q out) → Grows a b P → Grows a b Q
 weaker f g = record { out = g.out; is = f g.out g.is; appends = g.appends }
 
-pub part_text : (a b : Option (List ℕ)) (P : List ℕ → Type 0) (text : List ℕ) → P text → GrowsByPrefix a b text → Grows a b (Begins P)
-part_text a b P text h grows = weaker (λ out prefix. inr (text, h, prefix)) (of_prefix a b text grows)
-
 pub whole_text : {E : Type 0} (r : Result (Unit {0}) E) (a b : Option (List ℕ)) (P : List ℕ → Type 0) (text : List ℕ) → P text → OnOk r (Appends a b text) → OnOk r (Grows a b P)
 whole_text (Ok u) a b P text h w = record { out = text; is = h; appends = w }
 whole_text (Err e) a b P text h w = tt
+
+-- a text of the one sort was given to the sink, and what begins it is of the other
+pub puts_text : (r : Result (Unit {0}) Stopped) (a b : Option (List ℕ)) (m n : ℕ) (P Q : List ℕ → Type 0) (text : List ℕ) → P text
+    → ((out : List ℕ) → IsPrefix out text → Q out)
+    → OnOk r (Appends a b text) → GrowsByPrefix a b text → (IsErrOf r Failed → Rose m n) → m ≤ n → Puts r a b m n P Q
+puts_text r a b m n P Q text h begins all prefix fault later =
+    record { all = whole_text r a b P text h all; part = weaker begins (of_prefix a b text prefix); fault = fault; later = later }
+
+pub writes_text : (r : Result (Unit {0}) Stopped) (a b : Option (List ℕ)) (m n : ℕ) (P : List ℕ → Type 0) (text : List ℕ) → P text
+    → OnOk r (Appends a b text) → GrowsByPrefix a b text → (IsErrOf r Failed → Rose m n) → m ≤ n → Writes r a b m n P
+writes_text r a b m n P text h all prefix fault later =
+    puts_text r a b m n P (Begins P) text h (λ out begins. inr (text, h, begins)) all prefix fault later
+
+-- what was put is of other sorts too
+module _ {A : Type 0} (r : Result A Stopped) (a b : Option (List ℕ)) (m n : ℕ) (P Q R S : List ℕ → Type 0) where
+  pub puts_as : ((out : List ℕ) → P out → R out) → ((out : List ℕ) → Q out → S out) → Puts r a b m n P Q → Puts r a b m n R S
+  puts_as f g w = record { all = ok_weaker r w.all; part = weaker g w.part; fault = w.fault; later = w.later }
+    where
+      ok_weaker : (r : Result A Stopped) → OnOk r (Grows a b P) → OnOk r (Grows a b R)
+      ok_weaker (Ok u) h = weaker f h
+      ok_weaker (Err e) h = tt
+
+pub writes_as : {A : Type 0} (r : Result A Stopped) (a b : Option (List ℕ)) (m n : ℕ) (P Q : List ℕ → Type 0)
+    → ((out : List ℕ) → P out → Q out) → Writes r a b m n P → Writes r a b m n Q
+writes_as r a b m n P Q f w =
+    puts_as r a b m n P (Begins P) Q (Begins Q) f (λ out begun. elim begun [ inl e ↦ inl e | inr w ↦ inr (w.0, f w.0 w.1, w.2) ]) w
 
 -- So far some text was written behind which the replies to what is left, or their beginning, are to be put.
 pub record SoFar (old now : Option (List ℕ)) (start here : Situation) (all left : List (List ℕ)) : Type 0 where
@@ -32,9 +58,6 @@ pub record SoFar (old now : Option (List ℕ)) (start here : Situation) (all lef
   pub appends : Appends old now part
   pub whole : (rest : List ℕ) → AreServed here left rest → AreServed start all (part ++ rest)
   pub begun : (rest : List ℕ) → BeginServed here left rest → BeginServed start all (part ++ rest)
-
-pub at_start : (a : Option (List ℕ)) (s : Situation) (lines : List (List ℕ)) → SoFar a a s s lines lines
-at_start a s lines = record { part = []; appends = Appends-nil a; whole = λ rest h. h; begun = λ rest h. h }
 
 module _ (a b c : Option (List ℕ)) (start here next : Situation) (all lines : List (List ℕ)) (line : List ℕ) (so_far : SoFar a b start here all (line ∷ lines)) where
   more_replies : (text rest : List ℕ) → Serves here line text next → AreServed next lines rest → AreServed here (line ∷ lines) (text ++ rest)
@@ -82,7 +105,9 @@ module _ (a b : Option (List ℕ)) (start here : Situation) (all : List (List �
   pub all_begun : BeginsToReply a b start all
   all_begun = record { out = so_far.part; is = rw (← append-nil so_far.part) (so_far.begun [] none_begun); appends = so_far.appends }
 
--- what was written of the reply to a line begins it
-pub begins_reply : (a b : Option (List ℕ)) (s next : Situation) (line text : List ℕ) → Serves s line text next → GrowsByPrefix a b text → WritesPart a b s line
-begins_reply a b s next line text answers grows =
-    weaker (λ out prefix. inr (text, next, answers, prefix)) (of_prefix a b text grows)
+-- the reply to a line was given to the sink
+pub puts_reply : (r : Result (Unit {0}) Stopped) (a b : Option (List ℕ)) (m n : ℕ) (s next : Situation) (line text : List ℕ) → Serves s line text next
+    → OnOk r (Appends a b text) → GrowsByPrefix a b text → (IsErrOf r Failed → Rose m n) → m ≤ n
+    → Puts r a b m n (IsReply s line next) (BeginsReply s line)
+puts_reply r a b m n s next line text serves all prefix fault later =
+    puts_text r a b m n (IsReply s line next) (BeginsReply s line) text serves (λ out begins. inr (text, next, serves, begins)) all prefix fault later

@@ -23,6 +23,7 @@ pub mod Programs
 pub mod Putting
 pub mod Resuming
 pub mod RowLaws
+mod Samples
 pub mod ScriptLines
 pub mod Sides
 pub mod Situated

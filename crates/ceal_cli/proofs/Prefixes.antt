@@ -2,7 +2,7 @@
 use Rattle.std.proofs.Common.{◌≡◌, inl, inr, ℕ, Bool, true, false, List, [], ◌∷◌, ◌++◌, codes, eqb, refl, sym, ap, ◌∙◌, subst, append_assoc}
 use Rattle.std.specs.List.{starts_with}
 use Rattle.std.proofs.lemmas.Bool.{false≢true}
-use Rattle.ceal_session.specs.Laws.{Kept, KeptLaw, SomeReplyLaw, SomeScriptLaw}
+use Rattle.ceal_session.specs.Laws.{AnswersIn, KeptLaw, SomeReplyLaw, SomeScriptLaw}
 use Rattle.ceal_session.specs.Replies.{Leads}
 use Rattle.ceal_session.specs.Standing.{IsIn, Stands}
 use Rattle.ceal_session.specs.State.{Situation}
@@ -57,11 +57,11 @@ module _ (kept : KeptLaw) (script : SomeScriptLaw) where
       let r = script s (line ∷ lines) at.sound in
       record { text = r.out; end = r.end; leads = r.leads; prefix = nothing-first out r.out e }
   begun m s (line ∷ lines) out at (inr (text, n, serves, inl p)) =
-      let k : Kept s line text n = kept m n s line text at serves.answers serves.repairs in
+      let k : AnswersIn s line text n = kept m n s line text at serves.answers serves.repairs in
       let r = script k.next lines k.is_in.sound in
       record { text = text ++ r.out; end = r.end; leads = (text, k.next, r.out, k.replies, r.leads, refl); prefix = more-behind out text r.out p }
   begun m s (line ∷ lines) out at (inr (text, n, serves, inr (rest, e, begins))) =
-      let k : Kept s line text n = kept m n s line text at serves.answers serves.repairs in
+      let k : AnswersIn s line text n = kept m n s line text at serves.answers serves.repairs in
       let w = begun n k.next lines rest k.is_in begins in
       record {
         text = text ++ w.text;
@@ -81,6 +81,6 @@ module _ (kept : KeptLaw) (script : SomeScriptLaw) where
         let w = begun m s (line ∷ lines) out at begins in
         record { text = w.text; end = w.end; leads = inl (is, w.leads); prefix = w.prefix }
     begun-from-run m s (line ∷ lines) out at (inr (inr (other, text, n, serves, begins))) =
-        let k : Kept s line text n = kept m n s line text at serves.answers serves.repairs in
+        let k : AnswersIn s line text n = kept m n s line text at serves.answers serves.repairs in
         let w = begun-from-run n k.next lines out k.is_in begins in
         record { text = w.text; end = w.end; leads = inr (other, text, k.next, k.replies, w.leads); prefix = w.prefix }

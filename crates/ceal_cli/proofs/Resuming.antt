@@ -1,9 +1,10 @@
 -- What is written for an input that is resumed, and for one that is not.
-use Rattle.std.proofs.Common.{◌≡◌, inl, inr, ℕ, Option, Ok, List, refl, subst}
+use Rattle.std.proofs.Common.{◌≡◌, inl, inr, ℕ, Option, Result, Ok, List, refl, subst}
 use Rattle.ceal_code.specs.Program.{Code}
 use Rattle.ceal_compile.specs.Compiled.{IsCompiled}
 use Rattle.ceal_compile.specs.Source.{IsProgram}
 use Rattle.ceal_compile.specs.declared.program.Program.{Program}
+use Rattle.ceal_io.specs.declared.streams.Stopped.{Stopped}
 use Rattle.ceal_lex.specs.Parts.{IsSplit}
 use Rattle.ceal_lex.specs.declared.parts.Split.{Split}
 use Rattle.ceal_session.specs.Laws.{KeptLaw, SomeScriptLaw}
@@ -11,13 +12,13 @@ use Rattle.ceal_session.specs.Saving.{Holding, resumed}
 use Rattle.ceal_session.specs.State.{Situation}
 use Rattle.ceal_snap.specs.SaveText.{Save}
 use Rattle.ceal_cli.specs.Going.{IsSaveRead, GoesOn, IsUnsound}
-use Rattle.ceal_cli.specs.Growth.{WritesOutput, WritesPrefix}
+use Rattle.ceal_cli.specs.Growth.{Puts, Writes}
 use Rattle.ceal_cli.specs.Lines.{script_of, script_lines}
-use Rattle.ceal_cli.specs.Output.{IsRefusal, IsTaken, Programmed}
+use Rattle.ceal_cli.specs.Output.{Begins, IsOutput, IsRefusal, IsTaken, Programmed}
 use Rattle.ceal_cli.specs.Resumed.{Resumption, IsResumable, IsNotResumed, IsRepliedAfter, unreadable_save, not_holding}
-use Rattle.ceal_cli.specs.Serving.{WritesReplies, BeginsToReply}
+use Rattle.ceal_cli.specs.Serving.{AreServed, BeginServed}
 use Rattle.ceal_cli.specs.declared.words.Mode.TheVariants.{Resume}
-use Rattle.ceal_cli.proofs.Growing.{weaker}
+use Rattle.ceal_cli.proofs.Growing.{puts_as}
 use Rattle.ceal_cli.proofs.Led.{served}
 use Rattle.ceal_cli.proofs.Prefixes.{begun}
 
@@ -44,23 +45,21 @@ module _ (input : List ℕ) (part : Split) (is : IsSplit input part) (p : Progra
     unfolding programmed from
     taken = (programmed, subst (IsResumable p.code) same (from, g.holds))
 
-    module _ (a b : Option (List ℕ)) (kept : KeptLaw) where
-      pub replied : WritesReplies a b session lines → WritesOutput a b Resume input
-      unfolding programmed from
-      replied h = weaker (λ out serves.
-          let w = served kept session start lines out g.resumed.is_in serves in
-          let after : IsRepliedAfter p.typed p.code bytes out =
-          record { from = from; holds = g.holds; trace = g.resumed.trace; items = g.resumed.items; end = w.0; leads = w.1 } in
-          inl (programmed, subst (λ l. IsRepliedAfter p.typed p.code l out) same after)) h
-
-      pub replied-part : SomeScriptLaw → BeginsToReply a b session lines → WritesPrefix a b Resume input
-      unfolding programmed from
-      replied-part script h =
-          weaker (λ out part.
-          let w = begun kept script session start lines out g.resumed.is_in part in
-          let after : IsRepliedAfter p.typed p.code bytes w.text =
-          record { from = from; holds = g.holds; trace = g.resumed.trace; items = g.resumed.items; end = w.end; leads = w.leads } in
-          inr (w.text, inl (programmed, subst (λ l. IsRepliedAfter p.typed p.code l w.text) same after), w.prefix)) h
+    pub replied : (r : Result (Unit {0}) Stopped) (a b : Option (List ℕ)) (m n : ℕ) → KeptLaw → SomeScriptLaw
+        → Puts r a b m n (AreServed session lines) (BeginServed session lines) → Writes r a b m n (IsOutput Resume input)
+    unfolding programmed from
+    replied r a b m n kept script h =
+        puts_as r a b m n _ _ (IsOutput Resume input) (Begins (IsOutput Resume input))
+        (λ out serves.
+        let w = served kept session start lines out g.resumed.is_in serves in
+        let after : IsRepliedAfter p.typed p.code bytes out =
+        record { from = from; holds = g.holds; trace = g.resumed.trace; items = g.resumed.items; end = w.0; leads = w.1 } in
+        inl (programmed, subst (λ l. IsRepliedAfter p.typed p.code l out) same after))
+        (λ out part.
+        let w = begun kept script session start lines out g.resumed.is_in part in
+        let after : IsRepliedAfter p.typed p.code bytes w.text =
+        record { from = from; holds = g.holds; trace = g.resumed.trace; items = g.resumed.items; end = w.end; leads = w.leads } in
+        inr (w.text, inl (programmed, subst (λ l. IsRepliedAfter p.typed p.code l w.text) same after), w.prefix)) h
 
   -- of the lines that say why there are none
   pub is-unreadable : (Resumption bytes → ⊥) → IsRefusal Resume input unreadable_save

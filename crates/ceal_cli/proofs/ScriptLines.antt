@@ -1,7 +1,7 @@
 -- The lines of a script, piece by piece.
 use Rattle.std.proofs.Common.{◌≡◌, ℕ, ◌+◌, Bool, is_some, Option, Some, None, List, [], ◌∷◌, if◌then◌else◌, eqb, position, take, drop, refl, sym, ap, ◌∙◌, subst, Bor}
 use Rattle.std.specs.Option.{option_copied}
-use Rattle.ceal_cli.specs.Lines.{lines_of, pieces_of, pieces_left, script_lines, without_return}
+use Rattle.ceal_cli.specs.Lines.{lines_left, lines_of, pieces_of, pieces_left, script_lines, without_return}
 use Rattle.ceal_cli.proofs.LineEnds.{cut_some, cut_none}
 
 record Begun (lines : List (List ℕ)) : Type 0 where
@@ -30,14 +30,17 @@ pub copied_some : (o : Option (Bor (List ℕ))) → is_some o ≡ is_some (optio
 copied_some None = refl
 copied_some (Some x) = refl
 
+-- the lines of pieces are those of the text that they are left of
+lines_of_left : (after : Option (List ℕ)) → lines_of (pieces_left after) ≡ lines_left after
+unfolding lines_of
+lines_of_left None = refl
+lines_of_left (Some text) = refl
+
 pub lines_cut : (rest piece line : List ℕ) (after : Option (List ℕ)) (ended : Bool)
     → pieces_of rest ≡ piece ∷ pieces_left after → ended ≡ is_some after → line ≡ (if ended then without_return piece else piece)
-    → script_lines rest ≡ line ∷ lines_of (pieces_left after)
+    → script_lines rest ≡ line ∷ lines_left after
 lines_cut rest piece line after ended cut e is =
     let here : (if is_some after then without_return piece else piece) ≡ line =
     ap (λ (b : Bool). if b then without_return piece else piece) (sym e) ∙ sym is in
     ap lines_of cut ∙ line_next piece after ∙ ap (λ (l : List ℕ). l ∷ lines_of (pieces_left after)) here
-
-pub no_lines : lines_of [] ≡ []
-unfolding lines_of
-no_lines = refl
+    ∙ ap (λ (ls : List (List ℕ)). line ∷ ls) (lines_of_left after)

@@ -13,7 +13,7 @@ use Rattle.ceal_record.specs.Laws.{RenamedLaw}
 use Rattle.ceal_record.specs.Recorded.{IsRecordOf}
 use Rattle.ceal_session.specs.Asking.{IsReady}
 use Rattle.ceal_session.specs.Following.{Repairs, IsLeft, dropped, opened}
-use Rattle.ceal_session.specs.Laws.{Kept, BegunLaw, DroppedLaw, KeptLaw, SomeReplyLaw, OneReplyLaw}
+use Rattle.ceal_session.specs.Laws.{AnswersIn, BegunLaw, DroppedLaw, KeptLaw, SomeReplyLaw, OneReplyLaw}
 use Rattle.ceal_session.specs.Recording.{IsRecorded}
 use Rattle.ceal_session.specs.Replies.{opening, Answers, Replies}
 use Rattle.ceal_session.specs.Runs.{begun}
@@ -123,7 +123,7 @@ module _ {E : Type 0} (r : Result (List ℕ) E) (old new : Situation) (line : Li
     where
       by-result : (q : Result (List ℕ) E) → IfOk q (λ text. Answers old.state (numbers_in old) (goes new.past) line text new.state) → OnOk q (Repairs old line new)
           → IfOk q (λ text. (s : Situation) → IsIn old s → (n : Situation) × IsIn new n × Replies s line text n)
-      by-result (Ok text) a t = λ s h. (let k : Kept s line text new = kept old new s line text h a t in (k.next, k.is_in, k.replies))
+      by-result (Ok text) a t = λ s h. (let k : AnswersIn s line text new = kept old new s line text h a t in (k.next, k.is_in, k.replies))
       by-result (Err e) a t = tt
 
   pub lost-in : DroppedLaw → OnErr r (IsLeft old line new) → OnErr r ((s : Situation) → IsIn old s → (t : Situation) × IsIn new t × IsLeft s line t)

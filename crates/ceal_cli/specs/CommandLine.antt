@@ -13,7 +13,8 @@ fuel_option = record (new_rule (codes "fuel")) { long = Some (codes "fuel") }
 
 -- any number of words
 abbrev pub plain_words : Rule
-plain_words = record (new_rule (codes "words")) { range = Some (record { start_inclusive = 0; end_inclusive = usize_max }) }
+plain_words =
+    record (new_rule (codes "words")) { range = Some (record { start_inclusive = 0; end_inclusive = usize_max }) }
 
 abbrev pub bare : App
 bare = let a = new_app (codes "ceal") in

@@ -1,11 +1,9 @@
 -- The value of the option `--fuel`.
 use Rattle.std.specs.Prelude.{ℕ, List}
+use Rattle.ceal_engine.specs.Engine.{LARGEST_FUEL}
 use Rattle.ceal_cli.specs.Numerals.{Spells}
 
--- how many steps a run may take: at most, and where the words do not say it
-abbrev pub LARGEST_FUEL : ℕ
-LARGEST_FUEL = 4194304
-
+-- how many steps a run may take where the words do not say it
 abbrev pub DEFAULT_FUEL : ℕ
 DEFAULT_FUEL = 1000000
 

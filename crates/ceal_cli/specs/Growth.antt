@@ -1,6 +1,9 @@
 -- By what a sink has grown.
-use Rattle.std.specs.Prelude.{List, ℕ, Option}
+use Rattle.std.specs.Prelude.{◌≤◌, ℕ, List, Option, Result, OnOk, IsErrOf}
 use Rattle.std.specs.Io.KnownBytes.{Appends}
+use Rattle.ceal_io.specs.Streams.{Rose}
+use Rattle.ceal_io.specs.declared.streams.Stopped.{Stopped}
+use Rattle.ceal_io.specs.declared.streams.Stopped.TheVariants.{Failed}
 use Rattle.ceal_cli.specs.Output.{Begins, IsAnswer, IsRefusal, IsOutput, IsGenerated}
 use Rattle.ceal_cli.specs.declared.words.Mode.{Mode}
 use Rattle.ceal_gen.specs.declared.kind.Workload.{Workload}
@@ -10,6 +13,25 @@ pub record Grows (old now : Option (List ℕ)) (P : List ℕ → Type 0) : Type 
   pub out : List ℕ
   pub is : P out
   pub appends : Appends old now out
+
+-- What a call that writes does to its sink, of which the known bytes and the count of faults are told, before it and
+-- after it. It is the contract of each call that writes; what texts it speaks of is all that differs.
+pub record Puts
+    {A : Type 0} (result : Result A Stopped) (old now : Option (List ℕ)) (before after : ℕ)
+    (Whole Part : List ℕ → Type 0) : Type 0 where
+  -- where it went well, a text of the one sort was written
+  pub all : OnOk result (Grows old now Whole)
+  -- in every case one of the other sort was
+  pub part : Grows old now Part
+  -- the call says that writing failed only where the sink did
+  pub fault : IsErrOf result Failed → Rose before after
+  -- the count of faults never falls
+  pub later : before ≤ after
+
+-- It writes a text of this sort; where it stops on the way, nothing or the beginning of one was written.
+abbrev pub Writes
+    : {A : Type 0} → Result A Stopped → Option (List ℕ) → Option (List ℕ) → ℕ → ℕ → (List ℕ → Type 0) → Type 0
+Writes result old now before after P = Puts result old now before after P (Begins P)
 
 -- by the answer to this input, which is taken
 abbrev pub WritesAnswer : Option (List ℕ) → Option (List ℕ) → Mode → List ℕ → Type 0

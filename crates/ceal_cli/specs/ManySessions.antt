@@ -16,7 +16,8 @@ joined (text ∷ texts) = text ++ joined texts
 
 -- The lines are answered by these bytes: each by the session that it names, which begins in the first
 -- situation.
-pub record AreTold (first : Situation) (sessions : List (Named Situation)) (lines : List Text) (out : Text) : Type 0 where
+pub record AreTold
+    (first : Situation) (sessions : List (Named Situation)) (lines : List Text) (out : Text) : Type 0 where
   pub texts : List Text
   pub next : List (Named Situation)
   pub replies : AreReplies Replies first sessions lines texts next

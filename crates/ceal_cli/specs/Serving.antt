@@ -71,6 +71,10 @@ abbrev pub BeginsFromRun
     : Option (List ℕ) → Option (List ℕ) → Situation → List (List ℕ) → Type 0
 BeginsFromRun old now m lines = Grows old now (λ out. BeginServedFromRun m lines out)
 
+-- the text is the reply to a line, and this is left
+abbrev pub IsReply : Situation → List ℕ → Situation → List ℕ → Type 0
+IsReply m line next text = Serves m line text next
+
 -- by the reply to a line
 abbrev pub WritesReply
     : Option (List ℕ) → Option (List ℕ) → Situation → List ℕ → Situation → Type 0
@@ -103,7 +107,8 @@ IsSaveFrom source m out =
     ⊎ ((s : Save) × IsSaved m s × (out ≡ with_source source s))
 
 -- A text of this sort is written of the session behind the lines.
-pub record IsBehind (P : Situation → List ℕ → Type 0) (m : Situation) (lines : List (List ℕ)) (out : List ℕ) : Type 0 where
+pub record IsBehind
+    (P : Situation → List ℕ → Type 0) (m : Situation) (lines : List (List ℕ)) (out : List ℕ) : Type 0 where
   pub end : Situation
   pub carries : Carries m lines end
   pub is : P end out

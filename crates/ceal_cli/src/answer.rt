@@ -1,17 +1,16 @@
 // What is written for an input that was read.
 
-ghost use Rattle.std.specs.Prelude.{◌≢◌, ◌<◌, ◌^◌, ◌↔◌, IsTrue, length, IfOk, OnOk, IsErrOf};
+ghost use Rattle.std.specs.Prelude.{◌≢◌, ◌<◌, ◌^◌, ◌↔◌, IsTrue, length, IfOk};
 ghost use Rattle.ceal_compile.specs.Compiled.{IsCompiled};
 ghost use Rattle.ceal_compile.specs.Source.{IsFirstFault, IsProgram};
-ghost use Rattle.ceal_session.specs.Following.{IsAllowed};
-ghost use Rattle.ceal_io.specs.Streams.{Rose};
-ghost use Rattle.ceal_cli.specs.Growth.{WritesOutput, WritesPrefix};
+ghost use Rattle.ceal_cli.specs.Growth.{Writes};
 ghost use Rattle.ceal_cli.specs.Limits.{KeepsLimits};
+ghost use Rattle.ceal_cli.specs.Members.{Opens};
 ghost use Rattle.ceal_cli.specs.Modes.{ReadsInput};
-ghost use Rattle.ceal_cli.specs.Output.{IsTaken};
+ghost use Rattle.ceal_cli.specs.Output.{IsOutput, IsTaken};
 
 use crate::dump::dump;
-use crate::lines::script;
+use crate::lines::{ScriptLines, script};
 use crate::many::many;
 use crate::replies::reply_all;
 use crate::resume::resume;
@@ -19,7 +18,6 @@ use crate::save::save;
 use crate::verify::verify;
 use crate::words::Mode;
 use ceal_base::fault::{Fault, FrontError};
-use ceal_base::no_memory::NoMemory;
 use ceal_base::typed::Typed;
 use ceal_code::listing::listing;
 use ceal_compile::compile::{check_source, compile, one_answer};
@@ -43,24 +41,18 @@ fn refuse<K: Sink>(
 ) -> Result<(), Stopped>
     requires reads { ReadsInput mode }
     requires first { IsFirstFault input.now fault }
-    ensures all { OnOk result
-        (WritesOutput (K.written sink.old) (K.written sink.new) mode input.now) }
-    ensures part { WritesPrefix (K.written sink.old) (K.written sink.new) mode input.now }
-    ensures fault { IsErrOf result Stopped.Failed → Rose (K.faults sink.old) (K.faults sink.new) }
+    ensures writes { Writes result (K.written sink.old) (K.written sink.new)
+        (K.faults sink.old) (K.faults sink.new) (IsOutput mode input.now) }
 {
-    match fault_line(alloc, input, fault) {
-        Ok(line) => write_all(sink, line.items()),
-        Err(NoMemory) => Err(Stopped::Memory),
-    }
+    let line = fault_line(alloc, input, fault)?;
+    write_all(sink, line.items())
 }
 
 // Writes that the input is accepted.
 fn accept<K: Sink>(input: &[u8], program: &Typed, sink: &mut K) -> Result<(), Stopped>
     requires { IsProgram input.now program.now }
-    ensures all { OnOk result
-        (WritesOutput (K.written sink.old) (K.written sink.new) Mode.Check input.now) }
-    ensures part { WritesPrefix (K.written sink.old) (K.written sink.new) Mode.Check input.now }
-    ensures fault { IsErrOf result Stopped.Failed → Rose (K.faults sink.old) (K.faults sink.new) }
+    ensures writes { Writes result (K.written sink.old) (K.written sink.new)
+        (K.faults sink.old) (K.faults sink.new) (IsOutput Mode.Check input.now) }
 {
     write_all(sink, b"accepted\n")
 }
@@ -74,15 +66,11 @@ fn list<K: Sink>(
 ) -> Result<(), Stopped>
     requires program { IsProgram input.now program.now.typed }
     requires compiled { IsCompiled program.now }
-    ensures all { OnOk result
-        (WritesOutput (K.written sink.old) (K.written sink.new) Mode.List input.now) }
-    ensures part { WritesPrefix (K.written sink.old) (K.written sink.new) Mode.List input.now }
-    ensures fault { IsErrOf result Stopped.Failed → Rose (K.faults sink.old) (K.faults sink.new) }
+    ensures writes { Writes result (K.written sink.old) (K.written sink.new)
+        (K.faults sink.old) (K.faults sink.new) (IsOutput Mode.List input.now) }
 {
-    match listing(alloc, &program.code) {
-        Ok(text) => write_all(sink, text.items()),
-        Err(NoMemory) => Err(Stopped::Memory),
-    }
+    let text = listing(alloc, &program.code)?;
+    write_all(sink, text.items())
 }
 
 // Writes the replies to the script behind the mark.
@@ -93,28 +81,18 @@ fn run<K: Sink>(
     program: Program,
     sink: &mut K,
 ) -> Result<(), Stopped>
-    requires small { length input.now < 2 ^ 32 }
-    requires program { IsProgram input.now program.typed }
-    requires compiled { IsCompiled program }
-    requires fuel { IsAllowed fuel }
-    ensures all { OnOk result
-        (WritesOutput (K.written sink.old) (K.written sink.new) (Mode.Run fuel) input.now) }
-    ensures part { WritesPrefix (K.written sink.old) (K.written sink.new)
-        (Mode.Run fuel) input.now }
-    ensures fault { IsErrOf result Stopped.Failed → Rose (K.faults sink.old) (K.faults sink.new) }
+    requires { Opens input.now program fuel }
+    ensures writes { Writes result (K.written sink.old) (K.written sink.new)
+        (K.faults sink.old) (K.faults sink.new) (IsOutput (Mode.Run fuel) input.now) }
 {
     kept_line();
     some_reply();
-    match Session::seeded(alloc, program, fuel, Seed::of_text(input)) {
-        Ok(session) => {
-            let mut session = session;
-            let told = reply_all(&mut session, script(input, &split(input)), sink);
-            // The program ends behind this: its memory goes back with the process, and not piece by piece.
-            forget(session);
-            told
-        }
-        Err(NoMemory) => Err(Stopped::Memory),
-    }
+    let lines = ScriptLines::new(script(input, &split(input)));
+    let mut session = Session::seeded(alloc, program, fuel, Seed::of_text(input))?;
+    let told = reply_all(&mut session, lines, sink);
+    // The program ends behind this: its memory goes back with the process, and not piece by piece.
+    forget(session);
+    told
 }
 
 fn answer<K: Sink>(
@@ -130,10 +108,8 @@ fn answer<K: Sink>(
     requires reads { ReadsInput mode }
     requires limits { KeepsLimits mode }
     requires other { mode ≢ Mode.Resume }
-    ensures all { OnOk result
-        (WritesOutput (K.written sink.old) (K.written sink.new) mode input.now) }
-    ensures part { WritesPrefix (K.written sink.old) (K.written sink.new) mode input.now }
-    ensures fault { IsErrOf result Stopped.Failed → Rose (K.faults sink.old) (K.faults sink.new) }
+    ensures writes { Writes result (K.written sink.old) (K.written sink.new)
+        (K.faults sink.old) (K.faults sink.new) (IsOutput mode input.now) }
 {
     match mode {
         Mode::Check => accept(input, &program.typed, sink),
@@ -161,10 +137,8 @@ fn take<K: Sink>(
     requires reads { ReadsInput mode }
     requires limits { KeepsLimits mode }
     ensures taken { IfOk result (λ taken. IsTrue taken ↔ IsTaken mode input.now) }
-    ensures all { OnOk result
-        (WritesOutput (K.written sink.old) (K.written sink.new) mode input.now) }
-    ensures part { WritesPrefix (K.written sink.old) (K.written sink.new) mode input.now }
-    ensures fault { IsErrOf result Stopped.Failed → Rose (K.faults sink.old) (K.faults sink.new) }
+    ensures writes { Writes result (K.written sink.old) (K.written sink.new)
+        (K.faults sink.old) (K.faults sink.new) (IsOutput mode input.now) }
 {
     if let Mode::Resume = mode {
         return resume(alloc, input, program, sink);
@@ -177,10 +151,8 @@ fn take<K: Sink>(
 fn check<K: Sink>(alloc: Global, input: &[u8], sink: &mut K) -> Result<bool, Stopped>
     requires small { length input.now < 2 ^ 32 }
     ensures taken { IfOk result (λ taken. IsTrue taken ↔ IsTaken Mode.Check input.now) }
-    ensures all { OnOk result
-        (WritesOutput (K.written sink.old) (K.written sink.new) Mode.Check input.now) }
-    ensures part { WritesPrefix (K.written sink.old) (K.written sink.new) Mode.Check input.now }
-    ensures fault { IsErrOf result Stopped.Failed → Rose (K.faults sink.old) (K.faults sink.new) }
+    ensures writes { Writes result (K.written sink.old) (K.written sink.new)
+        (K.faults sink.old) (K.faults sink.new) (IsOutput Mode.Check input.now) }
 {
     one_answer();
     match check_source(alloc, input) {
@@ -205,10 +177,8 @@ fn compiled<K: Sink>(alloc: Global, mode: Mode, input: &[u8], sink: &mut K) -> R
     requires reads { ReadsInput mode }
     requires limits { KeepsLimits mode }
     ensures taken { IfOk result (λ taken. IsTrue taken ↔ IsTaken mode input.now) }
-    ensures all { OnOk result
-        (WritesOutput (K.written sink.old) (K.written sink.new) mode input.now) }
-    ensures part { WritesPrefix (K.written sink.old) (K.written sink.new) mode input.now }
-    ensures fault { IsErrOf result Stopped.Failed → Rose (K.faults sink.old) (K.faults sink.new) }
+    ensures writes { Writes result (K.written sink.old) (K.written sink.new)
+        (K.faults sink.old) (K.faults sink.new) (IsOutput mode input.now) }
 {
     one_answer();
     match compile(alloc, input) {
@@ -232,10 +202,8 @@ pub fn write_answer<K: Sink>(
     requires reads { ReadsInput mode }
     requires limits { KeepsLimits mode }
     ensures taken { IfOk result (λ taken. IsTrue taken ↔ IsTaken mode input.now) }
-    ensures all { OnOk result
-        (WritesOutput (K.written sink.old) (K.written sink.new) mode input.now) }
-    ensures part { WritesPrefix (K.written sink.old) (K.written sink.new) mode input.now }
-    ensures fault { IsErrOf result Stopped.Failed → Rose (K.faults sink.old) (K.faults sink.new) }
+    ensures writes { Writes result (K.written sink.old) (K.written sink.new)
+        (K.faults sink.old) (K.faults sink.new) (IsOutput mode input.now) }
 {
     if let Mode::Check = mode {
         return check(alloc, input, sink);

@@ -1,21 +1,18 @@
 // What is written of the run behind a script.
 
-ghost use Rattle.std.specs.Prelude.{◌≡◌, ◌<◌, ◌^◌, true, length, IfOk, OnOk, IsErrOf};
-ghost use Rattle.ceal_compile.specs.Compiled.{IsCompiled};
-ghost use Rattle.ceal_compile.specs.Source.{IsProgram};
+ghost use Rattle.std.specs.Prelude.{◌≡◌, true, IfOk};
 ghost use Rattle.ceal_dump.specs.DumpText as dumped;
 ghost use Rattle.ceal_dump.specs.DumpText.{all_core, closed};
-ghost use Rattle.ceal_io.specs.Streams.{Rose};
 ghost use Rattle.ceal_session.specs.Keeping.{situation};
-ghost use Rattle.ceal_session.specs.Following.{IsAllowed};
-ghost use Rattle.ceal_cli.specs.Growth.{Grows, WritesOutput, WritesPrefix};
+ghost use Rattle.ceal_cli.specs.Growth.{Writes};
 ghost use Rattle.ceal_cli.specs.Serving.{IsDumpBehind, IsDumpFrom};
 ghost use Rattle.ceal_cli.specs.Lines.{script_lines};
-ghost use Rattle.ceal_cli.specs.Output.{Begins};
+ghost use Rattle.ceal_cli.specs.Members.{Opens};
+ghost use Rattle.ceal_cli.specs.Output.{IsOutput};
 ghost use Rattle.ceal_cli.specs.declared.words.Mode.TheVariants.{Dump};
 
 use crate::carry::carry_out_all;
-use crate::lines::script;
+use crate::lines::{ScriptLines, script};
 use ceal_base::no_memory::NoMemory;
 use ceal_base::recorded::Record;
 use ceal_base::text::Text;
@@ -66,17 +63,13 @@ fn write_dump<K: Sink>(
     script: &[u8],
     sink: &mut K,
 ) -> Result<(), Stopped>
-    ensures all { OnOk result (Grows (K.written sink.old) (K.written sink.new)
-        (IsDumpBehind (situation session.old) (script_lines script.now))) }
-    ensures part { Grows (K.written sink.old) (K.written sink.new)
-        (Begins (IsDumpBehind (situation session.old) (script_lines script.now))) }
-    ensures fault { IsErrOf result Stopped.Failed → Rose (K.faults sink.old) (K.faults sink.new) }
+    ensures writes { Writes result (K.written sink.old) (K.written sink.new)
+        (K.faults sink.old) (K.faults sink.new)
+        (IsDumpBehind (situation session.old) (script_lines script.now)) }
 {
-    carry_out_all(session, script)?;
-    match dump_of(alloc, session) {
-        Ok(text) => write_all(sink, text.items()),
-        Err(NoMemory) => Err(Stopped::Memory),
-    }
+    carry_out_all(session, ScriptLines::new(script))?;
+    let text = dump_of(alloc, session)?;
+    write_all(sink, text.items())
 }
 
 /// Writes the dump of the run behind the script.
@@ -87,25 +80,15 @@ pub fn dump<K: Sink>(
     program: Program,
     sink: &mut K,
 ) -> Result<(), Stopped>
-    requires small { length input.now < 2 ^ 32 }
-    requires program { IsProgram input.now program.typed }
-    requires compiled { IsCompiled program }
-    requires fuel { IsAllowed fuel }
-    ensures all { OnOk result
-        (WritesOutput (K.written sink.old) (K.written sink.new) (Dump fuel) input.now) }
-    ensures part { WritesPrefix (K.written sink.old) (K.written sink.new) (Dump fuel) input.now }
-    ensures fault { IsErrOf result Stopped.Failed → Rose (K.faults sink.old) (K.faults sink.new) }
+    requires { Opens input.now program fuel }
+    ensures writes { Writes result (K.written sink.old) (K.written sink.new)
+        (K.faults sink.old) (K.faults sink.new) (IsOutput (Dump fuel) input.now) }
 {
     kept_line();
     some_reply();
     renamed_law();
-    match Session::seeded(alloc, program, fuel, Seed::of_text(input)) {
-        Ok(session) => {
-            let mut session = session;
-            let told = write_dump(alloc, &mut session, script(input, &split(input)), sink);
-            drop(session);
-            told
-        }
-        Err(NoMemory) => Err(Stopped::Memory),
-    }
+    let mut session = Session::seeded(alloc, program, fuel, Seed::of_text(input))?;
+    let told = write_dump(alloc, &mut session, script(input, &split(input)), sink);
+    drop(session);
+    told
 }

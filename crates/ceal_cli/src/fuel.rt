@@ -4,9 +4,7 @@ ghost use Rattle.std.specs.Prelude.{MatchOption, option_map};
 ghost use Rattle.ceal_cli.specs.CommandLine.{IsFuel, HasNoFuelIn};
 
 use crate::numerals::spelled;
-
-/// How many steps a run may take at most.
-const LARGEST_FUEL: u32 = 4_194_304;
+use ceal_session::session::LARGEST_FUEL;
 
 /// How many steps a run may take where the words do not say it.
 pub const DEFAULT_FUEL: u32 = 1_000_000;

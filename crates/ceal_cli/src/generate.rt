@@ -1,16 +1,15 @@
 // What is written for a workload.
 
-ghost use Rattle.std.specs.Prelude.{◌≡◌, ◌<◌, ◌≤◌, ◌^◌, length, IfOk, OnOk, IsErrOf};
+ghost use Rattle.std.specs.Prelude.{◌<◌, ◌≤◌, ◌^◌, length, IfOk};
 ghost use Rattle.ceal_compile.specs.Compiled.{IsCompiled};
 ghost use Rattle.ceal_compile.specs.Source.{IsAccepted, IsProgram};
-ghost use Rattle.ceal_io.specs.Streams.{Rose};
-ghost use Rattle.ceal_cli.specs.Growth.{Grows, WritesGenerated, WritesGeneratedPrefix};
-ghost use Rattle.ceal_cli.specs.Output.{Begins, IsOutputFromRun};
+ghost use Rattle.ceal_cli.specs.Growth.{Writes};
+ghost use Rattle.ceal_cli.specs.Output.{IsGenerated, IsOutputFromRun};
 
 use crate::from_run::reply_from_run;
 use crate::fuel::DEFAULT_FUEL;
 use crate::laws::{accepted_law, short_law};
-use crate::lines::script;
+use crate::lines::{ScriptLines, script};
 use ceal_base::fault::FrontError;
 use ceal_base::no_memory::NoMemory;
 use ceal_compile::compile::{compile, one_answer};
@@ -44,40 +43,28 @@ fn run<K: Sink>(alloc: Global, text: &[u8], program: Program, sink: &mut K) -> R
     requires small { length text.now < 2 ^ 32 }
     requires program { IsProgram text.now program.typed }
     requires compiled { IsCompiled program }
-    ensures all { OnOk result
-        (Grows (K.written sink.old) (K.written sink.new) (IsOutputFromRun text.now)) }
-    ensures part { Grows (K.written sink.old) (K.written sink.new)
-        (Begins (IsOutputFromRun text.now)) }
-    ensures fault { IsErrOf result Stopped.Failed → Rose (K.faults sink.old) (K.faults sink.new) }
+    ensures writes { Writes result (K.written sink.old) (K.written sink.new)
+        (K.faults sink.old) (K.faults sink.new) (IsOutputFromRun text.now) }
 {
     kept_line();
     some_reply();
-    match Session::new(alloc, program, DEFAULT_FUEL) {
-        Ok(session) => {
-            let mut session = session;
-            let told = reply_from_run(&mut session, script(text, &split(text)), sink);
-            // The program ends behind this: its memory goes back with the process, and not piece by piece.
-            forget(session);
-            told
-        }
-        Err(NoMemory) => Err(Stopped::Memory),
-    }
+    let lines = ScriptLines::new(script(text, &split(text)));
+    let mut session = Session::new(alloc, program, DEFAULT_FUEL)?;
+    let told = reply_from_run(&mut session, lines, sink);
+    // The program ends behind this: its memory goes back with the process, and not piece by piece.
+    forget(session);
+    told
 }
 
 // Writes the replies for a text that is accepted.
 fn reply_to<K: Sink>(alloc: Global, text: &[u8], sink: &mut K) -> Result<(), Stopped>
     requires small { length text.now < 2 ^ 32 }
     requires accepted { IsAccepted text.now }
-    ensures all { OnOk result
-        (Grows (K.written sink.old) (K.written sink.new) (IsOutputFromRun text.now)) }
-    ensures part { Grows (K.written sink.old) (K.written sink.new)
-        (Begins (IsOutputFromRun text.now)) }
-    ensures fault { IsErrOf result Stopped.Failed → Rose (K.faults sink.old) (K.faults sink.new) }
+    ensures writes { Writes result (K.written sink.old) (K.written sink.new)
+        (K.faults sink.old) (K.faults sink.new) (IsOutputFromRun text.now) }
 {
-    match program(alloc, text) {
-        Ok(program) => run(alloc, text, program, sink),
-        Err(NoMemory) => Err(Stopped::Memory),
-    }
+    let program = program(alloc, text)?;
+    run(alloc, text, program, sink)
 }
 
 /// Writes the replies of a workload from that of its `run` line on. Its text is an accepted input.
@@ -89,15 +76,11 @@ pub fn generate<K: Sink>(
     sink: &mut K,
 ) -> Result<(), Stopped>
     requires { size ≤ 2 ^ 24 }
-    ensures all { OnOk result
-        (WritesGenerated (K.written sink.old) (K.written sink.new) kind seed size) }
-    ensures part { WritesGeneratedPrefix (K.written sink.old) (K.written sink.new) kind seed size }
-    ensures fault { IsErrOf result Stopped.Failed → Rose (K.faults sink.old) (K.faults sink.new) }
+    ensures writes { Writes result (K.written sink.old) (K.written sink.new)
+        (K.faults sink.old) (K.faults sink.new) (IsGenerated kind seed size) }
 {
     accepted_law();
     short_law();
-    match workload(alloc, kind, seed, size) {
-        Ok(text) => reply_to(alloc, text.items(), sink),
-        Err(NoMemory) => Err(Stopped::Memory),
-    }
+    let text = workload(alloc, kind, seed, size)?;
+    reply_to(alloc, text.items(), sink)
 }

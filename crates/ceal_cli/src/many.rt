@@ -1,21 +1,15 @@
 // The replies to a script of many sessions.
 
-ghost use Rattle.std.specs.Prelude.{◌≡◌, ◌≤◌, ◌<◌, ◌^◌, [], length, OnOk, IsErrOf};
-ghost use Rattle.ceal_compile.specs.Compiled.{IsCompiled};
-ghost use Rattle.ceal_compile.specs.Source.{IsProgram};
-ghost use Rattle.ceal_io.specs.Streams.{Rose};
-ghost use Rattle.ceal_session.specs.Following.{IsAllowed};
+ghost use Rattle.std.specs.Prelude.{◌≡◌, []};
 ghost use Rattle.ceal_session.specs.Standing.{Stands};
-ghost use Rattle.ceal_cli.specs.Members.{first_situation, AreReady, Answered};
-ghost use Rattle.ceal_cli.specs.Growth.{Grows, WritesOutput, WritesPrefix};
-ghost use Rattle.ceal_cli.specs.Lines.{script_lines};
+ghost use Rattle.ceal_cli.specs.Members.{first_situation, AreReady, Answered, Opens};
+ghost use Rattle.ceal_cli.specs.Growth.{Writes};
 ghost use Rattle.ceal_cli.specs.ManySessions.{AreTold};
-ghost use Rattle.ceal_cli.specs.Output.{Begins};
+ghost use Rattle.ceal_cli.specs.Output.{IsOutput};
 ghost use Rattle.ceal_cli.specs.declared.words.Mode.TheVariants.{Many as ManyMode};
 
-use crate::lines::{cut_line, line, script};
+use crate::lines::{ScriptLines, script};
 use crate::members::{Member, Members};
-use ceal_base::no_memory::NoMemory;
 use ceal_compile::program::Program;
 use ceal_io::{Sink, Stopped, write_all};
 use ceal_lex::split::split;
@@ -28,49 +22,36 @@ use std::alloc::Global;
 fn reply<K: Sink>(many: &mut Many<Members<'_>>, line: &[u8], sink: &mut K) -> Result<(), Stopped>
     requires ready { AreReady many.old.sessions }
     requires sound { Stands (first_situation many.old.maker) }
-    ensures all { OnOk result (Grows (K.written sink.old) (K.written sink.new)
+    ensures writes { Writes result (K.written sink.old) (K.written sink.new)
+        (K.faults sink.old) (K.faults sink.new)
         (Answered (first_situation many.old.maker)
-        many.old.sessions line.now many.new.sessions)) }
-    ensures part { Grows (K.written sink.old) (K.written sink.new)
-        (Begins (Answered (first_situation many.old.maker)
-        many.old.sessions line.now many.new.sessions)) }
+        many.old.sessions line.now many.new.sessions) }
     ensures maker { many.new.maker ≡ many.old.maker }
-    ensures fault { IsErrOf result Stopped.Failed → Rose (K.faults sink.old) (K.faults sink.new) }
-    ensures later { K.faults sink.old ≤ K.faults sink.new }
 {
-    match many.command(line) {
-        Ok(text) => write_all(sink, text.items()),
-        Err(NoMemory) => Err(Stopped::Memory),
-    }
+    let text = many.command(line)?;
+    write_all(sink, text.items())
 }
 
 // Writes the reply to each line as soon as it is made.
 fn reply_all<K: Sink>(
     many: &mut Many<Members<'_>>,
-    script: &[u8],
+    lines: ScriptLines<'_>,
     sink: &mut K,
 ) -> Result<(), Stopped>
     requires none { many.old.sessions ≡ [] }
     requires sound { Stands (first_situation many.old.maker) }
-    ensures all { OnOk result (Grows (K.written sink.old) (K.written sink.new)
-        (AreTold (first_situation many.old.maker) [] (script_lines script.now))) }
-    ensures part { Grows (K.written sink.old) (K.written sink.new)
-        (Begins (AreTold (first_situation many.old.maker) [] (script_lines script.now))) }
-    ensures fault { IsErrOf result Stopped.Failed → Rose (K.faults sink.old) (K.faults sink.new) }
+    ensures writes { Writes result (K.written sink.old) (K.written sink.new)
+        (K.faults sink.old) (K.faults sink.new)
+        (AreTold (first_situation many.old.maker) [] lines.entry) }
 {
     one_reply();
     some_reply();
     some_replies::<Member>();
-    let mut rest = script;
-    loop {
-        let (piece, after) = cut_line(rest);
-        let line = line(piece, after.is_some());
+    let mut lines = lines;
+    while let Some(line) = lines.next() {
         reply(many, line, sink)?;
-        match after {
-            Some(next) => rest = next,
-            None => return Ok(()),
-        }
     }
+    Ok(())
 }
 
 /// Writes the replies to the script behind the mark, each by the session that its line names.
@@ -81,22 +62,12 @@ pub fn many<K: Sink>(
     program: Program,
     sink: &mut K,
 ) -> Result<(), Stopped>
-    requires small { length input.now < 2 ^ 32 }
-    requires program { IsProgram input.now program.typed }
-    requires compiled { IsCompiled program }
-    requires fuel { IsAllowed fuel }
-    ensures all { OnOk result
-        (WritesOutput (K.written sink.old) (K.written sink.new) (ManyMode fuel) input.now) }
-    ensures part { WritesPrefix (K.written sink.old) (K.written sink.new)
-        (ManyMode fuel) input.now }
-    ensures fault { IsErrOf result Stopped.Failed → Rose (K.faults sink.old) (K.faults sink.new) }
+    requires { Opens input.now program fuel }
+    ensures writes { Writes result (K.written sink.old) (K.written sink.new)
+        (K.faults sink.old) (K.faults sink.new) (IsOutput (ManyMode fuel) input.now) }
 {
     some_reply();
-    match Many::new(alloc, Members::new(alloc, input, program, fuel)) {
-        Ok(many) => {
-            let mut many = many;
-            reply_all(&mut many, script(input, &split(input)), sink)
-        }
-        Err(NoMemory) => Err(Stopped::Memory),
-    }
+    let lines = ScriptLines::new(script(input, &split(input)));
+    let mut many = Many::new(alloc, Members::new(alloc, input, program, fuel))?;
+    reply_all(&mut many, lines, sink)
 }

@@ -1,49 +1,38 @@
 // The replies to the lines of a script.
 
-ghost use Rattle.std.specs.Prelude.{◌≡◌, ◌≤◌, OnOk, IsErrOf};
-ghost use Rattle.ceal_io.specs.Streams.{Rose};
 ghost use Rattle.ceal_session.specs.Keeping.{situation};
-ghost use Rattle.ceal_cli.specs.Serving.{WritesReply, WritesPart, WritesReplies, BeginsToReply};
-ghost use Rattle.ceal_cli.specs.Lines.{script_lines};
+ghost use Rattle.ceal_cli.specs.Growth.{Puts};
+ghost use Rattle.ceal_cli.specs.Serving.{AreServed, BeginServed, BeginsReply, IsReply};
 
-use crate::lines::{cut_line, line};
-use ceal_base::no_memory::NoMemory;
+use crate::lines::ScriptLines;
 use ceal_io::{Sink, Stopped, write_all};
 use ceal_session::session::Session;
 
 // Writes the reply to a line.
 fn reply<K: Sink>(session: &mut Session, line: &[u8], sink: &mut K) -> Result<(), Stopped>
-    ensures all { OnOk result
-        (WritesReply (K.written sink.old) (K.written sink.new)
-        (situation session.old) line.now (situation session.new)) }
-    ensures part { WritesPart (K.written sink.old) (K.written sink.new)
-        (situation session.old) line.now }
-    ensures fault { IsErrOf result Stopped.Failed → Rose (K.faults sink.old) (K.faults sink.new) }
-    ensures later { K.faults sink.old ≤ K.faults sink.new }
+    ensures writes { Puts result (K.written sink.old) (K.written sink.new)
+        (K.faults sink.old) (K.faults sink.new)
+        (IsReply (situation session.old) line.now (situation session.new))
+        (BeginsReply (situation session.old) line.now) }
 {
-    match session.command(line) {
-        Ok(text) => write_all(sink, text.items()),
-        Err(NoMemory) => Err(Stopped::Memory),
-    }
+    let text = session.command(line)?;
+    write_all(sink, text.items())
 }
 
 /// Writes the reply to each line as soon as it is made.
-pub fn reply_all<K: Sink>(session: &mut Session, script: &[u8], sink: &mut K) -> Result<(), Stopped>
-    ensures all { OnOk result
-        (WritesReplies (K.written sink.old) (K.written sink.new)
-        (situation session.old) (script_lines script.now)) }
-    ensures part { BeginsToReply (K.written sink.old) (K.written sink.new)
-        (situation session.old) (script_lines script.now) }
-    ensures fault { IsErrOf result Stopped.Failed → Rose (K.faults sink.old) (K.faults sink.new) }
+pub fn reply_all<K: Sink>(
+    session: &mut Session,
+    lines: ScriptLines<'_>,
+    sink: &mut K,
+) -> Result<(), Stopped>
+    ensures writes { Puts result (K.written sink.old) (K.written sink.new)
+        (K.faults sink.old) (K.faults sink.new)
+        (AreServed (situation session.old) lines.entry)
+        (BeginServed (situation session.old) lines.entry) }
 {
-    let mut rest = script;
-    loop {
-        let (piece, after) = cut_line(rest);
-        let line = line(piece, after.is_some());
+    let mut lines = lines;
+    while let Some(line) = lines.next() {
         reply(session, line, sink)?;
-        match after {
-            Some(next) => rest = next,
-            None => return Ok(()),
-        }
     }
+    Ok(())
 }

@@ -3,16 +3,15 @@
 ghost use Rattle.std.specs.Prelude.{◌<◌, ◌^◌, ◌↔◌, IsTrue, length, IfOk, OnOk, IsErrOf};
 ghost use Rattle.ceal_compile.specs.Compiled.{IsCompiled};
 ghost use Rattle.ceal_compile.specs.Source.{IsProgram};
-ghost use Rattle.ceal_io.specs.Streams.{Rose};
 ghost use Rattle.ceal_lex.specs.Parts.{IsSplit};
 ghost use Rattle.ceal_session.specs.Keeping.{situation};
-ghost use Rattle.ceal_cli.specs.Growth.{WritesOutput, WritesPrefix};
+ghost use Rattle.ceal_cli.specs.Growth.{Writes};
 ghost use Rattle.ceal_cli.specs.Going.{IsSaveRead, GoesOn, IsUnsound};
-ghost use Rattle.ceal_cli.specs.Output.{IsTaken};
+ghost use Rattle.ceal_cli.specs.Output.{IsOutput, IsTaken};
 ghost use Rattle.ceal_cli.specs.Resumed.{Resumption};
 ghost use Rattle.ceal_cli.specs.declared.words.Mode.TheVariants.{Resume};
 
-use crate::lines::{script, source};
+use crate::lines::{ScriptLines, script, source};
 use crate::replies::reply_all;
 use ceal_compile::compile::one_answer;
 use ceal_compile::laws::one_code;
@@ -95,10 +94,8 @@ pub fn resume<K: Sink>(
     requires program { IsProgram input.now program.typed }
     requires compiled { IsCompiled program }
     ensures taken { IfOk result (λ taken. IsTrue taken ↔ IsTaken Resume input.now) }
-    ensures all { OnOk result
-        (WritesOutput (K.written sink.old) (K.written sink.new) Resume input.now) }
-    ensures part { WritesPrefix (K.written sink.old) (K.written sink.new) Resume input.now }
-    ensures fault { IsErrOf result Stopped.Failed → Rose (K.faults sink.old) (K.faults sink.new) }
+    ensures writes { Writes result (K.written sink.old) (K.written sink.new)
+        (K.faults sink.old) (K.faults sink.new) (IsOutput Resume input.now) }
 {
     kept_line();
     some_reply();
@@ -111,7 +108,7 @@ pub fn resume<K: Sink>(
     match resumed(alloc, program, bytes, &part) {
         Ok(session) => {
             let mut session = session;
-            let told = reply_all(&mut session, script(bytes, &part), sink);
+            let told = reply_all(&mut session, ScriptLines::new(script(bytes, &part)), sink);
             // The program ends behind this: its memory goes back with the process, and not piece by piece.
             forget(session);
             told?;

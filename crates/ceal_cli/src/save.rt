@@ -1,22 +1,19 @@
 // What is written to go on from later.
 
-ghost use Rattle.std.specs.Prelude.{◌≡◌, ◌<◌, ◌^◌, true, length, IfOk, OnOk, IsErrOf};
-ghost use Rattle.ceal_compile.specs.Compiled.{IsCompiled};
-ghost use Rattle.ceal_compile.specs.Source.{IsProgram};
+ghost use Rattle.std.specs.Prelude.{◌≡◌, true, IfOk};
 ghost use Rattle.ceal_dump.specs.DumpText.{all_core, closed};
-ghost use Rattle.ceal_io.specs.Streams.{Rose};
 ghost use Rattle.ceal_session.specs.Keeping.{situation};
-ghost use Rattle.ceal_session.specs.Following.{IsAllowed};
 ghost use Rattle.ceal_session.specs.Naming.{AreSpelled};
-ghost use Rattle.ceal_cli.specs.Growth.{Grows, WritesOutput, WritesPrefix};
+ghost use Rattle.ceal_cli.specs.Growth.{Writes};
 ghost use Rattle.ceal_cli.specs.Serving.{IsSaveBehind, IsSaveFrom};
 ghost use Rattle.ceal_cli.specs.Lines.{script_lines};
-ghost use Rattle.ceal_cli.specs.Output.{Begins};
+ghost use Rattle.ceal_cli.specs.Members.{Opens};
+ghost use Rattle.ceal_cli.specs.Output.{IsOutput};
 ghost use Rattle.ceal_cli.specs.Saves.{with_source};
 ghost use Rattle.ceal_cli.specs.declared.words.Mode.TheVariants.{Save};
 
 use crate::carry::carry_out_all;
-use crate::lines::{script, source};
+use crate::lines::{ScriptLines, script, source};
 use ceal_base::no_memory::NoMemory;
 use ceal_base::text::Text;
 use ceal_compile::program::Program;
@@ -72,17 +69,13 @@ fn write_save<K: Sink>(
     script: &[u8],
     sink: &mut K,
 ) -> Result<(), Stopped>
-    ensures all { OnOk result (Grows (K.written sink.old) (K.written sink.new)
-        (IsSaveBehind source.now (situation session.old) (script_lines script.now))) }
-    ensures part { Grows (K.written sink.old) (K.written sink.new)
-        (Begins (IsSaveBehind source.now (situation session.old) (script_lines script.now))) }
-    ensures fault { IsErrOf result Stopped.Failed → Rose (K.faults sink.old) (K.faults sink.new) }
+    ensures writes { Writes result (K.written sink.old) (K.written sink.new)
+        (K.faults sink.old) (K.faults sink.new)
+        (IsSaveBehind source.now (situation session.old) (script_lines script.now)) }
 {
-    carry_out_all(session, script)?;
-    match save_of(alloc, source, session) {
-        Ok(text) => write_all(sink, text.items()),
-        Err(NoMemory) => Err(Stopped::Memory),
-    }
+    carry_out_all(session, ScriptLines::new(script))?;
+    let text = save_of(alloc, source, session)?;
+    write_all(sink, text.items())
 }
 
 /// Writes the source part, a line `%%`, and the save of the session behind the script.
@@ -93,28 +86,18 @@ pub fn save<K: Sink>(
     program: Program,
     sink: &mut K,
 ) -> Result<(), Stopped>
-    requires small { length input.now < 2 ^ 32 }
-    requires program { IsProgram input.now program.typed }
-    requires compiled { IsCompiled program }
-    requires fuel { IsAllowed fuel }
-    ensures all { OnOk result
-        (WritesOutput (K.written sink.old) (K.written sink.new) (Save fuel) input.now) }
-    ensures part { WritesPrefix (K.written sink.old) (K.written sink.new) (Save fuel) input.now }
-    ensures fault { IsErrOf result Stopped.Failed → Rose (K.faults sink.old) (K.faults sink.new) }
+    requires { Opens input.now program fuel }
+    ensures writes { Writes result (K.written sink.old) (K.written sink.new)
+        (K.faults sink.old) (K.faults sink.new) (IsOutput (Save fuel) input.now) }
 {
     kept_line();
     some_reply();
     renamed_law();
     saved_law();
     let part = split(input);
-    match Session::seeded(alloc, program, fuel, Seed::of_text(input)) {
-        Ok(session) => {
-            let mut session = session;
-            let (source, script) = (source(input, &part), script(input, &part));
-            let told = write_save(alloc, &mut session, source, script, sink);
-            drop(session);
-            told
-        }
-        Err(NoMemory) => Err(Stopped::Memory),
-    }
+    let (source, script) = (source(input, &part), script(input, &part));
+    let mut session = Session::seeded(alloc, program, fuel, Seed::of_text(input))?;
+    let told = write_save(alloc, &mut session, source, script, sink);
+    drop(session);
+    told
 }

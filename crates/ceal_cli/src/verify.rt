@@ -1,11 +1,11 @@
 // What is written of a dump.
 
-ghost use Rattle.std.specs.Prelude.{◌≡◌, ◌<◌, ◌^◌, true, length, IfOk, OnOk, IsErrOf};
+ghost use Rattle.std.specs.Prelude.{◌≡◌, ◌<◌, ◌^◌, true, length, IfOk};
 ghost use Rattle.ceal_code.specs.Valid.{valid};
 ghost use Rattle.ceal_compile.specs.Compiled.{IsCompiled};
 ghost use Rattle.ceal_compile.specs.Source.{IsProgram};
-ghost use Rattle.ceal_io.specs.Streams.{Rose};
-ghost use Rattle.ceal_cli.specs.Growth.{WritesOutput, WritesPrefix};
+ghost use Rattle.ceal_cli.specs.Growth.{Writes};
+ghost use Rattle.ceal_cli.specs.Output.{IsOutput};
 ghost use Rattle.ceal_cli.specs.Verdicts.{verdict_text, IsVerdictLine};
 ghost use Rattle.ceal_cli.specs.declared.words.Mode.TheVariants.{Verify};
 
@@ -59,13 +59,9 @@ pub fn verify<K: Sink>(
     requires small { length input.now < 2 ^ 32 }
     requires program { IsProgram input.now program.now.typed }
     requires compiled { IsCompiled program.now }
-    ensures all { OnOk result
-        (WritesOutput (K.written sink.old) (K.written sink.new) Verify input.now) }
-    ensures part { WritesPrefix (K.written sink.old) (K.written sink.new) Verify input.now }
-    ensures fault { IsErrOf result Stopped.Failed → Rose (K.faults sink.old) (K.faults sink.new) }
+    ensures writes { Writes result (K.written sink.old) (K.written sink.new)
+        (K.faults sink.old) (K.faults sink.new) (IsOutput Verify input.now) }
 {
-    match checked(alloc, &program.code, script(input, &split(input))) {
-        Ok(line) => write_all(sink, line.as_bytes()),
-        Err(NoMemory) => Err(Stopped::Memory),
-    }
+    let line = checked(alloc, &program.code, script(input, &split(input)))?;
+    write_all(sink, line.as_bytes())
 }

@@ -6,6 +6,7 @@ ghost use Rattle.std.specs.Io.KnownBytes.{ReadConsumes, WriteAppends};
 ghost use Rattle.ceal_io.specs.Streams.{Rose};
 ghost use Rattle.ceal_io.specs.declared.streams.Stopped.TheVariants.{Memory};
 
+use ceal_base::no_memory::NoMemory;
 use std::alloc::AllocError;
 
 /// A read failed.
@@ -40,6 +41,14 @@ impl From<AllocError> for Stopped {
     ghost from_gives = { λ _ e. e ≡ Memory };
 
     fn from(_error: AllocError) -> Stopped {
+        Stopped::Memory
+    }
+}
+
+impl From<NoMemory> for Stopped {
+    ghost from_gives = { λ _ e. e ≡ Memory };
+
+    fn from(_error: NoMemory) -> Stopped {
         Stopped::Memory
     }
 }

@@ -136,11 +136,15 @@ size_kinds form = []
 -- the tokens of a value
 abbrev pub value_kinds : Value → List TokenKind
 value_kinds (Plain e) = expr_kinds e
-value_kinds (Read s e) = Reserved Words.Read ∷ Sign Signs.LeftParenthesis ∷ expr_kinds e ++ Sign Signs.RightParenthesis ∷ []
+value_kinds (Read s e) =
+    Reserved Words.Read ∷ Sign Signs.LeftParenthesis ∷ expr_kinds e ++ Sign Signs.RightParenthesis ∷ []
 value_kinds (Alloc s y x args) =
-    Reserved Words.Alloc ∷ Name y.text ∷ Name x.text ∷ Sign Signs.LeftParenthesis ∷ argument_kinds args ++ Sign Signs.RightParenthesis ∷ []
-value_kinds (ModrefInt s) = Reserved Words.Modref ∷ Reserved Words.Int ∷ Sign Signs.LeftParenthesis ∷ Sign Signs.RightParenthesis ∷ []
-value_kinds (Modref s y) = Reserved Words.Modref ∷ Name y.text ∷ Sign Signs.LeftParenthesis ∷ Sign Signs.RightParenthesis ∷ []
+    Reserved Words.Alloc ∷ Name y.text ∷ Name x.text ∷ Sign Signs.LeftParenthesis ∷ argument_kinds args
+    ++ Sign Signs.RightParenthesis ∷ []
+value_kinds (ModrefInt s) =
+    Reserved Words.Modref ∷ Reserved Words.Int ∷ Sign Signs.LeftParenthesis ∷ Sign Signs.RightParenthesis ∷ []
+value_kinds (Modref s y) =
+    Reserved Words.Modref ∷ Name y.text ∷ Sign Signs.LeftParenthesis ∷ Sign Signs.RightParenthesis ∷ []
 
 -- whether the statement is an `if`
 abbrev pub is_branch : Stmt → Bool
@@ -171,18 +175,23 @@ after_else alone ks = Reserved Words.Else ∷ (if alone then ks else braced ks)
 unfoldable mutual
   -- the tokens of a statement
   pub stmt_kinds : Stmt → List TokenKind
-  stmt_kinds (Declare s form x v) = type_kinds form ++ Name x.text ∷ Sign Signs.Equals ∷ value_kinds v ++ Sign Signs.Semicolon ∷ []
+  stmt_kinds (Declare s form x v) =
+      type_kinds form ++ Name x.text ∷ Sign Signs.Equals ∷ value_kinds v ++ Sign Signs.Semicolon ∷ []
   stmt_kinds (Assign x v) = Name x.text ∷ Sign Signs.Equals ∷ value_kinds v ++ Sign Signs.Semicolon ∷ []
   stmt_kinds (SetField s p x e) =
       expr_kinds p ++ Sign Signs.Arrow ∷ Name x.text ∷ Sign Signs.Equals ∷ expr_kinds e ++ Sign Signs.Semicolon ∷ []
   stmt_kinds (Write s a e) =
       Reserved Words.Write ∷ Sign Signs.LeftParenthesis ∷ expr_kinds a ++ Sign Signs.Comma ∷ expr_kinds e
       ++ Sign Signs.RightParenthesis ∷ Sign Signs.Semicolon ∷ []
-  stmt_kinds (Call x args) = Name x.text ∷ Sign Signs.LeftParenthesis ∷ argument_kinds args ++ Sign Signs.RightParenthesis ∷ Sign Signs.Semicolon ∷ []
+  stmt_kinds (Call x args) =
+      Name x.text ∷ Sign Signs.LeftParenthesis ∷ argument_kinds args ++ Sign Signs.RightParenthesis
+      ∷ Sign Signs.Semicolon ∷ []
   stmt_kinds (If' s e _ first _ second) =
-      Reserved Words.If ∷ Sign Signs.LeftParenthesis ∷ expr_kinds e ++ Sign Signs.RightParenthesis ∷ braced (row_kinds first) ++ else_kinds second
+      Reserved Words.If ∷ Sign Signs.LeftParenthesis ∷ expr_kinds e ++ Sign Signs.RightParenthesis
+      ∷ braced (row_kinds first) ++ else_kinds second
   stmt_kinds (While' s e _ body) =
-      Reserved Words.While ∷ Sign Signs.LeftParenthesis ∷ expr_kinds e ++ Sign Signs.RightParenthesis ∷ braced (row_kinds body)
+      Reserved Words.While ∷ Sign Signs.LeftParenthesis ∷ expr_kinds e ++ Sign Signs.RightParenthesis
+      ∷ braced (row_kinds body)
   stmt_kinds (Return s) = Reserved Words.Return ∷ Sign Signs.Semicolon ∷ []
   stmt_kinds (Break s) = Reserved Words.Break ∷ Sign Signs.Semicolon ∷ []
   stmt_kinds (Continue s) = Reserved Words.Continue ∷ Sign Signs.Semicolon ∷ []
@@ -236,13 +245,16 @@ member_kinds (f ∷ fs) = field_kinds f ++ size_kinds f.form ++ Sign Signs.Semic
 abbrev pub head_kinds : Option Ident → Ident → List FieldDecl → List TokenKind
 head_kinds None x fs = Reserved Words.Ceal ∷ Name x.text ∷ Sign Signs.LeftParenthesis ∷ parameter_kinds fs
 head_kinds (Some y) x fs =
-    Reserved Words.Init ∷ Name x.text ∷ Sign Signs.LeftParenthesis ∷ Reserved Words.Struct ∷ Name y.text ∷ Sign Signs.Star ∷ Reserved Words.Own
+    Reserved Words.Init ∷ Name x.text ∷ Sign Signs.LeftParenthesis ∷ Reserved Words.Struct ∷ Name y.text
+    ∷ Sign Signs.Star ∷ Reserved Words.Own
     ∷ other_kinds fs
 
 -- the tokens of an entry
 abbrev pub entry_kinds : Entry → List TokenKind
-entry_kinds (Struct s) = Reserved Words.Struct ∷ Name s.name.text ∷ braced (member_kinds s.fields) ++ Sign Signs.Semicolon ∷ []
-entry_kinds (Function f) = head_kinds f.initialiser f.name f.params ++ Sign Signs.RightParenthesis ∷ braced (stmts_kinds f.body)
+entry_kinds (Struct s) =
+    Reserved Words.Struct ∷ Name s.name.text ∷ braced (member_kinds s.fields) ++ Sign Signs.Semicolon ∷ []
+entry_kinds (Function f) =
+    head_kinds f.initialiser f.name f.params ++ Sign Signs.RightParenthesis ∷ braced (stmts_kinds f.body)
 
 -- the tokens of entries
 unfoldable pub entries_kinds : List Entry → List TokenKind

@@ -19,4 +19,6 @@ mod queue;
 #[cfg(test)]
 mod trace;
 #[cfg(test)]
+mod trace_of_map;
+#[cfg(test)]
 mod words;

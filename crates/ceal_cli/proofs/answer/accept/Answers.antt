@@ -1,5 +1,9 @@
-use Rattle.ceal_cli.proofs.OutputLaws.{accepted_part}
+use Rattle.ceal_cli.proofs.Growing.{writes_text}
+use Rattle.ceal_cli.proofs.OutputLaws.{accepted}
 use Rattle.ceal_cli.proofs.answer.accept.Goals as goal
 
-pub returns-clause-part : goal.returns-clause-part
-returns-clause-part g c = accepted_part _ _ c.args.input.now c.args.program.now c.requires c.write_all.ensures.prefix
+pub returns : goal.returns
+returns g c = record {
+  writes = writes_text _ _ _ _ _ _ _ (accepted c.args.input.now c.args.program.now c.requires)
+      c.write_all.ensures.all c.write_all.ensures.prefix c.write_all.ensures.fault c.write_all.ensures.later;
+}

@@ -1,7 +1,12 @@
 use Rattle.std.proofs.Common.{◌∙◌}
-use Rattle.ceal_cli.proofs.OutputLaws.{refused_part}
+use Rattle.ceal_cli.proofs.Growing.{writes_text}
+use Rattle.ceal_cli.proofs.OutputLaws.{refused}
 use Rattle.ceal_cli.proofs.answer.refuse.Goals as goal
 
-pub returns-in-Ok-clause-part : goal.returns-in-Ok-clause-part
-returns-in-Ok-clause-part g c =
-    refused_part _ _ c.args.input.now c.args.mode c.requires.reads c.args.fault c.requires.first c.items.result.now (c.items.ensures.value ∙ c.in-Ok.ensures.text) c.write_all.ensures.prefix
+pub returns : goal.returns
+returns g c = record {
+  writes = writes_text _ _ _ _ _ _ c.items.result.now
+      (refused c.args.input.now c.args.mode c.requires.reads c.args.fault c.requires.first c.items.result.now
+      (c.items.ensures.value ∙ c.in_ok-line.ensures.text))
+      c.write_all.ensures.all c.write_all.ensures.prefix c.write_all.ensures.fault c.write_all.ensures.later;
+}

@@ -1,63 +1,53 @@
-use Rattle.std.proofs.Common.{◌∙◌, ap, refl}
-use Rattle.std.specs.Option.{option_copied}
-use Rattle.ceal_cli.proofs.FromRun.{none_before, one_before, from_here, begun_here, none_begun, no_run, no_run_begun}
-use Rattle.ceal_cli.proofs.ScriptLines.{lines_cut, copied_some, no_lines}
+use Rattle.std.proofs.Common.{rules, ap}
+use Rattle.ceal_cli.proofs.FromRun.{one_before, from_here, begun_here, none_begun, no_run, no_run_begun}
 use Rattle.ceal_cli.proofs.from_run.reply_from_run.Goals as goal
 
-pub loop-after-init : goal.loop-after-init
-loop-after-init g c = record { before = none_before _ _; same = refl }
-
-pub loop-after-preserved : goal.loop-after-preserved
-loop-after-preserved g c =
-    let cut = lines_cut c.loop-after.rest.now c.cut_line.result.0.now c.line-line.result.now (option_copied c.cut_line.result.1) c.is_some.result
-    c.cut_line.ensures.lines (c.is_some.ensures ∙ copied_some _) c.line-line.ensures in
-    let here = rw cut at c.loop-after.invariant.before in
-    let left = rw c.in-Some.is at here in
+pub returns-in_default : goal.returns-in_default
+returns-in_default g c =
+    let left = rw c.in_default.ensures.0 at c.loop-line.invariant.before in
+    let same = ap g.K.Sink.written c.loop-line.invariant.same in
     record {
-      before = one_before _ _ _ _ _ left _ c.in_ok-carry_out.ensures.answered.0
-          (λ p. let t = c.is_run_line.ensures.1 p in let f = c.if-is_run_line.false in absurd (cc (t, f))) c.in_ok-carry_out.ensures.answered.1;
-      same = c.loop-after.invariant.same;
+      writes = record {
+        all = no_run _ _ _ left _ _ same;
+        part = no_run_begun _ _ _ left _ _ same;
+        fault = search rules;
+        later = search rules;
+      };
     }
 
-pub returns-then-is_run_line-clause-all : goal.returns-then-is_run_line-clause-all
-returns-then-is_run_line-clause-all g c =
-    let cut = lines_cut c.loop-after.rest.now c.cut_line.result.0.now c.line-line.result.now (option_copied c.cut_line.result.1) c.is_some.result
-    c.cut_line.ensures.lines (c.is_some.ensures ∙ copied_some _) c.line-line.ensures in
-    from_here _ _ _ _ _ (rw cut at c.loop-after.invariant.before) _ _ _ (ap g.K.Sink.written c.loop-after.invariant.same) c.reply_all.result
-    (c.is_run_line.ensures.0 c.if-is_run_line.true) (rw cut at c.reply_all.ensures.all)
+pub returns-then-is_run_line : goal.returns-then-is_run_line
+returns-then-is_run_line g c =
+    let left = rw c.in-Some.ensures at c.loop-line.invariant.before in
+    let same = ap g.K.Sink.written c.loop-line.invariant.same in
+    let run = c.is_run_line.ensures.0 c.if-is_run_line.true in
+    let here = rw (c.copied-here.ensures, c.in-Some.ensures) at c.reply_all.ensures.writes in
+    record {
+      writes = record {
+        all = from_here _ _ _ _ _ left _ _ _ same c.reply_all.result run here.all;
+        part = begun_here _ _ _ _ _ left _ _ _ same run here.part;
+        fault = rw c.loop-line.invariant.same at here.fault;
+        later = rw c.loop-line.invariant.same at here.later;
+      };
+    }
 
-pub returns-then-is_run_line-clause-part : goal.returns-then-is_run_line-clause-part
-returns-then-is_run_line-clause-part g c =
-    let cut = lines_cut c.loop-after.rest.now c.cut_line.result.0.now c.line-line.result.now (option_copied c.cut_line.result.1) c.is_some.result
-    c.cut_line.ensures.lines (c.is_some.ensures ∙ copied_some _) c.line-line.ensures in
-    begun_here _ _ _ _ _ (rw cut at c.loop-after.invariant.before) _ _ _ (ap g.K.Sink.written c.loop-after.invariant.same)
-    (c.is_run_line.ensures.0 c.if-is_run_line.true) (rw cut at c.reply_all.ensures.part)
+pub loop-line-preserved : goal.loop-line-preserved
+loop-line-preserved g c =
+    let left = rw c.in-Some.ensures at c.loop-line.invariant.before in
+    record {
+      before = one_before _ _ _ _ _ left _ c.in_ok-carry_out.ensures.answered.0
+          (λ p. let t = c.is_run_line.ensures.1 p in let f = c.if-is_run_line.false in absurd (cc (t, f)))
+          c.in_ok-carry_out.ensures.answered.1;
+      same = c.loop-line.invariant.same;
+    }
 
-pub returns-then-is_run_line-clause-fault : goal.returns-then-is_run_line-clause-fault
-returns-then-is_run_line-clause-fault g c = rw c.loop-after.invariant.same at c.reply_all.ensures.fault
-
-pub returns-in_err-carry_out-clause-part : goal.returns-in_err-carry_out-clause-part
-returns-in_err-carry_out-clause-part g c =
-    let cut = lines_cut c.loop-after.rest.now c.cut_line.result.0.now c.line-line.result.now (option_copied c.cut_line.result.1) c.is_some.result
-    c.cut_line.ensures.lines (c.is_some.ensures ∙ copied_some _) c.line-line.ensures in
-    none_begun _ _ _ _ _ (rw cut at c.loop-after.invariant.before) _ _ (ap g.K.Sink.written c.loop-after.invariant.same)
-
-pub returns-in-None-clause-all : goal.returns-in-None-clause-all
-returns-in-None-clause-all g c =
-    let cut = lines_cut c.loop-after.rest.now c.cut_line.result.0.now c.line-line.result.now (option_copied c.cut_line.result.1) c.is_some.result
-    c.cut_line.ensures.lines (c.is_some.ensures ∙ copied_some _) c.line-line.ensures in
-    let here = rw cut at c.loop-after.invariant.before in
-    let left = rw (c.in-None.is, no_lines) at here in
-    no_run _ _ _ (one_before _ _ _ _ _ left _ c.in_ok-carry_out.ensures.answered.0
-    (λ p. let t = c.is_run_line.ensures.1 p in let f = c.if-is_run_line.false in absurd (cc (t, f))) c.in_ok-carry_out.ensures.answered.1)
-    _ _ (ap g.K.Sink.written c.loop-after.invariant.same)
-
-pub returns-in-None-clause-part : goal.returns-in-None-clause-part
-returns-in-None-clause-part g c =
-    let cut = lines_cut c.loop-after.rest.now c.cut_line.result.0.now c.line-line.result.now (option_copied c.cut_line.result.1) c.is_some.result
-    c.cut_line.ensures.lines (c.is_some.ensures ∙ copied_some _) c.line-line.ensures in
-    let here = rw cut at c.loop-after.invariant.before in
-    let left = rw (c.in-None.is, no_lines) at here in
-    no_run_begun _ _ _ (one_before _ _ _ _ _ left _ c.in_ok-carry_out.ensures.answered.0
-    (λ p. let t = c.is_run_line.ensures.1 p in let f = c.if-is_run_line.false in absurd (cc (t, f))) c.in_ok-carry_out.ensures.answered.1)
-    _ _ (ap g.K.Sink.written c.loop-after.invariant.same)
+pub returns-in_err-carry_out : goal.returns-in_err-carry_out
+returns-in_err-carry_out g c =
+    let left = rw c.in-Some.ensures at c.loop-line.invariant.before in
+    record {
+      writes = record {
+        all = search rules;
+        part = none_begun _ _ _ _ _ left _ _ (ap g.K.Sink.written c.loop-line.invariant.same);
+        fault = search rules;
+        later = search rules;
+      };
+    }

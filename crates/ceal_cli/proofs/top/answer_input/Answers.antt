@@ -4,7 +4,7 @@ use Rattle.ceal_cli.proofs.top.answer_input.Goals as goal
 
 pub returns-in-Ok-true-clause-output : goal.returns-in-Ok-true-clause-output
 returns-in-Ok-true-clause-output g c =
-    λ _. output_for _ _ _ _ c.in-Ok.ensures.all c.in-Ok.ensures.end c.deref.ensures.value _ _ _ c.in-Ok-true.ensures.all
+    λ _. output_for _ _ _ _ c.in-Ok.ensures.all c.in-Ok.ensures.end c.deref.ensures.value _ _ _ c.in-Ok-true.ensures.writes.all
 
 pub returns-in-Ok-true-clause-within : goal.returns-in-Ok-true-clause-within
 returns-in-Ok-true-clause-within g c =
@@ -12,7 +12,7 @@ returns-in-Ok-true-clause-within g c =
 
 pub returns-in-Ok-true-clause-prefix : goal.returns-in-Ok-true-clause-prefix
 returns-in-Ok-true-clause-prefix g c =
-    prefix_for _ _ _ _ c.in-Ok.ensures.all c.in-Ok.ensures.end c.deref.ensures.value _ _ _ c.write_answer.ensures.part
+    prefix_for _ _ _ _ c.in-Ok.ensures.all c.in-Ok.ensures.end c.deref.ensures.value _ _ _ c.write_answer.ensures.writes.part
 
 pub returns-in-Ok-true-clause-done : goal.returns-in-Ok-true-clause-done
 returns-in-Ok-true-clause-done g c =
@@ -24,7 +24,7 @@ returns-in-Ok-true-clause-refuses g c =
 
 pub returns-in-Ok-false-clause-prefix : goal.returns-in-Ok-false-clause-prefix
 returns-in-Ok-false-clause-prefix g c =
-    prefix_for _ _ _ _ c.in-Ok.ensures.all c.in-Ok.ensures.end c.deref.ensures.value _ _ _ c.write_answer.ensures.part
+    prefix_for _ _ _ _ c.in-Ok.ensures.all c.in-Ok.ensures.end c.deref.ensures.value _ _ _ c.write_answer.ensures.writes.part
 
 pub returns-in-Ok-false-clause-refused : goal.returns-in-Ok-false-clause-refused
 returns-in-Ok-false-clause-refused g c =
@@ -41,15 +41,15 @@ returns-in-Ok-false-clause-complete g c =
 
 pub returns-in-Ok-false-clause-output : goal.returns-in-Ok-false-clause-output
 returns-in-Ok-false-clause-output g c =
-    λ _. output_for _ _ _ _ c.in-Ok.ensures.all c.in-Ok.ensures.end c.deref.ensures.value _ _ _ c.in-Ok-false.ensures.all
+    λ _. output_for _ _ _ _ c.in-Ok.ensures.all c.in-Ok.ensures.end c.deref.ensures.value _ _ _ c.in-Ok-false.ensures.writes.all
 
 pub returns-in-Err-Memory-write_answer-clause-prefix : goal.returns-in-Err-Memory-write_answer-clause-prefix
 returns-in-Err-Memory-write_answer-clause-prefix g c =
-    prefix_for _ _ _ _ c.in-Ok.ensures.all c.in-Ok.ensures.end c.deref.ensures.value _ _ _ c.write_answer.ensures.part
+    prefix_for _ _ _ _ c.in-Ok.ensures.all c.in-Ok.ensures.end c.deref.ensures.value _ _ _ c.write_answer.ensures.writes.part
 
 pub returns-clause-prefix : goal.returns-clause-prefix
 returns-clause-prefix g c =
-    prefix_for _ _ _ _ c.in-Ok.ensures.all c.in-Ok.ensures.end c.deref.ensures.value _ _ _ c.write_answer.ensures.part
+    prefix_for _ _ _ _ c.in-Ok.ensures.all c.in-Ok.ensures.end c.deref.ensures.value _ _ _ c.write_answer.ensures.writes.part
 
 pub returns-in-Ok-true-clause-complete : goal.returns-in-Ok-true-clause-complete
 returns-in-Ok-true-clause-complete g c = done_for _ _ _ _ c.in-Ok.ensures.all c.in-Ok.ensures.end c.deref.ensures.value c.args.mode _ _
@@ -60,12 +60,12 @@ returns-in-Err-TooLong-clause-prefix g c = none_for _ _ c.args.mode
 pub returns-in-Ok-true-clause-answered : goal.returns-in-Ok-true-clause-answered
 returns-in-Ok-true-clause-answered g c =
     λ _. answer_for _ _ _ _ c.in-Ok.ensures.all c.in-Ok.ensures.end c.deref.ensures.value _ _ c.args.mode c.one_side.ensures.answered
-    (c.in-Ok-true.ensures.taken.0 c.in-Ok-true.field-0-test) c.in-Ok-true.ensures.all
+    (c.in-Ok-true.ensures.taken.0 c.in-Ok-true.field-0-test) c.in-Ok-true.ensures.writes.all
 
 pub returns-in-Ok-false-clause-told : goal.returns-in-Ok-false-clause-told
 returns-in-Ok-false-clause-told g c =
     λ _. refusal_for _ _ _ _ c.in-Ok.ensures.all c.in-Ok.ensures.end c.deref.ensures.value _ _ c.args.mode c.one_side.ensures.refused c.requires.reads
-    (λ h. let t = c.in-Ok-false.ensures.taken.1 h in let f = c.in-Ok-false.field-0-test in absurd (cc (t, f))) c.in-Ok-false.ensures.all
+    (λ h. let t = c.in-Ok-false.ensures.taken.1 h in let f = c.in-Ok-false.field-0-test in absurd (cc (t, f))) c.in-Ok-false.ensures.writes.all
 
 pub returns-in-Ok-false-clause-within : goal.returns-in-Ok-false-clause-within
 returns-in-Ok-false-clause-within g c =
