@@ -1,9 +1,12 @@
-// Programs are run, their inputs are edited, and the traces are repaired. The traces were worked out by hand from the
-// rules of the language.
+// Programs are run, their inputs are edited, and the traces are repaired. The traces that are wanted stand in `wanted`.
 
 use crate::asserts::{equal, holds};
 use crate::edits::repaired;
 use crate::side_by_side::beside;
+use crate::wanted::{
+    BOTH_WRITES, DELETED, EDITED_INCREMENT, EDITED_INSIDE, EQUAL_HEADS, FIRST_BOX, FIRST_WRITE,
+    HEADS, INCREMENT, INSERTED, MAPPED, SAME_INCREMENT, SECOND_BOX,
+};
 use ceal_adjust::adjust::Adjusted;
 use ceal_base::kind::Shape;
 use ceal_base::memory::Inputs;
@@ -100,24 +103,6 @@ fn of_increment(alloc: Global, edited: i64) -> Result<Option<Texts>, Fail> {
     story(alloc, INC, 0, &[at(0), at(1)], &before, &after, 2)
 }
 
-const INCREMENT: &str = ".v2 = read(in0.0) u1(&in1.0): 4
-.in1.0 := 5
-end
-work 2
-";
-
-const SAME_INCREMENT: &str = ".v2 = read(in0.0) u1(&in1.0): 4
-.in1.0 := 5
-end
-work 0
-";
-
-const EDITED_INCREMENT: &str = ".v2 = read(in0.0) u1(&in1.0): 9
-.in1.0 := 10
-end
-work 1
-";
-
 #[test]
 fn an_edit_costs_the_steps_after_the_read(rt: HostRuntime) -> Result<(), Fail> {
     let story = of_increment(rt.alloc(), 9)?;
@@ -131,46 +116,6 @@ fn an_equal_value_costs_nothing(rt: HostRuntime) -> Result<(), Fail> {
     tells(&rt, story, INCREMENT, SAME_INCREMENT);
     Ok(())
 }
-
-const MAPPED: &str = ".v2 = read(in0.0) u1(&in1.0): in2
-..#0 = init 0(in2)
-.in1.0 := #0
-..v2 = read(in2.1) u1(&#0.1): in3
-..#1 = init 0(in3)
-.#0.1 := #1
-..v2 = read(in3.1) u1(&#1.1): in4
-..#2 = init 0(in4)
-.#1.1 := #2
-..v2 = read(in4.1) u1(&#2.1): null
-..#2.1 := null
-end
-end
-end
-end
-work 18
-";
-
-const INSERTED: &str = ".v2 = read(in0.0) u1(&in1.0): in5
-..#18 = init 0(in5)
-.in1.0 := #18
-..v2 = read(in5.1) u1(&#18.1): in2
-..#0 = init 0(in2)
-.#18.1 := #0
-..v2 = read(in2.1) u1(&#0.1): in3
-..#1 = init 0(in3)
-.#0.1 := #1
-..v2 = read(in3.1) u1(&#1.1): in4
-..#2 = init 0(in4)
-.#1.1 := #2
-..v2 = read(in4.1) u1(&#2.1): null
-..#2.1 := null
-end
-end
-end
-end
-end
-work 10
-";
 
 /// The list 1, 2, 3 with another cell before it.
 fn with_a_first_cell(alloc: Global) -> Result<Inputs, NoMemory> {
@@ -210,20 +155,6 @@ fn a_cell_before_the_others(rt: HostRuntime) -> Result<(), Fail> {
     Ok(())
 }
 
-const DELETED: &str = ".v2 = read(in0.0) u1(&in1.0): in2
-..#0 = init 0(in2)
-.in1.0 := #0
-..v2 = read(in2.1) u1(&#0.1): in4
-..#2 = init 0(in4)
-.#0.1 := #2
-..v2 = read(in4.1) u1(&#2.1): null
-..#2.1 := null
-end
-end
-end
-work 5
-";
-
 /// The list without its second cell.
 fn without_a_cell(alloc: Global) -> Result<Inputs, NoMemory> {
     let mut after = list(alloc, &[1, 2, 3])?;
@@ -239,32 +170,6 @@ fn a_cell_in_the_middle_is_left_out(rt: HostRuntime) -> Result<(), Fail> {
     tells(&rt, story?, MAPPED, DELETED);
     Ok(())
 }
-
-const EDITED_INSIDE: &str = ".v2 = read(in0.0) u1(&in1.0): in5
-..#18 = init 0(in5)
-.in1.0 := #18
-..v2 = read(in5.1) u1(&#18.1): in2
-..#0 = init 0(in2)
-.#18.1 := #0
-..v2 = read(in2.1) u1(&#0.1): in3
-..#1 = init 0(in3)
-.#0.1 := #1
-..v2 = read(in3.1) u1(&#1.1): in4
-..#2 = init 0(in4)
-.#1.1 := #2
-..v2 = read(in4.1) u1(&#2.1): in6
-..#19 = init 0(in6)
-.#2.1 := #19
-..v2 = read(in6.1) u1(&#19.1): null
-..#19.1 := null
-end
-end
-end
-end
-end
-end
-work 17
-";
 
 /// The list with another cell before it, and one behind it.
 fn with_a_last_cell(alloc: Global) -> Result<Inputs, NoMemory> {
@@ -283,38 +188,6 @@ fn a_stale_read_inside_a_taken_one(rt: HostRuntime) -> Result<(), Fail> {
     tells(&rt, story?, MAPPED, EDITED_INSIDE);
     Ok(())
 }
-
-const HEADS: &str = ".v2 = read(in0.0) u1(&in1.0): in2
-..#0 = init 0(7)
-.in1.0 := #0
-..v2 = read(in2.1) u1(&#0.1): in3
-..#1 = init 0(7)
-.#0.1 := #1
-..v2 = read(in3.1) u1(&#1.1): in4
-..#2 = init 0(8)
-.#1.1 := #2
-..v2 = read(in4.1) u1(&#2.1): null
-..#2.1 := null
-end
-end
-end
-end
-work 18
-";
-
-const EQUAL_HEADS: &str = ".v2 = read(in0.0) u1(&in1.0): in3
-..#0 = init 0(7)
-.in1.0 := #0
-..v2 = read(in3.1) u1(&#0.1): in4
-..#2 = init 0(8)
-.#0.1 := #2
-..v2 = read(in4.1) u1(&#2.1): null
-..#2.1 := null
-end
-end
-end
-work 10
-";
 
 /// The story of MAP_NUMBERS on the list 7, 7, 8, which loses its first cell.
 fn of_numbers(alloc: Global) -> Result<Option<Texts>, Fail> {
@@ -335,25 +208,6 @@ fn the_first_of_two_equal_keys_is_taken(rt: HostRuntime) -> Result<(), Fail> {
     Ok(())
 }
 
-const BOTH_WRITES: &str = ".in1.0 := 1
-..v2 = read(in0.0) u1(&in1.0): 1
-..in1.0 := 2
-end
-.v3 = read(in1.0) u5(&in2.0): 2
-.in2.0 := 2
-end
-work 7
-";
-
-const FIRST_WRITE: &str = ".in1.0 := 1
-..v2 = read(in0.0) u1(&in1.0): 0
-.end
-.v3 = read(in1.0) u5(&in2.0): 1
-.in2.0 := 1
-end
-work 2
-";
-
 /// The story of CONDITIONAL where the number loses its truth.
 fn of_conditional(alloc: Global) -> Result<Option<Texts>, Fail> {
     let before = numbers(alloc, &[1, 0, 0])?;
@@ -371,30 +225,6 @@ fn a_write_that_is_gone_uncovers_an_older_one(rt: HostRuntime) -> Result<(), Fai
     tells(&rt, story, BOTH_WRITES, FIRST_WRITE);
     Ok(())
 }
-
-const FIRST_BOX: &str = "..v3 = read(in0.0) u1(1, &in1.0): 1
-..#0 = init 0(1)
-.in1.0 := #0
-end
-..v3 = read(in0.0) u1(2, &in1.0): 1
-.end
-..v2 = read(in1.0) u4(&in2.0): #0
-.in2.0 := 1
-end
-work 11
-";
-
-const SECOND_BOX: &str = "..v3 = read(in0.0) u1(1, &in1.0): 2
-.end
-..v3 = read(in0.0) u1(2, &in1.0): 2
-..#11 = init 0(2)
-.in1.0 := #11
-end
-..v2 = read(in1.0) u4(&in2.0): #11
-.in2.0 := 2
-end
-work 5
-";
 
 /// The number to compare with, the modifiable for the box, and that for the number in the box.
 fn box_inputs(alloc: Global, n: i64) -> Result<Inputs, NoMemory> {

@@ -22,7 +22,7 @@ use std::alloc::Global;
 use std::test::Fail;
 
 /// The increment of 4.
-const INCREMENT: &str = "ceal-trace 1
+pub const INCREMENT: &str = "ceal-trace 1
 inputs 2
 i 4
 i 0

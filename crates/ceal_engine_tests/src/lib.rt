@@ -1,5 +1,5 @@
 //! The tests, by public calls, of what runs and repairs: repair over whole traces (`adjust`, with `edits`), the run over nodes
-//! (`nodes`), the engine (with `drive`; beside `adjust` in `side_by_side`, in slices in `sliced`, and where memory is refused in
+//! (`nodes`), the engine (with `drive`; beside `adjust` in `side_by_side`, in slices in `in_slices`, and where memory is refused in
 //! `recovered`), the recorded traces (`dumps`), and sessions: where memory is refused (`refused`), and saved (`saves`). No crate
 //! stands on this one.
 #![tactic(auto)]
@@ -17,6 +17,8 @@ mod edits;
 #[cfg(test)]
 mod engine;
 #[cfg(test)]
+mod in_slices;
+#[cfg(test)]
 mod nodes;
 #[cfg(test)]
 mod recovered;
@@ -28,3 +30,5 @@ mod saves;
 mod side_by_side;
 #[cfg(test)]
 mod sliced;
+#[cfg(test)]
+mod wanted;

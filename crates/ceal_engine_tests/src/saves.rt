@@ -4,6 +4,7 @@ ghost use Rattle.std.specs.Prelude.{IfOk, IfSome};
 ghost use Rattle.ceal_compile.specs.Compiled.{IsCompiled};
 
 use crate::asserts::{equal, holds};
+use crate::dumps::INCREMENT;
 use ceal_base::no_memory::NoMemory;
 use ceal_base::text::Text;
 use ceal_compile::compile::compile;
@@ -19,28 +20,10 @@ use std::alloc::Global;
 use std::process::Abort;
 use std::test::Fail;
 
-/// The save of the increment of 4, but for its fuel and the lines of its names.
-const RECORD: &str = "ceal-trace 1
-inputs 2
-i 4
-i 0
-run 0 i0.0 i1.0
-trace 5
-s
-r i0.0 4 u1 v2 i1.0
-s
-w i1.0 5
-e
-memory 2 0
-i 4
-i 5
-end
-";
-
 /// The save of the increment of 4, with this fuel and these names.
 fn increment(alloc: Global, fuel: &str, names: &str) -> Result<String, NoMemory> {
     let text = format!(in alloc;
-        "ceal-save 1\nfuel {fuel}\nwork 2\nbound 2\nnames {names}{RECORD}"
+        "ceal-save 1\nfuel {fuel}\nwork 2\nbound 2\nnames {names}{INCREMENT}"
     )?;
     Ok(text)
 }
