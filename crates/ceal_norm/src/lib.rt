@@ -7,6 +7,7 @@
 #![tactic(auto)]
 
 mod body;
+mod commands;
 mod entries;
 mod expressions;
 mod functions;

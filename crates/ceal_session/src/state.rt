@@ -1,51 +1,44 @@
 // The state between two lines.
 
-ghost use Rattle.std.specs.Prelude.{◌≡◌, ◌≢◌, ◌≤◌, ◌<◌, ◌∷◌, [], true, false, Some, None, Ok as OkOf, length, is_some, bytes_eq, IfOk, IfSome, OnOk, OnErr, MatchOption};
+ghost use Rattle.std.specs.Prelude.{◌≡◌, ◌≢◌, ◌≤◌, ◌<◌, true, false, Some, None, Ok as OkOf, length, is_some, bytes_eq, IfOk, IfSome, OnOk, OnErr};
 ghost use Rattle.std.specs.List.{list_any};
 ghost use Rattle.ceal_base.specs.Fitting.{block_fits, kind_at};
 ghost use Rattle.ceal_compile.specs.Compiled.{IsCompiled};
 ghost use Rattle.ceal_script.specs.Spelling.{IsName};
-ghost use Rattle.ceal_session.specs.Asking.{IsReady, IsCellOf, steps_in, blocks_in, content_text};
+ghost use Rattle.ceal_session.specs.Asking.{IsCellOf};
 ghost use Rattle.ceal_base.specs.declared.call.Call.{Call as CallOf};
 ghost use Rattle.ceal_session.specs.Advancing.{IsAdvanced};
 ghost use Rattle.ceal_session.specs.Following.{IsAllowed, opened, Keeps, Goes, IsLeftBy};
 ghost use Rattle.ceal_session.specs.Keeping.{situation, held_of, Holds};
 ghost use Rattle.ceal_session.specs.Naming.{AreSpelled};
-ghost use Rattle.ceal_session.specs.Recording.{IsRecorded};
-ghost use Rattle.ceal_session.specs.Runs.{memory_of, present_run};
+ghost use Rattle.ceal_session.specs.Runs.{memory_of};
 ghost use Rattle.ceal_session.specs.Senses.{input_named, struct_named, function_named};
 ghost use Rattle.ceal_session.specs.Steps.{IsFirst, with_input, with_base, block_of, fits_cell, has_no_run, runs, runs_part, called_again};
-ghost use Rattle.ceal_session.specs.Texts.{value_text, TellsOf};
 ghost use Rattle.ceal_session.specs.Standing.{HasTrace};
-ghost use Rattle.ceal_session.specs.State.{numbers_in};
-ghost use Rattle.ceal_session.specs.declared.reply.Query.TheVariants.{Show};
 ghost use Rattle.ceal_theory.specs.Pasts.{goes};
 
 use crate::advance::{advanced, first_advanced, goes_on, part_reply, settle, whole_reply};
-use crate::bound::bound_of;
 use crate::journal::{Journal, base_of};
 use crate::reply::Reply;
-use crate::view::graph;
 use ceal_base::call::Call;
 use ceal_base::kind::Shape;
 use ceal_base::memory::Inputs;
 use ceal_base::no_memory::NoMemory;
-use ceal_base::recorded::Record;
 use ceal_base::text::Text;
 use ceal_base::typed::{StructInfo, TypedFunction};
 use ceal_base::word::{Place, Word};
-use ceal_code::laws::progress_law;
 use ceal_compile::program::Program;
 use ceal_engine::engine::Engine;
 use ceal_engine::phase::{Came, Phase};
 use ceal_engine::run_error::RunError;
 use ceal_record::record::record;
-use ceal_show::laws::{fitting_is_whole, same_text};
 use ceal_types::names::Names;
 use ceal_types::numbers::Numbered;
 use ceal_types::seed::Seed;
 use std::alloc::Global;
 use std::marker::Model;
+
+mod answers;
 
 /// A program, the names of the inputs by number, an engine that has the inputs and the run, and the edits.
 #[derive(Drop)]
@@ -340,101 +333,5 @@ impl State {
     {
         let came = self.advance(Some(reads));
         part_reply(&came)
-    }
-
-    /// What a modifiable of an input has at the end of the run.
-    pub fn content(&self, place: Place) -> Word
-        requires ready { IsReady self.now.state }
-        requires cell { IsCellOf self.now.state place }
-        ensures { content_text self.now.state place (present_run self.now.state)
-            ≡ Some (value_text self.now.state result) }
-    {
-        // for the proof: it is an engine, by the clause `whole`
-        let _phase = self.engine.phase();
-        self.engine.value(place)
-    }
-
-    /// How many core blocks the run made.
-    pub fn blocks(&self) -> u32
-        requires { IsReady self.now.state }
-        ensures { blocks_in (present_run self.now.state) ≡ Some result }
-    {
-        // for the proof: it is an engine, by the clause `whole`
-        let _phase = self.engine.phase();
-        self.engine.live_blocks()
-    }
-
-    /// How many steps the run took.
-    pub fn steps(&self) -> u32
-        requires { IsReady self.now.state }
-        ensures { steps_in (present_run self.now.state) ≡ Some result }
-    {
-        // for the proof: it is an engine, by the clause `whole`
-        let _phase = self.engine.phase();
-        self.engine.steps()
-    }
-
-    /// The work of the run.
-    pub fn work(&self) -> u32
-        requires { IsReady self.now.state }
-        ensures work { result ≡ (numbers_in (situation self.now)).work }
-        ensures run { is_some (present_run self.now.state) ≡ true }
-    {
-        // for the proof: it is an engine, by the clause `whole`
-        let _phase = self.engine.phase();
-        self.engine.work()
-    }
-
-    /// A bound of that work, which is made of first traces alone.
-    pub fn bound(&self, alloc: Global) -> Result<u32, NoMemory>
-        requires { IsReady self.now.state }
-        ensures bound { IfOk result (λ n. n ≡ (situation self.now).bound) }
-        ensures run { is_some (present_run self.now.state) ≡ true }
-    {
-        // for the proof: it is an engine, by the clause `whole`
-        let _phase = self.engine.phase();
-        bound_of(alloc, &self.engine, self.journal.bounding())
-    }
-
-    /// The record of the run. There is none where there is no run, the last one was out of fuel, or an edit or a repair is pending.
-    pub fn recorded(&self, alloc: Global) -> Result<Option<Record>, NoMemory>
-        ensures { IfOk result
-            (λ found. MatchOption found (¬ IsReady self.now.state)
-            (λ r. IsRecorded (situation self.now) r)) }
-    {
-        // for the proof: it is an engine, by the clause `whole`
-        let _phase = self.engine.phase();
-        if self.has_no_run() {
-            return Ok(None);
-        }
-        if self.is_pending() {
-            return Ok(None);
-        }
-        let forest = self.engine.forest()?;
-        match self.engine.call() {
-            None => unreachable!(),
-            Some((function, args)) => {
-                let code = self.engine.code();
-                let inputs = self.engine.input_blocks();
-                let record = record(alloc, code, inputs, function, args, forest.items())?;
-                Ok(Some(record))
-            }
-        }
-    }
-
-    /// The graph from an input at the end of the run.
-    pub fn graph(&self, alloc: Global, input: u32) -> Result<Text, NoMemory>
-        requires ready { IsReady self.now.state }
-        requires there { input < length self.now.state.inputs }
-        ensures { IfOk result
-            (λ text. TellsOf self.now.state (numbers_in (situation self.now)) (Show input)
-            (present_run self.now.state) text) }
-    {
-        progress_law();
-        fitting_is_whole();
-        same_text();
-        // for the proof: it is an engine, by the clause `whole`
-        let _phase = self.engine.phase();
-        graph(alloc, &self.engine, &self.names, input)
     }
 }

@@ -1,0 +1,298 @@
+// Runs, and change propagation.
+
+ghost use Rattle.std.specs.Prelude.{◌≡◌, ◌≢◌, ℕ, ◌<◌, ◌≤◌, true, Some, None, IfOk, IsSome, IsOk, OnOk, OnErr};
+ghost use Rattle.std.specs.Option.{IsSomeAnd};
+ghost use Rattle.ceal_base.specs.Trace.{Trace as TraceOf};
+ghost use Rattle.ceal_code.specs.Fitting.{Fits};
+ghost use Rattle.ceal_code.specs.Replay.{IsHonest};
+ghost use Rattle.ceal_engine.specs.Engine.{trace, takes, fresh_of, has_run, IsWhole, IsPresent, IfOutOfFuel};
+ghost use Rattle.ceal_engine.specs.Completed.{finished, under_way, IsFirstOf, IsOldRun, IsRepairOf, IsStillHonest, IsOpenRun, IsSliceOf};
+ghost use Rattle.ceal_engine.specs.Keeping.{Keeps};
+ghost use Rattle.ceal_engine.specs.Partial.{phase_after, phase_behind, CarriesFrom, Comes, ComesSo, EndsSo, KeepsWords};
+ghost use Rattle.ceal_engine.specs.Repaired.{IsFirst, IsRepaired, IsUnchanged, KeepsFront};
+ghost use Rattle.ceal_engine.specs.declared.phase.Phase.TheVariants.{New, Finished, Pending, Partial, Dropped};
+ghost use Rattle.ceal_theory.specs.Slices.{Repair as RepairOf};
+
+use super::Engine;
+use crate::phase::{Came, Phase, Progress};
+use crate::run_error::RunError;
+use crate::running::{reopen, rest};
+use ceal_base::no_memory::NoMemory;
+use ceal_base::word::Word;
+use ceal_repair::first::first;
+use ceal_repair::propagate::propagate;
+use ceal_repair::running::{Outcome, Running};
+use ceal_repair::slice::{Sliced, slice};
+use std::mem;
+
+impl Engine {
+    /// The first trace of the call, as a run.
+    fn first(&self) -> Result<Running, RunError>
+        requires called { IsSome self.now.call }
+        ensures ok { IfOk result (λ run.
+            IsFirstOf self.now.code self.now.fuel self.now.inputs self.now.call run) }
+        ensures out { IfOutOfFuel result (fresh_of self.now ≡ None) }
+    {
+        match self.call.function() {
+            None => unreachable!(),
+            Some(function) => {
+                let args = self.call.args();
+                let outcome = first(
+                    self.alloc,
+                    &self.code,
+                    function,
+                    args,
+                    &self.inputs,
+                    self.fuel,
+                )?;
+                match outcome {
+                    Outcome::OutOfFuel => Err(RunError::OutOfFuel),
+                    Outcome::Done(run) => Ok(run),
+                }
+            }
+        }
+    }
+
+    /// The repair of an old run on the present inputs.
+    fn repaired(&self, old: Running) -> Result<Running, RunError>
+        requires old { IsOldRun self.now.code self.now.fuel self.now.inputs self.now.call old }
+        ensures ok { IfOk result (λ run.
+            IsRepairOf self.now.code self.now.fuel self.now.inputs self.now.call old run) }
+        ensures out { IfOutOfFuel result (fresh_of self.now ≡ None) }
+        ensures sure { IsStillHonest self.now.code self.now.fuel self.now.inputs self.now.call old
+            → IsOk result }
+    {
+        let outcome = propagate(self.alloc, &self.code, &self.inputs, self.fuel, old)?;
+        match outcome {
+            Outcome::OutOfFuel => Err(RunError::OutOfFuel),
+            Outcome::Done(run) => Ok(run),
+        }
+    }
+
+    /// What so many reads, or all that are left, make of a repair that goes on.
+    fn sliced(&self, reads: Option<u32>, old: Running) -> Result<Sliced, NoMemory>
+        requires ready { IsOpenRun self.now.code self.now.fuel self.now.inputs self.now.call old }
+        requires some { reads ≢ Some 0 }
+        ensures ok { IfOk result (λ s.
+            IsSliceOf self.now.code self.now.fuel self.now.inputs self.now.call reads old s) }
+    {
+        slice(self.alloc, &self.code, &self.inputs, reads, self.fuel, old)
+    }
+
+    /// Takes a run of a repair that goes on.
+    fn keep_part(&mut self, run: Running)
+        requires kept { Keeps self.old.code self.old.fuel self.old.inputs Partial
+            self.old.call (Some run) }
+        ensures state { self.new
+            ≡ under_way self.old.code self.old.fuel self.old.inputs self.old.call run }
+    {
+        drop(mem::replace(&mut self.running, Some(run)));
+        self.phase = Phase::Partial;
+    }
+
+    /// Takes a run of the call on the present inputs.
+    fn keep(&mut self, run: Running)
+        requires kept { Keeps self.old.code self.old.fuel self.old.inputs Finished
+            self.old.call (Some run) }
+        ensures state { self.new
+            ≡ finished self.old.code self.old.fuel self.old.inputs self.old.call run }
+        ensures present { IsPresent self.new }
+    {
+        drop(mem::replace(&mut self.running, Some(run)));
+        self.phase = Phase::Finished;
+    }
+
+    /// Runs the call, of which there is no run.
+    fn run_anew(&mut self) -> Result<(), RunError>
+        requires dropped { self.old.phase ≡ Dropped }
+        requires called { IsSome self.old.call }
+        ensures code { self.new.code ≡ self.old.code }
+        ensures fuel { self.new.fuel ≡ self.old.fuel }
+        ensures inputs { self.new.inputs ≡ self.old.inputs }
+        ensures call { self.new.call ≡ self.old.call }
+        ensures phase { OnOk result (self.new.phase ≡ Finished) }
+        ensures present { OnOk result (IsPresent self.new) }
+        ensures first { OnOk result (IsSomeAnd (trace self.new) (IsFirst self.new)) }
+        ensures out_of_fuel { IfOutOfFuel result (fresh_of self.new ≡ None) }
+        ensures dropped { OnErr result (self.new.phase ≡ Dropped) }
+    {
+        let run = self.first()?;
+        self.keep(run);
+        Ok(())
+    }
+
+    /// Repairs the run after edits.
+    fn propagate_edits(&mut self) -> Result<(), RunError>
+        requires pending { self.old.phase ≡ Pending }
+        ensures code { self.new.code ≡ self.old.code }
+        ensures fuel { self.new.fuel ≡ self.old.fuel }
+        ensures inputs { self.new.inputs ≡ self.old.inputs }
+        ensures call { self.new.call ≡ self.old.call }
+        ensures phase { OnOk result (self.new.phase ≡ Finished) }
+        ensures present { OnOk result (IsPresent self.new) }
+        ensures repaired { OnOk result ((l : TraceOf) → trace self.old ≡ Some l →
+            IsSomeAnd (trace self.new) (IsRepaired self.new l)) }
+        ensures unchanged { OnOk result ((l : TraceOf) → trace self.old ≡ Some l →
+            IsHonest self.old.code self.old.inputs l → IsUnchanged self.new l) }
+        ensures unchanged_nodes { OnOk result ((l : TraceOf) → trace self.old ≡ Some l →
+            IsHonest self.old.code self.old.inputs l → self.new.timeline ≡ self.old.timeline) }
+        ensures front { OnOk result (KeepsFront self.old self.new) }
+        ensures sure_where_honest { (l : TraceOf) → trace self.old ≡ Some l →
+            IsHonest self.old.code self.old.inputs l → IsOk result }
+        ensures out_of_fuel { IfOutOfFuel result (fresh_of self.new ≡ None) }
+        ensures dropped { OnErr result (self.new.phase ≡ Dropped) }
+    {
+        self.phase = Phase::Dropped;
+        match self.running.take() {
+            None => unreachable!(),
+            Some(old) => {
+                let run = self.repaired(old)?;
+                self.keep(run);
+                Ok(())
+            }
+        }
+    }
+
+    /// Runs the core function of this number. OutOfFuel comes exactly where the run from scratch takes more steps than
+    /// the fuel. After an error the phase is Dropped, and the call is kept for `propagate`.
+    pub fn run(&mut self, function: u32, args: &[Word]) -> Result<(), RunError>
+        requires new { self.old.phase ≡ New }
+        requires fits { Fits self.old.code self.old.inputs function args.now }
+        ensures code { self.new.code ≡ self.old.code }
+        ensures fuel { self.new.fuel ≡ self.old.fuel }
+        ensures inputs { self.new.inputs ≡ self.old.inputs }
+        ensures call { self.new.call ≡ Some (record { function = function; args = args.now }) }
+        ensures phase { OnOk result (self.new.phase ≡ Finished) }
+        ensures present { OnOk result (IsPresent self.new) }
+        ensures first { OnOk result (IsSomeAnd (trace self.new) (IsFirst self.new)) }
+        ensures out_of_fuel { IfOutOfFuel result (fresh_of self.new ≡ None) }
+        ensures dropped { OnErr result (self.new.phase ≡ Dropped) }
+    {
+        self.call.set(function, args);
+        self.phase = Phase::Dropped;
+        self.run_anew()
+    }
+
+    /// Brings the run up to date after edits, by change propagation (Acar, *Self-Adjusting Computation*, 2005).
+    /// OutOfFuel comes exactly where the run from scratch takes more steps than the fuel, although only a part is run
+    /// anew. After an error the phase is Dropped, and another `propagate` runs the call anew. In Finished it takes no
+    /// memory. In Partial it ends the repair that goes on.
+    pub fn propagate(&mut self) -> Result<(), RunError>
+        requires { self.old.phase ≡ New → ⊥ }
+        ensures code { self.new.code ≡ self.old.code }
+        ensures fuel { self.new.fuel ≡ self.old.fuel }
+        ensures inputs { self.new.inputs ≡ self.old.inputs }
+        ensures call { self.new.call ≡ self.old.call }
+        ensures phase { OnOk result (self.new.phase ≡ Finished) }
+        ensures present { OnOk result (IsPresent self.new) }
+        ensures first { OnOk result (self.old.phase ≡ Dropped →
+            IsSomeAnd (trace self.new) (IsFirst self.new)) }
+        ensures repaired { OnOk result (IsWhole self.old.phase →
+            (l : TraceOf) → trace self.old ≡ Some l →
+            IsSomeAnd (trace self.new) (IsRepaired self.new l)) }
+        ensures unchanged { OnOk result (IsWhole self.old.phase →
+            (l : TraceOf) → trace self.old ≡ Some l →
+            IsHonest self.old.code self.old.inputs l → IsUnchanged self.new l) }
+        ensures unchanged_nodes { OnOk result (IsWhole self.old.phase →
+            (l : TraceOf) → trace self.old ≡ Some l →
+            IsHonest self.old.code self.old.inputs l → self.new.timeline ≡ self.old.timeline) }
+        ensures front { OnOk result (IsWhole self.old.phase → KeepsFront self.old self.new) }
+        ensures partial { self.old.phase ≡ Partial → (next : ℕ) (r : RepairOf) →
+            CarriesFrom self.old next r → EndsSo self.old self.new next r result }
+        ensures sure_where_honest { IsWhole self.old.phase → (l : TraceOf) →
+            trace self.old ≡ Some l → IsHonest self.old.code self.old.inputs l → IsOk result }
+        ensures sure { self.old.phase ≡ Finished → IsOk result }
+        ensures still { self.old.phase ≡ Finished → self.new ≡ record self.old { work = 0 } }
+        ensures out_of_fuel { IfOutOfFuel result (fresh_of self.new ≡ None) }
+        ensures dropped { OnErr result (self.new.phase ≡ Dropped) }
+    {
+        match self.phase {
+            Phase::New => unreachable!(),
+            Phase::Finished => {
+                rest(&mut self.running);
+                Ok(())
+            }
+            Phase::Pending => self.propagate_edits(),
+            Phase::Partial => {
+                self.go_on(None)?;
+                Ok(())
+            }
+            Phase::Dropped => self.run_anew(),
+        }
+    }
+
+    /// Goes on with the repair that is under way, or begins that of a run: so many stale reads, each with all that is inside
+    /// it, or all where no number is given. Where more steps would be spent on it than the fuel, the call is run anew.
+    /// After an error the phase is Dropped.
+    pub fn go_on(&mut self, reads: Option<u32>) -> Result<Came, RunError>
+        requires run { has_run self.old.phase ≡ true }
+        requires some { reads ≢ Some 0 }
+        ensures code { self.new.code ≡ self.old.code }
+        ensures fuel { self.new.fuel ≡ self.old.fuel }
+        ensures inputs { self.new.inputs ≡ self.old.inputs }
+        ensures call { self.new.call ≡ self.old.call }
+        ensures phase { IfOk result (λ came. self.new.phase ≡ phase_behind came) }
+        ensures present { IfOk result (λ came. came ≢ Came.More → IsPresent self.new) }
+        ensures comes { (next : ℕ) (r : RepairOf) → CarriesFrom self.old next r →
+            Comes self.old self.new reads next r result }
+        ensures more { IfOk result (λ came. came ≡ Came.More → IsSome reads) }
+        ensures revoked_stay { IfOk result (λ came. came ≡ Came.More →
+            KeepsWords self.old.heap self.new.heap) }
+        ensures out_of_fuel { IfOutOfFuel result (fresh_of self.new ≡ None) }
+        ensures dropped { OnErr result (self.new.phase ≡ Dropped) }
+    {
+        reopen(&mut self.running, self.phase);
+        self.phase = Phase::Dropped;
+        match self.running.take() {
+            None => unreachable!(),
+            Some(old) => {
+                let sliced = self.sliced(reads, old)?;
+                match sliced {
+                    Sliced::More(run) => {
+                        self.keep_part(run);
+                        Ok(Came::More)
+                    }
+                    Sliced::Done(run) => {
+                        self.keep(run);
+                        Ok(Came::Done)
+                    }
+                    Sliced::Spent => {
+                        self.run_anew()?;
+                        Ok(Came::Anew)
+                    }
+                    Sliced::OutOfFuel => Err(RunError::OutOfFuel),
+                }
+            }
+        }
+    }
+
+    /// Repairs at most so many stale reads, each with all that is inside it. Done: the run is up to date. More: reads are
+    /// stale still, and another `slice` or `propagate` goes on, also after edits. Where the steps run anew since the last
+    /// completion would be more than the fuel, all is run anew in the same call. After an error the phase is Dropped.
+    pub fn slice(&mut self, reads: u32) -> Result<Progress, RunError>
+        requires called { self.old.phase ≡ New → ⊥ }
+        requires some { 1 ≤ reads }
+        ensures code { self.new.code ≡ self.old.code }
+        ensures fuel { self.new.fuel ≡ self.old.fuel }
+        ensures inputs { self.new.inputs ≡ self.old.inputs }
+        ensures call { self.new.call ≡ self.old.call }
+        ensures phase { IfOk result (λ p. self.new.phase ≡ phase_after p) }
+        ensures present { IfOk result (λ p. p ≡ Progress.Done → IsPresent self.new) }
+        ensures done { IfOk result (λ p. self.old.phase ≡ Dropped → p ≡ Progress.Done) }
+        ensures first { OnOk result (self.old.phase ≡ Dropped →
+            IsSomeAnd (trace self.new) (IsFirst self.new)) }
+        ensures slice { (next : ℕ) (r : RepairOf) → CarriesFrom self.old next r →
+            ComesSo self.old self.new (Some reads) next r result }
+        ensures revoked_stay { IfOk result (λ p. p ≡ Progress.More →
+            KeepsWords self.old.heap self.new.heap) }
+        ensures out_of_fuel { IfOutOfFuel result (fresh_of self.new ≡ None) }
+        ensures dropped { OnErr result (self.new.phase ≡ Dropped) }
+    {
+        if self.phase == Phase::Dropped {
+            self.run_anew()?;
+            return Ok(Progress::Done);
+        }
+        let came = self.go_on(Some(reads))?;
+        Ok(came.progress())
+    }
+}

@@ -1,0 +1,53 @@
+// What is looked for by its key.
+
+ghost use Rattle.std.specs.Prelude.{◌≡◌, ◌<◌, IsTrue, option_map};
+ghost use Rattle.ceal_order.specs.Stamps.{head_of};
+ghost use Rattle.ceal_repair.specs.Kept.{Kept};
+ghost use Rattle.ceal_repair.specs.Lists.{allocates, recalls, stamps_where, between};
+ghost use Rattle.ceal_trace.specs.Nodes.{has_node, position};
+
+use super::Tables;
+use crate::sought::{SoughtAlloc, SoughtRead};
+use ceal_base::forest::Key;
+use ceal_memo::key::ReadKey;
+use ceal_order::stamp::Stamp;
+
+impl Tables {
+    /// The earliest allocation with a key after one node and before another.
+    pub fn find_alloc(&self, key: &Key, after: Stamp, until: Stamp) -> Option<Stamp>
+        requires kept { Kept self.now }
+        requires after { IsTrue (has_node after.0 self.now.trace.nodes) }
+        requires until { IsTrue (has_node until.0 self.now.trace.nodes) }
+        requires order { position after.0 self.now.trace.nodes
+            < position until.0 self.now.trace.nodes }
+        ensures { option_map (λ s. s.0) result
+            ≡ head_of
+            (stamps_where (allocates key.now) (between after.0 until.0 self.now.trace.nodes)) }
+    {
+        let sought = SoughtAlloc {
+            trace: &self.trace,
+            key,
+        };
+        self.memo
+            .first_between(self.trace.order(), &sought, after, until)
+    }
+
+    /// The earliest read with a key after one node and before another.
+    pub fn find_read(&self, key: &ReadKey, after: Stamp, until: Stamp) -> Option<Stamp>
+        requires kept { Kept self.now }
+        requires after { IsTrue (has_node after.0 self.now.trace.nodes) }
+        requires until { IsTrue (has_node until.0 self.now.trace.nodes) }
+        requires order { position after.0 self.now.trace.nodes
+            < position until.0 self.now.trace.nodes }
+        ensures { option_map (λ s. s.0) result
+            ≡ head_of
+            (stamps_where (recalls key.now) (between after.0 until.0 self.now.trace.nodes)) }
+    {
+        let sought = SoughtRead {
+            trace: &self.trace,
+            key,
+        };
+        self.memo
+            .first_between(self.trace.order(), &sought, after, until)
+    }
+}

@@ -1,0 +1,263 @@
+// The queue of stale reads: which reads it has, and which of them comes first.
+
+ghost use Rattle.std.specs.Prelude.{◌≡◌, ◌<◌, ◌↔◌, ◌≢◌, ℕ, Some, None, true, false, IfSome, IfNone, IsTrue};
+ghost use Rattle.std.specs.Option.{ForSome};
+ghost use Rattle.ceal_base.specs.declared.word.Place.{Place as PlaceOf};
+ghost use Rattle.ceal_base.specs.declared.word.Word.{Word as WordOf};
+ghost use Rattle.ceal_mods.specs.Mods.{cell_of, Follows as Mods_follow};
+ghost use Rattle.ceal_order.specs.Stamps.{is_in, place as rank};
+ghost use Rattle.ceal_queue.specs.Queue.{IsBefore, IsWithout, Follows as Queue_follows};
+ghost use Rattle.ceal_repair.specs.Covered.{and_one};
+ghost use Rattle.ceal_repair.specs.Kept.{InStep, Kept, CoveredBy, QueuedBehind, QueuedFrom, Records, IsStale, IsHonestRecord, IsAwake, contents_at};
+ghost use Rattle.ceal_trace.specs.Nodes.{stamps_in, has_node, node_at, is_read, with_value};
+ghost use Rattle.ceal_trace.specs.declared.node.Node.TheVariants.{Write};
+
+use super::Tables;
+use crate::recorded::{is_same, recorded, written};
+use ceal_base::word::Place;
+use ceal_order::stamp::Stamp;
+
+impl Tables {
+    /// Looks at a read before which none is queued: it has the content of its moment then, and is not queued. Says
+    /// whether it had another one.
+    pub fn look(&mut self, read: Stamp) -> bool
+        requires kept { Kept self.old }
+        requires here { IsTrue (is_read (node_at read.0 self.old.trace.nodes)) }
+        requires first { QueuedFrom read.0 self.old }
+        ensures stale { IsTrue result → IsStale read.0 self.old }
+        ensures honest { result ≡ false → IsHonestRecord read.0 self.old }
+        ensures nodes { IsTrue result
+            → (p : PlaceOf) × (v : WordOf) × Records p v (node_at read.0 self.old.trace.nodes)
+            × (self.new.trace.nodes
+            ≡ with_value read.0 (contents_at read.0 self.old p) self.old.trace.nodes) }
+        ensures same { result ≡ false → self.new.trace ≡ self.old.trace }
+        ensures cells { self.new.mods.cells ≡ self.old.mods.cells }
+        ensures memo { self.new.memo ≡ self.old.memo }
+        ensures behind { QueuedBehind read.0 self.new }
+        ensures kept { Kept self.new }
+    {
+        if self.unqueue(read) {
+            self.settle(read)
+        } else {
+            false
+        }
+    }
+
+    /// Pops queued reads in the order of time, up to the first one that is stale, which has the content of its moment
+    /// then. With a limit, up to that. Each one that is popped hands on to the next one of its place. No memory is taken.
+    pub fn first_stale(&mut self, until: Option<Stamp>) -> Option<Stamp>
+        requires kept { Kept self.old }
+        requires until { ForSome until (λ u. IsTrue (has_node u.0 self.old.trace.nodes)) }
+        ensures stale { IfSome result (λ s. IsStale s.0 self.old) }
+        ensures nodes { IfSome result
+            (λ s. (p : PlaceOf) × (v : WordOf) × Records p v (node_at s.0 self.old.trace.nodes)
+            × (self.new.trace.nodes
+            ≡ with_value s.0 (contents_at s.0 self.old p) self.old.trace.nodes)) }
+        ensures behind { IfSome result (λ s. QueuedBehind s.0 self.new) }
+        ensures limit { IfSome result (λ s. IsBefore (stamps_in self.old.trace.nodes) until s.0) }
+        ensures none { IfNone result (self.new.trace ≡ self.old.trace) }
+        ensures left { IfNone result ((s : ℕ) → is_in s self.new.stale.stamps ≡ true
+            → ¬ IsBefore (stamps_in self.old.trace.nodes) until s) }
+        ensures cells { self.new.mods.cells ≡ self.old.mods.cells }
+        ensures memo { self.new.memo ≡ self.old.memo }
+        ensures kept { Kept self.new }
+    {
+        for _looked in 0..u64::MAX {
+            let read = self.stale.pop_before(self.trace.order(), until)?;
+            if self.settle(read) {
+                return Some(read);
+            }
+        }
+        None
+    }
+
+    /// Whether a read is stale. Queued reads before the first stale one are honest, and hand on to the next ones of their places; the
+    /// stale one stays queued, with the value that it has. No memory is taken.
+    pub fn has_stale(&mut self) -> bool
+        requires kept { Kept self.old }
+        ensures stale { IsTrue result → (s : ℕ) × IsStale s self.old }
+        ensures honest { result ≡ false → (s : ℕ) → IsHonestRecord s self.new }
+        ensures trace { self.new.trace ≡ self.old.trace }
+        ensures cells { self.new.mods.cells ≡ self.old.mods.cells }
+        ensures memo { self.new.memo ≡ self.old.memo }
+        ensures kept { Kept self.new }
+    {
+        for _looked in 0..u64::MAX {
+            match self.stale.first() {
+                None => return false,
+                Some(read) => {
+                    if self.differs(read) {
+                        return true;
+                    }
+                    self.look(read);
+                }
+            }
+        }
+        false
+    }
+
+    // Whether a read has not the content of its moment.
+    pub fn differs(&mut self, read: Stamp) -> bool
+        requires kept { Kept self.old }
+        requires here { IsTrue (is_read (node_at read.0 self.old.trace.nodes)) }
+        ensures stale { IsTrue result → IsStale read.0 self.old }
+        ensures honest { result ≡ false → IsHonestRecord read.0 self.old }
+        ensures trace { self.new.trace ≡ self.old.trace }
+        ensures cells { self.new.mods.cells ≡ self.old.mods.cells }
+        ensures memo { self.new.memo ≡ self.old.memo }
+        ensures queue { self.new.stale ≡ self.old.stale }
+        ensures kept { Kept self.new }
+    {
+        let (place, value) = recorded(&self.trace, read);
+        let now = self.mods.value_at(self.trace.order(), place, read);
+        !is_same(value, now)
+    }
+
+    // Queues the read that a change of a place after a node affects; there is room for it.
+    pub fn wake(&mut self, place: Place, after: Stamp)
+        requires here { IsTrue (has_node after.0 self.old.trace.nodes) }
+        requires mods { Mods_follow (stamps_in self.old.trace.nodes) self.old.mods }
+        requires stale { Queue_follows (stamps_in self.old.trace.nodes) self.old.stale }
+        requires room { 0 < self.old.stale.spare }
+        ensures trace { self.new.trace ≡ self.old.trace }
+        ensures mods { self.new.mods ≡ self.old.mods }
+        ensures memo { self.new.memo ≡ self.old.memo }
+        ensures stale { Queue_follows (stamps_in self.new.trace.nodes) self.new.stale }
+        ensures more { (s : ℕ) → IsTrue (is_in s self.old.stale.stamps)
+            → IsTrue (is_in s self.new.stale.stamps) }
+        ensures only { (s : ℕ) → is_in s self.old.stale.stamps ≡ false
+            → is_in s self.new.stale.stamps ≡ true
+            → is_in s (cell_of self.old.mods place).reads ≡ true }
+        ensures ahead { (s : ℕ) → is_in s self.old.stale.stamps ≡ false
+            → is_in s self.new.stale.stamps ≡ true
+            → rank after.0 (stamps_in self.old.trace.nodes)
+            < rank s (stamps_in self.old.trace.nodes) }
+        ensures woken { IsAwake (stamps_in self.old.trace.nodes)
+            (cell_of self.old.mods place) after.0 self.new.stale.stamps }
+    {
+        if let Some(read) = self.mods.affected(self.trace.order(), place, after) {
+            self.stale.push(self.trace.order(), read);
+        }
+    }
+
+    // Whether a place holds without a write what it holds with it.
+    pub fn is_needless(&mut self, write: Stamp, place: Place) -> bool
+        requires kept { Kept self.old }
+        requires here { (v : WordOf)
+            × (node_at write.0 self.old.trace.nodes ≡ Some (Write place v)) }
+        ensures same { IsTrue result
+            → node_at write.0 self.old.trace.nodes
+            ≡ Some (Write place (contents_at write.0 self.old place)) }
+        ensures trace { self.new.trace ≡ self.old.trace }
+        ensures cells { self.new.mods.cells ≡ self.old.mods.cells }
+        ensures queue { self.new.stale ≡ self.old.stale }
+        ensures memo { self.new.memo ≡ self.old.memo }
+        ensures kept { Kept self.new }
+    {
+        let value = written(&self.trace, write);
+        let held = self.mods.value_at(self.trace.order(), place, write);
+        is_same(value, held)
+    }
+
+    // Queues the read that a change of a place after a node affects, unless nothing has changed.
+    pub fn wake_unless(&mut self, same: bool, place: Place, after: Stamp)
+        requires here { IsTrue (has_node after.0 self.old.trace.nodes) }
+        requires mods { Mods_follow (stamps_in self.old.trace.nodes) self.old.mods }
+        requires stale { Queue_follows (stamps_in self.old.trace.nodes) self.old.stale }
+        requires room { 0 < self.old.stale.spare }
+        ensures trace { self.new.trace ≡ self.old.trace }
+        ensures mods { self.new.mods ≡ self.old.mods }
+        ensures memo { self.new.memo ≡ self.old.memo }
+        ensures stale { Queue_follows (stamps_in self.new.trace.nodes) self.new.stale }
+        ensures more { (s : ℕ) → IsTrue (is_in s self.old.stale.stamps)
+            → IsTrue (is_in s self.new.stale.stamps) }
+        ensures only { (s : ℕ) → is_in s self.old.stale.stamps ≡ false
+            → is_in s self.new.stale.stamps ≡ true
+            → is_in s (cell_of self.old.mods place).reads ≡ true }
+        ensures ahead { (s : ℕ) → is_in s self.old.stale.stamps ≡ false
+            → is_in s self.new.stale.stamps ≡ true
+            → rank after.0 (stamps_in self.old.trace.nodes)
+            < rank s (stamps_in self.old.trace.nodes) }
+        ensures woken { same ≡ false
+            → IsAwake (stamps_in self.old.trace.nodes)
+            (cell_of self.old.mods place) after.0 self.new.stale.stamps }
+    {
+        if !same {
+            self.wake(place, after);
+        }
+    }
+
+    // Takes a node out of the queue that has none before it, and says whether it was there.
+    pub fn unqueue(&mut self, read: Stamp) -> bool
+        requires here { IsTrue (has_node read.0 self.old.trace.nodes) }
+        requires stale { Queue_follows (stamps_in self.old.trace.nodes) self.old.stale }
+        requires first { QueuedFrom read.0 self.old }
+        ensures was { IsTrue result ↔ IsTrue (is_in read.0 self.old.stale.stamps) }
+        ensures without { IsWithout read.0 self.old.stale.stamps self.new.stale.stamps }
+        ensures room { IsTrue result → 0 < self.new.stale.spare }
+        ensures trace { self.new.trace ≡ self.old.trace }
+        ensures mods { self.new.mods ≡ self.old.mods }
+        ensures memo { self.new.memo ≡ self.old.memo }
+        ensures stale { Queue_follows (stamps_in self.new.trace.nodes) self.new.stale }
+    {
+        let next = self.trace.order().next(read);
+        self.stale.pop_before(self.trace.order(), next).is_some()
+    }
+
+    // Takes a read out of the queue that has none before it; where it was there, the next one of its place goes in.
+    pub fn hand_on(&mut self, read: Stamp, place: Place)
+        requires here { IsTrue (has_node read.0 self.old.trace.nodes) }
+        requires mods { Mods_follow (stamps_in self.old.trace.nodes) self.old.mods }
+        requires stale { Queue_follows (stamps_in self.old.trace.nodes) self.old.stale }
+        requires first { QueuedFrom read.0 self.old }
+        ensures trace { self.new.trace ≡ self.old.trace }
+        ensures mods { self.new.mods ≡ self.old.mods }
+        ensures memo { self.new.memo ≡ self.old.memo }
+        ensures stale { Queue_follows (stamps_in self.new.trace.nodes) self.new.stale }
+        ensures gone { is_in read.0 self.new.stale.stamps ≡ false }
+        ensures more { (s : ℕ) → s ≢ read.0 → IsTrue (is_in s self.old.stale.stamps)
+            → IsTrue (is_in s self.new.stale.stamps) }
+        ensures only { (s : ℕ) → is_in s self.old.stale.stamps ≡ false
+            → is_in s self.new.stale.stamps ≡ true
+            → is_in s (cell_of self.old.mods place).reads ≡ true }
+        ensures ahead { QueuedBehind read.0 self.new }
+        ensures woken { IsTrue (is_in read.0 self.old.stale.stamps)
+            → IsAwake (stamps_in self.old.trace.nodes)
+            (cell_of self.old.mods place) read.0 self.new.stale.stamps }
+    {
+        if self.unqueue(read) {
+            self.wake(place, read);
+        }
+    }
+
+    // A read that was popped hands on to the next one of its place, and gets the content of its moment. Says whether it
+    // had another one.
+    pub fn settle(&mut self, popped: Stamp) -> bool
+        requires step { InStep self.old }
+        requires covered { CoveredBy (and_one popped.0 self.old.stale.stamps) self.old }
+        requires out { is_in popped.0 self.old.stale.stamps ≡ false }
+        requires first { QueuedFrom popped.0 self.old }
+        requires here { IsTrue (is_read (node_at popped.0 self.old.trace.nodes)) }
+        requires room { 0 < self.old.stale.spare }
+        ensures stale { IsTrue result → IsStale popped.0 self.old }
+        ensures honest { result ≡ false → IsHonestRecord popped.0 self.old }
+        ensures nodes { IsTrue result
+            → (p : PlaceOf) × (v : WordOf) × Records p v (node_at popped.0 self.old.trace.nodes)
+            × (self.new.trace.nodes
+            ≡ with_value popped.0 (contents_at popped.0 self.old p) self.old.trace.nodes) }
+        ensures same { result ≡ false → self.new.trace ≡ self.old.trace }
+        ensures cells { self.new.mods.cells ≡ self.old.mods.cells }
+        ensures memo { self.new.memo ≡ self.old.memo }
+        ensures behind { QueuedBehind popped.0 self.new }
+        ensures kept { Kept self.new }
+    {
+        let (place, value) = recorded(&self.trace, popped);
+        self.wake(place, popped);
+        let now = self.mods.value_at(self.trace.order(), place, popped);
+        if is_same(value, now) {
+            return false;
+        }
+        self.trace.set_value(popped, now);
+        true
+    }
+}
