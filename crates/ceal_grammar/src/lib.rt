@@ -4,9 +4,10 @@
 //! their nesting, their item and their operators (`Spelled`), its tree (`Trees`), accepted tokens and the first fault
 //! (`Faults`). They know no parser. `Machine` is a reading that takes one token at a time: `state` says where it can
 //! stand, and `step` how a token moves it; `Judged` is what it comes to over all the tokens of a source. `laws` says
-//! what holds of them: tokens have one tree or one first fault, and the reading finds it.
+//! what holds of them: tokens have one tree or one first fault, and the reading finds it. `levels` has those of operators.
 #![tactic(auto)]
 
 pub mod laws;
+pub mod levels;
 pub mod stack;
 pub mod state;

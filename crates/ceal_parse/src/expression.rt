@@ -8,13 +8,14 @@ ghost use Rattle.ceal_grammar.specs.declared.state.Inside.{Inside};
 ghost use Rattle.ceal_grammar.specs.declared.state.Piece.{Piece as PieceOf};
 ghost use Rattle.ceal_parse.specs.Reading.{part_state, turn_state};
 
-use crate::marks::{level, operator, same_sign};
+use crate::marks::{operator, same_sign};
 use crate::operand::{take_access, take_operand, take_prim};
 use crate::piece::{element, operate, reduce};
 use crate::turn::{Part, Turn, going as turn_of, put, settle};
 use ceal_base::fault::Span;
 use ceal_base::no_memory::NoMemory;
 use ceal_base::syntax::Expr;
+use ceal_grammar::levels::binary_level;
 use ceal_grammar::stack::Stack;
 use ceal_grammar::state::{Frame, Mode, Piece, Place, Receiver, Whole};
 use ceal_lex::token::{Sign, Token, TokenKind};
@@ -97,7 +98,7 @@ fn take_sign(
 {
     match operator(sign) {
         Some(operator) => {
-            let left = reduce(alloc, level(operator), piece, &mut whole.frames)?;
+            let left = reduce(alloc, binary_level(operator), piece, &mut whole.frames)?;
             operate(whole, place, Frame::Left(left, operator, at), Place::Want)?;
             Ok(Part::On)
         }

@@ -1,7 +1,6 @@
 // What a token is, and which operator a sign is.
 
 ghost use Rattle.std.specs.Prelude.{◌≡◌, ◌<◌, ◌^◌, IfSome};
-ghost use Rattle.ceal_grammar.specs.Grammar.{level as level_of_operator};
 ghost use Rattle.ceal_grammar.specs.Machine.{same_sign as same_signs, same_word as same_words, is_sign as is_sign_kind, is_word as is_word_kind, operator_of, length_of, ident_of};
 
 use ceal_base::operators::Binary;
@@ -36,28 +35,6 @@ pub fn is_word(token: &Token, word: Reserved) -> bool
     match token.kind {
         TokenKind::Reserved(found) => same_word(found, word),
         _ => false,
-    }
-}
-
-/// The level of an operator: those of a higher one bind first.
-pub fn level(operator: Binary) -> u8
-    ensures value { result ≡ level_of_operator operator }
-{
-    match operator {
-        Binary::Or => 1,
-        Binary::And => 2,
-        Binary::Same => 3,
-        Binary::Differ => 3,
-        Binary::Less => 4,
-        Binary::LessEq => 4,
-        Binary::More => 4,
-        Binary::MoreEq => 4,
-        Binary::Add => 5,
-        Binary::Sub => 5,
-        Binary::Mul => 6,
-        Binary::Div => 6,
-        Binary::Rem => 6,
-        Binary::Pick(_) => 0,
     }
 }
 

@@ -5,13 +5,14 @@ ghost use Rattle.std.specs.Prelude.{◌≡◌, ◌∷◌, ◌<◌, ◌^◌, Some
 ghost use Rattle.ceal_grammar.specs.Machine.{single as single_piece, prefixed, addressed, element_of, joined, accessed, operated, reduced};
 ghost use Rattle.ceal_grammar.specs.declared.state.Frame.TheVariants.{Address};
 
-use crate::marks::{level, operator};
+use crate::marks::operator;
 use crate::turn::{boxed, put};
 use ceal_base::boxed::Boxed;
 use ceal_base::fault::Span;
 use ceal_base::no_memory::NoMemory;
 use ceal_base::operators::{Binary, Unary};
 use ceal_base::syntax::{Expr, ExprForm, Ident};
+use ceal_grammar::levels::binary_level;
 use ceal_grammar::stack::Stack;
 use ceal_grammar::state::{Frame, Piece, Place, Whole};
 use std::alloc::Global;
@@ -112,7 +113,7 @@ pub fn reduce(
             Ok(all)
         }
         Some(Frame::Left(left, operator, at)) => {
-            if lowest <= level(operator) {
+            if lowest <= binary_level(operator) {
                 let whole = join(alloc, left, operator, at, piece)?;
                 let all = reduce(alloc, lowest, whole, frames)?;
                 Ok(all)

@@ -4,12 +4,11 @@ ghost use Rattle.std.specs.Prelude.{◌≡◌, ◌++◌, ◌∷◌, [], codes, I
 ghost use Rattle.ceal_lex.specs.declared.token.TokenKind.TheVariants.{Name};
 ghost use Rattle.ceal_print.specs.PrintWords.{texts, expr_kinds, form_level, raised, more_kinds, argument_kinds, type_kinds, size_kinds, value_kinds};
 
-use crate::text::{
-    binary_level, put_binary, put_length, put_name, put_named, put_number, put_unary,
-};
+use crate::text::{put_binary, put_length, put_name, put_named, put_number, put_unary};
 use ceal_base::no_memory::NoMemory;
 use ceal_base::syntax::{Expr, ExprForm, Ident, TypeForm, Value};
 use ceal_base::text::Text;
+use ceal_grammar::levels::binary_level;
 
 /// The level of an expression, parentheses left out.
 fn level(e: &Expr) -> u8

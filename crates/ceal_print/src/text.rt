@@ -1,9 +1,8 @@
 // Tokens of a text.
 
-ghost use Rattle.std.specs.Prelude.{◌≡◌, ◌≤◌, ◌++◌, ◌∷◌, [], codes, IfOk};
+ghost use Rattle.std.specs.Prelude.{◌≡◌, ◌++◌, ◌∷◌, [], codes, IfOk};
 ghost use Rattle.ceal_base.specs.declared.operators.Binary.{Binary as BinaryOp};
 ghost use Rattle.ceal_lex.specs.declared.token.TokenKind.TheVariants.{Name, Number, Sign};
-ghost use Rattle.ceal_grammar.specs.Grammar.{level as level_of_operator};
 ghost use Rattle.ceal_print.specs.PrintWords.{texts, row_length_kinds};
 ghost use Rattle.ceal_grammar.specs.Spelled.{sign_of, prefix_sign};
 
@@ -86,28 +85,5 @@ pub fn put_binary(out: &mut Text, op: Binary) -> Result<(), NoMemory>
         Binary::And => out.append_str("&& "),
         Binary::Or => out.append_str("|| "),
         Binary::Pick(_) => out.append_str("[ "),
-    }
-}
-
-/// The level of an operator with two operands.
-pub fn binary_level(op: Binary) -> u8
-    ensures value { result ≡ level_of_operator op }
-    ensures low { result ≤ 6 }
-{
-    match op {
-        Binary::Or => 1,
-        Binary::And => 2,
-        Binary::Same => 3,
-        Binary::Differ => 3,
-        Binary::Less => 4,
-        Binary::LessEq => 4,
-        Binary::More => 4,
-        Binary::MoreEq => 4,
-        Binary::Add => 5,
-        Binary::Sub => 5,
-        Binary::Mul => 6,
-        Binary::Div => 6,
-        Binary::Rem => 6,
-        Binary::Pick(_) => 0,
     }
 }
