@@ -21,9 +21,7 @@ fn make<R: Abort>(rt: &R, heap: &mut Heap, words: &[Word]) -> BlockId
     ensures known { IsSome (block_of heap.new result) }
     ensures others { KeepsBlocks result heap.old heap.new }
 {
-    heap.make(CELL, words)
-        .expect(rt, "memory")
-        .block
+    heap.make(CELL, words).expect(rt, "memory").block
 }
 
 // The block holds a word of each kind, of which the last is this.
@@ -151,9 +149,7 @@ fn make_second<R: Abort>(rt: &R, heap: &mut Heap, first: BlockId) -> BlockId
     }
     equal(rt, heap.live_count(), 1);
     equal(rt, heap.field(first, 0), Word::Num(1));
-    heap.make(NODE, &[Word::Num(2)])
-        .expect(rt, "memory")
-        .block
+    heap.make(NODE, &[Word::Num(2)]).expect(rt, "memory").block
 }
 
 fn makes_two_blocks<R: Abort>(rt: &R, heap: &mut Heap) {
