@@ -5,11 +5,12 @@
     bench/slices.py PROGRAM            for another build of it
     bench/slices.py --quick            a small size, once, to see that all goes
 
-Times are processor time, user and system together, of whole processes: the best of seven. What a part of a script takes is the time
-of the script less that of the script without it. Python 3 alone is needed, on Linux.
+Costs are instructions where valgrind is there to count them, and else processor time of whole processes, the best of 25. What a part of
+a script costs is the cost of the script less that of the script without it.
 """
 import sys
 
+import instructions
 from measuring import Program
 from workloads import RUN, TOP
 
@@ -57,24 +58,32 @@ def cells(size):
 
 
 class Bench:
-    """A program and how often each script is run."""
+    """A program, whose scripts cost instructions where valgrind is there to count them, and else seconds: the best of so many rounds."""
 
     def __init__(self, program, rounds):
-        self.program, self.rounds = Program(program, 1), rounds
+        self.program, self.rounds, self.counts = Program(program, 1), rounds, rounds > 1 and instructions.is_there()
 
     def once(self, source, lines):
-        """The processor time of a script in seconds, its most memory in megabytes, and its replies."""
-        spent = self.program.once(RUN, source.lstrip('\n') + '\n'.join(lines) + '\n')
-        return spent.seconds, spent.memory, spent.written.split('\n')
+        """What a script costs, its most memory in megabytes, and its replies."""
+        text = source.lstrip('\n') + '\n'.join(lines) + '\n'
+        spent = self.program.once(RUN, text)
+        cost = instructions.counted(self.program.path, text) if self.counts else spent.seconds
+        return cost, spent.memory, spent.written.split('\n')
 
     def bests(self, source, scripts):
-        """The least time of each script, with its memory and its replies. The scripts take turns, so that each has its quiet moments."""
+        """The least cost of each script, with its memory and its replies. The scripts take turns, so that each has its quiet moments."""
         found = {}
-        for _ in range(self.rounds):
+        for _ in range(1 if self.counts else self.rounds):
             for name, lines in scripts.items():
-                time, memory, replies = self.once(source, lines)
-                found[name] = (min(time, found[name][0]) if name in found else time, memory, replies)
+                cost, memory, replies = self.once(source, lines)
+                found[name] = (min(cost, found[name][0]) if name in found else cost, memory, replies)
         return found
+
+    def told(self, cost):
+        return f'{cost / 1e6:.1f} million instructions' if self.counts else f'{cost * 1e3:.0f} ms'
+
+    def told_each(self, cost):
+        return f'{cost:,.0f} instructions' if self.counts else f'{cost * 1e6:.2f} µs'
 
 
 def of_slices(bench, size):
@@ -87,7 +96,7 @@ def of_slices(bench, size):
         'at once': inputs + edits + ['propagate', 'work'],
         'in slices of 100': inputs + edits + hundreds + ['work'],
         'in slices of 1': inputs + edits + ones + ['work'],
-        'lines': inputs + edits + ['propagate'] + ones,
+        'lines': inputs + edits + ['propagate', 'work'] + ones,
         'half': inputs + edits + ones[:half],
         'half with edits': inputs + edits + ['propagate 1', 'set o null'] * half,
         'edits only': inputs + edits + ['set o null'] * half,
@@ -96,24 +105,24 @@ def of_slices(bench, size):
     bare = found['lines'][0] - found['at once'][0]
     yield f'A repair of {size:,} stale reads, none of them inside another:'
     yield ''
-    yield '| Repair | time | of that at once | memory |'
+    yield '| Repair | cost | of that at once | memory |'
     yield '|---|---|---|---|'
     for name in ('at once', 'in slices of 100', 'in slices of 1'):
-        time, memory, replies = found[name]
+        cost, memory, replies = found[name]
         if replies[-2] != str(size) or replies[-3] not in ('ok', 'done'):
             sys.exit(f'bench/slices.py: {name} the work is {replies[-2]} after {replies[-3]}')
-        yield f'| {name} | {(time - base) * 1e3:.0f} ms | {(time - base) / whole:.2f} | {memory:.0f} MB |'
-    ones_time = found['in slices of 1'][0] - base
-    yield f'| in slices of 1, less the bare lines | {(ones_time - bare) * 1e3:.0f} ms | {(ones_time - bare) / whole:.2f} | |'
+        yield f'| {name} | {bench.told(cost - base)} | {(cost - base) / whole:.2f} | {memory:.0f} MB |'
+    ones_cost = found['in slices of 1'][0] - base
+    yield f'| in slices of 1, less the bare lines | {bench.told(ones_cost - bare)} | {(ones_cost - bare) / whole:.2f} | |'
     between, before = found['half with edits'][0] - found['half'][0], found['edits only'][0] - base
     yield ''
-    yield f'{size:,} lines `propagate 1` with nothing to repair, which are read and answered, take {bare * 1e3:.0f} ms. An edit between two slices'
-    yield f'takes {between / half * 1e6:.2f} µs, and one before a repair {before / half * 1e6:.2f} µs. With an edit after each of {half:,} slices of 1 the process'
-    yield f'holds {found["half with edits"][1]:.0f} MB at most.'
+    yield f'{size:,} lines `propagate 1` with nothing to repair, which are read and answered, cost {bench.told(bare)}. An edit between two slices'
+    yield f'costs {bench.told_each(between / half)}, and one before a repair {bench.told_each(before / half)}. With an edit after each of {half:,} slices of 1 the'
+    yield f'process holds {found["half with edits"][1]:.0f} MB at most.'
 
 
 def of_bound(bench, size):
-    """What the line `bound` takes, as lines of text."""
+    """What the line `bound` costs, as lines of text."""
     inputs = cells(size)
     edit = inputs + ['run map l o', 'set l x', 'propagate']
     found = bench.bests(MAP, {
@@ -124,13 +133,13 @@ def of_bound(bench, size):
     })
     steps, answer = int(found['run'][2][-2]), int(found['bound'][2][-2])
     taken, run = found['bound'][0] - found['edit'][0], found['run'][0] - found['inputs'][0]
-    yield f'The line `bound` after a run of {steps:,} steps over a list of {size:,} cells and the update for one more cell takes {taken * 1e3:.0f} ms (it answers'
-    yield f'{answer:,}); the run by itself takes {run * 1e3:.0f} ms. The process holds {found["bound"][1]:.0f} MB at most.'
+    yield f'The line `bound` after a run of {steps:,} steps over a list of {size:,} cells and the update for one more cell costs {bench.told(taken)}'
+    yield f'(it answers {answer:,}); the run by itself costs {bench.told(run)}. The process holds {found["bound"][1]:.0f} MB at most.'
 
 
 def section(program, quick):
     """The section of docs/PERFORMANCE.md on slices and the bound."""
-    bench, size = Bench(program, 1 if quick else 7), 400 if quick else 40_000
+    bench, size = Bench(program, 1 if quick else 25), 400 if quick else 40_000
     return '\n'.join([*of_slices(bench, size), '', *of_bound(bench, size)]) + '\n'
 
 
