@@ -3,6 +3,7 @@
 ghost use Rattle.std.specs.Prelude.{◌≢◌, ◌<◌, ◌^◌, ◌↔◌, IsTrue, length, IfOk};
 ghost use Rattle.ceal_compile.specs.Compiled.{IsCompiled};
 ghost use Rattle.ceal_compile.specs.Source.{IsFirstFault, IsProgram};
+ghost use Rattle.ceal_lex.specs.Parts.{IsSplit};
 ghost use Rattle.ceal_cli.specs.Growth.{Writes};
 ghost use Rattle.ceal_cli.specs.Limits.{KeepsLimits};
 ghost use Rattle.ceal_cli.specs.Members.{Opens};
@@ -10,6 +11,7 @@ ghost use Rattle.ceal_cli.specs.Modes.{ReadsInput};
 ghost use Rattle.ceal_cli.specs.Output.{IsOutput, IsTaken};
 
 use crate::dump::dump;
+use crate::input::Input;
 use crate::lines::{ScriptLines, script};
 use crate::many::many;
 use crate::replies::reply_all;
@@ -20,11 +22,10 @@ use crate::words::Mode;
 use ceal_base::fault::{Fault, FrontError};
 use ceal_base::typed::Typed;
 use ceal_code::listing::listing;
-use ceal_compile::compile::{check_source, compile, one_answer};
+use ceal_compile::compile::{check_part, compile_part, one_answer};
 use ceal_compile::fault_line::fault_line;
 use ceal_compile::program::Program;
 use ceal_io::{Sink, Stopped, write_all};
-use ceal_lex::split::split;
 use ceal_session::laws::{kept_line, some_reply};
 use ceal_session::session::Session;
 use ceal_types::seed::Seed;
@@ -77,18 +78,19 @@ fn list<K: Sink>(
 fn run<K: Sink>(
     alloc: Global,
     fuel: u32,
-    input: &[u8],
+    input: Input<'_>,
     program: Program,
     sink: &mut K,
 ) -> Result<(), Stopped>
-    requires { Opens input.now program fuel }
+    requires split { IsSplit input.bytes.now input.part }
+    requires opens { Opens input.bytes.now program fuel }
     ensures writes { Writes result (K.written sink.old) (K.written sink.new)
-        (K.faults sink.old) (K.faults sink.new) (IsOutput (Mode.Run fuel) input.now) }
+        (K.faults sink.old) (K.faults sink.new) (IsOutput (Mode.Run fuel) input.entry.bytes.now) }
 {
     kept_line();
     some_reply();
-    let lines = ScriptLines::new(script(input, &split(input)));
-    let mut session = Session::seeded(alloc, program, fuel, Seed::of_text(input))?;
+    let lines = ScriptLines::new(script(input.bytes, &input.part));
+    let mut session = Session::seeded(alloc, program, fuel, Seed::of_text(input.bytes))?;
     let told = reply_all(&mut session, lines, sink);
     // The program ends behind this: its memory goes back with the process, and not piece by piece.
     forget(session);
@@ -98,22 +100,23 @@ fn run<K: Sink>(
 fn answer<K: Sink>(
     alloc: Global,
     mode: Mode,
-    input: &[u8],
+    input: Input<'_>,
     program: Program,
     sink: &mut K,
 ) -> Result<(), Stopped>
-    requires small { length input.now < 2 ^ 32 }
-    requires program { IsProgram input.now program.typed }
+    requires small { length input.bytes.now < 2 ^ 32 }
+    requires split { IsSplit input.bytes.now input.part }
+    requires program { IsProgram input.bytes.now program.typed }
     requires compiled { IsCompiled program }
     requires reads { ReadsInput mode }
     requires limits { KeepsLimits mode }
     requires other { mode ≢ Mode.Resume }
     ensures writes { Writes result (K.written sink.old) (K.written sink.new)
-        (K.faults sink.old) (K.faults sink.new) (IsOutput mode input.now) }
+        (K.faults sink.old) (K.faults sink.new) (IsOutput mode input.entry.bytes.now) }
 {
     match mode {
-        Mode::Check => accept(input, &program.typed, sink),
-        Mode::List => list(alloc, input, &program, sink),
+        Mode::Check => accept(input.bytes, &program.typed, sink),
+        Mode::List => list(alloc, input.bytes, &program, sink),
         Mode::Verify => verify(alloc, input, &program, sink),
         Mode::Run(fuel) => run(alloc, fuel, input, program, sink),
         Mode::Dump(fuel) => dump(alloc, fuel, input, program, sink),
@@ -127,18 +130,19 @@ fn answer<K: Sink>(
 fn take<K: Sink>(
     alloc: Global,
     mode: Mode,
-    input: &[u8],
+    input: Input<'_>,
     program: Program,
     sink: &mut K,
 ) -> Result<bool, Stopped>
-    requires small { length input.now < 2 ^ 32 }
-    requires program { IsProgram input.now program.typed }
+    requires small { length input.bytes.now < 2 ^ 32 }
+    requires split { IsSplit input.bytes.now input.part }
+    requires program { IsProgram input.bytes.now program.typed }
     requires compiled { IsCompiled program }
     requires reads { ReadsInput mode }
     requires limits { KeepsLimits mode }
-    ensures taken { IfOk result (λ taken. IsTrue taken ↔ IsTaken mode input.now) }
+    ensures taken { IfOk result (λ taken. IsTrue taken ↔ IsTaken mode input.entry.bytes.now) }
     ensures writes { Writes result (K.written sink.old) (K.written sink.new)
-        (K.faults sink.old) (K.faults sink.new) (IsOutput mode input.now) }
+        (K.faults sink.old) (K.faults sink.new) (IsOutput mode input.entry.bytes.now) }
 {
     if let Mode::Resume = mode {
         return resume(alloc, input, program, sink);
@@ -148,16 +152,17 @@ fn take<K: Sink>(
 }
 
 // Writes whether the input is accepted, without its code.
-fn check<K: Sink>(alloc: Global, input: &[u8], sink: &mut K) -> Result<bool, Stopped>
-    requires small { length input.now < 2 ^ 32 }
-    ensures taken { IfOk result (λ taken. IsTrue taken ↔ IsTaken Mode.Check input.now) }
+fn check<K: Sink>(alloc: Global, input: Input<'_>, sink: &mut K) -> Result<bool, Stopped>
+    requires small { length input.bytes.now < 2 ^ 32 }
+    requires split { IsSplit input.bytes.now input.part }
+    ensures taken { IfOk result (λ taken. IsTrue taken ↔ IsTaken Mode.Check input.entry.bytes.now) }
     ensures writes { Writes result (K.written sink.old) (K.written sink.new)
-        (K.faults sink.old) (K.faults sink.new) (IsOutput Mode.Check input.now) }
+        (K.faults sink.old) (K.faults sink.new) (IsOutput Mode.Check input.entry.bytes.now) }
 {
     one_answer();
-    match check_source(alloc, input) {
+    match check_part(alloc, input.bytes, &input.part) {
         Ok(program) => {
-            let told = accept(input, &program, sink);
+            let told = accept(input.bytes, &program, sink);
             // The program ends behind this: its memory goes back with the process, and not piece by piece.
             forget(program);
             told?;
@@ -165,27 +170,33 @@ fn check<K: Sink>(alloc: Global, input: &[u8], sink: &mut K) -> Result<bool, Sto
         }
         Err(FrontError::Memory) => Err(Stopped::Memory),
         Err(FrontError::Fault(fault)) => {
-            refuse(alloc, Mode::Check, input, fault, sink)?;
+            refuse(alloc, Mode::Check, input.bytes, fault, sink)?;
             Ok(false)
         }
     }
 }
 
 // Writes the output for an input in a mode that takes its code, and says whether the input is taken.
-fn compiled<K: Sink>(alloc: Global, mode: Mode, input: &[u8], sink: &mut K) -> Result<bool, Stopped>
-    requires small { length input.now < 2 ^ 32 }
+fn compiled<K: Sink>(
+    alloc: Global,
+    mode: Mode,
+    input: Input<'_>,
+    sink: &mut K,
+) -> Result<bool, Stopped>
+    requires small { length input.bytes.now < 2 ^ 32 }
+    requires split { IsSplit input.bytes.now input.part }
     requires reads { ReadsInput mode }
     requires limits { KeepsLimits mode }
-    ensures taken { IfOk result (λ taken. IsTrue taken ↔ IsTaken mode input.now) }
+    ensures taken { IfOk result (λ taken. IsTrue taken ↔ IsTaken mode input.entry.bytes.now) }
     ensures writes { Writes result (K.written sink.old) (K.written sink.new)
-        (K.faults sink.old) (K.faults sink.new) (IsOutput mode input.now) }
+        (K.faults sink.old) (K.faults sink.new) (IsOutput mode input.entry.bytes.now) }
 {
     one_answer();
-    match compile(alloc, input) {
+    match compile_part(alloc, input.bytes, &input.part) {
         Ok(program) => take(alloc, mode, input, program, sink),
         Err(FrontError::Memory) => Err(Stopped::Memory),
         Err(FrontError::Fault(fault)) => {
-            refuse(alloc, mode, input, fault, sink)?;
+            refuse(alloc, mode, input.bytes, fault, sink)?;
             Ok(false)
         }
     }
@@ -205,6 +216,7 @@ pub fn write_answer<K: Sink>(
     ensures writes { Writes result (K.written sink.old) (K.written sink.new)
         (K.faults sink.old) (K.faults sink.new) (IsOutput mode input.now) }
 {
+    let input = Input::new(input);
     if let Mode::Check = mode {
         return check(alloc, input, sink);
     }

@@ -14,7 +14,7 @@ pub fn carry_out(session: &mut Session, line: &[u8]) -> Result<(), Stopped>
         × Serves (situation session.old) line.now text (situation session.new)) }
     ensures memory { ¬ IsErrOf result Stopped.Failed }
 {
-    session.command(line)?;
+    session.answer(line)?;
     Ok(())
 }
 

@@ -3,6 +3,7 @@
 ghost use Rattle.std.specs.Prelude.{◌≡◌, true, IfOk};
 ghost use Rattle.ceal_dump.specs.DumpText as dumped;
 ghost use Rattle.ceal_dump.specs.DumpText.{all_core, closed};
+ghost use Rattle.ceal_lex.specs.Parts.{IsSplit};
 ghost use Rattle.ceal_session.specs.Keeping.{situation};
 ghost use Rattle.ceal_cli.specs.Growth.{Writes};
 ghost use Rattle.ceal_cli.specs.Serving.{IsDumpBehind, IsDumpFrom};
@@ -12,6 +13,7 @@ ghost use Rattle.ceal_cli.specs.Output.{IsOutput};
 ghost use Rattle.ceal_cli.specs.declared.words.Mode.TheVariants.{Dump};
 
 use crate::carry::carry_out_all;
+use crate::input::Input;
 use crate::lines::{ScriptLines, script};
 use ceal_base::no_memory::NoMemory;
 use ceal_base::recorded::Record;
@@ -20,7 +22,6 @@ use ceal_compile::program::Program;
 use ceal_dump::has_dump::has_room;
 use ceal_dump::write::dump_text;
 use ceal_io::{Sink, Stopped, write_all};
-use ceal_lex::split::split;
 use ceal_record::laws::renamed_law;
 use ceal_session::laws::{kept_line, some_reply};
 use ceal_session::session::Session;
@@ -76,19 +77,20 @@ fn write_dump<K: Sink>(
 pub fn dump<K: Sink>(
     alloc: Global,
     fuel: u32,
-    input: &[u8],
+    input: Input<'_>,
     program: Program,
     sink: &mut K,
 ) -> Result<(), Stopped>
-    requires { Opens input.now program fuel }
+    requires split { IsSplit input.bytes.now input.part }
+    requires opens { Opens input.bytes.now program fuel }
     ensures writes { Writes result (K.written sink.old) (K.written sink.new)
-        (K.faults sink.old) (K.faults sink.new) (IsOutput (Dump fuel) input.now) }
+        (K.faults sink.old) (K.faults sink.new) (IsOutput (Dump fuel) input.entry.bytes.now) }
 {
     kept_line();
     some_reply();
     renamed_law();
-    let mut session = Session::seeded(alloc, program, fuel, Seed::of_text(input))?;
-    let told = write_dump(alloc, &mut session, script(input, &split(input)), sink);
+    let mut session = Session::seeded(alloc, program, fuel, Seed::of_text(input.bytes))?;
+    let told = write_dump(alloc, &mut session, script(input.bytes, &input.part), sink);
     drop(session);
     told
 }

@@ -1,54 +1,43 @@
 // What is written for a workload.
 
-ghost use Rattle.std.specs.Prelude.{◌<◌, ◌≤◌, ◌^◌, length, IfOk};
+ghost use Rattle.std.specs.Prelude.{◌<◌, ◌≤◌, ◌^◌, length};
 ghost use Rattle.ceal_compile.specs.Compiled.{IsCompiled};
 ghost use Rattle.ceal_compile.specs.Source.{IsAccepted, IsProgram};
+ghost use Rattle.ceal_lex.specs.Parts.{IsSplit};
 ghost use Rattle.ceal_cli.specs.Growth.{Writes};
 ghost use Rattle.ceal_cli.specs.Output.{IsGenerated, IsOutputFromRun};
 
+use crate::accepted_program::program;
 use crate::from_run::reply_from_run;
 use crate::fuel::DEFAULT_FUEL;
+use crate::input::Input;
 use crate::laws::{accepted_law, short_law};
 use crate::lines::{ScriptLines, script};
-use ceal_base::fault::FrontError;
-use ceal_base::no_memory::NoMemory;
-use ceal_compile::compile::{compile, one_answer};
 use ceal_compile::program::Program;
 use ceal_gen::kind::Workload;
 use ceal_gen::text::workload;
 use ceal_io::{Sink, Stopped};
-use ceal_lex::split::split;
 use ceal_session::laws::{kept_line, some_reply};
 use ceal_session::session::Session;
 use std::alloc::Global;
 use std::mem::forget;
 
-/// The program of a text that is accepted.
-pub fn program(alloc: Global, text: &[u8]) -> Result<Program, NoMemory>
-    requires small { length text.now < 2 ^ 32 }
-    requires accepted { IsAccepted text.now }
-    ensures program { IfOk result (λ program. IsProgram text.now program.typed) }
-    ensures compiled { IfOk result IsCompiled }
-{
-    one_answer();
-    match compile(alloc, text) {
-        Ok(program) => Ok(program),
-        Err(FrontError::Memory) => Err(NoMemory),
-        Err(FrontError::Fault(_)) => unreachable!(),
-    }
-}
-
 // Writes the replies to the script behind the mark from that of the first run on.
-fn run<K: Sink>(alloc: Global, text: &[u8], program: Program, sink: &mut K) -> Result<(), Stopped>
-    requires small { length text.now < 2 ^ 32 }
-    requires program { IsProgram text.now program.typed }
+fn run<K: Sink>(
+    alloc: Global,
+    input: Input<'_>,
+    program: Program,
+    sink: &mut K,
+) -> Result<(), Stopped>
+    requires split { IsSplit input.bytes.now input.part }
+    requires program { IsProgram input.bytes.now program.typed }
     requires compiled { IsCompiled program }
     ensures writes { Writes result (K.written sink.old) (K.written sink.new)
-        (K.faults sink.old) (K.faults sink.new) (IsOutputFromRun text.now) }
+        (K.faults sink.old) (K.faults sink.new) (IsOutputFromRun input.entry.bytes.now) }
 {
     kept_line();
     some_reply();
-    let lines = ScriptLines::new(script(text, &split(text)));
+    let lines = ScriptLines::new(script(input.bytes, &input.part));
     let mut session = Session::new(alloc, program, DEFAULT_FUEL)?;
     let told = reply_from_run(&mut session, lines, sink);
     // The program ends behind this: its memory goes back with the process, and not piece by piece.
@@ -63,8 +52,9 @@ fn reply_to<K: Sink>(alloc: Global, text: &[u8], sink: &mut K) -> Result<(), Sto
     ensures writes { Writes result (K.written sink.old) (K.written sink.new)
         (K.faults sink.old) (K.faults sink.new) (IsOutputFromRun text.now) }
 {
-    let program = program(alloc, text)?;
-    run(alloc, text, program, sink)
+    let input = Input::new(text);
+    let program = program(alloc, input)?;
+    run(alloc, input, program, sink)
 }
 
 /// Writes the replies of a workload from that of its `run` line on. Its text is an accepted input.

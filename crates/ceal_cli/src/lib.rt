@@ -9,6 +9,7 @@
 //! stand for.
 #![tactic(auto)]
 
+mod accepted_program;
 mod answer;
 mod carry;
 mod command_line;
@@ -16,6 +17,7 @@ mod dump;
 mod from_run;
 mod fuel;
 mod generate;
+mod input;
 pub mod laws;
 mod lines;
 mod many;

@@ -1,6 +1,7 @@
 // The replies to a script of many sessions.
 
 ghost use Rattle.std.specs.Prelude.{◌≡◌, []};
+ghost use Rattle.ceal_lex.specs.Parts.{IsSplit};
 ghost use Rattle.ceal_session.specs.Standing.{Stands};
 ghost use Rattle.ceal_cli.specs.Members.{first_situation, AreReady, Answered, Opens};
 ghost use Rattle.ceal_cli.specs.Growth.{Writes};
@@ -8,11 +9,11 @@ ghost use Rattle.ceal_cli.specs.ManySessions.{AreTold};
 ghost use Rattle.ceal_cli.specs.Output.{IsOutput};
 ghost use Rattle.ceal_cli.specs.declared.words.Mode.TheVariants.{Many as ManyMode};
 
+use crate::input::Input;
 use crate::lines::{ScriptLines, script};
 use crate::members::{Member, Members};
 use ceal_compile::program::Program;
 use ceal_io::{Sink, Stopped, write_all};
-use ceal_lex::split::split;
 use ceal_many::Many;
 use ceal_many::laws::some_reply as some_replies;
 use ceal_session::laws::{one_reply, some_reply};
@@ -58,16 +59,17 @@ fn reply_all<K: Sink>(
 pub fn many<K: Sink>(
     alloc: Global,
     fuel: u32,
-    input: &[u8],
+    input: Input<'_>,
     program: Program,
     sink: &mut K,
 ) -> Result<(), Stopped>
-    requires { Opens input.now program fuel }
+    requires split { IsSplit input.bytes.now input.part }
+    requires opens { Opens input.bytes.now program fuel }
     ensures writes { Writes result (K.written sink.old) (K.written sink.new)
-        (K.faults sink.old) (K.faults sink.new) (IsOutput (ManyMode fuel) input.now) }
+        (K.faults sink.old) (K.faults sink.new) (IsOutput (ManyMode fuel) input.entry.bytes.now) }
 {
     some_reply();
-    let lines = ScriptLines::new(script(input, &split(input)));
+    let lines = ScriptLines::new(script(input.bytes, &input.part));
     let mut many = Many::new(alloc, Members::new(alloc, input, program, fuel))?;
     reply_all(&mut many, lines, sink)
 }

@@ -1,9 +1,11 @@
 // The sessions of one input, and what makes them.
 
 ghost use Rattle.std.specs.Prelude.{◌≡◌};
+ghost use Rattle.ceal_lex.specs.Parts.{IsSplit};
 ghost use Rattle.ceal_cli.specs.Members.{Opens};
 
-use crate::generate::program;
+use crate::accepted_program::program;
+use crate::input::Input;
 use ceal_base::no_memory::NoMemory;
 use ceal_base::text::Text;
 use ceal_compile::compile::one_answer;
@@ -63,7 +65,7 @@ impl Answerer for Member {
 #[derive(Drop)]
 pub struct Members<'a> {
     alloc: Global,
-    input: &'a [u8],
+    input: Input<'a>,
     seed: Seed,
     program: Program,
     fuel: u32,
@@ -74,6 +76,7 @@ impl<'a> Model for Members<'a> {
     ghost use Rattle.ceal_code.specs.contracts.expr.CodeExpr as expr;
     ghost use Rattle.ceal_code.specs.contracts.function.InitStmt as initialising;
     ghost use Rattle.ceal_cli.specs.Members.{Opens};
+    ghost use Rattle.ceal_lex.specs.Parts.{IsSplit};
     ghost use Rattle.ceal_cli.specs.declared.members.Start.{Start};
     ghost use Rattle.std.specs.Coded.{codes};
 
@@ -83,19 +86,21 @@ impl<'a> Model for Members<'a> {
 
     ghost view = { λ o. record { program = o.program; fuel = o.fuel } };
 
-    ghost invariant = { λ o. Opens o.input.now o.program o.fuel };
+    ghost invariant = { λ o. Opens o.input.bytes.now o.program o.fuel
+        × IsSplit o.input.bytes.now o.input.part };
 }
 
 impl<'a> Members<'a> {
     /// What makes the sessions of this input, whose program this is.
-    pub fn new(alloc: Global, input: &'a [u8], program: Program, fuel: u32) -> Members<'a>
-        requires { Opens input.now program fuel }
+    pub fn new(alloc: Global, input: Input<'a>, program: Program, fuel: u32) -> Members<'a>
+        requires split { IsSplit input.bytes.now input.part }
+        requires opens { Opens input.bytes.now program fuel }
         ensures { result ≡ record { program = program; fuel = fuel } }
     {
         Members {
             alloc,
             input,
-            seed: Seed::of_text(input),
+            seed: Seed::of_text(input.bytes),
             program,
             fuel,
         }

@@ -15,8 +15,8 @@ fn reply<K: Sink>(session: &mut Session, line: &[u8], sink: &mut K) -> Result<()
         (IsReply (situation session.old) line.now (situation session.new))
         (BeginsReply (situation session.old) line.now) }
 {
-    let text = session.command(line)?;
-    write_all(sink, text.items())
+    let answer = session.answer(line)?;
+    write_all(sink, answer.items())
 }
 
 /// Writes the reply to each line as soon as it is made.

@@ -11,6 +11,7 @@ ghost use Rattle.ceal_cli.specs.Output.{IsOutput, IsTaken};
 ghost use Rattle.ceal_cli.specs.Resumed.{Resumption};
 ghost use Rattle.ceal_cli.specs.declared.words.Mode.TheVariants.{Resume};
 
+use crate::input::Input;
 use crate::lines::{ScriptLines, script, source};
 use crate::replies::reply_all;
 use ceal_compile::compile::one_answer;
@@ -86,16 +87,17 @@ fn resumed(
 /// holds. Where there is none, the line that says why is written.
 pub fn resume<K: Sink>(
     alloc: Global,
-    input: &[u8],
+    input: Input<'_>,
     program: Program,
     sink: &mut K,
 ) -> Result<bool, Stopped>
-    requires small { length input.now < 2 ^ 32 }
-    requires program { IsProgram input.now program.typed }
+    requires small { length input.bytes.now < 2 ^ 32 }
+    requires split { IsSplit input.bytes.now input.part }
+    requires program { IsProgram input.bytes.now program.typed }
     requires compiled { IsCompiled program }
-    ensures taken { IfOk result (λ taken. IsTrue taken ↔ IsTaken Resume input.now) }
+    ensures taken { IfOk result (λ taken. IsTrue taken ↔ IsTaken Resume input.entry.bytes.now) }
     ensures writes { Writes result (K.written sink.old) (K.written sink.new)
-        (K.faults sink.old) (K.faults sink.new) (IsOutput Resume input.now) }
+        (K.faults sink.old) (K.faults sink.new) (IsOutput Resume input.entry.bytes.now) }
 {
     kept_line();
     some_reply();
@@ -103,7 +105,7 @@ pub fn resume<K: Sink>(
     one_code();
     one_split();
     one_save_law();
-    let bytes = script(input, &split(input));
+    let bytes = script(input.bytes, &input.part);
     let part = split(bytes);
     match resumed(alloc, program, bytes, &part) {
         Ok(session) => {

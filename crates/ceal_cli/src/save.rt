@@ -2,6 +2,7 @@
 
 ghost use Rattle.std.specs.Prelude.{◌≡◌, true, IfOk};
 ghost use Rattle.ceal_dump.specs.DumpText.{all_core, closed};
+ghost use Rattle.ceal_lex.specs.Parts.{IsSplit};
 ghost use Rattle.ceal_session.specs.Keeping.{situation};
 ghost use Rattle.ceal_session.specs.Naming.{AreSpelled};
 ghost use Rattle.ceal_cli.specs.Growth.{Writes};
@@ -13,13 +14,13 @@ ghost use Rattle.ceal_cli.specs.Saves.{with_source};
 ghost use Rattle.ceal_cli.specs.declared.words.Mode.TheVariants.{Save};
 
 use crate::carry::carry_out_all;
+use crate::input::Input;
 use crate::lines::{ScriptLines, script, source};
 use ceal_base::no_memory::NoMemory;
 use ceal_base::text::Text;
 use ceal_compile::program::Program;
 use ceal_dump::has_dump::has_room;
 use ceal_io::{Sink, Stopped, write_all};
-use ceal_lex::split::split;
 use ceal_record::laws::renamed_law;
 use ceal_session::laws::{kept_line, saved_law, some_reply};
 use ceal_session::session::Session;
@@ -82,21 +83,22 @@ fn write_save<K: Sink>(
 pub fn save<K: Sink>(
     alloc: Global,
     fuel: u32,
-    input: &[u8],
+    input: Input<'_>,
     program: Program,
     sink: &mut K,
 ) -> Result<(), Stopped>
-    requires { Opens input.now program fuel }
+    requires split { IsSplit input.bytes.now input.part }
+    requires opens { Opens input.bytes.now program fuel }
     ensures writes { Writes result (K.written sink.old) (K.written sink.new)
-        (K.faults sink.old) (K.faults sink.new) (IsOutput (Save fuel) input.now) }
+        (K.faults sink.old) (K.faults sink.new) (IsOutput (Save fuel) input.entry.bytes.now) }
 {
     kept_line();
     some_reply();
     renamed_law();
     saved_law();
-    let part = split(input);
-    let (source, script) = (source(input, &part), script(input, &part));
-    let mut session = Session::seeded(alloc, program, fuel, Seed::of_text(input))?;
+    let source = source(input.bytes, &input.part);
+    let script = script(input.bytes, &input.part);
+    let mut session = Session::seeded(alloc, program, fuel, Seed::of_text(input.bytes))?;
     let told = write_save(alloc, &mut session, source, script, sink);
     drop(session);
     told

@@ -1,21 +1,22 @@
 // What is written of a dump.
 
-ghost use Rattle.std.specs.Prelude.{◌≡◌, ◌<◌, ◌^◌, true, length, IfOk};
+ghost use Rattle.std.specs.Prelude.{◌≡◌, true, IfOk};
 ghost use Rattle.ceal_code.specs.Valid.{valid};
 ghost use Rattle.ceal_compile.specs.Compiled.{IsCompiled};
 ghost use Rattle.ceal_compile.specs.Source.{IsProgram};
+ghost use Rattle.ceal_lex.specs.Parts.{IsSplit};
 ghost use Rattle.ceal_cli.specs.Growth.{Writes};
 ghost use Rattle.ceal_cli.specs.Output.{IsOutput};
 ghost use Rattle.ceal_cli.specs.Verdicts.{verdict_text, IsVerdictLine};
 ghost use Rattle.ceal_cli.specs.declared.words.Mode.TheVariants.{Verify};
 
+use crate::input::Input;
 use crate::lines::script;
 use ceal_base::no_memory::NoMemory;
 use ceal_code::code::Code;
 use ceal_compile::program::Program;
 use ceal_dump::read::{DumpError, read_dump};
 use ceal_io::{Sink, Stopped, write_all};
-use ceal_lex::split::split;
 use ceal_traceck::check::check_trace;
 use ceal_traceck::verdict::Verdict;
 use std::alloc::Global;
@@ -52,16 +53,16 @@ fn checked(alloc: Global, code: &Code, bytes: &[u8]) -> Result<&'static str, NoM
 /// Writes what the checker says of the dump behind the mark.
 pub fn verify<K: Sink>(
     alloc: Global,
-    input: &[u8],
+    input: Input<'_>,
     program: &Program,
     sink: &mut K,
 ) -> Result<(), Stopped>
-    requires small { length input.now < 2 ^ 32 }
-    requires program { IsProgram input.now program.now.typed }
+    requires split { IsSplit input.bytes.now input.part }
+    requires program { IsProgram input.bytes.now program.now.typed }
     requires compiled { IsCompiled program.now }
     ensures writes { Writes result (K.written sink.old) (K.written sink.new)
-        (K.faults sink.old) (K.faults sink.new) (IsOutput Verify input.now) }
+        (K.faults sink.old) (K.faults sink.new) (IsOutput Verify input.entry.bytes.now) }
 {
-    let line = checked(alloc, &program.code, script(input, &split(input)))?;
+    let line = checked(alloc, &program.code, script(input.bytes, &input.part))?;
     write_all(sink, line.as_bytes())
 }

@@ -3,7 +3,7 @@ use Rattle.ceal_cli.proofs.answer.run.Goals as goal
 
 pub returns : goal.returns
 returns g c = record {
-  writes = replied c.args.input.now c.split.result c.split.ensures.parts c.args.program c.args.fuel c.requires c.some_reply.ensures.begun c.kept_line.ensures.law
+  writes = replied c.args.input.bytes.now c.args.input.part c.requires.split c.args.program c.args.fuel c.requires.opens c.some_reply.ensures.begun c.kept_line.ensures.law
       c.reply_all-told.result _ _ _ _ c.some_reply.ensures.script
       (rw (← c.script.ensures, ← c.new-lines.ensures, ← c.in_ok-session.ensures.state) c.reply_all-told.ensures.writes);
 }

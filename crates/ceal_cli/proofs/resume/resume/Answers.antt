@@ -10,7 +10,7 @@ use Rattle.ceal_cli.proofs.resume.resume.Goals as goal
 
 pub returns-in_err-told-in-Ok-clause-writes : goal.returns-in_err-told-in-Ok-clause-writes
 returns-in_err-told-in-Ok-clause-writes g c =
-    let w = replied c.args.input.now c.split.result c.split.ensures.parts c.args.program c.requires.program c.requires.compiled c.script-bytes.result.now c.script-bytes.ensures
+    let w = replied c.args.input.bytes.now c.args.input.part c.requires.split c.args.program c.requires.program c.requires.compiled c.script-bytes.result.now c.script-bytes.ensures
     c.split-part.result c.split-part.ensures.parts (situation c.in-Ok.session) c.in-Ok.ensures.session c.reply_all-told.result
     (g.K.Sink.written c.args.sink.now) (g.K.Sink.written c.reply_all-told.new.sink) (g.K.Sink.faults c.args.sink.now) (g.K.Sink.faults c.reply_all-told.new.sink)
     c.kept_line.ensures.law c.some_reply.ensures.script
@@ -19,7 +19,7 @@ returns-in_err-told-in-Ok-clause-writes g c =
 
 pub returns-in_ok-told-in-Ok-clause-writes : goal.returns-in_ok-told-in-Ok-clause-writes
 returns-in_ok-told-in-Ok-clause-writes g c =
-    let w = replied c.args.input.now c.split.result c.split.ensures.parts c.args.program c.requires.program c.requires.compiled c.script-bytes.result.now c.script-bytes.ensures
+    let w = replied c.args.input.bytes.now c.args.input.part c.requires.split c.args.program c.requires.program c.requires.compiled c.script-bytes.result.now c.script-bytes.ensures
     c.split-part.result c.split-part.ensures.parts (situation c.in-Ok.session) c.in-Ok.ensures.session (Ok tt)
     (g.K.Sink.written c.args.sink.now) (g.K.Sink.written c.reply_all-told.new.sink) (g.K.Sink.faults c.args.sink.now) (g.K.Sink.faults c.reply_all-told.new.sink)
     c.kept_line.ensures.law c.some_reply.ensures.script
@@ -28,7 +28,7 @@ returns-in_ok-told-in-Ok-clause-writes g c =
 
 pub returns-in_ok-told-in-Ok-clause-taken : goal.returns-in_ok-told-in-Ok-clause-taken
 returns-in_ok-told-in-Ok-clause-taken g c = (
-  (λ _. taken c.args.input.now c.split.result c.split.ensures.parts c.args.program c.requires.program c.requires.compiled c.script-bytes.result.now c.script-bytes.ensures
+  (λ _. taken c.args.input.bytes.now c.args.input.part c.requires.split c.args.program c.requires.program c.requires.compiled c.script-bytes.result.now c.script-bytes.ensures
       c.split-part.result c.split-part.ensures.parts (situation c.in-Ok.session) c.in-Ok.ensures.session),
   λ _. refl,
 )
@@ -36,32 +36,32 @@ returns-in_ok-told-in-Ok-clause-taken g c = (
 pub returns-in_err-write_all-in-Err-Unreadable-clause-writes : goal.returns-in_err-write_all-in-Err-Unreadable-clause-writes
 returns-in_err-write_all-in-Err-Unreadable-clause-writes g c =
     let why = rw c.in-Err-Unreadable.field-0-is at c.in-Err-Unreadable.ensures.unreadable in
-    let w = writes_text c.write_all.result _ _ _ _ (IsOutput Resume c.args.input.now) unreadable_save
-    (inr (is-unreadable c.args.input.now c.split.result c.split.ensures.parts c.args.program c.requires.program c.requires.compiled c.script-bytes.result.now c.script-bytes.ensures (why refl)))
+    let w = writes_text c.write_all.result _ _ _ _ (IsOutput Resume c.args.input.bytes.now) unreadable_save
+    (inr (is-unreadable c.args.input.bytes.now c.args.input.part c.requires.split c.args.program c.requires.program c.requires.compiled c.script-bytes.result.now c.script-bytes.ensures (why refl)))
     c.write_all.ensures.all c.write_all.ensures.prefix c.write_all.ensures.fault c.write_all.ensures.later in
     record { all = search rules; part = w.part; fault = search rules; later = w.later }
 
 pub returns-in_ok-write_all-in-Err-Unreadable-clause-writes : goal.returns-in_ok-write_all-in-Err-Unreadable-clause-writes
 returns-in_ok-write_all-in-Err-Unreadable-clause-writes g c =
     let why = rw c.in-Err-Unreadable.field-0-is at c.in-Err-Unreadable.ensures.unreadable in
-    let w = writes_text _ _ _ _ _ (IsOutput Resume c.args.input.now) unreadable_save
-    (inr (is-unreadable c.args.input.now c.split.result c.split.ensures.parts c.args.program c.requires.program c.requires.compiled c.script-bytes.result.now c.script-bytes.ensures (why refl)))
+    let w = writes_text _ _ _ _ _ (IsOutput Resume c.args.input.bytes.now) unreadable_save
+    (inr (is-unreadable c.args.input.bytes.now c.args.input.part c.requires.split c.args.program c.requires.program c.requires.compiled c.script-bytes.result.now c.script-bytes.ensures (why refl)))
     c.in_ok-write_all-in-Err-Unreadable.ensures.all c.in_ok-write_all-in-Err-Unreadable.ensures.prefix c.in_ok-write_all-in-Err-Unreadable.ensures.fault c.in_ok-write_all-in-Err-Unreadable.ensures.later in
     record { all = w.all; part = w.part; fault = search rules; later = w.later }
 
 pub returns-in_err-write_all-in-Err-Unsound-clause-writes : goal.returns-in_err-write_all-in-Err-Unsound-clause-writes
 returns-in_err-write_all-in-Err-Unsound-clause-writes g c =
     let why = rw c.in-Err-Unsound.field-0-is at c.in-Err-Unsound.ensures.unsound in
-    let w = writes_text c.write_all-in-Err-Unsound.result _ _ _ _ (IsOutput Resume c.args.input.now) not_holding
-    (inr (is-unsound c.args.input.now c.split.result c.split.ensures.parts c.args.program c.requires.program c.requires.compiled c.script-bytes.result.now c.script-bytes.ensures (why refl)))
+    let w = writes_text c.write_all-in-Err-Unsound.result _ _ _ _ (IsOutput Resume c.args.input.bytes.now) not_holding
+    (inr (is-unsound c.args.input.bytes.now c.args.input.part c.requires.split c.args.program c.requires.program c.requires.compiled c.script-bytes.result.now c.script-bytes.ensures (why refl)))
     c.write_all-in-Err-Unsound.ensures.all c.write_all-in-Err-Unsound.ensures.prefix c.write_all-in-Err-Unsound.ensures.fault c.write_all-in-Err-Unsound.ensures.later in
     record { all = search rules; part = w.part; fault = search rules; later = w.later }
 
 pub returns-in_ok-write_all-in-Err-Unsound-clause-writes : goal.returns-in_ok-write_all-in-Err-Unsound-clause-writes
 returns-in_ok-write_all-in-Err-Unsound-clause-writes g c =
     let why = rw c.in-Err-Unsound.field-0-is at c.in-Err-Unsound.ensures.unsound in
-    let w = writes_text _ _ _ _ _ (IsOutput Resume c.args.input.now) not_holding
-    (inr (is-unsound c.args.input.now c.split.result c.split.ensures.parts c.args.program c.requires.program c.requires.compiled c.script-bytes.result.now c.script-bytes.ensures (why refl)))
+    let w = writes_text _ _ _ _ _ (IsOutput Resume c.args.input.bytes.now) not_holding
+    (inr (is-unsound c.args.input.bytes.now c.args.input.part c.requires.split c.args.program c.requires.program c.requires.compiled c.script-bytes.result.now c.script-bytes.ensures (why refl)))
     c.in_ok-write_all-in-Err-Unsound.ensures.all c.in_ok-write_all-in-Err-Unsound.ensures.prefix c.in_ok-write_all-in-Err-Unsound.ensures.fault c.in_ok-write_all-in-Err-Unsound.ensures.later in
     record { all = w.all; part = w.part; fault = search rules; later = w.later }
 
@@ -69,6 +69,6 @@ pub returns-in_ok-write_all-in-Err-Unsound-clause-taken : goal.returns-in_ok-wri
 returns-in_ok-write_all-in-Err-Unsound-clause-taken g c =
     let why = rw c.in-Err-Unsound.field-0-is at c.in-Err-Unsound.ensures.unsound in (
       (λ t. absurd (cc t)),
-      λ h. absurd (not-refused c.one_split.ensures c.one_answer.ensures.law c.one_code.ensures.law c.one_save_law.ensures.law Resume c.args.input.now not_holding h
-          (is-unsound c.args.input.now c.split.result c.split.ensures.parts c.args.program c.requires.program c.requires.compiled c.script-bytes.result.now c.script-bytes.ensures (why refl))),
+      λ h. absurd (not-refused c.one_split.ensures c.one_answer.ensures.law c.one_code.ensures.law c.one_save_law.ensures.law Resume c.args.input.bytes.now not_holding h
+          (is-unsound c.args.input.bytes.now c.args.input.part c.requires.split c.args.program c.requires.program c.requires.compiled c.script-bytes.result.now c.script-bytes.ensures (why refl))),
     )

@@ -5,7 +5,7 @@ use Rattle.ceal_cli.proofs.save.save.Goals as goal
 pub returns : goal.returns
 returns g c = record {
   writes = writes_as c.write_save-told.result _ _ _ _ _ _
-      (saved c.args.input.now c.split-part.result c.split-part.ensures.parts c.args.program c.args.fuel c.requires c.some_reply.ensures.begun c.kept_line.ensures.law
+      (saved c.args.input.bytes.now c.args.input.part c.requires.split c.args.program c.args.fuel c.requires.opens c.some_reply.ensures.begun c.kept_line.ensures.law
       c.renamed_law.ensures.law c.saved_law.ensures.law)
       (rw (← c.script-script.ensures, ← c.source-source.ensures, ← c.in_ok-session.ensures.state) c.write_save-told.ensures.writes);
 }

@@ -5,7 +5,7 @@ use Rattle.ceal_cli.proofs.verify.verify.Goals as goal
 pub returns : goal.returns
 returns g c = record {
   writes = writes_text _ _ _ _ _ _ c.in_ok-line.line.now
-      (checked c.args.input.now c.split.result c.split.ensures.parts c.args.program.now c.requires.program c.requires.compiled c.in_ok-line.line.now
+      (checked c.args.input.bytes.now c.args.input.part c.requires.split c.args.program.now c.requires.program c.requires.compiled c.in_ok-line.line.now
       (rw (← c.script.ensures) c.in_ok-line.ensures))
       (rw c.as_bytes.ensures.value at c.write_all.ensures.all) (rw c.as_bytes.ensures.value at c.write_all.ensures.prefix)
       c.write_all.ensures.fault c.write_all.ensures.later;
