@@ -3,7 +3,7 @@ use Rattle.std.specs.Prelude.{ℕ, ◌+◌, ◌*◌, List, [], ◌∷◌}
 use Rattle.std.specs.List.{fold}
 use Rattle.ceal_base.specs.Hashing.{mixed, place_number}
 use Rattle.ceal_base.specs.declared.forest.Key.{Key}
-use Rattle.ceal_base.specs.contracts.forest.KeyHash.TheImpl as alloc_key
+use Rattle.ceal_base.specs.declared.forest.Key.TheVariants.{Init, ModInt, ModPtr}
 use Rattle.ceal_base.specs.declared.word.Word.{Word}
 use Rattle.ceal_base.specs.contracts.word.WordHash.TheImpl as word
 use Rattle.ceal_memo.specs.Keys.{ReadKey}
@@ -12,10 +12,6 @@ use Rattle.ceal_memo.specs.Mixing.{number_of}
 -- a digest with what has been fed behind it
 abbrev pub behind : ℕ → List (List ℕ) → ℕ
 behind digest writes = fold (λ state bytes. mixed state (number_of bytes)) digest writes
-
--- what has been fed, as one number
-abbrev pub hashed : List (List ℕ) → ℕ
-hashed writes = behind 0 writes
 
 -- a digest with words behind it
 unfoldable pub words_behind : ℕ → List Word → ℕ
@@ -28,4 +24,6 @@ read_hash key = words_behind (mixed (mixed 0 (place_number key.place)) (key.unit
 
 -- the hash of an allocation's key
 unfoldable pub alloc_hash : Key → ℕ
-alloc_hash key = hashed (alloc_key.ghosts.hash_input key)
+alloc_hash (Init function args) = words_behind (mixed 4611686018427387904 function) args
+alloc_hash ModInt = mixed 6917529027641081856 0
+alloc_hash (ModPtr pointed) = mixed 6917529027641081856 (pointed + 1)

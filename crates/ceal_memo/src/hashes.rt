@@ -1,7 +1,7 @@
 // The hashes of keys.
 
 ghost use Rattle.std.specs.Prelude.{◌≡◌};
-ghost use Rattle.ceal_memo.specs.Hashes.{read_hash, alloc_hash, hashed, words_behind};
+ghost use Rattle.ceal_memo.specs.Hashes.{read_hash, alloc_hash, words_behind};
 
 use crate::key::ReadKey;
 use crate::mixer::Mixer;
@@ -9,6 +9,12 @@ use ceal_base::forest::Key;
 use ceal_base::hashing::mixed;
 use ceal_base::word::Word;
 use std::hash::{Hash, Hasher};
+
+// From where the hashes of allocations begin, so that they are others than those of reads, which begin from a place: no script has so
+// many input blocks that one of these is the number of a place.
+const ALLOCATIONS: u64 = 4_611_686_018_427_387_904;
+
+const MODIFIABLES: u64 = 6_917_529_027_641_081_856;
 
 /// The hash that a read with a key is entered under.
 #[tactic(auto, unfolding(crate::specs::Hashes::read_hash))]
@@ -25,16 +31,14 @@ pub fn hash_of_read(key: &ReadKey<'_>) -> u64
 pub fn hash_of_alloc(key: &Key) -> u64
     ensures { result ≡ alloc_hash key.now }
 {
-    hashed(key)
-}
-
-// The hash of a key.
-fn hashed<K: Hash>(key: &K) -> u64
-    ensures { result ≡ hashed (K.hash_input key.now) }
-{
-    let mut mixer = Mixer { state: 0 };
-    key.hash(&mut mixer);
-    mixer.finish()
+    match key {
+        Key::Init { function, args } => {
+            let start = mixed(ALLOCATIONS, *function as u64);
+            words_behind(start, args.items())
+        }
+        Key::ModInt => mixed(MODIFIABLES, 0),
+        Key::ModPtr(pointed) => mixed(MODIFIABLES, *pointed as u64 + 1),
+    }
 }
 
 // A digest with words behind it.

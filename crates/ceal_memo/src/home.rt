@@ -1,6 +1,6 @@
 // Where a stamp has its entry.
 
-ghost use Rattle.std.specs.Prelude.{◌≡◌, ◌<◌, ℕ, [], length, OnOk};
+ghost use Rattle.std.specs.Prelude.{◌≡◌, ◌<◌, ◌≤◌, ◌^◌, ℕ, [], length, OnOk};
 ghost use Rattle.ceal_memo.specs.declared.home.Home.TheVariants.{Nowhere};
 ghost use Rattle.ceal_memo.specs.Homes.{home_of, HomeChange};
 
@@ -50,8 +50,20 @@ impl Homes {
     {
         let count = stamp.0 as usize + 1;
         if self.homes.len() < count {
-            self.homes.resize(count + HOMES_BEYOND, Home::Nowhere)?;
+            self.widen(count)?;
         }
+        Ok(())
+    }
+
+    // Adds homes behind the end. It is called seldom, and stands apart, so that the common way is short.
+    #[inline(never)]
+    fn widen(&mut self, count: usize) -> Result<(), NoMemory>
+        requires less { length self.old < count }
+        requires low { count ≤ 2 ^ 32 }
+        ensures room { OnOk result (count ≤ length self.new) }
+        ensures same { (t : ℕ) → home_of self.new t ≡ home_of self.old t }
+    {
+        self.homes.resize(count + HOMES_BEYOND, Home::Nowhere)?;
         Ok(())
     }
 

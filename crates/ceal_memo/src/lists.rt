@@ -192,7 +192,28 @@ fn enter<K: Eq + Hash + Drop>(
 }
 
 // What was entered last goes into the place of a list that is empty, if one is known. It says where it is then.
+#[inline]
 fn settle<K: Eq + Hash + Drop>(
+    lists: &mut IndexMap<K, Rising, BuildHasherDefault<Plain>>,
+    spares: &mut Spares,
+) -> u32
+    requires some { 0 < length lists.old.entries }
+    requires few { length lists.old.entries < 2 ^ 32 }
+    ensures entered { (before : List (K × List ℕ)) (key : K) (list : List ℕ)
+        → lists.old.entries ≡ before ++ (key, list) ∷ []
+        → lookup (K.eq key) before ≡ None → list ≢ []
+        → IsEntered K.eq before lists.new.entries key result list }
+{
+    let last = lists.len() - 1;
+    if spares.len() == 0 {
+        return last as u32;
+    }
+    into_empty(lists, spares)
+}
+
+// The same, where lists are known that have become empty. It stands apart, so that the common way is short.
+#[inline(never)]
+fn into_empty<K: Eq + Hash + Drop>(
     lists: &mut IndexMap<K, Rising, BuildHasherDefault<Plain>>,
     spares: &mut Spares,
 ) -> u32

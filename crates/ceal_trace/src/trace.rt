@@ -92,6 +92,7 @@ impl Trace {
     ///
     /// How many insertions there is room for beyond those is not told, as the order does not tell it: else a trace that
     /// is thrown away and built anew would provably have the stamps of the one before, as if it had been kept.
+    #[inline]
     pub fn reserve(&mut self, nodes: u32) -> Result<(), NoMemory>
         ensures nodes { self.new.nodes ≡ self.old.nodes }
         ensures room { OnOk result (nodes ≤ self.new.spare) }
@@ -102,6 +103,18 @@ impl Trace {
         if self.order.has_room(nodes) {
             return Ok(());
         }
+        self.widen(nodes)
+    }
+
+    // Makes room where there is none. It is called seldom, and stands apart, so that the common way is short.
+    #[inline(never)]
+    fn widen(&mut self, nodes: u32) -> Result<(), NoMemory>
+        ensures nodes { self.new.nodes ≡ self.old.nodes }
+        ensures room { OnOk result (nodes ≤ self.new.spare) }
+        ensures kept { self.old.spare ≤ self.new.spare }
+        ensures err { OnErr result (self.new ≡ self.old) }
+        ensures whole { IsTrace self.new }
+    {
         let room = nodes.saturating_add(ROOM_BEYOND);
         self.table.reserve(room)?;
         self.order.reserve(nodes)
