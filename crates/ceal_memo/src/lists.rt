@@ -56,6 +56,7 @@ impl<K: Eq + Hash + Drop> Lists<K> {
         requires here { IsTrue (is_in stamp.0 order.now.stamps) }
         requires rising { IsRising order.now.stamps (stamps_at K.eq self.old key) }
         requires absent { is_in stamp.0 (stamps_at K.eq self.old key) ≡ false }
+        ensures few { IfOk result (λ n. n < 4294967295) }
         ensures ok { IfOk result (λ n. IsEntered K.eq self.old self.new key n
             (with_stamp order.now.stamps stamp.0 (stamps_at K.eq self.old key))) }
         ensures err { OnErr result (self.new ≡ self.old) }
@@ -199,6 +200,7 @@ fn settle<K: Eq + Hash + Drop>(
 ) -> u32
     requires some { 0 < length lists.old.entries }
     requires few { length lists.old.entries < 2 ^ 32 }
+    ensures within { result < length lists.old.entries }
     ensures entered { (before : List (K × List ℕ)) (key : K) (list : List ℕ)
         → lists.old.entries ≡ before ++ (key, list) ∷ []
         → lookup (K.eq key) before ≡ None → list ≢ []
@@ -219,6 +221,7 @@ fn into_empty<K: Eq + Hash + Drop>(
 ) -> u32
     requires some { 0 < length lists.old.entries }
     requires few { length lists.old.entries < 2 ^ 32 }
+    ensures within { result < length lists.old.entries }
     ensures entered { (before : List (K × List ℕ)) (key : K) (list : List ℕ)
         → lists.old.entries ≡ before ++ (key, list) ∷ []
         → lookup (K.eq key) before ≡ None → list ≢ []

@@ -6,6 +6,7 @@ use Rattle.ceal_memo.proofs.lists.settle.Goals as goal
 
 pub returns-then-len-eq0 : goal.returns-then-len-eq0
 returns-then-len-eq0 g c = record {
+  within = let some = c.requires.some in let len : c.len-last.result ≡ length c.args.lists.now.entries = c.len-last.ensures.len in omega arith;
   entered = λ before key list is absent some.
       let len : c.len-last.result ≡ length c.args.lists.now.entries = c.len-last.ensures.len in
       let long : length c.args.lists.now.entries ≡ suc (length before) = ap (λ (es : List (g.row.K.Denot × List ℕ)). length es) is ∙ length_push before (key, list) in
