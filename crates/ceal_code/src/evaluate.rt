@@ -1,6 +1,6 @@
 // The values of the expressions of trace code.
 
-ghost use Rattle.std.specs.Prelude.{◌≡◌, is_some, Option, IfOk, IfSome};
+ghost use Rattle.std.specs.Prelude.{◌≡◌, is_some, Option, IfOk, IfSome, OnOk};
 ghost use Rattle.ceal_base.specs.Access.{place_in};
 ghost use Rattle.ceal_base.specs.declared.kind.Shape.TheVariants.{Struct};
 ghost use Rattle.ceal_code.specs.Init.{arguments};
@@ -203,5 +203,18 @@ impl<'a, P: PlainWords> Scope<'a, P> {
             words.push(self.value(e))?;
         }
         Ok(words)
+    }
+
+    /// Puts what each of the expressions gives in place of these words.
+    #[tactic(auto, using(crate::proofs::ValueSteps::values_steps))]
+    pub fn evaluate(&self, es: &[CodeExpr], words: &mut Vec<Word>) -> Result<(), NoMemory>
+        ensures values { OnOk result (words.new.items ≡ values self.now.structs.now
+            (P.plain self.now.plain.now) (arguments self.now.env.now) es.now) }
+    {
+        words.clear();
+        for e in es {
+            words.push(self.value(e))?;
+        }
+        Ok(())
     }
 }

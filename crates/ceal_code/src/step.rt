@@ -4,7 +4,7 @@ ghost use Rattle.std.specs.Prelude.{◌≡◌, ◌+◌, ◌<◌, ◌^◌, true, 
 ghost use Rattle.ceal_base.specs.Access.{holds};
 ghost use Rattle.ceal_code.specs.Init.{arguments};
 ghost use Rattle.ceal_code.specs.Program.{Code as Parts};
-ghost use Rattle.ceal_code.specs.Stacks.{waits_in, stack_in, act_in, act_on, key_made, making_in, reading_in, step_in};
+ghost use Rattle.ceal_code.specs.Stacks.{waits_in, stack_in, act_in, act_on, top_of, key_made, making_in, reading_in, step_in};
 ghost use Rattle.ceal_code.specs.Step.{Run, variable_default, entered, given, key_of, place_of, writes_at, next};
 ghost use Rattle.ceal_code.specs.Value.{Plain, set, values};
 ghost use Rattle.ceal_code.specs.declared.step.Act.TheVariants.{Makes as IsMakes, Reads as IsReads};
@@ -290,15 +290,15 @@ impl Stack {
         }
     }
 
-    /// The key of the block that is made.
-    fn key_by<P: PlainWords>(
+    /// The key of a block that is made in the unit that runs.
+    pub fn key<P: PlainWords>(
         &self,
         code: &Code,
         plain: &P,
         maker: Maker<'_>,
     ) -> Result<Key, NoMemory>
         ensures key { IfOk result (λ key. key ≡ key_made code.now (P.plain plain.now) maker.entry
-            (arguments self.now.top.env.items)) }
+            (arguments (top_of self.now).env.items)) }
     {
         match maker {
             Maker::Init { function, args } => {
@@ -310,7 +310,7 @@ impl Stack {
     }
 
     /// Takes the key of the block that is made, and the unit that it is for; the unit goes on over the stack.
-    pub fn made<P: PlainWords>(
+    fn made<P: PlainWords>(
         &mut self,
         code: &Code,
         plain: &P,
@@ -321,12 +321,12 @@ impl Stack {
             (arguments self.old.top.env.items) (waits_in self.old.waits)
             ≡ act_in (IsMakes m.0 making.entry.var m.1) (stack_in self.new)) }
     {
-        let key = self.key_by(code, plain, making.maker)?;
+        let key = self.key(code, plain, making.maker)?;
         Ok((key, self.take_top()))
     }
 
     /// Takes the closure of a read; the stack comes after it.
-    pub fn closure<P: PlainWords>(
+    fn closure<P: PlainWords>(
         &mut self,
         code: &Code,
         plain: &P,
