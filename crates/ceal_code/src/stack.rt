@@ -2,6 +2,7 @@
 
 ghost use Rattle.std.specs.Prelude.{◌≡◌, ◌<◌, length, true, false, IfOk, OnOk};
 ghost use Rattle.std.specs.declared.alloc.Global.{Global as Allocator};
+ghost use Rattle.ceal_base.specs.Operators.{number_of};
 ghost use Rattle.ceal_code.specs.Init.{arguments};
 ghost use Rattle.ceal_code.specs.Stacks.{over, waits_in, stack_in, top_of, below_in, below_count, left_in};
 ghost use Rattle.ceal_code.specs.Step.{Empty, Run, entered, started, given};
@@ -101,6 +102,15 @@ impl Activation {
     {
         let scope = self.scope(code, plain);
         scope.value(e)
+    }
+
+    /// The number that an expression gives in the unit, and 0 where it gives another word.
+    pub(crate) fn number<P: PlainWords>(&self, code: &Code, plain: &P, e: &CodeExpr) -> i64
+        ensures number { result ≡ number_of (expr_value code.now.structs
+            (P.plain plain.now) (arguments self.now.env.items) e.now) }
+    {
+        let scope = self.scope(code, plain);
+        scope.number(e)
     }
 
     /// What each of the expressions gives in the unit.

@@ -7,6 +7,7 @@ ghost use Rattle.ceal_code.specs.Program.{Code as Parts};
 ghost use Rattle.ceal_code.specs.Stacks.{waits_in, stack_in, act_in, act_on, top_of, key_made, making_in, reading_in, step_in};
 ghost use Rattle.ceal_code.specs.Step.{Run, variable_default, entered, given, key_of, place_of, writes_at, next};
 ghost use Rattle.ceal_code.specs.Value.{Plain, set, values};
+ghost use Rattle.ceal_base.specs.declared.word.Word.TheVariants.{Num as IsNum};
 ghost use Rattle.ceal_code.specs.declared.step.Act.TheVariants.{Makes as IsMakes, Reads as IsReads};
 
 use crate::binding::bind_given;
@@ -15,7 +16,6 @@ use crate::command::Cmd;
 use crate::expr::{CodeExprs, VarId};
 use crate::plain_words::PlainWords;
 use crate::stack::{Activation, Closure, Stack};
-use ceal_base::access::is_true;
 use ceal_base::forest::{Key, UnitId};
 use ceal_base::kind::Shape;
 use ceal_base::no_memory::NoMemory;
@@ -106,14 +106,11 @@ fn place_at(at: Word) -> Option<Place>
     }
 }
 
-fn target(test: Word, yes: u32, no: u32) -> usize
-    ensures { result ≡ (if holds test then yes else no) }
+/// Where a run goes on for the number of a test.
+fn target(test: i64, yes: u32, no: u32) -> usize
+    ensures { result ≡ (if holds (IsNum test) then yes else no) }
 {
-    if is_true(test) {
-        yes as usize
-    } else {
-        no as usize
-    }
+    if test == 0 { no as usize } else { yes as usize }
 }
 
 /// Gives a variable a word.
@@ -236,7 +233,7 @@ fn perform<'c, P: PlainWords>(
             Ok(write(stack, at, word))
         }
         Cmd::If { test, yes, no } => {
-            let test = stack.top.value(code, plain, test);
+            let test = stack.top.number(code, plain, test);
             stack.jump(target(test, *yes, *no));
             Ok(Step::Quiet)
         }
