@@ -4,7 +4,7 @@ ghost use Rattle.std.specs.Prelude.{◌≡◌, ◌<◌, length, true, false, IfO
 ghost use Rattle.std.specs.declared.alloc.Global.{Global as Allocator};
 ghost use Rattle.ceal_base.specs.Operators.{number_of};
 ghost use Rattle.ceal_code.specs.Init.{arguments};
-ghost use Rattle.ceal_code.specs.Stacks.{over, waits_in, stack_in, top_of, below_in, below_count, left_in};
+ghost use Rattle.ceal_code.specs.Stacks.{Began, over, waits_in, stack_in, top_of, below_in, below_count, left_in};
 ghost use Rattle.ceal_code.specs.Step.{Empty, Run, entered, started, given};
 ghost use Rattle.ceal_code.specs.Value.{set, expr_value, values};
 
@@ -366,6 +366,20 @@ impl Stack {
         self.runs = false;
     }
 
+    /// The next of the units that wait runs; it answers false where there is none.
+    #[inline(never)]
+    fn begin_next(&mut self) -> Result<bool, NoMemory>
+        ensures began { IfOk result
+            (λ more. Began more self.old.waits self.new.top self.new.waits) }
+        ensures runs { IfOk result (λ more. self.new.runs ≡ more) }
+        ensures fewer { IfOk result (λ more. more ≡ true
+            → length self.new.waits.units.items < length self.old.waits.units.items) }
+    {
+        let more = self.waits.pop(&mut self.top)?;
+        self.runs = more;
+        Ok(more)
+    }
+
     /// Some unit runs; it answers false where there is none.
     #[tactic(auto, unfolding(crate::specs::Stacks::stack_in))]
     pub(crate) fn begin(&mut self) -> Result<bool, NoMemory>
@@ -378,8 +392,6 @@ impl Stack {
         if self.runs {
             return Ok(true);
         }
-        let more = self.waits.pop(&mut self.top)?;
-        self.runs = more;
-        Ok(more)
+        self.begin_next()
     }
 }
