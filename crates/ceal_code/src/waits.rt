@@ -1,6 +1,6 @@
 // Units that wait until the one above them is over.
 
-ghost use Rattle.std.specs.Prelude.{◌≡◌, ◌-◌, ◌<◌, ◌≤◌, drop, length, true, IfOk, OnOk};
+ghost use Rattle.std.specs.Prelude.{◌≡◌, ◌++◌, ◌-◌, ◌<◌, ◌≤◌, drop, length, true, IfOk, OnOk};
 ghost use Rattle.ceal_code.specs.Init.{arguments};
 ghost use Rattle.ceal_code.specs.Stacks.{waits_in, Began};
 ghost use Rattle.ceal_code.specs.Step.{Empty, Run};
@@ -41,13 +41,23 @@ fn tail(words: &[Word], from: usize) -> &[Word]
     &words[from..]
 }
 
+/// Adds words, which mostly are none.
+fn append(words: &mut Vec<Word>, more: &[Word]) -> Result<(), NoMemory>
+    ensures { OnOk result (words.new.items ≡ words.old.items ++ more.now) }
+{
+    if more.is_empty() {
+        return Ok(());
+    }
+    words.extend_from_slice(more)?;
+    Ok(())
+}
+
 /// Puts words in place of those that there are.
 fn refill(env: &mut Vec<Word>, words: &[Word]) -> Result<(), NoMemory>
     ensures { OnOk result (env.new.items ≡ words.now) }
 {
     env.clear();
-    env.extend_from_slice(words)?;
-    Ok(())
+    append(env, words)
 }
 
 impl Waits {
@@ -68,7 +78,7 @@ impl Waits {
         ensures pushed { OnOk result
             (waits_in self.new ≡ Run unit index (arguments env.now) (waits_in self.old)) }
     {
-        self.words.extend_from_slice(env)?;
+        append(&mut self.words, env)?;
         self.units.push(Waiting {
             unit,
             index,
