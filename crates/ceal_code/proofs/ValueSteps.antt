@@ -61,6 +61,11 @@ module _ (structs : List StructInfo) (x : Plain) (env : Variables) where
       → k ≡ number_of (expr_value structs x env e)
   arithmetic-number op a b e m n k h i l r s = ap number_of (arithmetic-word op a b e m n k h i l r s)
 
+  pub binary-number : (op : BinaryOp) (a b e : CodeExpr) (u v w : Word) (k : ℤ) → e ≡ Binary op a b → u ≡ expr_value structs x env a
+      → v ≡ expr_value structs x env b → w ≡ binary_value op u v → k ≡ number_of w → k ≡ number_of (expr_value structs x env e)
+  binary-number op a b e u v w k i l m r s =
+      s ∙ ap number_of (r ∙ (ap (λ z. binary_value op z v) l ∙ (ap (binary_value op (expr_value structs x env a)) m ∙ sym (ap (expr_value structs x env) i ∙ value-binary op a b))))
+
   pub values-none : values structs x env [] ≡ []
   unfolding values
   values-none = refl

@@ -301,6 +301,9 @@ impl<'a, P: PlainWords> Scope<'a, P> {
                 let y = self.number(b.get());
                 return arithmetic(*op, x, y);
             }
+            let left = self.value(a.get());
+            let right = self.value(b.get());
+            return number(apply(*op, left, right));
         }
         number(self.whole(e))
     }
