@@ -19,6 +19,12 @@ padded [] (suc n) (suc u) = padded [] n u
 padded (w ∷ words) n zero = refl
 padded (w ∷ words) n (suc u) = padded words n u
 
+-- nulls that are added change no variable
+pub arguments-padded : (words more : List Word) (n : ℕ) → more ≡ words ++ replicate n Null → arguments more ≡ arguments words
+unfolding arguments
+arguments-padded words more n e = fun_ext (λ u.
+    unwrap_or-slice_get more u Null ∙ (ap (λ ws. get_or ws u Null) e ∙ (padded words n u ∙ sym (unwrap_or-slice_get words u Null))))
+
 set-at : (words more : List Word) (v u : ℕ) (word : Word) → v < length more → ((i : ℕ) → get_or more i Null ≡ get_or words i Null)
     → (b : Bool) → (u == v) ≡ b → get_or (put_at more v word) u Null ≡ (if b then word else get_or words u Null)
 set-at words more v u word h same true e = rw (nat-same u v e) (get_or-set_same more v word Null h)

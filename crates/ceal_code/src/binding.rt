@@ -25,15 +25,25 @@ fn fill(env: &mut Vec<Word>, count: usize) -> Result<(), NoMemory>
     Ok(())
 }
 
-/// Gives a variable a word, behind those that there are.
+/// Adds nulls, up to the word of this variable.
 #[inline(never)]
-fn set_beyond(env: &mut Vec<Word>, v: u32, word: Word) -> Result<(), NoMemory>
-    ensures { OnOk result (arguments env.new.items ≡ set (arguments env.old.items) v word) }
+fn lengthen(env: &mut Vec<Word>, v: u32) -> Result<(), NoMemory>
+    ensures there { OnOk result (v < length env.new.items) }
+    ensures same { OnOk result (arguments env.new.items ≡ arguments env.old.items) }
 {
-    let at = v as usize;
-    fill(env, at + 1)?;
-    env[at] = word;
+    fill(env, v as usize + 1)?;
     Ok(())
+}
+
+/// Sees that the variable has a word, which is null where it had none.
+fn make_room(env: &mut Vec<Word>, v: u32) -> Result<(), NoMemory>
+    ensures there { OnOk result (v < length env.new.items) }
+    ensures same { OnOk result (arguments env.new.items ≡ arguments env.old.items) }
+{
+    if (v as usize) < env.len() {
+        return Ok(());
+    }
+    lengthen(env, v)
 }
 
 /// Gives a variable a word where there is one.
@@ -48,12 +58,9 @@ fn set_there(env: &mut Vec<Word>, at: usize, word: Word)
 pub fn set_variable(env: &mut Vec<Word>, v: u32, word: Word) -> Result<(), NoMemory>
     ensures set { OnOk result (arguments env.new.items ≡ set (arguments env.old.items) v word) }
 {
-    let at = v as usize;
-    if at < env.len() {
-        set_there(env, at, word);
-        return Ok(());
-    }
-    set_beyond(env, v, word)
+    make_room(env, v)?;
+    set_there(env, v as usize, word);
+    Ok(())
 }
 
 fn param_at(params: &[VarId], i: usize) -> VarId
