@@ -1,3 +1,4 @@
+pub mod Mixing
 pub mod Keys
 pub mod Numbers
 pub mod Entering

@@ -1,19 +1,23 @@
 // The hashes of keys.
 
 ghost use Rattle.std.specs.Prelude.{◌≡◌};
-ghost use Rattle.ceal_memo.specs.Hashes.{read_hash, alloc_hash, hashed};
+ghost use Rattle.ceal_memo.specs.Hashes.{read_hash, alloc_hash, hashed, words_behind};
 
 use crate::key::ReadKey;
 use crate::mixer::Mixer;
 use ceal_base::forest::Key;
+use ceal_base::hashing::mixed;
+use ceal_base::word::Word;
 use std::hash::{Hash, Hasher};
 
 /// The hash that a read with a key is entered under.
 #[tactic(auto, unfolding(crate::specs::Hashes::read_hash))]
-pub fn hash_of_read(key: &ReadKey) -> u64
+pub fn hash_of_read(key: &ReadKey<'_>) -> u64
     ensures { result ≡ read_hash key.now }
 {
-    hashed(key)
+    let closure = key.unit.0 as u64 * 4_294_967_296 + key.var as u64;
+    let start = mixed(mixed(0, key.place.number()), closure);
+    words_behind(start, key.args)
 }
 
 /// The hash that an allocation with a key is entered under.
@@ -28,7 +32,18 @@ pub fn hash_of_alloc(key: &Key) -> u64
 fn hashed<K: Hash>(key: &K) -> u64
     ensures { result ≡ hashed (K.hash_input key.now) }
 {
-    let mut mixer = Mixer::default();
+    let mut mixer = Mixer { state: 0 };
     key.hash(&mut mixer);
+    mixer.finish()
+}
+
+// A digest with words behind it.
+fn words_behind(digest: u64, words: &[Word]) -> u64
+    ensures { result ≡ words_behind digest words.now }
+{
+    let mut mixer = Mixer { state: digest };
+    for word in words {
+        word.hash(&mut mixer);
+    }
     mixer.finish()
 }

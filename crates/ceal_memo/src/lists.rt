@@ -8,7 +8,7 @@ ghost use Rattle.ceal_order.specs.Rising.{IsRising};
 ghost use Rattle.ceal_memo.specs.Lists.{stamps_at, with_stamp};
 ghost use Rattle.ceal_memo.specs.Numbers.{list_at, keys_in, IsEntered, IsEmptyAt, IsFound};
 
-use crate::mixer::Mixer;
+use crate::mixer::Plain;
 use crate::spares::Spares;
 use ceal_base::no_memory::NoMemory;
 use ceal_order::order::Order;
@@ -26,7 +26,7 @@ const MOST_LISTS: usize = 4294967295;
 /// place of a list that has become empty go to the next new key.
 #[derive(Drop)]
 pub struct Lists<K: Eq + Hash> {
-    by_key: IndexMap<K, Rising, BuildHasherDefault<Mixer>>,
+    by_key: IndexMap<K, Rising, BuildHasherDefault<Plain>>,
     spares: Spares,
 }
 
@@ -100,7 +100,7 @@ impl<K: Eq + Hash + Drop> Lists<K> {
 
 // Puts a stamp into the list with a number.
 fn insert_at<K: Eq + Hash>(
-    lists: &mut IndexMap<K, Rising, BuildHasherDefault<Mixer>>,
+    lists: &mut IndexMap<K, Rising, BuildHasherDefault<Plain>>,
     number: usize,
     order: &Order,
     stamp: Stamp,
@@ -124,7 +124,7 @@ fn insert_at<K: Eq + Hash>(
 
 // Takes a stamp out of the list with a number, and says whether that list is there and empty now.
 fn take_at<K: Eq + Hash>(
-    lists: &mut IndexMap<K, Rising, BuildHasherDefault<Mixer>>,
+    lists: &mut IndexMap<K, Rising, BuildHasherDefault<Plain>>,
     number: usize,
     order: &Order,
     stamp: Stamp,
@@ -154,7 +154,7 @@ fn alone(alloc: Global, order: &Order, stamp: Stamp) -> Result<Rising, NoMemory>
 
 // Puts a list in the place of the one with a number.
 fn put_at<K: Eq + Hash>(
-    lists: &mut IndexMap<K, Rising, BuildHasherDefault<Mixer>>,
+    lists: &mut IndexMap<K, Rising, BuildHasherDefault<Plain>>,
     number: usize,
     list: Rising,
 )
@@ -168,7 +168,7 @@ fn put_at<K: Eq + Hash>(
 // Enters a list under a key that has none, behind the others. Where the key has one, nothing has changed: it gives the number of
 // that list. A key is hashed once.
 fn enter<K: Eq + Hash + Drop>(
-    lists: &mut IndexMap<K, Rising, BuildHasherDefault<Mixer>>,
+    lists: &mut IndexMap<K, Rising, BuildHasherDefault<Plain>>,
     key: K,
     list: Rising,
 ) -> Result<Option<usize>, NoMemory>
@@ -193,7 +193,7 @@ fn enter<K: Eq + Hash + Drop>(
 
 // What was entered last goes into the place of a list that is empty, if one is known. It says where it is then.
 fn settle<K: Eq + Hash + Drop>(
-    lists: &mut IndexMap<K, Rising, BuildHasherDefault<Mixer>>,
+    lists: &mut IndexMap<K, Rising, BuildHasherDefault<Plain>>,
     spares: &mut Spares,
 ) -> u32
     requires some { 0 < length lists.old.entries }
@@ -213,7 +213,7 @@ fn settle<K: Eq + Hash + Drop>(
 
 // The number of a list that is empty, if one is known.
 fn empty_list<K: Eq + Hash>(
-    lists: &IndexMap<K, Rising, BuildHasherDefault<Mixer>>,
+    lists: &IndexMap<K, Rising, BuildHasherDefault<Plain>>,
     spares: &mut Spares,
 ) -> Option<u32>
     ensures { IfSome result (λ n. IsEmptyAt lists.now.entries n) }
