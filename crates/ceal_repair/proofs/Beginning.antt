@@ -34,7 +34,7 @@ use Rattle.ceal_repair.specs.Around.{Tails}
 use Rattle.ceal_repair.specs.Blocks.{HasBlocks, Given}
 use Rattle.ceal_repair.specs.Covered.{contents_after}
 use Rattle.ceal_repair.specs.Entries.{stamped, entry, closing, entries}
-use Rattle.ceal_repair.specs.Kept.{Kept, QueuedBehind, IsHonestRecord, Records, base_in, contents_at}
+use Rattle.ceal_repair.specs.Kept.{Kept, QueuedBehind, IsHonestRecord, base_in, contents_at}
 use Rattle.ceal_repair.specs.Moment.{View, Start, CourseNow, RunningNow, through, state_at}
 use Rattle.ceal_repair.specs.Turning.{Since, ReadAt, turn_start, FoundStale, TurnBegan, TurnRuns}
 use Rattle.ceal_repair.specs.Words.{words_of}
@@ -112,18 +112,18 @@ words-as code inputs heap known h = fun_ext (λ b. go b)
 
 -- the unit of a read on the value that the read records
 pub unit-as : (code : Code) (node : Option Node) (p : Place) (v : Word) (u : UnitId) (x : ℕ) (args : List Word) → node ≡ Some (Read p v u x args)
-    → (q : Place) (y : Word) (w : UnitId) (z : ℕ) (words : List Word) → node ≡ Some (Read q y w z words) → (o : Place) (value : Word) → Records o value node
-    → (st none : Stack) → none ≡ Empty → st ≡ entered code w.0 (given code w.0 z words value) none → st ≡ resumed code u x args v
-unit-as code node p v u x args held q y w z words closure o value records st none empty is =
-    let both : Some (Read q y w z words) ≡ Some (Read p v u x args) = sym closure ∙ held in
+    → (q : Place) (y : Word) (w : UnitId) (z : ℕ) (words : List Word) → node ≡ Some (Read q y w z words)
+    → (st none : Stack) → none ≡ Empty → st ≡ entered code w.0 (given code w.0 z words y) none → st ≡ resumed code u x args v
+unit-as code node p v u x args held q y w z words seen st none empty is =
+    let both : Some (Read q y w z words) ≡ Some (Read p v u x args) = sym seen ∙ held in
     let unit : w ≡ u = cc in
     let var : z ≡ x = cc in
     let rest : words ≡ args = cc in
-    let same : value ≡ v = same-value node p o v value u x args held records in
-    resumed-as code code refl w z words value st none empty is
-    ∙ (ap (λ (k : UnitId). resumed code k z words value) unit
-    ∙ (ap (λ (k : ℕ). resumed code u k words value) var
-    ∙ (ap (λ (ws : List Word). resumed code u x ws value) rest
+    let same : y ≡ v = cc in
+    resumed-as code code refl w z words y st none empty is
+    ∙ (ap (λ (k : UnitId). resumed code k z words y) unit
+    ∙ (ap (λ (k : ℕ). resumed code u k words y) var
+    ∙ (ap (λ (ws : List Word). resumed code u x ws y) rest
     ∙ ap (λ (k : Word). resumed code u x args k) same)))
 
 -- the end that was found

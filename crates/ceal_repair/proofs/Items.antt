@@ -14,8 +14,8 @@ use Rattle.ceal_code.specs.Known.{Subset}
 use Rattle.ceal_code.specs.Replay.{Store, In, here, there, stored}
 use Rattle.ceal_order.specs.Stamps.{NotIn, Distinct, is_in}
 use Rattle.ceal_order.specs.declared.stamp.Stamp.{Stamp}
-use Rattle.ceal_code.specs.Stacks.{stack_in}
-use Rattle.ceal_code.specs.declared.stack.Stack.{Stack as CodeStack}
+use Rattle.ceal_code.specs.Stacks.{waits_in}
+use Rattle.ceal_code.specs.declared.waits.Waits.{Waits}
 use Rattle.ceal_repair.specs.Around.{Bounds, Inside, Tails, Passes}
 use Rattle.ceal_repair.specs.Entries.{entries, entry, closing, knots_of}
 use Rattle.ceal_repair.specs.Moment.{Start, Began, Unfinished, through}
@@ -483,10 +483,10 @@ tails-bound (Tails.taken {tail = tail} below e r m g t) b = (r, m, entries g ++ 
 tails-bound (Tails.kept {back = back} e r m t) b = (r, m, back, refl)
 
 -- what a frame that comes next says of what waits
-pub record WaitsBegun (limit : Option Stamp) (beyond : List Entry) (until : Option Stamp) (below : CodeStack) (read : Stamp) (fs : List Frame) (ws : List Wait) (rs : List ℕ) (tail : List Entry) : Type 0 where
+pub record WaitsBegun (limit : Option Stamp) (beyond : List Entry) (until : Option Stamp) (below : Waits) (read : Stamp) (fs : List Frame) (ws : List Wait) (rs : List ℕ) (tail : List Entry) : Type 0 where
   pub waits : List Wait
   pub reads : List ℕ
-  pub waits_are : ws ≡ Begins (stack_in below) ∷ waits
+  pub waits_are : ws ≡ Begins (waits_in below) ∷ waits
   pub reads_are : rs ≡ read.0 ∷ reads
   pub tails : Tails limit beyond until fs waits reads tail
 

@@ -1,10 +1,12 @@
 -- A repair under way in code, by what its parts were.
 use Rattle.std.proofs.Common.{◌≡◌, ℕ, ◌+◌, true, List, [], ◌∷◌, ◌++◌, reverse, sym, ap, ap₂, subst, ◌∙◌}
+use Rattle.std.specs.Global.{Vec}
 use Rattle.std.proofs.lemmas.List.{reverse-append}
 use Rattle.ceal_base.specs.Block.{Block}
 use Rattle.ceal_code.specs.Program.{Code}
 use Rattle.ceal_code.specs.Stacks.{stack_in}
 use Rattle.ceal_code.specs.Step.{Stack}
+use Rattle.ceal_code.specs.declared.stack.Stack.{Stack as CodeStack}
 use Rattle.ceal_heap.specs.Heap.{Contents}
 use Rattle.ceal_repair.proofs.Moves.{StepMore, NodeMore, cursor-here, here-next}
 use Rattle.ceal_repair.specs.Entries.{entries}
@@ -12,9 +14,14 @@ use Rattle.ceal_repair.specs.Moment.{View, Start, RunningNow}
 use Rattle.ceal_repair.specs.Repairs.{code_of, inputs_of, view, RunsAt}
 use Rattle.ceal_repair.specs.declared.frame.Frame.{Frame}
 use Rattle.ceal_repair.specs.declared.repair.Repair.{Repair}
+use Rattle.ceal_repair.specs.declared.running.Running.{Running}
 use Rattle.ceal_repair.specs.declared.tables.Tables.{Tables}
 use Rattle.ceal_trace.specs.Nodes.{has_node}
 use Rattle.ceal_trace.specs.declared.node.Node.{Node}
+
+-- a repair whose run keeps this, with these units and frames
+abbrev pub with_parts : Repair → Running → CodeStack → Vec Frame → Repair
+with_parts r running stack frames = record r { running = running; stack = stack; frames = frames }
 
 -- where a unit runs the cursor is at a node
 pub running-here : (start : Start) (st : Stack) (r : Repair) → RunsAt start st r → has_node (view r).cursor (view r).tables.trace.nodes ≡ true
