@@ -6,3 +6,4 @@ pub mod Looking
 pub mod Adding
 pub mod Taking
 pub mod Walking
+pub mod Samples

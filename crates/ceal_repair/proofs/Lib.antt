@@ -57,3 +57,4 @@ pub mod Spots
 pub mod TurnOver
 pub mod TurnEnding
 pub mod SlicingRuns
+pub mod Samples
