@@ -6,3 +6,4 @@ pub mod Answering
 pub mod Coming
 pub mod Positions
 pub mod ShortLists
+mod Samples

@@ -1,11 +1,11 @@
 -- What the phases after the grammar make of a tree, and what all make of tokens.
-use Rattle.std.specs.Prelude.{◌≡◌, ◌⊎◌, Result, Ok, Err, List}
+use Rattle.std.specs.Prelude.{◌≡◌, ◌≤◌, ◌⊎◌, Result, Ok, Err, List}
 use Rattle.ceal_base.specs.Usage.{KeepsUsage}
 use Rattle.ceal_base.specs.WellTyped.{WellTyped}
 use Rattle.ceal_base.specs.declared.fault.Fault.{Fault}
 use Rattle.ceal_base.specs.declared.syntax.Tree.{Tree}
 use Rattle.ceal_base.specs.declared.typed.Typed.{Typed}
-use Rattle.ceal_flow.specs.Lowering.{lowered}
+use Rattle.ceal_flow.specs.Lowering.{BLOCKS, function_sizes, graph_of, lowered}
 use Rattle.ceal_lex.specs.declared.token.Token.{Token}
 use Rattle.ceal_grammar.specs.Faults.{Accepts, IsFirstFault}
 use Rattle.ceal_types.specs.Checked.{checked}
@@ -29,6 +29,8 @@ pub record IsChecked (p : Typed) : Type 0 where
   pub typed : WellTyped p
   pub usage : KeepsUsage p
   pub limit : counted p ≡ Ok p
+  pub graph : lowered p ≡ Ok (graph_of p)
+  pub few : function_sizes p.functions ≤ BLOCKS
 
 -- The tokens have this first fault of the grammar.
 pub record IsMisplaced (ts : List Token) (r : Result Typed Fault) : Type 0 where

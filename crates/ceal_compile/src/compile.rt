@@ -20,7 +20,7 @@ use ceal_base::no_memory::NoMemory;
 use ceal_base::syntax::Tree;
 use ceal_base::typed::Typed;
 use ceal_code::code::Code;
-use ceal_flow::lower::{check_limit, lower};
+use ceal_flow::lower::{check_limit, graph};
 use ceal_fold::fold::fold;
 use ceal_lex::lex::lex;
 use ceal_lex::parts::Split;
@@ -110,6 +110,18 @@ fn read_part(alloc: Global, input: &[u8], part: &Split) -> Result<Typed, FrontEr
     }
 }
 
+/// The program of the source part of an input whose parts these are, as `check_source` tells it.
+pub fn check_part(alloc: Global, input: &[u8], part: &Split) -> Result<Typed, FrontError>
+    requires { IsSplit input.now part.now }
+    ensures found { IfOk result (λ program. IsProgram input.now program) }
+    ensures checked { IfOk result IsChecked }
+    ensures fault { IfFault result (λ fault. IsFirstFault input.now fault) }
+    ensures only { (r : ResultOf TypedRecord FaultRecord) → Comes input.now r → Gives result r }
+{
+    one_split();
+    read_part(alloc, input, part)
+}
+
 /// The program of the source part of an input, without its code, or its first fault: of characters, else of the
 /// grammar, else of names and types, else of usage, else of the limit on blocks. The script after the source part
 /// is not looked at. Whether an input is accepted is so told without any code generation.
@@ -120,8 +132,7 @@ pub fn check_source(alloc: Global, input: &[u8]) -> Result<Typed, FrontError>
     ensures fault { IfFault result (λ fault. IsFirstFault input.now fault) }
     ensures only { (r : ResultOf TypedRecord FaultRecord) → Comes input.now r → Gives result r }
 {
-    one_split();
-    read_part(alloc, input, &split(input))
+    check_part(alloc, input, &split(input))
 }
 
 /// The code of a program: its graph, the units of that with their live variables, and those folded.
@@ -131,15 +142,31 @@ fn code_of(alloc: Global, program: &Typed) -> Result<Code, NoMemory>
     ensures valid { IfOk result (λ code. valid code ≡ true) }
     ensures means { IfOk result (λ code. Means code program.now) }
 {
-    match lower(alloc, program) {
-        Ok(graph) => {
-            let live = live(alloc, &graph)?;
-            let units = normalise(alloc, &graph, &live)?;
-            let code = fold(alloc, units)?;
-            Ok(code)
-        }
-        Err(FrontError::Memory) => Err(NoMemory),
-        Err(FrontError::Fault(_)) => unreachable!(),
+    let lowered = graph(alloc, program)?;
+    let live = live(alloc, &lowered)?;
+    let units = normalise(alloc, &lowered, &live)?;
+    let code = fold(alloc, units)?;
+    Ok(code)
+}
+
+/// The program of the source part of an input whose parts these are, with its trace code, or its first fault.
+pub fn compile_part(alloc: Global, input: &[u8], part: &Split) -> Result<Program, FrontError>
+    requires { IsSplit input.now part.now }
+    ensures found { IfOk result (λ program. IsProgram input.now program.typed) }
+    ensures compiled { IfOk result IsCompiled }
+    ensures fault { IfFault result (λ fault. IsFirstFault input.now fault) }
+    ensures only { (r : ResultOf TypedRecord FaultRecord) → Comes input.now r
+        → Gives (typed_of result) r }
+{
+    match check_part(alloc, input, part) {
+        Ok(typed) => match code_of(alloc, &typed) {
+            Ok(code) => Ok(Program { typed, code }),
+            Err(NoMemory) => {
+                drop(typed);
+                Err(FrontError::Memory)
+            }
+        },
+        Err(error) => Err(error),
     }
 }
 
@@ -152,16 +179,7 @@ pub fn compile(alloc: Global, input: &[u8]) -> Result<Program, FrontError>
     ensures only { (r : ResultOf TypedRecord FaultRecord) → Comes input.now r
         → Gives (typed_of result) r }
 {
-    match check_source(alloc, input) {
-        Ok(typed) => match code_of(alloc, &typed) {
-            Ok(code) => Ok(Program { typed, code }),
-            Err(NoMemory) => {
-                drop(typed);
-                Err(FrontError::Memory)
-            }
-        },
-        Err(error) => Err(error),
-    }
+    compile_part(alloc, input, &split(input))
 }
 
 /// A law: an input comes to one program or one first fault at most.

@@ -92,10 +92,12 @@ fn put_functions(
     Ok(put)
 }
 
-/// The graph of a program that keeps the limit.
-fn graph(alloc: Global, program: &Typed) -> Result<Graph, NoMemory>
-    requires { function_sizes program.now.functions ≤ BLOCK_LIMIT }
+/// The graph of a program that keeps the limit. It recurses as deep as statements and expressions are nested.
+pub fn graph(alloc: Global, program: &Typed) -> Result<Graph, NoMemory>
+    requires limit { function_sizes program.now.functions ≤ BLOCKS }
     ensures value { IfOk result (λ g. g ≡ graph_of program.now) }
+    ensures few { IfOk result (λ g. length g.blocks ≤ BLOCKS) }
+    ensures same_run { KeepsUsage program.now → IfOk result (λ g. RunsAs g program.now) }
 {
     let mut blocks = Vec::new(alloc);
     let functions = put_functions(alloc, &mut blocks, program.functions.items())?;
@@ -120,7 +122,7 @@ pub fn check_limit(program: &Typed) -> Result<(), Fault>
 }
 
 /// The graph of a program; or L1 at the first block past the limit, which is a statement's first token, or the closing
-/// brace of a function whose end it is. It recurses as deep as statements and expressions are nested.
+/// brace of a function whose end it is.
 pub fn lower(alloc: Global, program: &Typed) -> Result<Graph, FrontError>
     ensures first { Gives result (lowered program.now) }
     ensures few { IfOk result (λ g. length g.blocks ≤ BLOCKS) }

@@ -7,6 +7,7 @@ ghost use Rattle.ceal_script.specs.Words.{AreGaps, HasWord, HasWords, texts};
 
 use crate::bytes::is_gap;
 use ceal_base::no_memory::NoMemory;
+use smallvec::SmallVec;
 use std::alloc::Global;
 
 /// Where the first byte stands that is no gap.
@@ -51,14 +52,14 @@ fn first_word(line: &[u8]) -> Option<(&[u8], &[u8])>
     Some(text.split_at(word_length(text)))
 }
 
-/// How many words most lines have at most.
-const FEW_WORDS: usize = 8;
+/// The words of a line. A few of them take no memory.
+pub type LineWords<'a> = SmallVec<&'a [u8], 8>;
 
 /// The words of a line.
-pub fn split_words<'a>(alloc: Global, line: &'a [u8]) -> Result<Vec<&'a [u8]>, NoMemory>
+pub fn split_words<'a>(alloc: Global, line: &'a [u8]) -> Result<LineWords<'a>, NoMemory>
     ensures { IfOk result (λ words. HasWords line.now (texts words.items)) }
 {
-    let mut words = Vec::with_capacity(alloc, FEW_WORDS)?;
+    let mut words = SmallVec::new(alloc);
     let mut rest = line;
     loop {
         match first_word(rest) {
