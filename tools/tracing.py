@@ -11,12 +11,12 @@ from tools.answers import Fault, Input
 WIDTH, HEIGHT, ROW = 1000, 420, 18  # (a panel's pixels, and those of a row where there is room)
 COLOURS = {'kept': '#c3cad5', 'taken': '#7fc492', 'anew': '#f2a65a', 'revoked': '#d9646f', 'stale': '#fde8cd', 'run': '#8fb4dc'}
 TOLD = {'kept': 'kept', 'taken': 'reused', 'anew': 're-executed', 'revoked': 'revoked', 'stale': 'stale read', 'run': 'run'}
-EACH = 4000  # (of so many items each is drawn by itself and named)
+EACH = 4000  # (up to this many items, each is drawn by itself and named)
 PLACE = re.compile(r'([ic]\d+)(?:\.(\d+))?')
 
 
 class Trace:
-    """The items of a dump, flat: the words of each, where each read ends, how deep each stands, and how many steps stand before it."""
+    """The items of a dump, flat: the words of each, where each read ends, how deep each is, and how many steps come before it."""
 
     def __init__(self, dump):
         lines = dump.decode().splitlines()
@@ -68,7 +68,7 @@ class Update:
                 self.plain(at, item)
 
     def named(self, word):
-        """A word of the new trace by the numbers of the old one; a block that was made anew has no number there."""
+        """A word of the new trace by the numbers of the old one; a new block has no number there."""
         found = PLACE.fullmatch(word)
         if not found or word[0] == 'i':
             return word
