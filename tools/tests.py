@@ -1,7 +1,7 @@
-"""Passes every test that needs no proof, in parts that run beside each other: `./run --test`.
+"""Runs every test that needs no proof, in parts that run side by side: `./run --test`.
 
 A part is the rows, the tests of a crate, the pages, the streams of the program, or `./run` itself. Where the proved program is there it answers
-the rows and `./run`; else they are tried by `rt try`, which compiles each part anew.
+the rows and `./run`; else they are tried by `rt try`, which compiles each part again.
 """
 import os, re, shutil, subprocess, sys, tempfile, time
 
