@@ -91,7 +91,7 @@ fn smaller(a: usize, b: usize) -> usize
 }
 
 /// The words of parameters, in place of those that there are.
-#[tactic(auto, using(crate::proofs::StackSteps::bind_steps))]
+#[tactic(auto, using(crate::proofs::Equations::StackSteps::bind_steps))]
 pub fn bind(env: &mut Vec<Word>, params: &[VarId], words: &[Word]) -> Result<(), NoMemory>
     ensures bound { OnOk result (arguments env.new.items ≡ bound params.now words.now) }
 {
@@ -107,7 +107,7 @@ pub fn bind(env: &mut Vec<Word>, params: &[VarId], words: &[Word]) -> Result<(),
 }
 
 /// The same, where the words are what the expressions give.
-#[tactic(auto, using(crate::proofs::StackSteps::bind_steps))]
+#[tactic(auto, using(crate::proofs::Equations::StackSteps::bind_steps))]
 pub fn bind_values<P: PlainWords>(
     scope: &Scope<'_, P>,
     env: &mut Vec<Word>,
@@ -139,7 +139,7 @@ fn argument(args: &[Word], p: VarId) -> Word
 }
 
 /// The words of those parameters of a function that its entry unit has.
-#[tactic(auto, using(crate::proofs::StackSteps::choose_steps))]
+#[tactic(auto, using(crate::proofs::Equations::StackSteps::choose_steps))]
 pub fn choose(alloc: Global, params: &[VarId], args: &[Word]) -> Result<Vec<Word>, NoMemory>
     ensures chosen { IfOk result (λ words. words.items ≡ chosen params.now args.now) }
 {

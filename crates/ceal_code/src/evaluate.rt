@@ -100,7 +100,7 @@ fn remainder_of(x: i64, y: i64) -> i64
 }
 
 /// Whether the operator looks at the numbers of its words alone, and gives a number.
-#[tactic(auto, using(crate::proofs::ValueSteps::arithmetic_steps))]
+#[tactic(auto, using(crate::proofs::Equations::ValueSteps::arithmetic_steps))]
 fn is_arithmetic(op: Binary) -> bool
     ensures { result ≡ true → IsArithmetic op }
 {
@@ -197,7 +197,7 @@ impl<'a, P: PlainWords> Scope<'a, P> {
     }
 
     /// What an expression without parts gives, and None of any other.
-    #[tactic(auto, using(crate::proofs::ValueSteps::value_steps))]
+    #[tactic(auto, using(crate::proofs::Equations::ValueSteps::value_steps))]
     fn leaf(&self, e: &CodeExpr) -> Option<Word>
         ensures { IfSome result (λ word. word ≡ expr_value self.now.structs.now
             (P.plain self.now.plain.now) (arguments self.now.env.now) e.now) }
@@ -228,7 +228,7 @@ impl<'a, P: PlainWords> Scope<'a, P> {
     /// The same, part by part.
     #[cycle(value)]
     #[inline(never)]
-    #[tactic(auto, using(crate::proofs::ValueSteps::value_steps))]
+    #[tactic(auto, using(crate::proofs::Equations::ValueSteps::value_steps))]
     fn whole(&self, e: &CodeExpr) -> Word
         ensures { result ≡ expr_value self.now.structs.now
             (P.plain self.now.plain.now) (arguments self.now.env.now) e.now }
@@ -260,7 +260,7 @@ impl<'a, P: PlainWords> Scope<'a, P> {
     }
 
     /// The number of an expression without parts, and None of any other.
-    #[tactic(auto, using(crate::proofs::ValueSteps::value_steps))]
+    #[tactic(auto, using(crate::proofs::Equations::ValueSteps::value_steps))]
     fn leaf_number(&self, e: &CodeExpr) -> Option<i64>
         ensures { IfSome result (λ n. n ≡ number_of (expr_value self.now.structs.now
             (P.plain self.now.plain.now) (arguments self.now.env.now) e.now)) }
@@ -309,7 +309,7 @@ impl<'a, P: PlainWords> Scope<'a, P> {
     }
 
     /// What each of the expressions gives.
-    #[tactic(auto, using(crate::proofs::ValueSteps::values_steps))]
+    #[tactic(auto, using(crate::proofs::Equations::ValueSteps::values_steps))]
     pub fn values(&self, alloc: Global, es: &[CodeExpr]) -> Result<Words, NoMemory>
         ensures value { IfOk result (λ words. words ≡ values self.now.structs.now
             (P.plain self.now.plain.now) (arguments self.now.env.now) es.now) }
@@ -323,7 +323,7 @@ impl<'a, P: PlainWords> Scope<'a, P> {
     }
 
     /// The same, one by one.
-    #[tactic(auto, using(crate::proofs::ValueSteps::values_steps))]
+    #[tactic(auto, using(crate::proofs::Equations::ValueSteps::values_steps))]
     fn many_values(&self, alloc: Global, es: &[CodeExpr]) -> Result<Words, NoMemory>
         ensures { IfOk result (λ words. words ≡ values self.now.structs.now
             (P.plain self.now.plain.now) (arguments self.now.env.now) es.now) }
@@ -336,7 +336,7 @@ impl<'a, P: PlainWords> Scope<'a, P> {
     }
 
     /// Puts what each of the expressions gives in place of these words.
-    #[tactic(auto, using(crate::proofs::ValueSteps::values_steps))]
+    #[tactic(auto, using(crate::proofs::Equations::ValueSteps::values_steps))]
     pub fn evaluate(&self, es: &[CodeExpr], words: &mut Vec<Word>) -> Result<(), NoMemory>
         ensures values { OnOk result (words.new.items ≡ values self.now.structs.now
             (P.plain self.now.plain.now) (arguments self.now.env.now) es.now) }

@@ -62,7 +62,7 @@ fn refill(env: &mut Vec<Word>, words: &[Word]) -> Result<(), NoMemory>
 
 impl Waits {
     /// With no unit.
-    #[tactic(auto, using(crate::proofs::WaitSteps::wait_steps), unfolding(crate::specs::Stacks::waits_in))]
+    #[tactic(auto, using(crate::proofs::Equations::WaitSteps::wait_steps), unfolding(crate::specs::Stacks::waits_in))]
     pub fn empty(alloc: Global) -> Waits
         ensures empty { waits_in result ≡ Empty }
     {
@@ -73,7 +73,7 @@ impl Waits {
     }
 
     /// A unit waits, over those that do.
-    #[tactic(auto, using(crate::proofs::WaitSteps::wait_steps), unfolding(crate::specs::Stacks::waits_in))]
+    #[tactic(auto, using(crate::proofs::Equations::WaitSteps::wait_steps), unfolding(crate::specs::Stacks::waits_in))]
     pub(crate) fn push(&mut self, unit: usize, index: usize, env: &[Word]) -> Result<(), NoMemory>
         ensures pushed { OnOk result
             (waits_in self.new ≡ Run unit index (arguments env.now) (waits_in self.old)) }
@@ -88,7 +88,7 @@ impl Waits {
     }
 
     /// The next unit waits no more, and this one becomes it; it answers false where none waits.
-    #[tactic(auto, using(crate::proofs::WaitSteps::wait_steps), unfolding(crate::specs::Stacks::waits_in))]
+    #[tactic(auto, using(crate::proofs::Equations::WaitSteps::wait_steps), unfolding(crate::specs::Stacks::waits_in))]
     pub(crate) fn pop(&mut self, top: &mut Activation) -> Result<bool, NoMemory>
         ensures began { IfOk result (λ more. Began more self.old top.new self.new) }
         ensures fewer { IfOk result
@@ -114,7 +114,7 @@ impl Waits {
     }
 
     /// No unit waits any more.
-    #[tactic(auto, using(crate::proofs::WaitSteps::wait_steps), unfolding(crate::specs::Stacks::waits_in))]
+    #[tactic(auto, using(crate::proofs::Equations::WaitSteps::wait_steps), unfolding(crate::specs::Stacks::waits_in))]
     pub(crate) fn clear(&mut self)
         ensures cleared { waits_in self.new ≡ Empty }
     {
@@ -123,7 +123,7 @@ impl Waits {
     }
 
     /// Takes all units off; where there are none their room stays.
-    #[tactic(auto, using(crate::proofs::WaitSteps::wait_steps), unfolding(crate::specs::Stacks::waits_in))]
+    #[tactic(auto, using(crate::proofs::Equations::WaitSteps::wait_steps), unfolding(crate::specs::Stacks::waits_in))]
     pub(crate) fn take(&mut self) -> Waits
         ensures taken { waits_in result ≡ waits_in self.old }
         ensures none { waits_in self.new ≡ Empty }
@@ -136,7 +136,7 @@ impl Waits {
     }
 
     /// Puts units in place of those that there are; where there are none the room stays.
-    #[tactic(auto, using(crate::proofs::WaitSteps::wait_steps), unfolding(crate::specs::Stacks::waits_in))]
+    #[tactic(auto, using(crate::proofs::Equations::WaitSteps::wait_steps), unfolding(crate::specs::Stacks::waits_in))]
     pub(crate) fn put(&mut self, waits: Waits)
         ensures put { waits_in self.new ≡ waits_in waits }
     {

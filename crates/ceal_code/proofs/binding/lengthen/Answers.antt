@@ -1,5 +1,5 @@
 use Rattle.std.proofs.Common.{◌+◌, ◌-◌, length}
-use Rattle.ceal_code.proofs.StackSteps.{arguments-padded, padded-length}
+use Rattle.ceal_code.proofs.Equations.StackSteps.{arguments-padded, padded-length}
 use Rattle.ceal_code.proofs.binding.lengthen.Goals as goal
 
 pub returns-clause-there : goal.returns-clause-there

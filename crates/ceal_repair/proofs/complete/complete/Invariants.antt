@@ -1,4 +1,4 @@
-use Rattle.ceal_repair.proofs.Completing.{Acting}
+use Rattle.ceal_repair.proofs.Runs.RepeatedTurns.{Acting}
 use Rattle.ceal_repair.proofs.complete.complete.Given as goal
 
 abbrev pub invariant-loop-act : goal.invariant-loop-act

@@ -2,7 +2,7 @@ use mir.Val.{SFits}
 use Rattle.std.proofs.Common.{◌∙◌, w64, rules}
 use Rattle.std.proofs.lemmas.Int.{to_z-of_z}
 use Rattle.ceal_code.specs.Init.{arguments}
-use Rattle.ceal_code.proofs.ValueSteps.{arithmetic-word, arithmetic-number, binary-number}
+use Rattle.ceal_code.proofs.Equations.ValueSteps.{arithmetic-word, arithmetic-number, binary-number}
 use Rattle.ceal_code.proofs.evaluate.Scope.+value.Goals as goal
 
 pub whole-returns-then-is_arithmetic : goal.whole-returns-then-is_arithmetic

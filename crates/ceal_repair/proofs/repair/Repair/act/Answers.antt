@@ -2,7 +2,7 @@ use Rattle.std.proofs.Common.{refl}
 use Rattle.ceal_code.specs.Stacks.{stack_in, top_of, below_in}
 use Rattle.ceal_code.specs.declared.step.Act.TheVariants as does
 use Rattle.ceal_code.specs.declared.step.Step.TheVariants as step
-use Rattle.ceal_repair.proofs.Turned.{acts-over}
+use Rattle.ceal_repair.proofs.Runs.NextAct.{acts-over}
 use Rattle.ceal_repair.specs.Reads.{closure_in}
 use Rattle.ceal_repair.proofs.repair.Repair.act.Goals as goal
 

@@ -3,10 +3,10 @@ use Rattle.ceal_code.specs.Stacks.{stack_in, waits_in}
 use Rattle.ceal_code.specs.Step.{Stack, Reads}
 use Rattle.ceal_code.specs.declared.waits.Waits.{Waits}
 use Rattle.ceal_order.specs.declared.stamp.Stamp.{Stamp}
-use Rattle.ceal_repair.proofs.Entering.{none-entered}
-use Rattle.ceal_repair.proofs.Moves.{NodeMore}
-use Rattle.ceal_repair.proofs.Reading.{now-begin, resumed-as}
-use Rattle.ceal_repair.proofs.Under_way.{running-here, runs-as, IsStepped, stepped-here, node-behind, begun-view, cursor-kept, with_parts}
+use Rattle.ceal_repair.proofs.Reuse.ReadReuseInCode.{none-entered}
+use Rattle.ceal_repair.proofs.Runs.UnitSteps.{NodeMore}
+use Rattle.ceal_repair.proofs.Runs.NewRead.{now-begin, resumed-as}
+use Rattle.ceal_repair.proofs.Runs.RepairView.{running-here, runs-as, IsStepped, stepped-here, node-behind, begun-view, cursor-kept, with_parts}
 use Rattle.ceal_repair.specs.Reads.{key_in, closure_in}
 use Rattle.ceal_repair.specs.Repairs.{code_of, inputs_of, arguments_of, view}
 use Rattle.ceal_repair.specs.declared.frame.Frame.TheVariants.{Begun}

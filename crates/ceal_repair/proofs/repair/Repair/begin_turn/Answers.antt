@@ -1,6 +1,6 @@
 use Rattle.std.proofs.Common.{ap, refl}
-use Rattle.ceal_repair.proofs.Beginning.{node-now, turn-runs}
-use Rattle.ceal_repair.proofs.Under_way.{with_parts}
+use Rattle.ceal_repair.proofs.Propagation.TurnBegin.{node-now, turn-runs}
+use Rattle.ceal_repair.proofs.Runs.RepairView.{with_parts}
 use Rattle.ceal_repair.specs.Repairs.{code_of, inputs_of}
 use Rattle.ceal_repair.specs.declared.repair.Repair.{Repair}
 use Rattle.ceal_trace.proofs.Entries.{has-held}

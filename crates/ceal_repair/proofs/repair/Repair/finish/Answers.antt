@@ -1,8 +1,8 @@
 use Rattle.std.proofs.Common.{ℕ, ◌++◌, ◌∷◌, refl}
 use Rattle.ceal_code.specs.Stacks.{waits_in}
-use Rattle.ceal_repair.proofs.Finishing.{among, open-is-read, open-before, now-finish}
-use Rattle.ceal_repair.proofs.Moves.{NodeMore, cursor-here}
-use Rattle.ceal_repair.proofs.Under_way.{runs-as, with_parts}
+use Rattle.ceal_repair.proofs.Runs.NewReadEnd.{among, open-is-read, open-before, now-finish}
+use Rattle.ceal_repair.proofs.Runs.UnitSteps.{NodeMore, cursor-here}
+use Rattle.ceal_repair.proofs.Runs.RepairView.{runs-as, with_parts}
 use Rattle.ceal_repair.specs.Entries.{entries}
 use Rattle.ceal_repair.specs.Moment.{View}
 use Rattle.ceal_repair.specs.Repairs.{code_of, inputs_of, view}

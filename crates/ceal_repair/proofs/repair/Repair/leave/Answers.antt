@@ -1,8 +1,8 @@
 use Rattle.std.proofs.Common.{◌≡◌, ℕ, inr, true, Some, refl, sym, ap, subst, ◌∙◌}
 use Rattle.ceal_code.specs.Stacks.{waits_in}
 use Rattle.ceal_order.specs.declared.stamp.Stamp.{Stamp}
-use Rattle.ceal_repair.proofs.Leaving.{next-taken, lies-left, first-is, end-there, now-leave}
-use Rattle.ceal_repair.proofs.Under_way.{runs-as, with_parts}
+use Rattle.ceal_repair.proofs.Reuse.TakenReadEnd.{next-taken, lies-left, first-is, end-there, now-leave}
+use Rattle.ceal_repair.proofs.Runs.RepairView.{runs-as, with_parts}
 use Rattle.ceal_repair.specs.Entries.{stamped}
 use Rattle.ceal_repair.specs.Moment.{through}
 use Rattle.ceal_repair.specs.Repairs.{code_of, inputs_of, view}

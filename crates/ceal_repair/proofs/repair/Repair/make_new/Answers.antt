@@ -6,10 +6,10 @@ use Rattle.ceal_code.specs.Stacks.{stack_in, top_of, below_in}
 use Rattle.ceal_code.specs.Step.{Run}
 use Rattle.ceal_code.specs.Value.{set}
 use Rattle.ceal_code.specs.declared.stack.Activation.{Activation}
-use Rattle.ceal_repair.proofs.Making.{MadeBlock, block-as, alloc-behind, now-make}
-use Rattle.ceal_repair.proofs.Matching.{none-left}
-use Rattle.ceal_repair.proofs.Moves.{NodeMore}
-use Rattle.ceal_repair.proofs.Under_way.{running-here, runs-as, IsStepped, stepped-here, made-view, with_parts}
+use Rattle.ceal_repair.proofs.Runs.NewBlock.{MadeBlock, block-as, alloc-behind, now-make}
+use Rattle.ceal_repair.proofs.Reuse.AllocReuseInCode.{none-left}
+use Rattle.ceal_repair.proofs.Runs.UnitSteps.{NodeMore}
+use Rattle.ceal_repair.proofs.Runs.RepairView.{running-here, runs-as, IsStepped, stepped-here, made-view, with_parts}
 use Rattle.ceal_repair.specs.Repairs.{code_of, inputs_of, stack_of, view}
 use Rattle.ceal_repair.specs.declared.repair.Repair.{Repair}
 use Rattle.ceal_trace.specs.Nodes.{has_node}

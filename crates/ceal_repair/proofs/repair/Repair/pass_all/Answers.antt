@@ -1,9 +1,9 @@
 use Rattle.std.proofs.Common.{◌≡◌, true, Some, List, reverse, refl, sym, ap, subst, ◌∙◌}
 use Rattle.ceal_code.specs.Stacks.{waits_in}
 use Rattle.ceal_order.specs.declared.stamp.Stamp.{Stamp}
-use Rattle.ceal_repair.proofs.Entering.{bases-cells}
-use Rattle.ceal_repair.proofs.Passed.{around-it, frame-next, frames-next, end-there, now-passed}
-use Rattle.ceal_repair.proofs.Under_way.{runs-as, with_parts}
+use Rattle.ceal_repair.proofs.Reuse.ReadReuseInCode.{bases-cells}
+use Rattle.ceal_repair.proofs.KeptNodes.PassAll.{around-it, frame-next, frames-next, end-there, now-passed}
+use Rattle.ceal_repair.proofs.Runs.RepairView.{runs-as, with_parts}
 use Rattle.ceal_repair.specs.Passing.{NoneStale}
 use Rattle.ceal_repair.specs.Moment.{View}
 use Rattle.ceal_repair.specs.Repairs.{code_of, inputs_of, view}

@@ -1,9 +1,9 @@
 use Rattle.std.proofs.Common.{◌≡◌, Option, Some, List, [], ◌∷◌, reverse, refl, sym, ap, ◌∙◌}
 use Rattle.std.proofs.lemmas.List.{reverse-append}
 use Rattle.ceal_order.specs.declared.stamp.Stamp.{Stamp}
-use Rattle.ceal_repair.proofs.Entering.{bases-cells}
-use Rattle.ceal_repair.proofs.Mending.{the-read, word, seen-as, read-here, node-then, end-then, now-mend, limit-of}
-use Rattle.ceal_repair.proofs.Under_way.{runs-as, with_parts}
+use Rattle.ceal_repair.proofs.Reuse.ReadReuseInCode.{bases-cells}
+use Rattle.ceal_repair.proofs.KeptNodes.StaleRead.{the-read, word, seen-as, read-here, node-then, end-then, now-mend, limit-of}
+use Rattle.ceal_repair.proofs.Runs.RepairView.{runs-as, with_parts}
 use Rattle.ceal_repair.specs.Entries.{stamped}
 use Rattle.ceal_repair.specs.Passing.{StaleInside}
 use Rattle.ceal_repair.specs.Repairs.{code_of, inputs_of, view}

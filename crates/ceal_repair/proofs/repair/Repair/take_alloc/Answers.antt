@@ -5,10 +5,10 @@ use Rattle.ceal_code.specs.Stacks.{stack_in, top_of, below_in}
 use Rattle.ceal_code.specs.Step.{Run}
 use Rattle.ceal_code.specs.Value.{set}
 use Rattle.ceal_code.specs.declared.stack.Activation.{Activation}
-use Rattle.ceal_repair.proofs.Items.{more}
-use Rattle.ceal_repair.proofs.Matching.{has-stepped, lies-code, until-code, matches-left, cut-result, found-there, cut-more-code, node-dropped}
-use Rattle.ceal_repair.proofs.Taking.{the-match, node-there, now-take-alloc}
-use Rattle.ceal_repair.proofs.Under_way.{running-here, runs-as, IsStepped, made-view, with_parts}
+use Rattle.ceal_repair.proofs.Nodes.NodeItems.{more}
+use Rattle.ceal_repair.proofs.Reuse.AllocReuseInCode.{has-stepped, lies-code, until-code, matches-left, cut-result, found-there, cut-more-code, node-dropped}
+use Rattle.ceal_repair.proofs.Reuse.AllocReuse.{the-match, node-there, now-take-alloc}
+use Rattle.ceal_repair.proofs.Runs.RepairView.{running-here, runs-as, IsStepped, made-view, with_parts}
 use Rattle.ceal_repair.specs.Moment.{through}
 use Rattle.ceal_repair.specs.Repairs.{code_of, inputs_of, stack_of, view}
 use Rattle.ceal_repair.specs.declared.repair.Repair.{Repair}

@@ -6,12 +6,12 @@ use Rattle.ceal_code.specs.declared.waits.Waits.{Waits}
 use Rattle.ceal_heap.specs.Heap.{Contents}
 use Rattle.ceal_order.specs.Stamps.{is_in}
 use Rattle.ceal_order.specs.declared.stamp.Stamp.{Stamp}
-use Rattle.ceal_repair.proofs.Entering.{reads-left, until-read, cut-read, read-first, cut-done, entered-view, passes-as, limit-is, same-place, same-value, bases-cells}
-use Rattle.ceal_repair.proofs.Items.{more}
-use Rattle.ceal_repair.proofs.Matching.{has-stepped, lies-code}
-use Rattle.ceal_repair.proofs.Reading.{resumed-as}
-use Rattle.ceal_repair.proofs.Retaking.{the-match, node-there, now-retake, node-then, end-then, now-enter, end-same}
-use Rattle.ceal_repair.proofs.Under_way.{running-here, runs-as, IsStepped, with_parts}
+use Rattle.ceal_repair.proofs.Reuse.ReadReuseInCode.{reads-left, until-read, cut-read, read-first, cut-done, entered-view, passes-as, limit-is, same-place, same-value, bases-cells}
+use Rattle.ceal_repair.proofs.Nodes.NodeItems.{more}
+use Rattle.ceal_repair.proofs.Reuse.AllocReuseInCode.{has-stepped, lies-code}
+use Rattle.ceal_repair.proofs.Runs.NewRead.{resumed-as}
+use Rattle.ceal_repair.proofs.Reuse.ReadReuse.{the-match, node-there, now-retake, node-then, end-then, now-enter, end-same}
+use Rattle.ceal_repair.proofs.Runs.RepairView.{running-here, runs-as, IsStepped, with_parts}
 use Rattle.ceal_repair.specs.Entries.{stamped}
 use Rattle.ceal_repair.specs.Moment.{through}
 use Rattle.ceal_repair.specs.Repairs.{code_of, inputs_of, running_of, stack_of, arguments_of, view}

@@ -1,7 +1,7 @@
 use Rattle.std.proofs.Common.{List, Some, sym, ap, ◌∙◌}
 use Rattle.ceal_base.specs.declared.word.Word.{Word}
 use Rattle.ceal_code.specs.Stacks.{stack_in}
-use Rattle.ceal_repair.proofs.Beginning.{unit-as}
+use Rattle.ceal_repair.proofs.Propagation.TurnBegin.{unit-as}
 use Rattle.ceal_trace.specs.Nodes.{node_at}
 use Rattle.ceal_trace.specs.declared.node.Node.TheVariants.{Read}
 use Rattle.ceal_repair.proofs.repair.turn.unit_at.Goals as goal

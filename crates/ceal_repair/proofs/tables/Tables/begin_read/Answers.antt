@@ -4,10 +4,10 @@ use Rattle.ceal_memo.specs.Keys.{ReadKey}
 use Rattle.ceal_mods.specs.Mods.{cell_of}
 use Rattle.ceal_trace.specs.Nodes.{Entry, Timeline, stamps_in, has_node, position}
 use Rattle.ceal_trace.specs.declared.node.Node.TheVariants.{Read}
-use Rattle.ceal_repair.proofs.Changing.{read-has, cell-same}
-use Rattle.ceal_repair.proofs.Keeping.{read-kept, is-free, no-entry, bases-same, tables}
-use Rattle.ceal_repair.proofs.Looking.{value-over}
-use Rattle.ceal_repair.proofs.Steps.{behind-put}
+use Rattle.ceal_repair.proofs.QueueCover.NodeChanges.{read-has, cell-same}
+use Rattle.ceal_repair.proofs.TableCalls.PutKeepsTables.{read-kept, is-free, no-entry, bases-same, tables}
+use Rattle.ceal_repair.proofs.TableCalls.ContentAfter.{value-over}
+use Rattle.ceal_repair.proofs.TableCalls.CallsKeepCover.{behind-put}
 use Rattle.ceal_mods.specs.Cell.{with_read}
 use Rattle.ceal_mods.specs.declared.cell.Cell.{Cell}
 use Rattle.ceal_repair.proofs.tables.Tables.begin_read.Goals as goal

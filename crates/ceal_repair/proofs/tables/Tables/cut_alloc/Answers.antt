@@ -2,8 +2,8 @@ use Rattle.std.proofs.Common.{refl}
 use Rattle.ceal_trace.specs.Nodes.{stamps_in}
 use Rattle.ceal_trace.specs.declared.node.Node.{Node}
 use Rattle.ceal_trace.specs.declared.node.Node.TheVariants.{Alloc}
-use Rattle.ceal_repair.proofs.Changing.{node-has}
-use Rattle.ceal_repair.proofs.TakingOut.{alloc-cut-kept, no-end}
+use Rattle.ceal_repair.proofs.QueueCover.NodeChanges.{node-has}
+use Rattle.ceal_repair.proofs.TableCalls.CutKeepsTables.{alloc-cut-kept, no-end}
 use Rattle.ceal_repair.proofs.tables.Tables.cut_alloc.Goals as goal
 
 pub remove-requires-clause-here : goal.remove-requires-clause-here

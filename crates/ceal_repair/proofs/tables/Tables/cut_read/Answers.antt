@@ -4,8 +4,8 @@ use Rattle.ceal_mods.specs.Mods.{cell_of}
 use Rattle.ceal_trace.specs.Nodes.{stamps_in}
 use Rattle.ceal_trace.specs.declared.node.Node.TheVariants.{End}
 use Rattle.ceal_mods.specs.Cell.{without_read}
-use Rattle.ceal_repair.proofs.TakingOut.{read-there, read-cut-behind, read-cut-kept, end-is, stamp-of}
-use Rattle.ceal_repair.proofs.Keeping.{bases-same}
+use Rattle.ceal_repair.proofs.TableCalls.CutKeepsTables.{read-there, read-cut-behind, read-cut-kept, end-is, stamp-of}
+use Rattle.ceal_repair.proofs.TableCalls.PutKeepsTables.{bases-same}
 use Rattle.ceal_repair.proofs.tables.Tables.cut_read.Goals as goal
 
 pub remove_read-requires-clause-there : goal.remove_read-requires-clause-there

@@ -1,14 +1,14 @@
 use Rattle.std.proofs.Common.{◌≡◌, ℕ, Bool, true, false, Some, inl, inr, ◌⊎◌, refl, sym, ◌∙◌}
 use Rattle.ceal_base.specs.declared.word.Place.{Place}
 use Rattle.ceal_base.specs.declared.word.Word.{Word}
-use Rattle.ceal_code.proofs.Same.{some-same}
+use Rattle.ceal_code.proofs.Words.SameIsEqual.{some-same}
 use Rattle.ceal_repair.specs.declared.tables.Tables.{Tables}
 use Rattle.ceal_trace.specs.Nodes.{Timeline, stamps_in, node_at}
 use Rattle.ceal_trace.specs.declared.node.Node.TheVariants.{Write}
-use Rattle.ceal_repair.proofs.Changing.{node-has}
-use Rattle.ceal_repair.proofs.TakingOut.{write-there, write-cut-behind, write-cut-kept, no-end, room-kept, same-write}
-use Rattle.ceal_repair.proofs.Keeping.{tables}
-use Rattle.ceal_repair.proofs.Editing.{contents-same}
+use Rattle.ceal_repair.proofs.QueueCover.NodeChanges.{node-has}
+use Rattle.ceal_repair.proofs.TableCalls.CutKeepsTables.{write-there, write-cut-behind, write-cut-kept, no-end, room-kept, same-write}
+use Rattle.ceal_repair.proofs.TableCalls.PutKeepsTables.{tables}
+use Rattle.ceal_repair.proofs.TableCalls.BaseEdit.{contents-same}
 use Rattle.ceal_repair.specs.Kept.{contents_at}
 use Rattle.ceal_repair.proofs.tables.Tables.cut_write.Goals as goal
 

@@ -1,8 +1,8 @@
 use Rattle.std.proofs.Common.{Some, sym, ap, ◌∙◌}
-use Rattle.ceal_code.proofs.Same.{some-same}
+use Rattle.ceal_code.proofs.Words.SameIsEqual.{some-same}
 use Rattle.ceal_trace.specs.declared.node.Node.TheVariants.{Write}
-use Rattle.ceal_repair.proofs.Changing.{node-has}
-use Rattle.ceal_repair.proofs.TakingOut.{same-write, held-at}
+use Rattle.ceal_repair.proofs.QueueCover.NodeChanges.{node-has}
+use Rattle.ceal_repair.proofs.TableCalls.CutKeepsTables.{same-write, held-at}
 use Rattle.ceal_repair.proofs.tables.Tables.is_needless.Goals as goal
 
 pub value_at-held-requires-clause-here : goal.value_at-held-requires-clause-here
