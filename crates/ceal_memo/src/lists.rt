@@ -66,7 +66,7 @@ impl<K: Eq + Hash + Drop> Lists<K> {
             return Err(NoMemory);
         }
         self.spares.make_room(count + 1)?;
-        let list = alone(*self.by_key.allocator(), order, stamp)?;
+        let list = Rising::one(*self.by_key.allocator(), stamp);
         match enter(&mut self.by_key, key, list)? {
             None => Ok(settle(&mut self.by_key, &mut self.spares)),
             Some(number) => {
@@ -141,16 +141,6 @@ fn take_at<K: Eq + Hash>(
     };
     list.take_out_along(order, stamp);
     list.is_empty()
-}
-
-// A list of one stamp.
-fn alone(alloc: Global, order: &Order, stamp: Stamp) -> Result<Rising, NoMemory>
-    requires here { IsTrue (is_in stamp.0 order.now.stamps) }
-    ensures { IfOk result (λ list. list ≡ stamp.0 ∷ []) }
-{
-    let mut list = Rising::new(alloc);
-    list.insert(order, stamp)?;
-    Ok(list)
 }
 
 // Puts a list in the place of the one with a number.
