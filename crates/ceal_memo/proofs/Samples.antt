@@ -1,6 +1,5 @@
 -- Reads of two keys with one hash, and a read of a third key.
 use Rattle.std.proofs.Common.{◌≡◌, ℕ, Bool, true, false, List, [], ◌∷◌, refl, arith, lit<, if◌then◌else◌, ◌==◌}
-use Rattle.ceal_memo.specs.Hashes.{hashed}
 use Rattle.ceal_memo.specs.Lists.{with_stamp, NoneBetween}
 use Rattle.ceal_memo.specs.Memo.{Entries, entries_of, entries_with}
 use Rattle.ceal_memo.specs.Mixing.{number_of}
@@ -41,6 +40,3 @@ next_of_the_key s there later = grind (arith)
 -- eight bytes are a number, the lowest byte first
 three_hundred : number_of (44 ∷ 1 ∷ 0 ∷ 0 ∷ 0 ∷ 0 ∷ 0 ∷ 0 ∷ []) ≡ 300
 three_hundred = refl
-
-hash_of_one : hashed ((1 ∷ []) ∷ []) ≡ 11400714819323198485
-hash_of_one = refl
