@@ -35,3 +35,4 @@ pub mod Alike
 pub mod Restored
 pub mod Resumed
 pub mod Strangers
+mod Samples

@@ -24,3 +24,5 @@ pub mod Journal
 pub mod Advancing
 pub mod Costs
 pub mod Shown
+pub mod AnswerBytes
+pub mod Answering

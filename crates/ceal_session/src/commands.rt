@@ -6,8 +6,8 @@ ghost use Rattle.ceal_session.specs.Asking.{HasReads};
 ghost use Rattle.ceal_session.specs.Following.{Keeps, Goes, IsLeftBy};
 ghost use Rattle.ceal_session.specs.Keeping.{situation};
 ghost use Rattle.ceal_session.specs.Naming.{IsNamed};
-ghost use Rattle.ceal_session.specs.Senses.{mod_shape as shape_of_mod, struct_shape as shape_of_struct, struct_named, function_named, value_sense as sense_of_value, place_sense as sense_of_place};
-ghost use Rattle.ceal_session.specs.Steps.{IsQuiet, IsFirst, runs, runs_part, called, called_again, call_of, reads_of, made_of, set as set_of, answered};
+ghost use Rattle.ceal_session.specs.Senses.{mod_shape as shape_of_mod, struct_shape as shape_of_struct, struct_named, function_named, value_sense as sense_of_value};
+ghost use Rattle.ceal_session.specs.Steps.{IsQuiet, IsFirst, runs, runs_part, called, called_again, call_of, reads_of, made_of, answered};
 ghost use Rattle.ceal_theory.specs.Pasts.{goes};
 
 use crate::refusal::Refusal;
@@ -78,21 +78,6 @@ fn make_block(
             make(alloc, state, name, shape, senses.as_slice())
         }
     }
-}
-
-/// `set`
-fn edit(state: &mut State, place: &PlaceWord, value: &ValueWord) -> Result<Reply, NoMemory>
-    ensures ok { IfOk result
-        (λ reply. record { reply = reply; state = state.new.state }
-        ≡ set_of state.old.state (sense_of_place state.old.state place.now)
-        (sense_of_value state.old.state value.now)) }
-    ensures quiet { IfOk result (λ reply. IsQuiet reply → state.new ≡ state.old) }
-    ensures trace { OnOk result (Keeps (situation state.old) (situation state.new)) }
-    ensures err { OnErr result (state.new ≡ state.old) }
-{
-    let place = place_sense(state, place)?;
-    let value = value_sense(state, value)?;
-    set(state, place, value)
 }
 
 /// The run of a call that no run came before, unless it is refused.
@@ -199,7 +184,13 @@ pub fn reply_to(alloc: Global, state: &mut State, command: &Command) -> Result<R
             shape,
             values,
         } => make_block(alloc, state, name, shape, values.items()),
-        Command::Set { place, value } => edit(state, place, value),
+        Command::Set { place, value } => {
+            set(
+                state,
+                place_sense(state, place)?,
+                value_sense(state, value)?,
+            )
+        }
         Command::Run { function, args } => { start_first(alloc, state, function, args.items()) }
         Command::Propagate => start_again(state),
         Command::Slice { reads } => start_part(state, *reads),

@@ -7,6 +7,7 @@
 #![tactic(auto)]
 
 mod advance;
+pub mod answer;
 mod bound;
 mod commands;
 mod journal;

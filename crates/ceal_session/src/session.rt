@@ -1,31 +1,32 @@
 // A session.
 
-ghost use Rattle.std.specs.Prelude.{◌≡◌, ◌≤◌, codes, length, IfOk, OnOk, OnErr, IfSome, IsErrOf, MatchOption};
+ghost use Rattle.std.specs.Prelude.{◌≡◌, ◌<◌, length, IfOk, OnOk, OnErr, IfSome, IsErrOf, MatchOption};
 ghost use Rattle.ceal_compile.specs.Compiled.{IsCompiled};
-ghost use Rattle.ceal_session.specs.Asking.{CanTell, HasReads, IsReady};
-ghost use Rattle.ceal_session.specs.Following.{IsAllowed, opened, Goes, Repairs, Bounds, IsLeft, IsLeftBy};
+ghost use Rattle.ceal_session.specs.Answering.{HasReply};
+ghost use Rattle.ceal_session.specs.Asking.{CanTell, IsReady};
+ghost use Rattle.ceal_session.specs.Following.{IsAllowed, opened, Repairs, Bounds, IsLeft};
 ghost use Rattle.ceal_session.specs.Keeping.{situation};
-ghost use Rattle.ceal_session.specs.Naming.{AreSpelled, IsNamed};
+ghost use Rattle.ceal_session.specs.Naming.{AreSpelled};
 ghost use Rattle.ceal_session.specs.Recording.{IsRecorded};
 ghost use Rattle.ceal_session.specs.Replies.{Answers};
 ghost use Rattle.ceal_session.specs.Saving.{Holding, IsResumed, IsSaved};
-ghost use Rattle.ceal_session.specs.Steps.{IsQuiet, answered, call_of, reads_of};
+ghost use Rattle.ceal_session.specs.Steps.{IsQuiet};
 ghost use Rattle.ceal_session.specs.Texts.{IsText};
 ghost use Rattle.ceal_session.specs.State.{numbers_in};
 ghost use Rattle.ceal_theory.specs.Pasts.{goes};
 
+use crate::answer::Answer;
 use crate::commands::reply_to;
 use crate::refusal::{Refusal, text as refusal_line};
 use crate::reply::Reply;
 use crate::restore::restored;
 use crate::saving::saved;
 use crate::state::State;
-use crate::texts::answer;
+use crate::texts::answer as told;
 use ceal_base::no_memory::NoMemory;
 use ceal_base::recorded::Record;
 use ceal_base::text::Text;
 use ceal_compile::program::Program;
-use ceal_script::command::Command;
 use ceal_script::line::read_line;
 use ceal_script::line_error::LineError;
 use ceal_snap::saved::Saved;
@@ -66,90 +67,93 @@ impl Model for Session {
     ghost view = { λ s. s.state };
 }
 
-/// The memory of the replies behind which a change stands, which is taken before it: the longest one of them.
+/// How many bytes an answer has at most after which the session is another one.
+const LONGEST_CHANGE: usize = 12;
+
+/// The memory of an answer after which the session is another one, which is taken before that.
 fn prepare(alloc: Global) -> Result<Vec<u8>, NoMemory>
-    ensures ready { IfOk result (λ bytes. bytes.items ≡ codes "out of fuel\n") }
+    ensures ready { IfOk result (λ bytes. length bytes.items ≡ 12) }
 {
-    let bytes = Vec::from_slice(alloc, b"out of fuel\n")?;
+    let bytes = Vec::from_slice(alloc, &[0; LONGEST_CHANGE])?;
     Ok(bytes)
 }
 
-/// A shorter one, in the same memory.
-fn shortened(bytes: Vec<u8>, reply: &[u8]) -> Text
-    requires ready { bytes.items ≡ codes "out of fuel\n" }
-    requires short { length reply.now ≤ 12 }
-    ensures text { result ≡ reply.now }
+/// An answer as a text, which is put into the memory that is ready where it has room there.
+fn text(alloc: Global, answer: &Answer, ready: Vec<u8>) -> Result<Text, NoMemory>
+    requires ready { length ready.items ≡ 12 }
+    ensures ok { IfOk result (λ text. text ≡ answer.now) }
+    ensures err { OnErr result (12 < length answer.now) }
 {
-    let mut bytes = bytes;
-    bytes.truncate(reply.len());
-    bytes.copy_from_slice(reply);
-    Text::new(bytes)
+    let mut bytes = ready;
+    let items = answer.items();
+    if items.len() > bytes.len() {
+        return Text::from_slice(alloc, items);
+    }
+    bytes.truncate(items.len());
+    bytes.copy_from_slice(items);
+    Ok(Text::new(bytes))
 }
 
-/// The text of a reply.
-fn text(alloc: Global, state: &State, reply: Reply, ready: Vec<u8>) -> Result<Text, NoMemory>
+/// The answer that a reply is.
+fn answer_of(alloc: Global, state: &State, reply: Reply) -> Result<Answer, NoMemory>
     requires asked { CanTell state.now.state reply }
-    requires ready { ready.items ≡ codes "out of fuel\n" }
     ensures ok { IfOk result
-        (λ text. IsText state.now.state (numbers_in (situation state.now)) reply text) }
+        (λ answer. IsText state.now.state (numbers_in (situation state.now)) reply answer) }
     ensures err { OnErr result (IsQuiet reply) }
 {
     match reply {
-        Reply::Nothing => Ok(Text::empty(alloc)),
-        Reply::Ok => Ok(shortened(ready, b"ok\n")),
-        Reply::OutOfFuel => Ok(Text::new(ready)),
-        Reply::More => Ok(shortened(ready, b"more\n")),
-        Reply::Finished => Ok(shortened(ready, b"done\n")),
-        Reply::Refused(refusal) => Text::from_slice(alloc, refusal_line(refusal).as_bytes()),
-        Reply::Told(query) => answer(alloc, state, query),
+        Reply::Nothing => Ok(Answer::fixed("")),
+        Reply::Ok => Ok(Answer::fixed("ok\n")),
+        Reply::OutOfFuel => Ok(Answer::fixed("out of fuel\n")),
+        Reply::More => Ok(Answer::fixed("more\n")),
+        Reply::Finished => Ok(Answer::fixed("done\n")),
+        Reply::Refused(refusal) => Ok(Answer::fixed(refusal_line(refusal))),
+        Reply::Told(query) => told(alloc, state, query),
     }
 }
 
-/// The answer to a command.
-fn answer_command(alloc: Global, state: &mut State, command: &Command) -> Result<Text, NoMemory>
-    requires some { HasReads command.now }
-    requires named { IsNamed command.now }
+/// The reply to a command.
+fn reply_of(alloc: Global, state: &mut State, line: &[u8]) -> Result<Reply, NoMemory>
     ensures reply { IfOk result
-        (λ text. IsText state.old.state (numbers_in (situation state.old))
-        (answered state.old.state (goes (situation state.new).past) command.now).reply text) }
-    ensures state { OnOk result
-        (state.new.state
-        ≡ (answered state.old.state (goes (situation state.new).past) command.now).state) }
-    ensures trace { OnOk result
-        (Goes (situation state.old) (call_of state.old.state command.now) (reads_of command.now)
-        (situation state.new)) }
-    ensures err { OnErr result
-        (IsLeftBy (situation state.old) (call_of state.old.state command.now)
-        (situation state.new)) }
-{
-    // for the proof: each input has a name, by the clause `counted`
-    let _names = state.names();
-    let ready = prepare(alloc)?;
-    let reply = reply_to(alloc, state, command)?;
-    text(alloc, state, reply, ready)
-}
-
-/// The answer to a line.
-fn answer_line(alloc: Global, state: &mut State, line: &[u8]) -> Result<Text, NoMemory>
-    ensures reply { IfOk result
-        (λ text. Answers state.old.state
-        (numbers_in (situation state.old)) (goes (situation state.new).past)
-        line.now text state.new.state) }
+        (λ reply. HasReply state.old.state (goes (situation state.new).past) line.now reply
+        state.new.state) }
+    ensures quiet { IfOk result (λ reply. IsQuiet reply → state.new ≡ state.old) }
+    ensures tells { IfOk result (λ reply. CanTell state.new.state reply) }
     ensures trace { OnOk result
         (Repairs (situation state.old) line.now (situation state.new)) }
     ensures bounded { OnOk result
         (Bounds (situation state.old) line.now (situation state.new)) }
     ensures left { OnErr result (IsLeft (situation state.old) line.now (situation state.new)) }
 {
-    // for the proof: of the state's trace the work is bounded
+    // for the proof: each input has a name, by the clause `counted`, and of the state's trace the work is bounded
+    let _names = state.names();
     state.traced();
     match read_line(alloc, line) {
-        Ok(command) => answer_command(alloc, state, &command),
-        Err(LineError::Memory) => Err(NoMemory),
-        Err(LineError::Unreadable) => {
-            Text::from_slice(alloc, refusal_line(Refusal::C1).as_bytes())
+        Ok(command) => {
+            let reply = reply_to(alloc, state, &command);
+            drop(command);
+            reply
         }
+        Err(LineError::Memory) => Err(NoMemory),
+        Err(LineError::Unreadable) => Ok(Reply::Refused(Refusal::C1)),
     }
+}
+
+/// The answer to a line.
+fn answer_line(alloc: Global, state: &mut State, line: &[u8]) -> Result<Answer, NoMemory>
+    ensures reply { IfOk result
+        (λ answer. Answers state.old.state
+        (numbers_in (situation state.old)) (goes (situation state.new).past)
+        line.now answer state.new.state) }
+    ensures long { IfOk result (λ answer. 12 < length answer → state.new ≡ state.old) }
+    ensures trace { OnOk result
+        (Repairs (situation state.old) line.now (situation state.new)) }
+    ensures bounded { OnOk result
+        (Bounds (situation state.old) line.now (situation state.new)) }
+    ensures left { OnErr result (IsLeft (situation state.old) line.now (situation state.new)) }
+{
+    let reply = reply_of(alloc, state, line)?;
+    answer_of(alloc, state, reply)
 }
 
 impl Session {
@@ -177,9 +181,25 @@ impl Session {
         Ok(Session { state, alloc })
     }
 
-    /// The reply to a line, which has no line end, with the reply's line feed; the empty text for a blank line. After
+    /// The answer to a line, which has no line end: the reply with its line feed, and nothing for a blank line. After
     /// want of memory the session is as before, or, where the line was an accepted `run` or `propagate`, as after out
-    /// of fuel.
+    /// of fuel. An answer of more than 12 bytes leaves the session as it was.
+    pub fn answer(&mut self, line: &[u8]) -> Result<Answer, NoMemory>
+        ensures reply { IfOk result
+            (λ answer. Answers self.old.state
+            (numbers_in (situation self.old)) (goes (situation self.new).past)
+            line.now answer self.new.state) }
+        ensures long { IfOk result (λ answer. 12 < length answer → self.new ≡ self.old) }
+        ensures trace { OnOk result
+            (Repairs (situation self.old) line.now (situation self.new)) }
+        ensures bounded { OnOk result
+            (Bounds (situation self.old) line.now (situation self.new)) }
+        ensures left { OnErr result (IsLeft (situation self.old) line.now (situation self.new)) }
+    {
+        answer_line(self.alloc, &mut self.state, line)
+    }
+
+    /// The same answer as a text of its own. Its memory is taken before anything changes.
     pub fn command(&mut self, line: &[u8]) -> Result<Text, NoMemory>
         ensures reply { IfOk result
             (λ text. Answers self.old.state
@@ -191,7 +211,9 @@ impl Session {
             (Bounds (situation self.old) line.now (situation self.new)) }
         ensures left { OnErr result (IsLeft (situation self.old) line.now (situation self.new)) }
     {
-        answer_line(self.alloc, &mut self.state, line)
+        let ready = prepare(self.alloc)?;
+        let answer = self.answer(line)?;
+        text(self.alloc, &answer, ready)
     }
 
     /// The record of the run of the accepted call on the inputs of this moment: its trace, whose blocks have the numbers 0,

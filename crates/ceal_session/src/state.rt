@@ -47,7 +47,8 @@ pub struct State {
     names: Names,
     engine: Engine,
     journal: Journal,
-    /// whether an edit came after the last run or propagate, or a repair goes on
+    /// whether an edit came after the last run or propagate, or a repair goes on; the engine's phase does not tell it of
+    /// an edit where there is no run
     pending: bool,
 }
 
@@ -230,7 +231,7 @@ impl State {
     }
 
     /// Another base for a modifiable of an input, which fits it.
-    pub fn edit(&mut self, place: Place, word: Word) -> Result<(), NoMemory>
+    pub fn set_base(&mut self, place: Place, word: Word) -> Result<(), NoMemory>
         requires cell { IsCellOf self.old.state place }
         requires fits { fits_cell self.old.state
             (kind_at self.old.state.program.structs (memory_of self.old.state) place) word ≡ true }

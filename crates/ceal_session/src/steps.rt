@@ -7,7 +7,7 @@ ghost use Rattle.ceal_session.specs.Asking.{IsCellOf, IsCellSense};
 ghost use Rattle.ceal_session.specs.Following.{Keeps};
 ghost use Rattle.ceal_session.specs.Keeping.{situation};
 ghost use Rattle.ceal_session.specs.Senses.{function_named};
-ghost use Rattle.ceal_session.specs.Steps.{IsQuiet, made, made_of, made_with, set as set_of, set_word as set_sense, set_base as based, fits_function, called_with, called_function, called as called_of, asked, has_no_run, got, shown as shown_of, fits_cell};
+ghost use Rattle.ceal_session.specs.Steps.{IsQuiet, made, made_of, made_with, set as set_of, set_base as based, fits_function, called_with, called_function, called as called_of, asked, has_no_run, got, shown as shown_of, fits_cell};
 
 use crate::refusal::Refusal;
 use crate::reply::{Query, Reply};
@@ -102,6 +102,7 @@ fn fits(state: &State, kind: Option<FieldKind>, word: Word) -> bool
     }
 }
 
+/// Another base for a modifiable, where the word fits it.
 fn set_base(state: &mut State, place: Place, word: Word) -> Result<Reply, NoMemory>
     requires { IsCellOf state.old.state place }
     ensures step { IfOk result
@@ -115,23 +116,8 @@ fn set_base(state: &mut State, place: Place, word: Word) -> Result<Reply, NoMemo
     if !fits(state, kind, word) {
         return Ok(Reply::Refused(Refusal::C4));
     }
-    state.edit(place, word)?;
+    state.set_base(place, word)?;
     Ok(Reply::Ok)
-}
-
-fn set_word(state: &mut State, place: Sense, value: Sense) -> Result<Reply, NoMemory>
-    requires { IsCellSense state.old.state place }
-    ensures step { IfOk result
-        (λ reply. record { reply = reply; state = state.new.state }
-        ≡ set_sense state.old.state place value) }
-    ensures quiet { IfOk result (λ reply. IsQuiet reply → state.new ≡ state.old) }
-    ensures trace { OnOk result (Keeps (situation state.old) (situation state.new)) }
-    ensures err { OnErr result (state.new ≡ state.old) }
-{
-    match (place, value) {
-        (Sense::Word(Word::At(place)), Sense::Word(word)) => set_base(state, place, word),
-        _ => Ok(Reply::Refused(Refusal::C4)),
-    }
 }
 
 /// `set`: another base, unless it is refused.
@@ -147,7 +133,10 @@ pub fn set(state: &mut State, place: Sense, value: Sense) -> Result<Reply, NoMem
     if is_unknown(place) || is_unknown(value) {
         return Ok(Reply::Refused(Refusal::C2));
     }
-    set_word(state, place, value)
+    match (place, value) {
+        (Sense::Word(Word::At(place)), Sense::Word(word)) => set_base(state, place, word),
+        _ => Ok(Reply::Refused(Refusal::C4)),
+    }
 }
 
 /// Whether this is a core function, and the words fit its parameters.

@@ -1,4 +1,4 @@
-// The texts of replies.
+// The answers to questions.
 
 ghost use Rattle.std.specs.Prelude.{◌≡◌, ◌++◌, IfOk, codes};
 ghost use Rattle.std.specs.Fmt.{decimal};
@@ -8,71 +8,75 @@ ghost use Rattle.ceal_session.specs.Runs.{present_run};
 ghost use Rattle.ceal_session.specs.Texts.{block_text, value_text, TellsOf};
 ghost use Rattle.ceal_session.specs.State.{numbers_in};
 
+use crate::answer::Answer;
 use crate::reply::Query;
 use crate::state::State;
 use ceal_base::no_memory::NoMemory;
-use ceal_base::text::Text;
 use ceal_base::word::{BlockId, Word};
+use itoa::Buffer;
 use std::alloc::Global;
 
-/// The name of a block, in the text of a value.
-fn block_name(alloc: Global, state: &State, block: BlockId) -> Result<Text, NoMemory>
-    ensures { IfOk result (λ text. text ≡ block_text state.now.state block) }
+/// A line with the name of a block.
+fn block_line(alloc: Global, state: &State, block: BlockId) -> Result<Answer, NoMemory>
+    ensures { IfOk result (λ answer. answer ≡ block_text state.now.state block ++ codes "\n") }
 {
     match block {
-        BlockId::Core(_) => Text::from_slice(alloc, b"#1"),
+        BlockId::Core(_) => Ok(Answer::fixed("#1\n")),
         BlockId::Input(input) => match state.names().at(input) {
-            None => Ok(Text::empty(alloc)),
-            Some(name) => name.copy(),
+            None => Ok(Answer::fixed("\n")),
+            Some(name) => Answer::line(alloc, name.items()),
         },
     }
 }
 
-fn number_text(alloc: Global, number: u32) -> Result<Text, NoMemory>
-    ensures { IfOk result (λ text. text ≡ decimal number) }
+fn number_line(alloc: Global, number: u32) -> Result<Answer, NoMemory>
+    ensures { IfOk result (λ answer. answer ≡ decimal number ++ codes "\n") }
 {
-    let digits = format!(in alloc; "{number}")?;
-    Text::from_slice(alloc, digits.as_bytes())
+    let mut digits = Buffer::new();
+    Answer::line(alloc, digits.format(number).as_bytes())
 }
 
-/// The text of a value.
-fn word_text(alloc: Global, state: &State, word: Word) -> Result<Text, NoMemory>
-    ensures { IfOk result (λ text. text ≡ value_text state.now.state word) }
+/// A line with the text of a value.
+fn word_line(alloc: Global, state: &State, word: Word) -> Result<Answer, NoMemory>
+    ensures { IfOk result (λ answer. answer ≡ value_text state.now.state word ++ codes "\n") }
 {
     match word {
         Word::Num(n) => {
-            let digits = format!(in alloc; "{n}")?;
-            Text::from_slice(alloc, digits.as_bytes())
+            let mut digits = Buffer::new();
+            Answer::line(alloc, digits.format(n).as_bytes())
         }
-        Word::Null => Text::from_slice(alloc, b"null"),
-        Word::Block(block) => block_name(alloc, state, block),
-        Word::At(place) => block_name(alloc, state, place.block),
+        Word::Null => Ok(Answer::fixed("null\n")),
+        Word::Block(block) => block_line(alloc, state, block),
+        Word::At(place) => block_line(alloc, state, place.block),
     }
 }
 
-/// The text with a line feed.
-fn line(text: Text) -> Result<Text, NoMemory>
-    ensures { IfOk result (λ line. line ≡ text ++ codes "\n") }
+/// The graph from an input.
+fn graph(alloc: Global, state: &State, input: u32) -> Result<Answer, NoMemory>
+    requires ready { IsReady state.now.state }
+    requires there { IsFor state.now.state (Query.Show input) }
+    ensures { IfOk result
+        (λ answer. TellsOf state.now.state (numbers_in (situation state.now)) (Query.Show input)
+        (present_run state.now.state) answer) }
 {
-    let mut text = text;
-    text.append(b"\n")?;
-    Ok(text)
+    let text = state.graph(alloc, input)?;
+    Ok(Answer::owned(text))
 }
 
 /// The answer to a question.
-pub fn answer(alloc: Global, state: &State, query: Query) -> Result<Text, NoMemory>
+pub fn answer(alloc: Global, state: &State, query: Query) -> Result<Answer, NoMemory>
     requires ready { IsReady state.now.state }
     requires there { IsFor state.now.state query }
     ensures { IfOk result
-        (λ text. TellsOf state.now.state (numbers_in (situation state.now)) query
-        (present_run state.now.state) text) }
+        (λ answer. TellsOf state.now.state (numbers_in (situation state.now)) query
+        (present_run state.now.state) answer) }
 {
     match query {
-        Query::Get(place) => line(word_text(alloc, state, state.content(place))?),
-        Query::Show(input) => state.graph(alloc, input),
-        Query::Blocks => line(number_text(alloc, state.blocks())?),
-        Query::Steps => line(number_text(alloc, state.steps())?),
-        Query::Work => line(number_text(alloc, state.work())?),
-        Query::Bound => line(number_text(alloc, state.bound(alloc)?)?),
+        Query::Get(place) => word_line(alloc, state, state.content(place)),
+        Query::Show(input) => graph(alloc, state, input),
+        Query::Blocks => number_line(alloc, state.blocks()),
+        Query::Steps => number_line(alloc, state.steps()),
+        Query::Work => number_line(alloc, state.work()),
+        Query::Bound => number_line(alloc, state.bound(alloc)?),
     }
 }

@@ -6,7 +6,7 @@ use Rattle.ceal_session.specs.Journal.{with_edit}
 use Rattle.ceal_session.specs.Keeping.{state_of, situation, situation_of, Holds}
 use Rattle.ceal_session.specs.Steps.{with_base}
 use Rattle.ceal_session.specs.Undoing.{base_at}
-use Rattle.ceal_session.proofs.state.State.edit.Goals as goal
+use Rattle.ceal_session.proofs.state.State.set_base.Goals as goal
 
 pub invariant_of-self-in-Ok : goal.invariant_of-self-in-Ok
 invariant_of-self-in-Ok c =
