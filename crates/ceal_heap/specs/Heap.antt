@@ -1,5 +1,5 @@
--- A heap: how each block stands, and the slots of the region (for blocks that are revoked first and released later: Hammer
--- and Acar, *Memory management for self-adjusting computation*, ISMM 2008).
+-- A heap: how each block stands, and the slots of the region (for blocks that are revoked first and released later:
+-- Hammer and Acar, *Memory management for self-adjusting computation*, ISMM 2008).
 use Rattle.std.specs.Prelude.{◌≡◌, ◌≢◌, ℕ, ◌≤◌, List, length, Option, Some, None, IsSome, option_map, pos, slice_get, slice_index_or}
 use Rattle.ceal_base.specs.Block.{Block}
 use Rattle.ceal_base.specs.declared.kind.Shape.{Shape}
@@ -165,8 +165,8 @@ abbrev pub number_of : BlockId → ℕ
 number_of (Input n) = n
 number_of (Core n) = n
 
--- how what is kept of blocks, by their numbers, lies in the region: each has as many cells as its words need, each slot is
--- that of one number, and there are no other slots
+-- how what is kept of blocks, by their numbers, lies in the region: each has as many cells as its words need, each slot
+-- is that of one number, and there are no other slots
 pub record IsKept (held : ℕ → Option Held) (region : List SizeClass) : Type 0 where
   pub few : (n : ℕ) (x : Held) → held n ≡ Some x → x.fields ≤ 255
   pub cells : (n : ℕ) (x : Held) → held n ≡ Some x → cells_at region x.slot ≡ cell_count x.fields

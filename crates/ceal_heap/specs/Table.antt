@@ -7,8 +7,8 @@ use Rattle.ceal_heap.specs.declared.number.Number.{Number}
 use Rattle.ceal_heap.specs.declared.number.State.{State}
 use Rattle.ceal_heap.specs.declared.number.State.TheVariants.{Live, Revoked, Released}
 
--- what the table has: the numbers from 0 on and the room for them, those that were revoked, those that are free, and how
--- many are live
+-- what the table has: the numbers from 0 on and the room for them, those that were revoked, those that are free, and
+-- how many are live
 pub record Ledger : Type 0 where
   pub numbers : List Number
   pub room : ℕ
