@@ -5,7 +5,7 @@ the rows and `./run`; else they are tried by `rt try`, which compiles each part 
 """
 import os, re, shutil, subprocess, sys, tempfile, time
 
-from tools import answers, self_tests
+from tools import answers, rows, self_tests
 from tools.answers import CRATE, PROGRAM, TOP
 
 ROWS = TOP / 'crates/ceal_rows/data/rows.txt'
@@ -52,7 +52,10 @@ def parts(is_proved):
         Part(f'tests of {it}', ['rt', 'try', '--test', '--seconds', '600'], TOP / 'crates' / it)
         for it in ('ceal_engine_tests', 'ceal_tests', 'ceal_runtime_tests')
     ]
-    return [Part('rows', python('-m', 'tools.rows', 'try')), Part('./run', own), *crates, pages], ['the streams of the program: they need one that is built']
+    return [*crates[:2], Part('rows', python('-m', 'tools.rows', 'try')), Part('./run', own), *crates[2:], pages], [
+        'the streams of the program: they need one that is built',
+        f'{len(rows.LARGE)} large rows: `python3 -B -m tools.rows try NAME` tries one, which takes up to a few minutes',
+    ]
 
 
 def wait_for(running):
