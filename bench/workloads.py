@@ -107,8 +107,8 @@ def hull(size):
 
 
 def by_turns(first, second, back):
-    """Edits at both ends of an input, by turns: the two lines, and the two that take them back."""
-    return [('at both ends, by turns', [first, second], back)]
+    """Edits alternately at both ends of an input: the two lines, and the two that undo them."""
+    return [('alternately at both ends', [first, second], back)]
 
 
 def tree(size):

@@ -6,7 +6,7 @@ CRATE = TOP / 'crates/ceal'
 PROGRAM, BUILT = CRATE / 'out/ceal', CRATE / 'out/ceal.built'
 # What the build takes: the sum of the first proofs of its crates, which were measured one by one (CONTRIBUTING.md).
 BUILD_COST = 'some 90 minutes of processor time, and up to 4 GB of memory'
-# An input has at most so many bytes, and one byte more is enough to be refused (docs/SCRIPT.md).
+# An input has at most this many bytes; one byte more is enough to be refused (docs/SCRIPT.md).
 LONGEST_INPUT = 4_194_304
 LINE = re.compile(rb'^run=ended status=(\d+) ', re.M)
 CASE = re.compile(rb'^case=(\S+) run=ended status=(\d+) ', re.M)
@@ -14,7 +14,7 @@ running = []
 
 
 class Fault(Exception):
-    """What ends `./run` with a status of its own, as docs/SCRIPT.md lists them."""
+    """What ends `./run` with one of its own statuses, as docs/SCRIPT.md lists them."""
 
     def __init__(self, status, text):
         super().__init__(text)
@@ -38,7 +38,7 @@ def end_on_signals():
 
 
 def start(words, **how):
-    """Starts a process that ends with this one. It leads a session of its own, so that what it starts itself can be ended with it."""
+    """Starts a process that ends with this one. It leads a new session, so that whatever it starts can be ended with it."""
     process = subprocess.Popen(words, start_new_session=True, **how)
     running.append(process)
     return process
@@ -83,13 +83,13 @@ def wait(process, doing):
 
 
 def dependencies():
-    """Each crate of crates.txt with those that it stands on."""
+    """Each crate of crates.txt with those that it uses."""
     lines = (line.split('#')[0] for line in (TOP / 'crates.txt').read_text().splitlines())
     return {head.split()[0]: rest.split() for head, colon, rest in (line.partition(':') for line in lines) if colon}
 
 
 def crates(top='ceal'):
-    """The crates that one is made of, each after those that it stands on."""
+    """The crates that one is made of, each after those that it uses."""
     below, order = dependencies(), []
 
     def visit(name):
@@ -230,7 +230,7 @@ def by_program(words, given, is_kept):
 
 
 def tried(words, folder, **how):
-    """Runs `rt try` with words of its own; returns what the program, and what `rt` wrote on standard error."""
+    """Runs `rt try` with the given words; returns what the program, and what `rt` wrote on standard error."""
     with open(f'{folder}/out', 'w+b') as out, open(f'{folder}/err', 'w+b') as err:
         how = {'stdin': subprocess.DEVNULL, 'stdout': out, 'stderr': err, 'cwd': CRATE, **how}
         wait(start(['rt', 'try', '--steps', '1', '--seconds', '600', *words], **how), 'compiling, with no proof')

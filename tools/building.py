@@ -1,4 +1,4 @@
-"""Builds the proved program, and puts it where it is to be used."""
+"""Builds the proved program, and puts it where it will be used."""
 import os, pathlib, re, shutil, subprocess, sys, time
 
 from tools import answers
@@ -55,7 +55,7 @@ def refuse(what):
 
 
 def prove(begun):
-    """Proves each crate, as many at once as there are processors and each after those that it stands on."""
+    """Proves each crate, as many at once as there are processors and each after those that it uses."""
     jobs = at_once()
     print(f'{jobs} crates are proved at once', flush=True)
     with open(LOG, 'wb') as log:

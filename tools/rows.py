@@ -1,7 +1,8 @@
 """Runs the rows of rows.txt: `python3 -m tools.rows PROGRAM [NAME ..]`, with names only the rows of these names.
 
-PROGRAM is a built program, or the word `try`: then the sources are compiled once, with no proof. The form of a row is told at the head of
-crates/ceal_rows/src/main.rt. That a stream drips or fails is not tried here, where streams are files.
+PROGRAM is a built program, or the word `try`: then the sources are compiled once, with no proof, and the large rows are left out unless they
+are named. The form of a row is told at the head of crates/ceal_rows/src/main.rt. That a stream drips or fails is not tried here, where streams
+are files.
 """
 import os, pathlib, re, subprocess, sys, tempfile
 
@@ -10,6 +11,12 @@ from tools.answers import TOP
 
 ROWS = TOP / 'crates/ceal_rows/data/rows.txt'
 STATUSES = {'Done': 0, 'Refused': 1, 'Usage': 2, 'TooLong': 3}
+# These run for millions of steps, or have megabytes to read. A built program takes a second for all of them; the slow code that `rt try`
+# compiles, with its checks, takes eight minutes. So with `try` they are run only by name.
+LARGE = frozenset(
+    'loop-makes-modifiables input-just-fits blocks-65535-list gen-list-40000 deep-recursion-too-deep loop-out-of-fuel-and-back '
+    'endless-recursion deep-recursion-fits blocks-65537 blocks-65535 blocks-65536 blocks-65536-run blocks-of-other-shapes'.split()
+)
 
 
 class Row:
@@ -81,8 +88,9 @@ def tried(all_rows):
 
 
 def main(program, names):
-    all_rows = [it for it in rows() if not names or it.name in names]
-    if program == 'try':
+    is_tried = program == 'try'
+    all_rows = [it for it in rows() if it.name in names or not (names or is_tried and it.name in LARGE)]
+    if is_tried:
         different = list(tried(all_rows))
     else:
         found = ((it, difference(it, os.path.abspath(program))) for it in all_rows)

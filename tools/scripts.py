@@ -82,7 +82,7 @@ def excerpt(given, output):
     number, column, text = int(found[2]), int(found[3]), given.text()
     lines = text.split(b'\n')
     line = lines[number - 1] if number <= len(lines) else b''
-    # a column counts bytes; what stands before it keeps its tabs, and each other character is one blank
+    # a column counts bytes; what comes before it keeps its tabs, and each other character is one blank
     before = re.sub(r'[^\t]', ' ', line[: column - 1].decode(errors='replace'))
     shown = line.rstrip(b'\r').decode(errors='replace')
     place = [f'{given.name}:{number}:{column}: {found[4].decode()}']

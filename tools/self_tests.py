@@ -218,10 +218,12 @@ def saves(folder, made):
 
 
 def pages():
-    """The pictures and sessions of the pages, made anew."""
+    """The pictures and sessions of the pages, made again."""
     for page in (TOP / 'README.md', *sorted((TOP / 'docs').glob('*.md'))):
         text = page.read_text()
-        for name in re.findall(r'^```dot dot=example-(\w+)$', text, re.M):
+        for name in re.findall(r'\(pictures/(\w+)\.svg\)', text):
+            if not (TOP / f'examples/{name}.ceal').exists():
+                continue
             call(f'--dot of {name}', ['--dot', f'examples/{name}.ceal'], 0, (TOP / f'docs/pictures/{name}.dot').read_bytes())
         for words, picture in re.findall(r'^\$ \./run (--trace .*) > (docs/pictures/\S+\.svg)$', text, re.M):
             call(f'{picture} of {page.name}', words.split(), 0, (TOP / picture).read_bytes())

@@ -1,11 +1,11 @@
-"""Passes every test that needs no proof, in parts that run beside each other: `./run --test`.
+"""Runs every test that needs no proof, in parts that run side by side: `./run --test`.
 
 A part is the rows, the tests of a crate, the pages, the streams of the program, or `./run` itself. Where the proved program is there it answers
-the rows and `./run`; else they are tried by `rt try`, which compiles each part anew.
+the rows and `./run`; else they are tried by `rt try`, which compiles each part again.
 """
 import os, re, shutil, subprocess, sys, tempfile, time
 
-from tools import answers, self_tests
+from tools import answers, rows, self_tests
 from tools.answers import CRATE, PROGRAM, TOP
 
 ROWS = TOP / 'crates/ceal_rows/data/rows.txt'
@@ -52,7 +52,10 @@ def parts(is_proved):
         Part(f'tests of {it}', ['rt', 'try', '--test', '--seconds', '600'], TOP / 'crates' / it)
         for it in ('ceal_engine_tests', 'ceal_tests', 'ceal_runtime_tests')
     ]
-    return [Part('rows', python('-m', 'tools.rows', 'try')), Part('./run', own), *crates, pages], ['the streams of the program: they need one that is built']
+    return [*crates[:2], Part('rows', python('-m', 'tools.rows', 'try')), Part('./run', own), *crates[2:], pages], [
+        'the streams of the program: they need one that is built',
+        f'{len(rows.LARGE)} large rows: `python3 -B -m tools.rows try NAME` tries one, which takes up to a few minutes',
+    ]
 
 
 def wait_for(running):

@@ -1,7 +1,7 @@
 """Draws a trace: the reads of a run as intervals along its steps, and what the last update of a script did to it.
 
 A trace is had as a dump (docs/DUMP.md). For an update there are two, of the trace before and after it. They are gone through side by side by
-the rules of repair (docs/REPAIR.md), which say what was kept, taken back, run again and revoked; the steps run again are the update's work.
+the rules of repair (docs/REPAIR.md), which say what was kept, reused, re-executed and revoked; the steps re-executed are the update's work.
 """
 import bisect, collections, html, re, sys
 
@@ -10,13 +10,13 @@ from tools.answers import Fault, Input
 
 WIDTH, HEIGHT, ROW = 1000, 420, 18  # (a panel's pixels, and those of a row where there is room)
 COLOURS = {'kept': '#c3cad5', 'taken': '#7fc492', 'anew': '#f2a65a', 'revoked': '#d9646f', 'stale': '#fde8cd', 'run': '#8fb4dc'}
-TOLD = {'kept': 'kept', 'taken': 'taken back', 'anew': 'run again', 'revoked': 'revoked', 'stale': 'stale read', 'run': 'run'}
-EACH = 4000  # (of so many items each is drawn by itself and named)
+TOLD = {'kept': 'kept', 'taken': 'reused', 'anew': 're-executed', 'revoked': 'revoked', 'stale': 'stale read', 'run': 'run'}
+EACH = 4000  # (up to this many items, each is drawn by itself and named)
 PLACE = re.compile(r'([ic]\d+)(?:\.(\d+))?')
 
 
 class Trace:
-    """The items of a dump, flat: the words of each, where each read ends, how deep each stands, and how many steps stand before it."""
+    """The items of a dump, flat: the words of each, where each read ends, how deep each is, and how many steps come before it."""
 
     def __init__(self, dump):
         lines = dump.decode().splitlines()
@@ -39,7 +39,7 @@ class Trace:
         self.count = step
 
     def key(self, at, named=lambda word: word):
-        """What an allocation or a read is taken back by: all but a new block's number, and all but what a read found."""
+        """What an allocation or a read is reused by: all but a new block's number, and all but what a read found."""
         item = self.items[at]
         words = item[2:] if item[0] == 'a' else (item[1], *item[3:])
         return (item[0], *(named(it) for it in words))
@@ -68,7 +68,7 @@ class Update:
                 self.plain(at, item)
 
     def named(self, word):
-        """A word of the new trace by the numbers of the old one; a block that was made anew has no number there."""
+        """A word of the new trace by the numbers of the old one; a new block has no number there."""
         found = PLACE.fullmatch(word)
         if not found or word[0] == 'i':
             return word

@@ -11,14 +11,14 @@ use Rattle.ceal_code.specs.Fresh.{fresh}
 use Rattle.ceal_code.specs.Program.{Code}
 use Rattle.ceal_code.specs.Replay.{input_plain, plain_of}
 use Rattle.ceal_code.specs.Step.{started}
-use Rattle.ceal_theory.proofs.Found.{first-steps, first-run, repaired, ended}
-use Rattle.ceal_theory.proofs.FromScratch.{scratch-first}
-use Rattle.ceal_theory.proofs.Functions.{first-found, adjusted-found, adjusted-sound}
-use Rattle.ceal_theory.proofs.Honesty.{fix-work}
-use Rattle.ceal_theory.proofs.Inputs.{fits-more}
-use Rattle.ceal_theory.proofs.Course.{work-law}
-use Rattle.ceal_theory.proofs.MachineLaws.{leads-then, leads-turn}
-use Rattle.ceal_theory.proofs.Turns.{at, turn-kept, finishes-fix, finishes-anew}
+use Rattle.ceal_theory.proofs.Repair.EndAsFromScratch.{first-steps, first-run, repaired, ended}
+use Rattle.ceal_theory.proofs.Repair.FromScratch.{scratch-first}
+use Rattle.ceal_theory.proofs.Repair.FunctionOfRules.{first-found, adjusted-found, adjusted-sound}
+use Rattle.ceal_theory.proofs.Repair.Honesty.{fix-work}
+use Rattle.ceal_theory.proofs.Store.FittingInputs.{fits-more}
+use Rattle.ceal_theory.proofs.Nodes.TurnCourse.{work-law}
+use Rattle.ceal_theory.proofs.TurnMachine.MachineLaws.{leads-then, leads-turn}
+use Rattle.ceal_theory.proofs.TurnMachine.TurnKeepsEnd.{at, turn-kept, finishes-fix, finishes-anew}
 use Rattle.ceal_theory.specs.Adjust.{Adjusts, Firsts}
 use Rattle.ceal_adjust.specs.Answers.{Exceeds, Keeps, EndsAt, IsBeyond, Completes, RunsOut, Answered, IsRepair, IsAnswer}
 use Rattle.ceal_adjust.specs.declared.complete.Limit.{Limit}

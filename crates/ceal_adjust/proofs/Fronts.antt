@@ -2,11 +2,11 @@
 use Rattle.std.proofs.Common.{◌≡◌, ℕ, zero, suc, ◌+◌, Some, List, [], ◌∷◌, ◌++◌, ◌≤◌, length, take, slice_get, refl, sym, ap, ◌∙◌, arith}
 use Rattle.ceal_base.specs.declared.forest.Item.{Item}
 use Rattle.ceal_base.specs.declared.forest.Item.TheVariants.{Step, Alloc, Write, Read, End}
-use Rattle.ceal_code.proofs.Same.{some-same, none-some}
+use Rattle.ceal_code.proofs.Words.SameIsEqual.{some-same, none-some}
 use Rattle.ceal_code.specs.Program.{Code}
 use Rattle.ceal_code.specs.Replay.{Store}
 use Rattle.ceal_code.specs.Tables.{store_flat}
-use Rattle.ceal_theory.proofs.Walk.{after-append, agrees-append}
+use Rattle.ceal_theory.proofs.Store.Walk.{after-append, agrees-append}
 use Rattle.ceal_theory.specs.Levels.{skipped}
 use Rattle.ceal_theory.specs.Walk.{store_after, Agrees, AgreesAll}
 

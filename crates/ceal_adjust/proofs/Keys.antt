@@ -3,8 +3,8 @@ use Rattle.std.proofs.Common.{◌≡◌, ◌↔◌, Bool, true, false, IsTrue, L
 use Rattle.ceal_base.specs.declared.forest.Key.{Key}
 use Rattle.ceal_base.specs.declared.forest.Key.TheVariants.{Init, ModInt as IntKey, ModPtr as PtrKey}
 use Rattle.ceal_base.specs.declared.word.Word.{Word}
-use Rattle.ceal_code.proofs.Same.{both-true, nat-refl, word-refl}
-use Rattle.ceal_theory.proofs.Taken.{words-same, key-same}
+use Rattle.ceal_code.proofs.Words.SameIsEqual.{both-true, nat-refl, word-refl}
+use Rattle.ceal_theory.proofs.Reuse.TakenItems.{words-same, key-same}
 use Rattle.ceal_theory.specs.Take.{same_words, same_key}
 
 pub words-refl : (ws : List Word) → same_words ws ws ≡ true

@@ -7,3 +7,4 @@ pub mod Starting
 pub mod Knowing
 pub mod Fronts
 pub mod Sliced
+pub mod Samples

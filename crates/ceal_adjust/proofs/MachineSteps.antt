@@ -14,7 +14,7 @@ use Rattle.ceal_code.specs.Step.{Stack, Empty, Run, Act, Makes, Reads, entered, 
 use Rattle.ceal_code.specs.Value.{Variables, set}
 use Rattle.ceal_code.specs.declared.stack.Closure.{Closure}
 use Rattle.ceal_code.specs.declared.stack.Stack.{Stack as CodeStack}
-use Rattle.ceal_theory.proofs.FlatTake.{loose-one, skipped-levels, take-found, take-found-read, found-beyond, found-beyond-read}
+use Rattle.ceal_theory.proofs.Reuse.FlatTake.{loose-one, skipped-levels, take-found, take-found-read, found-beyond, found-beyond-read}
 use Rattle.ceal_theory.specs.Levels.{first, around, levels, loose, beyond, FoundAlloc, find_alloc, FoundRead, taken_alloc, taken_read}
 use Rattle.ceal_theory.specs.Repair.{State, own, clears, works, resumed}
 use Rattle.ceal_theory.specs.Turns.{Frames, Bottom, Running as MachineRunning, Machine, Turn, Went, opened, making, reading, acting}

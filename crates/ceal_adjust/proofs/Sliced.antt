@@ -13,7 +13,7 @@ use Rattle.ceal_base.specs.declared.word.Place.{Place}
 use Rattle.ceal_base.specs.declared.word.Word.{Word}
 use Rattle.ceal_code.specs.Fitting.{Fits}
 use Rattle.ceal_code.specs.Program.{Code}
-use Rattle.ceal_code.proofs.Same.{some-same}
+use Rattle.ceal_code.proofs.Words.SameIsEqual.{some-same}
 use Rattle.ceal_code.specs.Replay.{Store, IsHonest, plain_of}
 use Rattle.ceal_code.specs.Value.{Plain}
 use Rattle.ceal_code.specs.Tables.{plain_in, store_in}
@@ -30,18 +30,18 @@ use Rattle.ceal_adjust.specs.declared.slices.Sliced.TheVariants.{More, Done, Spe
 use Rattle.ceal_adjust.specs.declared.stale.Stale.{Stale}
 use Rattle.ceal_adjust.specs.declared.turn.Ran.{Ran}
 use Rattle.ceal_adjust.specs.declared.turn.Turned.TheVariants.{Went, Over}
-use Rattle.ceal_theory.proofs.Course.{turn-course-law}
-use Rattle.ceal_theory.proofs.FlatTake.{first-flat, followed-nothing}
-use Rattle.ceal_theory.proofs.SliceLaws.{begin-law, slice-law, slices-law, start-law, is-done-law, turn-law, turns-law, turns-over-law}
+use Rattle.ceal_theory.proofs.Nodes.TurnCourse.{turn-course-law}
+use Rattle.ceal_theory.proofs.Reuse.FlatTake.{first-flat, followed-nothing}
+use Rattle.ceal_theory.proofs.SlicedRepair.SliceLaws.{begin-law, slice-law, slices-law, start-law, is-done-law, turn-law, turns-law, turns-over-law}
 use Rattle.ceal_theory.specs.Course.{TurnCourse}
 use Rattle.ceal_theory.specs.Levels.{first, levels, skipped}
-use Rattle.ceal_theory.proofs.Inputs.{fits-more}
+use Rattle.ceal_theory.proofs.Store.FittingInputs.{fits-more}
 use Rattle.ceal_theory.specs.Laws.{Edited}
 use Rattle.ceal_theory.specs.Repair.{State, own, resumed}
 use Rattle.ceal_theory.specs.SliceLaws.{FirstStale, Turned, Turns, unit_alone}
 use Rattle.ceal_theory.specs.Slices.{Repair, Part, Runs, Slices, sliced, repair_at, goes_on, beginning, with_inputs, starting, Sound, is_done}
 use Rattle.ceal_theory.specs.Turns.{Machine, Running, Bottom, Leads}
-use Rattle.ceal_theory.proofs.Walk.{agrees-front}
+use Rattle.ceal_theory.proofs.Store.Walk.{agrees-front}
 use Rattle.ceal_theory.specs.Walk.{store_after, AgreesAll}
 
 -- whole items open no level and close none

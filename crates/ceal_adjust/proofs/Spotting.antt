@@ -13,11 +13,11 @@ use Rattle.ceal_base.specs.declared.forest.UnitId.{UnitId}
 use Rattle.ceal_base.specs.declared.word.BlockId.{BlockId}
 use Rattle.ceal_base.specs.declared.word.Place.{Place}
 use Rattle.ceal_base.specs.declared.word.Word.{Word}
-use Rattle.ceal_code.proofs.Same.{both, both-true, nat-same, nat-refl, place-same, place-refl, some-same, none-some}
-use Rattle.ceal_theory.proofs.FlatTake.{skipped-next, found-zero, found-empty, found-here, found-next, read-zero, read-empty, read-here, read-next}
+use Rattle.ceal_code.proofs.Words.SameIsEqual.{both, both-true, nat-same, nat-refl, place-same, place-refl, some-same, none-some}
+use Rattle.ceal_theory.proofs.Reuse.FlatTake.{skipped-next, found-zero, found-empty, found-here, found-next, read-zero, read-empty, read-here, read-next}
 use Rattle.ceal_adjust.proofs.Keys.{key-refl, words-refl}
 use Rattle.ceal_adjust.proofs.MarkSteps.{mark-same, mark-refl}
-use Rattle.ceal_theory.proofs.Taken.{words-same, key-same, unit-same}
+use Rattle.ceal_theory.proofs.Reuse.TakenItems.{words-same, key-same, unit-same}
 use Rattle.ceal_theory.specs.Levels.{after_item, skipped, block_of_key, find_alloc, same_read, value_of_read, find_read}
 use Rattle.ceal_adjust.specs.Marks.{same_mark, has, mark_of, mark_in, depth_after, depth, marked}
 use Rattle.ceal_adjust.specs.Spots.{Free, Next, Open, Ends, Absent, Found}

@@ -4,7 +4,7 @@ use Rattle.ceal_base.specs.Block.{Block}
 use Rattle.ceal_base.specs.Trace.{Trace, flat}
 use Rattle.ceal_base.specs.declared.forest.Item.{Item}
 use Rattle.ceal_base.specs.declared.word.Word.{Word}
-use Rattle.ceal_code.proofs.TableSteps.{plain-of-flat}
+use Rattle.ceal_code.proofs.Equations.TableSteps.{plain-of-flat}
 use Rattle.ceal_code.specs.Program.{Code}
 use Rattle.ceal_code.specs.Replay.{Store, bases, input_plain, plain_of}
 use Rattle.ceal_code.specs.Stacks.{stack_in}
@@ -12,7 +12,7 @@ use Rattle.ceal_code.specs.Step.{started}
 use Rattle.ceal_code.specs.Tables.{plain_flat}
 use Rattle.ceal_code.specs.Value.{Plain}
 use Rattle.ceal_code.specs.declared.stack.Stack.{Stack as CodeStack}
-use Rattle.ceal_theory.proofs.FlatTake.{first-of-flat}
+use Rattle.ceal_theory.proofs.Reuse.FlatTake.{first-of-flat}
 use Rattle.ceal_adjust.proofs.Completing.{begin, begin-fix}
 use Rattle.ceal_theory.specs.Turns.{Machine}
 use Rattle.ceal_adjust.specs.Answers.{Answered}

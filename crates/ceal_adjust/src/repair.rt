@@ -217,7 +217,7 @@ impl<'a> Repair<'a> {
             return Ok(());
         }
         let mut stack = Stack::empty(self.alloc);
-        stack.resume(self.memory.code(), closure, now)?;
+        stack.resume(self.memory.code(), closure.continuation(), now)?;
         self.mode = Mode::Running;
         self.stack = stack;
         self.levels = 1;

@@ -131,7 +131,7 @@ fn run_alone(
 {
     let old = Old::new(alloc, stale.after)?;
     let mut stack = Stack::empty(alloc);
-    stack.resume(memory.code(), &stale.closure, stale.content)?;
+    stack.resume(memory.code(), stale.closure.continuation(), stale.content)?;
     let mut unit = Machine::alone(memory, old, repair.next, repair.spent, stack);
     let Some(inside) = turn_to_end(alloc, &mut unit, Limit::Work(fuel))? else {
         return Ok(None);

@@ -23,3 +23,4 @@ pub mod After
 pub mod Parts
 pub mod Branches
 pub mod Weaving
+pub mod Arithmetic

@@ -48,6 +48,18 @@ topped false a st = st
 unfoldable pub stack_in : CodeStack → Stack
 stack_in s = topped s.runs s.top (waits_in s.waits)
 
+-- the unit that runs, or that ran last
+abbrev pub top_of : CodeStack → Activation
+top_of s = s.top
+
+-- the units that wait
+abbrev pub below_in : CodeStack → Stack
+below_in s = waits_in s.waits
+
+-- how many units wait
+abbrev pub below_count : CodeStack → ℕ
+below_count s = length s.waits.units.items
+
 -- how many units it has
 abbrev pub left_in : CodeStack → ℕ
 left_in s = length s.waits.units.items + (if s.runs then 1 else 0)

@@ -25,15 +25,25 @@ fn fill(env: &mut Vec<Word>, count: usize) -> Result<(), NoMemory>
     Ok(())
 }
 
-/// Gives a variable a word, behind those that there are.
+/// Adds nulls, up to the word of this variable.
 #[inline(never)]
-fn set_beyond(env: &mut Vec<Word>, v: u32, word: Word) -> Result<(), NoMemory>
-    ensures { OnOk result (arguments env.new.items ≡ set (arguments env.old.items) v word) }
+fn lengthen(env: &mut Vec<Word>, v: u32) -> Result<(), NoMemory>
+    ensures there { OnOk result (v < length env.new.items) }
+    ensures same { OnOk result (arguments env.new.items ≡ arguments env.old.items) }
 {
-    let at = v as usize;
-    fill(env, at + 1)?;
-    env[at] = word;
+    fill(env, v as usize + 1)?;
     Ok(())
+}
+
+/// Sees that the variable has a word, which is null where it had none.
+fn make_room(env: &mut Vec<Word>, v: u32) -> Result<(), NoMemory>
+    ensures there { OnOk result (v < length env.new.items) }
+    ensures same { OnOk result (arguments env.new.items ≡ arguments env.old.items) }
+{
+    if (v as usize) < env.len() {
+        return Ok(());
+    }
+    lengthen(env, v)
 }
 
 /// Gives a variable a word where there is one.
@@ -48,12 +58,9 @@ fn set_there(env: &mut Vec<Word>, at: usize, word: Word)
 pub fn set_variable(env: &mut Vec<Word>, v: u32, word: Word) -> Result<(), NoMemory>
     ensures set { OnOk result (arguments env.new.items ≡ set (arguments env.old.items) v word) }
 {
-    let at = v as usize;
-    if at < env.len() {
-        set_there(env, at, word);
-        return Ok(());
-    }
-    set_beyond(env, v, word)
+    make_room(env, v)?;
+    set_there(env, v as usize, word);
+    Ok(())
 }
 
 fn param_at(params: &[VarId], i: usize) -> VarId
@@ -84,7 +91,7 @@ fn smaller(a: usize, b: usize) -> usize
 }
 
 /// The words of parameters, in place of those that there are.
-#[tactic(auto, using(crate::proofs::StackSteps::bind_steps))]
+#[tactic(auto, using(crate::proofs::Equations::StackSteps::bind_steps))]
 pub fn bind(env: &mut Vec<Word>, params: &[VarId], words: &[Word]) -> Result<(), NoMemory>
     ensures bound { OnOk result (arguments env.new.items ≡ bound params.now words.now) }
 {
@@ -100,7 +107,7 @@ pub fn bind(env: &mut Vec<Word>, params: &[VarId], words: &[Word]) -> Result<(),
 }
 
 /// The same, where the words are what the expressions give.
-#[tactic(auto, using(crate::proofs::StackSteps::bind_steps))]
+#[tactic(auto, using(crate::proofs::Equations::StackSteps::bind_steps))]
 pub fn bind_values<P: PlainWords>(
     scope: &Scope<'_, P>,
     env: &mut Vec<Word>,
@@ -132,7 +139,7 @@ fn argument(args: &[Word], p: VarId) -> Word
 }
 
 /// The words of those parameters of a function that its entry unit has.
-#[tactic(auto, using(crate::proofs::StackSteps::choose_steps))]
+#[tactic(auto, using(crate::proofs::Equations::StackSteps::choose_steps))]
 pub fn choose(alloc: Global, params: &[VarId], args: &[Word]) -> Result<Vec<Word>, NoMemory>
     ensures chosen { IfOk result (λ words. words.items ≡ chosen params.now args.now) }
 {

@@ -13,7 +13,7 @@ use ceal_base::text::Text;
 use std::alloc::Global;
 
 /// Adds a command's line, without what stands before it and its end.
-#[tactic(auto, using(crate::proofs::TextSteps::joins), unfolding(crate::specs::Listing::command_text))]
+#[tactic(auto, using(crate::proofs::Equations::TextSteps::joins), unfolding(crate::specs::Listing::command_text))]
 fn put_command(alloc: Global, out: &mut Text, code: &Code, command: &Cmd) -> Result<(), NoMemory>
     ensures { IfOk result
         (λ _. out.new ≡ out.old ++ command_text code.now command.now) }
@@ -102,7 +102,7 @@ fn put_command(alloc: Global, out: &mut Text, code: &Code, command: &Cmd) -> Res
 }
 
 /// Adds a command's line.
-#[tactic(auto, using(crate::proofs::TextSteps::joins))]
+#[tactic(auto, using(crate::proofs::Equations::TextSteps::joins))]
 fn put_line(
     alloc: Global,
     out: &mut Text,
@@ -120,7 +120,7 @@ fn put_line(
 }
 
 /// Adds a line `else`.
-#[tactic(auto, using(crate::proofs::TextSteps::joins))]
+#[tactic(auto, using(crate::proofs::Equations::TextSteps::joins))]
 pub fn put_else(out: &mut Text, depth: usize) -> Result<(), NoMemory>
     ensures { IfOk result (λ _. out.new ≡ out.old ++ line depth (codes "else")) }
 {
@@ -166,7 +166,7 @@ struct Point {
     left: usize,
 }
 
-#[tactic(auto, using(crate::proofs::BranchSteps::push_steps))]
+#[tactic(auto, using(crate::proofs::Equations::BranchSteps::push_steps))]
 fn put_branch(body: &Body<'_>, branches: &mut Vec<Branch>, branch: Branch) -> Result<(), NoMemory>
     ensures text { IfOk result (λ _.
         branches_text body.now.code.now body.now.commands.now branches.new.items
@@ -228,7 +228,7 @@ fn put_no(body: &Body<'_>, branches: &mut Vec<Branch>, at: Point) -> Result<(), 
 }
 
 /// Puts what follows a command of a path of at most `left` commands.
-#[tactic(auto, using(crate::proofs::BranchSteps::follow_steps))]
+#[tactic(auto, using(crate::proofs::Equations::BranchSteps::follow_steps))]
 fn put_following(
     body: &Body<'_>,
     branches: &mut Vec<Branch>,
@@ -264,7 +264,7 @@ fn put_following(
 }
 
 /// Adds a command's line, and puts what follows it.
-#[tactic(auto, using(crate::proofs::BranchSteps::at_steps))]
+#[tactic(auto, using(crate::proofs::Equations::BranchSteps::at_steps))]
 fn write_command(
     body: &Body<'_>,
     out: &mut Text,
@@ -290,7 +290,7 @@ fn write_command(
 }
 
 /// The same for the command at an index, if there is one.
-#[tactic(auto, using(crate::proofs::PathSteps::weight_steps))]
+#[tactic(auto, using(crate::proofs::Equations::PathSteps::weight_steps))]
 fn write_at(
     body: &Body<'_>,
     out: &mut Text,
@@ -317,7 +317,7 @@ fn write_at(
     }
 }
 
-#[tactic(auto, using(crate::proofs::BranchSteps::command_steps))]
+#[tactic(auto, using(crate::proofs::Equations::BranchSteps::command_steps))]
 fn write_commands(
     body: &Body<'_>,
     out: &mut Text,
@@ -340,7 +340,7 @@ fn write_commands(
 }
 
 /// Writes the beginning of a branch, and puts what follows it.
-#[tactic(auto, using(crate::proofs::TextSteps::joins))]
+#[tactic(auto, using(crate::proofs::Equations::TextSteps::joins))]
 fn write_branch(
     body: &Body<'_>,
     out: &mut Text,
@@ -373,7 +373,7 @@ fn write_branch(
 }
 
 /// Adds the lines of a body, indented once.
-#[tactic(auto, using(crate::proofs::BranchSteps::body_steps))]
+#[tactic(auto, using(crate::proofs::Equations::BranchSteps::body_steps))]
 pub fn put_body(alloc: Global, out: &mut Text, code: &Code, body: &[Cmd]) -> Result<(), NoMemory>
     ensures { IfOk result
         (λ _. out.new ≡ out.old ++ commands code.now body.now (length body.now) 0 1) }

@@ -14,7 +14,7 @@ use ceal_base::kind::{Kind, Shape};
 use ceal_base::typed::StructInfo;
 
 /// Whether there is one argument of the right type for each kind.
-#[tactic(auto, using(crate::proofs::CheckSteps::check_steps))]
+#[tactic(auto, using(crate::proofs::Equations::CheckSteps::check_steps))]
 pub fn do_all_fit(
     structs: &[StructInfo],
     kinds: &[Kind],
@@ -59,7 +59,7 @@ struct Site<'a> {
 
 /// Whether there is one argument of the right type for each parameter, where `theirs` are the kinds of the
 /// variables that the parameters are among.
-#[tactic(auto, using(crate::proofs::CheckSteps::param_steps))]
+#[tactic(auto, using(crate::proofs::Equations::CheckSteps::param_steps))]
 fn do_params_fit(typing: &Typing<'_>, theirs: &[Kind], params: &[VarId], args: &[CodeExpr]) -> bool
     ensures { result ≡ params_fit typing.now.structs.now typing.now.kinds.now typing.now.known.now
         theirs.now params.now args.now }
@@ -82,7 +82,7 @@ fn do_params_fit(typing: &Typing<'_>, theirs: &[Kind], params: &[VarId], args: &
 }
 
 /// The same for the parameters but the variable that a read sets.
-#[tactic(auto, using(crate::proofs::CheckSteps::other_steps))]
+#[tactic(auto, using(crate::proofs::Equations::CheckSteps::other_steps))]
 fn do_others_fit(typing: &Typing<'_>, v: VarId, params: &[VarId], args: &[CodeExpr]) -> bool
     ensures { result
         ≡ params_fit typing.now.structs.now typing.now.kinds.now typing.now.known.now

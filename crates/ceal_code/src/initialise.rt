@@ -31,7 +31,7 @@ fn set_plain_field(block: &mut BlockWords, kind: Option<FieldKind>, field: u32, 
 
 /// Sets the words that the statements set, in their order. It recurses as deep as their `if`s are nested.
 #[cycle(set)]
-#[tactic(auto, using(crate::proofs::InitSteps::init_steps))]
+#[tactic(auto, using(crate::proofs::Equations::InitSteps::init_steps))]
 fn set_fields<'a, P: PlainWords>(
     scope: &Scope<'a, P>,
     s: u32,
@@ -49,7 +49,7 @@ fn set_fields<'a, P: PlainWords>(
 }
 
 #[cycle(set)]
-#[tactic(auto, using(crate::proofs::InitSteps::init_steps))]
+#[tactic(auto, using(crate::proofs::Equations::InitSteps::init_steps))]
 fn set_field<'a, P: PlainWords>(
     scope: &Scope<'a, P>,
     s: u32,

@@ -22,7 +22,7 @@ fn is_set_ok(kind: Option<FieldKind>, t: Option<ExprType>) -> bool
 /// Whether a statement may stand in an initialiser of blocks of the struct, whose parameters have these kinds;
 /// `known` has true for each of them.
 #[cycle(stmts)]
-#[tactic(auto, using(crate::proofs::StmtSteps::stmt_steps))]
+#[tactic(auto, using(crate::proofs::Equations::StmtSteps::stmt_steps))]
 fn is_stmt_ok(
     structs: &[StructInfo],
     kinds: &[Kind],
@@ -52,7 +52,7 @@ fn is_stmt_ok(
 }
 
 #[cycle(stmts)]
-#[tactic(auto, using(crate::proofs::StmtSteps::stmts_steps))]
+#[tactic(auto, using(crate::proofs::Equations::StmtSteps::stmts_steps))]
 pub fn are_stmts_ok(
     structs: &[StructInfo],
     kinds: &[Kind],

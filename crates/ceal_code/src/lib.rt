@@ -34,4 +34,4 @@ mod tree;
 mod typing;
 pub mod unit;
 pub mod validate;
-mod waits;
+pub mod waits;

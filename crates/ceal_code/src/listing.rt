@@ -15,7 +15,7 @@ use ceal_base::typed::StructInfo;
 use std::alloc::Global;
 
 /// Adds the lines of a unit of this number.
-#[tactic(auto, using(crate::proofs::TextSteps::joins))]
+#[tactic(auto, using(crate::proofs::Equations::TextSteps::joins))]
 fn put_unit_lines(
     alloc: Global,
     out: &mut Text,
@@ -48,7 +48,7 @@ fn put_unit_at(alloc: Global, out: &mut Text, code: &Code, n: usize) -> Result<(
 }
 
 /// Adds the lines of the units of these numbers.
-#[tactic(auto, using(crate::proofs::ListingSteps::units_steps))]
+#[tactic(auto, using(crate::proofs::Equations::ListingSteps::units_steps))]
 fn put_units(alloc: Global, out: &mut Text, code: &Code, ns: &[usize]) -> Result<(), NoMemory>
     ensures { IfOk result (λ _. out.new ≡ out.old ++ units_text code.now ns.now) }
 {
@@ -70,7 +70,7 @@ struct Initialised<'a> {
 
 /// Adds the lines of a statement of an initialiser.
 #[cycle(lines)]
-#[tactic(auto, using(crate::proofs::ListingSteps::stmt_steps))]
+#[tactic(auto, using(crate::proofs::Equations::ListingSteps::stmt_steps))]
 fn put_stmt(
     of: &Initialised<'_>,
     out: &mut Text,
@@ -104,7 +104,7 @@ fn put_stmt(
 }
 
 #[cycle(lines)]
-#[tactic(auto, using(crate::proofs::TextSteps::joins))]
+#[tactic(auto, using(crate::proofs::Equations::TextSteps::joins))]
 fn put_no_part(
     of: &Initialised<'_>,
     out: &mut Text,
@@ -126,7 +126,7 @@ fn put_no_part(
 }
 
 #[cycle(lines)]
-#[tactic(auto, using(crate::proofs::ListingSteps::stmts_steps))]
+#[tactic(auto, using(crate::proofs::Equations::ListingSteps::stmts_steps))]
 fn put_stmts(
     of: &Initialised<'_>,
     out: &mut Text,
@@ -143,7 +143,7 @@ fn put_stmts(
 }
 
 /// Adds the lines of a function, whose units have these numbers.
-#[tactic(auto, using(crate::proofs::TextSteps::joins))]
+#[tactic(auto, using(crate::proofs::Equations::TextSteps::joins))]
 fn put_function_lines(
     alloc: Global,
     out: &mut Text,
@@ -185,7 +185,7 @@ fn put_function_lines(
 }
 
 /// Adds the lines of functions, each with the numbers of its units.
-#[tactic(auto, using(crate::proofs::ListingSteps::functions_steps))]
+#[tactic(auto, using(crate::proofs::Equations::ListingSteps::functions_steps))]
 fn put_functions(
     alloc: Global,
     out: &mut Text,
@@ -233,7 +233,7 @@ fn no_groups(alloc: Global, n: usize) -> Result<Vec<Items<usize>>, NoMemory>
 }
 
 /// The numbers of the units of each function.
-#[tactic(auto, using(crate::proofs::ListingSteps::group_steps))]
+#[tactic(auto, using(crate::proofs::Equations::ListingSteps::group_steps))]
 fn group_units(alloc: Global, n: usize, units: &[Unit]) -> Result<Vec<Items<usize>>, NoMemory>
     ensures { IfOk result (λ groups. groups.items ≡ grouped (replicate n []) 0 units.now) }
 {

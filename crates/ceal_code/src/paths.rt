@@ -49,7 +49,7 @@ pub fn no_flags(alloc: Global, n: usize) -> Result<Vec<bool>, NoMemory>
 }
 
 /// Which variables are known at the beginning of a unit, of all variables of its function.
-#[tactic(auto, using(crate::proofs::PathSteps::known_steps))]
+#[tactic(auto, using(crate::proofs::Equations::PathSteps::known_steps))]
 fn known_params(alloc: Global, n: usize, params: &[VarId]) -> Result<Vec<bool>, NoMemory>
     ensures { IfOk result (λ v. v.items ≡ with_params (replicate n false) params.now) }
 {
@@ -71,7 +71,7 @@ struct Body<'a> {
 }
 
 /// Puts the path that goes on at an index.
-#[tactic(auto, using(crate::proofs::PathSteps::part_steps))]
+#[tactic(auto, using(crate::proofs::Equations::PathSteps::part_steps))]
 fn put(
     body: &Body<'_>,
     parts: &mut Vec<Part>,
@@ -97,7 +97,7 @@ fn put(
 }
 
 /// Puts what follows a command.
-#[tactic(auto, using(crate::proofs::PathSteps::part_steps))]
+#[tactic(auto, using(crate::proofs::Equations::PathSteps::part_steps))]
 fn go_on(body: &Body<'_>, command: &Cmd, part: Part, parts: &mut Vec<Part>) -> Result<(), NoMemory>
     requires some { 0 < part.left }
     requires there { part.index < length body.now.commands.now }
@@ -146,7 +146,7 @@ fn go_on(body: &Body<'_>, command: &Cmd, part: Part, parts: &mut Vec<Part>) -> R
 }
 
 /// Goes over a command that is there.
-#[tactic(auto, using(crate::proofs::PathSteps::weight_steps))]
+#[tactic(auto, using(crate::proofs::Equations::PathSteps::weight_steps))]
 fn pass(body: &Body<'_>, part: Part, parts: &mut Vec<Part>) -> Result<bool, NoMemory>
     requires some { 0 < part.left }
     ensures paths { IfOk result (λ ok.
@@ -173,7 +173,7 @@ fn pass(body: &Body<'_>, part: Part, parts: &mut Vec<Part>) -> Result<bool, NoMe
 }
 
 /// Goes over the first command of a path, and puts what follows it.
-#[tactic(auto, using(crate::proofs::PathSteps::path_steps))]
+#[tactic(auto, using(crate::proofs::Equations::PathSteps::path_steps))]
 fn step(body: &Body<'_>, part: Part, parts: &mut Vec<Part>) -> Result<bool, NoMemory>
     ensures paths { IfOk result (λ ok.
         (ok && parts_ok body.now.code.now body.now.function body.now.commands.now parts.new.items)
@@ -191,7 +191,7 @@ fn step(body: &Body<'_>, part: Part, parts: &mut Vec<Part>) -> Result<bool, NoMe
 }
 
 /// Whether each path of a unit's body is right.
-#[tactic(auto, using(crate::proofs::PathSteps::walk_steps))]
+#[tactic(auto, using(crate::proofs::Equations::PathSteps::walk_steps))]
 pub fn are_paths_ok(
     alloc: Global,
     code: &Code,

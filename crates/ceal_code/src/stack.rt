@@ -2,8 +2,9 @@
 
 ghost use Rattle.std.specs.Prelude.{◌≡◌, ◌<◌, length, true, false, IfOk, OnOk};
 ghost use Rattle.std.specs.declared.alloc.Global.{Global as Allocator};
+ghost use Rattle.ceal_base.specs.Operators.{number_of};
 ghost use Rattle.ceal_code.specs.Init.{arguments};
-ghost use Rattle.ceal_code.specs.Stacks.{over, waits_in, stack_in, left_in};
+ghost use Rattle.ceal_code.specs.Stacks.{Began, over, waits_in, stack_in, top_of, below_in, below_count, left_in};
 ghost use Rattle.ceal_code.specs.Step.{Empty, Run, entered, started, given};
 ghost use Rattle.ceal_code.specs.Value.{set, expr_value, values};
 
@@ -30,6 +31,15 @@ pub struct Closure {
     pub args: Words,
 }
 
+/// The continuation of a read: the unit that goes on with the content of the place, the variable of the unit that takes it,
+/// and the words for the unit's other parameters, where they stand.
+#[derive(Clone, Copy)]
+pub struct Continuation<'a> {
+    pub unit: UnitId,
+    pub var: u32,
+    pub args: &'a [Word],
+}
+
 /// A unit that runs: the index of its next command, and the words of its variables, null where there is none.
 #[derive(Drop)]
 pub struct Activation {
@@ -45,6 +55,21 @@ pub struct Stack {
     pub(crate) top: Activation,
     pub(crate) waits: Waits,
     room: Vec<Word>,
+}
+
+impl Closure {
+    /// How the read goes on.
+    pub fn continuation(&self) -> Continuation<'_>
+        ensures unit { result.unit ≡ self.now.unit }
+        ensures var { result.var ≡ self.now.var }
+        ensures args { result.args.now ≡ self.now.args }
+    {
+        Continuation {
+            unit: self.unit,
+            var: self.var,
+            args: self.args.items(),
+        }
+    }
 }
 
 impl Activation {
@@ -77,6 +102,15 @@ impl Activation {
     {
         let scope = self.scope(code, plain);
         scope.value(e)
+    }
+
+    /// The number that an expression gives in the unit, and 0 where it gives another word.
+    pub(crate) fn number<P: PlainWords>(&self, code: &Code, plain: &P, e: &CodeExpr) -> i64
+        ensures number { result ≡ number_of (expr_value code.now.structs
+            (P.plain plain.now) (arguments self.now.env.items) e.now) }
+    {
+        let scope = self.scope(code, plain);
+        scope.number(e)
     }
 
     /// What each of the expressions gives in the unit.
@@ -175,16 +209,20 @@ impl Stack {
     }
 
     /// Puts the unit that goes on after a read on the stack, with the content that was read.
-    pub fn resume(&mut self, code: &Code, closure: &Closure, value: Word) -> Result<(), NoMemory>
-        ensures resumed { OnOk result (stack_in self.new ≡ entered code.now closure.now.unit.0
-            (given code.now closure.now.unit.0 closure.now.var closure.now.args value)
+    pub fn resume(
+        &mut self,
+        code: &Code,
+        next: Continuation<'_>,
+        value: Word,
+    ) -> Result<(), NoMemory>
+        ensures resumed { OnOk result (stack_in self.new ≡ entered code.now next.entry.unit.0
+            (given code.now next.entry.unit.0 next.entry.var next.entry.args.now value)
             (stack_in self.old)) }
     {
         self.park()?;
-        let unit = closure.unit.0 as usize;
+        let unit = next.unit.0 as usize;
         let params = code.params_of(unit);
-        let env = &mut self.top.env;
-        bind_given(env, params, closure.var, value, closure.args.items())?;
+        bind_given(&mut self.top.env, params, next.var, value, next.args)?;
         self.begin_at(unit);
         Ok(())
     }
@@ -252,12 +290,38 @@ impl Stack {
         self.top.index = index;
     }
 
+    /// Puts what each of the expressions gives in the unit that runs in place of these words.
+    pub fn evaluate<P: PlainWords>(
+        &self,
+        code: &Code,
+        plain: &P,
+        es: &[CodeExpr],
+        words: &mut Vec<Word>,
+    ) -> Result<(), NoMemory>
+        ensures values { OnOk result (words.new.items ≡ values code.now.structs
+            (P.plain plain.now) (arguments (top_of self.now).env.items) es.now) }
+    {
+        let scope = self.top.scope(code, plain);
+        scope.evaluate(es, words)
+    }
+
+    /// The unit that ran goes on, with a word for a variable.
+    #[tactic(auto, unfolding(crate::specs::Stacks::stack_in))]
+    pub fn set(&mut self, var: u32, word: Word) -> Result<(), NoMemory>
+        ensures set { OnOk result (stack_in self.new
+            ≡ Run (top_of self.old).unit (top_of self.old).index
+            (set (arguments (top_of self.old).env.items) var word) (below_in self.old)) }
+    {
+        self.top.set(var, word)?;
+        self.runs = true;
+        Ok(())
+    }
+
     /// The unit that runs is over.
     #[tactic(auto, unfolding(crate::specs::Stacks::stack_in))]
-    pub(crate) fn leave(&mut self)
-        ensures left { stack_in self.new ≡ waits_in self.old.waits }
-        ensures waits { self.new.waits ≡ self.old.waits }
-        ensures fewer { left_in self.new ≡ length self.old.waits.units.items }
+    pub fn leave(&mut self)
+        ensures left { stack_in self.new ≡ below_in self.old }
+        ensures fewer { left_in self.new ≡ below_count self.old }
     {
         self.runs = false;
     }
@@ -282,40 +346,38 @@ impl Stack {
         self.waits.clear();
     }
 
-    /// With no unit, and with the room that this one has for the unit that runs; the units of this one stay.
-    #[tactic(auto, unfolding(crate::specs::Stacks::stack_in))]
-    pub fn spare(&mut self) -> Result<Stack, NoMemory>
-        ensures empty { IfOk result (λ spare. stack_in spare ≡ Empty) }
-        ensures stays { OnOk result (stack_in self.new ≡ stack_in self.old) }
-    {
-        let below = self.set_aside()?;
-        Ok(mem::replace(self, below))
-    }
-
     /// Takes the units off the stack, which keeps its room: others can run now, and these afterwards.
     #[tactic(auto, unfolding(crate::specs::Stacks::stack_in))]
-    pub fn set_aside(&mut self) -> Result<Stack, NoMemory>
-        ensures aside { IfOk result (λ below. stack_in below ≡ stack_in self.old) }
+    pub fn set_aside(&mut self) -> Result<Waits, NoMemory>
+        ensures aside { IfOk result (λ below. waits_in below ≡ stack_in self.old) }
         ensures empty { OnOk result (stack_in self.new ≡ Empty) }
     {
         self.park()?;
         self.runs = false;
-        let mut below = Stack::empty(*self.room.allocator());
-        below.waits = self.waits.take();
-        Ok(below)
+        Ok(self.waits.take())
     }
 
     /// Puts units that were taken off in place of those that there are.
     #[tactic(auto, unfolding(crate::specs::Stacks::stack_in))]
-    pub fn bring_back(&mut self, below: Stack) -> Result<(), NoMemory>
-        ensures back { OnOk result (stack_in self.new ≡ stack_in below) }
+    pub fn bring_back(&mut self, below: Waits)
+        ensures back { stack_in self.new ≡ waits_in below }
     {
-        let mut below = below;
-        let parked = below.park();
-        let Stack { waits, .. } = below;
-        self.waits.put(waits);
+        self.waits.put(below);
         self.runs = false;
-        parked
+    }
+
+    /// The next of the units that wait runs; it answers false where there is none.
+    #[inline(never)]
+    fn begin_next(&mut self) -> Result<bool, NoMemory>
+        ensures began { IfOk result
+            (λ more. Began more self.old.waits self.new.top self.new.waits) }
+        ensures runs { IfOk result (λ more. self.new.runs ≡ more) }
+        ensures fewer { IfOk result (λ more. more ≡ true
+            → length self.new.waits.units.items < length self.old.waits.units.items) }
+    {
+        let more = self.waits.pop(&mut self.top)?;
+        self.runs = more;
+        Ok(more)
     }
 
     /// Some unit runs; it answers false where there is none.
@@ -330,8 +392,6 @@ impl Stack {
         if self.runs {
             return Ok(true);
         }
-        let more = self.waits.pop(&mut self.top)?;
-        self.runs = more;
-        Ok(more)
+        self.begin_next()
     }
 }

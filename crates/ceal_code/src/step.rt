@@ -4,9 +4,10 @@ ghost use Rattle.std.specs.Prelude.{◌≡◌, ◌+◌, ◌<◌, ◌^◌, true, 
 ghost use Rattle.ceal_base.specs.Access.{holds};
 ghost use Rattle.ceal_code.specs.Init.{arguments};
 ghost use Rattle.ceal_code.specs.Program.{Code as Parts};
-ghost use Rattle.ceal_code.specs.Stacks.{waits_in, stack_in, act_in, act_on, key_made, making_in, reading_in, step_in};
+ghost use Rattle.ceal_code.specs.Stacks.{waits_in, stack_in, act_in, act_on, top_of, key_made, making_in, reading_in, step_in};
 ghost use Rattle.ceal_code.specs.Step.{Run, variable_default, entered, given, key_of, place_of, writes_at, next};
 ghost use Rattle.ceal_code.specs.Value.{Plain, set, values};
+ghost use Rattle.ceal_base.specs.declared.word.Word.TheVariants.{Num as IsNum};
 ghost use Rattle.ceal_code.specs.declared.step.Act.TheVariants.{Makes as IsMakes, Reads as IsReads};
 
 use crate::binding::bind_given;
@@ -15,7 +16,6 @@ use crate::command::Cmd;
 use crate::expr::{CodeExprs, VarId};
 use crate::plain_words::PlainWords;
 use crate::stack::{Activation, Closure, Stack};
-use ceal_base::access::is_true;
 use ceal_base::forest::{Key, UnitId};
 use ceal_base::kind::Shape;
 use ceal_base::no_memory::NoMemory;
@@ -106,14 +106,11 @@ fn place_at(at: Word) -> Option<Place>
     }
 }
 
-fn target(test: Word, yes: u32, no: u32) -> usize
-    ensures { result ≡ (if holds test then yes else no) }
+/// Where a run goes on for the number of a test.
+fn target(test: i64, yes: u32, no: u32) -> usize
+    ensures { result ≡ (if holds (IsNum test) then yes else no) }
 {
-    if is_true(test) {
-        yes as usize
-    } else {
-        no as usize
-    }
+    if test == 0 { no as usize } else { yes as usize }
 }
 
 /// Gives a variable a word.
@@ -236,7 +233,7 @@ fn perform<'c, P: PlainWords>(
             Ok(write(stack, at, word))
         }
         Cmd::If { test, yes, no } => {
-            let test = stack.top.value(code, plain, test);
+            let test = stack.top.number(code, plain, test);
             stack.jump(target(test, *yes, *no));
             Ok(Step::Quiet)
         }
@@ -290,15 +287,15 @@ impl Stack {
         }
     }
 
-    /// The key of the block that is made.
-    fn key_by<P: PlainWords>(
+    /// The key of a block that is made in the unit that runs.
+    pub fn key<P: PlainWords>(
         &self,
         code: &Code,
         plain: &P,
         maker: Maker<'_>,
     ) -> Result<Key, NoMemory>
         ensures key { IfOk result (λ key. key ≡ key_made code.now (P.plain plain.now) maker.entry
-            (arguments self.now.top.env.items)) }
+            (arguments (top_of self.now).env.items)) }
     {
         match maker {
             Maker::Init { function, args } => {
@@ -310,7 +307,7 @@ impl Stack {
     }
 
     /// Takes the key of the block that is made, and the unit that it is for; the unit goes on over the stack.
-    pub fn made<P: PlainWords>(
+    fn made<P: PlainWords>(
         &mut self,
         code: &Code,
         plain: &P,
@@ -321,12 +318,12 @@ impl Stack {
             (arguments self.old.top.env.items) (waits_in self.old.waits)
             ≡ act_in (IsMakes m.0 making.entry.var m.1) (stack_in self.new)) }
     {
-        let key = self.key_by(code, plain, making.maker)?;
+        let key = self.key(code, plain, making.maker)?;
         Ok((key, self.take_top()))
     }
 
     /// Takes the closure of a read; the stack comes after it.
-    pub fn closure<P: PlainWords>(
+    fn closure<P: PlainWords>(
         &mut self,
         code: &Code,
         plain: &P,

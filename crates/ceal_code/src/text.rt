@@ -125,7 +125,7 @@ fn row_text(text: &[u8]) -> &[u8]
 }
 
 /// Adds an expression.
-#[tactic(auto, using(crate::proofs::TextSteps::expr_steps))]
+#[tactic(auto, using(crate::proofs::Equations::TextSteps::expr_steps))]
 pub fn put_expr(
     alloc: Global,
     out: &mut Text,
@@ -178,7 +178,7 @@ pub fn put_expr(
     }
 }
 
-#[tactic(auto, using(crate::proofs::TextSteps::exprs_steps))]
+#[tactic(auto, using(crate::proofs::Equations::TextSteps::exprs_steps))]
 fn put_more_exprs(
     alloc: Global,
     out: &mut Text,
@@ -220,7 +220,7 @@ pub fn put_exprs(
     }
 }
 
-#[tactic(auto, using(crate::proofs::TextSteps::vars_steps))]
+#[tactic(auto, using(crate::proofs::Equations::TextSteps::vars_steps))]
 fn put_more_vars(out: &mut Text, vs: &[VarId]) -> Result<(), NoMemory>
     ensures { IfOk result (λ _. out.new ≡ out.old ++ more_vars vs.now) }
 {
@@ -264,7 +264,7 @@ pub fn put_shape(out: &mut Text, structs: &[StructInfo], shape: Shape) -> Result
 }
 
 /// Adds two spaces for each level.
-#[tactic(auto, using(crate::proofs::TextSteps::indent_steps))]
+#[tactic(auto, using(crate::proofs::Equations::TextSteps::indent_steps))]
 pub fn put_indent(out: &mut Text, depth: usize) -> Result<(), NoMemory>
     ensures { IfOk result (λ _. out.new ≡ out.old ++ indent depth) }
 {

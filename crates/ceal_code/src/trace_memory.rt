@@ -89,7 +89,7 @@ fn input_at(inputs: &Inputs, n: u32) -> Option<&BlockWords>
 }
 
 /// The plain word of an input's field.
-#[tactic(auto, using(crate::proofs::TableSteps::input_steps), unfolding(crate::specs::Replay::input_plain))]
+#[tactic(auto, using(crate::proofs::Equations::TableSteps::input_steps), unfolding(crate::specs::Replay::input_plain))]
 fn input_word(code: &Code, inputs: &Inputs, block: BlockId, field: u32) -> Option<Word>
     ensures { result ≡ block_word (input_plain code.now inputs.now block) field }
 {
@@ -179,7 +179,7 @@ impl<'a> TraceMemory<'a> {
     }
 
     /// The word of a block's field, with the content of a modifiable.
-    #[tactic(auto, using(crate::proofs::TableSteps::after_steps))]
+    #[tactic(auto, using(crate::proofs::Equations::TableSteps::after_steps))]
     pub fn word_after(&self, block: BlockId, field: u32) -> Option<Word>
         ensures value { result ≡ block_word (memory_in self.now block) field }
     {
@@ -282,7 +282,7 @@ impl<'a> TraceMemory<'a> {
     }
 
     /// Learns the blocks that the items allocate, in order.
-    #[tactic(auto, using(crate::proofs::TableSteps::plain_steps))]
+    #[tactic(auto, using(crate::proofs::Equations::TableSteps::plain_steps))]
     pub fn learn_items(&mut self, items: &[Item]) -> Result<(), NoMemory>
         ensures code { OnOk result (code_in self.new ≡ code_in self.old) }
         ensures plain { OnOk result
@@ -298,7 +298,7 @@ impl<'a> TraceMemory<'a> {
     }
 
     /// Changes the store as the items do, in order.
-    #[tactic(auto, using(crate::proofs::TableSteps::store_steps))]
+    #[tactic(auto, using(crate::proofs::Equations::TableSteps::store_steps))]
     pub fn store_items(&mut self, items: &[Item]) -> Result<(), NoMemory>
         ensures code { OnOk result (code_in self.new ≡ code_in self.old) }
         ensures plain { OnOk result (plain_in self.new ≡ plain_in self.old) }

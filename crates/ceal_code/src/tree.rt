@@ -27,7 +27,7 @@ fn goes_forward(command: &Cmd, index: usize) -> bool
 }
 
 /// Whether each `If` of a body goes forward, on a path or not.
-#[tactic(auto, using(crate::proofs::TreeSteps::forward_steps))]
+#[tactic(auto, using(crate::proofs::Equations::TreeSteps::forward_steps))]
 pub fn do_all_go_forward(body: &[Cmd]) -> bool
     ensures { result ≡ all_forward body.now 0 }
 {
@@ -50,7 +50,7 @@ fn is_marked(marks: &[bool], at: usize) -> bool
 }
 
 /// Marks an index, and says whether it is there and was not marked.
-#[tactic(auto, using(crate::proofs::TreeSteps::mark_steps))]
+#[tactic(auto, using(crate::proofs::Equations::TreeSteps::mark_steps))]
 fn mark(marks: &mut Vec<bool>, at: usize) -> bool
     ensures { reached marks.old.items (at ∷ []) ≡ (if result then Some marks.new.items else None) }
 {
@@ -62,7 +62,7 @@ fn mark(marks: &mut Vec<bool>, at: usize) -> bool
 }
 
 /// Marks both, and says whether both were there and not marked.
-#[tactic(auto, using(crate::proofs::TreeSteps::mark_steps))]
+#[tactic(auto, using(crate::proofs::Equations::TreeSteps::mark_steps))]
 fn mark_both(marks: &mut Vec<bool>, first: usize, second: usize) -> bool
     ensures { reached marks.old.items (first ∷ second ∷ [])
         ≡ (if result then Some marks.new.items else None) }
@@ -75,7 +75,7 @@ fn mark_both(marks: &mut Vec<bool>, first: usize, second: usize) -> bool
 }
 
 /// Marks the indices at which a run may go on after a command.
-#[tactic(auto, using(crate::proofs::TreeSteps::mark_steps))]
+#[tactic(auto, using(crate::proofs::Equations::TreeSteps::mark_steps))]
 fn mark_followers(marks: &mut Vec<bool>, command: &Cmd, index: usize) -> bool
     requires room { index < 2 ^ 63 }
     ensures { reached marks.old.items (followers command.now index)
@@ -88,7 +88,7 @@ fn mark_followers(marks: &mut Vec<bool>, command: &Cmd, index: usize) -> bool
     }
 }
 
-#[tactic(auto, using(crate::proofs::TreeSteps::all_steps))]
+#[tactic(auto, using(crate::proofs::Equations::TreeSteps::all_steps))]
 fn are_all(flags: &[bool]) -> bool
     ensures { result ≡ all_true flags.now }
 {
@@ -112,7 +112,7 @@ fn are_all_but_first(flags: &[bool]) -> bool
 }
 
 /// Marks what is reached from the commands of a body, and says whether each index was there and not marked.
-#[tactic(auto, using(crate::proofs::TreeSteps::walk_steps))]
+#[tactic(auto, using(crate::proofs::Equations::TreeSteps::walk_steps))]
 fn mark_all(marks: &mut Vec<bool>, body: &[Cmd]) -> bool
     ensures { reached marks.old.items (all_followers body.now 0)
         ≡ (if result then Some marks.new.items else None) }
@@ -130,7 +130,7 @@ fn mark_all(marks: &mut Vec<bool>, body: &[Cmd]) -> bool
 }
 
 /// Whether each index but 0 is reached from exactly one command.
-#[tactic(auto, using(crate::proofs::TreeSteps::tree_steps))]
+#[tactic(auto, using(crate::proofs::Equations::TreeSteps::tree_steps))]
 pub fn is_body_tree(alloc: Global, body: &[Cmd]) -> Result<bool, NoMemory>
     ensures exact { IfOk result (λ ok. ok ≡ is_tree body.now) }
 {

@@ -164,7 +164,7 @@ fn is_row(row: u32, found: Option<u32>) -> bool
 }
 
 /// Whether the expression is null, or the address of the first modifiable of a row of this length.
-#[tactic(auto, using(crate::proofs::TypeSteps::row_steps))]
+#[tactic(auto, using(crate::proofs::Equations::TypeSteps::row_steps))]
 fn does_start_row(structs: &[StructInfo], row: u32, e: &CodeExpr) -> bool
     ensures { result ≡ starts_row structs.now row e.now }
 {
@@ -276,7 +276,7 @@ fn type_of_cell(kind: Option<FieldKind>) -> Option<ExprType>
 }
 
 /// The type of an expression, where variables have these kinds and those that are known have a word.
-#[tactic(auto, using(crate::proofs::TypeSteps::type_steps))]
+#[tactic(auto, using(crate::proofs::Equations::TypeSteps::type_steps))]
 pub fn type_of_expr(
     structs: &[StructInfo],
     kinds: &[Kind],

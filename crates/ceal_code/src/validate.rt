@@ -29,7 +29,7 @@ fn is_kind_ok(structs: &[StructInfo], kind: Kind) -> bool
     }
 }
 
-#[tactic(auto, using(crate::proofs::ListSteps::kinds_steps))]
+#[tactic(auto, using(crate::proofs::Equations::ListSteps::kinds_steps))]
 fn are_kinds_ok(structs: &[StructInfo], kinds: &[Kind]) -> bool
     ensures { result ≡ kinds_ok structs.now kinds.now }
 {
@@ -69,7 +69,7 @@ fn is_same_field(a: FieldKind, b: FieldKind) -> bool
     }
 }
 
-#[tactic(auto, using(crate::proofs::ListSteps::fields_steps))]
+#[tactic(auto, using(crate::proofs::Equations::ListSteps::fields_steps))]
 fn are_fields_ok(structs: &[StructInfo], fields: &[FieldInfo]) -> bool
     ensures { result ≡ fields_ok structs.now fields.now }
 {
@@ -84,7 +84,7 @@ fn are_fields_ok(structs: &[StructInfo], fields: &[FieldInfo]) -> bool
 }
 
 /// Whether the next `n` fields are of this kind, and no row begins at one of them.
-#[tactic(auto, using(crate::proofs::ListSteps::going_steps))]
+#[tactic(auto, using(crate::proofs::Equations::ListSteps::going_steps))]
 fn does_row_go_on(n: u32, kind: FieldKind, rest: &[FieldInfo]) -> bool
     ensures { result ≡ row_goes_on n kind rest.now }
 {
@@ -114,7 +114,7 @@ fn is_row_whole(row: u32, kind: FieldKind, rest: &[FieldInfo]) -> bool
     is_modifiable(Some(kind)) && does_row_go_on(row - 1, kind, rest)
 }
 
-#[tactic(auto, using(crate::proofs::ListSteps::rows_steps))]
+#[tactic(auto, using(crate::proofs::Equations::ListSteps::rows_steps))]
 fn are_rows_ok(fields: &[FieldInfo]) -> bool
     ensures { result ≡ rows_ok fields.now }
 {
@@ -128,7 +128,7 @@ fn are_rows_ok(fields: &[FieldInfo]) -> bool
     true
 }
 
-#[tactic(auto, using(crate::proofs::ListSteps::structs_steps))]
+#[tactic(auto, using(crate::proofs::Equations::ListSteps::structs_steps))]
 fn are_structs_ok(structs: &[StructInfo], rest: &[StructInfo]) -> bool
     ensures { result ≡ structs_ok structs.now rest.now }
 {
@@ -149,7 +149,7 @@ fn are_structs_ok(structs: &[StructInfo], rest: &[StructInfo]) -> bool
     true
 }
 
-#[tactic(auto, using(crate::proofs::ListSteps::prefix_steps))]
+#[tactic(auto, using(crate::proofs::Equations::ListSteps::prefix_steps))]
 fn is_prefix_of(params: &[Kind], kinds: &[Kind]) -> bool
     ensures { result ≡ is_prefix params.now kinds.now }
 {
@@ -170,7 +170,7 @@ fn is_prefix_of(params: &[Kind], kinds: &[Kind]) -> bool
     true
 }
 
-#[tactic(auto, using(crate::proofs::ListSteps::below_steps))]
+#[tactic(auto, using(crate::proofs::Equations::ListSteps::below_steps))]
 fn are_below(n: usize, params: &[VarId]) -> bool
     ensures { result ≡ below n params.now }
 {
@@ -215,7 +215,7 @@ fn is_unit_ok(alloc: Global, code: &Code, unit: &Unit) -> Result<bool, NoMemory>
     Ok(ok)
 }
 
-#[tactic(auto, using(crate::proofs::ListSteps::units_steps))]
+#[tactic(auto, using(crate::proofs::Equations::ListSteps::units_steps))]
 fn are_units_ok(alloc: Global, code: &Code, units: &[Unit]) -> Result<bool, NoMemory>
     ensures exact { IfOk result (λ ok. ok ≡ units_ok code.now units.now) }
 {
@@ -303,7 +303,7 @@ fn is_function_ok(
 }
 
 /// Whether each function is right, and has one item of kinds.
-#[tactic(auto, using(crate::proofs::ListSteps::functions_steps))]
+#[tactic(auto, using(crate::proofs::Equations::ListSteps::functions_steps))]
 fn are_functions_ok(
     alloc: Global,
     code: &Code,

@@ -1,6 +1,6 @@
 // Units that wait until the one above them is over.
 
-ghost use Rattle.std.specs.Prelude.{◌≡◌, ◌-◌, ◌<◌, ◌≤◌, drop, length, true, IfOk, OnOk};
+ghost use Rattle.std.specs.Prelude.{◌≡◌, ◌++◌, ◌-◌, ◌<◌, ◌≤◌, drop, length, true, IfOk, OnOk};
 ghost use Rattle.ceal_code.specs.Init.{arguments};
 ghost use Rattle.ceal_code.specs.Stacks.{waits_in, Began};
 ghost use Rattle.ceal_code.specs.Step.{Empty, Run};
@@ -41,18 +41,28 @@ fn tail(words: &[Word], from: usize) -> &[Word]
     &words[from..]
 }
 
+/// Adds words, which mostly are none.
+fn append(words: &mut Vec<Word>, more: &[Word]) -> Result<(), NoMemory>
+    ensures { OnOk result (words.new.items ≡ words.old.items ++ more.now) }
+{
+    if more.is_empty() {
+        return Ok(());
+    }
+    words.extend_from_slice(more)?;
+    Ok(())
+}
+
 /// Puts words in place of those that there are.
 fn refill(env: &mut Vec<Word>, words: &[Word]) -> Result<(), NoMemory>
     ensures { OnOk result (env.new.items ≡ words.now) }
 {
     env.clear();
-    env.extend_from_slice(words)?;
-    Ok(())
+    append(env, words)
 }
 
 impl Waits {
     /// With no unit.
-    #[tactic(auto, using(crate::proofs::WaitSteps::wait_steps), unfolding(crate::specs::Stacks::waits_in))]
+    #[tactic(auto, using(crate::proofs::Equations::WaitSteps::wait_steps), unfolding(crate::specs::Stacks::waits_in))]
     pub fn empty(alloc: Global) -> Waits
         ensures empty { waits_in result ≡ Empty }
     {
@@ -63,12 +73,12 @@ impl Waits {
     }
 
     /// A unit waits, over those that do.
-    #[tactic(auto, using(crate::proofs::WaitSteps::wait_steps), unfolding(crate::specs::Stacks::waits_in))]
-    pub fn push(&mut self, unit: usize, index: usize, env: &[Word]) -> Result<(), NoMemory>
+    #[tactic(auto, using(crate::proofs::Equations::WaitSteps::wait_steps), unfolding(crate::specs::Stacks::waits_in))]
+    pub(crate) fn push(&mut self, unit: usize, index: usize, env: &[Word]) -> Result<(), NoMemory>
         ensures pushed { OnOk result
             (waits_in self.new ≡ Run unit index (arguments env.now) (waits_in self.old)) }
     {
-        self.words.extend_from_slice(env)?;
+        append(&mut self.words, env)?;
         self.units.push(Waiting {
             unit,
             index,
@@ -78,8 +88,8 @@ impl Waits {
     }
 
     /// The next unit waits no more, and this one becomes it; it answers false where none waits.
-    #[tactic(auto, using(crate::proofs::WaitSteps::wait_steps), unfolding(crate::specs::Stacks::waits_in))]
-    pub fn pop(&mut self, top: &mut Activation) -> Result<bool, NoMemory>
+    #[tactic(auto, using(crate::proofs::Equations::WaitSteps::wait_steps), unfolding(crate::specs::Stacks::waits_in))]
+    pub(crate) fn pop(&mut self, top: &mut Activation) -> Result<bool, NoMemory>
         ensures began { IfOk result (λ more. Began more self.old top.new self.new) }
         ensures fewer { IfOk result
             (λ more. more ≡ true → length self.new.units.items < length self.old.units.items) }
@@ -104,8 +114,8 @@ impl Waits {
     }
 
     /// No unit waits any more.
-    #[tactic(auto, using(crate::proofs::WaitSteps::wait_steps), unfolding(crate::specs::Stacks::waits_in))]
-    pub fn clear(&mut self)
+    #[tactic(auto, using(crate::proofs::Equations::WaitSteps::wait_steps), unfolding(crate::specs::Stacks::waits_in))]
+    pub(crate) fn clear(&mut self)
         ensures cleared { waits_in self.new ≡ Empty }
     {
         self.units.clear();
@@ -113,8 +123,8 @@ impl Waits {
     }
 
     /// Takes all units off; where there are none their room stays.
-    #[tactic(auto, using(crate::proofs::WaitSteps::wait_steps), unfolding(crate::specs::Stacks::waits_in))]
-    pub fn take(&mut self) -> Waits
+    #[tactic(auto, using(crate::proofs::Equations::WaitSteps::wait_steps), unfolding(crate::specs::Stacks::waits_in))]
+    pub(crate) fn take(&mut self) -> Waits
         ensures taken { waits_in result ≡ waits_in self.old }
         ensures none { waits_in self.new ≡ Empty }
     {
@@ -126,8 +136,8 @@ impl Waits {
     }
 
     /// Puts units in place of those that there are; where there are none the room stays.
-    #[tactic(auto, using(crate::proofs::WaitSteps::wait_steps), unfolding(crate::specs::Stacks::waits_in))]
-    pub fn put(&mut self, waits: Waits)
+    #[tactic(auto, using(crate::proofs::Equations::WaitSteps::wait_steps), unfolding(crate::specs::Stacks::waits_in))]
+    pub(crate) fn put(&mut self, waits: Waits)
         ensures put { waits_in self.new ≡ waits_in waits }
     {
         if waits.is_empty() {

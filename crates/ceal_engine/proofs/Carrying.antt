@@ -9,7 +9,7 @@ use Rattle.ceal_base.specs.Trace.{Trace, trace_of}
 use Rattle.ceal_base.specs.declared.call.Call.{Call}
 use Rattle.ceal_base.specs.declared.word.BlockId.TheVariants.{Core}
 use Rattle.ceal_base.specs.declared.word.Word.{Word}
-use Rattle.ceal_code.proofs.Same.{some-same, none-some}
+use Rattle.ceal_code.proofs.Words.SameIsEqual.{some-same, none-some}
 use Rattle.ceal_code.specs.Program.{Code}
 use Rattle.ceal_code.specs.Replay.{IsHonest}
 use Rattle.ceal_engine.proofs.Inputs.{extended-refl}
@@ -33,8 +33,8 @@ use Rattle.ceal_repair.specs.Slicing.{IsPartRun, IsSliceOf, IsSliced}
 use Rattle.ceal_repair.specs.declared.running.Running.{Running}
 use Rattle.ceal_repair.specs.declared.slice.Sliced.{Sliced}
 use Rattle.ceal_repair.specs.declared.slice.Sliced.TheVariants.{More, Done, Spent, OutOfFuel}
-use Rattle.ceal_theory.proofs.CarriedLaws.{carried-begin-law, carried-same-law, carried-on-law}
-use Rattle.ceal_theory.proofs.SliceLaws.{begin-law, other-names-law, slice-law, slices-law, whole-law, is-done-law}
+use Rattle.ceal_theory.proofs.SlicedRepair.CarriedLaws.{carried-begin-law, carried-same-law, carried-on-law}
+use Rattle.ceal_theory.proofs.SlicedRepair.SliceLaws.{begin-law, other-names-law, slice-law, slices-law, whole-law, is-done-law}
 use Rattle.ceal_theory.specs.Adjust.{Above}
 use Rattle.ceal_theory.specs.Carried.{Carried, CarriedSlices, counted_anew}
 use Rattle.ceal_theory.specs.Laws.{Edited}

@@ -15,8 +15,8 @@ use Rattle.ceal_engine.specs.Partial.{spent_in, words_in, carried_by, CarriesFro
 use Rattle.ceal_engine.specs.declared.phase.Phase.{Phase}
 use Rattle.ceal_engine.specs.declared.phase.Phase.TheVariants.{New, Finished, Pending, Partial, Dropped}
 use Rattle.ceal_heap.specs.Heap.{Contents}
-use Rattle.ceal_theory.proofs.CarriedLaws.{carried-begin-law, carried-more-law, carried-same-law}
-use Rattle.ceal_theory.proofs.SliceLaws.{begin-law, more-law}
+use Rattle.ceal_theory.proofs.SlicedRepair.CarriedLaws.{carried-begin-law, carried-more-law, carried-same-law}
+use Rattle.ceal_theory.proofs.SlicedRepair.SliceLaws.{begin-law, more-law}
 use Rattle.ceal_theory.specs.Carried.{Carried}
 use Rattle.ceal_theory.specs.Laws.{Edited}
 use Rattle.ceal_theory.specs.Repair.{own}

@@ -3,7 +3,7 @@ use Rattle.std.proofs.Common.{◌≡◌, ℕ, Option, Some, None, IfSome, IfNone
 use Rattle.std.specs.Option.{option_map}
 use Rattle.std.proofs.lemmas.Bool.Decides.{eqb_tells}
 use Rattle.ceal_base.specs.declared.forest.Item.{Item}
-use Rattle.ceal_code.proofs.Same.{some-same, none-some}
+use Rattle.ceal_code.proofs.Words.SameIsEqual.{some-same, none-some}
 use Rattle.ceal_order.specs.Stamps.{Distinct, head_of, successor}
 use Rattle.ceal_order.specs.declared.stamp.Stamp.{Stamp}
 use Rattle.ceal_trace.proofs.Parts.{entry-part, not_before, forest-append}

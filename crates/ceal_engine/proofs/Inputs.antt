@@ -12,10 +12,10 @@ use Rattle.ceal_base.specs.declared.word.BlockId.{BlockId}
 use Rattle.ceal_base.specs.declared.word.BlockId.TheVariants.{Input, Core}
 use Rattle.ceal_base.specs.declared.word.Place.{Place}
 use Rattle.ceal_base.specs.declared.word.Word.{Word}
-use Rattle.ceal_code.proofs.Kept.{ShapesKept, words-kept, fields-kept, kept-written}
-use Rattle.ceal_code.proofs.Memory.{altered, get-before, get-within, get-set_here, get-set_other}
-use Rattle.ceal_code.proofs.Same.{both, both-true, none-some, nat-same}
-use Rattle.ceal_code.proofs.TypedInit.{fields-set, words-count}
+use Rattle.ceal_code.proofs.TypedCode.ShapesKept.{ShapesKept, words-kept, fields-kept, kept-written}
+use Rattle.ceal_code.proofs.Replay.MemoryChanges.{altered, get-before, get-within, get-set_here, get-set_other}
+use Rattle.ceal_code.proofs.Words.SameIsEqual.{both, both-true, none-some, nat-same}
+use Rattle.ceal_code.proofs.TypedCode.TypedBlocks.{fields-set, words-count}
 use Rattle.ceal_code.specs.Fitting.{args_fit, Fits}
 use Rattle.ceal_code.specs.Program.{Code}
 use Rattle.ceal_code.specs.Replay.{plain_words, plain_block}

@@ -15,8 +15,8 @@ use Rattle.ceal_base.specs.declared.word.BlockId.{BlockId}
 use Rattle.ceal_base.specs.declared.word.BlockId.TheVariants.{Input, Core}
 use Rattle.ceal_base.specs.declared.word.Place.{Place}
 use Rattle.ceal_base.specs.declared.word.Word.{Word}
-use Rattle.ceal_code.proofs.Memory.{CellThere, contents, written-contents}
-use Rattle.ceal_code.proofs.Same.{both, some-same, none-some}
+use Rattle.ceal_code.proofs.Replay.MemoryChanges.{CellThere, contents, written-contents}
+use Rattle.ceal_code.proofs.Words.SameIsEqual.{both, some-same, none-some}
 use Rattle.ceal_code.specs.Fitting.{Fits}
 use Rattle.ceal_code.specs.Program.{Code}
 use Rattle.ceal_code.specs.Replay.{IsHonest, stored}
@@ -40,10 +40,10 @@ use Rattle.ceal_repair.specs.Words.{HasBases, default_of}
 use Rattle.ceal_repair.specs.declared.running.Outcome.{Outcome}
 use Rattle.ceal_repair.specs.declared.running.Outcome.TheVariants.{Done, OutOfFuel}
 use Rattle.ceal_repair.specs.declared.running.Running.{Running}
-use Rattle.ceal_theory.proofs.CarriedLaws.{carried-more-law}
-use Rattle.ceal_theory.proofs.Inputs.{fits-more}
-use Rattle.ceal_theory.proofs.MoreInputs.{inputs-law}
-use Rattle.ceal_theory.proofs.SliceLaws.{more-law}
+use Rattle.ceal_theory.proofs.SlicedRepair.CarriedLaws.{carried-more-law}
+use Rattle.ceal_theory.proofs.Store.FittingInputs.{fits-more}
+use Rattle.ceal_theory.proofs.Store.MoreInputs.{inputs-law}
+use Rattle.ceal_theory.proofs.SlicedRepair.SliceLaws.{more-law}
 use Rattle.ceal_theory.specs.Adjust.{Extended}
 use Rattle.ceal_theory.specs.MoreInputs.{OnMore}
 use Rattle.ceal_theory.specs.Repair.{own}

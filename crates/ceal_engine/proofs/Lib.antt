@@ -12,3 +12,4 @@ pub mod NewInput
 pub mod Carrying
 pub mod Restored
 pub mod EngineLaws
+pub mod Samples

@@ -3,7 +3,7 @@ use Rattle.std.proofs.Common.{◌≡◌, ◌≢◌, ℕ, suc, ◌+◌, ◌==◌,
 use Rattle.std.specs.Prelude.{◌↔◌}
 use Rattle.std.proofs.lemmas.Bool.Decides.{eqb_tells}
 use Rattle.ceal_base.specs.declared.word.BlockId.TheVariants.{Core}
-use Rattle.ceal_code.proofs.Same.{some-same}
+use Rattle.ceal_code.proofs.Words.SameIsEqual.{some-same}
 use Rattle.ceal_code.specs.Replay.{In, here, there, Distinct}
 use Rattle.ceal_heap.proofs.TallyLemmas.{get_set_same, get_set_other, tally_set}
 use Rattle.ceal_heap.specs.Heap.{Contents, Known, Live, IsLive, number_standing, state_standing, live_count}
@@ -11,8 +11,8 @@ use Rattle.ceal_heap.specs.Table.{tally, is_live, state_is_live, one_if}
 use Rattle.ceal_heap.specs.declared.number.Number.{Number}
 use Rattle.ceal_heap.specs.declared.number.State.{State}
 use Rattle.ceal_heap.specs.declared.number.State.TheVariants.{Live as LiveState, Revoked as RevokedState, Released as ReleasedState}
-use Rattle.ceal_repair.proofs.Items.{in-case}
-use Rattle.ceal_repair.proofs.Making.{in-count}
+use Rattle.ceal_repair.proofs.Nodes.NodeItems.{in-case}
+use Rattle.ceal_repair.proofs.Runs.NewBlock.{in-count}
 
 -- a number that is there and live
 pub record LiveAt (numbers : List Number) (b : ℕ) : Type 0 where

@@ -8,20 +8,20 @@ use Rattle.ceal_base.specs.declared.kind.FieldKind.{FieldKind}
 use Rattle.ceal_base.specs.declared.word.BlockId.{BlockId}
 use Rattle.ceal_base.specs.declared.word.BlockId.TheVariants.{Core}
 use Rattle.ceal_base.specs.declared.word.Word.{Word}
-use Rattle.ceal_code.proofs.FittingLemmas.{args-known}
-use Rattle.ceal_code.proofs.Pairs.{one_if}
-use Rattle.ceal_code.proofs.Same.{none-some, nat-same}
+use Rattle.ceal_code.proofs.TypedCode.FittingWords.{args-known}
+use Rattle.ceal_code.proofs.Alike.BlockPairs.{one_if}
+use Rattle.ceal_code.proofs.Words.SameIsEqual.{none-some, nat-same}
 use Rattle.ceal_code.specs.After.{store_after, memory_after}
 use Rattle.ceal_code.specs.Fitting.{Fits}
 use Rattle.ceal_code.specs.Program.{Code}
 use Rattle.ceal_code.specs.Replay.{Store, In, here, Mentions, Replays, input_plain, plain_after, plain_of, bases, with_contents, filled, block_after}
 use Rattle.ceal_code.specs.Step.{started}
-use Rattle.ceal_theory.proofs.DistinctBlocks.{uses, times-append}
-use Rattle.ceal_theory.proofs.Good.{Extends}
-use Rattle.ceal_theory.proofs.Growth.{mentions-subset}
-use Rattle.ceal_theory.proofs.Inputs.{inputs-hold, inputs-extend, no-core, started-known}
-use Rattle.ceal_theory.proofs.PlainWords.{Walked, walked}
-use Rattle.ceal_theory.proofs.Repaired.{plain-none, plain-from}
+use Rattle.ceal_theory.proofs.Repair.DistinctBlocks.{uses, times-append}
+use Rattle.ceal_theory.proofs.Repair.RepairInvariant.{Extends}
+use Rattle.ceal_theory.proofs.Store.WordsGrow.{mentions-subset}
+use Rattle.ceal_theory.proofs.Store.FittingInputs.{inputs-hold, inputs-extend, no-core, started-known}
+use Rattle.ceal_theory.proofs.Store.WordsOfWalk.{Walked, walked}
+use Rattle.ceal_theory.proofs.Repair.RepairReplays.{plain-none, plain-from}
 use Rattle.ceal_theory.specs.Adjust.{Extended}
 
 -- each block of the trace is known at its end

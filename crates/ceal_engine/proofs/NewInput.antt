@@ -9,8 +9,8 @@ use Rattle.ceal_base.specs.declared.call.Call.{Call}
 use Rattle.ceal_base.specs.declared.word.BlockId.TheVariants.{Input, Core}
 use Rattle.ceal_base.specs.declared.word.Place.{Place}
 use Rattle.ceal_base.specs.declared.word.Word.{Word}
-use Rattle.ceal_code.proofs.Memory.{get-push, get-push_other, get-before}
-use Rattle.ceal_code.proofs.Same.{block-refl, place-same}
+use Rattle.ceal_code.proofs.Replay.MemoryChanges.{get-push, get-push_other, get-before}
+use Rattle.ceal_code.proofs.Words.SameIsEqual.{block-refl, place-same}
 use Rattle.ceal_code.specs.Program.{Code}
 use Rattle.ceal_code.specs.Replay.{bases, content_in}
 use Rattle.ceal_engine.proofs.Inputs.{kept-longer, longer-fits, call-kept, extended-longer}
@@ -22,14 +22,14 @@ use Rattle.ceal_engine.specs.Keeping.{Kept, KeepsRun, Keeps, Sound}
 use Rattle.ceal_engine.specs.declared.phase.Phase.{Phase}
 use Rattle.ceal_mods.specs.Mods.{cell_of}
 use Rattle.ceal_order.specs.Stamps.{is_in}
-use Rattle.ceal_repair.proofs.Parting.{where-holds}
+use Rattle.ceal_repair.proofs.Lists.PartedLists.{where-holds}
 use Rattle.ceal_repair.specs.Blocks.{HasBlocks}
 use Rattle.ceal_repair.specs.Kept.{Kept as KeptTables, Records}
 use Rattle.ceal_repair.specs.Lists.{reads_at}
 use Rattle.ceal_repair.specs.Words.{HasBases, default_of}
 use Rattle.ceal_repair.specs.declared.running.Running.{Running}
 use Rattle.ceal_heap.specs.Heap.{standing}
-use Rattle.ceal_theory.proofs.MoreInputs.{inputs-law}
+use Rattle.ceal_theory.proofs.Store.MoreInputs.{inputs-law}
 use Rattle.ceal_theory.specs.MoreInputs.{SameBases}
 use Rattle.ceal_trace.specs.Nodes.{node_at}
 use Rattle.ceal_trace.specs.declared.node.Node.{Node}

@@ -11,13 +11,13 @@ use Rattle.ceal_base.specs.Trace.{Trace, flat, trace_of, steps_of, blocks_of}
 use Rattle.ceal_base.specs.declared.call.Call.{Call}
 use Rattle.ceal_base.specs.declared.word.BlockId.{BlockId}
 use Rattle.ceal_base.specs.declared.word.BlockId.TheVariants.{Input, Core}
-use Rattle.ceal_code.proofs.AfterLaws.{store-law, inputs-law}
-use Rattle.ceal_code.proofs.Ends.{ended-law}
-use Rattle.ceal_code.proofs.FinalMemory.{list-same}
-use Rattle.ceal_code.proofs.Pairs.{one_if}
-use Rattle.ceal_code.proofs.Replayed.{trace-law, all-core}
-use Rattle.ceal_code.proofs.Same.{some-same, none-some}
-use Rattle.ceal_code.proofs.TypedRun.{progress}
+use Rattle.ceal_code.proofs.Replay.AfterLaws.{store-law, inputs-law}
+use Rattle.ceal_code.proofs.Replay.RunEnds.{ended-law}
+use Rattle.ceal_code.proofs.Replay.FinalMemory.{list-same}
+use Rattle.ceal_code.proofs.Alike.BlockPairs.{one_if}
+use Rattle.ceal_code.proofs.Replay.ReplayedCall.{trace-law, all-core}
+use Rattle.ceal_code.proofs.Words.SameIsEqual.{some-same, none-some}
+use Rattle.ceal_code.proofs.TypedCode.TypedRun.{progress}
 use Rattle.ceal_code.specs.After.{memory_after}
 use Rattle.ceal_code.specs.Determined.{Determined}
 use Rattle.ceal_code.specs.Fitting.{Fits}

@@ -15,8 +15,8 @@ use Rattle.ceal_base.specs.declared.word.BlockId.TheVariants.{Input, Core}
 use Rattle.ceal_base.specs.declared.word.Place.{Place}
 use Rattle.ceal_base.specs.declared.word.Word.{Word}
 use Rattle.ceal_base.specs.declared.word.Word.TheVariants.{Null}
-use Rattle.ceal_code.proofs.Replayed.{get-after}
-use Rattle.ceal_code.proofs.Same.{none-some}
+use Rattle.ceal_code.proofs.Replay.ReplayedCall.{get-after}
+use Rattle.ceal_code.proofs.Words.SameIsEqual.{none-some}
 use Rattle.ceal_code.specs.PlainWords.{block_shape, block_word}
 use Rattle.ceal_code.specs.Program.{Code}
 use Rattle.ceal_code.specs.Replay.{Store, with_contents, filled, block_after}

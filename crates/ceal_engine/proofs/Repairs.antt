@@ -6,9 +6,9 @@ use Rattle.ceal_base.specs.Finished.{Finished}
 use Rattle.ceal_base.specs.Trace.{Trace, steps_of, blocks_of}
 use Rattle.ceal_base.specs.declared.call.Call.{Call}
 use Rattle.ceal_base.specs.declared.word.Word.{Word}
-use Rattle.ceal_code.proofs.Pairs.{one_if, one-at}
-use Rattle.ceal_code.proofs.Replayed.{trace-law}
-use Rattle.ceal_code.proofs.Same.{none-some}
+use Rattle.ceal_code.proofs.Alike.BlockPairs.{one_if, one-at}
+use Rattle.ceal_code.proofs.Replay.ReplayedCall.{trace-law}
+use Rattle.ceal_code.proofs.Words.SameIsEqual.{none-some}
 use Rattle.ceal_code.specs.Alike.{Tied, TraceAlike}
 use Rattle.ceal_code.specs.Fitting.{Fits}
 use Rattle.ceal_code.specs.Fresh.{fresh}
@@ -26,10 +26,10 @@ use Rattle.ceal_heap.specs.Heap.{next}
 use Rattle.ceal_repair.specs.Answers as kept
 use Rattle.ceal_repair.specs.Answers.{IsKeptRun, IsRunOf, IsFirstRun, IsRepairedRun}
 use Rattle.ceal_repair.specs.declared.running.Running.{Running}
-use Rattle.ceal_theory.proofs.DistinctBlocks.{uses, times, times-append, named}
-use Rattle.ceal_theory.proofs.Found.{first-law}
-use Rattle.ceal_theory.proofs.Main.{unchanged-law}
-use Rattle.ceal_theory.proofs.Named.{trace-by, selves, self-tied, tied-same, selves-one, trace-self, named-law}
+use Rattle.ceal_theory.proofs.Repair.DistinctBlocks.{uses, times, times-append, named}
+use Rattle.ceal_theory.proofs.Repair.EndAsFromScratch.{first-law}
+use Rattle.ceal_theory.proofs.Repair.RepairLaws.{unchanged-law}
+use Rattle.ceal_theory.proofs.Renaming.GivenNumbers.{trace-by, selves, self-tied, tied-same, selves-one, trace-self, named-law}
 use Rattle.ceal_theory.specs.Adjust.{Above}
 use Rattle.ceal_theory.specs.Computed.{Repaired, first_of}
 use Rattle.ceal_theory.specs.Laws.{Edited, FirstOutcome}

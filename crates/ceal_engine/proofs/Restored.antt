@@ -8,9 +8,9 @@ use Rattle.ceal_base.specs.Trace.{Trace, trace_of, blocks_of}
 use Rattle.ceal_base.specs.declared.call.Call.{Call}
 use Rattle.ceal_base.specs.declared.forest.Item.{Item}
 use Rattle.ceal_base.specs.declared.word.Word.{Word}
-use Rattle.ceal_code.proofs.Pairs.{zip-one}
-use Rattle.ceal_code.proofs.Replayed.{trace-law}
-use Rattle.ceal_code.proofs.Same.{none-some, some-same}
+use Rattle.ceal_code.proofs.Alike.BlockPairs.{zip-one}
+use Rattle.ceal_code.proofs.Replay.ReplayedCall.{trace-law}
+use Rattle.ceal_code.proofs.Words.SameIsEqual.{none-some, some-same}
 use Rattle.ceal_code.specs.Alike.{zipped}
 use Rattle.ceal_code.specs.Fresh.{fresh}
 use Rattle.ceal_code.specs.Program.{Code}
@@ -18,7 +18,7 @@ use Rattle.ceal_code.specs.Replay.{Replays, IsHonest, core_numbers}
 use Rattle.ceal_engine.specs.Engine.{EngineState, ReplaysCall, IsTraced, IsEngine, fresh_of, has_run, trace}
 use Rattle.ceal_engine.specs.Repaired.{IsRenamed, IsRestorable, IsRestored}
 use Rattle.ceal_engine.specs.declared.phase.Phase.TheVariants.{Finished as IsFinished}
-use Rattle.ceal_theory.proofs.Main.{unique-law}
+use Rattle.ceal_theory.proofs.Repair.RepairLaws.{unique-law}
 
 module _ (code : Code) (fuel : ℕ) (inputs : List Block) (f : ℕ) (args : List Word) (items : List Item) (r : IsRestorable code fuel inputs f args items) where
   -- the run from scratch ends within the fuel

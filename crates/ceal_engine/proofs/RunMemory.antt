@@ -10,10 +10,10 @@ use Rattle.ceal_base.specs.declared.word.BlockId.{BlockId}
 use Rattle.ceal_base.specs.declared.word.BlockId.TheVariants.{Input, Core}
 use Rattle.ceal_base.specs.declared.word.Place.{Place}
 use Rattle.ceal_base.specs.declared.word.Word.{Word}
-use Rattle.ceal_code.proofs.AfterLaws.{store-law, inputs-law}
-use Rattle.ceal_code.proofs.Memory.{get-within}
-use Rattle.ceal_code.proofs.Replayed.{get-after}
-use Rattle.ceal_code.proofs.Same.{some-same, none-some}
+use Rattle.ceal_code.proofs.Replay.AfterLaws.{store-law, inputs-law}
+use Rattle.ceal_code.proofs.Replay.MemoryChanges.{get-within}
+use Rattle.ceal_code.proofs.Replay.ReplayedCall.{get-after}
+use Rattle.ceal_code.proofs.Words.SameIsEqual.{some-same, none-some}
 use Rattle.ceal_code.specs.After.{store_after, memory_after}
 use Rattle.ceal_code.specs.Program.{Code}
 use Rattle.ceal_code.specs.Replay.{Store, In, here, there, KnownBlock, count, core_numbers, bases, plain_of, cell_default, filled, block_after, inputs_after, IsHonest}
@@ -26,20 +26,20 @@ use Rattle.ceal_engine.specs.Keeping.{contents, cores_from, steps_kept}
 use Rattle.ceal_heap.specs.Heap.{Contents, Known, Standing, Unused, Live, Revoked, Released, IsLive, known, next, plain_block, plain_of as heap_words, standing}
 use Rattle.ceal_mods.specs.Mods.{Contents as Mods, cell_of}
 use Rattle.ceal_mods.specs.Writes.{Write as WriteOf, last_of}
-use Rattle.ceal_repair.proofs.Items.{allocs-append, known-more}
-use Rattle.ceal_repair.proofs.Making.{count-in, in-count, contents-written}
-use Rattle.ceal_repair.proofs.Putting.{last-contents}
+use Rattle.ceal_repair.proofs.Nodes.NodeItems.{allocs-append, known-more}
+use Rattle.ceal_repair.proofs.Runs.NewBlock.{count-in, in-count, contents-written}
+use Rattle.ceal_repair.proofs.Lists.ListChanges.{last-contents}
 use Rattle.ceal_repair.specs.Answers.{Stands, IsKeptRun}
 use Rattle.ceal_repair.specs.Kept.{base_in}
 use Rattle.ceal_repair.specs.Words.{default_of}
 use Rattle.ceal_repair.specs.declared.running.Running.{Running}
-use Rattle.ceal_theory.proofs.DistinctBlocks.{uses}
-use Rattle.ceal_theory.proofs.Done.{same-bases}
-use Rattle.ceal_theory.proofs.Growth.{own-single}
-use Rattle.ceal_theory.proofs.Listed.{listed-law}
-use Rattle.ceal_theory.proofs.SameStore.{HonestAgain, honest-again}
-use Rattle.ceal_theory.proofs.Sound.{begin-sound}
-use Rattle.ceal_theory.proofs.Walk.{flat-honest, flat-after}
+use Rattle.ceal_theory.proofs.Repair.DistinctBlocks.{uses}
+use Rattle.ceal_theory.proofs.SlicedRepair.DoneReplays.{same-bases}
+use Rattle.ceal_theory.proofs.Store.WordsGrow.{own-single}
+use Rattle.ceal_theory.proofs.Store.WritesByPlace.{listed-law}
+use Rattle.ceal_theory.proofs.Store.KnownPlaces.{HonestAgain, honest-again}
+use Rattle.ceal_theory.proofs.SlicedRepair.Soundness.{begin-sound}
+use Rattle.ceal_theory.proofs.Store.Walk.{flat-honest, flat-after}
 use Rattle.ceal_theory.specs.Adjust.{Above}
 use Rattle.ceal_theory.specs.Cover.{known_after}
 use Rattle.ceal_theory.specs.KnownContent.{allocs, written_after}

@@ -4,6 +4,7 @@ pub mod BlockSteps
 pub mod FunctionSteps
 pub mod Placing
 pub mod Reach
+pub mod Owners
 pub mod Reached
 -- the rest
 pub mod PlaceSteps

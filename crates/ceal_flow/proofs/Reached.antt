@@ -1,21 +1,21 @@
 -- The blocks that are kept are those that a path leads to.
 use Rattle.std.proofs.Common.{◌≡◌, ◌⊎◌, inl, inr, ℕ, zero, suc, ◌+◌, Bool, true, false, ◌&&◌, Option, Some, None, List, [], ◌∷◌, ◌++◌, length, slice_get, replicate, if◌then◌else◌, Contains, refl, sym, subst, arith, append_assoc, length-append}
-use Rattle.std.proofs.lemmas.List.Elements.{Contains-push, Contains-push_cases, Contains-append_cases, Contains-append_left, Contains-append_right}
+use Rattle.std.proofs.lemmas.List.Elements.{Contains-push_cases, Contains-append_cases}
 use Rattle.ceal_base.specs.declared.typed.Typed.{Typed}
 use Rattle.ceal_base.specs.declared.typed.TypedFunction.{TypedFunction}
 use Rattle.ceal_base.specs.declared.typed.TypedStmt.{TypedStmt, Declare, Assign, SetField, Write, Call, If', While', Return, Break, Continue, Row_of-TypedStmt, end_of-TypedStmt, more_of-TypedStmt}
 use Rattle.ceal_base.specs.declared.typed.TypedStmt.TheBlock.{hidden-the_row-TypedStmt-0}
 use Rattle.ceal_flow.specs.Blocks.{size, row_size, sizes, goes_on, row_goes_on, all_go_on, no_loop, in_loop, target, row_entry, entry, blocks_of, row_blocks, all_blocks}
 use Rattle.ceal_flow.specs.Laws.{IsKept, firsts, IsReached, IsSimple}
-use Rattle.ceal_flow.specs.Lowering.{function_size, end_of, first_of, core_blocks, function_in, function_at, blocks_in, blocks_at, functions_from, blocks_from, graph_of}
+use Rattle.ceal_flow.specs.Lowering.{function_size, end_of, first_of, core_blocks, function_in, blocks_in, blocks_at, functions_from, blocks_from, graph_of}
 use Rattle.ceal_flow.specs.Paths.{stays, jumps_to, jumps, Leads}
 use Rattle.ceal_flow.specs.declared.block.GraphBlock.{GraphBlock}
 use Rattle.ceal_flow.specs.declared.exits.Exits.{Exits}
 use Rattle.ceal_flow.specs.declared.block.GraphBlock.TheVariants.{Done, Act, Unreached}
 use Rattle.ceal_flow.specs.declared.function.GraphFunction.{GraphFunction}
-use Rattle.ceal_flow.specs.declared.function.GraphFunction.TheVariants.{Core, Init}
 use Rattle.ceal_flow.proofs.BlockSteps.{row-go_on, row-entry, row-blocks, blocks-length, row-length, all-length}
 use Rattle.ceal_flow.proofs.FunctionSteps.{blocks_in-length}
+use Rattle.ceal_flow.proofs.Owners.{owner-of}
 use Rattle.ceal_flow.proofs.Placing.{Placed, placed-head, placed-left, placed-right, placed-tail, placed-part}
 use Rattle.ceal_flow.proofs.Reach.{IsExit, Laws, LeadsOut, AllKept, Kept, parted, nothing-laws, jump-laws, act-laws, seq-laws, last-laws, if-laws, while-laws}
 
@@ -147,60 +147,6 @@ module _ (blocks : List GraphBlock) where
     pub whole : Whole body n
     whole = record { inside = whole-inside; entry = stmts.entry kept-ends (λ t. kept-end); closed = whole-closed; acts = whole-acts }
 
--- the core function to which a block belongs
-record Owner (blocks : List GraphBlock) (functions : List GraphFunction) (b : ℕ) (block : GraphBlock) : Type 0 where
-  body : List TypedStmt
-  start : ℕ
-  i : ℕ
-  at : b ≡ start + i
-  item : slice_get (core_blocks body start) i ≡ Some block
-  placed : Placed blocks start (core_blocks body start)
-  first : Contains (firsts functions) (first_of body start)
-
-firsts-more : (f : GraphFunction) (fs : List GraphFunction) (x : ℕ) → Contains (firsts fs) x → Contains (firsts (f ∷ fs)) x
-firsts-more (Core name first params kinds) fs x h = Contains-append_right (first ∷ []) (firsts fs) x h
-firsts-more (Init f) fs x h = h
-
-first-here : (i : Option ℕ) (f : TypedFunction) (n : ℕ) (fs : List GraphFunction) → i ≡ None → Contains (firsts (function_in i f n ∷ fs)) (first_of f.body n)
-first-here None f n fs e = Contains-append_left (first_of f.body n ∷ []) (firsts fs) (first_of f.body n) (Contains-push [] (first_of f.body n))
-first-here (Some s) f n fs e = cc
-
-owner-here : (before : List GraphBlock) (n : ℕ) (f : TypedFunction) (rest : List GraphBlock) (fs : List GraphFunction) (i : Option ℕ) (j : ℕ) (block : GraphBlock)
-    → n ≡ length before → slice_get (blocks_in i f.body n) j ≡ Some block → Owner (before ++ (blocks_in i f.body n ++ rest)) (function_in i f n ∷ fs) (n + j) block
-owner-here before n f rest fs None j block e h = record {
-  body = f.body;
-  start = n;
-  i = j;
-  at = refl;
-  item = h;
-  placed = placed-part before (core_blocks f.body n) rest n e;
-  first = first-here None f n fs refl;
-}
-owner-here before n f rest fs (Some s) j block e h = cc
-
-owner-from : (before : List GraphBlock) (n : ℕ) (fs : List TypedFunction) (j : ℕ) (block : GraphBlock) → n ≡ length before
-    → slice_get (blocks_from n fs) j ≡ Some block → Owner (before ++ blocks_from n fs) (functions_from n fs) (n + j) block
-unfolding blocks_from functions_from
-owner-from before n [] j block e h = cc
-owner-from before n (f ∷ fs) j block e h = elim (parted (λ o. o ≡ Some block) (blocks_at f n) (blocks_from (n + function_size f) fs) j h) [
-  | inl l ↦ owner-here before n f (blocks_from (n + function_size f) fs) (functions_from (n + function_size f) fs) f.initialiser j block e l.1
-  | inr l ↦
-      let long = blocks_in-length f.initialiser f.body n in
-      let longer : n + function_size f ≡ length (before ++ blocks_at f n) = simp length-append (omega (arith, long, e)) in
-      let o = owner-from (before ++ blocks_at f n) (n + function_size f) fs l.0 block longer l.2 in
-      let q = l.1 in
-      let at = o.at in
-      record {
-        body = o.body;
-        start = o.start;
-        i = o.i;
-        item = o.item;
-        at = omega (arith, q, long, at);
-        placed = rw append_assoc at o.placed;
-        first = firsts-more (function_at f n) (functions_from (n + function_size f) fs) (first_of o.body o.start) o.first;
-      }
-]
-
 -- the core function that begins at a block
 record Started (blocks : List GraphBlock) (x : ℕ) : Type 0 where
   body : List TypedStmt
@@ -243,16 +189,11 @@ kept-block None h = absurd h
 kept-block (Some b) h = record { block = b; is = refl }
 
 module _ (p : Typed) where
-  owner : (b : ℕ) (block : GraphBlock) → slice_get (graph_of p).blocks b ≡ Some block → Owner (graph_of p).blocks (graph_of p).functions b block
-  owner b block e =
-      let same : 0 + b ≡ b = omega arith in
-      subst (λ c. Owner (graph_of p).blocks (graph_of p).functions c block) same (owner-from [] 0 p.functions b block refl e)
-
   kept-along : (a b : ℕ) → Leads (graph_of p).blocks a b → Kept (graph_of p).blocks a → Kept (graph_of p).blocks b
   kept-along a b stays k = k
   kept-along a b (jumps_to {b = x} {c = y} {d = z} t j h) k =
       let found = kept-block (slice_get (graph_of p).blocks x) k in
-      let o = owner x found.block found.is in
+      let o = owner-of p x found.block found.is in
       let w = whole (graph_of p).blocks o.body o.start o.placed in
       kept-along y b h (w.closed o.i found.block y o.item (rw found.is at j))
 
@@ -265,12 +206,12 @@ module _ (p : Typed) where
   pub kept-reached : (b : ℕ) → Kept (graph_of p).blocks b → IsReached (graph_of p) b
   kept-reached b h =
       let found = kept-block (slice_get (graph_of p).blocks b) h in
-      let o = owner b found.block found.is in
+      let o = owner-of p b found.block found.is in
       let w = whole (graph_of p).blocks o.body o.start o.placed in
       let inside = w.inside o.i (rw o.item (rw found.is at h)) in
       (first_of o.body o.start, o.first, subst (λ x. Leads (graph_of p).blocks (first_of o.body o.start) x) (sym o.at) inside)
 
   pub act-simple : (b : ℕ) (s : TypedStmt) (next : ℕ) → slice_get (graph_of p).blocks b ≡ Some (Act s next) → IsSimple s
   act-simple b s next e =
-      let o = owner b (Act s next) e in
+      let o = owner-of p b (Act s next) e in
       let w = whole (graph_of p).blocks o.body o.start o.placed in w.acts o.i s next o.item

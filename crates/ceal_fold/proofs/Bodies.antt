@@ -1,7 +1,7 @@
 -- What stands at an index of a folded body, and what is known and used there.
 use Rattle.std.proofs.Common.{◌≡◌, ℕ, zero, suc, ◌+◌, ◌<◌, ◌≤◌, ◌==◌, Bool, true, false, if◌then◌else◌, Some, List, [], ◌∷◌, ◌++◌, refl, sym, ap, ap₂, ◌∙◌, subst, length, arith, slice_get}
 use Rattle.ceal_base.specs.declared.typed.StructInfo.{StructInfo}
-use Rattle.ceal_code.proofs.Same.{nat-same, none-some, some-same}
+use Rattle.ceal_code.proofs.Words.SameIsEqual.{nat-same, none-some, some-same}
 use Rattle.ceal_code.specs.Valid.{followers, all_followers, is_tree}
 use Rattle.ceal_code.specs.declared.command.Cmd.{Cmd}
 use Rattle.ceal_code.specs.declared.command.Cmd.TheVariants.{Move, Tick, Alloc, Modref, Write, If, Done, Tail, Read, Call}

@@ -1,7 +1,7 @@
 -- Folding leaves it as it is where each `If` goes on, so that a folded body goes forward like its original.
 use Rattle.std.proofs.Common.{◌≡◌, ℕ, zero, suc, ◌+◌, ◌&&◌, Bool, true, false, if◌then◌else◌, Some, List, [], ◌∷◌, refl, ap₂, ◌∙◌, subst, arith, slice_get}
 use Rattle.ceal_base.specs.declared.typed.StructInfo.{StructInfo}
-use Rattle.ceal_code.proofs.Same.{both, none-some, some-same}
+use Rattle.ceal_code.proofs.Words.SameIsEqual.{both, none-some, some-same}
 use Rattle.ceal_code.specs.Valid.{goes_forward, all_forward, followers}
 use Rattle.ceal_code.specs.declared.command.Cmd.{Cmd}
 use Rattle.ceal_code.specs.declared.command.Cmd.TheVariants.{Move, Tick, Alloc, Modref, Write, If, Done, Tail, Read, Call}

@@ -4,7 +4,7 @@ use Rattle.std.proofs.Math.Path.{fun_ext}
 use Rattle.std.specs.BTreeMap.{is_at}
 use Rattle.std.specs.Map.{lookup}
 use Rattle.std.specs.Ordering.{nat_cmp}
-use Rattle.ceal_code.proofs.Same.{nat-same, nat-refl}
+use Rattle.ceal_code.proofs.Words.SameIsEqual.{nat-same, nat-refl}
 use Rattle.ceal_code.specs.declared.expr.CodeExpr.{CodeExpr, Num as NumExpr, Null as NullExpr, Var, Unary', Binary', Field', Address'}
 use Rattle.ceal_fold.specs.Folding.{copy_by, copy_without, assigned}
 use Rattle.ceal_fold.specs.States.{last_of, time, still, standing, copy_at}

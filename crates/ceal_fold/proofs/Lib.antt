@@ -16,3 +16,4 @@ pub mod Validity
 pub mod Types
 pub mod UnitTrees
 pub mod UnitSteps
+pub mod Samples

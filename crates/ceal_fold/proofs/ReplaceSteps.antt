@@ -2,7 +2,7 @@
 use Rattle.std.proofs.Common.{◌≡◌, ℕ, zero, suc, ◌+◌, ◌<◌, ◌≤◌, ◌==◌, ◌||◌, Bool, true, false, if◌then◌else◌, List, [], ◌∷◌, ◌++◌, refl, sym, ap, ap₂, ◌∙◌, length, replicate, arith, append_assoc, slice_set}
 use Rattle.std.proofs.lemmas.List.{append-nil}
 use Rattle.ceal_base.specs.declared.typed.StructInfo.{StructInfo}
-use Rattle.ceal_code.proofs.Same.{nat-same}
+use Rattle.ceal_code.proofs.Words.SameIsEqual.{nat-same}
 use Rattle.ceal_code.specs.Valid.{followers}
 use Rattle.ceal_code.specs.declared.command.Cmd.{Cmd}
 use Rattle.ceal_fold.proofs.ListSteps.{at-same, at-other}

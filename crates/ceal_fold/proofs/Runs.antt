@@ -12,8 +12,8 @@ use Rattle.ceal_base.specs.declared.word.BlockId.TheVariants.{Core}
 use Rattle.ceal_base.specs.declared.word.Place.{Place}
 use Rattle.ceal_base.specs.declared.word.Word.{Word}
 use Rattle.ceal_base.specs.declared.word.Word.TheVariants.{Num, Null, Block as BlockWord, At}
-use Rattle.ceal_code.proofs.Same.{both}
-use Rattle.ceal_code.proofs.TypedInit.{unit-valid}
+use Rattle.ceal_code.proofs.Words.SameIsEqual.{both}
+use Rattle.ceal_code.proofs.TypedCode.TypedBlocks.{unit-valid}
 use Rattle.ceal_code.specs.Fresh.{ran, only_over, run, fresh}
 use Rattle.ceal_code.specs.Init.{made, pointer}
 use Rattle.ceal_code.specs.Program.{Unit as CodeUnit, Code}

@@ -4,7 +4,7 @@ use Rattle.ceal_base.specs.declared.forest.UnitId.{UnitId}
 use Rattle.ceal_base.specs.declared.kind.Shape.{Shape}
 use Rattle.ceal_base.specs.declared.typed.StructInfo.{StructInfo}
 use Rattle.ceal_base.specs.declared.word.Word.{Word}
-use Rattle.ceal_code.proofs.Same.{both, nat-same}
+use Rattle.ceal_code.proofs.Words.SameIsEqual.{both, nat-same}
 use Rattle.ceal_code.specs.Program.{Unit as CodeUnit, Code}
 use Rattle.ceal_code.specs.Valid.{goes_forward, onward, paths_ok, is_tree, valid, followers}
 use Rattle.ceal_code.specs.Value.{Plain, Variables, set, expr_value, values}

@@ -2,7 +2,7 @@
 use Rattle.std.proofs.Common.{◌≡◌, true, List, [], ◌∷◌, refl, sym, ap, ◌∙◌, ◌++◌, length, arith, append_assoc}
 use Rattle.std.proofs.lemmas.List.{append-nil}
 use Rattle.ceal_base.specs.declared.typed.StructInfo.{StructInfo}
-use Rattle.ceal_code.proofs.Same.{both}
+use Rattle.ceal_code.proofs.Words.SameIsEqual.{both}
 use Rattle.ceal_code.specs.Program.{Unit as CodeUnit}
 use Rattle.ceal_code.specs.Valid.{is_tree}
 use Rattle.ceal_fold.specs.Folding.{folded_unit, folded_units}

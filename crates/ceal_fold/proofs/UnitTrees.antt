@@ -1,8 +1,8 @@
 -- The bodies of valid code are trees.
 use Rattle.std.proofs.Common.{◌≡◌, true, List, [], ◌∷◌, refl, ◌∙◌}
 use Rattle.ceal_base.specs.declared.typed.StructInfo.{StructInfo}
-use Rattle.ceal_code.proofs.Same.{both, both-true}
-use Rattle.ceal_code.proofs.TypedInit.{units-valid}
+use Rattle.ceal_code.proofs.Words.SameIsEqual.{both, both-true}
+use Rattle.ceal_code.proofs.TypedCode.TypedBlocks.{units-valid}
 use Rattle.ceal_code.specs.Program.{Unit as CodeUnit, Code}
 use Rattle.ceal_code.specs.Valid.{is_tree, unit_ok, units_ok, valid}
 use Rattle.ceal_code.specs.declared.command.Cmd.{Cmd}

@@ -2,7 +2,7 @@
 use Rattle.std.proofs.Common.{◌≡◌, ℕ, zero, suc, ◌+◌, ◌<◌, ◌==◌, ◌||◌, ◌&&◌, not, Bool, true, false, if◌then◌else◌, List, [], ◌∷◌, ◌++◌, refl, sym, ap, ap₂, ◌∙◌, subst, length, replicate, reverse, arith, append_assoc, slice_get, slice_set, unwrap_or}
 use Rattle.std.proofs.lemmas.List.{append-nil, reverse-append}
 use Rattle.std.proofs.Math.Path.{fun_ext}
-use Rattle.ceal_code.proofs.Same.{nat-same}
+use Rattle.ceal_code.proofs.Words.SameIsEqual.{nat-same}
 use Rattle.ceal_code.specs.Valid.{followers, all_followers, is_tree}
 use Rattle.ceal_code.specs.declared.command.Cmd.{Cmd}
 use Rattle.ceal_code.specs.declared.command.Cmd.TheVariants.{Move, Tick, Alloc, Modref, Write, If, Done, Tail, Read, Call}

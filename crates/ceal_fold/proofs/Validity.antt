@@ -3,9 +3,9 @@ use Rattle.std.proofs.Common.{◌≡◌, ℕ, zero, suc, ◌+◌, ◌<◌, ◌==
 use Rattle.ceal_base.specs.declared.kind.Kind.{Kind}
 use Rattle.ceal_base.specs.declared.kind.Kind.TheVariants.{Int, Ptr}
 use Rattle.ceal_base.specs.declared.typed.StructInfo.{StructInfo}
-use Rattle.ceal_code.proofs.Rows.{kind-same}
-use Rattle.ceal_code.proofs.Same.{both, both-true, nat-same}
-use Rattle.ceal_code.proofs.TypedInit.{units-valid, functions-valid}
+use Rattle.ceal_code.proofs.Words.RowKinds.{kind-same}
+use Rattle.ceal_code.proofs.Words.SameIsEqual.{both, both-true, nat-same}
+use Rattle.ceal_code.proofs.TypedCode.TypedBlocks.{units-valid, functions-valid}
 use Rattle.ceal_code.specs.Program.{Unit as CodeUnit, Code}
 use Rattle.ceal_code.specs.Step.{kinds_of}
 use Rattle.ceal_code.specs.Valid.{Typing, fits, fits_maybe, variable_type, type_of, place_fits, unit_fits, read_fits, entry_fits, call_fits, alloc_fits, others, params_fit, all_fit, command_ok, onward, path_ok, paths_ok, goes_forward, all_forward, followers, is_tree, with_params, below, is_core, body_ok, unit_ok, units_ok, is_prefix, kinds_ok, entry_ok, function_ok, functions_ok, structs_ok, valid}

@@ -9,6 +9,6 @@ mod draws;
 pub mod kind;
 mod list;
 mod names;
-mod programs;
+pub mod programs;
 pub mod text;
 mod tree;

@@ -1,5 +1,6 @@
 -- The grammar: a type for each of its symbols, with a constructor for each of its rules. What stands in these types
--- are derivations: they have the parentheses and the span of every token.
+-- are derivations: they have the parentheses and the span of every token (Aho, Lam, Sethi and Ullman, *Compilers*,
+-- 2006, section 4.2).
 use Rattle.std.specs.Prelude.{ℕ, ℤ, ◌≤◌, ◌<◌, ◌≡◌, Bool, true, false, List, [], ◌∷◌}
 use Rattle.ceal_base.specs.declared.fault.Span.{Span}
 use Rattle.ceal_base.specs.declared.operators.Unary.{Unary as UnaryOp}

@@ -404,9 +404,23 @@ owned (OfElse s e first) body = Modes.Ended (If s e first body)
 -- the state after a `}`
 abbrev pub block_closed : List Entry → Head → List Stmt → List Opened → Span → State
 block_closed es h done [] s =
-    Top (es ++ FunctionEntry (record { initialiser = h.initialiser; name = h.name; params = h.params; body = done; close = s }) ∷ [])
+    Top (es ++ FunctionEntry (record {
+      initialiser = h.initialiser;
+      name = h.name;
+      params = h.params;
+      body = done;
+      close = s;
+    }) ∷ [])
 block_closed es h done (o ∷ os) s =
-    In (record { entries = es; head = h; opened = os; done = o.before; chain = o.chain; base = o.base; nesting = o.nesting }) (owned o.owner done)
+    In (record {
+      entries = es;
+      head = h;
+      opened = os;
+      done = o.before;
+      chain = o.chain;
+      base = o.base;
+      nesting = o.nesting;
+    }) (owned o.owner done)
 
 -- the state after a `{`
 abbrev pub opened_by : Inside → Owner → State

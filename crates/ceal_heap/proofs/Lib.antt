@@ -4,3 +4,4 @@ pub mod TallyLemmas
 pub mod CellsLemmas
 pub mod TableLemmas
 pub mod HeapLemmas
+pub mod Samples

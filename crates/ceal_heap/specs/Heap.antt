@@ -1,4 +1,5 @@
--- A heap: how each block stands, and the slots of the region.
+-- A heap: how each block stands, and the slots of the region (for blocks that are revoked first and released later:
+-- Hammer and Acar, *Memory management for self-adjusting computation*, ISMM 2008).
 use Rattle.std.specs.Prelude.{◌≡◌, ◌≢◌, ℕ, ◌≤◌, List, length, Option, Some, None, IsSome, option_map, pos, slice_get, slice_index_or}
 use Rattle.ceal_base.specs.Block.{Block}
 use Rattle.ceal_base.specs.declared.kind.Shape.{Shape}
@@ -115,13 +116,15 @@ IsLive heap b = (block : Known) × (standing heap b ≡ Live block)
 
 -- a live block of this shape and words
 abbrev pub IsMade : Contents → BlockId → Shape → List Word → Type 0
-IsMade heap b shape words = (slot : Slot) × (standing heap b ≡ Live (record { shape = shape; words = words; slot = slot }))
+IsMade heap b shape words =
+    (slot : Slot) × (standing heap b ≡ Live (record { shape = shape; words = words; slot = slot }))
 
 -- no number waits for another block
 abbrev pub NoneReleased : Contents → Type 0
 NoneReleased heap = (b : BlockId) (shape : Shape) → standing heap b ≢ Released shape
 
--- The number that a new block gets: a released one, whose last block had this shape, or the next number where none is released.
+-- The number that a new block gets: a released one, whose last block had this shape, or the next number where none is
+-- released.
 abbrev pub IsFree : Contents → BlockId → Option Shape → Type 0
 IsFree heap b (Some shape) = standing heap b ≡ Released shape
 IsFree heap b None = (b ≡ Core (next heap)) × NoneReleased heap
@@ -147,8 +150,10 @@ pub record IsUnchanged (before after : Contents) : Type 0 where
 -- the slots of the region are exactly those of the live and the revoked blocks, each of them that of one block
 pub record HasSlots (heap : Contents) : Type 0 where
   pub there : (b : BlockId) (block : Known) → block_of heap b ≡ Some block → IsSome (words_of heap.region block.slot)
-  pub one : (a b : BlockId) (x y : Known) → block_of heap a ≡ Some x → block_of heap b ≡ Some y → x.slot ≡ y.slot → a ≡ b
-  pub all : (slot : Slot) → IsSome (words_of heap.region slot) → (b : BlockId) × (block : Known) × (block_of heap b ≡ Some block) × (block.slot ≡ slot)
+  pub one : (a b : BlockId) (x y : Known) → block_of heap a ≡ Some x → block_of heap b ≡ Some y → x.slot ≡ y.slot
+      → a ≡ b
+  pub all : (slot : Slot) → IsSome (words_of heap.region slot)
+      → (b : BlockId) × (block : Known) × (block_of heap b ≡ Some block) × (block.slot ≡ slot)
 
 -- no number was given out, and the region has no slot
 pub record IsNew (heap : Contents) : Type 0 where
@@ -160,8 +165,8 @@ abbrev pub number_of : BlockId → ℕ
 number_of (Input n) = n
 number_of (Core n) = n
 
--- how what is kept of blocks, by their numbers, lies in the region: each has as many cells as its words need, each slot is that of
--- one number, and there are no other slots
+-- how what is kept of blocks, by their numbers, lies in the region: each has as many cells as its words need, each slot
+-- is that of one number, and there are no other slots
 pub record IsKept (held : ℕ → Option Held) (region : List SizeClass) : Type 0 where
   pub few : (n : ℕ) (x : Held) → held n ≡ Some x → x.fields ≤ 255
   pub cells : (n : ℕ) (x : Held) → held n ≡ Some x → cells_at region x.slot ≡ cell_count x.fields

@@ -7,7 +7,8 @@ use Rattle.ceal_heap.specs.declared.number.Number.{Number}
 use Rattle.ceal_heap.specs.declared.number.State.{State}
 use Rattle.ceal_heap.specs.declared.number.State.TheVariants.{Live, Revoked, Released}
 
--- what the table has: the numbers from 0 on and the room for them, those that were revoked, those that are free, and how many are live
+-- what the table has: the numbers from 0 on and the room for them, those that were revoked, those that are free, and
+-- how many are live
 pub record Ledger : Type 0 where
   pub numbers : List Number
   pub room : ℕ
@@ -114,7 +115,8 @@ IsReady t = (0 < length t.free.items) ⊎ HasRoom t
 
 -- the number is that of a live block
 abbrev pub IsLiveAt : List Number → ℕ → Type 0
-IsLiveAt numbers n = (shape : Shape) × (held : Held) × (slice_get numbers n ≡ Some (record { shape = shape; state = Live held }))
+IsLiveAt numbers n =
+    (shape : Shape) × (held : Held) × (slice_get numbers n ≡ Some (record { shape = shape; state = Live held }))
 
 -- no number is free
 abbrev pub NoneFree : List Number → Type 0
@@ -138,14 +140,17 @@ GivesOut before after shape held n None = Adds before after shape held n
 
 -- a live number was revoked
 abbrev pub Revokes : List Number → List Number → ℕ → Type 0
-Revokes before after n = (shape : Shape) × (held : Held) × (slice_get before n ≡ Some (record { shape = shape; state = Live held }))
+Revokes before after n =
+    (shape : Shape) × (held : Held) × (slice_get before n ≡ Some (record { shape = shape; state = Live held }))
     × (after ≡ slice_set before n (record { shape = shape; state = Revoked held }))
 
 -- a revoked number was released, and this is what was kept of its block
 abbrev pub Releases : List Number → List Number → Held → Type 0
-Releases before after held = (n : ℕ) × (shape : Shape) × (slice_get before n ≡ Some (record { shape = shape; state = Revoked held }))
+Releases before after held =
+    (n : ℕ) × (shape : Shape) × (slice_get before n ≡ Some (record { shape = shape; state = Revoked held }))
     × (after ≡ slice_set before n (record { shape = shape; state = Released }))
 
 -- No number's block is revoked.
 abbrev pub NoneRevoked : List Number → Type 0
-NoneRevoked numbers = (n : ℕ) (shape : Shape) (held : Held) → slice_get numbers n ≢ Some (record { shape = shape; state = Revoked held })
+NoneRevoked numbers =
+    (n : ℕ) (shape : Shape) (held : Held) → slice_get numbers n ≢ Some (record { shape = shape; state = Revoked held })

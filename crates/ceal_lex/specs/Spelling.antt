@@ -1,4 +1,4 @@
--- Which bytes spell which token.
+-- Which bytes spell which token (lexical analysis: Aho, Lam, Sethi and Ullman, *Compilers*, 2006, chapter 3).
 use Rattle.std.specs.Prelude.{ℕ, ◌+◌, ◌-◌, ◌*◌, ◌≤◌, ◌≡◌, ◌≢◌, ◌⊎◌, pos, List, [], ◌∷◌, IsTrue, codes}
 use Rattle.std.specs.List.{AllByRecursion}
 use Rattle.ceal_base.specs.Digits.{is_digit, number_of}

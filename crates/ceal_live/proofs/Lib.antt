@@ -1,3 +1,4 @@
 pub mod UseSteps
 pub mod RoundFacts
 pub mod BeginFacts
+pub mod Samples

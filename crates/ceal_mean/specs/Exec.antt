@@ -1,4 +1,4 @@
--- What each statement does, and the steps of a run.
+-- What each statement does, and the steps of a run (the core language: Hammer, Acar and Chen, PLDI 2009).
 use Rattle.std.specs.Prelude.{ℕ, pos, ◌-◌, Bool, true, false, Option, Some, None, List, [], ◌∷◌, ◌++◌, length, map, slice_get, slice_set, replicate, if◌then◌else◌}
 use Rattle.ceal_base.specs.Access.{content_of, written, holds}
 use Rattle.ceal_base.specs.Block.{Block, Blocks}

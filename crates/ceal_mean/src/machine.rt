@@ -21,6 +21,13 @@ use ceal_base::typed::{Typed, TypedExpr, TypedStmt, TypedValue};
 use ceal_base::word::{BlockId, Place, Word};
 use std::alloc::Global;
 
+/// What statements run on: a program, and where new memory comes from.
+#[derive(Clone, Copy)]
+pub struct Machine<'a> {
+    pub alloc: Global,
+    pub program: &'a Typed,
+}
+
 fn default_content(kind: Option<Kind>) -> Word
     ensures { result ≡ content_default kind }
 {
@@ -64,9 +71,8 @@ fn make_modifiable(
 }
 
 fn allocate(
-    alloc: Global,
+    machine: &Machine<'_>,
     memory: &mut Memory,
-    program: &Typed,
     env: &[Word],
     function: u32,
     args: &[TypedExpr],
@@ -75,26 +81,32 @@ fn allocate(
     ensures grows { length memory.new.made ≤ length memory.old.made + 1 }
     ensures made { IfOk result
         (λ word. new_block memory.old
-        (init_block program.now function (values_of env.now memory.old args.now) memory.old)
+        (init_block machine.now.program.now function
+        (values_of env.now memory.old args.now) memory.old)
         ≡ record { memory = memory.new; word = word }) }
 {
-    let words = values(alloc, memory, env, args)?;
-    let block = init(alloc, program, function, words.as_slice(), memory)?;
+    let words = values(machine.alloc, memory, env, args)?;
+    let block = init(
+        machine.alloc,
+        machine.program,
+        function,
+        words.as_slice(),
+        memory,
+    )?;
     let id = add_block(memory, block)?;
     Ok(Word::Block(id))
 }
 
 fn take_value(
-    alloc: Global,
+    machine: &Machine<'_>,
     memory: &mut Memory,
-    program: &Typed,
     env: &[Word],
     value: &TypedValue,
 ) -> Result<Word, NoMemory>
     requires { length memory.old.made < 2 ^ 32 }
     ensures grows { length memory.new.made ≤ length memory.old.made + 1 }
     ensures taken { IfOk result
-        (λ word. taken program.now env.now memory.old value.now
+        (λ word. taken machine.now.program.now env.now memory.old value.now
         ≡ record { memory = memory.new; word = word }) }
 {
     match value {
@@ -105,11 +117,15 @@ fn take_value(
             default_content(e.kind),
         )),
         TypedValue::Alloc { function, args, .. } => {
-            let word = allocate(alloc, memory, program, env, *function, args.items())?;
+            let word = allocate(machine, memory, env, *function, args.items())?;
             Ok(word)
         }
-        TypedValue::ModrefInt(_) => make_modifiable(alloc, memory, Shape::ModInt, Word::Num(0)),
-        TypedValue::Modref(_, s) => make_modifiable(alloc, memory, Shape::ModPtr(*s), Word::Null),
+        TypedValue::ModrefInt(_) => {
+            make_modifiable(machine.alloc, memory, Shape::ModInt, Word::Num(0))
+        }
+        TypedValue::Modref(_, s) => {
+            make_modifiable(machine.alloc, memory, Shape::ModPtr(*s), Word::Null)
+        }
     }
 }
 
@@ -130,9 +146,8 @@ fn values(
 }
 
 fn give(
-    alloc: Global,
+    machine: &Machine<'_>,
     memory: &mut Memory,
-    program: &Typed,
     frame: &mut Activation<'_>,
     n: u32,
     value: &TypedValue,
@@ -140,15 +155,15 @@ fn give(
     requires { length memory.old.made < 2 ^ 32 }
     ensures grows { length memory.new.made ≤ length memory.old.made + 1 }
     ensures memory { OnOk result
-        ((taken program.now frame.old.env memory.old value.now).memory ≡ memory.new) }
+        ((taken machine.now.program.now frame.old.env memory.old value.now).memory ≡ memory.new) }
     ensures frame { OnOk result
         (frame.new ≡
         record frame.old {
           env = slice_set frame.old.env n
-              (taken program.now frame.old.env memory.old value.now).word;
+              (taken machine.now.program.now frame.old.env memory.old value.now).word;
         }) }
 {
-    let word = take_value(alloc, memory, program, frame.variables(), value)?;
+    let word = take_value(machine, memory, frame.variables(), value)?;
     frame.set(n, word);
     Ok(())
 }
@@ -199,28 +214,27 @@ fn turn<'a>(
 }
 
 fn call<'a>(
-    alloc: Global,
+    machine: &Machine<'a>,
     memory: &Memory,
-    program: &'a Typed,
     frame: &Activation<'_>,
     function: u32,
     args: &[TypedExpr],
 ) -> Result<Option<Activation<'a>>, NoMemory>
     ensures { IfOk result
-        (λ called. entered program.now function (values_of frame.now.env memory.now args.now)
+        (λ called. entered machine.now.program.now function
+        (values_of frame.now.env memory.now args.now)
         ≡ option_to_list called) }
 {
-    let words = values(alloc, memory, frame.variables(), args)?;
-    let called = enter(alloc, program, function, words)?;
+    let words = values(machine.alloc, memory, frame.variables(), args)?;
+    let called = enter(machine.alloc, machine.program, function, words)?;
     Ok(called)
 }
 
 /// Does a statement that was taken from this activation; a call gives the activation that goes before it. A `return`,
 /// `break` or `continue` is never taken.
 pub fn act<'a>(
-    alloc: Global,
+    machine: &Machine<'a>,
     memory: &mut Memory,
-    program: &'a Typed,
     frame: &mut Activation<'a>,
     s: &'a TypedStmt,
 ) -> Result<Option<Activation<'a>>, NoMemory>
@@ -228,17 +242,17 @@ pub fn act<'a>(
     ensures grows { length memory.new.made ≤ length memory.old.made + 1 }
     ensures done { IfOk result
         (λ called. (below : List Frame)
-        → effect program.now memory.old frame.old.env frame.old.todo below s.now
+        → effect machine.now.program.now memory.old frame.old.env frame.old.todo below s.now
         (out-TypedStmt s.now)
         ≡ record { memory = memory.new; frames = option_to_list called ++ frame.new ∷ below }) }
 {
     match s {
         TypedStmt::Declare(_, n, _, value) => {
-            give(alloc, memory, program, frame, *n, value)?;
+            give(machine, memory, frame, *n, value)?;
             Ok(None)
         }
         TypedStmt::Assign(_, n, value) => {
-            give(alloc, memory, program, frame, *n, value)?;
+            give(machine, memory, frame, *n, value)?;
             Ok(None)
         }
         TypedStmt::SetField(..) => Ok(None),
@@ -249,7 +263,7 @@ pub fn act<'a>(
             Ok(None)
         }
         TypedStmt::Call(_, function, args) => {
-            let called = call(alloc, memory, program, frame, *function, args.items())?;
+            let called = call(machine, memory, frame, *function, args.items())?;
             Ok(called)
         }
         TypedStmt::If(_, test, first, second) => {

@@ -6,7 +6,7 @@ ghost use Rattle.ceal_mean.specs.Fresh.{fresh, outcome_of, start};
 ghost use Rattle.ceal_mean.specs.Steps.{begun, advanced};
 
 use crate::activation::{Activation, enter};
-use crate::machine::act;
+use crate::machine::{Machine, act};
 use ceal_base::memory::{Inputs, Memory};
 use ceal_base::no_memory::NoMemory;
 use ceal_base::typed::{Typed, TypedStmt};
@@ -52,15 +52,14 @@ fn next_of<'a>(frames: &mut Vec<Activation<'a>>) -> Result<Option<&'a TypedStmt>
 /// Does one step, if a frame is left.
 #[tactic(auto, using(crate::proofs::FrameLemmas::frame_steps))]
 fn step<'a>(
-    alloc: Global,
+    machine: &Machine<'a>,
     memory: &mut Memory,
-    program: &'a Typed,
     frames: &mut Vec<Activation<'a>>,
 ) -> Result<bool, NoMemory>
     requires { length memory.old.made < 2 ^ 32 }
     ensures grows { length memory.new.made ≤ length memory.old.made + 1 }
     ensures advanced { IfOk result
-        (λ more. advanced program.now memory.old (settled (reverse frames.old.items))
+        (λ more. advanced machine.now.program.now memory.old (settled (reverse frames.old.items))
         ≡ (if more then Some
         (record { memory = memory.new; frames = reverse frames.new.items }) else None)) }
     ensures over { IfOk result (λ more. more ≡ false → memory.new ≡ memory.old) }
@@ -72,7 +71,7 @@ fn step<'a>(
         unreachable!();
     };
     let mut frame = frame;
-    match act(alloc, memory, program, &mut frame, s)? {
+    match act(machine, memory, &mut frame, s)? {
         None => {
             frames.push(frame)?;
             Ok(true)
@@ -132,8 +131,9 @@ pub fn interpret(
 {
     let mut memory = Memory::new(inputs.copy()?, Vec::new(alloc));
     let mut frames = first_frames(alloc, program, function, args)?;
+    let machine = Machine { alloc, program };
     for steps in 0..fuel {
-        let more = step(alloc, &mut memory, program, &mut frames)?;
+        let more = step(&machine, &mut memory, &mut frames)?;
         if !more {
             return Ok(done(memory, steps));
         }

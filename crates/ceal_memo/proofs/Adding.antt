@@ -69,7 +69,7 @@ module _ {K : Type 0} (eq : K → K → Bool) (decides : (a b : K) → Decides (
 
 -- ---- homes
 
-module _ (s : ℕ) (home : Home) (old new : List Home) (change : HomeChange s home old new) where
+module _ (s : ℕ) (home : Home) (old new : List ℕ) (change : HomeChange s home old new) where
   pub home_here : home_of new s ≡ home
   home_here = change s ∙ rw (eq-eqb s s refl) refl
 
@@ -84,7 +84,7 @@ pub not_that : (s t : ℕ) (stamps : List ℕ) → is_in s stamps ≡ false → 
 not_that s t stamps none there same = false≢true (sym none ∙ subst (λ (u : ℕ). is_in u stamps ≡ true) same there)
 
 -- the home that a stamp has where others keep theirs
-pub houses_more : (old new : List (ℕ × List ℕ)) (s n : ℕ) (homes homes' : List Home) → ((m : ℕ) → is_in s (list_at old m) ≡ false)
+pub houses_more : (old new : List (ℕ × List ℕ)) (s n : ℕ) (homes homes' : List ℕ) → ((m : ℕ) → is_in s (list_at old m) ≡ false)
     → HomeChange s (In n) homes homes' → ((t : ℕ) → t ≢ s → is_in t (list_at new n) ≡ is_in t (list_at old n))
     → ((m : ℕ) → m ≢ n → list_at new m ≡ list_at old m) → Houses (record { lists = old }) homes → Houses (record { lists = new }) homes'
 houses_more old new s n homes homes' none change here others houses m t there = elim (eqb_tells m n) [
@@ -144,14 +144,14 @@ module _ {K : Type 0} (eq : K → K → Bool) (decides : (a b : K) → Decides (
 -- ---- a memo
 
 -- each stamp has the home that it had
-pub kept_same : (memo : Entries) (homes homes' : List Home) → ((t : ℕ) → home_of homes' t ≡ home_of homes t) → IsKept memo homes → IsKept memo homes'
+pub kept_same : (memo : Entries) (homes homes' : List ℕ) → ((t : ℕ) → home_of homes' t ≡ home_of homes t) → IsKept memo homes → IsKept memo homes'
 kept_same memo homes homes' same kept = record {
   houses = λ n t there. same t ∙ kept.houses n t there;
   once = kept.once;
   unique = kept.unique;
 }
 
-module _ (order : List ℕ) (s : ℕ) (lists : List (ℕ × List ℕ)) (homes : List Home) (here : is_in s order ≡ true)
+module _ (order : List ℕ) (s : ℕ) (lists : List (ℕ × List ℕ)) (homes : List ℕ) (here : is_in s order ≡ true)
     (follows : Follows order (record { lists = lists })) (none : HasNone s (record { lists = lists }))
     (kept : IsKept (record { lists = lists }) homes) (lists' : List (ℕ × List ℕ)) (hash n : ℕ)
     (entered : IsEntered nat_eq lists lists' hash n (with_stamp order s (stamps_at nat_eq lists hash))) where
@@ -167,7 +167,7 @@ module _ (order : List ℕ) (s : ℕ) (lists : List (ℕ × List ℕ)) (homes : 
   pub still_none : (t : ℕ) → t ≢ s → HasNone t (record { lists = lists }) → HasNone t (record { lists = lists' })
   still_none t other absent = record { none = none_more nat_eq number-Decides order s here lists lists' kept.unique follows.rising none.none hash n entered t other absent.none }
 
-  pub kept_more : (homes' : List Home) → HomeChange s (In n) homes homes' → IsKept (record { lists = lists' }) homes'
+  pub kept_more : (homes' : List ℕ) → HomeChange s (In n) homes homes' → IsKept (record { lists = lists' }) homes'
   kept_more homes' change = record {
     houses = houses_more lists lists' s n homes homes' (nowhere nat_eq number-Decides lists kept.unique s none.none) change
         (λ t other. rw (more_list nat_eq number-Decides order s here lists lists' kept.unique follows.rising none.none hash n entered, entered.before)

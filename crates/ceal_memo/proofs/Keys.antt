@@ -3,12 +3,6 @@ use Rattle.std.proofs.Common.{◌≡◌, ◌≢◌, ℕ, Bool, inl, inr, ◌⊎�
 use Rattle.std.proofs.lemmas.Bool.{cases_Bool, false≢true}
 use Rattle.std.specs.Prelude.{nat_eq}
 use Rattle.std.specs.Bool.{Decides}
-use Rattle.ceal_base.proofs.Equality.{words-Decides}
-use Rattle.ceal_memo.specs.declared.key.ReadKey.{ReadKey}
-use Rattle.ceal_memo.specs.contracts.key.ReadKeyPartialEq.TheImpl as read_key
-
-pub read-Decides : (a b : ReadKey) → Decides (read_key.ghosts.eq a b) (a ≡ b)
-read-Decides a b = grind (arith, words-Decides)
 
 pub number-Decides : (a b : ℕ) → Decides (nat_eq a b) (a ≡ b)
 number-Decides a b = grind arith

@@ -1,3 +1,4 @@
+pub mod Mixing
 pub mod Keys
 pub mod Numbers
 pub mod Entering
@@ -5,3 +6,4 @@ pub mod Looking
 pub mod Adding
 pub mod Taking
 pub mod Walking
+pub mod Samples

@@ -7,7 +7,6 @@ use Rattle.ceal_order.specs.Stamps.{is_in, without}
 use Rattle.ceal_order.proofs.Places.{not_in, gone, left_in}
 use Rattle.ceal_order.proofs.Editing.{rising_without}
 use Rattle.ceal_order.proofs.StampLists.{without_none, absent_without, Distinct-without}
-use Rattle.ceal_memo.specs.declared.home.Home.{Home}
 use Rattle.ceal_memo.specs.declared.home.Home.TheVariants.{Nowhere, In}
 use Rattle.ceal_memo.specs.Homes.{home_of, HomeChange, IsKept}
 use Rattle.ceal_memo.specs.Numbers.{list_at, keys_in, IsWithout}
@@ -46,7 +45,7 @@ same_hash a b same = let entries : a ≡ b = cc in ap (λ (e : ℕ × List ℕ).
 
 -- ---- a memo
 
-module _ (memo : Entries) (homes : List Home) (kept : IsKept memo homes) where
+module _ (memo : Entries) (homes : List ℕ) (kept : IsKept memo homes) where
   -- a hash with a stamp has the list that is the home of the stamp
   one_list : (s hash : ℕ) → is_in s (entries_of memo hash) ≡ true → (n : ℕ) × (home_of homes s ≡ In n) × (slice_get memo.lists n ≡ Some (hash, entries_of memo hash))
   one_list s hash there =
@@ -70,7 +69,7 @@ module _ (s : ℕ) (old new : Entries) (less : IsWithout s old.lists new.lists) 
   pub none_still : (t : ℕ) → HasNone t old → HasNone t new
   none_still t absent = record { none = λ k. rw (stamps_less k) (absent_without t s (entries_of old k) (absent.none k)) }
 
-  module _ (homes : List Home) (kept : IsKept old homes) where
+  module _ (homes : List ℕ) (kept : IsKept old homes) where
     pub none_less : HasNone s new
     none_less = record { none = λ k. rw (stamps_less k) (not_in s (without s (entries_of old k)) (gone s (entries_of old k) (all_once nat_eq old.lists kept.once k))) }
 
@@ -79,7 +78,7 @@ module _ (s : ℕ) (old new : Entries) (less : IsWithout s old.lists new.lists) 
         let same = same_entries old.lists new.lists less.keys (λ n. less.lists n ∙ without_none s (list_at old.lists n) (nowhere nat_eq number-Decides old.lists kept.unique s none.none n)) in
         λ i. record { lists = same i }
 
-    pub kept_less : (homes' : List Home) → HomeChange s Nowhere homes homes' → IsKept new homes'
+    pub kept_less : (homes' : List ℕ) → HomeChange s Nowhere homes homes' → IsKept new homes'
     kept_less homes' change = record {
       houses = λ n t there.
           let left : is_in t (without s (list_at old.lists n)) ≡ true = subst (λ (l : List ℕ). is_in t l ≡ true) (less.lists n) there in

@@ -1,4 +1,5 @@
--- The entries of recorded reads and allocations by the hashes of their keys.
+-- The entries of recorded reads and allocations by the hashes of their keys (memo tables: Acar, *Self-Adjusting
+-- Computation*, 2005).
 use Rattle.std.specs.Prelude.{◌≡◌, ◌≢◌, ℕ, List, Bool, true, false, nat_eq}
 use Rattle.ceal_order.specs.Stamps.{is_in}
 use Rattle.ceal_order.specs.Rising.{IsRising}

@@ -1,5 +1,5 @@
--- The hash of a key.
-use Rattle.std.specs.Prelude.{ℕ, ◌+◌, ◌*◌, ◌/◌, ◌-◌, ◌%◌, ◌^◌, List, [], ◌∷◌, fold, bit_and, bit_xor}
+-- Numbers that are fed as bytes.
+use Rattle.std.specs.Prelude.{ℕ, ◌+◌, ◌*◌, ◌%◌, ◌^◌, List, [], ◌∷◌, fold}
 use Rattle.std.specs.Int.{w64, from_le_bytes}
 
 -- bytes as one number, the first one highest, as far as 64 bits hold it
@@ -10,11 +10,3 @@ one_by_one bytes = fold (λ n b. (n * 256 + b) % 2 ^ 64) 0 bytes
 abbrev pub number_of : List ℕ → ℕ
 number_of (a ∷ b ∷ c ∷ d ∷ e ∷ f ∷ g ∷ h ∷ []) = from_le_bytes w64 (a ∷ b ∷ c ∷ d ∷ e ∷ f ∷ g ∷ h ∷ [])
 number_of bytes = one_by_one bytes
-
--- the two halves of a product, joined
-abbrev pub folded : ℕ → ℕ
-folded number = bit_xor (bit_and (number * 11400714819323198485) (2 ^ 64 - 1)) (number * 11400714819323198485 / 2 ^ 64)
-
--- what has been fed so far, and one number more
-abbrev pub with_number : ℕ → ℕ → ℕ
-with_number state number = folded ((state + number) % 2 ^ 64)

@@ -1,13 +1,16 @@
 // Where a stamp has its entry.
 
-ghost use Rattle.std.specs.Prelude.{◌≡◌, ◌<◌, ℕ, [], length, OnOk};
-ghost use Rattle.ceal_memo.specs.declared.home.Home.TheVariants.{Nowhere};
-ghost use Rattle.ceal_memo.specs.Homes.{home_of, HomeChange};
+ghost use Rattle.std.specs.Prelude.{◌≡◌, ◌<◌, ◌≤◌, ◌^◌, ℕ, [], length, OnOk};
+ghost use Rattle.ceal_memo.specs.declared.home.Home.TheVariants.{Nowhere, In};
+ghost use Rattle.ceal_memo.specs.Homes.{home_in, home_of, HomeChange};
 
 use ceal_base::no_memory::NoMemory;
 use ceal_order::stamp::Stamp;
 use std::alloc::Global;
 use std::marker::Model;
+
+// Stands for no list: there are fewer lists than this.
+const NO_LIST: u32 = u32::MAX;
 
 // How many homes are added beyond those that are asked for.
 const HOMES_BEYOND: usize = 63;
@@ -19,19 +22,18 @@ pub enum Home {
     In(u32),
 }
 
-/// The homes of the stamps, by their numbers. A stamp behind the end has none.
+/// The homes of the stamps, by their numbers: of each the number of its list. A stamp behind the end has none.
 #[derive(Drop)]
 pub struct Homes {
-    homes: Vec<Home>,
+    lists: Vec<u32>,
 }
 
 impl Model for Homes {
-    ghost use Rattle.std.specs.Prelude.{List};
-    ghost use Rattle.ceal_memo.specs.declared.home.Home.{Home as HomeOf};
+    ghost use Rattle.std.specs.Prelude.{List, ℕ};
 
-    ghost Value = { List HomeOf };
+    ghost Value = { List ℕ };
 
-    ghost view = { λ h. h.homes.items };
+    ghost view = { λ h. h.lists.items };
 }
 
 impl Homes {
@@ -39,7 +41,7 @@ impl Homes {
         ensures { result ≡ [] }
     {
         Homes {
-            homes: Vec::new(alloc),
+            lists: Vec::new(alloc),
         }
     }
 
@@ -49,18 +51,31 @@ impl Homes {
         ensures same { (t : ℕ) → home_of self.new t ≡ home_of self.old t }
     {
         let count = stamp.0 as usize + 1;
-        if self.homes.len() < count {
-            self.homes.resize(count + HOMES_BEYOND, Home::Nowhere)?;
+        if self.lists.len() < count {
+            self.widen(count)?;
         }
         Ok(())
     }
 
-    /// Gives a stamp a home; there is room for it.
-    pub fn settle(&mut self, stamp: Stamp, home: Home)
-        requires room { stamp.0 < length self.old }
-        ensures { HomeChange stamp.0 home self.old self.new }
+    // Adds homes behind the end. It is called seldom, and stands apart, so that the common way is short.
+    #[inline(never)]
+    fn widen(&mut self, count: usize) -> Result<(), NoMemory>
+        requires less { length self.old < count }
+        requires low { count ≤ 2 ^ 32 }
+        ensures room { OnOk result (count ≤ length self.new) }
+        ensures same { (t : ℕ) → home_of self.new t ≡ home_of self.old t }
     {
-        self.homes[stamp.0 as usize] = home;
+        self.lists.resize(count + HOMES_BEYOND, NO_LIST)?;
+        Ok(())
+    }
+
+    /// Gives a stamp a list for its home; there is room for it.
+    pub fn settle(&mut self, stamp: Stamp, list: u32)
+        requires room { stamp.0 < length self.old }
+        requires list { list < 4294967295 }
+        ensures { HomeChange stamp.0 (In list) self.old self.new }
+    {
+        self.lists[stamp.0 as usize] = list;
     }
 
     /// Takes the home of a stamp away, and says which it was.
@@ -68,11 +83,22 @@ impl Homes {
         ensures home { result ≡ home_of self.old stamp.0 }
         ensures gone { HomeChange stamp.0 Nowhere self.old self.new }
     {
-        let Some(place) = self.homes.get(stamp.0 as usize) else {
+        let Some(place) = self.lists.get(stamp.0 as usize) else {
             return Home::Nowhere;
         };
-        let home = *place;
-        self.homes[stamp.0 as usize] = Home::Nowhere;
-        home
+        let list = *place;
+        self.lists[stamp.0 as usize] = NO_LIST;
+        home_in(list)
+    }
+}
+
+// The home that a number stands for.
+fn home_in(list: u32) -> Home
+    ensures { result ≡ home_in list }
+{
+    if list == NO_LIST {
+        Home::Nowhere
+    } else {
+        Home::In(list)
     }
 }

@@ -8,7 +8,7 @@
 //! `key` is what a read is found again by, `hashes` has the hashes of keys; `sought` is a key that is looked for, `memo` the
 //! table with its calls; `laws` says along which orders a memo still follows. Inside, `lists` has the stamps of each hash, in
 //! lists that have numbers, `home` the list of each stamp, by which an entry is taken out without an order or a key, `spares`
-//! the lists that have become empty, and `mixer` hashes keys.
+//! the lists that have become empty, and `mixer` has hashers.
 #![tactic(auto)]
 
 pub mod hashes;

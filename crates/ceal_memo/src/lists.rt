@@ -8,7 +8,7 @@ ghost use Rattle.ceal_order.specs.Rising.{IsRising};
 ghost use Rattle.ceal_memo.specs.Lists.{stamps_at, with_stamp};
 ghost use Rattle.ceal_memo.specs.Numbers.{list_at, keys_in, IsEntered, IsEmptyAt, IsFound};
 
-use crate::mixer::Mixer;
+use crate::mixer::Plain;
 use crate::spares::Spares;
 use ceal_base::no_memory::NoMemory;
 use ceal_order::order::Order;
@@ -26,7 +26,7 @@ const MOST_LISTS: usize = 4294967295;
 /// place of a list that has become empty go to the next new key.
 #[derive(Drop)]
 pub struct Lists<K: Eq + Hash> {
-    by_key: IndexMap<K, Rising, BuildHasherDefault<Mixer>>,
+    by_key: IndexMap<K, Rising, BuildHasherDefault<Plain>>,
     spares: Spares,
 }
 
@@ -56,6 +56,7 @@ impl<K: Eq + Hash + Drop> Lists<K> {
         requires here { IsTrue (is_in stamp.0 order.now.stamps) }
         requires rising { IsRising order.now.stamps (stamps_at K.eq self.old key) }
         requires absent { is_in stamp.0 (stamps_at K.eq self.old key) ≡ false }
+        ensures few { IfOk result (λ n. n < 4294967295) }
         ensures ok { IfOk result (λ n. IsEntered K.eq self.old self.new key n
             (with_stamp order.now.stamps stamp.0 (stamps_at K.eq self.old key))) }
         ensures err { OnErr result (self.new ≡ self.old) }
@@ -65,7 +66,7 @@ impl<K: Eq + Hash + Drop> Lists<K> {
             return Err(NoMemory);
         }
         self.spares.make_room(count + 1)?;
-        let list = alone(*self.by_key.allocator(), order, stamp)?;
+        let list = Rising::one(*self.by_key.allocator(), stamp);
         match enter(&mut self.by_key, key, list)? {
             None => Ok(settle(&mut self.by_key, &mut self.spares)),
             Some(number) => {
@@ -100,7 +101,7 @@ impl<K: Eq + Hash + Drop> Lists<K> {
 
 // Puts a stamp into the list with a number.
 fn insert_at<K: Eq + Hash>(
-    lists: &mut IndexMap<K, Rising, BuildHasherDefault<Mixer>>,
+    lists: &mut IndexMap<K, Rising, BuildHasherDefault<Plain>>,
     number: usize,
     order: &Order,
     stamp: Stamp,
@@ -124,7 +125,7 @@ fn insert_at<K: Eq + Hash>(
 
 // Takes a stamp out of the list with a number, and says whether that list is there and empty now.
 fn take_at<K: Eq + Hash>(
-    lists: &mut IndexMap<K, Rising, BuildHasherDefault<Mixer>>,
+    lists: &mut IndexMap<K, Rising, BuildHasherDefault<Plain>>,
     number: usize,
     order: &Order,
     stamp: Stamp,
@@ -142,19 +143,9 @@ fn take_at<K: Eq + Hash>(
     list.is_empty()
 }
 
-// A list of one stamp.
-fn alone(alloc: Global, order: &Order, stamp: Stamp) -> Result<Rising, NoMemory>
-    requires here { IsTrue (is_in stamp.0 order.now.stamps) }
-    ensures { IfOk result (λ list. list ≡ stamp.0 ∷ []) }
-{
-    let mut list = Rising::new(alloc);
-    list.insert(order, stamp)?;
-    Ok(list)
-}
-
 // Puts a list in the place of the one with a number.
 fn put_at<K: Eq + Hash>(
-    lists: &mut IndexMap<K, Rising, BuildHasherDefault<Mixer>>,
+    lists: &mut IndexMap<K, Rising, BuildHasherDefault<Plain>>,
     number: usize,
     list: Rising,
 )
@@ -168,7 +159,7 @@ fn put_at<K: Eq + Hash>(
 // Enters a list under a key that has none, behind the others. Where the key has one, nothing has changed: it gives the number of
 // that list. A key is hashed once.
 fn enter<K: Eq + Hash + Drop>(
-    lists: &mut IndexMap<K, Rising, BuildHasherDefault<Mixer>>,
+    lists: &mut IndexMap<K, Rising, BuildHasherDefault<Plain>>,
     key: K,
     list: Rising,
 ) -> Result<Option<usize>, NoMemory>
@@ -192,12 +183,35 @@ fn enter<K: Eq + Hash + Drop>(
 }
 
 // What was entered last goes into the place of a list that is empty, if one is known. It says where it is then.
+#[inline]
 fn settle<K: Eq + Hash + Drop>(
-    lists: &mut IndexMap<K, Rising, BuildHasherDefault<Mixer>>,
+    lists: &mut IndexMap<K, Rising, BuildHasherDefault<Plain>>,
     spares: &mut Spares,
 ) -> u32
     requires some { 0 < length lists.old.entries }
     requires few { length lists.old.entries < 2 ^ 32 }
+    ensures within { result < length lists.old.entries }
+    ensures entered { (before : List (K × List ℕ)) (key : K) (list : List ℕ)
+        → lists.old.entries ≡ before ++ (key, list) ∷ []
+        → lookup (K.eq key) before ≡ None → list ≢ []
+        → IsEntered K.eq before lists.new.entries key result list }
+{
+    let last = lists.len() - 1;
+    if spares.len() == 0 {
+        return last as u32;
+    }
+    into_empty(lists, spares)
+}
+
+// The same, where lists are known that have become empty. It stands apart, so that the common way is short.
+#[inline(never)]
+fn into_empty<K: Eq + Hash + Drop>(
+    lists: &mut IndexMap<K, Rising, BuildHasherDefault<Plain>>,
+    spares: &mut Spares,
+) -> u32
+    requires some { 0 < length lists.old.entries }
+    requires few { length lists.old.entries < 2 ^ 32 }
+    ensures within { result < length lists.old.entries }
     ensures entered { (before : List (K × List ℕ)) (key : K) (list : List ℕ)
         → lists.old.entries ≡ before ++ (key, list) ∷ []
         → lookup (K.eq key) before ≡ None → list ≢ []
@@ -213,7 +227,7 @@ fn settle<K: Eq + Hash + Drop>(
 
 // The number of a list that is empty, if one is known.
 fn empty_list<K: Eq + Hash>(
-    lists: &IndexMap<K, Rising, BuildHasherDefault<Mixer>>,
+    lists: &IndexMap<K, Rising, BuildHasherDefault<Plain>>,
     spares: &mut Spares,
 ) -> Option<u32>
     ensures { IfSome result (λ n. IsEmptyAt lists.now.entries n) }

@@ -70,7 +70,7 @@ impl Memo {
     {
         self.homes.make_room(stamp)?;
         let number = self.lists.put(order, hash, stamp)?;
-        self.homes.settle(stamp, Home::In(number));
+        self.homes.settle(stamp, number);
         Ok(())
     }
 

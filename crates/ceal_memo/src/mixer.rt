@@ -1,31 +1,21 @@
-// How keys are hashed.
+// How keys are hashed, and their hashes.
 
 ghost use Rattle.std.specs.Prelude.{◌≡◌};
-ghost use Rattle.ceal_memo.specs.Mixing.{number_of, one_by_one, folded, with_number};
+ghost use Rattle.ceal_base.specs.Hashing.{mixed};
+ghost use Rattle.ceal_memo.specs.Mixing.{number_of, one_by_one};
 
+use ceal_base::hashing::mixed;
 use std::hash::Hasher;
 
-// The fraction of the golden ratio, in 64 bits (multiplicative hashing: Knuth, "The Art of Computer Programming", volume 3,
-// section 6.4).
-const MULTIPLIER: u64 = 11_400_714_819_323_198_485;
-
-/// A hasher for keys that are fed as a few numbers: each write costs one product, where std's hasher for any bytes spends
+/// A hasher for keys that are fed as a few numbers: each write costs two products, where std's hasher for any bytes spends
 /// a hundred instructions. Its seed is fixed, as that one's is.
 #[derive(Clone, Copy)]
 pub struct Mixer {
-    state: u64,
-}
-
-impl Default for Mixer {
-    ghost is_default = { λ m. m.state ≡ 0 };
-
-    fn default() -> Mixer {
-        Mixer { state: 0 }
-    }
+    pub state: u64,
 }
 
 impl Hasher for Mixer {
-    ghost write = { λ m bytes. record { state = with_number m.state (number_of bytes) } };
+    ghost write = { λ m bytes. record { state = mixed m.state (number_of bytes) } };
 
     ghost finish = { λ m. m.state };
 
@@ -34,17 +24,36 @@ impl Hasher for Mixer {
     }
 
     fn write(&mut self, bytes: &[u8]) {
-        let number = number_of(bytes);
-        self.state = folded(self.state.wrapping_add(number));
+        self.state = mixed(self.state, number_of(bytes));
     }
 }
 
-// The two halves of a product, joined, so that each bit of a number has its say in all of them.
-fn folded(number: u64) -> u64
-    ensures { result ≡ folded number }
-{
-    let product = number as u128 * MULTIPLIER as u128;
-    (product & 0xFFFF_FFFF_FFFF_FFFF) as u64 ^ (product >> 64) as u64
+/// A hasher for numbers that are hashes already: it answers the number that it was fed last.
+#[derive(Clone, Copy)]
+pub struct Plain {
+    number: u64,
+}
+
+impl Default for Plain {
+    ghost is_default = { λ p. p.number ≡ 0 };
+
+    fn default() -> Plain {
+        Plain { number: 0 }
+    }
+}
+
+impl Hasher for Plain {
+    ghost write = { λ p bytes. record { number = number_of bytes } };
+
+    ghost finish = { λ p. p.number };
+
+    fn finish(&self) -> u64 {
+        self.number
+    }
+
+    fn write(&mut self, bytes: &[u8]) {
+        self.number = number_of(bytes);
+    }
 }
 
 // Eight bytes as they stand in memory; others one by one, as far as 64 bits hold them.

@@ -48,6 +48,14 @@ impl Spares {
         if count <= self.noted.len() {
             return Ok(());
         }
+        self.widen(count)
+    }
+
+    // Makes room where there is none. It is called seldom, and stands apart, so that the common way is short.
+    #[inline(never)]
+    fn widen(&mut self, count: usize) -> Result<(), NoMemory>
+        ensures same { self.new ≡ self.old }
+    {
         let lists = count.saturating_add(LISTS_BEYOND);
         self.numbers
             .reserve(lists.saturating_sub(self.numbers.len()))?;

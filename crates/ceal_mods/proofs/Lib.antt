@@ -4,3 +4,4 @@ pub mod StampLemmas
 pub mod ModsLemmas
 pub mod WritesLemmas
 pub mod IndexLemmas
+pub mod Samples

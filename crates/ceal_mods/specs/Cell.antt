@@ -25,14 +25,16 @@ with_base value cell = record { base = value; writes = cell.writes; reads = cell
 
 -- with one more write, or without the one at a stamp
 abbrev pub with_write : List ℕ → ℕ → Word → Cell → Cell
-with_write order s value cell = record { base = cell.base; writes = with_one order s value cell.writes; reads = cell.reads }
+with_write order s value cell =
+    record { base = cell.base; writes = with_one order s value cell.writes; reads = cell.reads }
 
 abbrev pub without_write : ℕ → Cell → Cell
 without_write s cell = record { base = cell.base; writes = without_one s cell.writes; reads = cell.reads }
 
 -- with one more read, or without the one at a stamp
 abbrev pub with_read : List ℕ → ℕ → Cell → Cell
-with_read order s cell = record { base = cell.base; writes = cell.writes; reads = insert cell.reads (count_before order s cell.reads) s }
+with_read order s cell =
+    record { base = cell.base; writes = cell.writes; reads = insert cell.reads (count_before order s cell.reads) s }
 
 abbrev pub without_read : ℕ → Cell → Cell
 without_read s cell = record { base = cell.base; writes = cell.writes; reads = without s cell.reads }
@@ -46,7 +48,8 @@ pub record Rises (order : List ℕ) (cell : Cell) : Type 0 where
 pub record Sees (order : List ℕ) (cell : Cell) (after read : ℕ) : Type 0 where
   pub there : is_in read cell.reads ≡ true
   pub behind : place after order < place read order
-  pub clear : (w : ℕ) → is_in w (stamps_of cell.writes) ≡ true → place after order < place w order → place read order ≤ place w order
+  pub clear : (w : ℕ) → is_in w (stamps_of cell.writes) ≡ true → place after order < place w order
+      → place read order ≤ place w order
 
 -- the earliest such read
 pub record IsAffected (order : List ℕ) (cell : Cell) (after read : ℕ) : Type 0 where

@@ -1,4 +1,5 @@
--- The modifiables of all places.
+-- The modifiables of all places, with many writes in one run (Acar, Ahmed and Blume, *Imperative self-adjusting
+-- computation*, POPL 2008).
 use Rattle.std.specs.Prelude.{◌≡◌, ◌≢◌, ℕ, List, unwrap_or, IsSome, false}
 use Rattle.std.specs.Map.{lookup}
 use Rattle.ceal_base.specs.contracts.word.PlacePartialEq.TheImpl.{ghosts}
@@ -38,8 +39,10 @@ Follows order mods = (p : Place) → Rises order (cell_of mods p)
 
 -- the new order keeps the stamps of each place's writes, and those of its reads, and their order
 abbrev pub KeepsStamps : Contents → List ℕ → List ℕ → Type 0
-KeepsStamps mods old new = (p : Place) → KeepsOrder (stamps_of (cell_of mods p).writes) old new × KeepsOrder (cell_of mods p).reads old new
+KeepsStamps mods old new = (p : Place)
+    → KeepsOrder (stamps_of (cell_of mods p).writes) old new × KeepsOrder (cell_of mods p).reads old new
 
 -- a stamp at which nothing is written or read
 abbrev pub IsFree : ℕ → Contents → Type 0
-IsFree s mods = (p : Place) → (is_in s (stamps_of (cell_of mods p).writes) ≡ false) × (is_in s (cell_of mods p).reads ≡ false)
+IsFree s mods = (p : Place)
+    → (is_in s (stamps_of (cell_of mods p).writes) ≡ false) × (is_in s (cell_of mods p).reads ≡ false)

@@ -33,7 +33,8 @@ last_of base (w ∷ ws) = last_of w.value ws
 -- those that stand before a stamp
 abbrev pub those_before : List ℕ → ℕ → List Write → List Write
 those_before order s [] = []
-those_before order s (w ∷ ws) = if nat_lt (place w.stamp order) (place s order) then w ∷ those_before order s ws else those_before order s ws
+those_before order s (w ∷ ws) =
+    if nat_lt (place w.stamp order) (place s order) then w ∷ those_before order s ws else those_before order s ws
 
 -- with one more, behind those that stand before it
 abbrev pub with_one : List ℕ → ℕ → Word → List Write → List Write

@@ -3,8 +3,8 @@
 use Rattle.std.proofs.Common.{◌≡◌, ℕ, zero, suc, ◌+◌, ◌<◌, ◌≤◌, Bool, true, false, if◌then◌else◌, Some, None, List, [], ◌∷◌, ◌++◌, length, slice_get, slice_set, unwrap_or, replicate, refl, sym, ap, ◌∙◌, subst, arith, append_assoc, length-append}
 use Rattle.std.proofs.lemmas.Bool.{lt-ltb}
 use Rattle.std.proofs.lemmas.List.{length-replicate, append-nil}
-use Rattle.ceal_code.proofs.Same.{both, both-true}
-use Rattle.ceal_code.proofs.TreeSteps.{reached-on, tree-is}
+use Rattle.ceal_code.proofs.Words.SameIsEqual.{both, both-true}
+use Rattle.ceal_code.proofs.Equations.TreeSteps.{reached-on, tree-is}
 use Rattle.ceal_code.specs.Program.{Code}
 use Rattle.ceal_code.specs.Step.{kinds_of}
 use Rattle.ceal_code.specs.Valid.{type_of, fits, command_ok, onward, path_ok, paths_ok, goes_forward, all_forward, followers, all_followers, reached, all_true, is_tree}

@@ -10,7 +10,7 @@ use Rattle.ceal_code.specs.declared.command.Cmd.{Cmd}
 use Rattle.ceal_code.specs.declared.command.Cmd.TheVariants as command
 use Rattle.ceal_code.specs.declared.expr.CodeExpr.{CodeExpr}
 use Rattle.ceal_flow.specs.declared.block.GraphBlock.TheVariants.{Test}
-use Rattle.ceal_norm.specs.Body.{onward, value_command, stmt_command, tail_command, with_second, patched, begun, finished, following, parts, AllBelow}
+use Rattle.ceal_norm.specs.Body.{onward, value_command, stmt_command, tail_command, with_second, with_second_at, with_second_here, whole_body, next_pending, parts, AllBelow}
 use Rattle.ceal_norm.specs.Entries.{is_read, has_closure, is_entry}
 use Rattle.ceal_norm.specs.Expressions.{expr_code}
 use Rattle.ceal_norm.specs.Units.{Source, Placed, value_code, stmt_code, block_code, tree}
@@ -25,13 +25,13 @@ length-more : {A : Type 0} (xs : List A) (x : A) → length (xs ++ x ∷ []) ≡
 length-more xs x = length-append xs (x ∷ [])
 
 module _ (s : Source) where
-  pub finished-none : (body : List Cmd) → finished s body [] ≡ body
-  unfolding finished
+  pub finished-none : (body : List Cmd) → whole_body s body [] ≡ body
+  unfolding whole_body
   finished-none body = refl
 
   pub finished-cons : (body : List Cmd) (p : Pending) (ps : List Pending)
-      → finished s body (p ∷ ps) ≡ finished s (begun body p.test ++ onward s p.block (length (begun body p.test))) ps
-  unfolding finished
+      → whole_body s body (p ∷ ps) ≡ whole_body s (with_second_here body p.test ++ onward s p.block (length (with_second_here body p.test))) ps
+  unfolding whole_body
   finished-cons body p ps = refl
 
   -- the command of a statement stands first in its code
@@ -57,32 +57,32 @@ module _ (s : Source) where
   stmt-first F next i (Continue at) = refl
 
   one-command : (body : List Cmd) (c : Cmd) (next : ℕ) (on : Bool) (ps : List Pending)
-      → finished s (body ++ c ∷ []) (following on next ++ ps)
-      ≡ finished s (body ++ c ∷ (if on then onward s next (length body + 1) else [])) ps
+      → whole_body s (body ++ c ∷ []) (next_pending on next ++ ps)
+      ≡ whole_body s (body ++ c ∷ (if on then onward s next (length body + 1) else [])) ps
   one-command body c next true ps =
       finished-cons (body ++ c ∷ []) (record { block = next; test = None }) ps
-      ∙ ap (λ xs. finished s xs ps)
+      ∙ ap (λ xs. whole_body s xs ps)
       (ap (λ k. (body ++ c ∷ []) ++ onward s next k) (length-more body c) ∙ append_assoc body (c ∷ []) (onward s next (length body + 1)))
   one-command body c next false ps = refl
 
   pub act-same : (body : List Cmd) (st : TypedStmt) (next : ℕ) (ps : List Pending)
-      → finished s (body ++ stmt_command s next st ∷ []) (following (not (has_closure st)) next ++ ps)
-      ≡ finished s (body ++ stmt_code s (onward s) next (length body) st) ps
+      → whole_body s (body ++ stmt_command s next st ∷ []) (next_pending (not (has_closure st)) next ++ ps)
+      ≡ whole_body s (body ++ stmt_code s (onward s) next (length body) st) ps
   act-same body st next ps =
       one-command body (stmt_command s next st) next (not (has_closure st)) ps
-      ∙ ap (λ xs. finished s (body ++ xs) ps) (sym (stmt-first (onward s) next (length body) st))
+      ∙ ap (λ xs. whole_body s (body ++ xs) ps) (sym (stmt-first (onward s) next (length body) st))
 
   -- the second index of an `if` is where its second part begins
   patched-if : (body more : List Cmd) (test : CodeExpr) (i j k : ℕ)
-      → patched (body ++ command.If test i j ∷ more) (length body) k ≡ body ++ command.If test i k ∷ more
+      → with_second_at (body ++ command.If test i j ∷ more) (length body) k ≡ body ++ command.If test i k ∷ more
   patched-if body more test i j k =
       ap (λ c. slice_set (body ++ command.If test i j ∷ more) (length body) (with_second c k))
       (get_or-append_seam body (command.If test i j) more command.Done)
       ∙ set-append_seam body (command.If test i j) more (command.If test i k)
 
   pub test-same : (body : List Cmd) (test : TypedExpr) (first second : ℕ) (ps : List Pending)
-      → finished s (body ++ command.If (expr_code test) (length body + 1) 0 ∷ []) (parts (length body) first second ++ ps)
-      ≡ finished s (body ++ block_code s (onward s) (length body) (Some (Test test first second))) ps
+      → whole_body s (body ++ command.If (expr_code test) (length body + 1) 0 ∷ []) (parts (length body) first second ++ ps)
+      ≡ whole_body s (body ++ block_code s (onward s) (length body) (Some (Test test first second))) ps
   test-same body test first second ps =
       let i = length body + 1 in
       let start = command.If (expr_code test) i 0 in
@@ -93,15 +93,15 @@ module _ (s : Source) where
       let joined : (body ++ start ∷ []) ++ onward s first (length (body ++ start ∷ [])) ≡ body ++ start ∷ xs =
       ap (λ n. (body ++ start ∷ []) ++ onward s first n) (length-more body start) ∙ append_assoc body (start ∷ []) xs in
       let long : length (body ++ start ∷ xs) ≡ k = length-append body (start ∷ xs) ∙ omega arith in
-      let second_at : begun (body ++ start ∷ xs) (Some (length body)) ≡ body ++ command.If (expr_code test) i k ∷ xs =
-      ap (patched (body ++ start ∷ xs) (length body)) long ∙ patched-if body xs (expr_code test) i 0 k in
+      let second_at : with_second_here (body ++ start ∷ xs) (Some (length body)) ≡ body ++ command.If (expr_code test) i k ∷ xs =
+      ap (with_second_at (body ++ start ∷ xs) (length body)) long ∙ patched-if body xs (expr_code test) i 0 k in
       let long_too : length (body ++ command.If (expr_code test) i k ∷ xs) ≡ k = length-append body (command.If (expr_code test) i k ∷ xs) ∙ omega arith in
       finished-cons (body ++ start ∷ []) p (q ∷ ps)
-      ∙ ap (λ b. finished s b (q ∷ ps)) joined
+      ∙ ap (λ b. whole_body s b (q ∷ ps)) joined
       ∙ finished-cons (body ++ start ∷ xs) q ps
-      ∙ ap (λ b. finished s (b ++ onward s second (length b)) ps) second_at
-      ∙ ap (λ n. finished s ((body ++ command.If (expr_code test) i k ∷ xs) ++ onward s second n) ps) long_too
-      ∙ ap (λ b. finished s b ps) (append_assoc body (command.If (expr_code test) i k ∷ xs) (onward s second k))
+      ∙ ap (λ b. whole_body s (b ++ onward s second (length b)) ps) second_at
+      ∙ ap (λ n. whole_body s ((body ++ command.If (expr_code test) i k ∷ xs) ++ onward s second n) ps) long_too
+      ∙ ap (λ b. whole_body s b ps) (append_assoc body (command.If (expr_code test) i k ∷ xs) (onward s second k))
 
   pub jump-entry : (b i : ℕ) → is_entry s.graph b ≡ true → onward s b i ≡ tail_command s b ∷ []
   jump-entry b i h = rw h refl
@@ -109,23 +109,23 @@ module _ (s : Source) where
   pub jump-tree : (b i : ℕ) → is_entry s.graph b ≡ false → onward s b i ≡ tree s (length s.graph.blocks) b i
   jump-tree b i h = rw h refl
 
-pub below-following : (n next : ℕ) (on : Bool) (ps : List Pending) → next < n → AllBelow n ps → AllBelow n (following on next ++ ps)
+pub below-following : (n next : ℕ) (on : Bool) (ps : List Pending) → next < n → AllBelow n ps → AllBelow n (next_pending on next ++ ps)
 below-following n next true ps l h = (l, h)
 below-following n next false ps l h = h
 
 pub below-parts : (n at first second : ℕ) (ps : List Pending) → first < n → second < n → AllBelow n ps → AllBelow n (parts at first second ++ ps)
 below-parts n at first second ps l m h = (l, (m, h))
 
-pub begun-length : (body : List Cmd) (test : Option ℕ) → length (begun body test) ≡ length body
+pub begun-length : (body : List Cmd) (test : Option ℕ) → length (with_second_here body test) ≡ length body
 begun-length body None = refl
 begun-length body (Some at) = length-set body at _
 
-pub finished-length : (s : Source) (body : List Cmd) (ps : List Pending) → length body ≤ length (finished s body ps)
-unfolding finished
+pub finished-length : (s : Source) (body : List Cmd) (ps : List Pending) → length body ≤ length (whole_body s body ps)
+unfolding whole_body
 finished-length s body [] = omega arith
 finished-length s body (p ∷ ps) =
-    let more = finished-length s (begun body p.test ++ onward s p.block (length (begun body p.test))) ps in
-    let long = length-append (begun body p.test) (onward s p.block (length (begun body p.test))) in
+    let more = finished-length s (with_second_here body p.test ++ onward s p.block (length (with_second_here body p.test))) ps in
+    let long = length-append (with_second_here body p.test) (onward s p.block (length (with_second_here body p.test))) in
     let same = begun-length body p.test in
     omega (arith, more, long, same)
 

@@ -16,8 +16,8 @@ use Rattle.ceal_base.specs.declared.typed.StructInfo.{StructInfo}
 use Rattle.ceal_base.specs.declared.typed.TypedExpr.{TypedExpr}
 use Rattle.ceal_base.specs.declared.typed.TypedForm.TheBlock.{Row_of-TypedExpr, end_of-TypedExpr, more_of-TypedExpr}
 use Rattle.ceal_base.specs.declared.typed.TypedForm.{TypedForm, Num, Null, Var, Own, Unary', Binary', Field', Address'}
-use Rattle.ceal_code.proofs.Same.{both-true, nat-refl}
-use Rattle.ceal_code.proofs.TypeSteps.{type-num, type-null, type-var, type-unary, type-binary, type-field, type-address, row-address}
+use Rattle.ceal_code.proofs.Words.SameIsEqual.{both-true, nat-refl}
+use Rattle.ceal_code.proofs.Equations.TypeSteps.{type-num, type-null, type-var, type-unary, type-binary, type-field, type-address, row-address}
 use Rattle.ceal_code.specs.Valid.{type_of, fits, int_if, one_type, binary_type, is_row_of, starts_row, left_suits, variable_type, points_to, plain_type, cell_type, all_fit}
 use Rattle.ceal_code.specs.Value.{field_kind}
 use Rattle.ceal_code.specs.declared.typing.ExprType.{ExprType}

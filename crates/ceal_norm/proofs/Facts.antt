@@ -4,7 +4,7 @@ use Rattle.std.proofs.lemmas.Bool.{or_right, lt-ltb}
 use Rattle.std.proofs.lemmas.Bool.Decides.{eqb_tells}
 use Rattle.std.proofs.lemmas.List.{length-set}
 use Rattle.std.proofs.lemmas.Option.{slice_get-map}
-use Rattle.ceal_code.proofs.Same.{both-true}
+use Rattle.ceal_code.proofs.Words.SameIsEqual.{both-true}
 use Rattle.ceal_code.specs.Valid.{with_params, below}
 use Rattle.ceal_code.specs.declared.expr.VarId.{VarId}
 use Rattle.ceal_flow.specs.Sets.{is_in}

@@ -12,8 +12,8 @@ use Rattle.ceal_base.specs.declared.typed.StructInfo.{StructInfo}
 use Rattle.ceal_base.specs.declared.typed.Typed.{Typed}
 use Rattle.ceal_base.specs.declared.typed.TypedExpr.{TypedExpr}
 use Rattle.ceal_base.specs.declared.typed.TypedFunction.{TypedFunction}
-use Rattle.ceal_code.proofs.Same.{both-true, nat-refl}
-use Rattle.ceal_code.proofs.TypeSteps.{type-var}
+use Rattle.ceal_code.proofs.Words.SameIsEqual.{both-true, nat-refl}
+use Rattle.ceal_code.proofs.Equations.TypeSteps.{type-var}
 use Rattle.ceal_code.specs.Program.{Code}
 use Rattle.ceal_code.specs.Step.{kinds_of}
 use Rattle.ceal_code.specs.Valid.{type_of, fits, fits_maybe, params_fit, others, unit_fits, read_fits, entry_fits, call_fits, alloc_fits, place_fits, write_fits, all_fit}

@@ -20,7 +20,7 @@ use Rattle.ceal_flow.proofs.Reach.{parted}
 use Rattle.ceal_norm.specs.Entries.{is_entry}
 use Rattle.ceal_norm.specs.Laws.{IsForward}
 use Rattle.ceal_norm.proofs.Counts.{contains-none, contains-one, contains-cases, first-entry, jumps-entry}
-use Rattle.ceal_norm.proofs.Owners.{owner-of}
+use Rattle.ceal_flow.proofs.Owners.{owner-of}
 
 module _ (g : Graph) where
   abbrev Jumps : ℕ → ℕ → Type 0

@@ -14,8 +14,8 @@ use Rattle.ceal_base.specs.declared.typed.TypedExpr.{TypedExpr}
 use Rattle.ceal_base.specs.declared.typed.TypedForm.{TypedForm, Own}
 use Rattle.ceal_base.specs.declared.typed.TypedStmt.{TypedStmt, Declare, Assign, SetField, Write, Call, If', While', Return, Break, Continue}
 use Rattle.ceal_base.specs.declared.typed.TypedStmt.{Row_of-TypedStmt, end_of-TypedStmt, more_of-TypedStmt}
-use Rattle.ceal_code.proofs.Same.{both-true}
-use Rattle.ceal_code.proofs.StmtSteps.{stmt-set, stmt-if}
+use Rattle.ceal_code.proofs.Words.SameIsEqual.{both-true}
+use Rattle.ceal_code.proofs.Equations.StmtSteps.{stmt-set, stmt-if}
 use Rattle.ceal_code.specs.Valid.{Typing, type_of, fits, set_ok, stmt_ok, stmts_ok}
 use Rattle.ceal_code.specs.Value.{field_kind}
 use Rattle.ceal_code.specs.declared.function.InitStmt.{InitStmt}

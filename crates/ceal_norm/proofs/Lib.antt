@@ -1,5 +1,4 @@
 pub mod Counts
-pub mod Owners
 pub mod Forward
 pub mod Closed
 pub mod Trees
@@ -27,3 +26,4 @@ pub mod RunWords
 pub mod RunFrames
 pub mod RunSteps
 pub mod RunSame
+pub mod Samples

@@ -7,7 +7,7 @@ use Rattle.ceal_base.specs.declared.typed.TypedFunction.{TypedFunction}
 use Rattle.ceal_base.specs.declared.typed.TypedStmt.{TypedStmt, Declare, Assign, SetField, Write, Call, If', While', Return, Break, Continue}
 use Rattle.ceal_base.specs.declared.typed.TypedValue.{TypedValue}
 use Rattle.ceal_base.specs.declared.typed.TypedValue.TheVariants.{Plain, Read, Alloc, ModrefInt, Modref}
-use Rattle.ceal_code.proofs.Same.{nat-refl}
+use Rattle.ceal_code.proofs.Words.SameIsEqual.{nat-refl}
 use Rattle.ceal_flow.specs.Laws.{IsSimple}
 use Rattle.ceal_flow.specs.Live.{mentions, value_mentions, stmt_uses, uses, uses_at, stmt_assigns, keeps, AreLiveSets}
 use Rattle.ceal_flow.specs.Paths.{Path, stays, jumps_to, jumps, jumps_at, test_at}

@@ -5,7 +5,7 @@ use Rattle.std.proofs.lemmas.Bool.Decides.{eqb_tells}
 use Rattle.std.proofs.lemmas.List.Elements.{Contains-push, Contains-append_left, Contains-append_right}
 use Rattle.ceal_base.specs.declared.typed.Typed.{Typed}
 use Rattle.ceal_base.specs.declared.typed.TypedStmt.{TypedStmt}
-use Rattle.ceal_code.proofs.Same.{both-true}
+use Rattle.ceal_code.proofs.Words.SameIsEqual.{both-true}
 use Rattle.ceal_code.specs.Program.{Unit, Code}
 use Rattle.ceal_code.specs.Valid.{unit_ok, units_ok}
 use Rattle.ceal_base.specs.declared.kind.Kind.{Kind}

@@ -13,7 +13,7 @@ use Rattle.ceal_base.specs.declared.typed.TypedExpr.{TypedExpr}
 use Rattle.ceal_base.specs.declared.typed.TypedStmt.{TypedStmt, Declare, Assign, SetField, Write, Call, If', While', Return, Break, Continue}
 use Rattle.ceal_base.specs.declared.typed.TypedValue.{TypedValue}
 use Rattle.ceal_base.specs.declared.typed.TypedValue.TheVariants.{Plain, Read, Alloc, ModrefInt, Modref}
-use Rattle.ceal_code.proofs.Same.{both-true, nat-refl}
+use Rattle.ceal_code.proofs.Words.SameIsEqual.{both-true, nat-refl}
 use Rattle.ceal_code.specs.Program.{Code}
 use Rattle.ceal_code.specs.Step.{kinds_of}
 use Rattle.ceal_code.specs.Valid.{type_of, fits, modref_fits, with_params, is_core, body_ok, unit_ok}

@@ -42,19 +42,19 @@ with_second (command.If test first second) i = command.If test first i
 with_second c i = c
 
 -- a body whose `if` at an index has its second part at the other one
-abbrev pub patched : List Cmd → ℕ → ℕ → List Cmd
-patched body at i = slice_set body at (with_second (slice_index_or body at command.Done) i)
+abbrev pub with_second_at : List Cmd → ℕ → ℕ → List Cmd
+with_second_at body at i = slice_set body at (with_second (slice_index_or body at command.Done) i)
 
 -- a body at whose end code begins, which is the second part of an `if` or not
-abbrev pub begun : List Cmd → Option ℕ → List Cmd
-begun body None = body
-begun body (Some at) = patched body at (length body)
+abbrev pub with_second_here : List Cmd → Option ℕ → List Cmd
+with_second_here body None = body
+with_second_here body (Some at) = with_second_at body at (length body)
 
 -- the body with the code of all blocks that are still to come
-unfoldable pub finished : Source → List Cmd → List Pending → List Cmd
-finished s body [] = body
-finished s body (p ∷ ps) =
-    finished s (begun body p.test ++ onward s p.block (length (begun body p.test))) ps
+unfoldable pub whole_body : Source → List Cmd → List Pending → List Cmd
+whole_body s body [] = body
+whole_body s body (p ∷ ps) =
+    whole_body s (with_second_here body p.test ++ onward s p.block (length (with_second_here body p.test))) ps
 
 -- they are there
 abbrev pub AllBelow : ℕ → List Pending → Type 0
@@ -62,9 +62,9 @@ AllBelow n [] = Unit {0}
 AllBelow n (p ∷ ps) = (p.block < n) × AllBelow n ps
 
 -- what is put after a statement, and after a test at an index
-abbrev pub following : Bool → ℕ → List Pending
-following true next = record { block = next; test = None } ∷ []
-following false next = []
+abbrev pub next_pending : Bool → ℕ → List Pending
+next_pending true next = record { block = next; test = None } ∷ []
+next_pending false next = []
 
 -- the two parts of a test at an index, which are still to be written
 abbrev pub parts : ℕ → ℕ → ℕ → List Pending

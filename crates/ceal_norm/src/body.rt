@@ -2,7 +2,7 @@
 
 ghost use Rattle.std.specs.Prelude.{◌≡◌, ◌<◌, ◌+◌, ◌++◌, ◌∷◌, Some, length, reverse, IfOk, OnOk};
 ghost use Rattle.ceal_flow.specs.declared.block.GraphBlock.TheVariants.{Test};
-ghost use Rattle.ceal_norm.specs.Body.{onward, with_second, patched, begun, finished, following, parts, AllBelow};
+ghost use Rattle.ceal_norm.specs.Body.{onward, with_second, with_second_at, with_second_here, whole_body, next_pending, parts, AllBelow};
 ghost use Rattle.ceal_norm.specs.Table.{JumpsBelow};
 ghost use Rattle.ceal_norm.specs.Units.{stmt_code, block_code, tree};
 ghost use Rattle.ceal_code.specs.declared.command.Cmd.TheVariants as Cmd;
@@ -25,10 +25,18 @@ pub struct Pending {
     pub test: Option<u32>,
 }
 
+/// A body while it is written: the commands so far, and the blocks whose code is still to come, the next one last.
+#[derive(Drop)]
+struct Writing {
+    alloc: Global,
+    body: Vec<Cmd>,
+    pending: Vec<Pending>,
+}
+
 /// Puts the block that follows, if the path goes on.
 fn put_following(pending: &mut Vec<Pending>, on: bool, next: u32) -> Result<(), NoMemory>
     ensures { OnOk result
-        (reverse pending.new.items ≡ following on next ++ reverse pending.old.items) }
+        (reverse pending.new.items ≡ next_pending on next ++ reverse pending.old.items) }
 {
     if on {
         pending.push(Pending {
@@ -41,27 +49,22 @@ fn put_following(pending: &mut Vec<Pending>, on: bool, next: u32) -> Result<(), 
 
 /// Adds the command of a statement, and puts what follows it.
 #[tactic(auto, using(crate::proofs::BodySteps::act_steps))]
-fn put_act(
-    alloc: Global,
-    plan: &Plan<'_>,
-    body: &mut Vec<Cmd>,
-    pending: &mut Vec<Pending>,
-    s: &TypedStmt,
-    next: u32,
-) -> Result<(), NoMemory>
+fn put_act(plan: &Plan<'_>, out: &mut Writing, s: &TypedStmt, next: u32) -> Result<(), NoMemory>
     requires there { next < length plan.now.graph.blocks }
-    requires below { AllBelow (length plan.now.graph.blocks) (reverse pending.old.items) }
-    ensures same { OnOk result (finished plan.now body.new.items (reverse pending.new.items)
-        ≡ finished plan.now
-        (body.old.items ++ stmt_code plan.now (onward plan.now) next (length body.old.items) s.now)
-        (reverse pending.old.items)) }
+    requires below { AllBelow (length plan.now.graph.blocks) (reverse out.old.pending.items) }
+    ensures same { OnOk result
+        (whole_body plan.now out.new.body.items (reverse out.new.pending.items)
+        ≡ whole_body plan.now
+        (out.old.body.items
+        ++ stmt_code plan.now (onward plan.now) next (length out.old.body.items) s.now)
+        (reverse out.old.pending.items)) }
     ensures below { OnOk result
-        (AllBelow (length plan.now.graph.blocks) (reverse pending.new.items)) }
-    ensures longer { OnOk result (length body.new.items ≡ length body.old.items + 1) }
+        (AllBelow (length plan.now.graph.blocks) (reverse out.new.pending.items)) }
+    ensures longer { OnOk result (length out.new.body.items ≡ length out.old.body.items + 1) }
 {
-    let command = command_of(alloc, plan, next, s)?;
-    body.push(command)?;
-    put_following(pending, !ends_unit(s), next)?;
+    let command = command_of(out.alloc, plan, next, s)?;
+    out.body.push(command)?;
+    put_following(&mut out.pending, !ends_unit(s), next)?;
     Ok(())
 }
 
@@ -85,120 +88,105 @@ fn put_parts(pending: &mut Vec<Pending>, at: u32, first: u32, second: u32) -> Re
 /// Adds an `if`, and puts its two parts, of which the second has its index only when it begins.
 #[tactic(auto, using(crate::proofs::BodySteps::test_steps))]
 fn put_test(
-    alloc: Global,
     plan: &Plan<'_>,
-    body: &mut Vec<Cmd>,
-    pending: &mut Vec<Pending>,
+    out: &mut Writing,
     test: &TypedExpr,
     first: u32,
     second: u32,
 ) -> Result<(), NoMemory>
     requires there { (first < length plan.now.graph.blocks)
         × (second < length plan.now.graph.blocks) }
-    requires below { AllBelow (length plan.now.graph.blocks) (reverse pending.old.items) }
-    ensures same { OnOk result (finished plan.now body.new.items (reverse pending.new.items)
-        ≡ finished plan.now
-        (body.old.items
-        ++ block_code plan.now (onward plan.now) (length body.old.items)
+    requires below { AllBelow (length plan.now.graph.blocks) (reverse out.old.pending.items) }
+    ensures same { OnOk result
+        (whole_body plan.now out.new.body.items (reverse out.new.pending.items)
+        ≡ whole_body plan.now
+        (out.old.body.items
+        ++ block_code plan.now (onward plan.now) (length out.old.body.items)
         (Some (Test test.now first second)))
-        (reverse pending.old.items)) }
+        (reverse out.old.pending.items)) }
     ensures below { OnOk result
-        (AllBelow (length plan.now.graph.blocks) (reverse pending.new.items)) }
-    ensures longer { OnOk result (length body.new.items ≡ length body.old.items + 1) }
+        (AllBelow (length plan.now.graph.blocks) (reverse out.new.pending.items)) }
+    ensures longer { OnOk result (length out.new.body.items ≡ length out.old.body.items + 1) }
 {
-    let test = expr_of(alloc, test)?;
-    let at = number(body.len())?;
+    let test = expr_of(out.alloc, test)?;
+    let at = number(out.body.len())?;
     let yes = next_number(at)?;
-    body.push(Cmd::If { test, yes, no: 0 })?;
-    put_parts(pending, at, first, second)?;
+    out.body.push(Cmd::If { test, yes, no: 0 })?;
+    put_parts(&mut out.pending, at, first, second)?;
     Ok(())
 }
 
 /// Adds the command of a block, and puts what follows it.
-fn put_block(
-    alloc: Global,
-    plan: &Plan<'_>,
-    body: &mut Vec<Cmd>,
-    pending: &mut Vec<Pending>,
-    block: &GraphBlock,
-) -> Result<(), NoMemory>
+fn put_block(plan: &Plan<'_>, out: &mut Writing, block: &GraphBlock) -> Result<(), NoMemory>
     requires jumps { JumpsBelow (length plan.now.graph.blocks) block.now }
-    requires below { AllBelow (length plan.now.graph.blocks) (reverse pending.old.items) }
-    ensures same { OnOk result (finished plan.now body.new.items (reverse pending.new.items)
-        ≡ finished plan.now
-        (body.old.items
-        ++ block_code plan.now (onward plan.now) (length body.old.items) (Some block.now))
-        (reverse pending.old.items)) }
+    requires below { AllBelow (length plan.now.graph.blocks) (reverse out.old.pending.items) }
+    ensures same { OnOk result
+        (whole_body plan.now out.new.body.items (reverse out.new.pending.items)
+        ≡ whole_body plan.now
+        (out.old.body.items
+        ++ block_code plan.now (onward plan.now) (length out.old.body.items) (Some block.now))
+        (reverse out.old.pending.items)) }
     ensures below { OnOk result
-        (AllBelow (length plan.now.graph.blocks) (reverse pending.new.items)) }
-    ensures longer { OnOk result (length body.new.items ≡ length body.old.items + 1) }
+        (AllBelow (length plan.now.graph.blocks) (reverse out.new.pending.items)) }
+    ensures longer { OnOk result (length out.new.body.items ≡ length out.old.body.items + 1) }
 {
     match block {
         GraphBlock::Test { test, yes, no } => {
-            put_test(alloc, plan, body, pending, test, *yes, *no)?;
+            put_test(plan, out, test, *yes, *no)?;
             Ok(())
         }
         GraphBlock::Act { stmt, next } => {
-            put_act(alloc, plan, body, pending, stmt, *next)?;
+            put_act(plan, out, stmt, *next)?;
             Ok(())
         }
         GraphBlock::Done => {
-            body.push(Cmd::Done)?;
+            out.body.push(Cmd::Done)?;
             Ok(())
         }
         GraphBlock::Unreached => {
-            body.push(Cmd::Done)?;
+            out.body.push(Cmd::Done)?;
             Ok(())
         }
     }
 }
 
 /// Adds the first command of the tree of a block, and puts what follows it.
-fn put_tree(
-    alloc: Global,
-    plan: &Plan<'_>,
-    body: &mut Vec<Cmd>,
-    pending: &mut Vec<Pending>,
-    b: u32,
-) -> Result<(), NoMemory>
+fn put_tree(plan: &Plan<'_>, out: &mut Writing, b: u32) -> Result<(), NoMemory>
     requires there { b < length plan.now.graph.blocks }
-    requires below { AllBelow (length plan.now.graph.blocks) (reverse pending.old.items) }
-    ensures same { OnOk result (finished plan.now body.new.items (reverse pending.new.items)
-        ≡ finished plan.now
-        (body.old.items ++ tree plan.now (length plan.now.graph.blocks) b (length body.old.items))
-        (reverse pending.old.items)) }
+    requires below { AllBelow (length plan.now.graph.blocks) (reverse out.old.pending.items) }
+    ensures same { OnOk result
+        (whole_body plan.now out.new.body.items (reverse out.new.pending.items)
+        ≡ whole_body plan.now
+        (out.old.body.items
+        ++ tree plan.now (length plan.now.graph.blocks) b (length out.old.body.items))
+        (reverse out.old.pending.items)) }
     ensures below { OnOk result
-        (AllBelow (length plan.now.graph.blocks) (reverse pending.new.items)) }
-    ensures longer { OnOk result (length body.new.items ≡ length body.old.items + 1) }
+        (AllBelow (length plan.now.graph.blocks) (reverse out.new.pending.items)) }
+    ensures longer { OnOk result (length out.new.body.items ≡ length out.old.body.items + 1) }
 {
-    put_block(alloc, plan, body, pending, plan.block(b))?;
+    put_block(plan, out, plan.block(b))?;
     Ok(())
 }
 
 /// Adds the first command of what stands where a jump leads to a block, and puts what follows it.
 #[tactic(auto, using(crate::proofs::BodySteps::jump_steps))]
-fn put_jump(
-    alloc: Global,
-    plan: &Plan<'_>,
-    body: &mut Vec<Cmd>,
-    pending: &mut Vec<Pending>,
-    b: u32,
-) -> Result<(), NoMemory>
+fn put_jump(plan: &Plan<'_>, out: &mut Writing, b: u32) -> Result<(), NoMemory>
     requires there { b < length plan.now.graph.blocks }
-    requires below { AllBelow (length plan.now.graph.blocks) (reverse pending.old.items) }
-    ensures same { OnOk result (finished plan.now body.new.items (reverse pending.new.items)
-        ≡ finished plan.now (body.old.items ++ onward plan.now b (length body.old.items))
-        (reverse pending.old.items)) }
+    requires below { AllBelow (length plan.now.graph.blocks) (reverse out.old.pending.items) }
+    ensures same { OnOk result
+        (whole_body plan.now out.new.body.items (reverse out.new.pending.items)
+        ≡ whole_body plan.now (out.old.body.items ++ onward plan.now b (length out.old.body.items))
+        (reverse out.old.pending.items)) }
     ensures below { OnOk result
-        (AllBelow (length plan.now.graph.blocks) (reverse pending.new.items)) }
-    ensures longer { OnOk result (length body.new.items ≡ length body.old.items + 1) }
+        (AllBelow (length plan.now.graph.blocks) (reverse out.new.pending.items)) }
+    ensures longer { OnOk result (length out.new.body.items ≡ length out.old.body.items + 1) }
 {
     if plan.is_entry(b) {
-        let command = tail(alloc, plan, b)?;
-        body.push(command)?;
+        let command = tail(out.alloc, plan, b)?;
+        out.body.push(command)?;
         Ok(())
     } else {
-        put_tree(alloc, plan, body, pending, b)?;
+        put_tree(plan, out, b)?;
         Ok(())
     }
 }
@@ -212,7 +200,7 @@ fn set_second(command: &mut Cmd, i: u32)
 }
 
 fn patch(body: &mut Vec<Cmd>, at: u32, i: u32)
-    ensures { body.new.items ≡ patched body.old.items at i }
+    ensures { body.new.items ≡ with_second_at body.old.items at i }
 {
     let at = at as usize;
     if at < body.len() {
@@ -222,7 +210,7 @@ fn patch(body: &mut Vec<Cmd>, at: u32, i: u32)
 
 /// Gives the `if` whose second part begins here its index.
 fn begin(body: &mut Vec<Cmd>, test: Option<u32>) -> Result<(), NoMemory>
-    ensures same { OnOk result (body.new.items ≡ begun body.old.items test) }
+    ensures same { OnOk result (body.new.items ≡ with_second_here body.old.items test) }
 {
     if let Some(at) = test {
         let i = number(body.len())?;
@@ -232,23 +220,18 @@ fn begin(body: &mut Vec<Cmd>, test: Option<u32>) -> Result<(), NoMemory>
 }
 
 #[tactic(auto, using(crate::proofs::BodySteps::pending_steps))]
-fn put_pending(
-    alloc: Global,
-    plan: &Plan<'_>,
-    body: &mut Vec<Cmd>,
-    pending: &mut Vec<Pending>,
-    next: Pending,
-) -> Result<(), NoMemory>
-    requires below { AllBelow (length plan.now.graph.blocks) (next ∷ reverse pending.old.items) }
+fn put_pending(plan: &Plan<'_>, out: &mut Writing, next: Pending) -> Result<(), NoMemory>
+    requires below { AllBelow (length plan.now.graph.blocks)
+        (next ∷ reverse out.old.pending.items) }
     ensures same { OnOk result
-        (finished plan.now body.new.items (reverse pending.new.items)
-        ≡ finished plan.now body.old.items (next ∷ reverse pending.old.items)) }
+        (whole_body plan.now out.new.body.items (reverse out.new.pending.items)
+        ≡ whole_body plan.now out.old.body.items (next ∷ reverse out.old.pending.items)) }
     ensures below { OnOk result
-        (AllBelow (length plan.now.graph.blocks) (reverse pending.new.items)) }
-    ensures longer { OnOk result (length body.new.items ≡ length body.old.items + 1) }
+        (AllBelow (length plan.now.graph.blocks) (reverse out.new.pending.items)) }
+    ensures longer { OnOk result (length out.new.body.items ≡ length out.old.body.items + 1) }
 {
-    begin(body, next.test)?;
-    put_jump(alloc, plan, body, pending, next.block)?;
+    begin(&mut out.body, next.test)?;
+    put_jump(plan, out, next.block)?;
     Ok(())
 }
 
@@ -258,11 +241,16 @@ pub fn body_of(alloc: Global, plan: &Plan<'_>, b: u32) -> Result<Vec<Cmd>, NoMem
     ensures value { IfOk result
         (λ body. body.items ≡ tree plan.now (length plan.now.graph.blocks) b 0) }
 {
-    let mut body = Vec::new(alloc);
-    let mut pending = Vec::new(alloc);
-    put_tree(alloc, plan, &mut body, &mut pending, b)?;
-    while let Some(next) = pending.pop() {
-        put_pending(alloc, plan, &mut body, &mut pending, next)?;
+    let body = Vec::new(alloc);
+    let pending = Vec::new(alloc);
+    let mut out = Writing {
+        alloc,
+        body,
+        pending,
+    };
+    put_tree(plan, &mut out, b)?;
+    while let Some(next) = out.pending.pop() {
+        put_pending(plan, &mut out, next)?;
     }
-    Ok(body)
+    Ok(out.body)
 }

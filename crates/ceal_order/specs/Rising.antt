@@ -21,7 +21,8 @@ IsRising order (s ∷ ss) = (is_in s order ≡ true) × IsBeforeAll order s ss �
 -- how many of these stand before a stamp
 abbrev pub count_before : List ℕ → ℕ → List ℕ → ℕ
 count_before order s [] = 0
-count_before order s (t ∷ ts) = if nat_lt (place t order) (place s order) then suc (count_before order s ts) else count_before order s ts
+count_before order s (t ∷ ts) =
+    if nat_lt (place t order) (place s order) then suc (count_before order s ts) else count_before order s ts
 
 -- of these stamps the nearest one behind a stamp
 pub record IsFirstAfter (order stamps : List ℕ) (s next : ℕ) : Type 0 where
@@ -42,4 +43,5 @@ pub record IsParted (order stamps : List ℕ) (s n : ℕ) : Type 0 where
 -- the new order has these stamps too, and in the order that they have in the old one
 pub record KeepsOrder (stamps old new : List ℕ) : Type 0 where
   pub there : (s : ℕ) → is_in s stamps ≡ true → is_in s new ≡ true
-  pub order : (a b : ℕ) → is_in a stamps ≡ true → is_in b stamps ≡ true → place a old < place b old → place a new < place b new
+  pub order : (a b : ℕ) → is_in a stamps ≡ true → is_in b stamps ≡ true → place a old < place b old
+      → place a new < place b new

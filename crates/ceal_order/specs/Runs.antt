@@ -42,7 +42,8 @@ pub record Labelled (old new : List Link) (at label : ℕ) : Type 0 where
 -- so many links from first on have labels from low on, this far apart
 pub record Spread (old new : List Link) (first count low gap : ℕ) : Type 0 where
   pub same : SameLinks old new
-  pub inside : (s j : ℕ) → is_in s (stamps_of old) ≡ true → place s (stamps_of old) ≡ place first (stamps_of old) + j → j < count
+  pub inside : (s j : ℕ) → is_in s (stamps_of old) ≡ true → place s (stamps_of old) ≡ place first (stamps_of old) + j
+      → j < count
       → label_of new s ≡ low + j * gap
   pub before : (s : ℕ) → is_in s (stamps_of old) ≡ true → place s (stamps_of old) < place first (stamps_of old)
       → label_of new s ≡ label_of old s

@@ -16,7 +16,8 @@ items_under fork = items_of fork.earlier ++ fork.items.items ++ items_of fork.la
 abbrev pub IsCounted : {A : Type 0} → Tree A → Type 0
 IsCounted Empty = Unit {0}
 IsCounted (Fork' p items count height earlier later) =
-    (count ≡ min (length (items_of earlier ++ items.items ++ items_of later)) 18446744073709551615) × IsCounted earlier × IsCounted later
+    (count ≡ min (length (items_of earlier ++ items.items ++ items_of later)) 18446744073709551615)
+    × IsCounted earlier × IsCounted later
 
 -- a fork has the count of the items under it
 abbrev pub Counts : {A : Type 0} → Fork A → Type 0

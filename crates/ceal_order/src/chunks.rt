@@ -17,6 +17,14 @@ const HALF_CHUNK: usize = 32;
 // A chunk that has fewer items takes those of the next one, where both fit.
 const FEW_ITEMS: usize = 16;
 
+// A fork whose two trees were taken out of it.
+#[derive(Drop)]
+struct Opened<T> {
+    earlier: Tree<T>,
+    fork: Box<Fork<T>>,
+    later: Tree<T>,
+}
+
 /// The tree with one more item at an index. Where there is no memory for it, the items are as before.
 pub fn with_item<T: Copy>(
     alloc: Global,
@@ -43,7 +51,12 @@ pub fn with_item<T: Copy>(
             }
             let here = fork.items.len();
             if index - before < here {
-                return with_item_here(alloc, earlier, fork, later, index - before, item);
+                let opened = Opened {
+                    earlier,
+                    fork,
+                    later,
+                };
+                return with_item_here(alloc, opened, index - before, item);
             }
             let (later, done) = with_item(alloc, later, index - before - here, item);
             (joined(earlier, fork, later), done)
@@ -51,24 +64,26 @@ pub fn with_item<T: Copy>(
     }
 }
 
-// The same at an index of the chunk of a fork, over these two trees in place of its own. A full chunk is halved.
+// The same at an index of the chunk of a fork that is opened. A full chunk is halved.
 fn with_item_here<T: Copy>(
     alloc: Global,
-    earlier: Tree<T>,
-    mut fork: Box<Fork<T>>,
-    later: Tree<T>,
+    opened: Opened<T>,
     index: usize,
     item: T,
 ) -> (Tree<T>, Result<(), NoMemory>)
-    requires earlier { IsCounted earlier }
-    requires later { IsCounted later }
-    requires within { index < length fork.value.items.items }
+    requires earlier { IsCounted opened.earlier }
+    requires later { IsCounted opened.later }
+    requires within { index < length opened.fork.value.items.items }
     ensures ok { OnOk result.1 (items_of result.0
-        ≡ items_of earlier ++ insert fork.value.items.items index item ++ items_of later) }
+        ≡ items_of opened.earlier ++ insert opened.fork.value.items.items index item
+        ++ items_of opened.later) }
     ensures err { OnErr result.1 (items_of result.0
-        ≡ items_of earlier ++ fork.value.items.items ++ items_of later) }
+        ≡ items_of opened.earlier ++ opened.fork.value.items.items ++ items_of opened.later) }
     ensures counted { IsCounted result.0 }
 {
+    let earlier = opened.earlier;
+    let mut fork = opened.fork;
+    let later = opened.later;
     if fork.items.len() < CHUNK_ITEMS {
         let done = put(&mut fork.items, index, item);
         return (Tree::Fork(forked(earlier, fork, later)), done);

@@ -1,6 +1,6 @@
 // Rising stamps.
 
-ghost use Rattle.std.specs.Prelude.{◌≡◌, ◌↔◌, ◌<◌, ◌≤◌, [], false, length, insert, remove, IfOk, IfSome, IfNone, OnOk, OnErr, IsTrue};
+ghost use Rattle.std.specs.Prelude.{◌≡◌, ◌↔◌, ◌<◌, ◌≤◌, [], ◌∷◌, false, length, insert, remove, IfOk, IfSome, IfNone, OnOk, OnErr, IsTrue};
 ghost use Rattle.ceal_order.specs.Stamps.{is_in, place, without};
 ghost use Rattle.ceal_order.specs.Rising.{numbers, count_before, IsRising, IsFirstAfter, NoneAfter, IsParted};
 
@@ -34,6 +34,15 @@ impl Rising {
     {
         Rising {
             stamps: ShortList::new(alloc),
+        }
+    }
+
+    /// One stamp.
+    pub fn one(alloc: Global, stamp: Stamp) -> Rising
+        ensures { result ≡ stamp.0 ∷ [] }
+    {
+        Rising {
+            stamps: ShortList::one(alloc, stamp),
         }
     }
 

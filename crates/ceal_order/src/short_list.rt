@@ -49,6 +49,16 @@ impl<T: Copy> ShortList<T> {
         }
     }
 
+    /// One item.
+    pub fn one(alloc: Global, item: T) -> ShortList<T>
+        ensures { result ≡ item ∷ [] }
+    {
+        ShortList {
+            form: Form::One(item),
+            alloc,
+        }
+    }
+
     pub fn len(&self) -> usize
         ensures { result ≡ length self.now }
     {

@@ -12,7 +12,7 @@ use crate::expression::{begin, take_place};
 use crate::making::{call, take_making, take_value};
 use crate::marks::name;
 use crate::statement::{
-    take_before, take_calls, take_declared, take_first, take_named, take_owned, take_path,
+    Reached, take_before, take_calls, take_declared, take_first, take_named, take_owned, take_path,
     take_reached, take_typing,
 };
 use crate::turn::{Part, Turn, leave, no_expr, no_name, stand};
@@ -62,7 +62,8 @@ fn take_aside(
             let path = mem::replace(path, no_expr(at));
             let name = mem::replace(name, no_name(alloc, at));
             leave(mode);
-            let next = take_reached(alloc, nesting, path, name, arrows, token)?;
+            let reached = Reached { path, name, arrows };
+            let next = take_reached(alloc, nesting, reached, token)?;
             Ok(go_on(mode, next))
         }
         Mode::Making(making) => {

@@ -83,28 +83,39 @@ fn close(
     }
 }
 
+/// A sign, and where it stands.
+#[derive(Clone, Copy)]
+struct SignAt {
+    at: Span,
+    sign: Sign,
+}
+
 /// A sign after the piece, other than an arrow and the `[` of an index.
 fn take_sign(
     alloc: Global,
     whole: &mut Whole,
     place: &mut Place,
     piece: Piece,
-    at: Span,
-    sign: Sign,
+    found: SignAt,
 ) -> Result<Part, NoMemory>
     requires few { whole.old.operators < 2 ^ 31 }
     ensures value { IfOk result (λ part. (i : Inside) → part_state i whole.new place.new part
-        ≡ at_sign_after i whole.old piece at sign (operator_of sign)) }
+        ≡ at_sign_after i whole.old piece found.at found.sign (operator_of found.sign)) }
 {
-    match operator(sign) {
+    match operator(found.sign) {
         Some(operator) => {
             let left = reduce(alloc, binary_level(operator), piece, &mut whole.frames)?;
-            operate(whole, place, Frame::Left(left, operator, at), Place::Want)?;
+            operate(
+                whole,
+                place,
+                Frame::Left(left, operator, found.at),
+                Place::Want,
+            )?;
             Ok(Part::On)
         }
         None => {
             let piece = reduce(alloc, 0, piece, &mut whole.frames)?;
-            let part = close(alloc, whole, place, sign, piece)?;
+            let part = close(alloc, whole, place, found.sign, piece)?;
             Ok(part)
         }
     }
@@ -164,7 +175,8 @@ fn take_element(
 {
     match token.kind {
         TokenKind::Sign(sign) => {
-            let part = take_sign(alloc, whole, place, piece, token.span, sign)?;
+            let at = token.span;
+            let part = take_sign(alloc, whole, place, piece, SignAt { at, sign })?;
             Ok(part)
         }
         _ => {
@@ -196,7 +208,8 @@ fn take_after(
                 let part = take_index(whole, place, piece)?;
                 Ok(part)
             } else {
-                let part = take_sign(alloc, whole, place, piece, token.span, sign)?;
+                let at = token.span;
+                let part = take_sign(alloc, whole, place, piece, SignAt { at, sign })?;
                 Ok(part)
             }
         }

@@ -247,19 +247,27 @@ pub fn take_path(path: Expr, arrows: u32, token: &mut Token) -> Option<Mode>
     }
 }
 
+/// A field that a path has come to: what stands before its arrow, its name, and the arrows so far.
+#[derive(Drop)]
+pub struct Reached {
+    pub path: Expr,
+    pub name: Ident,
+    pub arrows: u32,
+}
+
 #[inline(never)]
 pub fn take_reached(
     alloc: Global,
     nesting: u32,
-    path: Expr,
-    name: Ident,
-    arrows: u32,
+    reached: Reached,
     token: &Token,
 ) -> Result<Option<Mode>, NoMemory>
-    requires few { arrows < 2 ^ 31 }
+    requires few { reached.arrows < 2 ^ 31 }
     ensures value { IfOk result
-        (λ mode. mode ≡ at_reached nesting path name arrows token.now.kind) }
+        (λ mode. mode
+        ≡ at_reached nesting reached.path reached.name reached.arrows token.now.kind) }
 {
+    let Reached { path, name, arrows } = reached;
     if is_sign(token, Sign::Arrow) {
         let path = field(alloc, path, name)?;
         Ok(Some(Mode::Path(path, arrows + 1)))

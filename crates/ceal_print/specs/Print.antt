@@ -1,4 +1,5 @@
--- What a printed text is: that it reads back as the tree, apart from spans.
+-- What a printed text is: that it reads back as the tree, apart from spans (so Danielsson, *Correct-by-construction
+-- pretty-printing*, DTP 2013).
 use Rattle.std.specs.Prelude.{ℕ, ◌≤◌, ◌≡◌, Bool, Option, Some, None, List, [], ◌∷◌, ◌++◌, length, codes}
 use Rattle.ceal_base.specs.declared.fault.Span.{Span}
 use Rattle.ceal_base.specs.declared.syntax.Entry.{Entry}

@@ -1,4 +1,5 @@
--- A queue of stale reads: a set of stamps, from which the earliest is taken out.
+-- A queue of stale reads: a set of stamps, from which the earliest is taken out (Acar, Blelloch and Harper, *Adaptive
+-- functional programming*, POPL 2002).
 use Rattle.std.specs.Prelude.{◌≡◌, ◌≢◌, ◌<◌, ◌≤◌, ◌+◌, ◌^◌, ℕ, List, Option, None, Some, true, false}
 use Rattle.ceal_order.specs.declared.stamp.Stamp.{Stamp}
 use Rattle.ceal_order.specs.Stamps.{is_in, place}

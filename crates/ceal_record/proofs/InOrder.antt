@@ -12,7 +12,7 @@ use Rattle.ceal_base.specs.declared.word.BlockId.TheVariants.{Input, Core}
 use Rattle.ceal_base.specs.declared.word.Place.{Place}
 use Rattle.ceal_base.specs.declared.word.Word.{Word}
 use Rattle.ceal_base.specs.declared.word.Word.TheVariants.{Block as BlockWord, At}
-use Rattle.ceal_code.proofs.Same.{nat-same, nat-refl}
+use Rattle.ceal_code.proofs.Words.SameIsEqual.{nat-same, nat-refl}
 use Rattle.ceal_code.specs.Alike.{Pairs, Tied, IdAlike, PlaceAlike, WordAlike, WordsAlike, KeyAlike, TraceAlike, OneToOne}
 use Rattle.ceal_code.specs.Replay.{core_numbers}
 use Rattle.ceal_record.specs.Laws.{OneRecordLaw, RenamedLaw}

@@ -9,9 +9,9 @@ use Rattle.ceal_base.specs.declared.forest.Item.TheVariants.{Step, Alloc, Write,
 use Rattle.ceal_base.specs.declared.word.BlockId.{BlockId}
 use Rattle.ceal_base.specs.declared.word.BlockId.TheVariants.{Input}
 use Rattle.ceal_base.specs.declared.word.Word.{Word}
-use Rattle.ceal_code.proofs.AfterLaws.{inputs-law}
-use Rattle.ceal_code.proofs.Replayed.{get-after}
-use Rattle.ceal_code.proofs.Same.{nat-same}
+use Rattle.ceal_code.proofs.Replay.AfterLaws.{inputs-law}
+use Rattle.ceal_code.proofs.Replay.ReplayedCall.{get-after}
+use Rattle.ceal_code.proofs.Words.SameIsEqual.{nat-same}
 use Rattle.ceal_code.specs.After.{memory_after}
 use Rattle.ceal_code.specs.Program.{Code}
 use Rattle.ceal_code.specs.Fitting.{Fits}

@@ -5,3 +5,4 @@ pub mod Places
 pub mod Words
 pub mod InOrder
 pub mod SomeRecord
+pub mod Samples

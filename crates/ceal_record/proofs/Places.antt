@@ -10,8 +10,8 @@ use Rattle.ceal_base.specs.declared.forest.Item.{Item}
 use Rattle.ceal_base.specs.declared.forest.Item.TheVariants.{Step, Alloc, Write, Read, End}
 use Rattle.ceal_base.specs.declared.word.BlockId.{BlockId}
 use Rattle.ceal_base.specs.declared.word.BlockId.TheVariants.{Input, Core}
-use Rattle.ceal_code.proofs.Same.{nat-same}
-use Rattle.ceal_code.proofs.TableSteps.{eq-block}
+use Rattle.ceal_code.proofs.Words.SameIsEqual.{nat-same}
+use Rattle.ceal_code.proofs.Equations.TableSteps.{eq-block}
 use Rattle.ceal_code.specs.Replay.{core_numbers}
 use Rattle.ceal_record.specs.Numbers.{place_in, number_of, Counts}
 use Rattle.ceal_record.specs.declared.numbers.Numbers.{Numbers}

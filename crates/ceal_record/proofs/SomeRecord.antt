@@ -5,7 +5,7 @@ use Rattle.ceal_base.specs.Block.{Block}
 use Rattle.ceal_base.specs.Operators.{same_block}
 use Rattle.ceal_base.specs.Trace.{Trace, Nothing, Stepped, Allocated, Wrote, WasRead, flat, blocks_of}
 use Rattle.ceal_base.specs.declared.word.BlockId.{BlockId}
-use Rattle.ceal_code.proofs.Same.{block-refl}
+use Rattle.ceal_code.proofs.Words.SameIsEqual.{block-refl}
 use Rattle.ceal_code.specs.After.{memory_after}
 use Rattle.ceal_code.specs.Init.{made}
 use Rattle.ceal_code.specs.Program.{Code}

@@ -1,7 +1,7 @@
 -- What is left over to a unit, and what waits around it, by the nodes behind the cursor.
 use Rattle.std.specs.Prelude.{◌≡◌, ℕ, Option, None, Some, List, [], ◌∷◌, ◌++◌}
-use Rattle.ceal_code.specs.Stacks.{stack_in}
-use Rattle.ceal_code.specs.declared.stack.Stack.{Stack as CodeStack}
+use Rattle.ceal_code.specs.Stacks.{waits_in}
+use Rattle.ceal_code.specs.declared.waits.Waits.{Waits}
 use Rattle.ceal_order.specs.declared.stamp.Stamp.{Stamp}
 use Rattle.ceal_repair.specs.Entries.{stamped, closing, entries}
 use Rattle.ceal_repair.specs.declared.frame.Frame.{Frame}
@@ -28,13 +28,13 @@ mutual
   pub data Tails (limit : Option Stamp) (beyond : List Entry) : Option Stamp → List Frame → List Wait → List ℕ → List Entry → Type 0 where
     last : Tails limit beyond limit [] [] [] beyond
     -- a new read shares what is left over
-    begun : {until : Option Stamp} {fs : List Frame} {ws : List Wait} {rs : List ℕ} {tail : List Entry} (below : CodeStack) (read : Stamp)
+    begun : {until : Option Stamp} {fs : List Frame} {ws : List Wait} {rs : List ℕ} {tail : List Entry} (below : Waits) (read : Stamp)
         → Tails limit beyond until fs ws rs tail
-        → Tails limit beyond until (Begun below read ∷ fs) (Begins (stack_in below) ∷ ws) (read.0 ∷ rs) tail
+        → Tails limit beyond until (Begun below read ∷ fs) (Begins (waits_in below) ∷ ws) (read.0 ∷ rs) tail
     -- a taken read that runs anew: its end, and what is left over behind it
-    taken : {until : Stamp} {fs : List Frame} {ws : List Wait} {rs : List ℕ} {tail : List Entry} (below : CodeStack) (e r m : ℕ) (g : Grove)
+    taken : {until : Stamp} {fs : List Frame} {ws : List Wait} {rs : List ℕ} {tail : List Entry} (below : Waits) (e r m : ℕ) (g : Grove)
         → Tails limit beyond (Some until) fs ws rs tail
-        → Tails limit beyond (Some (stamped e)) (Taken below until ∷ fs) (Takes (stack_in below) ∷ ws) (r ∷ rs) (closing e r m ∷ (entries g ++ tail))
+        → Tails limit beyond (Some (stamped e)) (Taken below until ∷ fs) (Takes (waits_in below) ∷ ws) (r ∷ rs) (closing e r m ∷ (entries g ++ tail))
     -- a stale read of a taken one: its end, and the nodes that are passed then
     kept : {until : Stamp} {fs : List Frame} {ws : List Wait} {rs : List ℕ} {back : List Entry} (e r m : ℕ)
         → Passes limit beyond until fs ws rs back
@@ -42,7 +42,7 @@ mutual
 
   -- the nodes behind the cursor, where kept nodes are passed up to the end of a taken read
   pub data Passes (limit : Option Stamp) (beyond : List Entry) : Stamp → List Frame → List Wait → List ℕ → List Entry → Type 0 where
-    passes : {until : Stamp} {fs : List Frame} {ws vs : List Wait} {rs qs : List ℕ} {es tail : List Entry} (below : CodeStack) (e r m : ℕ) (g : Grove)
-        → Inside (Takes (stack_in below) ∷ ws) (r ∷ rs) vs qs es
+    passes : {until : Stamp} {fs : List Frame} {ws vs : List Wait} {rs qs : List ℕ} {es tail : List Entry} (below : Waits) (e r m : ℕ) (g : Grove)
+        → Inside (Takes (waits_in below) ∷ ws) (r ∷ rs) vs qs es
         → Tails limit beyond (Some until) fs ws rs tail
         → Passes limit beyond (stamped e) (Taken below until ∷ fs) vs qs (es ++ closing e r m ∷ (entries g ++ tail))

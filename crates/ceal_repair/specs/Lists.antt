@@ -5,7 +5,7 @@ use Rattle.ceal_base.specs.declared.forest.Key.{Key}
 use Rattle.ceal_base.specs.declared.word.Place.{Place}
 use Rattle.ceal_memo.specs.Hashes.{read_hash, alloc_hash}
 use Rattle.ceal_memo.specs.Memo.{Entries, entries_of}
-use Rattle.ceal_memo.specs.declared.key.ReadKey.{ReadKey}
+use Rattle.ceal_memo.specs.Keys.{ReadKey}
 use Rattle.ceal_mods.specs.Mods.{Contents, cell_of}
 use Rattle.ceal_mods.specs.Writes.{Write as WriteOf}
 use Rattle.ceal_theory.specs.Levels.{same_read}

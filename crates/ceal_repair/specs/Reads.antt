@@ -1,14 +1,20 @@
 -- A read that is taken.
-use Rattle.std.specs.Prelude.{◌≡◌, ◌∷◌, Bool, true, false}
+use Rattle.std.specs.Prelude.{◌≡◌, ◌∷◌, Bool, true, false, List}
+use Rattle.ceal_base.specs.declared.word.Word.{Word}
 use Rattle.ceal_code.specs.Step.{Stack, Over}
 use Rattle.ceal_code.specs.declared.stack.Closure.{Closure}
-use Rattle.ceal_code.specs.declared.stack.Stack.{Stack as CodeStack}
-use Rattle.ceal_memo.specs.declared.key.ReadKey.{ReadKey}
+use Rattle.ceal_code.specs.declared.step.Reading.{Reading}
+use Rattle.ceal_code.specs.declared.waits.Waits.{Waits}
+use Rattle.ceal_memo.specs.Keys.{ReadKey}
 use Rattle.ceal_order.specs.declared.stamp.Stamp.{Stamp}
 use Rattle.ceal_repair.specs.Moment.{Start, RunningNow}
 use Rattle.ceal_repair.specs.Repairs.{code_of, inputs_of, view, next_in, Runs, PassesOn}
 use Rattle.ceal_repair.specs.declared.frame.Frame.TheVariants.{Taken, Kept}
 use Rattle.ceal_repair.specs.declared.repair.Repair.{Repair}
+
+-- the closure of a read with these arguments
+abbrev pub closure_in : Reading → List Word → Closure
+closure_in r args = record { place = r.place; unit = r.unit; var = r.var; args = args }
 
 -- what a read of a closure is found by
 abbrev pub key_in : Closure → ReadKey
@@ -20,7 +26,7 @@ Entered true start r = Runs start r
 Entered false start r = PassesOn start r
 
 -- the unit of a read that was taken is over; its frame was taken off
-pub record EndsTaken (start : Start) (below : CodeStack) (until : Stamp) (r : Repair) : Type 0 where
+pub record EndsTaken (start : Start) (below : Waits) (until : Stamp) (r : Repair) : Type 0 where
   pub stack : Stack
   pub now : RunningNow (code_of r) (inputs_of r) start stack (record (view r) { frames = Taken below until ∷ (view r).frames })
   pub over : next_in r stack ≡ Over

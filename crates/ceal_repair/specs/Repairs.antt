@@ -1,17 +1,23 @@
 -- A repair under way in code.
 use Rattle.std.specs.Prelude.{◌≡◌, ℕ, ◌≤◌, ◌<◌, Bool, true, false, Option, Some, None, List, [], ◌∷◌, reverse}
 use Rattle.ceal_base.specs.Block.{Block}
+use Rattle.ceal_base.specs.declared.forest.Key.{Key}
+use Rattle.ceal_base.specs.declared.word.Word.{Word}
 use Rattle.ceal_code.specs.Program.{Code}
-use Rattle.ceal_code.specs.Stacks.{stack_in, act_in, step_in}
+use Rattle.ceal_code.specs.Stacks.{stack_in, top_of, below_in, act_in, step_in}
 use Rattle.ceal_code.specs.Step.{Stack, Act as Step, Over, next}
 use Rattle.ceal_code.specs.declared.stack.Stack.{Stack as CodeStack}
 use Rattle.ceal_code.specs.declared.step.Act.{Act}
+use Rattle.ceal_code.specs.declared.step.Act.TheVariants.{Makes}
 use Rattle.ceal_code.specs.declared.step.Step.{Step as CodeStep}
+use Rattle.ceal_code.specs.declared.waits.Waits.{Waits}
 use Rattle.ceal_order.specs.declared.stamp.Stamp.{Stamp}
 use Rattle.ceal_repair.specs.Moment.{View, Start, RunningNow, PassingNow}
 use Rattle.ceal_repair.specs.Words.{words_of}
+use Rattle.ceal_repair.specs.declared.frame.Frame.{Frame}
 use Rattle.ceal_repair.specs.declared.frame.Frame.TheVariants.{Begun}
 use Rattle.ceal_repair.specs.declared.repair.Repair.{Repair}
+use Rattle.ceal_repair.specs.declared.running.Running.{Running}
 use Rattle.ceal_repair.specs.Lists.{between}
 use Rattle.ceal_trace.specs.Nodes.{Entry}
 
@@ -21,43 +27,67 @@ code_of r = r.code.now
 abbrev pub inputs_of : Repair → List Block
 inputs_of r = r.inputs.now
 
+-- what the run keeps that is repaired
+abbrev pub running_of : Repair → Running
+running_of r = r.running
+
+-- the units of the repair
+abbrev pub stack_of : Repair → CodeStack
+stack_of r = r.stack
+
+-- the arguments of the read that its unit makes
+abbrev pub arguments_of : Repair → List Word
+arguments_of r = r.args.items
+
+-- what follows the ends of reads, the next last
+abbrev pub frames_of : Repair → List Frame
+frames_of r = r.frames.items
+
 abbrev pub view : Repair → View
 view r = record {
-  tables = r.running.tables;
-  heap = r.running.heap;
-  spent = r.running.spent;
+  tables = (running_of r).tables;
+  heap = (running_of r).heap;
+  spent = (running_of r).spent;
   cursor = r.cursor.0;
   limit = r.limit;
-  frames = reverse r.frames.items;
+  frames = reverse (frames_of r);
 }
 
 -- the next step of a stack over the plain words of a repair
 abbrev pub next_in : Repair → Stack → Step
-next_in r st = next (code_of r) (words_of (code_of r) (inputs_of r) r.running.heap) st
+next_in r st = next (code_of r) (words_of (code_of r) (inputs_of r) (running_of r).heap) st
 
 -- what a step of its stack does, whose arguments are not evaluated yet
 abbrev pub step_of : Repair → CodeStep → Step
-step_of r s = step_in (code_of r) (words_of (code_of r) (inputs_of r) r.running.heap) s r.stack
+step_of r s = step_in (code_of r) (words_of (code_of r) (inputs_of r) (running_of r).heap) s (stack_of r)
 
 -- a unit runs: that of this stack, or the one that the repair keeps
 abbrev pub RunsAt : Start → Stack → Repair → Type 0
 RunsAt start st r = RunningNow (code_of r) (inputs_of r) start st (view r)
 
 abbrev pub Runs : Start → Repair → Type 0
-Runs start r = RunsAt start (stack_in r.stack) r
+Runs start r = RunsAt start (stack_in (stack_of r)) r
 
--- a unit runs, and this is what it does next; the stack that is kept is that after it
-pub record Acts (start : Start) (act : Act) (r : Repair) : Type 0 where
+-- a unit runs, and this is what it does next, over these units
+pub record ActsOver (start : Start) (act : Act) (below : Stack) (r : Repair) : Type 0 where
   pub stack : Stack
   pub now : RunsAt start stack r
-  pub does : next_in r stack ≡ act_in act (stack_in r.stack)
+  pub does : next_in r stack ≡ act_in act below
+
+-- the stack that is kept is that after what the unit does
+abbrev pub Acts : Start → Act → Repair → Type 0
+Acts start act r = ActsOver start act (stack_in (stack_of r)) r
+
+-- the unit makes a block for the key, which its variable gets; the unit is still on the stack
+abbrev pub ActsMaking : Start → Key → ℕ → Repair → Type 0
+ActsMaking start key var r = ActsOver start (Makes key var (top_of (stack_of r))) (below_in (stack_of r)) r
 
 -- the unit is over, and nothing follows
 pub record IsOver (start : Start) (r : Repair) : Type 0 where
   pub stack : Stack
   pub now : RunsAt start stack r
   pub over : next_in r stack ≡ Over
-  pub last : r.frames.items ≡ []
+  pub last : frames_of r ≡ []
 
 -- kept nodes are passed
 abbrev pub PassesOn : Start → Repair → Type 0
@@ -69,7 +99,7 @@ pub record SameCall (old new : Repair) : Type 0 where
   pub inputs : inputs_of new ≡ inputs_of old
 
 -- the unit of a new read is over; its frame was taken off
-pub record EndsRead (start : Start) (below : CodeStack) (read : Stamp) (r : Repair) : Type 0 where
+pub record EndsRead (start : Start) (below : Waits) (read : Stamp) (r : Repair) : Type 0 where
   pub stack : Stack
   pub now : RunningNow (code_of r) (inputs_of r) start stack (record (view r) { frames = Begun below read ∷ (view r).frames })
   pub over : next_in r stack ≡ Over
@@ -80,9 +110,9 @@ nodes_to None cursor nodes = []
 nodes_to (Some e) cursor nodes = between cursor e.0 nodes
 
 abbrev pub left_nodes : Repair → List Entry
-left_nodes r = nodes_to r.limit r.cursor.0 r.running.tables.trace.nodes
+left_nodes r = nodes_to r.limit r.cursor.0 (running_of r).tables.trace.nodes
 
--- a repair after a turn: it goes on, or it is over
+-- a repair after an act of its unit: it goes on, or it is over
 abbrev pub Turned : Bool → Start → Repair → Type 0
 Turned true start r = Runs start r
 Turned false start r = IsOver start r

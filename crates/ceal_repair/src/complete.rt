@@ -1,4 +1,4 @@
-// A repair is turned until it is over.
+// The units of a repair act until it is over.
 
 ghost use Rattle.std.specs.Prelude.{IfOk, OnOk};
 ghost use Rattle.ceal_repair.specs.Moment.{Start};
@@ -7,19 +7,19 @@ ghost use Rattle.ceal_repair.specs.Repairs.{Runs, Completed, SameCall};
 use crate::repair::Repair;
 use ceal_base::no_memory::NoMemory;
 
-/// Turns a repair until it is over, or has run more steps than the fuel allows: then it answers false. No run that fits
-/// into memory comes to 2^64 turns; one that did would be told as want of memory.
+/// Lets the units of a repair act until it is over, or has run more steps than the fuel allows: then it answers false. No run that
+/// fits into memory comes to 2^64 acts; one that did would be told as want of memory.
 pub fn complete(repair: &mut Repair<'_>, fuel: u32) -> Result<bool, NoMemory>
     requires runs { (start : Start) × Runs start repair.old }
     ensures call { OnOk result (SameCall repair.old repair.new) }
     ensures done { IfOk result
         (λ done. (start : Start) → Runs start repair.old → Completed done fuel start repair.new) }
 {
-    for _turn in 0..u64::MAX {
+    for _act in 0..u64::MAX {
         if repair.spent() > fuel {
             return Ok(false);
         }
-        if !repair.turn()? {
+        if !repair.act()? {
             return Ok(true);
         }
     }

@@ -1,15 +1,15 @@
 // What follows the end of a read.
 
-use ceal_code::stack::Stack;
+use ceal_code::waits::Waits;
 use ceal_order::stamp::Stamp;
 
 /// What follows the end of a read. A unit runs with nodes left over up to the limit that the repair has.
 #[derive(Drop)]
 pub enum Frame {
     /// the read is new: the units below run, with what its own leave over
-    Begun { below: Stack, read: Stamp },
+    Begun { below: Waits, read: Stamp },
     /// the read was taken: the units below run, with the nodes behind its end, up to this limit
-    Taken { below: Stack, limit: Stamp },
+    Taken { below: Waits, limit: Stamp },
     /// the read was stale among nodes that are kept: those behind its end are passed, up to this limit
     Kept { until: Stamp },
 }

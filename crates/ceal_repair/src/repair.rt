@@ -1,12 +1,12 @@
 // A repair that is under way: the machine of change propagation over the nodes of a trace.
 
 ghost use Rattle.std.specs.Prelude.{◌≡◌, ◌+◌, ◌∷◌, ◌++◌, [], Some, None, true, false, IfOk, OnOk, reverse};
-ghost use Rattle.ceal_code.specs.Stacks.{stack_in, act_in};
-ghost use Rattle.ceal_code.specs.Step.{Empty};
+ghost use Rattle.ceal_code.specs.Stacks.{stack_in, top_of, below_in, act_in};
 ghost use Rattle.ceal_code.specs.declared.step.Step.TheVariants.{Makes as IsMaking, Reads as IsReading};
-ghost use Rattle.ceal_code.specs.declared.step.Act.TheVariants as act;
+ghost use Rattle.ceal_code.specs.declared.step.Act.TheVariants as does;
 ghost use Rattle.ceal_repair.specs.Moment.{Start};
-ghost use Rattle.ceal_repair.specs.Repairs.{code_of, inputs_of, view, next_in, step_of, Runs, RunsAt, Acts, IsOver, Turned, SameCall};
+ghost use Rattle.ceal_repair.specs.Reads.{closure_in};
+ghost use Rattle.ceal_repair.specs.Repairs.{code_of, inputs_of, running_of, arguments_of, view, next_in, step_of, Runs, Acts, IsOver, Turned, SameCall};
 ghost use Rattle.ceal_repair.specs.Kept.{Kept};
 ghost use Rattle.ceal_order.specs.Stamps.{head_of};
 ghost use Rattle.ceal_trace.specs.Nodes.{has_node, stamps_in, with_steps, steps_at};
@@ -17,8 +17,9 @@ use crate::words::RunWords;
 use ceal_base::forest::Key;
 use ceal_base::memory::Inputs;
 use ceal_base::no_memory::NoMemory;
+use ceal_base::word::Word;
 use ceal_code::code::Code;
-use ceal_code::stack::{Activation, Closure, Stack};
+use ceal_code::stack::Stack;
 use ceal_code::step::{Making, Reading, Step};
 use ceal_order::stamp::Stamp;
 use std::alloc::Global;
@@ -32,7 +33,7 @@ mod turn;
 pub mod turns;
 
 /// A repair that is under way, or a run from nothing. A unit runs; the nodes up to the cursor are final, and those behind it, up to
-/// the limit, are left over to the unit. The cursor only moves on.
+/// the limit, are left over to the unit. The cursor only moves on. The arguments are those of the read that is made.
 #[derive(Drop)]
 pub struct Repair<'a> {
     alloc: Global,
@@ -43,6 +44,7 @@ pub struct Repair<'a> {
     stack: Stack,
     limit: Option<Stamp>,
     frames: Vec<Frame>,
+    args: Vec<Word>,
 }
 
 impl<'a> Repair<'a> {
@@ -70,6 +72,7 @@ impl<'a> Repair<'a> {
             stack,
             limit: None,
             frames: Vec::new(alloc),
+            args: Vec::new(alloc),
         }
     }
 
@@ -101,60 +104,67 @@ impl<'a> Repair<'a> {
         self.stack.step(self.code, &words)
     }
 
-    /// The key of the block that is made, and the unit, which is taken off the stack.
-    fn made(&mut self, making: Making<'_>) -> Result<(Key, Activation), NoMemory>
-        ensures rest { self.new ≡ record self.old { stack = self.new.stack } }
-        ensures made { IfOk result (λ m. step_of self.old (IsMaking making.entry)
-            ≡ act_in (act.Makes m.0 making.entry.var m.1) (stack_in self.new.stack)) }
+    /// The key of the block that is made. The unit that makes it stays where it is.
+    fn key(&self, making: Making<'_>) -> Result<Key, NoMemory>
+        ensures key { IfOk result (λ key. step_of self.now (IsMaking making.entry)
+            ≡ act_in (does.Makes key making.entry.var (top_of self.now.stack))
+            (below_in self.now.stack)) }
     {
         let words = RunWords {
             code: self.code,
             inputs: self.inputs,
             heap: &self.running.heap,
         };
-        self.stack.made(self.code, &words, making)
+        self.stack.key(self.code, &words, making.maker)
     }
 
-    /// The closure of a read; the stack comes after it.
-    fn closure(&mut self, reading: Reading<'_>) -> Result<Closure, NoMemory>
-        ensures rest { self.new ≡ record self.old { stack = self.new.stack } }
-        ensures closure { IfOk result (λ c. step_of self.old (IsReading reading.entry)
-            ≡ act_in (act.Reads c) (stack_in self.new.stack)) }
+    /// The arguments of a read are evaluated, and the unit that reads is left: the stack comes after the read.
+    fn leave_for(&mut self, reading: Reading<'_>) -> Result<(), NoMemory>
+        ensures rest { self.new
+            ≡ record self.old { stack = self.new.stack; args = self.new.args } }
+        ensures closure { OnOk result (step_of self.old (IsReading reading.entry)
+            ≡ act_in (does.Reads (closure_in reading.entry (arguments_of self.new)))
+            (stack_in self.new.stack)) }
     {
         let words = RunWords {
             code: self.code,
             inputs: self.inputs,
             heap: &self.running.heap,
         };
-        self.stack.closure(self.code, &words, reading)
+        let es = reading.args.items();
+        self.stack.evaluate(self.code, &words, es, &mut self.args)?;
+        self.stack.leave();
+        Ok(())
     }
 
     /// One step more was run anew, behind the node at the cursor. Where the count has no room in 32 bits, there is no memory for
     /// so many steps.
     fn step(&mut self) -> Result<(), NoMemory>
-        requires kept { Kept self.old.running.tables }
-        requires here { has_node self.old.cursor.0 self.old.running.tables.trace.nodes ≡ true }
+        requires kept { Kept (running_of self.old).tables }
+        requires here { has_node self.old.cursor.0 (running_of self.old).tables.trace.nodes ≡ true }
         ensures rest { self.new ≡ record self.old { running = self.new.running } }
-        ensures heap { self.new.running.heap ≡ self.old.running.heap }
-        ensures spent { OnOk result (self.new.running.spent ≡ self.old.running.spent + 1) }
-        ensures nodes { OnOk result (self.new.running.tables.trace.nodes
+        ensures heap { (running_of self.new).heap ≡ (running_of self.old).heap }
+        ensures spent { OnOk result
+            ((running_of self.new).spent ≡ (running_of self.old).spent + 1) }
+        ensures nodes { OnOk result ((running_of self.new).tables.trace.nodes
             ≡ with_steps self.old.cursor.0
-            (steps_at self.old.cursor.0 self.old.running.tables.trace.nodes + 1)
-            self.old.running.tables.trace.nodes) }
-        ensures mods { self.new.running.tables.mods ≡ self.old.running.tables.mods }
-        ensures queue { self.new.running.tables.stale ≡ self.old.running.tables.stale }
-        ensures kept { Kept self.new.running.tables }
+            (steps_at self.old.cursor.0 (running_of self.old).tables.trace.nodes + 1)
+            (running_of self.old).tables.trace.nodes) }
+        ensures mods { (running_of self.new).tables.mods ≡ (running_of self.old).tables.mods }
+        ensures queue { (running_of self.new).tables.stale ≡ (running_of self.old).tables.stale }
+        ensures kept { Kept (running_of self.new).tables }
     {
-        let steps = one_more(self.running.tables.trace.steps_at(self.cursor))?;
-        let spent = one_more(self.running.spent)?;
-        self.running.tables.set_steps(self.cursor, steps);
-        self.running.spent = spent;
+        let running = &mut self.running;
+        let steps = one_more(running.tables.trace.steps_at(self.cursor))?;
+        let spent = one_more(running.spent)?;
+        running.tables.set_steps(self.cursor, steps);
+        running.spent = spent;
         Ok(())
     }
 
     /// What the running unit does next. It answers false where the unit is over and nothing follows. After want of memory the
     /// repair is of no further use.
-    pub fn turn(&mut self) -> Result<bool, NoMemory>
+    pub fn act(&mut self) -> Result<bool, NoMemory>
         requires runs { (start : Start) × Runs start self.old }
         ensures call { OnOk result (SameCall self.old self.new) }
         ensures runs { IfOk result
@@ -169,8 +179,8 @@ impl<'a> Repair<'a> {
                 Ok(true)
             }
             Step::Makes(making) => {
-                let (key, unit) = self.made(making)?;
-                self.make(key, making.var, unit)?;
+                let key = self.key(making)?;
+                self.make(key, making.var)?;
                 Ok(true)
             }
             Step::Writes { place, value } => {
@@ -178,8 +188,8 @@ impl<'a> Repair<'a> {
                 Ok(true)
             }
             Step::Reads(reading) => {
-                let closure = self.closure(reading)?;
-                self.read(closure)?;
+                self.leave_for(reading)?;
+                self.read(reading)?;
                 Ok(true)
             }
         }
@@ -187,10 +197,10 @@ impl<'a> Repair<'a> {
 
     /// The unit is over. What follows it is done; it answers false where nothing does.
     fn close(&mut self) -> Result<bool, NoMemory>
-        requires over { (start : Start) × Acts start act.Over self.old }
+        requires over { (start : Start) × Acts start does.Over self.old }
         ensures call { OnOk result (SameCall self.old self.new) }
         ensures runs { IfOk result
-            (λ more. (start : Start) → Acts start act.Over self.old → Turned more start self.new) }
+            (λ more. (start : Start) → Acts start does.Over self.old → Turned more start self.new) }
         ensures spent { IfOk result
             (λ more. more ≡ false → (view self.new).spent ≡ (view self.old).spent) }
     {

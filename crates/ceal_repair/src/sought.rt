@@ -6,7 +6,7 @@ ghost use Rattle.ceal_repair.specs.Lists.{allocates_at, recalls_at};
 ghost use Rattle.ceal_trace.specs.Nodes.{has_node};
 
 use ceal_base::forest::{Key, UnitId};
-use ceal_base::word::Place;
+use ceal_base::word::{Place, Word};
 use ceal_base::words::Words;
 use ceal_memo::hashes::{hash_of_alloc, hash_of_read};
 use ceal_memo::key::ReadKey;
@@ -19,7 +19,7 @@ use ceal_trace::trace::Trace;
 #[derive(Clone, Copy)]
 pub struct SoughtRead<'a> {
     pub trace: &'a Trace,
-    pub key: &'a ReadKey,
+    pub key: &'a ReadKey<'a>,
 }
 
 impl<'a> Sought for SoughtRead<'a> {
@@ -50,12 +50,19 @@ impl<'a> Sought for SoughtRead<'a> {
     }
 }
 
+// Whether the words are these.
+fn has_items(words: &Words, items: &[Word]) -> bool
+    ensures same { IsTrue result ↔ (words.now ≡ items.now) }
+{
+    words.items() == items
+}
+
 // Whether a key is that of a read of this place with this unit, variable and arguments.
-fn is_key_of(key: &ReadKey, place: Place, unit: UnitId, var: u32, args: &Words) -> bool
+fn is_key_of(key: &ReadKey<'_>, place: Place, unit: UnitId, var: u32, args: &Words) -> bool
     ensures same { IsTrue result
         ↔ (key.now ≡ record { place = place; unit = unit; var = var; args = args.now }) }
 {
-    place == key.place && unit == key.unit && var == key.var && args.same_as(&key.args)
+    place == key.place && unit == key.unit && var == key.var && has_items(args, key.args)
 }
 
 /// An allocation with a key, among the nodes of a trace.

@@ -14,6 +14,7 @@ ghost use Rattle.ceal_trace.specs.declared.node.Node.TheVariants.{Root, Alloc, W
 use ceal_base::forest::Key;
 use ceal_base::no_memory::NoMemory;
 use ceal_base::word::{BlockId, Place, Word};
+use ceal_base::words::Words;
 use ceal_memo::hashes::{hash_of_alloc, hash_of_read};
 use ceal_memo::key::ReadKey;
 use ceal_memo::laws::follows_still as memo_follows;
@@ -159,19 +160,24 @@ impl Tables {
     }
 
     /// Puts a read directly after a node, with what its place holds there. It has no end yet.
-    pub fn begin_read(&mut self, after: Stamp, key: ReadKey) -> Result<Begun, NoMemory>
+    pub fn begin_read(
+        &mut self,
+        alloc: Global,
+        after: Stamp,
+        key: &ReadKey<'_>,
+    ) -> Result<Begun, NoMemory>
         requires kept { Kept self.old }
         requires here { IsTrue (has_node after.0 self.old.trace.nodes) }
         ensures value { IfOk result (λ b.
             b.value ≡ contents_after (base_in self.old.mods)
-            (up_to after.0 self.old.trace.nodes) key.place) }
+            (up_to after.0 self.old.trace.nodes) key.now.place) }
         ensures nodes { IfOk result (λ b. self.new.trace.nodes
             ≡ with_entry_after after.0
-            (new_entry b.read.0 (Read key.place b.value key.unit key.var key.args))
+            (new_entry b.read.0 (Read key.now.place b.value key.now.unit key.now.var key.now.args))
             self.old.trace.nodes) }
         ensures inserted { IfOk result (λ b.
             Inserted after.0 b.read.0
-            (Read key.place b.value key.unit key.var key.args) self.old.trace.nodes
+            (Read key.now.place b.value key.now.unit key.now.var key.now.args) self.old.trace.nodes
             self.new.trace.nodes) }
         ensures open { IfOk result (λ b. end_in b.read.0 self.new.trace.nodes ≡ None) }
         ensures bases { OnOk result
@@ -185,12 +191,13 @@ impl Tables {
         queue_follows();
         memo_follows();
         self.trace.reserve(1)?;
-        let hash = hash_of_read(&key);
+        let hash = hash_of_read(key);
+        let args = Words::from_slice(alloc, key.args)?;
         let place = key.place;
         let value = self.value_behind(place, after);
         let read = self
             .trace
-            .begin_read(after, place, value, key.unit, key.var, key.args);
+            .begin_read(after, place, value, key.unit, key.var, args);
         self.mods.add_read(self.trace.order(), place, read)?;
         self.memo.add(self.trace.order(), hash, read)?;
         Ok(Begun { read, value })

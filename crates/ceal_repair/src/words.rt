@@ -72,7 +72,7 @@ fn input_shape(code: &Code, inputs: &Inputs, block: BlockId) -> Option<Shape>
 }
 
 /// The plain word of an input's field.
-#[tactic(auto, using(ceal_code::proofs::TableSteps::input_steps), unfolding(ceal_code::specs::Replay::input_plain))]
+#[tactic(auto, using(ceal_code::proofs::Equations::TableSteps::input_steps), unfolding(ceal_code::specs::Replay::input_plain))]
 fn input_word(code: &Code, inputs: &Inputs, block: BlockId, field: u32) -> Option<Word>
     ensures { result ≡ block_word (input_plain code.now inputs.now block) field }
 {

@@ -8,7 +8,6 @@ use crate::asserts::{equal, holds};
 use crate::orders::order_with_room;
 use ceal_base::forest::{Key, UnitId};
 use ceal_base::word::{BlockId, Place, Word};
-use ceal_base::words::Words;
 use ceal_memo::hashes::{hash_of_alloc, hash_of_read};
 use ceal_memo::key::ReadKey;
 use ceal_memo::memo::Memo;
@@ -118,29 +117,24 @@ fn a_removed_entry_is_not_found(rt: HostRuntime) {
 }
 
 // The hash of a read of one place by one unit, with this variable and one argument.
-fn read_hash<R: Abort>(rt: &R, alloc: Global, var: u32, argument: i64) -> u64 {
-    let args = Words::from_slice(alloc, &[Word::Num(argument)]).expect(rt, "memory");
-    let key = ReadKey {
+fn read_hash(var: u32, argument: i64) -> u64 {
+    hash_of_read(&ReadKey {
         place: Place {
             block: BlockId::Input(0),
             field: 1,
         },
         unit: UnitId(2),
         var,
-        args,
-    };
-    let hash = hash_of_read(&key);
-    drop(key);
-    hash
+        args: &[Word::Num(argument)],
+    })
 }
 
 #[test]
 fn keys_of_reads_have_hashes(rt: HostRuntime) {
-    let alloc = rt.alloc();
-    let hash = read_hash(&rt, alloc, 3, 4);
-    equal(&rt, read_hash(&rt, alloc, 3, 4) == hash, true);
-    equal(&rt, read_hash(&rt, alloc, 0, 4) == hash, false);
-    equal(&rt, read_hash(&rt, alloc, 3, 0) == hash, false);
+    let hash = read_hash(3, 4);
+    equal(&rt, read_hash(3, 4) == hash, true);
+    equal(&rt, read_hash(0, 4) == hash, false);
+    equal(&rt, read_hash(3, 0) == hash, false);
 }
 
 #[test]

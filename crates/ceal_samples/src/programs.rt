@@ -1,12 +1,16 @@
 // The programs of the tests, and what the compiler makes of them.
 
-ghost use Rattle.std.specs.Prelude.{◌≡◌, true, IfOk};
+ghost use Rattle.std.specs.Prelude.{◌≡◌, ◌++◌, true, IfOk, codes};
 ghost use Rattle.ceal_base.specs.WellTyped.{WellTyped};
 ghost use Rattle.ceal_code.specs.Valid.{valid};
+ghost use Rattle.ceal_gen.specs.Programs.{eval_program};
 
+use ceal_base::no_memory::NoMemory;
+use ceal_base::text::Text;
 use ceal_base::typed::Typed;
 use ceal_compile::compile::{check_source, compile};
 use ceal_compile::program::Program;
+use ceal_gen::programs;
 use std::alloc::Global;
 use std::test::Fail;
 
@@ -107,33 +111,15 @@ ceal top(mod int *a, mod struct box *m, mod int *o) {
 %%
 ";
 
-/// The value of a tree of operators.
-pub const EVAL: &[u8] = b"
-struct node { int op; mod int leaf; mod struct node left; mod struct node right; };
-ceal eval(mod struct node *root, mod int *res) {
-  struct node *t = read(root);
-  if (t == null) { write(res, 0); return; }
-  if (t->op == 0) {
-    int v = read(&t->leaf);
-    write(res, v);
-    return;
-  }
-  mod int *a = modref int();
-  mod int *b = modref int();
-  eval(&t->left, a);
-  eval(&t->right, b);
-  int x = read(a);
-  int y = read(b);
-  int r = 0;
-  if (t->op == 1) { r = x + y; }
-  else if (t->op == 2) { r = x - y; }
-  else if (t->op == 3) { r = x * y; }
-  else if (t->op == 4) { r = x / y; }
-  else { r = x % y; }
-  write(res, r);
+/// The value of a tree of operators: the program of a workload, and a line `%%`.
+pub fn eval(alloc: Global) -> Result<Text, NoMemory>
+    ensures text { IfOk result (λ text. text ≡ eval_program ++ codes "%%\n") }
+{
+    let mut text = Text::empty(alloc);
+    text.append_str(programs::eval_program())?;
+    text.append_str("%%\n")?;
+    Ok(text)
 }
-%%
-";
 
 /// The program of a source that is not longer than an input may be, and that has no fault.
 pub fn compiled(alloc: Global, source: &[u8]) -> Result<Program, Fail>

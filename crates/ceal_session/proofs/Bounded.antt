@@ -3,8 +3,8 @@ use Rattle.std.proofs.Common.{◌≡◌, ℕ, ◌≤◌, Bool, true, false, if�
 use Rattle.std.specs.Prelude.{IfSome}
 use Rattle.ceal_base.specs.Trace.{steps_of}
 use Rattle.ceal_base.specs.declared.call.Call.{Call}
-use Rattle.ceal_code.proofs.AlikeLemmas.{steps-alike}
-use Rattle.ceal_code.proofs.Same.{none-some, some-same}
+use Rattle.ceal_code.proofs.Alike.AlikeSteps.{steps-alike}
+use Rattle.ceal_code.proofs.Words.SameIsEqual.{none-some, some-same}
 use Rattle.ceal_code.specs.Fitting.{Fits}
 use Rattle.ceal_code.specs.Program.{Code}
 use Rattle.ceal_cost.proofs.Bounds.{bound-law}
@@ -21,8 +21,8 @@ use Rattle.ceal_session.specs.declared.refusal.Refusal.{Refusal}
 use Rattle.ceal_session.specs.Standing.{IsTraceIn, IsSettled, HasTraceOf, HasTrace}
 use Rattle.ceal_session.specs.State.{State, Situation, completed, last}
 use Rattle.ceal_session.specs.Works.{first_trace, steps_in_first, bound_by, past_left, bound_left}
-use Rattle.ceal_theory.proofs.CarriedLaws.{edited-so, own-single}
-use Rattle.ceal_theory.proofs.SliceLaws.{begun-adjusted-law, done-law, is-done-law, slice-law, slices-law, begin-law}
+use Rattle.ceal_theory.proofs.SlicedRepair.CarriedLaws.{edited-so, own-single}
+use Rattle.ceal_theory.proofs.SlicedRepair.SliceLaws.{begun-adjusted-law, done-law, is-done-law, slice-law, slices-law, begin-law}
 use Rattle.ceal_theory.specs.Computed.{Repaired, adjusted}
 use Rattle.ceal_theory.specs.Laws.{Edited, RenamedRepair}
 use Rattle.ceal_theory.specs.Pasts.{Past, NoTrace, Traced, Going, SamePast, IsPastOf, first_past, done_past, left_by}

@@ -6,7 +6,7 @@ use Rattle.ceal_base.specs.Trace.{Trace, steps_of}
 use Rattle.ceal_base.specs.declared.call.Call.{Call}
 use Rattle.ceal_base.specs.declared.word.BlockId.TheVariants.{Core}
 use Rattle.ceal_base.specs.declared.word.Word.{Word}
-use Rattle.ceal_code.proofs.Same.{some-same}
+use Rattle.ceal_code.proofs.Words.SameIsEqual.{some-same}
 use Rattle.ceal_code.specs.Fitting.{Fits}
 use Rattle.ceal_code.specs.Program.{Code}
 use Rattle.ceal_code.specs.Replay.{Replays, plain_of}
@@ -22,8 +22,8 @@ use Rattle.ceal_engine.specs.declared.run_error.RunError.TheVariants.{Memory, Ou
 use Rattle.ceal_session.proofs.Ran.{above, is-above, has-first}
 use Rattle.ceal_session.specs.Advancing.{Outcome, Brings, with_came}
 use Rattle.ceal_session.specs.Keeping.{past_of, past_by, traced_by, going_by}
-use Rattle.ceal_theory.proofs.CarriedLaws.{carried-same-law, carried-trace-law, edited-so, own-single}
-use Rattle.ceal_theory.proofs.SliceLaws.{begin-law}
+use Rattle.ceal_theory.proofs.SlicedRepair.CarriedLaws.{carried-same-law, carried-trace-law, edited-so, own-single}
+use Rattle.ceal_theory.proofs.SlicedRepair.SliceLaws.{begin-law}
 use Rattle.ceal_theory.specs.Carried.{Carried}
 use Rattle.ceal_theory.specs.Computed.{Repaired, first_of}
 use Rattle.ceal_theory.specs.Laws.{RenamedRepair}

@@ -7,7 +7,7 @@ use Rattle.ceal_base.specs.Block.{Block}
 use Rattle.ceal_base.specs.Trace.{steps_in, steps_of}
 use Rattle.ceal_base.specs.declared.forest.Item.{Item}
 use Rattle.ceal_base.specs.declared.word.Word.{Word}
-use Rattle.ceal_code.proofs.Same.{some-same}
+use Rattle.ceal_code.proofs.Words.SameIsEqual.{some-same}
 use Rattle.ceal_code.specs.Fitting.{Fits}
 use Rattle.ceal_code.specs.Fresh.{fresh}
 use Rattle.ceal_code.specs.Program.{Code}

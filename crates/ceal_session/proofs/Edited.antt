@@ -11,10 +11,10 @@ use Rattle.ceal_base.specs.declared.word.BlockId.{BlockId}
 use Rattle.ceal_base.specs.declared.word.BlockId.TheVariants.{Input, Core}
 use Rattle.ceal_base.specs.declared.word.Place.{Place}
 use Rattle.ceal_base.specs.declared.word.Word.{Word}
-use Rattle.ceal_code.proofs.InputFits.{longer-fits}
-use Rattle.ceal_code.proofs.Kept.{ShapesKept, fields-kept}
-use Rattle.ceal_code.proofs.Memory.{get-within}
-use Rattle.ceal_code.proofs.Same.{some-same}
+use Rattle.ceal_code.proofs.TypedCode.FittingInputs.{longer-fits}
+use Rattle.ceal_code.proofs.TypedCode.ShapesKept.{ShapesKept, fields-kept}
+use Rattle.ceal_code.proofs.Replay.MemoryChanges.{get-within}
+use Rattle.ceal_code.proofs.Words.SameIsEqual.{some-same}
 use Rattle.ceal_code.specs.Fitting.{Fits}
 use Rattle.ceal_code.specs.Replay.{Replays}
 use Rattle.ceal_code.specs.Value.{is_cell}
@@ -37,7 +37,7 @@ use Rattle.ceal_session.specs.Keeping.{is_dropped, past_of, past_by, traced_by, 
 use Rattle.ceal_session.specs.Steps.{with_base as state_with_base, with_input}
 use Rattle.ceal_session.specs.Undoing.{undone, base_at, IsWithin, AreWithin}
 use Rattle.ceal_session.specs.declared.journal.Edit.{Edit}
-use Rattle.ceal_theory.proofs.MoreInputs.{inputs-law}
+use Rattle.ceal_theory.proofs.Store.MoreInputs.{inputs-law}
 use Rattle.ceal_theory.specs.Pasts.{Traced, Going}
 
 edited-drops : (phase : Phase) → is_dropped (edited phase) ≡ is_dropped phase

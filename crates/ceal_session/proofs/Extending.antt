@@ -11,9 +11,9 @@ use Rattle.ceal_base.specs.declared.word.BlockId.{BlockId}
 use Rattle.ceal_base.specs.declared.word.BlockId.TheVariants.{Input, Core}
 use Rattle.ceal_base.specs.declared.word.Place.{Place}
 use Rattle.ceal_base.specs.declared.word.Word.{Word}
-use Rattle.ceal_code.proofs.Kept.{ShapesKept}
-use Rattle.ceal_code.proofs.Memory.{altered, got, get-before, get-within, written-here, written-other}
-use Rattle.ceal_code.proofs.Same.{block-same, none-some, some-same}
+use Rattle.ceal_code.proofs.TypedCode.ShapesKept.{ShapesKept}
+use Rattle.ceal_code.proofs.Replay.MemoryChanges.{altered, got, get-before, get-within, written-here, written-other}
+use Rattle.ceal_code.proofs.Words.SameIsEqual.{block-same, none-some, some-same}
 use Rattle.ceal_code.specs.Program.{Code}
 use Rattle.ceal_code.specs.Replay.{plain_words, plain_block, content_in, bases}
 use Rattle.ceal_code.specs.Value.{is_cell}

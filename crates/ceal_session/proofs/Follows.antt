@@ -4,7 +4,7 @@ use Rattle.ceal_base.specs.Block.{Block}
 use Rattle.ceal_base.specs.Finished.{Finished}
 use Rattle.ceal_base.specs.declared.call.Call.{Call}
 use Rattle.ceal_base.specs.declared.word.Word.{Word}
-use Rattle.ceal_code.proofs.Pairs.{zip-one}
+use Rattle.ceal_code.proofs.Alike.BlockPairs.{zip-one}
 use Rattle.ceal_code.specs.Alike.{Pairs, OneToOne, TraceAlike, zipped}
 use Rattle.ceal_code.specs.Fitting.{Fits}
 use Rattle.ceal_code.specs.Fresh.{fresh}
@@ -20,10 +20,10 @@ use Rattle.ceal_session.specs.Standing.{Stands}
 use Rattle.ceal_session.specs.State.{State, Situation}
 use Rattle.ceal_session.specs.Works.{call_in, reads_in, past_left, bound_by, bound_left, first_trace}
 use Rattle.ceal_session.specs.declared.refusal.Refusal.{Refusal}
-use Rattle.ceal_theory.proofs.CarriedLaws.{carried-slice-law, carried-trace-law}
-use Rattle.ceal_theory.proofs.Found.{first-law}
-use Rattle.ceal_theory.proofs.Main.{unique-law}
-use Rattle.ceal_theory.proofs.SliceLaws.{is-done-law, slice-law, slices-law}
+use Rattle.ceal_theory.proofs.SlicedRepair.CarriedLaws.{carried-slice-law, carried-trace-law}
+use Rattle.ceal_theory.proofs.Repair.EndAsFromScratch.{first-law}
+use Rattle.ceal_theory.proofs.Repair.RepairLaws.{unique-law}
+use Rattle.ceal_theory.proofs.SlicedRepair.SliceLaws.{is-done-law, slice-law, slices-law}
 use Rattle.ceal_theory.specs.Carried.{Carried, CarriedSlices}
 use Rattle.ceal_theory.specs.Computed.{Repaired, first_of}
 use Rattle.ceal_theory.specs.Laws.{FirstOutcome, RenamedRepair}

@@ -13,9 +13,9 @@ use Rattle.ceal_base.specs.declared.word.BlockId.TheVariants.{Input}
 use Rattle.ceal_base.specs.declared.word.Place.{Place}
 use Rattle.ceal_base.specs.declared.word.Word.{Word}
 use Rattle.ceal_base.specs.declared.word.Word.TheVariants.{Num, Null, Block as BlockWord, At}
-use Rattle.ceal_code.proofs.Ends.{fresh-ends}
-use Rattle.ceal_code.proofs.Memory.{altered, get-set_other, written-here, written-other}
-use Rattle.ceal_code.proofs.Same.{nat-same, some-same, block-same}
+use Rattle.ceal_code.proofs.Replay.RunEnds.{fresh-ends}
+use Rattle.ceal_code.proofs.Replay.MemoryChanges.{altered, get-set_other, written-here, written-other}
+use Rattle.ceal_code.proofs.Words.SameIsEqual.{nat-same, some-same, block-same}
 use Rattle.ceal_code.specs.Fitting.{Fits}
 use Rattle.ceal_code.specs.Fresh.{fresh}
 use Rattle.ceal_code.specs.Laws.{ProgressLaw}

@@ -9,8 +9,8 @@ use Rattle.ceal_code.specs.Fitting.{Fits}
 use Rattle.ceal_code.specs.Program.{Code}
 use Rattle.ceal_script.specs.declared.command.Command.{Command}
 use Rattle.ceal_theory.specs.Adjust.{Extended}
-use Rattle.ceal_theory.proofs.CarriedLaws.{carried-more-law}
-use Rattle.ceal_theory.proofs.SliceLaws.{more-law}
+use Rattle.ceal_theory.proofs.SlicedRepair.CarriedLaws.{carried-more-law}
+use Rattle.ceal_theory.proofs.SlicedRepair.SliceLaws.{more-law}
 use Rattle.ceal_theory.specs.Laws.{RenamedRepair}
 use Rattle.ceal_theory.specs.Pasts.{Past, NoTrace, Traced, Going, SamePast, IsPastOf, goes}
 use Rattle.ceal_theory.specs.Repair.{own}

@@ -5,15 +5,15 @@ use Rattle.ceal_base.specs.Block.{Block}
 use Rattle.ceal_base.specs.Finished.{Finished}
 use Rattle.ceal_base.specs.Trace.{Trace, blocks_of, steps_of}
 use Rattle.ceal_base.specs.declared.word.Word.{Word}
-use Rattle.ceal_code.proofs.Replayed.{trace-law}
-use Rattle.ceal_code.proofs.Same.{nat-same, none-some, some-same}
+use Rattle.ceal_code.proofs.Replay.ReplayedCall.{trace-law}
+use Rattle.ceal_code.proofs.Words.SameIsEqual.{nat-same, none-some, some-same}
 use Rattle.ceal_code.specs.Fitting.{Fits}
 use Rattle.ceal_code.specs.Fresh.{fresh}
 use Rattle.ceal_code.specs.Program.{Code}
 use Rattle.ceal_code.specs.Replay.{count, core_numbers, Replays, IsHonest}
-use Rattle.ceal_theory.proofs.CarriedLaws.{edited-so, own-single}
-use Rattle.ceal_theory.proofs.Found.{first-law}
-use Rattle.ceal_theory.proofs.SliceLaws.{begin-law, done-law, is-done-law, slice-law, slices-law, whole-law}
+use Rattle.ceal_theory.proofs.SlicedRepair.CarriedLaws.{edited-so, own-single}
+use Rattle.ceal_theory.proofs.Repair.EndAsFromScratch.{first-law}
+use Rattle.ceal_theory.proofs.SlicedRepair.SliceLaws.{begin-law, done-law, is-done-law, slice-law, slices-law, whole-law}
 use Rattle.ceal_theory.specs.Adjust.{Above}
 use Rattle.ceal_theory.specs.Computed.{Repaired, first_of}
 use Rattle.ceal_theory.specs.Laws.{FirstOutcome, FirstTrace}

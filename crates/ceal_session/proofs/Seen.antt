@@ -17,10 +17,10 @@ use Rattle.ceal_base.specs.declared.word.BlockId.{BlockId}
 use Rattle.ceal_base.specs.declared.word.BlockId.TheVariants.{Input, Core}
 use Rattle.ceal_base.specs.declared.word.Word.{Word}
 use Rattle.ceal_base.specs.declared.word.Word.TheVariants.{Null}
-use Rattle.ceal_code.proofs.FittingLemmas.{input-fits}
-use Rattle.ceal_code.proofs.Ends.{fresh-count}
-use Rattle.ceal_code.proofs.Memory.{got}
-use Rattle.ceal_code.proofs.Same.{none-some, some-same}
+use Rattle.ceal_code.proofs.TypedCode.FittingWords.{input-fits}
+use Rattle.ceal_code.proofs.Replay.RunEnds.{fresh-count}
+use Rattle.ceal_code.proofs.Replay.MemoryChanges.{got}
+use Rattle.ceal_code.proofs.Words.SameIsEqual.{none-some, some-same}
 use Rattle.ceal_code.specs.Fitting.{Fits}
 use Rattle.ceal_code.specs.Laws.{ProgressLaw}
 use Rattle.ceal_code.specs.Value.{is_cell}

@@ -5,9 +5,9 @@ use Rattle.std.specs.Prelude.{IfSome}
 use Rattle.ceal_base.specs.Block.{Block, alone}
 use Rattle.ceal_base.specs.declared.typed.StructInfo.{StructInfo}
 use Rattle.ceal_base.specs.declared.word.BlockId.TheVariants.{Input}
-use Rattle.ceal_code.proofs.Kept.{ShapesKept}
-use Rattle.ceal_code.proofs.Memory.{got, get-within}
-use Rattle.ceal_code.proofs.Same.{both, both-true, some-same}
+use Rattle.ceal_code.proofs.TypedCode.ShapesKept.{ShapesKept}
+use Rattle.ceal_code.proofs.Replay.MemoryChanges.{got, get-within}
+use Rattle.ceal_code.proofs.Words.SameIsEqual.{both, both-true, some-same}
 use Rattle.ceal_script.specs.Lines.{IsLineOf}
 use Rattle.ceal_script.specs.Spelling.{IsName}
 use Rattle.ceal_script.specs.declared.command.Command.{Command}

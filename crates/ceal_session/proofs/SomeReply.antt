@@ -19,11 +19,11 @@ use Rattle.ceal_base.specs.declared.word.BlockId.TheVariants.{Input}
 use Rattle.ceal_base.specs.declared.word.Place.{Place}
 use Rattle.ceal_base.specs.declared.word.Word.{Word}
 use Rattle.ceal_base.specs.declared.word.Word.TheVariants.{Num, Null, Block as BlockWord, At}
-use Rattle.ceal_code.proofs.Ends.{fresh-ends, fresh-count}
-use Rattle.ceal_code.proofs.InputFits.{edit-fits, fits_in, kept-longer, longer-fits}
-use Rattle.ceal_code.proofs.Kept.{ShapesKept, fields-kept, words-kept}
-use Rattle.ceal_code.proofs.Memory.{got}
-use Rattle.ceal_code.proofs.Same.{both, both-true}
+use Rattle.ceal_code.proofs.Replay.RunEnds.{fresh-ends, fresh-count}
+use Rattle.ceal_code.proofs.TypedCode.FittingInputs.{edit-fits, fits_in, kept-longer, longer-fits}
+use Rattle.ceal_code.proofs.TypedCode.ShapesKept.{ShapesKept, fields-kept, words-kept}
+use Rattle.ceal_code.proofs.Replay.MemoryChanges.{got}
+use Rattle.ceal_code.proofs.Words.SameIsEqual.{both, both-true}
 use Rattle.ceal_code.specs.Fitting.{Fits}
 use Rattle.ceal_code.specs.Fresh.{fresh as code_fresh}
 use Rattle.ceal_code.specs.Laws.{ProgressLaw}
@@ -52,8 +52,8 @@ use Rattle.ceal_session.specs.State.{State, Situation, numbers_in}
 use Rattle.ceal_session.specs.Steps.{Step, stays, refuses, with_input, block_of, made_with, made_of, with_base, fits_cell, set_word, set, is_call_of, IsCall, called, called_again, run_reply, runs, part_reply, runs_part, call_of, answered, answered_line}
 use Rattle.ceal_session.specs.Texts.{input_name, TellsOf, IsText}
 use Rattle.ceal_session.specs.Works.{call_in, past_in, past_left, bound_in}
-use Rattle.ceal_theory.proofs.MoreInputs.{inputs-law}
-use Rattle.ceal_theory.proofs.SliceLaws.{more-law}
+use Rattle.ceal_theory.proofs.Store.MoreInputs.{inputs-law}
+use Rattle.ceal_theory.proofs.SlicedRepair.SliceLaws.{more-law}
 use Rattle.ceal_theory.specs.Adjust.{Extended}
 use Rattle.ceal_theory.specs.Pasts.{Past, NoTrace, Traced, Going, SamePast, IsPastOf, goes}
 use Rattle.ceal_theory.specs.Slices.{Repair}

@@ -17,8 +17,8 @@ use Rattle.ceal_base.specs.declared.word.BlockId.{BlockId}
 use Rattle.ceal_base.specs.declared.word.BlockId.TheVariants.{Input, Core}
 use Rattle.ceal_base.specs.declared.word.Word.{Word}
 use Rattle.ceal_base.specs.declared.word.Word.TheVariants.{Num, Null, Block as BlockWord, At}
-use Rattle.ceal_code.proofs.Memory.{get-within}
-use Rattle.ceal_code.proofs.Same.{both, none-some, some-same}
+use Rattle.ceal_code.proofs.Replay.MemoryChanges.{get-within}
+use Rattle.ceal_code.proofs.Words.SameIsEqual.{both, none-some, some-same}
 use Rattle.ceal_engine.specs.Engine.{EngineState, IsRun, core, stored_at}
 use Rattle.ceal_show.specs.Renaming.{IsRenaming, renamed_word as shown_word, renamed_block as shown_block}
 use Rattle.ceal_show.specs.Shown.{IsWhole, IsThere, words_in, word_at, target}

@@ -10,8 +10,8 @@ use Rattle.ceal_base.specs.declared.call.Call.{Call}
 use Rattle.ceal_base.specs.declared.kind.Shape.{Shape}
 use Rattle.ceal_base.specs.declared.word.Word.{Word}
 use Rattle.ceal_base.specs.declared.word.Word.TheVariants.{Num, Null, Block as BlockWord, At as AtPlace}
-use Rattle.ceal_code.proofs.Pairs.{zip-one}
-use Rattle.ceal_code.proofs.Same.{none-some, some-same}
+use Rattle.ceal_code.proofs.Alike.BlockPairs.{zip-one}
+use Rattle.ceal_code.proofs.Words.SameIsEqual.{none-some, some-same}
 use Rattle.ceal_code.specs.Alike.{Pairs, OneToOne, TraceAlike, zipped}
 use Rattle.ceal_code.specs.Fitting.{Fits}
 use Rattle.ceal_code.specs.Fresh.{fresh}
@@ -47,8 +47,8 @@ use Rattle.ceal_session.specs.declared.reply.Reply.TheVariants.{Nothing, Ok as D
 use Rattle.ceal_session.specs.declared.sense.Sense.{Sense}
 use Rattle.ceal_session.specs.declared.sense.Sense.TheVariants.{Unknown, Plain, Word as IsWord}
 use Rattle.ceal_snap.specs.SaveText.{Save}
-use Rattle.ceal_theory.proofs.Found.{first-law}
-use Rattle.ceal_theory.proofs.Main.{unique-law}
+use Rattle.ceal_theory.proofs.Repair.EndAsFromScratch.{first-law}
+use Rattle.ceal_theory.proofs.Repair.RepairLaws.{unique-law}
 use Rattle.ceal_theory.specs.Adjust.{Extended}
 use Rattle.ceal_theory.specs.Carried.{Carried}
 use Rattle.ceal_theory.specs.Computed.{Repaired, first_of}

@@ -14,7 +14,7 @@ use Rattle.ceal_base.specs.declared.word.BlockId.TheVariants.{Input, Core}
 use Rattle.ceal_base.specs.declared.word.Place.{Place}
 use Rattle.ceal_base.specs.declared.word.Word.{Word}
 use Rattle.ceal_base.specs.declared.word.Word.TheVariants.{Num, Null, Block as BlockWord, At}
-use Rattle.ceal_code.proofs.Memory.{got}
+use Rattle.ceal_code.proofs.Replay.MemoryChanges.{got}
 use Rattle.ceal_code.specs.Laws.{ProgressLaw}
 use Rattle.ceal_engine.specs.Engine.{EngineState, IsEngine, is_whole, has_run, stored_at, trace}
 use Rattle.ceal_engine.specs.declared.phase.Phase.TheVariants.{Finished as IsFinished}

@@ -6,8 +6,8 @@ use Rattle.ceal_base.specs.declared.word.BlockId.TheVariants.{Input, Core}
 use Rattle.ceal_base.specs.declared.word.Place.{Place}
 use Rattle.ceal_base.specs.declared.word.Word.{Word}
 use Rattle.ceal_base.specs.declared.word.Word.TheVariants.{Null}
-use Rattle.ceal_code.proofs.Kept.{ShapesKept}
-use Rattle.ceal_code.proofs.Same.{none-some, some-same}
+use Rattle.ceal_code.proofs.TypedCode.ShapesKept.{ShapesKept}
+use Rattle.ceal_code.proofs.Words.SameIsEqual.{none-some, some-same}
 use Rattle.ceal_engine.specs.Engine.{alone, with_base}
 use Rattle.ceal_session.specs.Undoing.{undone, word_of, base_in, base_at, IsWithin, AreWithin}
 use Rattle.ceal_session.specs.declared.journal.Edit.{Edit}

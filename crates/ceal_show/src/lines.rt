@@ -146,13 +146,19 @@ fn put_word<V: View>(out: &mut Text, view: &V, met: &Met, word: Word) -> Result<
     }
 }
 
+/// A field of the blocks of a shape.
+#[derive(Clone, Copy)]
+struct FieldOf {
+    shape: Shape,
+    field: u32,
+}
+
 /// Adds a space, a field's name, `=` and its word.
 fn put_field_word<V: View>(
     out: &mut Text,
     view: &V,
     met: &Met,
-    shape: Shape,
-    field: u32,
+    at: FieldOf,
     word: Word,
 ) -> Result<(), NoMemory>
     requires there { IsThere (V.memory view.now) (target word) }
@@ -164,10 +170,10 @@ fn put_field_word<V: View>(
           memory = V.memory view.now;
           name = V.name view.now;
           blocks = met.now;
-        }) shape field word) }
+        }) at.shape at.field word) }
 {
     out.append_str(" ")?;
-    put_field(out, view.structs().items(), shape, field)?;
+    put_field(out, view.structs().items(), at.shape, at.field)?;
     out.append_str("=")?;
     put_word(out, view, met, word)
 }
@@ -197,7 +203,7 @@ fn put_fields<V: View>(
     let count = field_count(view.structs().items(), shape)?;
     for field in 0..count {
         let word = view.word(block, field);
-        put_field_word(out, view, met, shape, field, word)?;
+        put_field_word(out, view, met, FieldOf { shape, field }, word)?;
     }
     Ok(())
 }

@@ -14,7 +14,7 @@ use ceal_base::word::{BlockId, Place, Word};
 use ceal_base::words::Words;
 use ceal_mean::run::{Outcome, interpret};
 use ceal_samples::inputs::{at, operators};
-use ceal_samples::programs::{EVAL, compiled};
+use ceal_samples::programs::{compiled, eval};
 use std::alloc::Global;
 use std::process::Abort;
 use std::test::Fail;
@@ -212,7 +212,7 @@ fn copied<R: Abort>(rt: &R, alloc: Global, program: &Typed) -> Typed {
     }
 }
 
-/// The run of EVAL on its worked inputs.
+/// The run of `eval` on its worked inputs.
 fn evaluated<R: Abort>(rt: &R, alloc: Global, program: &Typed) -> Outcome {
     let inputs = operators(alloc).expect(rt, "memory");
     let outcome = interpret(alloc, program, 0, &[at(10), at(11)], &inputs, 102);
@@ -234,7 +234,7 @@ fn has_the_value<R: Abort>(rt: &R, outcome: &Outcome) {
     }
 }
 
-/// The program evaluates its worked inputs as EVAL does.
+/// The program evaluates its worked inputs as `eval` does.
 fn evaluates<R: Abort>(rt: &R, alloc: Global, program: &Typed) {
     let outcome = evaluated(rt, alloc, program);
     has_the_value(rt, &outcome);
@@ -243,7 +243,9 @@ fn evaluates<R: Abort>(rt: &R, alloc: Global, program: &Typed) {
 
 #[test]
 fn a_program_is_copied(rt: HostRuntime) -> Result<(), Fail> {
-    let program = compiled(rt.alloc(), EVAL)?;
+    let source = eval(rt.alloc())?;
+    let program = compiled(rt.alloc(), source.items())?;
+    drop(source);
     let copy = copied(&rt, rt.alloc(), &program.typed);
     drop(program);
     evaluates(&rt, rt.alloc(), &copy);

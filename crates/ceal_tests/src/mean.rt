@@ -6,7 +6,7 @@ use ceal_base::typed::Typed;
 use ceal_base::word::{BlockId, Word};
 use ceal_mean::run::{Outcome, interpret};
 use ceal_samples::inputs::{at, list, numbers, operators, place};
-use ceal_samples::programs::{DEEP, EVAL, INC, LOOP, MAP, compiled};
+use ceal_samples::programs::{DEEP, INC, LOOP, MAP, compiled, eval};
 use std::alloc::Global;
 use std::process::Abort;
 use std::test::Fail;
@@ -119,7 +119,9 @@ fn evaluates<R: Abort>(rt: &R, alloc: Global, program: &Typed) {
 
 #[test]
 fn a_tree_of_operators_is_evaluated(rt: HostRuntime) -> Result<(), Fail> {
-    let program = compiled(rt.alloc(), EVAL)?;
+    let source = eval(rt.alloc())?;
+    let program = compiled(rt.alloc(), source.items())?;
+    drop(source);
     evaluates(&rt, rt.alloc(), &program.typed);
     drop(program);
     Ok(())

@@ -10,7 +10,7 @@ use ceal_lex::lex::lex;
 use ceal_lex::split::split;
 use ceal_parse::parse::parse;
 use ceal_print::print::print_tree;
-use ceal_samples::programs::EVAL;
+use ceal_samples::programs::eval;
 use std::alloc::Global;
 use std::process::Abort;
 
@@ -63,7 +63,9 @@ fn parentheses_stand_where_they_are_needed(rt: HostRuntime) {
 
 #[test]
 fn a_printed_program_reads_back(rt: HostRuntime) {
-    let first = printed(&rt, rt.alloc(), EVAL);
+    let source = eval(rt.alloc()).expect(&rt, "memory");
+    let first = printed(&rt, rt.alloc(), source.items());
+    drop(source);
     let second = printed(&rt, rt.alloc(), first.items());
     holds(&rt, second.same_as(&first));
     drop(second);

@@ -1,5 +1,5 @@
 -- A trace with one node less.
-use Rattle.std.proofs.Common.{◌≡◌, ◌≢◌, ℕ, suc, inl, inr, ◌+◌, ◌-◌, ◌<◌, ◌≤◌, true, false, List, length, refl, sym, ap, subst, ◌∙◌, arith, Some, None}
+use Rattle.std.proofs.Common.{◌≡◌, ◌≢◌, ℕ, suc, inl, inr, ◌+◌, ◌-◌, ◌<◌, ◌≤◌, true, false, List, length, refl, sym, ap, subst, ◌∙◌, arith, Option, Some, None}
 use Rattle.std.proofs.lemmas.Bool.{cases_Bool}
 use Rattle.ceal_order.specs.Stamps.{Listing, IsOrder, OneMore, is_in, head_of, without}
 use Rattle.ceal_trace.specs.declared.node.Node.{Node}
@@ -18,6 +18,10 @@ held_is order t s found = ap held_by (entry_found order t s found)
 
 pub steps_are : (order : Listing) (t : Table) (s : ℕ) → is_in s order.stamps ≡ true → steps_at s (timeline order t).nodes ≡ steps_of t s
 steps_are order t s found = ap steps_on (entry_found order t s found)
+
+-- what stands at a stamp is one node
+pub some_same : (a b : Node) (o : Option Node) → o ≡ Some a → o ≡ Some b → a ≡ b
+some_same a b o first second = cc
 
 -- the read that a node ends has a row
 pub end_row : (order : Listing) (t : Table) (s steps : ℕ) → Sound order t steps → is_in s order.stamps ≡ true

@@ -1,15 +1,18 @@
 -- The slots of a table and its shelf, while nodes are put in and taken out.
-use Rattle.std.proofs.Common.{◌≡◌, ◌≢◌, ℕ, zero, suc, inl, inr, ◌<◌, ◌≤◌, true, List, [], ◌∷◌, length, map, max, Option, Some, None, IsSome, is_some, refl, sym, ap, subst, ◌∙◌, arith, option_map}
+use Rattle.std.proofs.Common.{◌≡◌, ◌≢◌, ℕ, zero, suc, inl, inr, ◌<◌, ◌≤◌, true, List, [], ◌∷◌, length, map, max, Option, Some, None, IfSome, IsSome, is_some, refl, sym, ap, subst, ◌∙◌, arith, option_map}
 use Rattle.std.proofs.lemmas.Bool.{cases_eq}
 use Rattle.std.proofs.lemmas.List.{length-map}
 use Rattle.ceal_base.specs.declared.word.Word.{Word}
 use Rattle.ceal_trace.specs.declared.node.Node.{Node}
 use Rattle.ceal_trace.specs.declared.slot.Slot.{Slot}
 use Rattle.ceal_trace.specs.declared.shelf.Shelf.{Shelf}
-use Rattle.ceal_trace.specs.Nodes.{valued}
+use Rattle.ceal_trace.specs.declared.node.Node.TheVariants.{Root, Alloc, Write, Read, End}
+use Rattle.ceal_order.specs.declared.stamp.Stamp.{Stamp}
+use Rattle.ceal_trace.proofs.Entries.{ends_own}
+use Rattle.ceal_trace.specs.Nodes.{ends, ended_by, valued}
 use Rattle.ceal_trace.specs.Rows.{Row, row_of, no_stamp}
-use Rattle.ceal_trace.specs.Shelves.{IsFit, at, count_of, no_key, SameShelf, AlsoAt, NoMoreAt, ValuedAt}
-use Rattle.ceal_trace.specs.Slots.{slot_of, or_root, row_in, table, IsTable, SlotSet, KeyTaken, Longer, Reopened}
+use Rattle.ceal_trace.specs.Shelves.{at, or_root, count_of, no_key, SameShelf, AlsoAt, NoMoreAt, ValuedAt}
+use Rattle.ceal_trace.specs.Slots.{slot_of, row_in, table, IsTable, SlotSet, KeyTaken, Longer, Reopened}
 use Rattle.ceal_trace.specs.Keeping.{node_of, held_at, steps_of, end_of, PutAt, TakenFrom, Wider, ValueSet, StepsSet, EndSet}
 
 abbrev key_of : List Slot → ℕ → ℕ
@@ -113,6 +116,15 @@ module _ (slots slots' : List Slot) (shelf shelf' : Shelf) (s key : ℕ) (node :
   }
 
 -- ---- a node less
+
+-- the read that a node ends is low, where each read is low that it ends
+pub ended_low : (n : Node) (rows : ℕ) → ((read : ℕ) → ends read n ≡ true → read < rows) → (o : Option Stamp) → o ≡ ended_by n → IfSome o (λ r. r.0 < rows)
+ended_low n rows low None is = tt
+ended_low Root rows low (Some r) is = absurd (cc)
+ended_low (Alloc block key) rows low (Some r) is = absurd (cc)
+ended_low (Write place value) rows low (Some r) is = absurd (cc)
+ended_low (Read place value unit var args) rows low (Some r) is = absurd (cc)
+ended_low (End q) rows low (Some r) is = let same : r ≡ q = cc in subst (λ (x : Stamp). x.0 < rows) (sym same) (low q.0 (ends_own q))
 
 module _ (slots slots1 slots' : List Slot) (shelf shelf' : Shelf) (s : ℕ) (was : Slot) (node : Node) (is : IsTable slots shelf)
     (held : held_at (table slots shelf) s ≡ true)

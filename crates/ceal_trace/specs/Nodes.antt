@@ -6,6 +6,7 @@ use Rattle.ceal_order.specs.declared.stamp.Stamp.{Stamp}
 use Rattle.ceal_trace.specs.declared.node.Node.{Node}
 use Rattle.ceal_trace.specs.declared.node.Node.TheVariants.{Root, Alloc, Write, Read, End}
 use Rattle.ceal_trace.specs.declared.node.Seen.{Seen}
+use Rattle.ceal_trace.specs.declared.node.SeenRead.{SeenRead}
 use Rattle.ceal_trace.specs.declared.node.Seen.TheVariants as seen_node
 
 -- a node with its stamp and its steps, which are those between it and the next node
@@ -71,6 +72,10 @@ seen (seen_node.Write place value) = Write place value
 seen (seen_node.Read place value unit var args) = Read place value unit var args.now
 seen (seen_node.End read) = End read
 
+-- the read that is seen
+abbrev pub seen_read : SeenRead → Node
+seen_read r = Read r.place r.value r.unit r.var r.args.now
+
 -- whether a node is a read
 abbrev pub is_read : Option Node → Bool
 is_read (Some (Read place value unit var args)) = true
@@ -86,6 +91,11 @@ is_plain _ = true
 abbrev pub ends : ℕ → Node → Bool
 ends read (End r) = r.0 == read
 ends read _ = false
+
+-- the read that a node ends
+abbrev pub ended_by : Node → Option Stamp
+ended_by (End read) = Some read
+ended_by _ = None
 
 -- the stamp of the end of a read, None where the read is not finished
 abbrev pub end_in : ℕ → List Entry → Option ℕ

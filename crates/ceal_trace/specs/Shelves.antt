@@ -38,6 +38,11 @@ abbrev pub whole_in : Slab Apart → Option Held → Option Node
 whole_in apart None = None
 whole_in apart (Some h) = whole apart h
 
+-- a node, or the root where there is none
+abbrev pub or_root : Option Node → Node
+or_root None = node.Root
+or_root (Some n) = n
+
 -- under which key a part stands apart
 abbrev pub place_of : Option Held → Option ℕ
 place_of (Some (small.Alloc block at)) = Some at

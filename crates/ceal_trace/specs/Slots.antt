@@ -1,22 +1,17 @@
 -- What a table keeps: a slot for each number of a stamp, and the shelf with the nodes.
-use Rattle.std.specs.Prelude.{◌≡◌, ◌≢◌, ◌≤◌, ℕ, List, map, length, slice_index_or, Option, None, Some, IsSome, is_some, true, false}
+use Rattle.std.specs.Prelude.{◌≡◌, ◌≢◌, ◌≤◌, ℕ, List, map, length, slice_index_or, None, IsSome, is_some, true, false}
 use Rattle.ceal_trace.specs.declared.node.Node.{Node}
-use Rattle.ceal_trace.specs.declared.node.Node.TheVariants.{Root}
 use Rattle.ceal_trace.specs.declared.slot.Slot.{Slot}
 use Rattle.ceal_trace.specs.Nodes.{ends}
 use Rattle.ceal_trace.specs.Rows.{Row, Table, no_stamp}
 use Rattle.ceal_trace.specs.declared.shelf.Shelf.{Shelf}
-use Rattle.ceal_trace.specs.Shelves.{IsFit, at, count_of, no_key}
+use Rattle.ceal_trace.specs.Shelves.{IsFit, at, count_of, no_key, or_root}
 
 abbrev pub blank_slot : Slot
 blank_slot = record { key = no_key; steps = 0; end = no_stamp }
 
 abbrev pub slot_of : List Slot → ℕ → Slot
 slot_of slots s = slice_index_or slots s blank_slot
-
-abbrev pub or_root : Option Node → Node
-or_root None = Root
-or_root (Some node) = node
 
 abbrev pub row_in : Shelf → Slot → Row
 row_in shelf slot = record { node = or_root (at shelf slot.key); held = is_some (at shelf slot.key); steps = slot.steps; end = slot.end }

@@ -1,9 +1,8 @@
 // A node in two parts: a small one, and what few nodes have.
 
 ghost use Rattle.std.specs.Prelude.{◌≡◌, Some, IsSome};
-ghost use Rattle.slab.specs.Slab.{get, HasRoomFor};
-ghost use Rattle.ceal_trace.specs.Nodes.{seen};
-ghost use Rattle.ceal_trace.specs.Shelves.{whole, Split, Joined, held_valued};
+ghost use Rattle.ceal_trace.specs.Nodes.{seen, ended_by};
+ghost use Rattle.ceal_trace.specs.Shelves.{whole, or_root, Joined, held_valued};
 
 use crate::node::{Node, Seen};
 use ceal_base::forest::{Key, UnitId};
@@ -32,38 +31,6 @@ pub enum Apart {
         var: u32,
         args: Words,
     },
-}
-
-/// Splits a node, and puts apart what does not stand in the small part.
-pub fn split(apart: &mut Slab<Apart>, node: Node) -> Held
-    requires { HasRoomFor apart.old 1 }
-    ensures { Split apart.old apart.new node result }
-{
-    match node {
-        Node::Root => Held::Root,
-        Node::Alloc { block, key } => {
-            let at = apart.insert_reserved(Apart::Key(key));
-            Held::Alloc { block, apart: at }
-        }
-        Node::Write { place, value } => Held::Write { place, value },
-        Node::Read {
-            place,
-            value,
-            unit,
-            var,
-            args,
-        } => {
-            let closure = Apart::Closure {
-                place,
-                unit,
-                var,
-                args,
-            };
-            let at = apart.insert_reserved(closure);
-            Held::Read { value, apart: at }
-        }
-        Node::End { read } => Held::End { read },
-    }
 }
 
 /// Joins a node, and takes out what stands apart.
@@ -97,7 +64,30 @@ pub fn join(apart: &mut Slab<Apart>, held: Held) -> Node
     }
 }
 
+/// Lets what stands apart of a node go where it stands, and tells the read that the node ends.
+#[inline]
+pub fn release(apart: &mut Slab<Apart>, held: Held) -> Option<Stamp>
+    requires { IsSome (whole apart.old held) }
+    ensures released { Joined apart.old apart.new held (or_root (whole apart.old held)) }
+    ensures ended { result ≡ ended_by (or_root (whole apart.old held)) }
+{
+    match held {
+        Held::Root => None,
+        Held::Alloc { apart: at, .. } => {
+            drop(apart.remove(at));
+            None
+        }
+        Held::Write { .. } => None,
+        Held::Read { apart: at, .. } => {
+            drop(apart.remove(at));
+            None
+        }
+        Held::End { read } => Some(read),
+    }
+}
+
 /// A node as it stands.
+#[inline]
 pub fn look<'a>(apart: &'a Slab<Apart>, held: &'a Held) -> Seen<'a>
     requires { IsSome (whole apart.now held.now) }
     ensures { whole apart.now held.now ≡ Some (seen result) }

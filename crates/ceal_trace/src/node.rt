@@ -56,6 +56,16 @@ pub enum Seen<'a> {
     },
 }
 
+/// A read where it stands in a trace.
+#[derive(Clone, Copy)]
+pub struct SeenRead<'a> {
+    pub place: Place,
+    pub value: Word,
+    pub unit: UnitId,
+    pub var: u32,
+    pub args: &'a Words,
+}
+
 /// What a removed node held, and its steps.
 #[derive(Drop)]
 pub struct Gone {

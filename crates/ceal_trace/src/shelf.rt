@@ -1,14 +1,16 @@
 // The nodes of a trace under keys of their own.
 
 ghost use Rattle.std.specs.Prelude.{◌≡◌, ◌<◌, ◌≤◌, ℕ, Some, None, IsSome, OnOk};
-ghost use Rattle.ceal_trace.specs.Nodes.{seen, valued};
-ghost use Rattle.ceal_trace.specs.Shelves.{IsFit, at, count_of, SameShelf, AlsoAt, NoMoreAt, ValuedAt, HeldValued};
+ghost use Rattle.ceal_trace.specs.Nodes.{seen, ended_by, valued};
+ghost use Rattle.ceal_trace.specs.Shelves.{IsFit, at, or_root, count_of, SameShelf, AlsoAt, NoMoreAt, ValuedAt, HeldValued};
 ghost use Rattle.slab.specs.Slab.{ContainsKey};
 
-use crate::held::{Apart, Held, give_value, join, look, split};
+use crate::held::{Apart, Held, give_value, join, look, release};
+use crate::new_node::NewNode;
 use crate::node::{Node, Seen};
 use ceal_base::no_memory::NoMemory;
 use ceal_base::word::Word;
+use ceal_order::stamp::Stamp;
 use slab::Slab;
 use std::alloc::Global;
 
@@ -56,13 +58,14 @@ impl Shelf {
     }
 
     /// Puts a node in, and gives its key.
-    pub fn put(&mut self, node: Node) -> usize
+    #[inline]
+    pub fn put<N: NewNode>(&mut self, node: N) -> usize
         requires fit { IsFit self.old.held self.old.apart }
         requires held { count_of self.old < self.old.held.capacity }
         requires apart { count_of self.old < self.old.apart.capacity }
-        ensures { AlsoAt result node self.old self.new }
+        ensures { AlsoAt result (N.node node) self.old self.new }
     {
-        let held = split(&mut self.apart, node);
+        let held = node.split(&mut self.apart);
         let key = self.held.insert_reserved(held);
         let _room = self.held.capacity();
         key
@@ -78,7 +81,20 @@ impl Shelf {
         join(&mut self.apart, held)
     }
 
+    /// Lets the node at a key go, and tells the read that it ends.
+    #[inline]
+    pub fn release(&mut self, key: usize) -> Option<Stamp>
+        requires fit { IsFit self.old.held self.old.apart }
+        requires there { IsSome (at self.old key) }
+        ensures gone { NoMoreAt key (or_root (at self.old key)) self.old self.new }
+        ensures ended { result ≡ ended_by (or_root (at self.old key)) }
+    {
+        let held = self.held.remove(key);
+        release(&mut self.apart, held)
+    }
+
     /// The node at a key.
+    #[inline]
     pub fn node(&self, key: usize) -> Seen<'_>
         requires { IsSome (at self.now key) }
         ensures { at self.now key ≡ Some (seen result) }

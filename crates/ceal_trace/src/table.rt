@@ -1,10 +1,12 @@
 // The nodes of a trace by the numbers of their stamps.
 
 ghost use Rattle.std.specs.Prelude.{◌≡◌, ◌<◌, ◌≤◌, ◌+◌, ℕ, length, [], Some, None, IfSome, IfNone, OnOk, IsTrue, true};
-ghost use Rattle.ceal_trace.specs.Nodes.{ends, seen};
+ghost use Rattle.ceal_trace.specs.declared.node.Node.{Node as NodeOf};
+ghost use Rattle.ceal_trace.specs.Nodes.{ends, ended_by, seen};
 ghost use Rattle.ceal_trace.specs.Slots.{Reopened};
 ghost use Rattle.ceal_trace.specs.Keeping.{node_of, steps_of, end_of, noted, held_at, PutAt, TakenFrom, Wider, ValueSet, StepsSet, EndSet};
 
+use crate::new_node::NewNode;
 use crate::node::{Gone, Node, Seen};
 use crate::shelf::Shelf;
 use crate::slot::{NO_STAMP, Slot, lengthen, put_key, set_end, set_steps, slot_at, take_key};
@@ -68,10 +70,11 @@ impl Table {
     }
 
     /// Puts a node without steps at a stamp that has none.
-    pub fn put(&mut self, at: Stamp, node: Node)
+    #[inline]
+    pub fn put<N: NewNode>(&mut self, at: Stamp, node: N)
         requires row { at.0 < length self.old.rows }
         requires few { self.old.count < length self.old.rows }
-        ensures { PutAt at.0 node self.old self.new }
+        ensures { PutAt at.0 (N.node node) self.old self.new }
     {
         let key = self.shelf.put(node);
         put_key(&mut self.slots, at.0, key);
@@ -87,13 +90,28 @@ impl Table {
     {
         let slot = take_key(&mut self.slots, at.0);
         let node = self.shelf.take(slot.key);
-        reopen(&mut self.slots, &node);
+        reopen(&mut self.slots, ended_by(&node));
         Gone {
             node,
             steps: slot.steps,
         }
     }
 
+    /// Lets the node at a stamp go, and tells its steps.
+    pub fn release(&mut self, at: Stamp) -> u32
+        requires some { IsTrue (held_at self.old at.0) }
+        requires read { (read : ℕ) → ends read (node_of self.old at.0) ≡ true
+            → read < length self.old.rows }
+        ensures node { TakenFrom at.0 (node_of self.old at.0) self.old self.new }
+        ensures steps { result ≡ steps_of self.old at.0 }
+    {
+        let slot = take_key(&mut self.slots, at.0);
+        let ended = self.shelf.release(slot.key);
+        reopen(&mut self.slots, ended);
+        slot.steps
+    }
+
+    #[inline]
     pub fn node(&self, at: Stamp) -> Seen<'_>
         requires { IsTrue (held_at self.now at.0) }
         ensures { seen result ≡ node_of self.now at.0 }
@@ -147,12 +165,26 @@ impl Table {
     }
 }
 
-// Where the node is an end, its read is not finished any more.
-fn reopen(slots: &mut Vec<Slot>, node: &Node)
-    requires { (read : ℕ) → ends read node.now ≡ true → read < length slots.old.items }
-    ensures { Reopened slots.old.items slots.new.items node.now }
+// The read that a node ends.
+fn ended_by(node: &Node) -> Option<Stamp>
+    ensures { result ≡ ended_by node.now }
 {
-    if let Node::End { read } = node {
+    match node {
+        Node::End { read } => Some(*read),
+        Node::Root => None,
+        Node::Alloc { .. } => None,
+        Node::Write { .. } => None,
+        Node::Read { .. } => None,
+    }
+}
+
+// The read that a node ended is not finished any more.
+fn reopen(slots: &mut Vec<Slot>, ended: Option<Stamp>)
+    requires { IfSome ended (λ read. read.0 < length slots.old.items) }
+    ensures { (node : NodeOf) → ended ≡ ended_by node
+        → Reopened slots.old.items slots.new.items node }
+{
+    if let Some(read) = ended {
         set_end(slots, read.0, NO_STAMP);
     }
 }

@@ -3,11 +3,17 @@
 ghost use Rattle.std.specs.Prelude.{◌≡◌, ◌≢◌, ◌+◌, ◌<◌, ◌≤◌, ℕ, [], ◌∷◌, false, Some, None, IfSome, IfNone, IfOk, OnOk, OnErr, IsTrue, option_map};
 ghost use Rattle.ceal_base.specs.Trace.{steps_in};
 ghost use Rattle.ceal_order.specs.Stamps.{head_of};
+ghost use Rattle.ceal_base.specs.declared.forest.Key.{Key as KeyOf};
+ghost use Rattle.ceal_base.specs.declared.word.BlockId.{BlockId as BlockOf};
+ghost use Rattle.ceal_base.specs.declared.word.Place.{Place as PlaceOf};
+ghost use Rattle.ceal_base.specs.declared.word.Word.{Word as WordOf};
+ghost use Rattle.ceal_trace.specs.declared.node.Node.{Node as NodeOf};
 ghost use Rattle.ceal_trace.specs.declared.node.Node.TheVariants.{Root, Alloc, Write, Read, End};
-ghost use Rattle.ceal_trace.specs.Nodes.{order_of, stamps_in, has_node, position, new_entry, node_at, steps_at, steps_sum, is_read, ends, end_in, with_entry_after, without_entry, valued, with_value, with_steps, IsTrace, NoLooseEnd, LooseEndOf, OneMoreNode, Inserted, SameBut, is_plain, seen};
+ghost use Rattle.ceal_trace.specs.Nodes.{order_of, stamps_in, has_node, position, new_entry, node_at, steps_at, steps_sum, is_read, ends, end_in, with_entry_after, without_entry, valued, with_value, with_steps, IsTrace, NoLooseEnd, LooseEndOf, OneMoreNode, Inserted, SameBut, is_plain, seen, seen_read};
 ghost use Rattle.ceal_trace.specs.Items.{forest_of};
 
-use crate::node::{Gone, Node, Seen};
+use crate::new_node::{NewAlloc, NewEnd, NewNode, NewRead, NewRoot, NewWrite};
+use crate::node::{Gone, Seen, SeenRead};
 use crate::table::Table;
 use ceal_base::forest::{Key, UnitId};
 use ceal_base::no_memory::NoMemory;
@@ -55,7 +61,7 @@ impl Trace {
         let root = order.first();
         let mut table = Table::new(alloc);
         table.reserve(1)?;
-        table.put(root, Node::Root);
+        table.put(root, NewRoot);
         Ok(Trace {
             order,
             table,
@@ -86,6 +92,7 @@ impl Trace {
     ///
     /// How many insertions there is room for beyond those is not told, as the order does not tell it: else a trace that
     /// is thrown away and built anew would provably have the stamps of the one before, as if it had been kept.
+    #[inline]
     pub fn reserve(&mut self, nodes: u32) -> Result<(), NoMemory>
         ensures nodes { self.new.nodes ≡ self.old.nodes }
         ensures room { OnOk result (nodes ≤ self.new.spare) }
@@ -96,6 +103,18 @@ impl Trace {
         if self.order.has_room(nodes) {
             return Ok(());
         }
+        self.widen(nodes)
+    }
+
+    // Makes room where there is none. It is called seldom, and stands apart, so that the common way is short.
+    #[inline(never)]
+    fn widen(&mut self, nodes: u32) -> Result<(), NoMemory>
+        ensures nodes { self.new.nodes ≡ self.old.nodes }
+        ensures room { OnOk result (nodes ≤ self.new.spare) }
+        ensures kept { self.old.spare ≤ self.new.spare }
+        ensures err { OnErr result (self.new ≡ self.old) }
+        ensures whole { IsTrace self.new }
+    {
         let room = nodes.saturating_add(ROOM_BEYOND);
         self.table.reserve(room)?;
         self.order.reserve(nodes)
@@ -115,7 +134,7 @@ impl Trace {
         ensures closed { NoLooseEnd self.new.nodes }
         ensures whole { IsTrace self.new }
     {
-        self.insert(after, Node::Alloc { block, key })
+        self.insert(after, NewAlloc { block, key })
     }
 
     /// Puts a write directly after a node.
@@ -132,7 +151,7 @@ impl Trace {
         ensures closed { NoLooseEnd self.new.nodes }
         ensures whole { IsTrace self.new }
     {
-        self.insert(after, Node::Write { place, value })
+        self.insert(after, NewWrite { place, value })
     }
 
     /// Puts a read directly after a node. It is not finished.
@@ -159,7 +178,7 @@ impl Trace {
         ensures closed { NoLooseEnd self.new.nodes }
         ensures whole { IsTrace self.new }
     {
-        let read = Node::Read {
+        let read = NewRead {
             place,
             value,
             unit,
@@ -170,14 +189,15 @@ impl Trace {
     }
 
     // Puts a node that is no end directly after another.
-    fn insert(&mut self, after: Stamp, node: Node) -> Stamp
+    #[inline]
+    fn insert<N: NewNode>(&mut self, after: Stamp, node: N) -> Stamp
         requires here { IsTrue (has_node after.0 self.old.nodes) }
         requires room { 0 < self.old.spare }
         requires closed { NoLooseEnd self.old.nodes }
-        requires plain { IsTrue (is_plain node) }
+        requires plain { IsTrue (is_plain (N.node node)) }
         ensures nodes { self.new.nodes
-            ≡ with_entry_after after.0 (new_entry result.0 node) self.old.nodes }
-        ensures inserted { Inserted after.0 result.0 node self.old.nodes self.new.nodes }
+            ≡ with_entry_after after.0 (new_entry result.0 (N.node node)) self.old.nodes }
+        ensures inserted { Inserted after.0 result.0 (N.node node) self.old.nodes self.new.nodes }
         ensures spare { self.new.spare + 1 ≡ self.old.spare }
         ensures open { end_in result.0 self.new.nodes ≡ None }
         ensures ends { (read : ℕ) → end_in read self.new.nodes ≡ end_in read self.old.nodes }
@@ -208,7 +228,7 @@ impl Trace {
         ensures whole { IsTrace self.new }
     {
         let end = self.order.insert_after(after);
-        self.table.put(end, Node::End { read });
+        self.table.put(end, NewEnd { read });
         self.table.set_end(read, end);
         end
     }
@@ -247,11 +267,73 @@ impl Trace {
         self.steps = self.steps - u64::from(old) + u64::from(steps);
     }
 
+    #[inline]
     pub fn node(&self, stamp: Stamp) -> Seen<'_>
         requires here { IsTrue (has_node stamp.0 self.now.nodes) }
         ensures node { node_at stamp.0 self.now.nodes ≡ Some (seen result) }
     {
         self.table.node(stamp)
+    }
+
+    /// A read, with no other case to match.
+    #[inline]
+    pub fn read_at(&self, read: Stamp) -> SeenRead<'_>
+        requires read { IsTrue (is_read (node_at read.0 self.now.nodes)) }
+        ensures read { node_at read.0 self.now.nodes ≡ Some (seen_read result) }
+    {
+        match self.node(read) {
+            Seen::Read {
+                place,
+                value,
+                unit,
+                var,
+                args,
+            } => SeenRead {
+                place,
+                value,
+                unit,
+                var,
+                args,
+            },
+            Seen::Root => unreachable!(),
+            Seen::Alloc { .. } => unreachable!(),
+            Seen::Write { .. } => unreachable!(),
+            Seen::End { .. } => unreachable!(),
+        }
+    }
+
+    /// The value of a write.
+    #[inline]
+    pub fn written_at(&self, write: Stamp) -> Word
+        requires write { (place : PlaceOf) × (value : WordOf)
+            × (node_at write.0 self.now.nodes ≡ Some (Write place value)) }
+        ensures value { (place : PlaceOf)
+            × (node_at write.0 self.now.nodes ≡ Some (Write place result)) }
+    {
+        match self.node(write) {
+            Seen::Write { value, .. } => value,
+            Seen::Root => unreachable!(),
+            Seen::Alloc { .. } => unreachable!(),
+            Seen::Read { .. } => unreachable!(),
+            Seen::End { .. } => unreachable!(),
+        }
+    }
+
+    /// The block of an allocation.
+    #[inline]
+    pub fn block_at(&self, alloc: Stamp) -> BlockId
+        requires alloc { (block : BlockOf) × (key : KeyOf)
+            × (node_at alloc.0 self.now.nodes ≡ Some (Alloc block key)) }
+        ensures block { (key : KeyOf)
+            × (node_at alloc.0 self.now.nodes ≡ Some (Alloc result key)) }
+    {
+        match self.node(alloc) {
+            Seen::Alloc { block, .. } => block,
+            Seen::Root => unreachable!(),
+            Seen::Write { .. } => unreachable!(),
+            Seen::Read { .. } => unreachable!(),
+            Seen::End { .. } => unreachable!(),
+        }
     }
 
     /// The end of a read, None where it is not finished.
@@ -293,6 +375,35 @@ impl Trace {
         self.order.delete(stamp);
         self.steps -= u64::from(gone.steps);
         gone
+    }
+
+    /// Takes a node out that is not the root, and lets it go where it stands.
+    pub fn discard(&mut self, stamp: Stamp)
+        requires here { IsTrue (has_node stamp.0 self.old.nodes) }
+        requires not_root { head_of (stamps_in self.old.nodes) ≢ Some stamp.0 }
+        ensures nodes { self.new.nodes ≡ without_entry stamp.0 self.old.nodes }
+        ensures others { OneMoreNode stamp.0 self.new.nodes self.old.nodes }
+        ensures spare { self.new.spare ≡ self.old.spare + 1 }
+        ensures opened { (node : NodeOf) (read : ℕ) → node_at stamp.0 self.old.nodes ≡ Some node
+            → IsTrue (ends read node) → end_in read self.new.nodes ≡ None }
+        ensures ends { (node : NodeOf) (read : ℕ) → node_at stamp.0 self.old.nodes ≡ Some node
+            → ends read node ≡ false
+            → end_in read self.new.nodes ≡ end_in read self.old.nodes }
+        ensures loose { NoLooseEnd self.old.nodes → LooseEndOf stamp.0 self.new.nodes }
+        ensures closed { NoLooseEnd self.old.nodes → end_in stamp.0 self.old.nodes ≡ None
+            → NoLooseEnd self.new.nodes }
+        ensures still { (node : NodeOf) (read : ℕ) → node_at stamp.0 self.old.nodes ≡ Some node
+            → LooseEndOf read self.old.nodes → ends read node ≡ false
+            → end_in stamp.0 self.old.nodes ≡ None
+            → LooseEndOf read self.new.nodes }
+        ensures mended { (node : NodeOf) (read : ℕ) → node_at stamp.0 self.old.nodes ≡ Some node
+            → LooseEndOf read self.old.nodes
+            → IsTrue (ends read node) → NoLooseEnd self.new.nodes }
+        ensures whole { IsTrace self.new }
+    {
+        let steps = self.table.release(stamp);
+        self.order.delete(stamp);
+        self.steps -= u64::from(steps);
     }
 
     /// The steps between a node and the next one.

@@ -6,8 +6,8 @@ use Rattle.ceal_base.specs.declared.forest.Item.{Item}
 use Rattle.std.specs.Prelude.{◌↔◌}
 use Rattle.ceal_base.specs.declared.recorded.Record.{Record}
 use Rattle.ceal_base.specs.declared.word.Word.{Word}
-use Rattle.ceal_code.proofs.Same.{some-same}
-use Rattle.ceal_code.proofs.TableSteps.{plain-of-flat, store-of-flat}
+use Rattle.ceal_code.proofs.Words.SameIsEqual.{some-same}
+use Rattle.ceal_code.proofs.Equations.TableSteps.{plain-of-flat, store-of-flat}
 use Rattle.ceal_code.specs.After.{store_after}
 use Rattle.ceal_code.specs.Program.{Code}
 use Rattle.ceal_code.specs.Replay.{Yields, Store, count, core_numbers, input_plain, plain_of, bases}

@@ -4,7 +4,7 @@ use Rattle.ceal_base.specs.Operators.{same_word}
 use Rattle.ceal_base.specs.Trace.{Trace, Nothing, Stepped, Allocated, Wrote, WasRead, flat}
 use Rattle.ceal_base.specs.declared.forest.Item.{Item}
 use Rattle.ceal_base.specs.declared.forest.Item.TheVariants.{Read, End}
-use Rattle.ceal_code.proofs.Same.{both, word-same, word-refl}
+use Rattle.ceal_code.proofs.Words.SameIsEqual.{both, word-same, word-refl}
 use Rattle.ceal_code.specs.After.{store_after}
 use Rattle.ceal_code.specs.Program.{Code}
 use Rattle.ceal_code.specs.Replay.{Store, Honest, cleared, stored}

@@ -17,12 +17,12 @@ use Rattle.ceal_base.specs.declared.word.BlockId.{BlockId}
 use Rattle.ceal_base.specs.declared.word.BlockId.TheVariants.{Input, Core}
 use Rattle.ceal_base.specs.declared.word.Word.{Word}
 use Rattle.ceal_base.specs.declared.word.Word.TheVariants.{Num, Null, Block as BlockWord, At}
-use Rattle.ceal_code.proofs.Determined.{cores-append}
-use Rattle.ceal_code.proofs.FittingLemmas.{input-known}
-use Rattle.ceal_code.proofs.Local.{words-more, made-known, made-same}
-use Rattle.ceal_code.proofs.Memory.{get-within, got}
-use Rattle.ceal_code.proofs.Pairs.{one-at}
-use Rattle.ceal_code.proofs.Same.{both, both-true, nat-same, block-same, block-refl, none-some}
+use Rattle.ceal_code.proofs.Replay.DeterminedRun.{cores-append}
+use Rattle.ceal_code.proofs.TypedCode.FittingWords.{input-known}
+use Rattle.ceal_code.proofs.Words.StepLocality.{words-more, made-known, made-same}
+use Rattle.ceal_code.proofs.Replay.MemoryChanges.{get-within, got}
+use Rattle.ceal_code.proofs.Alike.BlockPairs.{one-at}
+use Rattle.ceal_code.proofs.Words.SameIsEqual.{both, both-true, nat-same, block-same, block-refl, none-some}
 use Rattle.ceal_code.specs.Init.{made}
 use Rattle.ceal_code.specs.Known.{Held, Holds, Agree}
 use Rattle.ceal_code.specs.Program.{Code}

@@ -11,3 +11,4 @@ pub mod Checked
 pub mod Sound
 pub mod Decided
 pub mod SomeVerdict
+pub mod Samples

@@ -8,10 +8,10 @@ use Rattle.ceal_base.specs.Trace.{Trace, steps_in, steps_of, blocks_of}
 use Rattle.ceal_base.specs.declared.recorded.Record.{Record}
 use Rattle.ceal_base.specs.declared.word.BlockId.{BlockId}
 use Rattle.ceal_base.specs.declared.word.BlockId.TheVariants.{Input, Core}
-use Rattle.ceal_code.proofs.AfterLaws.{store-law}
-use Rattle.ceal_code.proofs.Pairs.{one-at}
-use Rattle.ceal_code.proofs.Replayed.{all-core, trace-law}
-use Rattle.ceal_code.proofs.Same.{nat-same, nat-refl}
+use Rattle.ceal_code.proofs.Replay.AfterLaws.{store-law}
+use Rattle.ceal_code.proofs.Alike.BlockPairs.{one-at}
+use Rattle.ceal_code.proofs.Replay.ReplayedCall.{all-core, trace-law}
+use Rattle.ceal_code.proofs.Words.SameIsEqual.{nat-same, nat-refl}
 use Rattle.ceal_code.specs.After.{store_after, memory_after}
 use Rattle.ceal_code.specs.Program.{Code}
 use Rattle.ceal_code.specs.Replay.{Distinct, count, core_numbers, bases, plain_of, block_after, inputs_after}

@@ -1,4 +1,5 @@
--- What a verdict on a record means.
+-- What a verdict on a record means. A record is a certificate of a run, and is judged apart from its maker (McConnell,
+-- Mehlhorn, Näher and Schweitzer, *Certifying algorithms*, 2011).
 use Rattle.std.specs.Prelude.{◌≡◌, Bool, true, Some, List, length, map, nat_lt}
 use Rattle.std.specs.List.{list_all}
 use Rattle.ceal_base.specs.Block.{Block}

@@ -230,7 +230,7 @@ impl<'a> Walk<'a> {
             return Ok(Some(false));
         };
         let mut inside = Stack::empty(self.stack.allocator());
-        inside.resume(self.memory.code(), &closure, value)?;
+        inside.resume(self.memory.code(), closure.continuation(), value)?;
         let outside = mem::replace(&mut self.stack, inside);
         self.below.push(outside)?;
         self.items = more;

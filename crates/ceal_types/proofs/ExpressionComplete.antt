@@ -1,13 +1,13 @@
 -- An expression that agrees with one of the source and is well typed is what the walk gives.
-use Rattle.std.proofs.Common.{◌≡◌, ℕ, suc, ◌<◌, ◌==◌, arith, append_assoc, append-nil, true, false, Option, Some, None, Result, Ok, Err, List, [], ◌∷◌, ◌++◌, All, Contains, map, slice_get, refl, sym, subst, ap, ◌∙◌, if◌then◌else◌}
-use Rattle.std.specs.Prelude.{IfOk, IfSome, IsSome}
-use Rattle.std.specs.Map.{keys_of, lookup}
+use Rattle.std.proofs.Common.{◌≡◌, ℕ, suc, ◌<◌, ◌==◌, arith, append_assoc, append-nil, true, false, Option, Some, None, Result, Ok, List, [], ◌∷◌, ◌++◌, All, map, slice_get, refl, sym, subst, ap, ◌∙◌, if◌then◌else◌}
+use Rattle.std.specs.Prelude.{IfSome, IsSome}
+use Rattle.std.specs.Map.{lookup}
 use Rattle.std.specs.Option.{option_map}
 use Rattle.std.specs.Str.{bytes_eq}
 use Rattle.std.proofs.lemmas.Bool.{false≢true}
 use Rattle.std.proofs.lemmas.Map.Entries.{All-lookup}
 use Rattle.ceal_base.specs.Shapes.{row_at}
-use Rattle.ceal_base.specs.WellTyped.{Context, FormTyped, ExprTyped, OperandsSuit, LeftSuits, FormStartsRow, kind_given, plain_kind, address_kind, field_kind}
+use Rattle.ceal_base.specs.WellTyped.{Context, FormTyped, ExprTyped, OperandsSuit, FormStartsRow, kind_given, plain_kind, address_kind, field_kind}
 use Rattle.ceal_base.specs.declared.fault.Fault.{Fault}
 use Rattle.ceal_base.specs.declared.fault.FaultCode.TheVariants.{T1}
 use Rattle.ceal_base.specs.declared.fault.Span.{Span}
@@ -28,11 +28,11 @@ use Rattle.ceal_base.specs.declared.typed.TypedForm.TheViews as typed
 use Rattle.ceal_base.specs.declared.typed.TypedForm.TheBlock.{hidden-the_row-TypedExpr-0, shape-the_row-TypedExpr-0}
 use Rattle.ceal_base.specs.declared.typed.TypedFunction.{TypedFunction}
 use Rattle.ceal_types.specs.Checked.{struct_info}
-use Rattle.ceal_types.specs.Expressions.{Scope, Fields, typed_form, typed_operand, typed_expr, typed_exprs, with_expr, condition, variable_at, own_at, int_asked, unary_at, unary_of, binary_at, binary_of, compared, computed, expression, field_or_row, element_of, element_of_row, pick_of_kind, pick_of, pick_at, field_named, field_of_struct, member_of, member, value_of_field, field_of, field_at, place_of_field, address_of, address_at}
+use Rattle.ceal_types.specs.Expressions.{Scope, Fields, typed_form, typed_operand, typed_expr, typed_exprs, with_expr, condition, variable_at, own_at, int_asked, unary_at, unary_of, binary_at, binary_of, comparison, int_operation, expression, field_or_row, element_of, element_of_row, pick_of_kind, pick_of, pick_at, field_named, field_of_struct, member_of, member, value_of_field, field_of, field_at, place_of_field, address_of, address_at}
 use Rattle.ceal_types.specs.Kinds.{suits, comparable}
 use Rattle.ceal_types.specs.Resolves.{IsSign, IsForm, IsMember, FormResolves, OperandResolves, ExprResolves, ExprsResolve, field_names, member_number}
 use Rattle.ceal_types.specs.Tables.{Name, value_at}
-use Rattle.ceal_types.specs.Walk.{fault, after, both, mapped, in_turn, at_end}
+use Rattle.ceal_types.specs.Walk.{fault, in_turn, at_end}
 use Rattle.ceal_types.specs.declared.program.Field.{Field}
 use Rattle.ceal_types.specs.declared.program.Member.{Member}
 use Rattle.ceal_types.specs.declared.program.Program.{Program}
@@ -40,7 +40,7 @@ use Rattle.ceal_types.specs.declared.program.Variable.{Variable}
 use Rattle.ceal_types.proofs.ExpressionResolved.{Whole}
 use Rattle.ceal_types.proofs.ExpressionTyped.{around, MemberGood, member-good}
 use Rattle.ceal_types.proofs.KeepLemmas.{ok-at}
-use Rattle.ceal_types.proofs.ResolveLemmas.{numbers, number_of, lookup-numbers, first, member-place, names-there, none-there, some-same, after-at, mapped-at, both-at, if-true, if-false, same-expr, suits-true, comparable-true}
+use Rattle.ceal_types.proofs.ResolveLemmas.{numbers, number_of, lookup-numbers, first, member-place, names-there, none-there, some-same, after-at, mapped-at, both-at, if-true, if-false, same-expr, comparable-true}
 
 -- the variables in scope have these kinds
 abbrev pub VariableKind : List Kind → Variable → Type 0
@@ -70,12 +70,12 @@ unary-complete at op y x form h k =
     if-true (suits Int y.kind) (Ok (unary_of at op y)) (fault T1 y.span) (Ok x) (ap (suits Int) h) (ok-expr x at (Some Int) (typed.Unary op y) form k)
 
 compared-complete : (at : Span) (op : BinaryOp) (sign : Span) (y z x : TypedExpr) → IsForm at (typed.Binary op sign y z) x → comparable y.kind z.kind ≡ true
-    → x.kind ≡ Some Int → compared at op sign y z ≡ Ok x
+    → x.kind ≡ Some Int → comparison at op sign y z ≡ Ok x
 compared-complete at op sign y z x form h k =
     if-true (comparable y.kind z.kind) (Ok (binary_of at op sign y z)) (fault T1 sign) (Ok x) h (ok-expr x at (Some Int) (typed.Binary op sign y z) form k)
 
 computed-complete : (at : Span) (op : BinaryOp) (sign : Span) (y z x : TypedExpr) → IsForm at (typed.Binary op sign y z) x
-    → (y.kind ≡ Some Int) × (z.kind ≡ Some Int) → x.kind ≡ Some Int → computed at op sign y z ≡ Ok x
+    → (y.kind ≡ Some Int) × (z.kind ≡ Some Int) → x.kind ≡ Some Int → int_operation at op sign y z ≡ Ok x
 computed-complete at op sign y z x form h k =
     if-true (suits Int y.kind) (if suits Int z.kind then Ok (binary_of at op sign y z) else fault T1 z.span) (fault T1 y.span) (Ok x) (ap (suits Int) h.0)
     (if-true (suits Int z.kind) (Ok (binary_of at op sign y z)) (fault T1 z.span) (Ok x) (ap (suits Int) h.1) (ok-expr x at (Some Int) (typed.Binary op sign y z) form k))

@@ -1,5 +1,5 @@
 -- In an expression that the walk gives each name has its number.
-use Rattle.std.proofs.Common.{◌≡◌, ℕ, ◌==◌, true, false, Option, Some, None, Result, Ok, Err, List, [], ◌∷◌, ◌++◌, map, slice_get, refl, sym, subst, ap, ◌∙◌, append_assoc, append-nil, if◌then◌else◌}
+use Rattle.std.proofs.Common.{◌≡◌, ℕ, ◌==◌, Option, Some, None, Result, Ok, Err, List, [], ◌∷◌, ◌++◌, map, slice_get, refl, sym, subst, ap, ◌∙◌, append_assoc, append-nil, if◌then◌else◌}
 use Rattle.std.specs.Prelude.{IfOk}
 use Rattle.std.specs.Map.{keys_of, lookup}
 use Rattle.std.specs.Option.{option_map}
@@ -24,7 +24,7 @@ use Rattle.ceal_base.specs.declared.typed.TypedExpr.{TypedExpr}
 use Rattle.ceal_base.specs.declared.typed.TypedForm.TheViews as typed
 use Rattle.ceal_base.specs.declared.typed.TypedFunction.{TypedFunction}
 use Rattle.ceal_types.specs.Checked.{struct_info, program_of}
-use Rattle.ceal_types.specs.Expressions.{Scope, Fields, typed_form, typed_operand, typed_expr, typed_exprs, with_expr, condition, variable_at, own_at, int_asked, unary_at, unary_of, binary_at, binary_of, compared, computed, expression, field_or_row, no_pick, element_of, element_of_row, pick_of_kind, pick_of, pick_at, field_named, field_of_struct, member_of, member, value_of_field, field_of, field_at, place_of_field, address_of, address_at, no_address}
+use Rattle.ceal_types.specs.Expressions.{Scope, Fields, typed_form, typed_operand, typed_expr, typed_exprs, with_expr, condition, variable_at, own_at, int_asked, unary_at, unary_of, binary_at, binary_of, comparison, int_operation, expression, field_or_row, no_pick, element_of, element_of_row, pick_of_kind, pick_of, pick_at, field_named, field_of_struct, member_of, member, value_of_field, field_of, field_at, place_of_field, address_of, address_at, no_address}
 use Rattle.ceal_types.specs.Kinds.{suits, comparable}
 use Rattle.ceal_types.specs.Resolves.{IsSign, IsForm, IsMember, FormResolves, OperandResolves, ExprResolves, ExprsResolve, field_names, member_number}
 use Rattle.ceal_types.specs.Tables.{Name, value_at}
@@ -34,7 +34,7 @@ use Rattle.ceal_types.specs.declared.program.Member.{Member}
 use Rattle.ceal_types.specs.declared.program.Program.{Program}
 use Rattle.ceal_types.specs.declared.program.Variable.{Variable}
 use Rattle.ceal_types.proofs.ExpressionTyped.{MemberGood, member-good}
-use Rattle.ceal_types.proofs.KeepLemmas.{after-keeps, mapped-keeps, both-keeps, if-keeps, weaken, turn-keeps}
+use Rattle.ceal_types.proofs.KeepLemmas.{after-keeps, mapped-keeps, both-keeps, if-keeps, weaken}
 use Rattle.ceal_types.proofs.ResolveLemmas.{numbers, number_of, lookup-numbers, first, member-place, names-there, both-hold}
 
 module _ (p : Program) (fs : List TypedFunction) where
@@ -78,11 +78,11 @@ module _ (p : Program) (fs : List TypedFunction) where
   abbrev Between : Span → BinaryOp → Span → TypedExpr → TypedExpr → TypedExpr → Type 0
   Between at op sign y z x = IsForm at (typed.Binary op sign y z) x
 
-  compared-form : (at : Span) (op : BinaryOp) (sign : Span) (y z : TypedExpr) → IfOk (compared at op sign y z) (Between at op sign y z)
+  compared-form : (at : Span) (op : BinaryOp) (sign : Span) (y z : TypedExpr) → IfOk (comparison at op sign y z) (Between at op sign y z)
   compared-form at op sign y z =
       if-keeps (Between at op sign y z) (comparable y.kind z.kind) (Ok (binary_of at op sign y z)) (fault T1 sign) (λ b. (refl, refl)) (λ b. tt)
 
-  computed-form : (at : Span) (op : BinaryOp) (sign : Span) (y z : TypedExpr) → IfOk (computed at op sign y z) (Between at op sign y z)
+  computed-form : (at : Span) (op : BinaryOp) (sign : Span) (y z : TypedExpr) → IfOk (int_operation at op sign y z) (Between at op sign y z)
   computed-form at op sign y z =
       if-keeps (Between at op sign y z) (suits Int y.kind) (if suits Int z.kind then Ok (binary_of at op sign y z) else fault T1 z.span) (fault T1 y.span)
       (λ b. if-keeps (Between at op sign y z) (suits Int z.kind) (Ok (binary_of at op sign y z)) (fault T1 z.span) (λ c. (refl, refl)) (λ c. tt)) (λ b. tt)
@@ -92,19 +92,19 @@ module _ (p : Program) (fs : List TypedFunction) where
   with-sign at op sign y z s r h = weaken (Between at op sign y z) (λ x. IsSign op × Between at op sign y z x) r (λ x k. (s, k)) h
 
   binary-form : (at : Span) (op : BinaryOp) (sign : Span) (y z : TypedExpr) → IfOk (binary_at at op sign y z) (λ x. IsSign op × Between at op sign y z x)
-  binary-form at Same sign y z = with-sign at Same sign y z tt (compared at Same sign y z) (compared-form at Same sign y z)
-  binary-form at Differ sign y z = with-sign at Differ sign y z tt (compared at Differ sign y z) (compared-form at Differ sign y z)
-  binary-form at Add sign y z = with-sign at Add sign y z tt (computed at Add sign y z) (computed-form at Add sign y z)
-  binary-form at Sub sign y z = with-sign at Sub sign y z tt (computed at Sub sign y z) (computed-form at Sub sign y z)
-  binary-form at Mul sign y z = with-sign at Mul sign y z tt (computed at Mul sign y z) (computed-form at Mul sign y z)
-  binary-form at Div sign y z = with-sign at Div sign y z tt (computed at Div sign y z) (computed-form at Div sign y z)
-  binary-form at Rem sign y z = with-sign at Rem sign y z tt (computed at Rem sign y z) (computed-form at Rem sign y z)
-  binary-form at Less sign y z = with-sign at Less sign y z tt (computed at Less sign y z) (computed-form at Less sign y z)
-  binary-form at LessEq sign y z = with-sign at LessEq sign y z tt (computed at LessEq sign y z) (computed-form at LessEq sign y z)
-  binary-form at More sign y z = with-sign at More sign y z tt (computed at More sign y z) (computed-form at More sign y z)
-  binary-form at MoreEq sign y z = with-sign at MoreEq sign y z tt (computed at MoreEq sign y z) (computed-form at MoreEq sign y z)
-  binary-form at And sign y z = with-sign at And sign y z tt (computed at And sign y z) (computed-form at And sign y z)
-  binary-form at Or sign y z = with-sign at Or sign y z tt (computed at Or sign y z) (computed-form at Or sign y z)
+  binary-form at Same sign y z = with-sign at Same sign y z tt (comparison at Same sign y z) (compared-form at Same sign y z)
+  binary-form at Differ sign y z = with-sign at Differ sign y z tt (comparison at Differ sign y z) (compared-form at Differ sign y z)
+  binary-form at Add sign y z = with-sign at Add sign y z tt (int_operation at Add sign y z) (computed-form at Add sign y z)
+  binary-form at Sub sign y z = with-sign at Sub sign y z tt (int_operation at Sub sign y z) (computed-form at Sub sign y z)
+  binary-form at Mul sign y z = with-sign at Mul sign y z tt (int_operation at Mul sign y z) (computed-form at Mul sign y z)
+  binary-form at Div sign y z = with-sign at Div sign y z tt (int_operation at Div sign y z) (computed-form at Div sign y z)
+  binary-form at Rem sign y z = with-sign at Rem sign y z tt (int_operation at Rem sign y z) (computed-form at Rem sign y z)
+  binary-form at Less sign y z = with-sign at Less sign y z tt (int_operation at Less sign y z) (computed-form at Less sign y z)
+  binary-form at LessEq sign y z = with-sign at LessEq sign y z tt (int_operation at LessEq sign y z) (computed-form at LessEq sign y z)
+  binary-form at More sign y z = with-sign at More sign y z tt (int_operation at More sign y z) (computed-form at More sign y z)
+  binary-form at MoreEq sign y z = with-sign at MoreEq sign y z tt (int_operation at MoreEq sign y z) (computed-form at MoreEq sign y z)
+  binary-form at And sign y z = with-sign at And sign y z tt (int_operation at And sign y z) (computed-form at And sign y z)
+  binary-form at Or sign y z = with-sign at Or sign y z tt (int_operation at Or sign y z) (computed-form at Or sign y z)
   binary-form at (Pick row) sign y z = tt
 
   -- ---- members

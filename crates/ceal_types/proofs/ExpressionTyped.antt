@@ -25,7 +25,7 @@ use Rattle.ceal_base.specs.declared.typed.TypedForm.TheViews as typed
 use Rattle.ceal_base.specs.declared.typed.TypedForm.TheBlock.{hidden-the_row-TypedExpr-0, shape-the_row-TypedExpr-0}
 use Rattle.ceal_base.specs.declared.typed.TypedFunction.{TypedFunction}
 use Rattle.ceal_types.specs.Checked.{struct_info}
-use Rattle.ceal_types.specs.Expressions.{Scope, Fields, typed_form, typed_operand, typed_expr, typed_exprs, with_expr, condition, variable_at, own_at, int_asked, unary_at, unary_of, binary_at, binary_of, compared, computed, expression, found_or, field_or_row, no_pick, element_of, element_of_row, pick_of_kind, pick_of, pick_at, field_named, field_of_struct, member_of, member, value_of_field, field_of, field_at, place_of_field, address_of, address_at, no_address}
+use Rattle.ceal_types.specs.Expressions.{Scope, Fields, typed_form, typed_operand, typed_expr, typed_exprs, with_expr, condition, variable_at, own_at, int_asked, unary_at, unary_of, binary_at, binary_of, comparison, int_operation, expression, found_or, field_or_row, no_pick, element_of, element_of_row, pick_of_kind, pick_of, pick_at, field_named, field_of_struct, member_of, member, value_of_field, field_of, field_at, place_of_field, address_of, address_at, no_address}
 use Rattle.ceal_types.specs.Kinds.{suits, comparable}
 use Rattle.ceal_types.specs.Tables.{Name, find, value_at, element_name}
 use Rattle.ceal_types.specs.Walk.{fault, after, both, at_end}
@@ -103,12 +103,12 @@ module _ (p : Program) (fs : List TypedFunction) (own : Option ℕ) (kinds : Lis
   unary-typed at op a h = if-keeps Good (suits Int a.kind) (Ok (unary_of at op a)) (fault T1 a.span) (λ b. (h, int-suited a.kind b, refl)) (λ b. tt)
 
   compared-typed : (at : Span) (op : BinaryOp) (sign : Span) (a b : TypedExpr) → Good a → Good b
-      → (comparable a.kind b.kind ≡ true → Good (binary_of at op sign a b)) → IfOk (compared at op sign a b) Good
+      → (comparable a.kind b.kind ≡ true → Good (binary_of at op sign a b)) → IfOk (comparison at op sign a b) Good
   compared-typed at op sign a b h k both-good =
       if-keeps Good (comparable a.kind b.kind) (Ok (binary_of at op sign a b)) (fault T1 sign) both-good (λ n. tt)
 
   computed-typed : (at : Span) (op : BinaryOp) (sign : Span) (a b : TypedExpr)
-      → (a.kind ≡ Some Int → b.kind ≡ Some Int → Good (binary_of at op sign a b)) → IfOk (computed at op sign a b) Good
+      → (a.kind ≡ Some Int → b.kind ≡ Some Int → Good (binary_of at op sign a b)) → IfOk (int_operation at op sign a b) Good
   computed-typed at op sign a b both-good =
       if-keeps Good (suits Int a.kind) (if suits Int b.kind then Ok (binary_of at op sign a b) else fault T1 b.span) (fault T1 a.span)
       (λ x. if-keeps Good (suits Int b.kind) (Ok (binary_of at op sign a b)) (fault T1 b.span) (λ y. both-good (int-suited a.kind x) (int-suited b.kind y)) (λ n. tt))

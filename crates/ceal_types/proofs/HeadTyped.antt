@@ -25,10 +25,10 @@ use Rattle.ceal_base.specs.declared.syntax.TypeForm.TheVariants as forms
 use Rattle.ceal_base.specs.declared.typed.StructInfo.{StructInfo}
 use Rattle.ceal_types.specs.Checked.{field_info, struct_info}
 use Rattle.ceal_types.specs.Expressions.{Fields}
-use Rattle.ceal_types.specs.Heads.{struct_number, kind_of, plain_pointer, plain_place, field_kind_of, row_of, row_at, taken, with_element, with_elements, added_field, new_field, with_field, with_variable, new_parameter, with_parameter, own_of, no_variables, head, with_parameters, head_of, with_struct, with_function, with_entry, with_struct_name, struct_names}
+use Rattle.ceal_types.specs.Heads.{struct_number, kind_of, plain_pointer, plain_place, field_kind_of, row_of, row_at, has_member, with_element, with_elements, added_field, new_field, with_field, with_variable, new_parameter, with_parameter, own_of, no_variables, head, with_parameters, head_of, with_struct, with_function, with_entry, with_struct_name, struct_names}
 use Rattle.ceal_types.specs.Limits.{width, fields_in, IsShort}
 use Rattle.ceal_types.specs.Tables.{Name, has, with_name, element_name}
-use Rattle.ceal_types.specs.Walk.{fault, mapped, in_turn}
+use Rattle.ceal_types.specs.Walk.{fault, result_map, in_turn}
 use Rattle.ceal_types.specs.declared.program.Head.{Head}
 use Rattle.ceal_types.specs.declared.program.Program.{Program}
 use Rattle.ceal_types.specs.declared.program.Variables.{Variables}
@@ -137,7 +137,7 @@ module _ (names : List Name) (structs : List StructInfo) (all : length names ≤
 
   new-field-good : (name : Ident) (row : Option ℕ) (fields : Fields) (kind : FieldKind) → FieldsGood fields → Known kind → RowKind row kind → IfOk (new_field name row fields kind) FieldsGood
   new-field-good name row fields kind h k r =
-      if-keeps FieldsGood (taken fields name.text) (fault N2 name.span) (added_field name row fields kind) (λ b. tt)
+      if-keeps FieldsGood (has_member fields name.text) (fault N2 name.span) (added_field name row fields kind) (λ b. tt)
       (λ none. added-good name row fields kind h k r (not-either (has fields name.text) (has fields (element_name name.text 0)) none))
 
   elements-count : (name : Ident) (kind : FieldKind) (row i : ℕ) (fields : Fields) → IfOk (with_elements name kind row i fields) (λ more. length more ≡ length fields + i)
@@ -155,7 +155,7 @@ module _ (names : List Name) (structs : List StructInfo) (all : length names ≤
 
   new-field-counts : (name : Ident) (row : Option ℕ) (fields : Fields) (kind : FieldKind) → IfOk (new_field name row fields kind) (λ more. length more ≡ length fields + width row)
   new-field-counts name row fields kind =
-      if-keeps (λ more. length more ≡ length fields + width row) (taken fields name.text) (fault N2 name.span) (added_field name row fields kind) (λ b. tt)
+      if-keeps (λ more. length more ≡ length fields + width row) (has_member fields name.text) (fault N2 name.span) (added_field name row fields kind) (λ b. tt)
       (λ none. added-counts name row fields kind)
 
   fields-good : (decls : List FieldDecl) → IfOk (in_turn (with_field names) decls []) FieldsGood
@@ -261,7 +261,7 @@ module _ (names : List Name) (structs : List StructInfo) (all : length names ≤
       let fields : IfOk (in_turn (with_field p.names) s.fields []) (λ v. FieldsGood v × (length v ≡ fields_in s.fields)) =
       subst (λ (l : List Name). IfOk (in_turn (with_field l) s.fields []) (λ v. FieldsGood v × (length v ≡ fields_in s.fields))) (sym h.same_names)
       (fields-both (in_turn (with_field names) s.fields []) FieldsGood (λ v. length v ≡ fields_in s.fields) (fields-good s.fields) (fields-count s.fields)) in
-      if-keeps ProgramGood (has p.structs s.name.text) (fault N2 s.name.span) (mapped (with_struct p s.name.text) (in_turn (with_field p.names) s.fields [])) (λ b. tt)
+      if-keeps ProgramGood (has p.structs s.name.text) (fault N2 s.name.span) (result_map (with_struct p s.name.text) (in_turn (with_field p.names) s.fields [])) (λ b. tt)
       (λ none. mapped-keeps (λ v. FieldsGood v × (length v ≡ fields_in s.fields)) ProgramGood (with_struct p s.name.text) (in_turn (with_field p.names) s.fields []) fields
       (λ v k. record {
         same_names = h.same_names;
@@ -270,7 +270,7 @@ module _ (names : List Name) (structs : List StructInfo) (all : length names ≤
         typed = All-push (λ t. StructTyped structs (struct_info t)) p.structs (s.name.text, v) h.typed (struct-typed s.name.text v k.0 (omega (arith, k.1, few)));
       }))
   entry-good (Function f) p few h =
-      if-keeps ProgramGood (has p.functions f.name.text) (fault N2 f.name.span) (mapped (with_function p f.name.text) (head_of p.names f)) (λ b. tt)
+      if-keeps ProgramGood (has p.functions f.name.text) (fault N2 f.name.span) (result_map (with_function p f.name.text) (head_of p.names f)) (λ b. tt)
       (λ none. mapped-keeps (λ g. Unit {0}) ProgramGood (with_function p f.name.text) (head_of p.names f) (any-ok (head_of p.names f))
       (λ g u. record {
         same_names = h.same_names;
@@ -287,12 +287,12 @@ entry-names : (e : Entry) (p : Program) → IfOk (with_entry e p) (λ q. keys_of
 unfolding with_entry
 entry-names (Struct s) p =
     if-keeps (λ q. keys_of q.structs ≡ with_name (keys_of p.structs) s.name.text) (has p.structs s.name.text) (fault N2 s.name.span)
-    (mapped (with_struct p s.name.text) (in_turn (with_field p.names) s.fields [])) (λ b. tt)
+    (result_map (with_struct p s.name.text) (in_turn (with_field p.names) s.fields [])) (λ b. tt)
     (λ none. mapped-keeps (λ v. Unit {0}) (λ q. keys_of q.structs ≡ with_name (keys_of p.structs) s.name.text) (with_struct p s.name.text) (in_turn (with_field p.names) s.fields [])
     (any-ok (in_turn (with_field p.names) s.fields []))
     (λ v u. rw (map-append (λ e. e.0) p.structs ((s.name.text, v) ∷ []), ← is_some-lookup (bytes_eq s.name.text) p.structs, none) refl))
 entry-names (Function f) p =
-    if-keeps (λ q. keys_of q.structs ≡ keys_of p.structs) (has p.functions f.name.text) (fault N2 f.name.span) (mapped (with_function p f.name.text) (head_of p.names f)) (λ b. tt)
+    if-keeps (λ q. keys_of q.structs ≡ keys_of p.structs) (has p.functions f.name.text) (fault N2 f.name.span) (result_map (with_function p f.name.text) (head_of p.names f)) (λ b. tt)
     (λ none. mapped-keeps (λ g. Unit {0}) (λ q. keys_of q.structs ≡ keys_of p.structs) (with_function p f.name.text) (head_of p.names f) (any-ok (head_of p.names f)) (λ g u. refl))
 
 pub entries-names : (entries : List Entry) (p : Program) → IfOk (in_turn with_entry entries p) (λ q. struct_names entries (keys_of p.structs) ≡ keys_of q.structs)

@@ -2,7 +2,7 @@
 use Rattle.std.proofs.Common.{◌≡◌, ℕ, suc, ◌+◌, arith, Bool, true, false, Result, Ok, Err, List, [], ◌∷◌, All, length, refl, subst, if◌then◌else◌}
 use Rattle.std.specs.Prelude.{IfOk}
 use Rattle.ceal_base.specs.declared.fault.Fault.{Fault}
-use Rattle.ceal_types.specs.Walk.{after, mapped, both, in_turn}
+use Rattle.ceal_types.specs.Walk.{after, result_map, both, in_turn}
 
 pub after-keeps : {A B : Type 0} (P : A → Type 0) (Q : B → Type 0) (next : A → Result B Fault) (r : Result A Fault)
     → IfOk r P → ((x : A) → P x → IfOk (next x) Q) → IfOk (after next r) Q
@@ -10,7 +10,7 @@ after-keeps P Q next (Ok x) h keep = keep x h
 after-keeps P Q next (Err f) h keep = tt
 
 pub mapped-keeps : {A B : Type 0} (P : A → Type 0) (Q : B → Type 0) (make : A → B) (r : Result A Fault)
-    → IfOk r P → ((x : A) → P x → Q (make x)) → IfOk (mapped make r) Q
+    → IfOk r P → ((x : A) → P x → Q (make x)) → IfOk (result_map make r) Q
 mapped-keeps P Q make (Ok x) h keep = keep x h
 mapped-keeps P Q make (Err f) h keep = tt
 

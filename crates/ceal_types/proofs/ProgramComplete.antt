@@ -1,14 +1,12 @@
 -- A program that agrees with a tree and is well typed is what the walk gives.
-use Rattle.std.proofs.Common.{◌≡◌, ℕ, zero, suc, ◌+◌, ◌≤◌, ◌||◌, ◌==◌, arith, Bool, true, false, Option, Some, None, Result, Ok, Err, List, [], ◌∷◌, ◌++◌, All, map, position, slice_get, length, take, refl, sym, subst, ap, ◌∙◌, append_assoc, append-nil, if◌then◌else◌}
-use Rattle.std.specs.Prelude.{IfOk, IfSome}
+use Rattle.std.proofs.Common.{◌≡◌, ℕ, zero, suc, ◌+◌, ◌||◌, arith, Bool, false, Option, Some, None, Ok, List, [], ◌∷◌, ◌++◌, All, map, slice_get, length, take, refl, sym, subst, ap, ◌∙◌, append_assoc, append-nil}
 use Rattle.std.specs.List.{AllByRecursion, IsDistinct, list_any}
 use Rattle.std.specs.Cmp.Lexicographic.{nat_list_eq_equiv}
 use Rattle.std.specs.Map.{keys_of}
 use Rattle.std.specs.Str.{bytes_eq}
 use Rattle.std.proofs.lemmas.List.{length_push, map-append}
 use Rattle.std.proofs.lemmas.List.Elements.{All-push}
-use Rattle.ceal_base.specs.WellTyped.{context_of, FunctionTyped, WellTyped, all_declarations, StmtsTyped, numbers_below, param_kinds, struct_name, function_name, name_of_field, StructTyped}
-use Rattle.ceal_base.specs.declared.fault.Fault.{Fault}
+use Rattle.ceal_base.specs.WellTyped.{context_of, FunctionTyped, WellTyped, StmtsTyped, numbers_below, struct_name, function_name, name_of_field}
 use Rattle.ceal_base.specs.declared.fault.FaultCode.TheVariants.{N2}
 use Rattle.ceal_base.specs.declared.kind.FieldKind.{FieldKind}
 use Rattle.ceal_base.specs.declared.kind.FieldKind.TheVariants.{CellPtr}
@@ -29,13 +27,11 @@ use Rattle.ceal_base.specs.declared.typed.Typed.{Typed}
 use Rattle.ceal_base.specs.declared.typed.TypedFunction.{TypedFunction}
 use Rattle.ceal_types.specs.Checked.{field_info, struct_info, function_of, function_body, typed_function, with_body, program_of, bodies, checked}
 use Rattle.ceal_types.specs.Expressions.{Fields}
-use Rattle.ceal_types.specs.Heads.{numbered, struct_number, kind_of, plain_pointer, plain_place, field_kind_of, row_of, row_at, taken, with_element, with_elements, added_field, new_field, with_field, with_variable, new_parameter, with_parameter, own_of, no_variables, head, with_parameters, head_of, with_struct, with_function, with_entry, with_struct_name, struct_names, no_entries, heads}
+use Rattle.ceal_types.specs.Heads.{number_or_fault, struct_number, kind_of, plain_pointer, plain_place, field_kind_of, row_of, has_member, with_element, with_elements, added_field, new_field, with_field, with_variable, new_parameter, with_parameter, own_of, no_variables, head, with_parameters, head_of, with_struct, with_function, with_entry, struct_names, no_entries, heads}
 use Rattle.ceal_types.specs.Resolves.{Environment, IsNew, IsKind, IsFieldKind, IsStruct, StmtsResolve, elements, member_fields, MembersResolve, StructResolves, declared_name, numbered_from, ParametersResolve, OwnResolves, FunctionResolves, EntriesResolve, Resolves}
-use Rattle.ceal_types.specs.Statements.{Block, block, nested, typed_stmts}
+use Rattle.ceal_types.specs.Statements.{block, inner_block, typed_stmts}
 use Rattle.ceal_types.specs.Tables.{Name, has, with_name, element_name}
-use Rattle.ceal_types.specs.Walk.{fault, after, mapped, in_turn, at_end}
-use Rattle.ceal_types.specs.declared.program.Field.{Field}
-use Rattle.ceal_types.specs.declared.program.Head.{Head}
+use Rattle.ceal_types.specs.Walk.{fault, result_map, in_turn, at_end}
 use Rattle.ceal_types.specs.declared.program.Program.{Program}
 use Rattle.ceal_types.specs.declared.program.Variable.{Variable}
 use Rattle.ceal_types.specs.declared.program.Variables.{Variables}
@@ -43,12 +39,11 @@ use Rattle.ceal_types.proofs.ExpressionComplete.{VariableKind, ScopeKinds}
 use Rattle.ceal_types.proofs.ExpressionResolved.{Whole}
 use Rattle.ceal_types.proofs.GrowLemmas.{Grows, grows-take}
 use Rattle.ceal_types.proofs.NumberLemmas.{has-any, keys-added}
-use Rattle.ceal_types.proofs.ProgramResolved.{keys-given}
-use Rattle.ceal_types.proofs.ProgramTyped.{View, view, head_view, view_name, heads-match, names-of-functions, names-of-heads, names-of-structs}
+use Rattle.ceal_types.proofs.ProgramTyped.{View, view, head_view, view_name, heads-match, names-of-functions, names-of-heads}
 use Rattle.ceal_types.proofs.ResolveLemmas.{numbers, numbers-added, names-of-fields, after-at, mapped-at, if-false}
 use Rattle.ceal_types.proofs.RowLemmas.{element}
 use Rattle.ceal_types.proofs.RowLemmas.{elements as walked_elements}
-use Rattle.ceal_types.proofs.StatementComplete.{grows-next, kind-complete, body-walked}
+use Rattle.ceal_types.proofs.StatementComplete.{body-walked}
 
 -- ---- names that are apart
 middle : {A : Type 0} (P : A → Type 0) (xs ys : List A) (y : A) → AllByRecursion P (xs ++ y ∷ ys) → P y
@@ -143,7 +138,7 @@ FieldsWalked names ds fields infos = (more : Fields) × (in_turn (with_field nam
 
 module _ (p : Typed) where
   number-complete : (name : Ident) (s : ℕ) → IsStruct p name s → struct_number (map struct_name p.structs) name ≡ Ok s
-  number-complete name s h = ap (numbered name) h
+  number-complete name s h = ap (number_or_fault name) h
 
   kind-named : (form : TypeForm) (kind : Kind) → IsKind p form kind → kind_of (map struct_name p.structs) form ≡ Ok kind
   kind-named forms.Int kind h = ap Ok (sym h)
@@ -171,7 +166,7 @@ module _ (p : Typed) where
   unfolding with_field
   member-complete d fields kind h new row a =
       after-at (new_field d.name (row_of d.form) fields) (field_kind_of (map struct_name p.structs) d.form) kind (Ok (fields ++ a.more)) (field-kind-named d.form kind h)
-      (if-false (taken fields d.name.text) (fault N2 d.name.span) (added_field d.name (row_of d.form) fields kind) (Ok (fields ++ a.more))
+      (if-false (has_member fields d.name.text) (fault N2 d.name.span) (added_field d.name (row_of d.form) fields kind) (Ok (fields ++ a.more))
       (or-false (has fields d.name.text) (has fields (element_name d.name.text 0)) (not-there fields d.name.text new) (not-there fields (element_name d.name.text 0) row)) a.is)
 
   fields-walked : (ds : List FieldDecl) (fields : Fields) (infos : List FieldInfo) → MembersResolve p (keys_of fields) ds infos → Apart fields infos
@@ -294,7 +289,7 @@ module _ (p : Typed) where
   struct-walked s t q same h apart none =
       let w = fields-walked s.fields [] t.fields h.1 apart in (
         w.0,
-        if-false (has q.structs s.name.text) (fault N2 s.name.span) (mapped (with_struct q s.name.text) (in_turn (with_field q.names) s.fields [])) (Ok (with_struct q s.name.text w.0)) none
+        if-false (has q.structs s.name.text) (fault N2 s.name.span) (result_map (with_struct q s.name.text) (in_turn (with_field q.names) s.fields [])) (Ok (with_struct q s.name.text w.0)) none
             (mapped-at (with_struct q s.name.text) (in_turn (with_field q.names) s.fields []) w.0 (with_struct q s.name.text w.0)
             (ap (λ (l : List Name). in_turn (with_field l) s.fields []) same ∙ w.1) refl),
         λ i. record { name = sym h.0 i; fields = w.2 i },
@@ -304,7 +299,7 @@ module _ (p : Typed) where
       → has q.functions f.name.text ≡ false → with_entry (Function f) q ≡ Ok (with_function q f.name.text (head g.initialiser k.parameters.left))
   unfolding with_entry
   function-walked f g q same k none =
-      if-false (has q.functions f.name.text) (fault N2 f.name.span) (mapped (with_function q f.name.text) (head_of q.names f))
+      if-false (has q.functions f.name.text) (fault N2 f.name.span) (result_map (with_function q f.name.text) (head_of q.names f))
       (Ok (with_function q f.name.text (head g.initialiser k.parameters.left))) none
       (mapped-at (with_function q f.name.text) (head_of q.names f) (head g.initialiser k.parameters.left) (with_function q f.name.text (head g.initialiser k.parameters.left))
       (ap (λ (l : List Name). head_of l f) same ∙ k.is) refl)
@@ -419,7 +414,7 @@ module _ (p : Program) (fs : List TypedFunction) (names : p.names ≡ map struct
       let kinds = grown-all b.left.kinds g.kinds b.within (omega (arith, b.count, m.count, t.numbered)) in
       let f_head = head g.initialiser v in
       after-at (function_body p f) (head_of p.names f) f_head (Ok g) (ap (λ (l : List Name). head_of l f) names ∙ m.is)
-      (mapped-at (function_of f f_head) (nested (typed_stmts p g.initialiser f.body) v) (block g.body b.left) g b.is
+      (mapped-at (function_of f f_head) (inner_block (typed_stmts p g.initialiser f.body) v) (block g.body b.left) g b.is
       (λ i. record { initialiser = g.initialiser; name = sym h.name i; params = m.count i; kinds = kinds i; body = g.body; close = sym h.close i }))
 
   bodies-complete : (entries : List Entry) (structs : List StructInfo) (functions done : List TypedFunction) → EntriesResolve (Whole p fs) entries structs functions
@@ -432,7 +427,7 @@ module _ (p : Program) (fs : List TypedFunction) (names : p.names ≡ map struct
   bodies-complete (Struct s ∷ entries) (x ∷ structs) functions done h t = bodies-complete entries structs functions done h.1 t
   bodies-complete (Function f ∷ entries) structs [] done h t = absurd h
   bodies-complete (Function f ∷ entries) structs (g ∷ functions) done h t =
-      after-at (in_turn (with_body p) entries) (mapped (at_end done) (typed_function p f)) (done ++ g ∷ []) (Ok (done ++ g ∷ functions))
+      after-at (in_turn (with_body p) entries) (result_map (at_end done) (typed_function p f)) (done ++ g ∷ []) (Ok (done ++ g ∷ functions))
       (mapped-at (at_end done) (typed_function p f) g (done ++ g ∷ []) (function-complete f g h.0 (t 0 g (omega arith))) refl)
       (bodies-complete entries structs functions (done ++ g ∷ []) h.1 (λ k d l. t (suc k) d (omega (arith, l))) ∙ ap Ok (append_assoc done (g ∷ []) functions))
 

@@ -1,7 +1,7 @@
 -- In the program that the walk gives each name has its number.
 use Rattle.std.proofs.Common.{◌≡◌, ℕ, zero, suc, ◌+◌, ◌||◌, arith, Bool, true, false, Option, Some, None, Result, Ok, Err, List, [], ◌∷◌, ◌++◌, map, length, refl, sym, subst, ap, ◌∙◌, append_assoc, append-nil}
 use Rattle.std.specs.Prelude.{IfOk}
-use Rattle.std.specs.List.{IsDistinct, list_any}
+use Rattle.std.specs.List.{IsDistinct}
 use Rattle.std.specs.Map.{keys_of}
 use Rattle.std.specs.Str.{bytes_eq}
 use Rattle.std.proofs.lemmas.Bool.{true≢false}
@@ -26,22 +26,20 @@ use Rattle.ceal_base.specs.declared.typed.Typed.{Typed}
 use Rattle.ceal_base.specs.declared.typed.TypedFunction.{TypedFunction}
 use Rattle.ceal_types.specs.Checked.{field_info, struct_info, function_of, function_body, typed_function, with_body, program_of, bodies, checked}
 use Rattle.ceal_types.specs.Expressions.{Fields}
-use Rattle.ceal_types.specs.Heads.{struct_number, kind_of, plain_pointer, plain_place, field_kind_of, row_of, row_at, taken, with_element, with_elements, added_field, new_field, with_field, with_variable, new_parameter, with_parameter, own_of, no_variables, head, with_parameters, head_of, with_struct, with_function, with_entry, struct_names, no_entries, heads}
+use Rattle.ceal_types.specs.Heads.{struct_number, kind_of, plain_pointer, plain_place, field_kind_of, row_of, row_at, has_member, with_element, with_elements, added_field, new_field, with_field, with_variable, new_parameter, with_parameter, own_of, no_variables, head, with_parameters, head_of, with_struct, with_function, with_entry, struct_names, no_entries, heads}
 use Rattle.ceal_types.specs.Resolves.{Environment, IsNew, IsKind, IsFieldKind, IsStruct, StmtsResolve, elements, member_fields, MembersResolve, StructResolves, declared_name, numbered_from, ParametersResolve, OwnResolves, FunctionResolves, EntriesResolve, Resolves}
-use Rattle.ceal_types.specs.Statements.{Block, nested, typed_stmts}
+use Rattle.ceal_types.specs.Statements.{Block, inner_block, typed_stmts}
 use Rattle.ceal_types.specs.Tables.{Name, has, element_name}
-use Rattle.ceal_types.specs.Walk.{fault, after, mapped, in_turn, at_end}
-use Rattle.ceal_types.specs.declared.program.Field.{Field}
+use Rattle.ceal_types.specs.Walk.{fault, result_map, in_turn, at_end}
 use Rattle.ceal_types.specs.declared.program.Head.{Head}
 use Rattle.ceal_types.specs.declared.program.Program.{Program}
 use Rattle.ceal_types.specs.declared.program.Variables.{Variables}
 use Rattle.ceal_types.proofs.ExpressionResolved.{Whole}
-use Rattle.ceal_types.proofs.GrowLemmas.{Grows}
 use Rattle.ceal_types.proofs.HeadTyped.{distinct-more, entries-names}
 use Rattle.ceal_types.proofs.KeepLemmas.{after-keeps, mapped-keeps, if-keeps, weaken, any-ok, ok-at, after-ok, turn-keeps}
 use Rattle.ceal_types.proofs.KindsGrow.{BlockGrows, body-grows}
 use Rattle.ceal_types.proofs.NumberLemmas.{has-any, keys-added}
-use Rattle.ceal_types.proofs.ProgramTyped.{view, head_view, view_name, HeadAdded, head-added, struct-added, Shown, shown-all, names-of-functions, names-of-heads, names-of-structs, same-ok}
+use Rattle.ceal_types.proofs.ProgramTyped.{view_name, HeadAdded, head-added, struct-added, shown-all, names-of-functions, names-of-heads, names-of-structs, same-ok}
 use Rattle.ceal_types.proofs.ResolveLemmas.{numbers, numbers-added, names-of-fields, both-hold}
 use Rattle.ceal_types.proofs.StatementResolved.{struct-named, kind-named, body-resolves}
 
@@ -103,7 +101,7 @@ more-parameters p (d ∷ ds) (kind ∷ kinds) more h = (h.0, more-parameters p d
 
 module _ (p : Program) (fs : List TypedFunction) (names : p.names ≡ map struct_name (map struct_info p.structs)) (functions : map function_name fs ≡ keys_of p.functions) where
   pointer-named : (form : TypeForm) (make : ℕ → FieldKind) (name : Ident) → ((s : ℕ) → IsStruct (Whole p fs) name s → IsFieldKind (Whole p fs) form (make s))
-      → IfOk (mapped make (struct_number p.names name)) (IsFieldKind (Whole p fs) form)
+      → IfOk (result_map make (struct_number p.names name)) (IsFieldKind (Whole p fs) form)
   pointer-named form make name h =
       mapped-keeps (IsStruct (Whole p fs) name) (IsFieldKind (Whole p fs) form) make (struct_number p.names name) (struct-named p fs names functions name) h
 
@@ -129,7 +127,7 @@ module _ (p : Program) (fs : List TypedFunction) (names : p.names ≡ map struct
   unfolding with_field
   member-goes d fields =
       after-keeps (IsFieldKind (Whole p fs) d.form) (MemberGoes fields d) (new_field d.name (row_of d.form) fields) (field_kind_of p.names d.form) (field-kind-named d.form)
-      (λ kind h. if-keeps (MemberGoes fields d) (taken fields d.name.text) (fault N2 d.name.span) (added_field d.name (row_of d.form) fields kind) (λ b. tt)
+      (λ kind h. if-keeps (MemberGoes fields d) (has_member fields d.name.text) (fault N2 d.name.span) (added_field d.name (row_of d.form) fields kind) (λ b. tt)
       (λ none. weaken (Gives fields (member_fields d.form d.name.text kind)) (MemberGoes fields d) (added_field d.name (row_of d.form) fields kind)
       (λ all g. record {
         kind = kind;
@@ -266,8 +264,8 @@ module _ (p : Program) (fs : List TypedFunction) (names : p.names ≡ map struct
   function-resolves f =
       after-keeps (HeadResolves f) (FunctionResolves (Whole p fs) f) (function_body p f) (head_of p.names f) (head-resolves f)
       (λ h k. mapped-keeps (λ b. StmtsResolve (Whole p fs) (numbers h.parameters.scope) f.body b.stmts × BlockGrows h.parameters b) (FunctionResolves (Whole p fs) f)
-      (function_of f h) (nested (typed_stmts p h.own f.body) h.parameters)
-      (both-hold (nested (typed_stmts p h.own f.body) h.parameters) (λ b. StmtsResolve (Whole p fs) (numbers h.parameters.scope) f.body b.stmts) (BlockGrows h.parameters)
+      (function_of f h) (inner_block (typed_stmts p h.own f.body) h.parameters)
+      (both-hold (inner_block (typed_stmts p h.own f.body) h.parameters) (λ b. StmtsResolve (Whole p fs) (numbers h.parameters.scope) f.body b.stmts) (BlockGrows h.parameters)
       (body-resolves p fs names functions h.own f.body h.parameters) (body-grows p h.own f.body h.parameters))
       (λ b g. function-made f h b k g.0 g.1))
 
@@ -281,7 +279,7 @@ module _ (p : Program) (fs : List TypedFunction) (names : p.names ≡ map struct
   struct-goes : (s : StructDecl) (q : Program) → q.names ≡ p.names → IfOk (with_entry (Struct s) q) (StructGoes s q)
   unfolding with_entry
   struct-goes s q same =
-      if-keeps (StructGoes s q) (has q.structs s.name.text) (fault N2 s.name.span) (mapped (with_struct q s.name.text) (in_turn (with_field q.names) s.fields [])) (λ b. tt)
+      if-keeps (StructGoes s q) (has q.structs s.name.text) (fault N2 s.name.span) (result_map (with_struct q s.name.text) (in_turn (with_field q.names) s.fields [])) (λ b. tt)
       (λ none. mapped-keeps (λ fields. StructResolves (Whole p fs) s (struct_info (s.name.text, fields))) (StructGoes s q) (with_struct q s.name.text) (in_turn (with_field q.names) s.fields [])
       (subst (λ (l : List Name). IfOk (in_turn (with_field l) s.fields []) (λ fields. StructResolves (Whole p fs) s (struct_info (s.name.text, fields)))) (sym same) (struct-resolves s))
       (λ fields k. record { fields = fields; names_kept = refl; is = refl; agrees = k }))
@@ -307,7 +305,7 @@ module _ (p : Program) (fs : List TypedFunction) (names : p.names ≡ map struct
   functions-kept : (f : FunctionDecl) (q : Program) → IfOk (with_entry (Function f) q) (λ r. r.structs ≡ q.structs)
   unfolding with_entry
   functions-kept f q =
-      if-keeps (λ r. r.structs ≡ q.structs) (has q.functions f.name.text) (fault N2 f.name.span) (mapped (with_function q f.name.text) (head_of q.names f)) (λ b. tt)
+      if-keeps (λ r. r.structs ≡ q.structs) (has q.functions f.name.text) (fault N2 f.name.span) (result_map (with_function q f.name.text) (head_of q.names f)) (λ b. tt)
       (λ none. mapped-keeps (λ h. Unit {0}) (λ r. r.structs ≡ q.structs) (with_function q f.name.text) (head_of q.names f) (any-ok (head_of q.names f)) (λ h u. refl))
 
   struct-body : (s : StructDecl) (gs hs : List TypedFunction) → with_body p (Struct s) gs ≡ Ok hs → gs ≡ hs
@@ -380,7 +378,7 @@ program-resolves entries p fs heads here =
     subst (λ (l : List TypedFunction). EntriesResolve (program_of p fs) entries (map struct_info p.structs) l) (sym go.is_functions)
     (subst (λ (l : List (Name × Fields)). EntriesResolve (program_of p fs) entries (map struct_info l) go.others) (sym go.is_structs) go.agrees)
 
-mapped-ok : {A B : Type 0} (make : A → B) (r : Result A Fault) (y : B) → mapped make r ≡ Ok y → (x : A) × (r ≡ Ok x) × (make x ≡ y)
+mapped-ok : {A B : Type 0} (make : A → B) (r : Result A Fault) (y : B) → result_map make r ≡ Ok y → (x : A) × (r ≡ Ok x) × (make x ≡ y)
 mapped-ok make (Ok x) y h = (x, refl, same-ok (make x) y h)
 mapped-ok make (Err f) y h = cc
 

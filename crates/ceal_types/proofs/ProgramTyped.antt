@@ -23,9 +23,9 @@ use Rattle.ceal_types.specs.Checked.{struct_info, function_of, function_body, ty
 use Rattle.ceal_types.specs.Expressions.{Fields}
 use Rattle.ceal_types.specs.Heads.{with_field, head_of, with_struct, with_function, with_entry, struct_names, no_entries, heads}
 use Rattle.ceal_types.specs.Limits.{IsShort, HasShortLists}
-use Rattle.ceal_types.specs.Statements.{nested, typed_stmts}
+use Rattle.ceal_types.specs.Statements.{inner_block, typed_stmts}
 use Rattle.ceal_types.specs.Tables.{Name, has, second}
-use Rattle.ceal_types.specs.Walk.{fault, mapped, in_turn, at_end}
+use Rattle.ceal_types.specs.Walk.{fault, result_map, in_turn, at_end}
 use Rattle.ceal_types.specs.declared.program.Head.{Head}
 use Rattle.ceal_types.specs.declared.program.Program.{Program}
 use Rattle.ceal_types.proofs.GrowLemmas.{grows-same, grows-take}
@@ -60,7 +60,7 @@ function-headed : (p : Program) (f : FunctionDecl) → IfOk (typed_function p f)
 unfolding typed_function view head_view
 function-headed p f =
     after-keeps (λ h. head_of p.names f ≡ Ok h) (Headed p.names f) (function_body p f) (head_of p.names f) (ok-self (head_of p.names f))
-    (λ h is. mapped-keeps (BlockGrows h.parameters) (Headed p.names f) (function_of f h) (nested (typed_stmts p h.own f.body) h.parameters)
+    (λ h is. mapped-keeps (BlockGrows h.parameters) (Headed p.names f) (function_of f h) (inner_block (typed_stmts p h.own f.body) h.parameters)
     (body-grows p h.own f.body h.parameters)
     (λ b grows. record {
       head = h;
@@ -78,7 +78,7 @@ pub record HeadAdded (f : FunctionDecl) (q r : Program) : Type 0 where
 pub head-added : (f : FunctionDecl) (q : Program) → IfOk (with_entry (Function f) q) (HeadAdded f q)
 unfolding with_entry
 head-added f q =
-    if-keeps (HeadAdded f q) (has q.functions f.name.text) (fault N2 f.name.span) (mapped (with_function q f.name.text) (head_of q.names f)) (λ b. tt)
+    if-keeps (HeadAdded f q) (has q.functions f.name.text) (fault N2 f.name.span) (result_map (with_function q f.name.text) (head_of q.names f)) (λ b. tt)
     (λ none. mapped-keeps (λ h. head_of q.names f ≡ Ok h) (HeadAdded f q) (with_function q f.name.text) (head_of q.names f) (ok-self (head_of q.names f))
     (λ h is. record { head = h; is = is; names = refl; functions = refl }))
 
@@ -97,7 +97,7 @@ pub struct-added : (s : StructDecl) (q : Program) → IfOk (with_entry (Struct s
 unfolding with_entry
 struct-added s q =
     if-keeps (λ r. (r.names ≡ q.names) × (r.functions ≡ q.functions)) (has q.structs s.name.text) (fault N2 s.name.span)
-    (mapped (with_struct q s.name.text) (in_turn (with_field q.names) s.fields [])) (λ b. tt)
+    (result_map (with_struct q s.name.text) (in_turn (with_field q.names) s.fields [])) (λ b. tt)
     (λ none. mapped-keeps (λ v. Unit {0}) (λ r. (r.names ≡ q.names) × (r.functions ≡ q.functions)) (with_struct q s.name.text) (in_turn (with_field q.names) s.fields [])
     (any-ok (in_turn (with_field q.names) s.fields [])) (λ v u. (refl, refl)))
 
@@ -194,7 +194,7 @@ module _ (p : Program) (fs : List TypedFunction) (matching : HeadsMatch p.functi
       (head-good p.names (map struct_info p.structs) all f few)
       (λ h good. let seen = numbers_below (length h.parameters.kinds) in
       mapped-keeps (NestedGood p fs h.own matching all h.parameters seen) (FunctionTyped (map struct_info p.structs) fs) (function_of f h)
-      (nested (typed_stmts p h.own f.body) h.parameters)
+      (inner_block (typed_stmts p h.own f.body) h.parameters)
       (nested-good p fs h.own matching all h.parameters seen (typed_stmts p h.own f.body) good.parameters.known good.parameters.good
       (stmts-good p fs h.own matching all f.body h.parameters seen))
       (λ b k. record {

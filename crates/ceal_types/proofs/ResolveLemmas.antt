@@ -1,5 +1,5 @@
 -- Names and their numbers in the walk's tables, and in the program.
-use Rattle.std.proofs.Common.{◌≡◌, ℕ, ◌==◌, Bool, true, false, Option, Some, None, Result, Ok, Err, List, [], ◌∷◌, ◌++◌, map, position, slice_get, refl, sym, ap, ◌∙◌, cond, if◌then◌else◌}
+use Rattle.std.proofs.Common.{◌≡◌, ℕ, Bool, true, false, Option, Some, None, Result, Ok, Err, List, [], ◌∷◌, ◌++◌, map, position, slice_get, refl, sym, ap, ◌∙◌, cond, if◌then◌else◌}
 use Rattle.std.specs.Prelude.{IfOk, is_some}
 use Rattle.std.specs.Map.{keys_of, lookup}
 use Rattle.std.specs.Option.{option_map}
@@ -19,8 +19,8 @@ use Rattle.ceal_types.specs.Expressions.{Fields, Scope, expression, found_or, fi
 use Rattle.ceal_types.specs.Kinds.{same_kind, is_pointer, suits, comparable}
 use Rattle.ceal_types.specs.Numbers.{or_second}
 use Rattle.ceal_types.specs.Resolves.{Environment, field_names, member_number}
-use Rattle.ceal_types.specs.Tables.{Name, find, both_some, second, value_at, element_name, has}
-use Rattle.ceal_types.specs.Walk.{after, mapped, both}
+use Rattle.ceal_types.specs.Tables.{Name, find, both_some, second, value_at, element_name}
+use Rattle.ceal_types.specs.Walk.{after, result_map, both}
 use Rattle.ceal_types.specs.declared.program.Field.{Field}
 use Rattle.ceal_types.specs.declared.program.Variable.{Variable}
 use Rattle.ceal_types.proofs.NumberLemmas.{has-number}
@@ -99,8 +99,8 @@ both-hold (Err f) P Q h k = tt
 pub after-at : {A B : Type 0} (next : A → Result B Fault) (r : Result A Fault) (x : A) (s : Result B Fault) → r ≡ Ok x → next x ≡ s → after next r ≡ s
 after-at next r x s h k = ap (after next) h ∙ k
 
-pub mapped-at : {A B : Type 0} (make : A → B) (r : Result A Fault) (x : A) (y : B) → r ≡ Ok x → make x ≡ y → mapped make r ≡ Ok y
-mapped-at make r x y h k = ap (mapped make) h ∙ ap Ok k
+pub mapped-at : {A B : Type 0} (make : A → B) (r : Result A Fault) (x : A) (y : B) → r ≡ Ok x → make x ≡ y → result_map make r ≡ Ok y
+mapped-at make r x y h k = ap (result_map make) h ∙ ap Ok k
 
 pub both-at : {A B C : Type 0} (next : A → B → Result C Fault) (r : Result A Fault) (s : Result B Fault) (x : A) (y : B) (t : Result C Fault)
     → r ≡ Ok x → s ≡ Ok y → next x y ≡ t → both next r s ≡ t

@@ -1,6 +1,6 @@
 -- A statement that agrees with one of the source and is well typed is what the walk gives.
-use Rattle.std.proofs.Common.{◌≡◌, ℕ, zero, suc, ◌+◌, ◌<◌, ◌≤◌, ◌==◌, arith, Bool, true, false, Option, Some, None, Result, Ok, Err, List, [], ◌∷◌, ◌++◌, All, map, position, slice_get, length, take, refl, sym, subst, ap, ◌∙◌, append_assoc, append-nil, if◌then◌else◌}
-use Rattle.std.specs.Prelude.{IfOk, IfSome, MatchOption, is_some}
+use Rattle.std.proofs.Common.{◌≡◌, ℕ, ◌+◌, ◌==◌, arith, true, false, Option, Some, None, Result, Ok, List, [], ◌∷◌, ◌++◌, All, map, position, slice_get, length, refl, sym, subst, ap, ◌∙◌, append_assoc, append-nil, if◌then◌else◌}
+use Rattle.std.specs.Prelude.{IfSome, MatchOption, is_some}
 use Rattle.std.specs.Map.{keys_of, lookup}
 use Rattle.std.specs.Option.{option_map}
 use Rattle.std.specs.Str.{bytes_eq}
@@ -8,8 +8,7 @@ use Rattle.std.proofs.lemmas.List.{length_push}
 use Rattle.std.proofs.lemmas.List.Elements.{All-push}
 use Rattle.std.proofs.lemmas.Map.Entries.{All-lookup}
 use Rattle.std.proofs.lemmas.Bool.Decides.{Decides-eqb}
-use Rattle.ceal_base.specs.Shapes.{row_at}
-use Rattle.ceal_base.specs.WellTyped.{Context, ExprTyped, ExprSuits, Suits, ArgsSuit, CallSuits, AllocSuits, ValueTyped, StmtTyped, RowTyped, StmtsTyped, kind_held, field_kind, param_kinds, declarations, row_declarations, all_declarations, seen_after, struct_name, function_name}
+use Rattle.ceal_base.specs.WellTyped.{Context, ExprTyped, ExprSuits, ArgsSuit, CallSuits, AllocSuits, ValueTyped, StmtTyped, RowTyped, StmtsTyped, kind_held, field_kind, param_kinds, declarations, row_declarations, all_declarations, seen_after, struct_name, function_name}
 use Rattle.ceal_base.specs.WellTyped.{plain_kind as kind_of_plain}
 use Rattle.ceal_base.specs.declared.fault.Fault.{Fault}
 use Rattle.ceal_base.specs.declared.fault.FaultCode.TheVariants.{N2, T1, T2}
@@ -36,23 +35,23 @@ use Rattle.ceal_base.specs.declared.typed.TypedValue.{TypedValue}
 use Rattle.ceal_base.specs.declared.typed.TypedValue.TheVariants.{Plain as PlainTyped, Read as ReadTyped, Alloc as AllocTyped, ModrefInt as ModrefIntTyped, Modref as ModrefTyped}
 use Rattle.ceal_types.specs.Checked.{struct_info}
 use Rattle.ceal_types.specs.Expressions.{Scope, typed_expr, typed_exprs, condition, member}
-use Rattle.ceal_types.specs.Heads.{numbered, struct_number, kind_of, with_variable}
+use Rattle.ceal_types.specs.Heads.{number_or_fault, struct_number, kind_of, with_variable}
 use Rattle.ceal_types.specs.Kinds.{suits, same_kind}
 use Rattle.ceal_types.specs.Resolves.{Environment, IsStruct, IsFunction, IsKind, IsVariable, IsMember, ExprResolves, ExprsResolve, ValueResolves, StmtResolves, RowResolves, StmtsResolve, in_scope}
-use Rattle.ceal_types.specs.Statements.{Step, Block, step, block, still, opened, closed, nested, with_step, declaration, declare, assignment, assigned, assign, plain_kind, set_suited, set_value, set_member, set_left, set_field, write_held, written, write, call_of, call_checked, called, call, call_suits, call_by_own, arguments_suit, chosen, choose, branch, looped, loop, asked_for, plain_value, held_value, read_value, modref_value, allocated, alloc_suits, alloc_by_own, alloc_value, alloc_by, alloc_of, typed_value, typed_stmt, typed_row, typed_stmts, with_stmt}
+use Rattle.ceal_types.specs.Statements.{Block, step, block, still, empty_block, block_end, inner_block, with_step, declaration, declare, assignment, assign_if_found, assign, plain_kind, set_suited, set_value, set_member, set_left, set_field, write_held, write_of, write, call_of, call_checked, call_if_found, call, call_suits, call_by_own, arguments_suit, if_step, choose, branch, while_step, loop, asked_for, plain_value, held_value, read_value, modref_value, block_value, alloc_suits, alloc_by_own, alloc_value, alloc_by, alloc_of, typed_value, typed_stmt, typed_row, typed_stmts}
 use Rattle.ceal_types.specs.Tables.{Name, has, find, value_at}
-use Rattle.ceal_types.specs.Walk.{fault, after, mapped, in_turn}
+use Rattle.ceal_types.specs.Walk.{fault, after, result_map, in_turn}
 use Rattle.ceal_types.specs.declared.program.Head.{Head}
 use Rattle.ceal_types.specs.declared.program.Member.{Member}
 use Rattle.ceal_types.specs.declared.program.Program.{Program}
 use Rattle.ceal_types.specs.declared.program.Variable.{Variable}
 use Rattle.ceal_types.specs.declared.program.Variables.{Variables}
-use Rattle.ceal_types.proofs.ExpressionComplete.{VariableKind, ScopeKinds, Meant, member-meant, expr-complete, exprs-complete, condition-complete}
+use Rattle.ceal_types.proofs.ExpressionComplete.{VariableKind, ScopeKinds, member-meant, expr-complete, exprs-complete, condition-complete}
 use Rattle.ceal_types.proofs.ExpressionResolved.{Whole}
 use Rattle.ceal_types.proofs.ExpressionTyped.{around}
 use Rattle.ceal_types.proofs.GrowLemmas.{Grows, grows-same, grows-more, grows-on, grows-take}
 use Rattle.ceal_types.proofs.PlaceLemmas.{find-place}
-use Rattle.ceal_types.proofs.ResolveLemmas.{numbers, numbers-added, number_of, lookup-numbers, first, find-number, some-same, after-at, mapped-at, both-at, if-true, if-false, same-self, same-true, suits-true}
+use Rattle.ceal_types.proofs.ResolveLemmas.{numbers, numbers-added, number_of, lookup-numbers, first, find-number, some-same, after-at, mapped-at, both-at, if-true, if-false, same-true, suits-true}
 use Rattle.ceal_types.proofs.StatementTyped.{row-declarations}
 use Rattle.ceal_types.proofs.ValueTyped.{HasHead, HeadsMatch}
 
@@ -145,7 +144,7 @@ module _ (p : Program) (fs : List TypedFunction) (names : p.names ≡ map struct
     (heads : HeadsMatch p.functions fs) where
   -- ---- structs, functions and types
   pub struct-complete : (name : Ident) (s : ℕ) → IsStruct (Whole p fs) name s → struct_number p.names name ≡ Ok s
-  struct-complete name s h = ap (numbered name) (ap (position (bytes_eq name.text)) names ∙ h)
+  struct-complete name s h = ap (number_or_fault name) (ap (position (bytes_eq name.text)) names ∙ h)
 
   pub kind-complete : (form : TypeForm) (kind : Kind) → IsKind (Whole p fs) form kind → kind_of p.names form ≡ Ok kind
   kind-complete forms.Int kind h = ap Ok (sym h)
@@ -210,7 +209,7 @@ module _ (p : Program) (fs : List TypedFunction) (names : p.names ≡ map struct
           (ap (alloc_by p own scope asked at structure name args s) g.is
           ∙ after-at (alloc_value asked at structure name s (f, g.head)) (typed_exprs p own scope args) xs (Ok (AllocTyped at s f name.span xs))
           (exprs-complete p fs own kinds seen scope good args xs l t.2)
-          (after-at (allocated asked at name s f xs) (alloc_suits structure name s g.head xs) tt (Ok (AllocTyped at s f name.span xs))
+          (after-at (block_value asked at name s f xs) (alloc_suits structure name s g.head xs) tt (Ok (AllocTyped at s f name.span xs))
           (alloc-complete fs f g.head g.match structure name s xs t.3)
           (asked-complete asked (Ptr s) at (AllocTyped at s f name.span xs) (AllocTyped at s f name.span xs) t.1 refl)))
 
@@ -253,7 +252,7 @@ module _ (p : Program) (fs : List TypedFunction) (names : p.names ≡ map struct
           → MatchOption (slice_get kinds n) ⊥ (λ kind. Typed kind v) → assign p own scope name value ≡ Ok (AssignTyped name.span n v)
       assign-complete name value n v h k t =
           let x = variable-there name n h in
-          ap (assigned p own name value scope) x.1
+          ap (assign_if_found p own name value scope) x.1
           ∙ mapped-at (assignment name x.0.number) (typed_value p own scope x.0.kind value) v (AssignTyped name.span n v)
           (value-complete x.0.kind value v k (subst (λ (o : Option Kind). MatchOption o ⊥ (λ kind. Typed kind v)) x.3 t))
           (ap (λ (m : ℕ). AssignTyped name.span m v) x.2)
@@ -290,7 +289,7 @@ module _ (p : Program) (fs : List TypedFunction) (names : p.names ≡ map struct
       write-complete : (at : Span) (place e : Expr) (y x : TypedExpr) → ExprResolves (Whole p fs) (numbers scope) place y → ExprResolves (Whole p fs) (numbers scope) e x
           → ExprTyped Here seen y → MatchOption (kind_held y.kind) ⊥ (λ k. ExprSuits Here seen k x) → write p own scope at place e ≡ Ok (WriteTyped at y x)
       write-complete at place e y x h k t u =
-          both-at (written at) (typed_expr p own scope place) (typed_expr p own scope e) y x (Ok (WriteTyped at y x))
+          both-at (write_of at) (typed_expr p own scope place) (typed_expr p own scope e) y x (Ok (WriteTyped at y x))
           (expr-complete p fs own kinds seen scope good place y h t) (expr-complete p fs own kinds seen scope good e x k (held-typed x (kind_held y.kind) u))
           (held-complete at y x (kind_held y.kind) u)
 
@@ -298,7 +297,7 @@ module _ (p : Program) (fs : List TypedFunction) (names : p.names ≡ map struct
           → All (ExprTyped Here seen) xs → CallSuits (slice_get fs f) xs → call p own scope name args ≡ Ok (CallTyped name.span f xs)
       called-complete name args f xs h k t u =
           let g = function-there name f h in
-          ap (called p own scope name args) g.is
+          ap (call_if_found p own scope name args) g.is
           ∙ after-at (call_checked name (f, g.head)) (typed_exprs p own scope args) xs (Ok (CallTyped name.span f xs)) (exprs-complete p fs own kinds seen scope good args xs k t)
           (mapped-at (call_of name f xs) (call_suits name g.head xs) tt (CallTyped name.span f xs) (call-complete fs f g.head g.match name xs u) refl)
 
@@ -330,9 +329,9 @@ module _ (p : Program) (fs : List TypedFunction) (names : p.names ≡ map struct
     abbrev ended : Variables → Variables → Variables
     ended v left = record { scope = v.scope; kinds = left.kinds }
 
-    nested-walked : (v : Variables) (walk : Block → Result Block Fault) (ts : List TypedStmt) → (w : RowWalked (opened v) walk ts) → nested walk v ≡ Ok (block ts (ended v w.left))
+    nested-walked : (v : Variables) (walk : Block → Result Block Fault) (ts : List TypedStmt) → (w : RowWalked (empty_block v) walk ts) → inner_block walk v ≡ Ok (block ts (ended v w.left))
     nested-walked v walk ts w =
-        mapped-at (closed (length v.scope)) (walk (opened v)) (block ts w.left) (block ts (ended v w.left)) w.is
+        mapped-at (block_end (length v.scope)) (walk (empty_block v)) (block ts w.left) (block ts (ended v w.left)) w.is
         (ap (λ (l : Scope). block ts (record { scope = l; kinds = w.left.kinds })) (grows-take v.scope w.left.scope w.grows))
 
     declare-walked : (v : Variables) (seen : List ℕ) (at : Span) (form : TypeForm) (name : Ident) (value : Value) (kind : Kind) (x : TypedValue)
@@ -343,7 +342,7 @@ module _ (p : Program) (fs : List TypedFunction) (names : p.names ≡ map struct
     declare-walked v seen at form name value kind x g good h none k there t = record {
       left = with_variable v name.text kind;
       is = after-at (declare p own at name value v) (kind_of p.names form) kind (Ok (declaration at name kind v x)) (kind-complete form kind h)
-          (if-false (has v.scope name.text) (fault N2 name.span) (mapped (declaration at name kind v) (typed_value p own v.scope kind value)) (Ok (declaration at name kind v x))
+          (if-false (has v.scope name.text) (fault N2 name.span) (result_map (declaration at name kind v) (typed_value p own v.scope kind value)) (Ok (declaration at name kind v x))
           (free v.scope name.text none)
           (mapped-at (declaration at name kind v) (typed_value p own v.scope kind value) x (declaration at name kind v x) (value-complete seen v.scope good kind value x k t) refl));
       scope = numbers-added v.scope name.text (record { number = length v.kinds; kind = kind });
@@ -354,25 +353,25 @@ module _ (p : Program) (fs : List TypedFunction) (names : p.names ≡ map struct
     }
 
     if-walked : (v : Variables) {m n : _} (at : Span) (test : Expr) (first : Row_of-Stmt m) (second : Row_of-Stmt n) (x : TypedExpr) (ts us : List TypedStmt)
-        → condition p own v.scope test ≡ Ok x → (a : RowWalked (opened v) (typed_row p own first) ts)
-        → (b : RowWalked (opened (ended v a.left)) (typed_row p own second) us)
-        → after (branch at (nested (typed_row p own first)) (nested (typed_row p own second)) v) (condition p own v.scope test)
+        → condition p own v.scope test ≡ Ok x → (a : RowWalked (empty_block v) (typed_row p own first) ts)
+        → (b : RowWalked (empty_block (ended v a.left)) (typed_row p own second) us)
+        → after (branch at (inner_block (typed_row p own first)) (inner_block (typed_row p own second)) v) (condition p own v.scope test)
         ≡ Ok (step (statements.If at x ts us) (ended v b.left))
     if-walked v at test first second x ts us h a b =
         let mid = ended v a.left in
         let result = step (statements.If at x ts us) (ended v b.left) in
-        after-at (branch at (nested (typed_row p own first)) (nested (typed_row p own second)) v) (condition p own v.scope test) x (Ok result) h
-        (after-at (choose at x (nested (typed_row p own second))) (nested (typed_row p own first) v) (block ts mid) (Ok result)
+        after-at (branch at (inner_block (typed_row p own first)) (inner_block (typed_row p own second)) v) (condition p own v.scope test) x (Ok result) h
+        (after-at (choose at x (inner_block (typed_row p own second))) (inner_block (typed_row p own first) v) (block ts mid) (Ok result)
         (nested-walked v (typed_row p own first) ts a)
-        (mapped-at (chosen at x (block ts mid)) (nested (typed_row p own second) mid) (block us (ended v b.left)) result
+        (mapped-at (if_step at x (block ts mid)) (inner_block (typed_row p own second) mid) (block us (ended v b.left)) result
         (nested-walked mid (typed_row p own second) us b) refl))
 
     while-walked : (v : Variables) {n : _} (at : Span) (test : Expr) (body : Row_of-Stmt n) (x : TypedExpr) (ts : List TypedStmt)
-        → condition p own v.scope test ≡ Ok x → (a : RowWalked (opened v) (typed_row p own body) ts)
-        → after (loop at (nested (typed_row p own body)) v) (condition p own v.scope test) ≡ Ok (step (statements.While at x ts) (ended v a.left))
+        → condition p own v.scope test ≡ Ok x → (a : RowWalked (empty_block v) (typed_row p own body) ts)
+        → after (loop at (inner_block (typed_row p own body)) v) (condition p own v.scope test) ≡ Ok (step (statements.While at x ts) (ended v a.left))
     while-walked v at test body x ts h a =
-        after-at (loop at (nested (typed_row p own body)) v) (condition p own v.scope test) x (Ok (step (statements.While at x ts) (ended v a.left))) h
-        (mapped-at (looped at x) (nested (typed_row p own body) v) (block ts (ended v a.left)) (step (statements.While at x ts) (ended v a.left))
+        after-at (loop at (inner_block (typed_row p own body)) v) (condition p own v.scope test) x (Ok (step (statements.While at x ts) (ended v a.left))) h
+        (mapped-at (while_step at x) (inner_block (typed_row p own body) v) (block ts (ended v a.left)) (step (statements.While at x ts) (ended v a.left))
         (nested-walked v (typed_row p own body) ts a) refl)
 
     if-declares : (at : Span) (x : TypedExpr) (ts us : List TypedStmt) → declarations (statements.If at x ts us) ≡ all_declarations ts + all_declarations us
@@ -460,11 +459,11 @@ module _ (p : Program) (fs : List TypedFunction) (names : p.names ≡ map struct
     -- a statement, and those after it
     with-walked : (b : Block) (s : Stmt) (t : TypedStmt) (rest : Block → Result Block Fault) (ts : List TypedStmt) → (w : Walked b.variables s t)
         → RowWalked (block (b.stmts ++ t ∷ []) w.left) rest ts
-        → RowWalked b (λ c. after rest (mapped (with_step c) (typed_stmt p own s c.variables))) (t ∷ ts)
+        → RowWalked b (λ c. after rest (result_map (with_step c) (typed_stmt p own s c.variables))) (t ∷ ts)
     unfolding all_declarations
     with-walked b s t rest ts w k = record {
       left = k.left;
-      is = after-at rest (mapped (with_step b) (typed_stmt p own s b.variables)) (block (b.stmts ++ t ∷ []) w.left) (Ok (block (b.stmts ++ t ∷ ts) k.left))
+      is = after-at rest (result_map (with_step b) (typed_stmt p own s b.variables)) (block (b.stmts ++ t ∷ []) w.left) (Ok (block (b.stmts ++ t ∷ ts) k.left))
           (mapped-at (with_step b) (typed_stmt p own s b.variables) (step t w.left) (block (b.stmts ++ t ∷ []) w.left) w.is refl)
           (k.is ∙ ap (λ (l : List TypedStmt). Ok (block l k.left)) (append_assoc b.stmts (t ∷ []) ts));
       grows = grows-on b.variables.scope w.left.scope k.left.scope w.grows k.grows;
@@ -505,9 +504,9 @@ module _ (p : Program) (fs : List TypedFunction) (names : p.names ≡ map struct
           subst (Walked v (Call name args)) (sym h.4) (call-walked v seen name args h.0 h.1 g good h.2 h.3 (subst (StmtGood v seen) h.4 k))
       stmt-walked (If' at test _ first _ second) t v seen g good h k =
           let d = if-parts v seen at h.0 h.1 h.2 (subst (StmtGood v seen) h.6 k) in
-          let a = row-walked first h.1 (opened v) seen g good h.4 d.2 in
+          let a = row-walked first h.1 (empty_block v) seen g good h.4 d.2 in
           let count : length v.kinds + all_declarations h.1 ≡ length a.left.kinds = sym a.count in
-          let b = row-walked second h.2 (opened (ended v a.left)) seen a.within good h.5 (subst (λ (n : ℕ). StmtsTyped Here seen n h.2) count d.3) in
+          let b = row-walked second h.2 (empty_block (ended v a.left)) seen a.within good h.5 (subst (λ (n : ℕ). StmtsTyped Here seen n h.2) count d.3) in
           let test_is = condition-complete p fs own kinds seen v.scope good test h.0 h.3 d.0 d.1 in
           subst (Walked v (If' at test _ first _ second)) (sym h.6) (record {
             left = ended v b.left;
@@ -520,7 +519,7 @@ module _ (p : Program) (fs : List TypedFunction) (names : p.names ≡ map struct
           })
       stmt-walked (While' at test _ body) t v seen g good h k =
           let d = while-parts v seen at h.0 h.1 (subst (StmtGood v seen) h.4 k) in
-          let a = row-walked body h.1 (opened v) seen g good h.3 d.2 in
+          let a = row-walked body h.1 (empty_block v) seen g good h.3 d.2 in
           subst (Walked v (While' at test _ body)) (sym h.4) (record {
             left = ended v a.left;
             is = while-walked v at test body h.0 h.1 (condition-complete p fs own kinds seen v.scope good test h.0 h.2 d.0 d.1) a;
@@ -564,12 +563,12 @@ module _ (p : Program) (fs : List TypedFunction) (names : p.names ≡ map struct
     -- a body is what the walk gives, and its variables have these kinds
     pub record BodyWalked (v : Variables) (ss : List Stmt) (ts : List TypedStmt) : Type 0 where
       pub left : Variables
-      pub is : nested (typed_stmts p own ss) v ≡ Ok (block ts left)
+      pub is : inner_block (typed_stmts p own ss) v ≡ Ok (block ts left)
       pub within : Grows left.kinds kinds
       pub count : length left.kinds ≡ length v.kinds + all_declarations ts
 
     pub body-walked : (ss : List Stmt) (ts : List TypedStmt) (v : Variables) (seen : List ℕ) → Grows v.kinds kinds → ScopeKinds kinds v.scope
         → StmtsResolve (Whole p fs) (numbers v.scope) ss ts → StmtsTyped Here seen (length v.kinds) ts → BodyWalked v ss ts
     body-walked ss ts v seen g good h k =
-        let w = stmts-walked ss ts (opened v) seen g good h k in
+        let w = stmts-walked ss ts (empty_block v) seen g good h k in
         record { left = ended v w.left; is = nested-walked v (typed_stmts p own ss) ts w; within = w.within; count = w.count }

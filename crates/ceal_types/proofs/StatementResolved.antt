@@ -1,5 +1,5 @@
 -- In a statement that the walk gives each name has its number.
-use Rattle.std.proofs.Common.{◌≡◌, ℕ, ◌==◌, Option, Some, None, Result, Ok, Err, List, [], ◌∷◌, ◌++◌, map, position, length, refl, sym, subst, ap, ◌∙◌, append_assoc, append-nil}
+use Rattle.std.proofs.Common.{◌≡◌, ℕ, Option, Some, None, Result, Ok, List, [], ◌∷◌, ◌++◌, map, position, length, refl, sym, subst, ap, ◌∙◌, append_assoc, append-nil}
 use Rattle.std.specs.Prelude.{IfOk}
 use Rattle.std.specs.Map.{keys_of, lookup}
 use Rattle.std.specs.Option.{option_map}
@@ -20,21 +20,19 @@ use Rattle.ceal_base.specs.declared.syntax.TypeForm.{TypeForm}
 use Rattle.ceal_base.specs.declared.syntax.TypeForm.TheVariants as forms
 use Rattle.ceal_base.specs.declared.syntax.Value.{Value}
 use Rattle.ceal_base.specs.declared.syntax.Value.TheVariants.{Plain, Read, Alloc, ModrefInt, Modref}
-use Rattle.ceal_base.specs.declared.typed.Typed.{Typed}
 use Rattle.ceal_base.specs.declared.typed.TypedExpr.{TypedExpr}
 use Rattle.ceal_base.specs.declared.typed.TypedFunction.{TypedFunction}
 use Rattle.ceal_base.specs.declared.typed.TypedStmt.{TypedStmt}
 use Rattle.ceal_base.specs.declared.typed.TypedStmt.{SetField as SetTyped, Write as WriteTyped}
-use Rattle.ceal_base.specs.declared.typed.TypedValue.{TypedValue}
 use Rattle.ceal_base.specs.declared.typed.TypedValue.TheVariants.{Plain as PlainTyped, Read as ReadTyped, Alloc as AllocTyped, ModrefInt as ModrefIntTyped, Modref as ModrefTyped}
-use Rattle.ceal_types.specs.Checked.{struct_info, program_of}
+use Rattle.ceal_types.specs.Checked.{struct_info}
 use Rattle.ceal_types.specs.Expressions.{Scope, typed_expr, typed_exprs, condition, member}
-use Rattle.ceal_types.specs.Heads.{numbered, struct_number, kind_of, with_variable}
+use Rattle.ceal_types.specs.Heads.{number_or_fault, struct_number, kind_of}
 use Rattle.ceal_types.specs.Kinds.{suits, same_kind}
 use Rattle.ceal_types.specs.Resolves.{Environment, IsStruct, IsFunction, IsKind, ExprResolves, ExprsResolve, ValueResolves, StmtResolves, RowResolves, StmtsResolve, in_scope}
-use Rattle.ceal_types.specs.Statements.{Step, Block, step, still, opened, closed, nested, with_step, declaration, declare, assignment, assigned, assign, plain_kind, set_suited, set_value, set_member, set_left, set_field, write_held, written, write, call_of, call_checked, called, call, call_suits, chosen, choose, branch, looped, loop, asked_for, plain_value, held_value, read_value, modref_value, allocated, alloc_suits, alloc_value, alloc_by, alloc_of, typed_value, typed_stmt, typed_row, typed_stmts, with_stmt}
-use Rattle.ceal_types.specs.Tables.{Name, has, find}
-use Rattle.ceal_types.specs.Walk.{fault, after, mapped, in_turn}
+use Rattle.ceal_types.specs.Statements.{Step, Block, still, empty_block, block_end, inner_block, with_step, declaration, declare, assignment, assign_if_found, assign, plain_kind, set_suited, set_value, set_member, set_left, set_field, write_held, write_of, write, call_of, call_checked, call_if_found, call, call_suits, if_step, choose, branch, while_step, loop, asked_for, plain_value, held_value, read_value, modref_value, block_value, alloc_suits, alloc_value, alloc_by, alloc_of, typed_value, typed_stmt, typed_row, typed_stmts}
+use Rattle.ceal_types.specs.Tables.{has, find}
+use Rattle.ceal_types.specs.Walk.{fault, after, result_map, in_turn}
 use Rattle.ceal_types.specs.declared.program.Head.{Head}
 use Rattle.ceal_types.specs.declared.program.Member.{Member}
 use Rattle.ceal_types.specs.declared.program.Program.{Program}
@@ -48,7 +46,7 @@ use Rattle.ceal_types.proofs.NumberLemmas.{absent}
 
 module _ (p : Program) (fs : List TypedFunction) (names : p.names ≡ map struct_name (map struct_info p.structs)) (functions : map function_name fs ≡ keys_of p.functions) where
   -- ---- structs, functions and types
-  number-named : (name : Ident) (o : Option ℕ) → position (bytes_eq name.text) p.names ≡ o → IfOk (numbered name o) (λ s. position (bytes_eq name.text) p.names ≡ Some s)
+  number-named : (name : Ident) (o : Option ℕ) → position (bytes_eq name.text) p.names ≡ o → IfOk (number_or_fault name o) (λ s. position (bytes_eq name.text) p.names ≡ Some s)
   number-named name None is = tt
   number-named name (Some s) is = is
 
@@ -89,7 +87,7 @@ module _ (p : Program) (fs : List TypedFunction) (names : p.names ≡ map struct
       alloc-resolved asked at structure name args s h (Some f) is =
           let Q = ValueResolves (Whole p fs) (numbers scope) (Alloc at structure name args) in
           after-keeps (ExprsResolve (Whole p fs) (numbers scope) args) Q (alloc_value asked at structure name s f) (typed_exprs p own scope args) (exprs-resolved p fs own scope args)
-          (λ xs k. after-keeps (λ u. Unit {0}) Q (allocated asked at name s f.0 xs) (alloc_suits structure name s f.1 xs) (any-ok (alloc_suits structure name s f.1 xs))
+          (λ xs k. after-keeps (λ u. Unit {0}) Q (block_value asked at name s f.0 xs) (alloc_suits structure name s f.1 xs) (any-ok (alloc_suits structure name s f.1 xs))
           (λ u w. asked-resolved Q asked (Ptr s) at (AllocTyped at s f.0 name.span xs) (s, f.0, xs, h, function-named name f is, k, refl)))
 
       pub value-resolved : (asked : Kind) (value : Value) → IfOk (typed_value p own scope asked value) (ValueResolves (Whole p fs) (numbers scope) value)
@@ -116,7 +114,7 @@ module _ (p : Program) (fs : List TypedFunction) (names : p.names ≡ map struct
       Agrees s t = StmtResolves (Whole p fs) (numbers scope) s t
 
       assigned-resolved : (name : Ident) (value : Value) (o : Option Variable) → lookup (bytes_eq name.text) scope ≡ o
-          → IfOk (assigned p own name value scope o) (Agrees (Assign name value))
+          → IfOk (assign_if_found p own name value scope o) (Agrees (Assign name value))
       unfolding StmtResolves
       assigned-resolved name value None is = tt
       assigned-resolved name value (Some v) is =
@@ -150,12 +148,12 @@ module _ (p : Program) (fs : List TypedFunction) (names : p.names ≡ map struct
 
       write-resolved : (at : Span) (place e : Expr) → IfOk (write p own scope at place e) (Agrees (Write at place e))
       write-resolved at place e =
-          both-keeps (ExprResolves (Whole p fs) (numbers scope) place) (ExprResolves (Whole p fs) (numbers scope) e) (Agrees (Write at place e)) (written at)
+          both-keeps (ExprResolves (Whole p fs) (numbers scope) place) (ExprResolves (Whole p fs) (numbers scope) e) (Agrees (Write at place e)) (write_of at)
           (typed_expr p own scope place) (typed_expr p own scope e) (expr-resolved p fs own scope place) (expr-resolved p fs own scope e)
           (λ y x h k. held-written at place e y x h k (kind_held y.kind))
 
       called-resolved : (name : Ident) (args : List Expr) (o : Option (ℕ × Head)) → find p.functions name.text ≡ o
-          → IfOk (called p own scope name args o) (Agrees (Call name args))
+          → IfOk (call_if_found p own scope name args o) (Agrees (Call name args))
       unfolding StmtResolves
       called-resolved name args None is = tt
       called-resolved name args (Some f) is =
@@ -181,15 +179,15 @@ module _ (p : Program) (fs : List TypedFunction) (names : p.names ≡ map struct
       scope : b.variables.scope ≡ v.scope
 
     still-resolves : (v : Variables) (s : Stmt) (r : Result TypedStmt Fault) → ((t : TypedStmt) → numbers v.scope ≡ in_scope (numbers v.scope) s t)
-        → IfOk r (StmtResolves (Whole p fs) (numbers v.scope) s) → IfOk (mapped (still v) r) (StepResolves v s)
+        → IfOk r (StmtResolves (Whole p fs) (numbers v.scope) s) → IfOk (result_map (still v) r) (StepResolves v s)
     still-resolves v s r same h =
         mapped-keeps (StmtResolves (Whole p fs) (numbers v.scope) s) (StepResolves v s) (still v) r h
         (λ t k. record { agrees = k; scope = same t; grows = grows-same v.scope })
 
-    nested-resolves : (v : Variables) {n : _} (row : Row_of-Stmt n) → IfOk (typed_row p own row (opened v)) (RowGoes (opened v) row)
-        → IfOk (nested (typed_row p own row) v) (NestedResolves v row)
+    nested-resolves : (v : Variables) {n : _} (row : Row_of-Stmt n) → IfOk (typed_row p own row (empty_block v)) (RowGoes (empty_block v) row)
+        → IfOk (inner_block (typed_row p own row) v) (NestedResolves v row)
     nested-resolves v row h =
-        mapped-keeps (RowGoes (opened v) row) (NestedResolves v row) (closed (length v.scope)) (typed_row p own row (opened v)) h
+        mapped-keeps (RowGoes (empty_block v) row) (NestedResolves v row) (block_end (length v.scope)) (typed_row p own row (empty_block v)) h
         (λ b k. record {
           agrees = subst (λ (l : List TypedStmt). RowResolves (Whole p fs) (numbers v.scope) row l) (sym k.is) k.agrees;
           scope = grows-take v.scope b.variables.scope k.grows;
@@ -203,7 +201,7 @@ module _ (p : Program) (fs : List TypedFunction) (names : p.names ≡ map struct
       scope : numbers c.variables.scope ≡ in_scope (numbers b.variables.scope) s stmt
       grows : Grows b.variables.scope c.variables.scope
 
-    with-resolves : (b : Block) (s : Stmt) (r : Result Step Fault) → IfOk r (StepResolves b.variables s) → IfOk (mapped (with_step b) r) (With b s)
+    with-resolves : (b : Block) (s : Stmt) (r : Result Step Fault) → IfOk r (StepResolves b.variables s) → IfOk (result_map (with_step b) r) (With b s)
     with-resolves b s r h =
         mapped-keeps (StepResolves b.variables s) (With b s) (with_step b) r h
         (λ t k. record { stmt = t.stmt; is = refl; agrees = k.agrees; scope = k.scope; grows = k.grows })
@@ -216,7 +214,7 @@ module _ (p : Program) (fs : List TypedFunction) (names : p.names ≡ map struct
         → IfOk (declare p own at name value v kind) (StepResolves v (Declare at form name value))
     unfolding StmtResolves
     declare-resolves v at form name value kind h =
-        if-keeps (StepResolves v (Declare at form name value)) (has v.scope name.text) (fault N2 name.span) (mapped (declaration at name kind v) (typed_value p own v.scope kind value)) (λ b. tt)
+        if-keeps (StepResolves v (Declare at form name value)) (has v.scope name.text) (fault N2 name.span) (result_map (declaration at name kind v) (typed_value p own v.scope kind value)) (λ b. tt)
         (λ none. mapped-keeps (ValueResolves (Whole p fs) (numbers v.scope) value) (StepResolves v (Declare at form name value)) (declaration at name kind v) (typed_value p own v.scope kind value)
         (value-resolved v.scope kind value)
         (λ x k. record {
@@ -239,22 +237,22 @@ module _ (p : Program) (fs : List TypedFunction) (names : p.names ≡ map struct
       stmt-resolves (Call name args) v =
           still-resolves v (Call name args) (call p own v.scope name args) (λ t. refl) (called-resolved v.scope name args (find p.functions name.text) refl)
       stmt-resolves (If' at test _ first _ second) v =
-          after-keeps (ExprResolves (Whole p fs) (numbers v.scope) test) (StepResolves v (If' at test _ first _ second)) (branch at (nested (typed_row p own first)) (nested (typed_row p own second)) v)
+          after-keeps (ExprResolves (Whole p fs) (numbers v.scope) test) (StepResolves v (If' at test _ first _ second)) (branch at (inner_block (typed_row p own first)) (inner_block (typed_row p own second)) v)
           (condition p own v.scope test) (condition-resolved p fs own v.scope test)
-          (λ x h. after-keeps (NestedResolves v first) (StepResolves v (If' at test _ first _ second)) (choose at x (nested (typed_row p own second))) (nested (typed_row p own first) v)
-          (nested-resolves v first (row-goes first (opened v)))
-          (λ a k. mapped-keeps (NestedResolves a.variables second) (StepResolves v (If' at test _ first _ second)) (chosen at x a) (nested (typed_row p own second) a.variables)
-          (nested-resolves a.variables second (row-goes second (opened a.variables)))
+          (λ x h. after-keeps (NestedResolves v first) (StepResolves v (If' at test _ first _ second)) (choose at x (inner_block (typed_row p own second))) (inner_block (typed_row p own first) v)
+          (nested-resolves v first (row-goes first (empty_block v)))
+          (λ a k. mapped-keeps (NestedResolves a.variables second) (StepResolves v (If' at test _ first _ second)) (if_step at x a) (inner_block (typed_row p own second) a.variables)
+          (nested-resolves a.variables second (row-goes second (empty_block a.variables)))
           (λ b l. record {
             agrees = (x, a.stmts, b.stmts, h, k.agrees, subst (λ (l : Scope). RowResolves (Whole p fs) (numbers l) second b.stmts) k.scope l.agrees, refl);
             scope = ap numbers (l.scope ∙ k.scope);
             grows = back v b.variables.scope (l.scope ∙ k.scope);
           })))
       stmt-resolves (While' at test _ body) v =
-          after-keeps (ExprResolves (Whole p fs) (numbers v.scope) test) (StepResolves v (While' at test _ body)) (loop at (nested (typed_row p own body)) v)
+          after-keeps (ExprResolves (Whole p fs) (numbers v.scope) test) (StepResolves v (While' at test _ body)) (loop at (inner_block (typed_row p own body)) v)
           (condition p own v.scope test) (condition-resolved p fs own v.scope test)
-          (λ x h. mapped-keeps (NestedResolves v body) (StepResolves v (While' at test _ body)) (looped at x) (nested (typed_row p own body) v)
-          (nested-resolves v body (row-goes body (opened v)))
+          (λ x h. mapped-keeps (NestedResolves v body) (StepResolves v (While' at test _ body)) (while_step at x) (inner_block (typed_row p own body) v)
+          (nested-resolves v body (row-goes body (empty_block v)))
           (λ b k. record { agrees = (x, b.stmts, h, k.agrees, refl); scope = ap numbers k.scope; grows = back v b.variables.scope k.scope }))
       stmt-resolves (Return at) v = record { agrees = refl; scope = refl; grows = grows-same v.scope }
       stmt-resolves (Break at) v = record { agrees = refl; scope = refl; grows = grows-same v.scope }
@@ -263,7 +261,7 @@ module _ (p : Program) (fs : List TypedFunction) (names : p.names ≡ map struct
       row-goes : {n : _} → (row : Row_of-Stmt n) (b : Block) → IfOk (typed_row p own row b) (RowGoes b row)
       row-goes end_of-Stmt b = record { more = []; is = sym (append-nil b.stmts); agrees = tt; grows = grows-same b.variables.scope }
       row-goes (more_of-Stmt s rest) b =
-          after-keeps (With b s) (RowGoes b (more_of-Stmt s rest)) (typed_row p own rest) (mapped (with_step b) (typed_stmt p own s b.variables))
+          after-keeps (With b s) (RowGoes b (more_of-Stmt s rest)) (typed_row p own rest) (result_map (with_step b) (typed_stmt p own s b.variables))
           (with-resolves b s (typed_stmt p own s b.variables) (stmt-resolves s b.variables))
           (λ c w. weaken (RowGoes c rest) (RowGoes b (more_of-Stmt s rest)) (typed_row p own rest c)
           (λ d k. record {
@@ -285,7 +283,7 @@ module _ (p : Program) (fs : List TypedFunction) (names : p.names ≡ map struct
     unfolding in_turn
     stmts-go [] b = record { more = []; is = sym (append-nil b.stmts); agrees = tt; grows = grows-same b.variables.scope }
     stmts-go (s ∷ ss) b =
-        after-keeps (With b s) (StmtsGo b (s ∷ ss)) (typed_stmts p own ss) (mapped (with_step b) (typed_stmt p own s b.variables))
+        after-keeps (With b s) (StmtsGo b (s ∷ ss)) (typed_stmts p own ss) (result_map (with_step b) (typed_stmt p own s b.variables))
         (with-resolves b s (typed_stmt p own s b.variables) (stmt-resolves s b.variables))
         (λ c w. weaken (StmtsGo c ss) (StmtsGo b (s ∷ ss)) (typed_stmts p own ss c)
         (λ d k. record {
@@ -296,7 +294,7 @@ module _ (p : Program) (fs : List TypedFunction) (names : p.names ≡ map struct
         })
         (stmts-go ss c))
 
-    pub body-resolves : (ss : List Stmt) (v : Variables) → IfOk (nested (typed_stmts p own ss) v) (λ b. StmtsResolve (Whole p fs) (numbers v.scope) ss b.stmts)
+    pub body-resolves : (ss : List Stmt) (v : Variables) → IfOk (inner_block (typed_stmts p own ss) v) (λ b. StmtsResolve (Whole p fs) (numbers v.scope) ss b.stmts)
     body-resolves ss v =
-        mapped-keeps (StmtsGo (opened v) ss) (λ b. StmtsResolve (Whole p fs) (numbers v.scope) ss b.stmts) (closed (length v.scope)) (typed_stmts p own ss (opened v)) (stmts-go ss (opened v))
+        mapped-keeps (StmtsGo (empty_block v) ss) (λ b. StmtsResolve (Whole p fs) (numbers v.scope) ss b.stmts) (block_end (length v.scope)) (typed_stmts p own ss (empty_block v)) (stmts-go ss (empty_block v))
         (λ b k. subst (λ (l : List TypedStmt). StmtsResolve (Whole p fs) (numbers v.scope) ss l) (sym k.is) k.agrees)

@@ -30,9 +30,9 @@ use Rattle.ceal_types.specs.Checked.{struct_info}
 use Rattle.ceal_types.specs.Expressions.{Scope, typed_expr, typed_exprs, condition, member}
 use Rattle.ceal_types.specs.Heads.{kind_of, with_variable}
 use Rattle.ceal_types.specs.Kinds.{suits}
-use Rattle.ceal_types.specs.Statements.{Step, Block, step, still, opened, closed, nested, with_step, declaration, declare, assignment, assigned, assign, plain_kind, set_suited, set_value, set_member, set_left, set_field, write_held, written, write, call_of, call_checked, called, call, call_suits, chosen, choose, branch, looped, loop, typed_value, typed_stmt, typed_row, typed_stmts, with_stmt}
+use Rattle.ceal_types.specs.Statements.{Step, Block, step, still, empty_block, block_end, inner_block, with_step, declaration, declare, assignment, assign_if_found, assign, plain_kind, set_suited, set_value, set_member, set_left, set_field, write_held, write_of, write, call_of, call_checked, call_if_found, call, call_suits, if_step, choose, branch, while_step, loop, typed_value, typed_stmt, typed_row, typed_stmts, with_stmt}
 use Rattle.ceal_types.specs.Tables.{Name, has, find, value_at}
-use Rattle.ceal_types.specs.Walk.{fault, after, mapped}
+use Rattle.ceal_types.specs.Walk.{fault, after, result_map}
 use Rattle.ceal_types.specs.declared.program.Head.{Head}
 use Rattle.ceal_types.specs.declared.program.Member.{Member}
 use Rattle.ceal_types.specs.declared.program.Program.{Program}
@@ -121,7 +121,7 @@ module _ (p : Program) (fs : List TypedFunction) (own : Option ℕ) (heads : Hea
     StillHere s = Still seen next kinds s
 
     assigned-still : (name : Ident) (value : Value) (o : Option Variable) → IfSome o (VariableGood seen kinds)
-        → IfOk (assigned p own name value scope o) StillHere
+        → IfOk (assign_if_found p own name value scope o) StillHere
     unfolding StmtTyped declarations
     assigned-still name value None h = tt
     assigned-still name value (Some x) h =
@@ -160,12 +160,12 @@ module _ (p : Program) (fs : List TypedFunction) (own : Option ℕ) (heads : Hea
 
     write-still : (at : Span) (place e : Expr) → IfOk (write p own scope at place e) StillHere
     write-still at place e =
-        both-keeps GoodHere GoodHere StillHere (written at) (typed_expr p own scope place) (typed_expr p own scope e)
+        both-keeps GoodHere GoodHere StillHere (write_of at) (typed_expr p own scope place) (typed_expr p own scope e)
         (expr-typed p fs own kinds seen scope good place) (expr-typed p fs own kinds seen scope good e)
         (λ q t h k. held-still at q t h k (kind_held q.kind) refl)
 
     called-still : (name : Ident) (args : List Expr) (o : Option (ℕ × Head)) → IfSome o (λ f. value_at p.functions f.0 ≡ Some f.1)
-        → IfOk (called p own scope name args o) StillHere
+        → IfOk (call_if_found p own scope name args o) StillHere
     unfolding StmtTyped declarations
     called-still name args None h = tt
     called-still name args (Some f) h =
@@ -199,7 +199,7 @@ module _ (p : Program) (fs : List TypedFunction) (own : Option ℕ) (heads : Hea
     pub typed : (more : List Kind) → Grows b.variables.kinds more → StmtsTyped (around p fs own more) seen (length v.kinds) b.stmts
 
   still-good : (v : Variables) (seen : List ℕ) (r : Result TypedStmt Fault) → All (KindKnown structs) v.kinds → ScopeGood v.scope seen v.kinds
-      → ((more : List Kind) → Grows v.kinds more → IfOk r (Still seen (length v.kinds) more)) → IfOk (mapped (still v) r) (StepGood v seen)
+      → ((more : List Kind) → Grows v.kinds more → IfOk r (Still seen (length v.kinds) more)) → IfOk (result_map (still v) r) (StepGood v seen)
   still-good v seen r known good h =
       mapped-keeps (λ s. (more : List Kind) → Grows v.kinds more → Still seen (length v.kinds) more s) (StepGood v seen) (still v) r
       (all-keep (λ more s. Still seen (length v.kinds) more s) (Grows v.kinds) r h)
@@ -213,7 +213,7 @@ module _ (p : Program) (fs : List TypedFunction) (own : Option ℕ) (heads : Hea
         typed = λ more g. (k more g).typed;
       })
 
-  open-good : (v : Variables) (seen : List ℕ) → All (KindKnown structs) v.kinds → ScopeGood v.scope seen v.kinds → BlockGood v seen (opened v)
+  open-good : (v : Variables) (seen : List ℕ) → All (KindKnown structs) v.kinds → ScopeGood v.scope seen v.kinds → BlockGood v seen (empty_block v)
   unfolding StmtsTyped all_declarations
   open-good v seen known good = record {
     kinds = grows-same v.kinds;
@@ -236,7 +236,7 @@ module _ (p : Program) (fs : List TypedFunction) (own : Option ℕ) (heads : Hea
         (h.typed more (grows-on b.variables.kinds s.variables.kinds more k.kinds g)) h.count (k.typed more g);
   }
 
-  close-good : (v : Variables) (seen : List ℕ) (b : Block) → BlockGood v seen b → NestedGood v seen (closed (length v.scope) b)
+  close-good : (v : Variables) (seen : List ℕ) (b : Block) → BlockGood v seen b → NestedGood v seen (block_end (length v.scope) b)
   close-good v seen b h = record {
     kinds = h.kinds;
     count = h.count;
@@ -246,9 +246,9 @@ module _ (p : Program) (fs : List TypedFunction) (own : Option ℕ) (heads : Hea
   }
 
   pub nested-good : (v : Variables) (seen : List ℕ) (walk : Block → Result Block Fault) → All (KindKnown structs) v.kinds → ScopeGood v.scope seen v.kinds
-      → ((b : Block) → BlockGood v seen b → IfOk (walk b) (BlockGood v seen)) → IfOk (nested walk v) (NestedGood v seen)
+      → ((b : Block) → BlockGood v seen b → IfOk (walk b) (BlockGood v seen)) → IfOk (inner_block walk v) (NestedGood v seen)
   nested-good v seen walk known good keep =
-      mapped-keeps (BlockGood v seen) (NestedGood v seen) (closed (length v.scope)) (walk (opened v)) (keep (opened v) (open-good v seen known good))
+      mapped-keeps (BlockGood v seen) (NestedGood v seen) (block_end (length v.scope)) (walk (empty_block v)) (keep (empty_block v) (open-good v seen known good))
       (λ b h. close-good v seen b h)
 
   -- a declaration
@@ -271,7 +271,7 @@ module _ (p : Program) (fs : List TypedFunction) (own : Option ℕ) (heads : Hea
   declare-good : (v : Variables) (seen : List ℕ) (at : Span) (name : Ident) (value : Value) (kind : Kind) → All (KindKnown structs) v.kinds
       → ScopeGood v.scope seen v.kinds → KindKnown structs kind → IfOk (declare p own at name value v kind) (StepGood v seen)
   declare-good v seen at name value kind known good here =
-      if-keeps (StepGood v seen) (has v.scope name.text) (fault N2 name.span) (mapped (declaration at name kind v) (typed_value p own v.scope kind value)) (λ b. tt)
+      if-keeps (StepGood v seen) (has v.scope name.text) (fault N2 name.span) (result_map (declaration at name kind v) (typed_value p own v.scope kind value)) (λ b. tt)
       (λ n. mapped-keeps (λ t. (more : List Kind) → Grows v.kinds more → ValueTyped (around p fs own more) seen kind t) (StepGood v seen)
       (declaration at name kind v) (typed_value p own v.scope kind value)
       (all-keep (λ more t. ValueTyped (around p fs own more) seen kind t) (Grows v.kinds) (typed_value p own v.scope kind value)
@@ -296,7 +296,7 @@ module _ (p : Program) (fs : List TypedFunction) (own : Option ℕ) (heads : Hea
   scope-back v seen b h = subst (λ (l : Scope). Grows v.scope l) (sym h.scope) (grows-same v.scope)
 
   if-good : (v : Variables) (seen : List ℕ) (at : Span) (test : TypedExpr) (a b : Block) → ScopeGood v.scope seen v.kinds → Test v seen test
-      → NestedGood v seen a → NestedGood a.variables seen b → StepGood v seen (chosen at test a b)
+      → NestedGood v seen a → NestedGood a.variables seen b → StepGood v seen (if_step at test a b)
   unfolding StmtTyped declarations hidden-the_row-TypedStmt-0 shape-the_row-TypedStmt-0 denote.Hole.Carrier.hidden
   if-good v seen at test a b good t h k = record {
     kinds = grows-on v.kinds a.variables.kinds b.variables.kinds h.kinds k.kinds;
@@ -317,7 +317,7 @@ module _ (p : Program) (fs : List TypedFunction) (own : Option ℕ) (heads : Hea
   }
 
   while-good : (v : Variables) (seen : List ℕ) (at : Span) (test : TypedExpr) (b : Block) → ScopeGood v.scope seen v.kinds → Test v seen test
-      → NestedGood v seen b → StepGood v seen (looped at test b)
+      → NestedGood v seen b → StepGood v seen (while_step at test b)
   unfolding StmtTyped declarations hidden-the_row-TypedStmt-0 shape-the_row-TypedStmt-0 denote.Hole.Carrier.hidden
   while-good v seen at test b good t h = record {
     kinds = h.kinds;
@@ -388,15 +388,15 @@ module _ (p : Program) (fs : List TypedFunction) (own : Option ℕ) (heads : Hea
         still-good v seen (call p own v.scope name args) known good
         (λ more g. called-still more seen (length v.kinds) v.scope (scope-grows v.scope seen v.kinds more g good) name args (find p.functions name.text) (find-place p.functions name.text))
     stmt-good (If' at test _ first _ second) v seen known good =
-        after-keeps (Test v seen) (StepGood v seen) (branch at (nested (typed_row p own first)) (nested (typed_row p own second)) v) (condition p own v.scope test) (test-good v seen test good)
-        (λ t h. after-keeps (NestedGood v seen) (StepGood v seen) (choose at t (nested (typed_row p own second))) (nested (typed_row p own first) v)
+        after-keeps (Test v seen) (StepGood v seen) (branch at (inner_block (typed_row p own first)) (inner_block (typed_row p own second)) v) (condition p own v.scope test) (test-good v seen test good)
+        (λ t h. after-keeps (NestedGood v seen) (StepGood v seen) (choose at t (inner_block (typed_row p own second))) (inner_block (typed_row p own first) v)
         (nested-good v seen (typed_row p own first) known good (row-good first v seen))
-        (λ a k. mapped-keeps (NestedGood a.variables seen) (StepGood v seen) (chosen at t a) (nested (typed_row p own second) a.variables)
+        (λ a k. mapped-keeps (NestedGood a.variables seen) (StepGood v seen) (if_step at t a) (inner_block (typed_row p own second) a.variables)
         (nested-good a.variables seen (typed_row p own second) k.known (back-good v seen a k good) (row-good second a.variables seen))
         (λ b l. if-good v seen at t a b good h k l)))
     stmt-good (While' at test _ body) v seen known good =
-        after-keeps (Test v seen) (StepGood v seen) (loop at (nested (typed_row p own body)) v) (condition p own v.scope test) (test-good v seen test good)
-        (λ t h. mapped-keeps (NestedGood v seen) (StepGood v seen) (looped at t) (nested (typed_row p own body) v)
+        after-keeps (Test v seen) (StepGood v seen) (loop at (inner_block (typed_row p own body)) v) (condition p own v.scope test) (test-good v seen test good)
+        (λ t h. mapped-keeps (NestedGood v seen) (StepGood v seen) (while_step at t) (inner_block (typed_row p own body) v)
         (nested-good v seen (typed_row p own body) known good (row-good body v seen))
         (λ b k. while-good v seen at t b good h k))
     stmt-good (Return at) v seen known good = return-good v seen at known good
@@ -406,7 +406,7 @@ module _ (p : Program) (fs : List TypedFunction) (own : Option ℕ) (heads : Hea
     row-good : {n : _} → (row : Row_of-Stmt n) (v : Variables) (seen : List ℕ) (b : Block) → BlockGood v seen b → IfOk (typed_row p own row b) (BlockGood v seen)
     row-good end_of-Stmt v seen b h = h
     row-good (more_of-Stmt s rest) v seen b h =
-        after-keeps (BlockGood v seen) (BlockGood v seen) (typed_row p own rest) (mapped (with_step b) (typed_stmt p own s b.variables))
+        after-keeps (BlockGood v seen) (BlockGood v seen) (typed_row p own rest) (result_map (with_step b) (typed_stmt p own s b.variables))
         (mapped-keeps (StepGood b.variables (seen_through seen b.stmts)) (BlockGood v seen) (with_step b) (typed_stmt p own s b.variables)
         (stmt-good s b.variables (seen_through seen b.stmts) h.known h.good) (λ st k. push-good v seen b st h k))
         (row-good rest v seen)

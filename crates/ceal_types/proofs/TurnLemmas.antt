@@ -4,14 +4,14 @@ use Rattle.ceal_base.specs.Answers.{Fails}
 use Rattle.ceal_base.specs.declared.fault.Fault.{Fault}
 use Rattle.ceal_base.specs.declared.fault.FrontError.{FrontError}
 use Rattle.ceal_base.specs.declared.fault.FrontError.TheVariants.{Memory, Fault as FaultError}
-use Rattle.ceal_types.specs.Walk.{after, mapped, in_turn}
+use Rattle.ceal_types.specs.Walk.{after, result_map, in_turn}
 
 -- a fault of the first is a fault of what comes after it
 pub fails-after : {A B : Type 0} (next : A → Result B Fault) (r : Result A Fault) (e : FrontError) → Fails e r → Fails e (after next r)
 fails-after next r Memory h = tt
 fails-after next r (FaultError f) h = rw h refl
 
-pub fails-mapped : {A B : Type 0} (make : A → B) (r : Result A Fault) (e : FrontError) → Fails e r → Fails e (mapped make r)
+pub fails-mapped : {A B : Type 0} (make : A → B) (r : Result A Fault) (e : FrontError) → Fails e r → Fails e (result_map make r)
 fails-mapped make r Memory h = tt
 fails-mapped make r (FaultError f) h = rw h refl
 

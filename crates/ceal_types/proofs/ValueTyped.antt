@@ -23,9 +23,9 @@ use Rattle.ceal_base.specs.declared.typed.TypedValue.{TypedValue}
 use Rattle.ceal_base.specs.declared.typed.TypedValue.TheVariants.{Plain as PlainTyped, Read as ReadTyped, Alloc as AllocTyped, ModrefInt as ModrefIntTyped, Modref as ModrefTyped}
 use Rattle.ceal_types.specs.Checked.{struct_info}
 use Rattle.ceal_types.specs.Expressions.{Scope, typed_expr, typed_exprs}
-use Rattle.ceal_types.specs.Heads.{numbered, struct_number, kind_of}
+use Rattle.ceal_types.specs.Heads.{number_or_fault, struct_number, kind_of}
 use Rattle.ceal_types.specs.Kinds.{suits, same_kind}
-use Rattle.ceal_types.specs.Statements.{arguments_suit, call_by_own, call_suits, alloc_by_own, alloc_suits, asked_for, plain_value, held_value, read_value, modref_value, allocated, alloc_value, alloc_by, alloc_of, typed_value}
+use Rattle.ceal_types.specs.Statements.{arguments_suit, call_by_own, call_suits, alloc_by_own, alloc_suits, asked_for, plain_value, held_value, read_value, modref_value, block_value, alloc_value, alloc_by, alloc_of, typed_value}
 use Rattle.ceal_types.specs.Tables.{Name, find, value_at}
 use Rattle.ceal_types.specs.Walk.{fault}
 use Rattle.ceal_types.specs.declared.program.Head.{Head}
@@ -40,7 +40,7 @@ within-position : (test : Name → Bool) (names : List Name) (o : Option ℕ) �
 within-position test names None h = tt
 within-position test names (Some n) h = (position-Some test names n [] h).0
 
-number-within : (name : Ident) (count : ℕ) (o : Option ℕ) → IfSome o (λ n. n < count) → IfOk (numbered name o) (λ n. n < count)
+number-within : (name : Ident) (count : ℕ) (o : Option ℕ) → IfSome o (λ n. n < count) → IfOk (number_or_fault name o) (λ n. n < count)
 number-within name count None h = tt
 number-within name count (Some n) h = h
 
@@ -166,7 +166,7 @@ module _ (p : Program) (fs : List TypedFunction) (own : Option ℕ) (kinds : Lis
   by-typed asked at structure name args shape within None h = tt
   by-typed asked at structure name args shape within (Some f) h =
       after-keeps (All GoodHere) (ValueGood asked) (alloc_value asked at structure name shape f) (typed_exprs p own scope args) (exprs-typed p fs own kinds seen scope good args)
-      (λ es k. after-keeps (λ u. AllocSuits (slice_get fs f.0) shape es) (ValueGood asked) (allocated asked at name shape f.0 es) (alloc_suits structure name shape f.1 es)
+      (λ es k. after-keeps (λ u. AllocSuits (slice_get fs f.0) shape es) (ValueGood asked) (block_value asked at name shape f.0 es) (alloc_suits structure name shape f.1 es)
       (alloc-good fs f.0 f.1 (heads f.0 f.1 h) structure name shape es)
       (λ u a. asked-good (ValueGood asked) asked (Ptr shape) at (AllocTyped at shape f.0 name.span es) (λ same. (within, same, k, a))))
 

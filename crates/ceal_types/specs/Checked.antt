@@ -14,9 +14,9 @@ use Rattle.ceal_base.specs.declared.typed.Typed.{Typed}
 use Rattle.ceal_base.specs.declared.typed.TypedFunction.{TypedFunction}
 use Rattle.ceal_types.specs.Expressions.{Fields}
 use Rattle.ceal_types.specs.Heads.{head_of, heads}
-use Rattle.ceal_types.specs.Statements.{Block, nested, typed_stmts}
+use Rattle.ceal_types.specs.Statements.{Block, inner_block, typed_stmts}
 use Rattle.ceal_types.specs.Tables.{Name}
-use Rattle.ceal_types.specs.Walk.{after, mapped, in_turn, at_end}
+use Rattle.ceal_types.specs.Walk.{after, result_map, in_turn, at_end}
 use Rattle.ceal_types.specs.declared.program.Field.{Field}
 use Rattle.ceal_types.specs.declared.program.Head.{Head}
 use Rattle.ceal_types.specs.declared.program.Program.{Program}
@@ -34,7 +34,7 @@ function_of f head block = record {
 
 -- the function of this head, if its body has types
 abbrev pub function_body : Program → FunctionDecl → Head → Result TypedFunction Fault
-function_body p f head = mapped (function_of f head) (nested (typed_stmts p head.own f.body) head.parameters)
+function_body p f head = result_map (function_of f head) (inner_block (typed_stmts p head.own f.body) head.parameters)
 
 -- a function: its body, where its parameters are in scope
 unfoldable pub typed_function : Program → FunctionDecl → Result TypedFunction Fault
@@ -43,7 +43,7 @@ typed_function p f = after (function_body p f) (head_of p.names f)
 -- the functions, with that of an entry added if it is one
 unfoldable pub with_body : Program → Entry → List TypedFunction → Result (List TypedFunction) Fault
 with_body p (Struct s) fs = Ok fs
-with_body p (Function f) fs = mapped (at_end fs) (typed_function p f)
+with_body p (Function f) fs = result_map (at_end fs) (typed_function p f)
 
 -- a field as the program has it
 abbrev pub field_info : Name × Field → FieldInfo
@@ -59,7 +59,7 @@ program_of p fs = record { structs = map struct_info p.structs; functions = fs }
 
 -- the second walk: the bodies of the functions, in text order
 abbrev pub bodies : List Entry → Program → Result Typed Fault
-bodies entries p = mapped (program_of p) (in_turn (with_body p) entries [])
+bodies entries p = result_map (program_of p) (in_turn (with_body p) entries [])
 
 -- the program of a tree, or its first fault: heads first, and then bodies
 unfoldable pub checked : Tree → Result Typed Fault

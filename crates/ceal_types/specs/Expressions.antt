@@ -22,7 +22,7 @@ use Rattle.ceal_base.specs.declared.typed.TypedForm.{Num as NumForm, Null as Nul
 use Rattle.ceal_base.specs.declared.typed.TypedForm.TheViews as typed
 use Rattle.ceal_types.specs.Kinds.{suits, comparable}
 use Rattle.ceal_types.specs.Tables.{Name, find, value_at, element_name}
-use Rattle.ceal_types.specs.Walk.{fault, after, mapped, both, in_turn, at_end}
+use Rattle.ceal_types.specs.Walk.{fault, after, result_map, both, in_turn, at_end}
 use Rattle.ceal_types.specs.declared.program.Field.{Field}
 use Rattle.ceal_types.specs.declared.program.Program.{Program}
 use Rattle.ceal_types.specs.declared.program.Variable.{Variable}
@@ -63,12 +63,12 @@ abbrev pub binary_of : Span → BinaryOp → Span → TypedExpr → TypedExpr �
 binary_of at op sign a b = expression at (Some Int) (typed.Binary op sign a b)
 
 -- `==` and `!=`: both sides of one type
-abbrev pub compared : Span → BinaryOp → Span → TypedExpr → TypedExpr → Result TypedExpr Fault
-compared at op sign a b = if comparable a.kind b.kind then Ok (binary_of at op sign a b) else fault T1 sign
+abbrev pub comparison : Span → BinaryOp → Span → TypedExpr → TypedExpr → Result TypedExpr Fault
+comparison at op sign a b = if comparable a.kind b.kind then Ok (binary_of at op sign a b) else fault T1 sign
 
 -- the other operators: both sides an `int`, and the left side is looked at first
-abbrev pub computed : Span → BinaryOp → Span → TypedExpr → TypedExpr → Result TypedExpr Fault
-computed at op sign a b =
+abbrev pub int_operation : Span → BinaryOp → Span → TypedExpr → TypedExpr → Result TypedExpr Fault
+int_operation at op sign a b =
     if suits Int a.kind then (if suits Int b.kind then Ok (binary_of at op sign a b) else fault T1 b.span)
     else fault T1 a.span
 
@@ -78,10 +78,10 @@ no_pick e i = fault T3 e.span
 
 -- an operator on two operands, if their kinds suit it
 abbrev pub binary_at : Span → BinaryOp → Span → TypedExpr → TypedExpr → Result TypedExpr Fault
-binary_at at Same sign a b = compared at Same sign a b
-binary_at at Differ sign a b = compared at Differ sign a b
+binary_at at Same sign a b = comparison at Same sign a b
+binary_at at Differ sign a b = comparison at Differ sign a b
 binary_at at (Pick row) sign a b = no_pick a b
-binary_at at op sign a b = computed at op sign a b
+binary_at at op sign a b = int_operation at op sign a b
 
 -- an operator on one operand, if it is an `int`
 abbrev pub unary_at : Span → UnaryOp → TypedExpr → Result TypedExpr Fault
@@ -206,7 +206,7 @@ typed_expr p own scope e = typed_form p own scope e.span e.form
 
 -- one more argument
 abbrev pub with_expr : Program → Option ℕ → Scope → Expr → List TypedExpr → Result (List TypedExpr) Fault
-with_expr p own scope e done = mapped (at_end done) (typed_expr p own scope e)
+with_expr p own scope e done = result_map (at_end done) (typed_expr p own scope e)
 
 -- expressions from left to right
 abbrev pub typed_exprs : Program → Option ℕ → Scope → List Expr → Result (List TypedExpr) Fault

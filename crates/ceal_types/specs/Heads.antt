@@ -15,32 +15,32 @@ use Rattle.ceal_base.specs.declared.syntax.Ident.{Ident}
 use Rattle.ceal_base.specs.declared.syntax.TypeForm.{TypeForm}
 use Rattle.ceal_base.specs.declared.syntax.TypeForm.TheVariants as forms
 use Rattle.ceal_types.specs.Tables.{Name, has, with_name, element_name}
-use Rattle.ceal_types.specs.Walk.{fault, after, mapped, in_turn}
+use Rattle.ceal_types.specs.Walk.{fault, after, result_map, in_turn}
 use Rattle.ceal_types.specs.declared.program.Field.{Field}
 use Rattle.ceal_types.specs.declared.program.Head.{Head}
 use Rattle.ceal_types.specs.declared.program.Program.{Program}
 use Rattle.ceal_types.specs.declared.program.Variables.{Variables}
 
 -- the number of the struct of this name
-abbrev pub numbered : Ident → Option ℕ → Result ℕ Fault
-numbered name None = fault N1 name.span
-numbered name (Some n) = Ok n
+abbrev pub number_or_fault : Ident → Option ℕ → Result ℕ Fault
+number_or_fault name None = fault N1 name.span
+number_or_fault name (Some n) = Ok n
 
 -- the number of the struct with the name
 abbrev pub struct_number : List Name → Ident → Result ℕ Fault
-struct_number names name = numbered name (position (bytes_eq name.text) names)
+struct_number names name = number_or_fault name (position (bytes_eq name.text) names)
 
 -- the type of a variable or parameter; a source text gives embedded modifiables to fields alone, and in a tree with
 -- one elsewhere it is a pointer to that modifiable
 abbrev pub kind_of : List Name → TypeForm → Result Kind Fault
 kind_of names forms.Int = Ok kinds.Int
-kind_of names (forms.Ptr name) = mapped kinds.Ptr (struct_number names name)
+kind_of names (forms.Ptr name) = result_map kinds.Ptr (struct_number names name)
 kind_of names forms.ModInt = Ok kinds.ModInt
-kind_of names (forms.ModPtr name) = mapped kinds.ModPtr (struct_number names name)
+kind_of names (forms.ModPtr name) = result_map kinds.ModPtr (struct_number names name)
 kind_of names forms.CellInt = Ok kinds.ModInt
-kind_of names (forms.CellPtr name) = mapped kinds.ModPtr (struct_number names name)
+kind_of names (forms.CellPtr name) = result_map kinds.ModPtr (struct_number names name)
 kind_of names (forms.CellRow row) = Ok kinds.ModInt
-kind_of names (forms.CellPtrRow name row) = mapped kinds.ModPtr (struct_number names name)
+kind_of names (forms.CellPtrRow name row) = result_map kinds.ModPtr (struct_number names name)
 
 -- a plain field that points to struct s
 abbrev pub plain_pointer : ℕ → FieldKind
@@ -53,13 +53,13 @@ plain_place s = Plain (kinds.ModPtr s)
 -- the kind of a field, by the form of its type
 abbrev pub field_kind_of : List Name → TypeForm → Result FieldKind Fault
 field_kind_of names forms.Int = Ok (Plain kinds.Int)
-field_kind_of names (forms.Ptr name) = mapped plain_pointer (struct_number names name)
+field_kind_of names (forms.Ptr name) = result_map plain_pointer (struct_number names name)
 field_kind_of names forms.ModInt = Ok (Plain kinds.ModInt)
-field_kind_of names (forms.ModPtr name) = mapped plain_place (struct_number names name)
+field_kind_of names (forms.ModPtr name) = result_map plain_place (struct_number names name)
 field_kind_of names forms.CellInt = Ok CellInt
-field_kind_of names (forms.CellPtr name) = mapped CellPtr (struct_number names name)
+field_kind_of names (forms.CellPtr name) = result_map CellPtr (struct_number names name)
 field_kind_of names (forms.CellRow row) = Ok CellInt
-field_kind_of names (forms.CellPtrRow name row) = mapped CellPtr (struct_number names name)
+field_kind_of names (forms.CellPtrRow name row) = result_map CellPtr (struct_number names name)
 
 -- the length of the row that a field of this type is
 abbrev pub row_of : TypeForm → Option ℕ
@@ -68,8 +68,8 @@ row_of (forms.CellPtrRow name row) = Some row
 row_of form = None
 
 -- a field or a row has the name
-abbrev pub taken : List (Name × Field) → Name → Bool
-taken fields name = has fields name || has fields (element_name name 0)
+abbrev pub has_member : List (Name × Field) → Name → Bool
+has_member fields name = has fields name || has fields (element_name name 0)
 
 -- the length of the row that begins at its element of this number
 abbrev pub row_at : ℕ → ℕ → ℕ
@@ -93,7 +93,7 @@ added_field name (Some row) fields kind = with_elements name kind row row fields
 
 -- one more field: the struct's name in its type, and then its own name
 abbrev pub new_field : Ident → Option ℕ → List (Name × Field) → FieldKind → Result (List (Name × Field)) Fault
-new_field name row fields kind = if taken fields name.text then fault N2 name.span else added_field name row fields kind
+new_field name row fields kind = if has_member fields name.text then fault N2 name.span else added_field name row fields kind
 
 -- the fields of a struct with one more
 unfoldable pub with_field : List Name → FieldDecl → List (Name × Field) → Result (List (Name × Field)) Fault
@@ -117,7 +117,7 @@ with_parameter names d v = after (new_parameter d.name v) (kind_of names d.form)
 -- the struct of `self`, of an initialiser alone
 abbrev pub own_of : List Name → Option Ident → Result (Option ℕ) Fault
 own_of names None = Ok None
-own_of names (Some name) = mapped Some (struct_number names name)
+own_of names (Some name) = result_map Some (struct_number names name)
 
 -- no variables
 abbrev pub no_variables : Variables
@@ -129,7 +129,7 @@ head own v = record { own = own; parameters = v }
 
 -- the head of a function with these parameters, or the first fault in them
 abbrev pub with_parameters : List Name → List FieldDecl → Option ℕ → Result Head Fault
-with_parameters names params own = mapped (head own) (in_turn (with_parameter names) params no_variables)
+with_parameters names params own = result_map (head own) (in_turn (with_parameter names) params no_variables)
 
 -- a function's head: the struct of `self`, and then the parameters
 unfoldable pub head_of : List Name → FunctionDecl → Result Head Fault
@@ -147,10 +147,10 @@ with_function p name f = record p { functions = p.functions ++ (name, f) ∷ [] 
 unfoldable pub with_entry : Entry → Program → Result Program Fault
 with_entry (Struct s) p =
     if has p.structs s.name.text then fault N2 s.name.span
-    else mapped (with_struct p s.name.text) (in_turn (with_field p.names) s.fields [])
+    else result_map (with_struct p s.name.text) (in_turn (with_field p.names) s.fields [])
 with_entry (Function f) p =
     if has p.functions f.name.text then fault N2 f.name.span
-    else mapped (with_function p f.name.text) (head_of p.names f)
+    else result_map (with_function p f.name.text) (head_of p.names f)
 
 -- the names of structs with this one, each of them once
 abbrev pub with_struct_name : Entry → List Name → List Name

@@ -23,5 +23,5 @@ abbrev pub number_if : Bool → ℕ → Option ℕ
 number_if same number = if same then Some number else None
 
 -- the table has under each name the number that the name has
-abbrev pub Gives : List (Name × ℕ) → (Name → Option ℕ) → Type 0
-Gives table number = (name : Name) → lookup (bytes_eq name) table ≡ number name
+abbrev pub IsNumbering : List (Name × ℕ) → (Name → Option ℕ) → Type 0
+IsNumbering table number = (name : Name) → lookup (bytes_eq name) table ≡ number name

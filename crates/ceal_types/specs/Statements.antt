@@ -26,7 +26,7 @@ use Rattle.ceal_types.specs.Expressions.{Scope, typed_expr, typed_exprs, conditi
 use Rattle.ceal_types.specs.Heads.{kind_of, struct_number, with_variable}
 use Rattle.ceal_types.specs.Kinds.{suits, same_kind}
 use Rattle.ceal_types.specs.Tables.{has, find}
-use Rattle.ceal_types.specs.Walk.{fault, after, mapped, both, in_turn}
+use Rattle.ceal_types.specs.Walk.{fault, after, result_map, both, in_turn}
 use Rattle.ceal_types.specs.declared.program.Head.{Head}
 use Rattle.ceal_types.specs.declared.program.Member.{Member}
 use Rattle.ceal_types.specs.declared.program.Program.{Program}
@@ -81,13 +81,13 @@ abbrev pub modref_value : Kind → Span → ℕ → Result TypedValue Fault
 modref_value asked at s = asked_for asked (ModPtr s) at (ModrefTyped at s)
 
 -- a new block, if a pointer to its struct is asked for
-abbrev pub allocated : Kind → Span → Ident → ℕ → ℕ → List TypedExpr → Unit {0} → Result TypedValue Fault
-allocated asked at name shape n es u = asked_for asked (Ptr shape) at (AllocTyped at shape n name.span es)
+abbrev pub block_value : Kind → Span → Ident → ℕ → ℕ → List TypedExpr → Unit {0} → Result TypedValue Fault
+block_value asked at name shape n es u = asked_for asked (Ptr shape) at (AllocTyped at shape n name.span es)
 
 -- a new block, if its initialiser and its arguments suit
 abbrev pub alloc_value : Kind → Span → Ident → Ident → ℕ → ℕ × Head → List TypedExpr → Result TypedValue Fault
 alloc_value asked at structure name shape f es =
-    after (allocated asked at name shape f.0 es) (alloc_suits structure name shape f.1 es)
+    after (block_value asked at name shape f.0 es) (alloc_suits structure name shape f.1 es)
 
 -- a new block, if there is an initialiser of this name
 abbrev pub alloc_by : Program → Option ℕ → Scope → Kind → Span → Ident → Ident → List Expr → ℕ
@@ -129,20 +129,20 @@ abbrev pub block : List TypedStmt → Variables → Block
 block stmts v = record { stmts = stmts; variables = v }
 
 -- the begin of a block: no statements yet
-abbrev pub opened : Variables → Block
-opened v = block [] v
+abbrev pub empty_block : Variables → Block
+empty_block v = block [] v
 
 -- a block with one more statement
 abbrev pub with_step : Block → Step → Block
 with_step b s = record { stmts = b.stmts ++ s.stmt ∷ []; variables = s.variables }
 
 -- the first variables stay in scope, and those that were declared after them leave it
-abbrev pub closed : ℕ → Block → Block
-closed n b = record b { variables = record b.variables { scope = take n b.variables.scope } }
+abbrev pub block_end : ℕ → Block → Block
+block_end n b = record b { variables = record b.variables { scope = take n b.variables.scope } }
 
 -- a nested block: what it declares leaves the scope at its end
-abbrev pub nested : (Block → Result Block Fault) → Variables → Result Block Fault
-nested walk v = mapped (closed (length v.scope)) (walk (opened v))
+abbrev pub inner_block : (Block → Result Block Fault) → Variables → Result Block Fault
+inner_block walk v = result_map (block_end (length v.scope)) (walk (empty_block v))
 
 -- a declaration: the type's name, the variable's name, the value, and then the variable is in scope
 abbrev pub declaration : Span → Ident → Kind → Variables → TypedValue → Step
@@ -152,20 +152,20 @@ declaration at name kind v value = step (DeclareTyped at (length v.kinds) kind v
 abbrev pub declare : Program → Option ℕ → Span → Ident → Value → Variables → Kind → Result Step Fault
 declare p own at name value v kind =
     if has v.scope name.text then fault N2 name.span
-    else mapped (declaration at name kind v) (typed_value p own v.scope kind value)
+    else result_map (declaration at name kind v) (typed_value p own v.scope kind value)
 
 -- an assignment to variable n
 abbrev pub assignment : Ident → ℕ → TypedValue → TypedStmt
 assignment name n value = AssignTyped name.span n value
 
 -- an assignment to a variable, if it is in scope and the value suits
-abbrev pub assigned : Program → Option ℕ → Ident → Value → Scope → Option Variable → Result TypedStmt Fault
-assigned p own name value scope None = fault N1 name.span
-assigned p own name value scope (Some x) = mapped (assignment name x.number) (typed_value p own scope x.kind value)
+abbrev pub assign_if_found : Program → Option ℕ → Ident → Value → Scope → Option Variable → Result TypedStmt Fault
+assign_if_found p own name value scope None = fault N1 name.span
+assign_if_found p own name value scope (Some x) = result_map (assignment name x.number) (typed_value p own scope x.kind value)
 
 -- an assignment to the variable with the name
 abbrev pub assign : Program → Option ℕ → Scope → Ident → Value → Result TypedStmt Fault
-assign p own scope name value = assigned p own name value scope (lookup (bytes_eq name.text) scope)
+assign p own scope name value = assign_if_found p own name value scope (lookup (bytes_eq name.text) scope)
 
 -- the type of a field that may be assigned, a plain one
 abbrev pub plain_kind : Ident → FieldKind → Result Kind Fault
@@ -199,12 +199,12 @@ write_held at place e None = fault T3 place.span
 write_held at place e (Some kind) = if suits kind e.kind then Ok (WriteTyped at place e) else fault T1 e.span
 
 -- a write, if the value suits the modifiable
-abbrev pub written : Span → TypedExpr → TypedExpr → Result TypedStmt Fault
-written at place e = write_held at place e (kind_held place.kind)
+abbrev pub write_of : Span → TypedExpr → TypedExpr → Result TypedStmt Fault
+write_of at place e = write_held at place e (kind_held place.kind)
 
 -- a write, or the first fault
 abbrev pub write : Program → Option ℕ → Scope → Span → Expr → Expr → Result TypedStmt Fault
-write p own scope at place e = both (written at) (typed_expr p own scope place) (typed_expr p own scope e)
+write p own scope at place e = both (write_of at) (typed_expr p own scope place) (typed_expr p own scope e)
 
 -- a call: the name, the arguments, and then their number and types
 abbrev pub call_of : Ident → ℕ → List TypedExpr → Unit {0} → TypedStmt
@@ -212,28 +212,28 @@ call_of name n es u = CallTyped name.span n es
 
 -- a call, if the function and the arguments suit
 abbrev pub call_checked : Ident → ℕ × Head → List TypedExpr → Result TypedStmt Fault
-call_checked name f es = mapped (call_of name f.0 es) (call_suits name f.1 es)
+call_checked name f es = result_map (call_of name f.0 es) (call_suits name f.1 es)
 
 -- a call, if there is a function of this name
-abbrev pub called : Program → Option ℕ → Scope → Ident → List Expr → Option (ℕ × Head) → Result TypedStmt Fault
-called p own scope name args None = fault N1 name.span
-called p own scope name args (Some f) = after (call_checked name f) (typed_exprs p own scope args)
+abbrev pub call_if_found : Program → Option ℕ → Scope → Ident → List Expr → Option (ℕ × Head) → Result TypedStmt Fault
+call_if_found p own scope name args None = fault N1 name.span
+call_if_found p own scope name args (Some f) = after (call_checked name f) (typed_exprs p own scope args)
 
 -- a call, or the first fault
 abbrev pub call : Program → Option ℕ → Scope → Ident → List Expr → Result TypedStmt Fault
-call p own scope name args = called p own scope name args (find p.functions name.text)
+call p own scope name args = call_if_found p own scope name args (find p.functions name.text)
 
 -- a statement that declares nothing leaves the variables as they are
 abbrev pub still : Variables → TypedStmt → Step
 still v s = step s v
 
 -- an `if`: the condition, and then both parts
-abbrev pub chosen : Span → TypedExpr → Block → Block → Step
-chosen at test first second = step (typed.If at test first.stmts second.stmts) second.variables
+abbrev pub if_step : Span → TypedExpr → Block → Block → Step
+if_step at test first second = step (typed.If at test first.stmts second.stmts) second.variables
 
 -- an `if` with its second part, where the first is there
 abbrev pub choose : Span → TypedExpr → (Variables → Result Block Fault) → Block → Result Step Fault
-choose at test second first = mapped (chosen at test first) (second first.variables)
+choose at test second first = result_map (if_step at test first) (second first.variables)
 
 -- an `if` with its two parts, where the test is there
 abbrev pub branch : Span → (Variables → Result Block Fault) → (Variables → Result Block Fault) → Variables
@@ -241,26 +241,26 @@ abbrev pub branch : Span → (Variables → Result Block Fault) → (Variables �
 branch at first second v test = after (choose at test second) (first v)
 
 -- a `while`: the condition, and then the body
-abbrev pub looped : Span → TypedExpr → Block → Step
-looped at test body = step (typed.While at test body.stmts) body.variables
+abbrev pub while_step : Span → TypedExpr → Block → Step
+while_step at test body = step (typed.While at test body.stmts) body.variables
 
 -- a loop with its body, where the test is there
 abbrev pub loop : Span → (Variables → Result Block Fault) → Variables → TypedExpr → Result Step Fault
-loop at body v test = mapped (looped at test) (body v)
+loop at body v test = result_map (while_step at test) (body v)
 
 -- a statement where these variables are there
 unfoldable mutual
   pub typed_stmt : Program → Option ℕ → Stmt → Variables → Result Step Fault
   typed_stmt p own (Declare at form name value) v = after (declare p own at name value v) (kind_of p.names form)
-  typed_stmt p own (Assign name value) v = mapped (still v) (assign p own v.scope name value)
-  typed_stmt p own (SetField at left name e) v = mapped (still v) (set_field p own v.scope at left name e)
-  typed_stmt p own (Write at place e) v = mapped (still v) (write p own v.scope at place e)
-  typed_stmt p own (Call name args) v = mapped (still v) (call p own v.scope name args)
+  typed_stmt p own (Assign name value) v = result_map (still v) (assign p own v.scope name value)
+  typed_stmt p own (SetField at left name e) v = result_map (still v) (set_field p own v.scope at left name e)
+  typed_stmt p own (Write at place e) v = result_map (still v) (write p own v.scope at place e)
+  typed_stmt p own (Call name args) v = result_map (still v) (call p own v.scope name args)
   typed_stmt p own (If' at test _ first _ second) v =
-      after (branch at (nested (typed_row p own first)) (nested (typed_row p own second)) v)
+      after (branch at (inner_block (typed_row p own first)) (inner_block (typed_row p own second)) v)
       (condition p own v.scope test)
   typed_stmt p own (While' at test _ body) v =
-      after (loop at (nested (typed_row p own body)) v) (condition p own v.scope test)
+      after (loop at (inner_block (typed_row p own body)) v) (condition p own v.scope test)
   typed_stmt p own (Return at) v = Ok (step (ReturnTyped at) v)
   typed_stmt p own (Break at) v = Ok (step (BreakTyped at) v)
   typed_stmt p own (Continue at) v = Ok (step (ContinueTyped at) v)
@@ -269,11 +269,11 @@ unfoldable mutual
   pub typed_row : Program → Option ℕ → {n : _} → Row_of-Stmt n → Block → Result Block Fault
   typed_row p own end_of-Stmt b = Ok b
   typed_row p own (more_of-Stmt s rest) b =
-      after (typed_row p own rest) (mapped (with_step b) (typed_stmt p own s b.variables))
+      after (typed_row p own rest) (result_map (with_step b) (typed_stmt p own s b.variables))
 
 -- one more statement of a block
 abbrev pub with_stmt : Program → Option ℕ → Stmt → Block → Result Block Fault
-with_stmt p own s b = mapped (with_step b) (typed_stmt p own s b.variables)
+with_stmt p own s b = result_map (with_step b) (typed_stmt p own s b.variables)
 
 -- the statements of a block one after another
 abbrev pub typed_stmts : Program → Option ℕ → List Stmt → Block → Result Block Fault

@@ -14,9 +14,9 @@ after next (Ok x) = next x
 after next (Err f) = Err f
 
 -- what is made of it, where there was no fault
-abbrev pub mapped : {A B : Type 0} → (A → B) → Result A Fault → Result B Fault
-mapped make (Ok x) = Ok (make x)
-mapped make (Err f) = Err f
+abbrev pub result_map : {A B : Type 0} → (A → B) → Result A Fault → Result B Fault
+result_map make (Ok x) = Ok (make x)
+result_map make (Err f) = Err f
 
 -- what comes next, where neither is a fault
 abbrev pub both : {A B C : Type 0} → (A → B → Result C Fault) → Result A Fault → Result B Fault → Result C Fault

@@ -5,11 +5,11 @@ ghost use Rattle.ceal_base.specs.Answers.{Gives};
 ghost use Rattle.ceal_base.specs.WellTyped.{WellTyped};
 ghost use Rattle.ceal_types.specs.Limits.{HasShortLists};
 ghost use Rattle.ceal_types.specs.Checked.{checked, field_info, struct_info, typed_function, with_body};
-ghost use Rattle.ceal_types.specs.States.{Leads};
+ghost use Rattle.ceal_types.specs.States.{Leaves};
 ghost use Rattle.ceal_types.specs.Walk.{in_turn};
 
 use crate::heads::{head_of, heads};
-use crate::program::{Field, Program};
+use crate::program::{Body, Field, Program};
 use crate::statements::type_block;
 use crate::table::Table;
 use ceal_base::fault::FrontError;
@@ -52,13 +52,18 @@ fn type_function(
     let own = head.own;
     let mut variables = head.parameters;
     let params = count(variables.kinds.items().len())?;
-    let body = type_block(alloc, program, own, &mut variables, function.body.items())?;
+    let body = Body {
+        alloc,
+        program,
+        own,
+    };
+    let stmts = type_block(&body, &mut variables, function.body.items())?;
     Ok(TypedFunction {
         initialiser: own,
         name: copied_name(&function.name)?,
         params,
         kinds: variables.kinds,
-        body,
+        body: stmts,
         close: function.close,
     })
 }
@@ -70,7 +75,7 @@ fn add_body(
     functions: &mut Items<TypedFunction>,
     entry: &Entry,
 ) -> Result<(), FrontError>
-    ensures { Leads result functions.new (with_body program.now entry.now functions.old) }
+    ensures { Leaves result functions.new (with_body program.now entry.now functions.old) }
 {
     match entry {
         Entry::Struct(_) => Ok(()),

@@ -4,11 +4,11 @@ ghost use Rattle.std.specs.Prelude.{◌≡◌, Option, IfOk};
 ghost use Rattle.std.specs.Map.{lookup};
 ghost use Rattle.std.specs.Str.{bytes_eq};
 ghost use Rattle.ceal_base.specs.Answers.{Gives};
-ghost use Rattle.ceal_types.specs.Expressions.{expression, variable_at, own_at, unary_at, unary_of, binary_at, compared, computed, no_pick, typed_expr, typed_exprs, condition};
+ghost use Rattle.ceal_types.specs.Expressions.{expression, variable_at, own_at, unary_at, unary_of, binary_at, comparison, int_operation, no_pick, typed_expr, typed_exprs, condition};
 
 use crate::kinds::{comparable, suits};
 use crate::members::{both, fault, type_address, type_field, type_pick};
-use crate::program::{Program, Variable};
+use crate::program::{Access, Site, Variable};
 use crate::table::Table;
 use ceal_base::boxed::Boxed;
 use ceal_base::fault::{FaultCode, FrontError, Span};
@@ -71,7 +71,7 @@ fn type_compared(
     a: Boxed<TypedExpr>,
     b: Boxed<TypedExpr>,
 ) -> Result<TypedExpr, FrontError>
-    ensures { Gives result (compared at op sign a b) }
+    ensures { Gives result (comparison at op sign a b) }
 {
     if comparable(a.get().kind, b.get().kind) {
         Ok(expression(at, Some(Kind::Int), TypedForm::Binary(op, sign, a, b)))
@@ -89,7 +89,7 @@ fn type_computed(
     a: Boxed<TypedExpr>,
     b: Boxed<TypedExpr>,
 ) -> Result<TypedExpr, FrontError>
-    ensures { Gives result (computed at op sign a b) }
+    ensures { Gives result (int_operation at op sign a b) }
 {
     if !suits(Kind::Int, a.get().kind) {
         let wrong = a.get().span;
@@ -104,6 +104,14 @@ fn type_computed(
         return Err(fault(FaultCode::T1, wrong));
     }
     Ok(expression(at, Some(Kind::Int), TypedForm::Binary(op, sign, a, b)))
+}
+
+/// A binary operator: where its expression begins, and where its sign stands.
+#[derive(Clone, Copy)]
+struct Operator {
+    at: Span,
+    op: Binary,
+    sign: Span,
 }
 
 /// A binary operator after its operands, which stand on the heap already, so that they are not moved from call to call.
@@ -136,16 +144,14 @@ fn type_operands(
 
 fn type_binary(
     alloc: Global,
-    at: Span,
-    op: Binary,
-    sign: Span,
+    operator: Operator,
     a: TypedExpr,
     b: TypedExpr,
 ) -> Result<TypedExpr, FrontError>
-    ensures { Gives result (binary_at at op sign a b) }
+    ensures { Gives result (binary_at operator.at operator.op operator.sign a b) }
 {
     let (a, b) = both(alloc, a, b)?;
-    type_operands(at, op, sign, a, b)
+    type_operands(operator.at, operator.op, operator.sign, a, b)
 }
 
 /// An index after what is no field access.
@@ -168,54 +174,65 @@ fn no_element(a: TypedExpr, index: TypedExpr) -> Result<TypedExpr, FrontError>
     Err(fault(FaultCode::T3, at))
 }
 
-/// The type of an expression, where these variables are in scope. It recurses as deep as the expression.
+fn access<'a>(site: &Site<'_, '_>, at: Span, name: &'a Ident) -> Access<'a>
+    ensures at { result.at ≡ at }
+    ensures name { result.name.now ≡ name.now }
+{
+    Access {
+        alloc: site.alloc,
+        at,
+        name,
+    }
+}
+
+/// The type of an expression, where it stands. It recurses as deep as the expression.
 #[tactic(auto, using(crate::proofs::ExpressionSteps::expression_steps))]
-pub fn type_expr(
-    alloc: Global,
-    program: &Program,
-    own: Option<u32>,
-    scope: &Table<Variable>,
-    e: &Expr,
-) -> Result<TypedExpr, FrontError>
-    ensures value { Gives result (typed_expr program.now own scope.now e.now) }
+pub fn type_expr(site: &Site<'_, '_>, e: &Expr) -> Result<TypedExpr, FrontError>
+    ensures value { Gives result
+        (typed_expr site.now.program.now site.now.own site.now.variables.now e.now) }
 {
     match &e.form {
         ExprForm::Num(n) => Ok(expression(e.span, Some(Kind::Int), TypedForm::Num(*n))),
         ExprForm::Null => Ok(expression(e.span, None, TypedForm::Null)),
-        ExprForm::Var(name) => type_variable(scope, e.span, name),
-        ExprForm::Own => type_own(e.span, own),
+        ExprForm::Var(name) => type_variable(site.variables, e.span, name),
+        ExprForm::Own => type_own(e.span, site.own),
         ExprForm::Unary(op, a) => {
-            let a = type_expr(alloc, program, own, scope, a.get())?;
-            type_unary(alloc, e.span, *op, a)
+            let a = type_expr(site, a.get())?;
+            type_unary(site.alloc, e.span, *op, a)
         }
         ExprForm::Binary(op, sign, a, b) => {
-            let a = type_expr(alloc, program, own, scope, a.get())?;
-            let b = type_expr(alloc, program, own, scope, b.get())?;
-            type_binary(alloc, e.span, *op, *sign, a, b)
+            let a = type_expr(site, a.get())?;
+            let b = type_expr(site, b.get())?;
+            let operator = Operator {
+                at: e.span,
+                op: *op,
+                sign: *sign,
+            };
+            type_binary(site.alloc, operator, a, b)
         }
         ExprForm::Field(a, name) => {
-            let a = type_expr(alloc, program, own, scope, a.get())?;
-            type_field(alloc, &program.structs, e.span, name, a)
+            let a = type_expr(site, a.get())?;
+            type_field(&access(site, e.span, name), &site.program.structs, a)
         }
         ExprForm::Address(operand) => match &operand.get().form {
             ExprForm::Field(a, name) => {
-                let a = type_expr(alloc, program, own, scope, a.get())?;
-                type_address(alloc, &program.structs, e.span, name, a)
+                let a = type_expr(site, a.get())?;
+                type_address(&access(site, e.span, name), &site.program.structs, a)
             }
             _ => {
-                let a = type_expr(alloc, program, own, scope, operand.get())?;
+                let a = type_expr(site, operand.get())?;
                 Err(fault(FaultCode::T3, a.span))
             }
         },
         ExprForm::Pick(operand, index) => match &operand.get().form {
             ExprForm::Field(a, name) => {
-                let a = type_expr(alloc, program, own, scope, a.get())?;
-                let index = type_expr(alloc, program, own, scope, index.get())?;
-                type_pick(alloc, &program.structs, e.span, name, a, index)
+                let a = type_expr(site, a.get())?;
+                let index = type_expr(site, index.get())?;
+                type_pick(&access(site, e.span, name), &site.program.structs, a, index)
             }
             _ => {
-                let a = type_expr(alloc, program, own, scope, operand.get())?;
-                let index = type_expr(alloc, program, own, scope, index.get())?;
+                let a = type_expr(site, operand.get())?;
+                let index = type_expr(site, index.get())?;
                 no_element(a, index)
             }
         },

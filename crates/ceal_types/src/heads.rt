@@ -2,7 +2,7 @@
 
 ghost use Rattle.std.specs.Prelude.{◌≡◌, ◌∷◌, [], ℕ, Ok, length, false, IfOk, OnOk};
 ghost use Rattle.ceal_base.specs.Answers.{Gives};
-ghost use Rattle.ceal_types.specs.States.{Leads};
+ghost use Rattle.ceal_types.specs.States.{Leaves};
 ghost use Rattle.ceal_types.specs.Tables.{has};
 ghost use Rattle.ceal_types.specs.Walk.{in_turn};
 ghost use Rattle.ceal_types.specs.Heads as spec;
@@ -78,7 +78,7 @@ fn row_of(form: &TypeForm) -> Option<u32>
 
 /// Whether a field or a row has this name.
 fn is_taken(fields: &Table<Field>, name: &Text) -> Result<bool, NoMemory>
-    ensures { IfOk result (λ taken. taken ≡ spec.taken fields.now name.now) }
+    ensures { IfOk result (λ taken. taken ≡ spec.has_member fields.now name.now) }
 {
     if fields.has(name) {
         return Ok(true);
@@ -101,7 +101,7 @@ fn add_element(
     row: u32,
     index: u32,
 ) -> Result<(), FrontError>
-    ensures { Leads result fields.new (spec.with_element name.now kind row index fields.old) }
+    ensures { Leaves result fields.new (spec.with_element name.now kind row index fields.old) }
 {
     let element = element_name(&name.text, index as usize)?;
     if fields.has(&element) {
@@ -118,7 +118,7 @@ fn add_row(
     kind: FieldKind,
     row: u32,
 ) -> Result<(), FrontError>
-    ensures { Leads result fields.new (spec.with_elements name.now kind row row fields.old) }
+    ensures { Leaves result fields.new (spec.with_elements name.now kind row row fields.old) }
 {
     for index in 0..row {
         add_element(fields, name, kind, row, index)?;
@@ -132,7 +132,7 @@ fn new_field(
     row: Option<u32>,
     kind: FieldKind,
 ) -> Result<(), FrontError>
-    ensures { Leads result fields.new (spec.new_field name.now row fields.old kind) }
+    ensures { Leaves result fields.new (spec.new_field name.now row fields.old kind) }
 {
     if is_taken(fields, &name.text)? {
         return Err(fault(FaultCode::N2, name.span));
@@ -148,7 +148,7 @@ fn new_field(
 
 #[tactic(auto, unfolding(crate::specs::Heads::with_field))]
 fn add_field(names: &Names, fields: &mut Table<Field>, field: &FieldDecl) -> Result<(), FrontError>
-    ensures { Leads result fields.new (spec.with_field names.now field.now fields.old) }
+    ensures { Leaves result fields.new (spec.with_field names.now field.now fields.old) }
 {
     let kind = field_kind_of(names, &field.form)?;
     new_field(fields, &field.name, row_of(&field.form), kind)
@@ -181,7 +181,7 @@ pub fn add_variable(variables: &mut Variables, name: &Text, kind: Kind) -> Resul
 }
 
 fn new_parameter(variables: &mut Variables, name: &Ident, kind: Kind) -> Result<(), FrontError>
-    ensures { Leads result variables.new (spec.new_parameter name.now variables.old kind) }
+    ensures { Leaves result variables.new (spec.new_parameter name.now variables.old kind) }
 {
     if variables.scope.has(&name.text) {
         return Err(fault(FaultCode::N2, name.span));
@@ -196,7 +196,7 @@ fn add_parameter(
     variables: &mut Variables,
     parameter: &FieldDecl,
 ) -> Result<(), FrontError>
-    ensures { Leads result variables.new
+    ensures { Leaves result variables.new
         (spec.with_parameter names.now parameter.now variables.old) }
 {
     let kind = kind_of(names, &parameter.form)?;
@@ -248,7 +248,7 @@ fn add_struct(
     program: &mut Program,
     structure: &StructDecl,
 ) -> Result<(), FrontError>
-    ensures { Leads result program.new (spec.with_entry (Entry.Struct structure.now) program.old) }
+    ensures { Leaves result program.new (spec.with_entry (Entry.Struct structure.now) program.old) }
 {
     let name = &structure.name;
     if program.structs.has(&name.text) {
@@ -265,7 +265,8 @@ fn add_function(
     program: &mut Program,
     function: &FunctionDecl,
 ) -> Result<(), FrontError>
-    ensures { Leads result program.new (spec.with_entry (Entry.Function function.now) program.old) }
+    ensures { Leaves result program.new
+        (spec.with_entry (Entry.Function function.now) program.old) }
 {
     let name = &function.name;
     if program.functions.has(&name.text) {
@@ -277,7 +278,7 @@ fn add_function(
 }
 
 fn add_entry(alloc: Global, program: &mut Program, entry: &Entry) -> Result<(), FrontError>
-    ensures { Leads result program.new (spec.with_entry entry.now program.old) }
+    ensures { Leaves result program.new (spec.with_entry entry.now program.old) }
 {
     match entry {
         Entry::Struct(structure) => add_struct(alloc, program, structure),

@@ -7,7 +7,7 @@ ghost use Rattle.ceal_types.specs.Tables.{element_name as element_name_of};
 ghost use Rattle.ceal_types.specs.Expressions.{expression, member, member_with, field_or_row, field_named, field_of_struct, field_of, field_at, address_of, address_at, element_of, element_of_row, pick_of, pick_at};
 
 use crate::kinds::suits;
-use crate::program::{Field, Member};
+use crate::program::{Access, Field, Member};
 use crate::table::Table;
 use ceal_base::boxed::Boxed;
 use ceal_base::fault::{Fault, FaultCode, FrontError, Span};
@@ -100,31 +100,25 @@ pub fn find_member(
     }
 }
 
-fn plain_field(
-    alloc: Global,
-    at: Span,
-    name: &Ident,
-    e: TypedExpr,
-    member: Member,
-) -> Result<TypedExpr, FrontError>
-    ensures { Gives result (field_of at name.now e member) }
+fn plain_field(access: &Access<'_>, e: TypedExpr, member: Member) -> Result<TypedExpr, FrontError>
+    ensures { Gives result (field_of access.now.at access.now.name.now e member) }
 {
     match member.kind {
         FieldKind::Plain(kind) => {
-            let e = Boxed::new(alloc, e)?;
+            let e = Boxed::new(access.alloc, e)?;
             Ok(TypedExpr {
-                span: at,
+                span: access.at,
                 kind: Some(kind),
                 form: TypedForm::Field(e, member.shape, member.field),
             })
         }
         FieldKind::CellInt => {
             drop(e);
-            Err(fault(FaultCode::T1, name.span))
+            Err(fault(FaultCode::T1, access.name.span))
         }
         FieldKind::CellPtr(_) => {
             drop(e);
-            Err(fault(FaultCode::T1, name.span))
+            Err(fault(FaultCode::T1, access.name.span))
         }
     }
 }
@@ -132,60 +126,52 @@ fn plain_field(
 /// `e->name`, of a plain field.
 #[tactic(auto, unfolding(crate::specs::Expressions::field_at))]
 pub fn type_field(
-    alloc: Global,
+    access: &Access<'_>,
     structs: &Table<Table<Field>>,
-    at: Span,
-    name: &Ident,
     e: TypedExpr,
 ) -> Result<TypedExpr, FrontError>
-    ensures value { Gives result (field_at structs.now at name.now e) }
+    ensures value { Gives result (field_at structs.now access.now.at access.now.name.now e) }
 {
-    let member = find_member(structs, name, &e)?;
-    plain_field(alloc, at, name, e, member)
+    let member = find_member(structs, access.name, &e)?;
+    plain_field(access, e, member)
 }
 
 fn place(
-    alloc: Global,
-    at: Span,
+    access: &Access<'_>,
     kind: Kind,
     e: TypedExpr,
     member: Member,
 ) -> Result<TypedExpr, NoMemory>
     ensures { IfOk result
-        (λ p. p ≡ expression at (Some kind) (TypedForm.Address e member.shape member.field)) }
+        (λ p. p ≡ expression access.now.at (Some kind)
+        (TypedForm.Address e member.shape member.field)) }
 {
-    let e = Boxed::new(alloc, e)?;
+    let e = Boxed::new(access.alloc, e)?;
     Ok(TypedExpr {
-        span: at,
+        span: access.at,
         kind: Some(kind),
         form: TypedForm::Address(e, member.shape, member.field),
     })
 }
 
-fn cell(
-    alloc: Global,
-    at: Span,
-    name: &Ident,
-    e: TypedExpr,
-    member: Member,
-) -> Result<TypedExpr, FrontError>
-    ensures { Gives result (address_of at name.now e member) }
+fn cell(access: &Access<'_>, e: TypedExpr, member: Member) -> Result<TypedExpr, FrontError>
+    ensures { Gives result (address_of access.now.at access.now.name.now e member) }
 {
     if member.row != 0 {
         drop(e);
-        return Err(fault(FaultCode::T1, name.span));
+        return Err(fault(FaultCode::T1, access.name.span));
     }
     match member.kind {
         FieldKind::Plain(_) => {
             drop(e);
-            Err(fault(FaultCode::T3, name.span))
+            Err(fault(FaultCode::T3, access.name.span))
         }
         FieldKind::CellInt => {
-            let place = place(alloc, at, Kind::ModInt, e, member)?;
+            let place = place(access, Kind::ModInt, e, member)?;
             Ok(place)
         }
         FieldKind::CellPtr(s) => {
-            let place = place(alloc, at, Kind::ModPtr(s), e, member)?;
+            let place = place(access, Kind::ModPtr(s), e, member)?;
             Ok(place)
         }
     }
@@ -194,16 +180,14 @@ fn cell(
 /// `&e->name`, of an embedded modifiable.
 #[tactic(auto, unfolding(crate::specs::Expressions::address_at))]
 pub fn type_address(
-    alloc: Global,
+    access: &Access<'_>,
     structs: &Table<Table<Field>>,
-    at: Span,
-    name: &Ident,
     e: TypedExpr,
 ) -> Result<TypedExpr, FrontError>
-    ensures value { Gives result (address_at structs.now at name.now e) }
+    ensures value { Gives result (address_at structs.now access.now.at access.now.name.now e) }
 {
-    let member = find_member(structs, name, &e)?;
-    cell(alloc, at, name, e, member)
+    let member = find_member(structs, access.name, &e)?;
+    cell(access, e, member)
 }
 
 /// Both expressions on the heap.
@@ -229,15 +213,13 @@ pub fn both(
 
 /// The index after a row's address, and what they make.
 fn element(
-    alloc: Global,
-    at: Span,
-    name: &Ident,
+    access: &Access<'_>,
     kind: Kind,
     place: TypedExpr,
     index: TypedExpr,
     row: u32,
 ) -> Result<TypedExpr, FrontError>
-    ensures { Gives result (element_of at name.now kind place index row) }
+    ensures { Gives result (element_of access.now.at access.now.name.now kind place index row) }
 {
     if !suits(Kind::Int, index.kind) {
         let wrong = index.span;
@@ -245,69 +227,61 @@ fn element(
         drop(index);
         return Err(fault(FaultCode::T1, wrong));
     }
-    let (place, index) = both(alloc, place, index)?;
+    let (place, index) = both(access.alloc, place, index)?;
     Ok(TypedExpr {
-        span: at,
+        span: access.at,
         kind: Some(kind),
-        form: TypedForm::Binary(Binary::Pick(row), name.span, place, index),
+        form: TypedForm::Binary(Binary::Pick(row), access.name.span, place, index),
     })
 }
 
 fn element_of_row(
-    alloc: Global,
-    at: Span,
-    name: &Ident,
+    access: &Access<'_>,
     kind: Kind,
     e: TypedExpr,
     index: TypedExpr,
     member: Member,
 ) -> Result<TypedExpr, FrontError>
-    ensures { Gives result (element_of_row at name.now kind e index member) }
+    ensures { Gives result (element_of_row access.now.at access.now.name.now kind e index member) }
 {
     if member.row == 0 {
         drop(e);
         drop(index);
-        return Err(fault(FaultCode::T1, name.span));
+        return Err(fault(FaultCode::T1, access.name.span));
     }
-    let place = place(alloc, at, kind, e, member)?;
-    element(alloc, at, name, kind, place, index, member.row)
+    let place = place(access, kind, e, member)?;
+    element(access, kind, place, index, member.row)
 }
 
 fn element_of_member(
-    alloc: Global,
-    at: Span,
-    name: &Ident,
+    access: &Access<'_>,
     e: TypedExpr,
     index: TypedExpr,
     member: Member,
 ) -> Result<TypedExpr, FrontError>
-    ensures { Gives result (pick_of at name.now e index member) }
+    ensures { Gives result (pick_of access.now.at access.now.name.now e index member) }
 {
     match member.kind {
         FieldKind::Plain(_) => {
             drop(e);
             drop(index);
-            Err(fault(FaultCode::T3, name.span))
+            Err(fault(FaultCode::T3, access.name.span))
         }
-        FieldKind::CellInt => element_of_row(alloc, at, name, Kind::ModInt, e, index, member),
-        FieldKind::CellPtr(s) => {
-            element_of_row(alloc, at, name, Kind::ModPtr(s), e, index, member)
-        }
+        FieldKind::CellInt => element_of_row(access, Kind::ModInt, e, index, member),
+        FieldKind::CellPtr(s) => { element_of_row(access, Kind::ModPtr(s), e, index, member) }
     }
 }
 
 /// `&e->name[index]`, of a row of modifiables.
 #[tactic(auto, unfolding(crate::specs::Expressions::pick_at))]
 pub fn type_pick(
-    alloc: Global,
+    access: &Access<'_>,
     structs: &Table<Table<Field>>,
-    at: Span,
-    name: &Ident,
     e: TypedExpr,
     index: TypedExpr,
 ) -> Result<TypedExpr, FrontError>
-    ensures value { Gives result (pick_at structs.now at name.now e index) }
+    ensures value { Gives result (pick_at structs.now access.now.at access.now.name.now e index) }
 {
-    let member = find_member(structs, name, &e)?;
-    element_of_member(alloc, at, name, e, index, member)
+    let member = find_member(structs, access.name, &e)?;
+    element_of_member(access, e, index, member)
 }

@@ -2,7 +2,7 @@
 
 ghost use Rattle.std.specs.Prelude.{◌≡◌, IfOk, OnOk, bytes_eq};
 ghost use Rattle.std.specs.Map.{lookup};
-ghost use Rattle.ceal_types.specs.Numbers.{struct_numbered, function_numbered, Gives, or_second, number_if};
+ghost use Rattle.ceal_types.specs.Numbers.{struct_numbered, function_numbered, IsNumbering, or_second, number_if};
 ghost use Rattle.ceal_types.specs.Tables.{Name};
 
 use crate::seed::{Fed, Seed};
@@ -24,7 +24,7 @@ pub struct Numbered {
 impl Model for Numbered {
     ghost use Rattle.ceal_base.specs.contracts.typed.TypedStmt as statement;
     ghost use Rattle.ceal_base.specs.declared.typed.Typed.{Typed};
-    ghost use Rattle.ceal_types.specs.Numbers.{struct_numbered, function_numbered, Gives};
+    ghost use Rattle.ceal_types.specs.Numbers.{struct_numbered, function_numbered, IsNumbering};
     ghost use Rattle.std.specs.Coded.{codes};
 
     ghost Value = { Typed };
@@ -33,8 +33,8 @@ impl Model for Numbered {
 
     ghost view = { λ n. n.program };
 
-    ghost invariant = { λ n. Gives n.structs (struct_numbered n.program.structs)
-        × Gives n.functions (function_numbered n.program.functions) };
+    ghost invariant = { λ n. IsNumbering n.structs (struct_numbered n.program.structs)
+        × IsNumbering n.functions (function_numbered n.program.functions) };
 }
 
 /// Gives the name this number, if it has none.
@@ -69,7 +69,7 @@ fn function_seed(functions: &[TypedFunction]) -> Seed {
 }
 
 fn struct_numbers(alloc: Global, structs: &[StructInfo]) -> Result<Table<u32>, NoMemory>
-    ensures { IfOk result (λ table. Gives table (struct_numbered structs.now)) }
+    ensures { IfOk result (λ table. IsNumbering table (struct_numbered structs.now)) }
 {
     let mut table = Table::new(alloc, struct_seed(structs));
     for i in 0..structs.len() {
@@ -79,7 +79,7 @@ fn struct_numbers(alloc: Global, structs: &[StructInfo]) -> Result<Table<u32>, N
 }
 
 fn function_numbers(alloc: Global, functions: &[TypedFunction]) -> Result<Table<u32>, NoMemory>
-    ensures { IfOk result (λ table. Gives table (function_numbered functions.now)) }
+    ensures { IfOk result (λ table. IsNumbering table (function_numbered functions.now)) }
 {
     let mut table = Table::new(alloc, function_seed(functions));
     for i in 0..functions.len() {

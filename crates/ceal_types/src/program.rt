@@ -1,8 +1,13 @@
-// What the walk knows of a program.
+// What the walk knows of a program, and of the place in it where it stands.
+
+ghost use Rattle.std.specs.Prelude.{◌≡◌};
 
 use crate::names::Names;
 use crate::table::Table;
+use ceal_base::fault::Span;
 use ceal_base::kind::{FieldKind, Kind, Kinds};
+use ceal_base::syntax::Ident;
+use std::alloc::Global;
 
 /// A variable in scope: its number in its function, and its type.
 #[derive(Clone, Copy)]
@@ -48,4 +53,45 @@ pub struct Member {
     pub field: u32,
     pub kind: FieldKind,
     pub row: u32,
+}
+
+/// The function whose body is gone through: the heads of its program, and the struct of `self`, of an initialiser alone.
+#[derive(Clone, Copy)]
+pub struct Body<'p> {
+    pub alloc: Global,
+    pub program: &'p Program,
+    pub own: Option<u32>,
+}
+
+/// Where an expression stands: in a body, where these variables are in scope.
+#[derive(Clone, Copy)]
+pub struct Site<'p, 's> {
+    pub alloc: Global,
+    pub program: &'p Program,
+    pub own: Option<u32>,
+    pub variables: &'s Table<Variable>,
+}
+
+impl<'p> Body<'p> {
+    /// The place in this body where these variables are in scope.
+    pub fn site<'s>(&self, variables: &'s Table<Variable>) -> Site<'p, 's>
+        ensures program { result.program.now ≡ self.now.program.now }
+        ensures own { result.own ≡ self.now.own }
+        ensures variables { result.variables.now ≡ variables.now }
+    {
+        Site {
+            alloc: self.alloc,
+            program: self.program,
+            own: self.own,
+            variables,
+        }
+    }
+}
+
+/// A field that is named after an arrow: where the expression begins, and the name.
+#[derive(Clone, Copy)]
+pub struct Access<'a> {
+    pub alloc: Global,
+    pub at: Span,
+    pub name: &'a Ident,
 }

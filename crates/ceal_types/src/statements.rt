@@ -4,7 +4,7 @@ ghost use Rattle.std.specs.Prelude.{◌≡◌, Option, length, IfOk};
 ghost use Rattle.std.specs.Map.{lookup};
 ghost use Rattle.std.specs.Str.{bytes_eq};
 ghost use Rattle.ceal_base.specs.Answers.{Gives};
-ghost use Rattle.ceal_types.specs.Statements.{block, nested, typed_stmts, typed_stmt};
+ghost use Rattle.ceal_types.specs.Statements.{block, inner_block, typed_stmts, typed_stmt};
 ghost use Rattle.ceal_types.specs.Statements.{step as step_of};
 ghost use Rattle.ceal_types.specs.Statements as spec;
 ghost use Rattle.ceal_types.specs.States.{Makes};
@@ -14,53 +14,51 @@ use crate::expressions::type_expr;
 use crate::heads::{add_variable, kind_of};
 use crate::kinds::{held, suits};
 use crate::members::{fault, find_member};
-use crate::program::{Program, Variable, Variables};
-use crate::table::Table;
+use crate::program::{Body, Site, Variables};
 use crate::values::{check_call, type_condition, type_exprs, type_value};
 use ceal_base::fault::{FaultCode, FrontError, Span};
 use ceal_base::items::Items;
 use ceal_base::kind::{FieldKind, Kind};
 use ceal_base::syntax::{Expr, Ident, Stmt, TypeForm, Value};
 use ceal_base::typed::{TypedExpr, TypedStmt, TypedStmts};
-use std::alloc::Global;
 
-/// A declaration of this type: the variable is in scope after its value.
-fn type_declared(
-    alloc: Global,
-    program: &Program,
-    own: Option<u32>,
-    variables: &mut Variables,
+/// A declaration whose type is known.
+#[derive(Clone, Copy)]
+struct Declaration<'a> {
     at: Span,
-    name: &Ident,
-    value: &Value,
+    name: &'a Ident,
     kind: Kind,
+    value: &'a Value,
+}
+
+/// A declaration: the variable is in scope after its value.
+fn type_declared(
+    body: &Body<'_>,
+    variables: &mut Variables,
+    declared: &Declaration<'_>,
 ) -> Result<TypedStmt, FrontError>
     ensures { Makes step_of result variables.new
-        (spec.declare program.now own at name.now value.now variables.old kind) }
+        (spec.declare body.now.program.now body.now.own declared.now.at declared.now.name.now
+        declared.now.value.now variables.old declared.now.kind) }
 {
+    let name = declared.name;
+    let kind = declared.kind;
     if variables.scope.has(&name.text) {
         return Err(fault(FaultCode::N2, name.span));
     }
-    let value = type_value(alloc, program, own, &variables.scope, kind, value)?;
+    let value = type_value(&body.site(&variables.scope), kind, declared.value)?;
     let number = add_variable(variables, &name.text, kind)?;
-    Ok(TypedStmt::Declare(at, number, kind, value))
+    Ok(TypedStmt::Declare(declared.at, number, kind, value))
 }
 
-fn type_assigned(
-    alloc: Global,
-    program: &Program,
-    own: Option<u32>,
-    scope: &Table<Variable>,
-    name: &Ident,
-    value: &Value,
-) -> Result<TypedStmt, FrontError>
+fn type_assigned(site: &Site<'_, '_>, name: &Ident, value: &Value) -> Result<TypedStmt, FrontError>
     ensures { Gives result
-        (spec.assigned program.now own name.now value.now scope.now
-        (lookup (bytes_eq name.now.text) scope.now)) }
+        (spec.assign_if_found site.now.program.now site.now.own name.now value.now
+        site.now.variables.now (lookup (bytes_eq name.now.text) site.now.variables.now)) }
 {
-    match scope.get(&name.text) {
+    match site.variables.get(&name.text) {
         Some(variable) => {
-            let value = type_value(alloc, program, own, scope, variable.kind, value)?;
+            let value = type_value(site, variable.kind, value)?;
             Ok(TypedStmt::Assign(name.span, variable.number, value))
         }
         None => Err(fault(FaultCode::N1, name.span)),
@@ -79,21 +77,20 @@ fn plain_kind(name: &Ident, kind: FieldKind) -> Result<Kind, FrontError>
 }
 
 fn type_set(
-    alloc: Global,
-    program: &Program,
-    own: Option<u32>,
-    scope: &Table<Variable>,
+    site: &Site<'_, '_>,
     at: Span,
     left: &Expr,
     name: &Ident,
     e: &Expr,
 ) -> Result<TypedStmt, FrontError>
-    ensures { Gives result (spec.set_field program.now own scope.now at left.now name.now e.now) }
+    ensures { Gives result
+        (spec.set_field site.now.program.now site.now.own site.now.variables.now
+        at left.now name.now e.now) }
 {
-    let left = type_expr(alloc, program, own, scope, left)?;
-    let member = find_member(&program.structs, name, &left)?;
+    let left = type_expr(site, left)?;
+    let member = find_member(&site.program.structs, name, &left)?;
     let kind = plain_kind(name, member.kind)?;
-    let e = type_expr(alloc, program, own, scope, e)?;
+    let e = type_expr(site, e)?;
     if suits(kind, e.kind) {
         Ok(TypedStmt::SetField(at, left, member.shape, member.field, e))
     } else {
@@ -105,7 +102,7 @@ fn type_set(
 }
 
 fn type_written(at: Span, place: TypedExpr, e: TypedExpr) -> Result<TypedStmt, FrontError>
-    ensures { Gives result (spec.written at place e) }
+    ensures { Gives result (spec.write_of at place e) }
 {
     match held(place.kind) {
         Some(kind) => {
@@ -128,36 +125,27 @@ fn type_written(at: Span, place: TypedExpr, e: TypedExpr) -> Result<TypedStmt, F
 }
 
 fn type_write(
-    alloc: Global,
-    program: &Program,
-    own: Option<u32>,
-    scope: &Table<Variable>,
+    site: &Site<'_, '_>,
     at: Span,
     place: &Expr,
     e: &Expr,
 ) -> Result<TypedStmt, FrontError>
-    ensures { Gives result (spec.write program.now own scope.now at place.now e.now) }
+    ensures { Gives result
+        (spec.write site.now.program.now site.now.own site.now.variables.now at place.now e.now) }
 {
-    let place = type_expr(alloc, program, own, scope, place)?;
-    let e = type_expr(alloc, program, own, scope, e)?;
+    let place = type_expr(site, place)?;
+    let e = type_expr(site, e)?;
     type_written(at, place, e)
 }
 
-fn type_called(
-    alloc: Global,
-    program: &Program,
-    own: Option<u32>,
-    scope: &Table<Variable>,
-    name: &Ident,
-    args: &[Expr],
-) -> Result<TypedStmt, FrontError>
+fn type_called(site: &Site<'_, '_>, name: &Ident, args: &[Expr]) -> Result<TypedStmt, FrontError>
     ensures { Gives result
-        (spec.called program.now own scope.now name.now args.now
-        (find program.now.functions name.now.text)) }
+        (spec.call_if_found site.now.program.now site.now.own site.now.variables.now
+        name.now args.now (find site.now.program.now.functions name.now.text)) }
 {
-    match program.functions.find(&name.text) {
+    match site.program.functions.find(&name.text) {
         Some((function, head)) => {
-            let args = type_exprs(alloc, program, own, scope, args)?;
+            let args = type_exprs(site, args)?;
             check_call(name, head, args.items())?;
             Ok(TypedStmt::Call(name.span, function, args))
         }
@@ -169,19 +157,17 @@ fn type_called(
 #[cycle(stmts)]
 #[tactic(auto, using(crate::proofs::StatementSteps::statement_steps))]
 pub fn type_block(
-    alloc: Global,
-    program: &Program,
-    own: Option<u32>,
+    body: &Body<'_>,
     variables: &mut Variables,
     stmts: &[Stmt],
 ) -> Result<TypedStmts, FrontError>
     ensures value { Makes block result variables.new
-        (nested (typed_stmts program.now own stmts.now) variables.old) }
+        (inner_block (typed_stmts body.now.program.now body.now.own stmts.now) variables.old) }
 {
     let outer = variables.scope.len();
-    let mut typed = Items::empty(alloc);
+    let mut typed = Items::empty(body.alloc);
     for s in stmts {
-        let s = type_stmt(alloc, program, own, variables, s)?;
+        let s = type_stmt(body, variables, s)?;
         typed.push(s)?;
     }
     variables.scope.truncate(outer);
@@ -190,43 +176,37 @@ pub fn type_block(
 
 #[cycle(stmts)]
 #[tactic(auto, using(crate::proofs::StatementSteps::statement_steps))]
-fn type_stmt(
-    alloc: Global,
-    program: &Program,
-    own: Option<u32>,
-    variables: &mut Variables,
-    s: &Stmt,
-) -> Result<TypedStmt, FrontError>
+fn type_stmt(body: &Body<'_>, variables: &mut Variables, s: &Stmt) -> Result<TypedStmt, FrontError>
     ensures value { Makes step_of result variables.new
-        (typed_stmt program.now own s.now variables.old) }
+        (typed_stmt body.now.program.now body.now.own s.now variables.old) }
 {
     match s {
         Stmt::Declare(at, form, name, value) => {
-            let kind = kind_of(&program.names, form)?;
-            type_declared(alloc, program, own, variables, *at, name, value, kind)
+            let kind = kind_of(&body.program.names, form)?;
+            let declared = Declaration {
+                at: *at,
+                name,
+                kind,
+                value,
+            };
+            type_declared(body, variables, &declared)
         }
-        Stmt::Assign(name, value) => {
-            type_assigned(alloc, program, own, &variables.scope, name, value)
-        }
+        Stmt::Assign(name, value) => { type_assigned(&body.site(&variables.scope), name, value) }
         Stmt::SetField(at, left, name, e) => {
-            type_set(alloc, program, own, &variables.scope, *at, left, name, e)
+            type_set(&body.site(&variables.scope), *at, left, name, e)
         }
-        Stmt::Write(at, place, e) => {
-            type_write(alloc, program, own, &variables.scope, *at, place, e)
-        }
-        Stmt::Call(name, args) => {
-            type_called(alloc, program, own, &variables.scope, name, args.items())
-        }
+        Stmt::Write(at, place, e) => { type_write(&body.site(&variables.scope), *at, place, e) }
+        Stmt::Call(name, args) => { type_called(&body.site(&variables.scope), name, args.items()) }
         Stmt::If(at, test, first, second) => {
-            let test = type_condition(alloc, program, own, &variables.scope, test)?;
-            let first = type_block(alloc, program, own, variables, first.items())?;
-            let second = type_block(alloc, program, own, variables, second.items())?;
+            let test = type_condition(&body.site(&variables.scope), test)?;
+            let first = type_block(body, variables, first.items())?;
+            let second = type_block(body, variables, second.items())?;
             Ok(TypedStmt::If(*at, test, first, second))
         }
-        Stmt::While(at, test, body) => {
-            let test = type_condition(alloc, program, own, &variables.scope, test)?;
-            let body = type_block(alloc, program, own, variables, body.items())?;
-            Ok(TypedStmt::While(*at, test, body))
+        Stmt::While(at, test, stmts) => {
+            let test = type_condition(&body.site(&variables.scope), test)?;
+            let stmts = type_block(body, variables, stmts.items())?;
+            Ok(TypedStmt::While(*at, test, stmts))
         }
         Stmt::Return(at) => Ok(TypedStmt::Return(*at)),
         Stmt::Break(at) => Ok(TypedStmt::Break(*at)),

@@ -9,44 +9,32 @@ use crate::expressions::type_expr;
 use crate::heads::struct_number;
 use crate::kinds::{held, same_kind, suits};
 use crate::members::fault;
-use crate::program::{Head, Program, Variable};
-use crate::table::Table;
+use crate::program::{Head, Site};
 use ceal_base::fault::{FaultCode, FrontError, Span};
 use ceal_base::items::Items;
 use ceal_base::kind::Kind;
 use ceal_base::syntax::{Expr, Ident, Value};
 use ceal_base::typed::{TypedExpr, TypedExprs, TypedValue};
-use std::alloc::Global;
 
 /// Expressions from left to right.
-pub fn type_exprs(
-    alloc: Global,
-    program: &Program,
-    own: Option<u32>,
-    scope: &Table<Variable>,
-    es: &[Expr],
-) -> Result<TypedExprs, FrontError>
-    ensures value { Gives result (typed_exprs program.now own scope.now es.now) }
+pub fn type_exprs(site: &Site<'_, '_>, es: &[Expr]) -> Result<TypedExprs, FrontError>
+    ensures value { Gives result
+        (typed_exprs site.now.program.now site.now.own site.now.variables.now es.now) }
 {
-    let mut typed = Items::empty(alloc);
+    let mut typed = Items::empty(site.alloc);
     for e in es {
-        let e = type_expr(alloc, program, own, scope, e)?;
+        let e = type_expr(site, e)?;
         typed.push(e)?;
     }
     Ok(typed)
 }
 
 /// A condition.
-pub fn type_condition(
-    alloc: Global,
-    program: &Program,
-    own: Option<u32>,
-    scope: &Table<Variable>,
-    e: &Expr,
-) -> Result<TypedExpr, FrontError>
-    ensures value { Gives result (condition program.now own scope.now e.now) }
+pub fn type_condition(site: &Site<'_, '_>, e: &Expr) -> Result<TypedExpr, FrontError>
+    ensures value { Gives result
+        (condition site.now.program.now site.now.own site.now.variables.now e.now) }
 {
-    let e = type_expr(alloc, program, own, scope, e)?;
+    let e = type_expr(site, e)?;
     if suits(Kind::Int, e.kind) {
         Ok(e)
     } else {
@@ -143,31 +131,26 @@ fn read_value(asked: Kind, at: Span, e: TypedExpr) -> Result<TypedValue, FrontEr
 
 /// A value for a variable of the type that is asked.
 #[tactic(auto, unfolding(crate::specs::Statements::typed_value))]
-pub fn type_value(
-    alloc: Global,
-    program: &Program,
-    own: Option<u32>,
-    scope: &Table<Variable>,
-    asked: Kind,
-    value: &Value,
-) -> Result<TypedValue, FrontError>
-    ensures value { Gives result (spec.typed_value program.now own scope.now asked value.now) }
+pub fn type_value(site: &Site<'_, '_>, asked: Kind, value: &Value) -> Result<TypedValue, FrontError>
+    ensures value { Gives result
+        (spec.typed_value site.now.program.now site.now.own site.now.variables.now
+        asked value.now) }
 {
     match value {
         Value::Plain(e) => {
-            let e = type_expr(alloc, program, own, scope, e)?;
+            let e = type_expr(site, e)?;
             plain_value(asked, e)
         }
         Value::Read(at, e) => {
-            let e = type_expr(alloc, program, own, scope, e)?;
+            let e = type_expr(site, e)?;
             read_value(asked, *at, e)
         }
         Value::Alloc(at, structure, name, args) => {
-            let shape = struct_number(&program.names, structure)?;
-            let Some((function, head)) = program.functions.find(&name.text) else {
+            let shape = struct_number(&site.program.names, structure)?;
+            let Some((function, head)) = site.program.functions.find(&name.text) else {
                 return Err(fault(FaultCode::N1, name.span));
             };
-            let args = type_exprs(alloc, program, own, scope, args.items())?;
+            let args = type_exprs(site, args.items())?;
             check_alloc(structure, name, shape, head, args.items())?;
             let typed = TypedValue::Alloc {
                 span: *at,
@@ -180,7 +163,7 @@ pub fn type_value(
         }
         Value::ModrefInt(at) => { asked_for(asked, Kind::ModInt, *at, TypedValue::ModrefInt(*at)) }
         Value::Modref(at, structure) => {
-            let shape = struct_number(&program.names, structure)?;
+            let shape = struct_number(&site.program.names, structure)?;
             asked_for(
                 asked,
                 Kind::ModPtr(shape),

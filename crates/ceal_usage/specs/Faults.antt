@@ -122,7 +122,10 @@ unfoldable mutual
 
 -- the faults of a function, in text order
 abbrev pub function_faults : List TypedFunction → TypedFunction → List Fault
-function_faults fs f = elim f.initialiser [ None ↦ faults_of_each (core_faults fs false) f.body | Some s ↦ faults_of_each init_faults f.body ]
+function_faults fs f = elim f.initialiser [
+  | None ↦ faults_of_each (core_faults fs false) f.body
+  | Some s ↦ faults_of_each init_faults f.body
+]
 
 -- the faults of a program, in the order of the walk
 abbrev pub usage_faults : Typed → List Fault

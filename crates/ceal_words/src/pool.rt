@@ -33,29 +33,33 @@ impl Model for Pool {
     ghost invariant = { λ p. IsLaidOut p.size p.chunk p.marks.lens p.made p.head p.spare };
 }
 
-// Makes free pieces after those that were made, in a chunk that has room for them, and says which one is the head of
-// the free list then.
-fn link_pieces(
-    chunk: &mut Chunk,
-    marks: &mut Marks,
+// The pieces of a chunk: how many words each has, how many were made, and the head of the free list.
+#[derive(Clone, Copy)]
+struct Pieces {
     size: u32,
     made: u32,
     head: u64,
-    more: u32,
-) -> u64
-    requires some { 0 < size }
-    requires few { made + more < 2 ^ 32 }
-    requires room { (made + more) * size ≤ length chunk.old }
-    ensures laid { (spare : ℕ) → IsLaidOut size chunk.old marks.old.lens made head spare
-        → IsLaidOut size chunk.new marks.new.lens (made + more) result (spare + more) }
-    ensures class { (spare : ℕ) → IsLaidOut size chunk.old marks.old.lens made head spare
-        → class_of size chunk.new marks.new.lens (spare + more)
-        ≡ grown more (class_of size chunk.old marks.old.lens spare) }
+}
+
+// Makes free pieces after those that were made, in a chunk that has room for them, and says which one is the head of
+// the free list then.
+fn link_pieces(chunk: &mut Chunk, marks: &mut Marks, pieces: Pieces, more: u32) -> u64
+    requires some { 0 < pieces.size }
+    requires few { pieces.made + more < 2 ^ 32 }
+    requires room { (pieces.made + more) * pieces.size ≤ length chunk.old }
+    ensures laid { (spare : ℕ)
+        → IsLaidOut pieces.size chunk.old marks.old.lens pieces.made pieces.head spare
+        → IsLaidOut pieces.size chunk.new marks.new.lens (pieces.made + more) result
+        (spare + more) }
+    ensures class { (spare : ℕ)
+        → IsLaidOut pieces.size chunk.old marks.old.lens pieces.made pieces.head spare
+        → class_of pieces.size chunk.new marks.new.lens (spare + more)
+        ≡ grown more (class_of pieces.size chunk.old marks.old.lens spare) }
 {
-    let mut head = head;
+    let mut head = pieces.head;
     for i in 0..more {
-        let piece = made + i;
-        chunk.set(piece as usize * size as usize, head);
+        let piece = pieces.made + i;
+        chunk.set(piece as usize * pieces.size as usize, head);
         marks.add();
         head = piece as u64;
     }
@@ -91,14 +95,12 @@ impl Pool {
         }
         let made = self.made + more;
         self.chunk.reserve(made as usize * self.size as usize)?;
-        self.head = link_pieces(
-            &mut self.chunk,
-            &mut self.marks,
-            self.size,
-            self.made,
-            self.head,
-            more,
-        );
+        let pieces = Pieces {
+            size: self.size,
+            made: self.made,
+            head: self.head,
+        };
+        self.head = link_pieces(&mut self.chunk, &mut self.marks, pieces, more);
         self.made = made;
         self.spare += more;
         Ok(())

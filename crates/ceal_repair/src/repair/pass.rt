@@ -46,7 +46,7 @@ impl<'a> Repair<'a> {
                 self.running.tables.set_steps(end, 0);
                 self.cursor = end;
                 self.limit = Some(limit);
-                self.stack = below;
+                self.stack.bring_back(below);
             }
             Some(Frame::Begun { .. }) => unreachable!(),
             Some(Frame::Kept { .. }) => unreachable!(),

@@ -4,7 +4,7 @@ ghost use Rattle.std.specs.Prelude.{◌≡◌, ◌≢◌, ◌≤◌, [], ℕ, Li
 ghost use Rattle.ceal_base.specs.declared.word.Word.{Word};
 ghost use Rattle.ceal_code.specs.Replay.{IsHonest};
 ghost use Rattle.ceal_repair.specs.Propagation.{HasCome, Propagated, AfterTurn};
-ghost use Rattle.ceal_repair.specs.Repairs.{code_of, inputs_of, SameCall};
+ghost use Rattle.ceal_repair.specs.Repairs.{code_of, inputs_of, running_of, frames_of, SameCall};
 ghost use Rattle.ceal_repair.specs.Turning.{Since, FoundStale};
 ghost use Rattle.ceal_repair.specs.declared.repair.turns.Ending.TheVariants.{Spent};
 ghost use Rattle.ceal_repair.specs.declared.running.Running.{Running};
@@ -41,18 +41,19 @@ impl<'a> Repair<'a> {
     /// taken. No run that fits into memory comes to 2^64 turns; one that did would be told as want of memory.
     pub fn turns(&mut self, reads: Option<u32>, fuel: u32) -> Result<Ending, NoMemory>
         requires comes { (f : ℕ) × (args : List Word) × (o : Since) × (before : Running)
-            × HasCome (code_of self.old) (inputs_of self.old) f args o before self.old.running }
-        requires idle { self.old.frames.items ≡ [] }
+            × HasCome (code_of self.old) (inputs_of self.old)
+            f args o before (running_of self.old) }
+        requires idle { frames_of self.old ≡ [] }
         ensures call { OnOk result (SameCall self.old self.new) }
         ensures ended { IfOk result
             (λ e. (f : ℕ) (args : List Word) (o : Since) (before : Running)
-            → HasCome (code_of self.old) (inputs_of self.old) f args o before self.old.running
+            → HasCome (code_of self.old) (inputs_of self.old) f args o before (running_of self.old)
             → Propagated e (code_of self.old) (inputs_of self.old)
-            f args reads fuel o before self.new.running) }
-        ensures within { IfOk result (λ e. e ≢ Spent → self.old.running.spent ≤ fuel
-            → self.new.running.spent ≤ fuel) }
+            f args reads fuel o before (running_of self.new)) }
+        ensures within { IfOk result (λ e. e ≢ Spent → (running_of self.old).spent ≤ fuel
+            → (running_of self.new).spent ≤ fuel) }
         ensures sure { (f : ℕ) (args : List Word) (o : Since) (before : Running)
-            → HasCome (code_of self.old) (inputs_of self.old) f args o before self.old.running
+            → HasCome (code_of self.old) (inputs_of self.old) f args o before (running_of self.old)
             → IsHonest (code_of self.old) (inputs_of self.old) o.repair.items → IsOk result }
     {
         for turn in 0..u64::MAX {
@@ -77,16 +78,17 @@ impl<'a> Repair<'a> {
     /// Makes the turn of a read that was found stale. It answers false where more steps were run anew than the fuel allows.
     fn turn_from(&mut self, read: Stamp, fuel: u32) -> Result<bool, NoMemory>
         requires found { (f : ℕ) × (args : List Word) × (o : Since)
-            × FoundStale (code_of self.old) (inputs_of self.old) f args o read.0 self.old.running }
-        requires idle { self.old.frames.items ≡ [] }
+            × FoundStale (code_of self.old) (inputs_of self.old)
+            f args o read.0 (running_of self.old) }
+        requires idle { frames_of self.old ≡ [] }
         ensures call { OnOk result (SameCall self.old self.new) }
-        ensures idle { IfOk result (λ more. more ≡ true → self.new.frames.items ≡ []) }
-        ensures within { IfOk result (λ more. more ≡ true → self.new.running.spent ≤ fuel) }
+        ensures idle { IfOk result (λ more. more ≡ true → frames_of self.new ≡ []) }
+        ensures within { IfOk result (λ more. more ≡ true → (running_of self.new).spent ≤ fuel) }
         ensures turn { IfOk result (λ more. (f : ℕ) (args : List Word) (o : Since)
             → (found : FoundStale (code_of self.old) (inputs_of self.old)
-            f args o read.0 self.old.running)
+            f args o read.0 (running_of self.old))
             → AfterTurn more (code_of self.old) (inputs_of self.old)
-            f args fuel o found.before self.new.running) }
+            f args fuel o found.before (running_of self.new)) }
     {
         self.begin_turn(read)?;
         if !complete(self, fuel)? {

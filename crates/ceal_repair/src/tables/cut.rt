@@ -27,7 +27,7 @@ impl Tables {
         ensures kept { Kept self.new }
     {
         self.memo.remove(self.trace.order(), alloc);
-        drop(self.trace.remove(alloc));
+        self.trace.discard(alloc);
     }
 
     /// Takes a write out, and queues the read that this affects. Where the place holds the same without it, none is.
@@ -48,7 +48,7 @@ impl Tables {
         let needless = self.is_needless(write, place);
         self.mods.remove_write(self.trace.order(), place, write);
         self.wake_unless(needless, place, write);
-        drop(self.trace.remove(write));
+        self.trace.discard(write);
         Ok(())
     }
 
@@ -75,7 +75,7 @@ impl Tables {
         self.hand_on(read, place);
         self.mods.remove_read(self.trace.order(), place, read);
         self.memo.remove(self.trace.order(), read);
-        drop(self.trace.remove(read));
-        drop(self.trace.remove(end));
+        self.trace.discard(read);
+        self.trace.discard(end);
     }
 }

@@ -33,7 +33,7 @@ impl Tables {
     }
 
     /// The earliest read with a key after one node and before another.
-    pub fn find_read(&self, key: &ReadKey, after: Stamp, until: Stamp) -> Option<Stamp>
+    pub fn find_read(&self, key: &ReadKey<'_>, after: Stamp, until: Stamp) -> Option<Stamp>
         requires kept { Kept self.now }
         requires after { IsTrue (has_node after.0 self.now.trace.nodes) }
         requires until { IsTrue (has_node until.0 self.now.trace.nodes) }

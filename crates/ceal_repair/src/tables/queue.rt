@@ -13,7 +13,7 @@ ghost use Rattle.ceal_trace.specs.Nodes.{stamps_in, has_node, node_at, is_read, 
 ghost use Rattle.ceal_trace.specs.declared.node.Node.TheVariants.{Write};
 
 use super::Tables;
-use crate::recorded::{is_same, recorded, written};
+use crate::recorded::{is_same, recorded};
 use ceal_base::word::Place;
 use ceal_order::stamp::Stamp;
 
@@ -154,7 +154,7 @@ impl Tables {
         ensures memo { self.new.memo ≡ self.old.memo }
         ensures kept { Kept self.new }
     {
-        let value = written(&self.trace, write);
+        let value = self.trace.written_at(write);
         let held = self.mods.value_at(self.trace.order(), place, write);
         is_same(value, held)
     }

@@ -1,5 +1,5 @@
 use Rattle.std.proofs.Common.{refl, sym, ◌∙◌}
-use Rattle.ceal_code.proofs.TableSteps.{plain-done}
+use Rattle.ceal_code.proofs.Equations.TableSteps.{plain-done}
 use Rattle.ceal_code.specs.Tables.{code_in, plain_in}
 use Rattle.ceal_adjust.proofs.Sliced.{begun-holds, begun-for}
 use Rattle.ceal_adjust.proofs.slices.begin_repair.Goals as goal

@@ -1,6 +1,6 @@
 use Rattle.std.proofs.Common.{◌∙◌, sym, arith}
 use Rattle.ceal_adjust.proofs.Fronts.{skipped-empty, skipped-none}
-use Rattle.ceal_theory.proofs.FlatTake.{skipped-next}
+use Rattle.ceal_theory.proofs.Reuse.FlatTake.{skipped-next}
 use Rattle.ceal_adjust.proofs.turn.behind_end.Goals as goal
 
 pub returns-in_default : goal.returns-in_default

@@ -14,7 +14,7 @@ returns-in_default c =
     c.alone-unit.ensures.code
     (c.alone-unit.ensures.machine
     ∙ alone-begins (code_in c.args.memory) c.code.result.now (state_of c.args.memory c.args.repair.now) c.in_ok-old.old c.args.stale.now.after.now c.resume.new.self c.empty-stack.result c.args.stale.now.closure c.args.stale.now.content
-    c.code.ensures.value c.in_ok-resume.ensures.resumed c.empty-stack.ensures.empty c.in_ok-old.ensures.value)
+    c.code.ensures.value (rw (c.continuation.ensures.unit, c.continuation.ensures.var, c.continuation.ensures.args) at c.in_ok-resume.ensures.resumed) c.empty-stack.ensures.empty c.in_ok-old.ensures.value)
     (rw c.in_default.is at c.in_ok-inside.ensures.beyond)
 
 pub returns : goal.returns
@@ -24,7 +24,7 @@ returns c =
     (state_in c.turn_to_end.new.repair) c.alone-unit.ensures.code
     (c.alone-unit.ensures.machine
     ∙ alone-begins (code_in c.args.memory) c.code.result.now (state_of c.args.memory c.args.repair.now) c.in_ok-old.old c.args.stale.now.after.now c.resume.new.self c.empty-stack.result c.args.stale.now.closure c.args.stale.now.content
-    c.code.ensures.value c.in_ok-resume.ensures.resumed c.empty-stack.ensures.empty c.in_ok-old.ensures.value)
+    c.code.ensures.value (rw (c.continuation.ensures.unit, c.continuation.ensures.var, c.continuation.ensures.args) at c.in_ok-resume.ensures.resumed) c.empty-stack.ensures.empty c.in_ok-old.ensures.value)
     (rw c.in-Some.is at c.in_ok-inside.ensures.ended))
     c.number-2.ensures.value c.work.ensures.value
     (λ b l. c.in_ok-known.ensures.below b (omega (arith, l, c.number.ensures.value, c.number-2.ensures.value)) ∙ ap (λ m. plain_in m (Core b)) c.memory.ensures.value)

@@ -1,6 +1,6 @@
 use Rattle.std.proofs.Common.{◌-◌, ◌∙◌, sym, arith}
 use Rattle.ceal_code.specs.Init.{arguments}
-use Rattle.ceal_code.proofs.StackSteps.{bind-next, bound-end, no-arguments}
+use Rattle.ceal_code.proofs.Equations.StackSteps.{bind-next, bound-end, no-arguments}
 use Rattle.ceal_code.proofs.binding.bind.Goals as goal
 
 pub loop-i-init : goal.loop-i-init

@@ -1,7 +1,7 @@
 use Rattle.std.proofs.Common.{◌-◌, ◌∙◌, sym, length, drop, arith}
 use Rattle.ceal_code.specs.Init.{arguments}
-use Rattle.ceal_code.proofs.StackSteps.{no-arguments}
-use Rattle.ceal_code.proofs.GivenSteps.{others-all, others-next, given-none, given-next, given-all}
+use Rattle.ceal_code.proofs.Equations.StackSteps.{no-arguments}
+use Rattle.ceal_code.proofs.Equations.GivenSteps.{others-all, others-next, given-none, given-next, given-all}
 use Rattle.ceal_code.proofs.binding.bind_given.Goals as goal
 
 pub loop-i-init : goal.loop-i-init

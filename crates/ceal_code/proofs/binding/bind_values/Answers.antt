@@ -1,7 +1,7 @@
 use Rattle.std.proofs.Common.{◌-◌, ◌∙◌, sym, arith}
 use Rattle.ceal_code.specs.Init.{arguments}
-use Rattle.ceal_code.proofs.StackSteps.{no-arguments}
-use Rattle.ceal_code.proofs.GivenSteps.{values-end, values-next}
+use Rattle.ceal_code.proofs.Equations.StackSteps.{no-arguments}
+use Rattle.ceal_code.proofs.Equations.GivenSteps.{values-end, values-next}
 use Rattle.ceal_code.proofs.binding.bind_values.Goals as goal
 
 pub loop-i-init : goal.loop-i-init

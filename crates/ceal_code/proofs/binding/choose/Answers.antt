@@ -1,5 +1,5 @@
 use Rattle.ceal_code.specs.Step.{chosen}
-use Rattle.ceal_code.proofs.StackSteps.{choose-next, choose-end}
+use Rattle.ceal_code.proofs.Equations.StackSteps.{choose-next, choose-end}
 use Rattle.ceal_code.proofs.binding.choose.Goals as goal
 
 pub loop-p-preserved : goal.loop-p-preserved

@@ -1,5 +1,5 @@
 use Rattle.std.proofs.Common.{◌+◌, ◌∙◌, sym, refl, arith}
-use Rattle.ceal_code.proofs.GivenSteps.{others-none, others-next, others-all}
+use Rattle.ceal_code.proofs.Equations.GivenSteps.{others-none, others-next, others-all}
 use Rattle.ceal_code.proofs.binding.count_others.Goals as goal
 
 pub loop-i-preserved : goal.loop-i-preserved

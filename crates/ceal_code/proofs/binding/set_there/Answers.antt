@@ -1,5 +1,5 @@
 use Rattle.std.proofs.Common.{◌≡◌, ◌+◌, ◌-◌, length, append-nil, sym, arith}
-use Rattle.ceal_code.proofs.StackSteps.{arguments-set}
+use Rattle.ceal_code.proofs.Equations.StackSteps.{arguments-set}
 use Rattle.ceal_code.proofs.binding.set_there.Goals as goal
 
 pub returns : goal.returns

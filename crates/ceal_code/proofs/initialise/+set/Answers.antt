@@ -1,6 +1,6 @@
 use Rattle.std.proofs.Common.{◌<◌, length, arith}
 use Rattle.ceal_code.specs.Init.{arguments}
-use Rattle.ceal_code.proofs.InitSteps.{block-take}
+use Rattle.ceal_code.proofs.Equations.InitSteps.{block-take}
 use Rattle.ceal_code.proofs.initialise.+set.Goals as goal
 
 pub set_fields-loop-stmt-preserved : goal.set_fields-loop-stmt-preserved

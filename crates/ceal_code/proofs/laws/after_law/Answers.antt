@@ -1,4 +1,4 @@
-use Rattle.ceal_code.proofs.AfterLaws.{store-law, inputs-law}
+use Rattle.ceal_code.proofs.Replay.AfterLaws.{store-law, inputs-law}
 use Rattle.ceal_code.proofs.laws.after_law.Goals as goal
 
 pub returns-clause-store : goal.returns-clause-store

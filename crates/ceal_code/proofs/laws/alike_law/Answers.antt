@@ -1,4 +1,4 @@
-use Rattle.ceal_code.proofs.AlikeLemmas.{made-alike, next-alike}
+use Rattle.ceal_code.proofs.Alike.AlikeSteps.{made-alike, next-alike}
 use Rattle.ceal_code.proofs.laws.alike_law.Goals as goal
 
 pub returns : goal.returns

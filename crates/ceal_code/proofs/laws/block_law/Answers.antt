@@ -1,4 +1,4 @@
-use Rattle.ceal_code.proofs.Local.{made-known, made-same}
+use Rattle.ceal_code.proofs.Words.StepLocality.{made-known, made-same}
 use Rattle.ceal_code.proofs.laws.block_law.Goals as goal
 
 pub returns : goal.returns

@@ -1,4 +1,4 @@
-use Rattle.ceal_code.proofs.Over.{next-on}
+use Rattle.ceal_code.proofs.Replay.StackOver.{next-on}
 use Rattle.ceal_code.proofs.laws.over_law.Goals as goal
 
 pub returns : goal.returns

@@ -1,4 +1,4 @@
-use Rattle.ceal_code.proofs.OnPath.{on-right-path}
+use Rattle.ceal_code.proofs.TypedCode.CommandsOnPath.{on-right-path}
 use Rattle.ceal_code.proofs.laws.path_law.Goals as goal
 
 pub returns : goal.returns

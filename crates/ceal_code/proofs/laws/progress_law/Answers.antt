@@ -1,4 +1,4 @@
-use Rattle.ceal_code.proofs.TypedRun.{progress}
+use Rattle.ceal_code.proofs.TypedCode.TypedRun.{progress}
 use Rattle.ceal_code.proofs.laws.progress_law.Goals as goal
 
 pub returns : goal.returns

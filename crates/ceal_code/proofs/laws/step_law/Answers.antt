@@ -1,4 +1,4 @@
-use Rattle.ceal_code.proofs.Local.{next-known, next-same}
+use Rattle.ceal_code.proofs.Words.StepLocality.{next-known, next-same}
 use Rattle.ceal_code.proofs.laws.step_law.Goals as goal
 
 pub returns : goal.returns

@@ -1,4 +1,4 @@
-use Rattle.ceal_code.proofs.Replayed.{trace-law}
+use Rattle.ceal_code.proofs.Replay.ReplayedCall.{trace-law}
 use Rattle.ceal_code.proofs.laws.trace_law.Goals as goal
 
 pub returns : goal.returns

@@ -1,4 +1,4 @@
-use Rattle.ceal_code.proofs.TableSteps.{input-some}
+use Rattle.ceal_code.proofs.Equations.TableSteps.{input-some}
 use Rattle.ceal_code.proofs.trace_memory.input_word.Goals as goal
 
 pub returns-in-Some : goal.returns-in-Some

@@ -1,5 +1,5 @@
 use Rattle.std.proofs.Common.{◌≡◌, arith, sym, ◌∙◌}
-use Rattle.ceal_code.proofs.ListSteps.{going-over}
+use Rattle.ceal_code.proofs.Equations.ListSteps.{going-over}
 use Rattle.ceal_code.proofs.validate.does_row_go_on.Goals as goal
 
 pub returns : goal.returns

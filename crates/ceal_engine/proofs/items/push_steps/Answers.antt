@@ -1,6 +1,6 @@
 use Rattle.std.proofs.Common.{◌∷◌, [], ◌++◌, ◌∙◌, sym, ap, append_assoc}
 use Rattle.ceal_base.specs.declared.forest.Item.TheVariants.{Step}
-use Rattle.ceal_repair.proofs.Items.{ticks-more}
+use Rattle.ceal_repair.proofs.Nodes.NodeItems.{ticks-more}
 use Rattle.ceal_trace.specs.Items.{ticks}
 use Rattle.ceal_engine.proofs.items.push_steps.Goals as goal
 

@@ -1,5 +1,5 @@
 use Rattle.std.proofs.Common.{◌≡◌, ◌+◌, ◌++◌, ◌∷◌, [], length, reverse, refl, ap, sym, ◌∙◌, arith, rules}
-use Rattle.ceal_norm.specs.Body.{finished}
+use Rattle.ceal_norm.specs.Body.{whole_body}
 use Rattle.ceal_norm.specs.Units.{tree}
 use Rattle.ceal_norm.proofs.BodySteps.{finished-none, finished-length, reverse-push}
 use Rattle.ceal_norm.proofs.body.body_of.Goals as goal
@@ -14,21 +14,21 @@ loop-next-init c = record {
 
 pub loop-next-smaller : goal.loop-next-smaller
 loop-next-smaller c =
-    let popped : c.loop-next.pending.items ≡ c.pop.new.self.items ++ c.in-Some.next ∷ [] = c.pop.ensures.items ∙ (rw c.in-Some.is refl) in
-    let turned : reverse c.loop-next.pending.items ≡ c.in-Some.next ∷ reverse c.pop.new.self.items =
+    let popped : c.loop-next.out.pending.items ≡ c.pop.new.self.items ++ c.in-Some.next ∷ [] = c.pop.ensures.items ∙ (rw c.in-Some.is refl) in
+    let turned : reverse c.loop-next.out.pending.items ≡ c.in-Some.next ∷ reverse c.pop.new.self.items =
     ap reverse popped ∙ reverse-push c.pop.new.self.items c.in-Some.next in
-    let whole : finished c.args.plan.now c.put_pending.new.body.items (reverse c.put_pending.new.pending.items)
+    let whole : whole_body c.args.plan.now c.put_pending.new.out.body.items (reverse c.put_pending.new.out.pending.items)
     ≡ tree c.args.plan.now (length c.args.plan.now.graph.blocks) c.args.b 0 =
-    c.in_ok-put_pending.ensures.same ∙ ap (finished c.args.plan.now c.loop-next.body.items) (sym turned) ∙ c.loop-next.invariant.same in
+    c.in_ok-put_pending.ensures.same ∙ ap (whole_body c.args.plan.now c.loop-next.out.body.items) (sym turned) ∙ c.loop-next.invariant.same in
     let long = ap length whole in
-    let within = finished-length c.args.plan.now c.put_pending.new.body.items (reverse c.put_pending.new.pending.items) in
-    let more : length c.put_pending.new.body.items ≡ length c.loop-next.body.items + 1 = c.in_ok-put_pending.ensures.longer in
+    let within = finished-length c.args.plan.now c.put_pending.new.out.body.items (reverse c.put_pending.new.out.pending.items) in
+    let more : length c.put_pending.new.out.body.items ≡ length c.loop-next.out.body.items + 1 = c.in_ok-put_pending.ensures.longer in
     omega (arith, long, within, more)
 
 pub returns : goal.returns
 returns c =
-    let empty : c.loop-next.pending.items ≡ [] = search rules in
+    let empty : c.loop-next.out.pending.items ≡ [] = search rules in
     record {
-      value = sym (finished-none c.args.plan.now c.loop-next.body.items)
-          ∙ ap (λ ps. finished c.args.plan.now c.loop-next.body.items (reverse ps)) (sym empty) ∙ c.loop-next.invariant.same;
+      value = sym (finished-none c.args.plan.now c.loop-next.out.body.items)
+          ∙ ap (λ ps. whole_body c.args.plan.now c.loop-next.out.body.items (reverse ps)) (sym empty) ∙ c.loop-next.invariant.same;
     }

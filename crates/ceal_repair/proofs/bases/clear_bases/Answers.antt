@@ -1,6 +1,6 @@
 use Rattle.std.proofs.Common.{pos, refl, sym, ◌∙◌}
 use Rattle.ceal_base.specs.declared.word.Word.TheVariants.{Num}
-use Rattle.ceal_repair.proofs.BaseSteps.{setting-plain, setting-more}
+use Rattle.ceal_repair.proofs.Runs.BlockBases.{setting-plain, setting-more}
 use Rattle.ceal_repair.proofs.bases.clear_bases.Goals as goal
 use Rattle.ceal_repair.proofs.bases.clear_bases.Goals.{then-is_modifiable+in_ok-edit-in-Some, else-is_modifiable}
 

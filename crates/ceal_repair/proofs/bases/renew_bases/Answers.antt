@@ -1,6 +1,6 @@
 use Rattle.std.proofs.Common.{◌∙◌}
 use Rattle.std.proofs.lemmas.Result.{on_ok_weaker}
-use Rattle.ceal_repair.proofs.BaseSteps.{only-both}
+use Rattle.ceal_repair.proofs.Runs.BlockBases.{only-both}
 use Rattle.ceal_repair.proofs.bases.renew_bases.Goals as goal
 
 pub returns-clause-here : goal.returns-clause-here

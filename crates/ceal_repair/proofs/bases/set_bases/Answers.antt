@@ -1,5 +1,5 @@
 use Rattle.std.proofs.Common.{sym, ◌∙◌}
-use Rattle.ceal_repair.proofs.BaseSteps.{field-word, set-word, setting-plain, setting-more}
+use Rattle.ceal_repair.proofs.Runs.BlockBases.{field-word, set-word, setting-plain, setting-more}
 use Rattle.ceal_repair.proofs.bases.set_bases.Goals as goal
 use Rattle.ceal_repair.proofs.bases.set_bases.Goals.{then-is_modifiable+in_ok-edit-in-Some, else-is_modifiable}
 

@@ -1,4 +1,4 @@
-use Rattle.ceal_repair.proofs.BaseSteps.{Setting, field-word}
+use Rattle.ceal_repair.proofs.Runs.BlockBases.{Setting, field-word}
 use Rattle.ceal_repair.proofs.bases.set_bases.Given as goal
 
 abbrev pub invariant-loop-field : goal.invariant-loop-field

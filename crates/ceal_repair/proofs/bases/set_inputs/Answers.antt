@@ -1,7 +1,7 @@
 use Rattle.std.proofs.Common.{◌≡◌, ◌<◌, length, sym, ap, ◌∙◌, Some, slice_get}
 use Rattle.std.proofs.lemmas.Option.{slice_get-get_or}
 use Rattle.ceal_base.specs.Block.{Block}
-use Rattle.ceal_repair.proofs.BaseSteps.{inputs-more}
+use Rattle.ceal_repair.proofs.Runs.BlockBases.{inputs-more}
 use Rattle.ceal_repair.proofs.bases.set_inputs.Goals as goal
 
 pub loop-n-preserved : goal.loop-n-preserved

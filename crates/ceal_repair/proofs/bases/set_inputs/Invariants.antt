@@ -1,4 +1,4 @@
-use Rattle.ceal_repair.proofs.BaseSteps.{SetInputs}
+use Rattle.ceal_repair.proofs.Runs.BlockBases.{SetInputs}
 use Rattle.ceal_repair.proofs.bases.set_inputs.Given as goal
 
 abbrev pub invariant-loop-n : goal.invariant-loop-n

@@ -1,5 +1,5 @@
-use Rattle.ceal_repair.proofs.Completing.{Turning}
+use Rattle.ceal_repair.proofs.Runs.RepeatedTurns.{Acting}
 use Rattle.ceal_repair.proofs.complete.complete.Given as goal
 
-abbrev pub invariant-loop-turn : goal.invariant-loop-turn
-invariant-loop-turn l = Turning l.fn.repair l.repair
+abbrev pub invariant-loop-act : goal.invariant-loop-act
+invariant-loop-act l = Acting l.fn.repair l.repair

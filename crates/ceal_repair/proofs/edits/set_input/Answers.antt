@@ -1,5 +1,5 @@
 use Rattle.std.proofs.Common.{sym, ◌∙◌}
-use Rattle.ceal_repair.proofs.Touching.{placing-plain, placing-more}
+use Rattle.ceal_repair.proofs.Runs.InputPlaces.{placing-plain, placing-more}
 use Rattle.ceal_repair.proofs.edits.set_input.Goals as goal
 use Rattle.ceal_repair.proofs.edits.set_input.Goals.{then-is_modifiable, else-is_modifiable}
 

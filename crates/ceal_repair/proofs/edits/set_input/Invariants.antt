@@ -1,4 +1,4 @@
-use Rattle.ceal_repair.proofs.Touching.{Placing}
+use Rattle.ceal_repair.proofs.Runs.InputPlaces.{Placing}
 use Rattle.ceal_repair.proofs.edits.set_input.Given as goal
 
 abbrev pub invariant-loop-field : goal.invariant-loop-field

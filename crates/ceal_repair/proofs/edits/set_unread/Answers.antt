@@ -1,5 +1,5 @@
-use Rattle.ceal_repair.proofs.Editing.{edit-base}
-use Rattle.ceal_repair.proofs.Touching.{unread-kept}
+use Rattle.ceal_repair.proofs.TableCalls.BaseEdit.{edit-base}
+use Rattle.ceal_repair.proofs.Runs.InputPlaces.{unread-kept}
 use Rattle.ceal_trace.specs.Nodes.{stamps_in}
 use Rattle.ceal_repair.proofs.edits.set_unread.Goals as goal
 

@@ -1,4 +1,4 @@
-use Rattle.ceal_repair.proofs.Touching.{touched-either, kept-cells}
+use Rattle.ceal_repair.proofs.Runs.InputPlaces.{touched-either, kept-cells}
 use Rattle.ceal_trace.specs.Nodes.{stamps_in}
 use Rattle.ceal_repair.proofs.edits.touch.Goals as goal
 

@@ -1,5 +1,5 @@
 use Rattle.std.proofs.Common.{sym, ◌∙◌}
-use Rattle.ceal_repair.proofs.Touching.{touching-plain, touching-more}
+use Rattle.ceal_repair.proofs.Runs.InputPlaces.{touching-plain, touching-more}
 use Rattle.ceal_repair.proofs.edits.touch_input.Goals as goal
 use Rattle.ceal_repair.proofs.edits.touch_input.Goals.{then-is_modifiable+in_ok-touch-in-Some, else-is_modifiable}
 

@@ -1,4 +1,4 @@
-use Rattle.ceal_repair.proofs.Touching.{Touching}
+use Rattle.ceal_repair.proofs.Runs.InputPlaces.{Touching}
 use Rattle.ceal_repair.proofs.edits.touch_input.Given as goal
 
 abbrev pub invariant-loop-field : goal.invariant-loop-field

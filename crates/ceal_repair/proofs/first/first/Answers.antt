@@ -1,6 +1,6 @@
 use Rattle.std.proofs.Common.{ap, ◌∙◌}
-use Rattle.ceal_repair.proofs.Ending.{first-done, first-out}
-use Rattle.ceal_repair.proofs.Starting.{begun}
+use Rattle.ceal_repair.proofs.Runs.RunEnd.{first-done, first-out}
+use Rattle.ceal_repair.proofs.Runs.RunStart.{begun}
 use Rattle.ceal_repair.proofs.first.first.Goals as goal
 use Rattle.ceal_repair.specs.Moment.{first_start}
 use Rattle.ceal_repair.specs.declared.running.Running.{Running}

@@ -1,4 +1,4 @@
-use Rattle.ceal_repair.proofs.Bridging.{covered-as-items}
+use Rattle.ceal_repair.proofs.QueueCover.TheoryCover.{covered-as-items}
 use Rattle.ceal_repair.proofs.laws.covered_as_items.Goals as goal
 
 pub returns : goal.returns

@@ -1,7 +1,7 @@
 use Rattle.std.proofs.Common.{◌≡◌, true, false, sym, ◌∙◌, arith}
 use Rattle.ceal_order.specs.Stamps.{is_in}
-use Rattle.ceal_repair.proofs.TakingOut.{unqueued-honest}
-use Rattle.ceal_repair.proofs.Parting.{false-of}
+use Rattle.ceal_repair.proofs.TableCalls.CutKeepsTables.{unqueued-honest}
+use Rattle.ceal_repair.proofs.Lists.PartedLists.{false-of}
 use Rattle.ceal_repair.proofs.laws.unqueued_reads_are_honest.Goals as goal
 
 pub returns-clause-behind : goal.returns-clause-behind

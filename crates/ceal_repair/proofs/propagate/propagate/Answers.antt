@@ -1,7 +1,7 @@
-use Rattle.ceal_repair.proofs.Propagated.{spent-out}
+use Rattle.ceal_repair.proofs.Propagation.UpToDateRun.{spent-out}
 use Rattle.ceal_repair.specs.Turning.{since_begun}
 use Rattle.std.proofs.Common.{◌≡◌, false, true, Some, None}
-use Rattle.ceal_repair.proofs.KeptRun.{has-come-in, idle-first}
+use Rattle.ceal_repair.proofs.Propagation.KeptRun.{has-come-in, idle-first}
 use Rattle.ceal_repair.proofs.propagate.propagate.Goals as goal
 
 pub turns-requires-clause-comes : goal.turns-requires-clause-comes

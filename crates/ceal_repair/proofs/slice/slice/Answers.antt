@@ -1,6 +1,6 @@
 use Rattle.std.proofs.Common.{◌≤◌, sym, ap, subst, ◌∙◌, arith}
-use Rattle.ceal_repair.proofs.KeptRun.{idle-first}
-use Rattle.ceal_repair.proofs.SlicingRuns.{since, begun-in, concluded, goes-on-so, is-over}
+use Rattle.ceal_repair.proofs.Propagation.KeptRun.{idle-first}
+use Rattle.ceal_repair.proofs.Propagation.SlicesOfRun.{since, begun-in, concluded, goes-on-so, is-over}
 use Rattle.ceal_repair.specs.Propagation.{IsUpToDate, IsUnderWay}
 use Rattle.ceal_repair.specs.Turning.{later}
 use Rattle.ceal_repair.proofs.slice.slice.Goals as goal

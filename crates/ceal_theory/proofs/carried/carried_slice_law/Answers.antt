@@ -1,4 +1,4 @@
-use Rattle.ceal_theory.proofs.CarriedLaws.{carried-slice-law}
+use Rattle.ceal_theory.proofs.SlicedRepair.CarriedLaws.{carried-slice-law}
 use Rattle.ceal_theory.proofs.carried.carried_slice_law.Goals as goal
 
 pub returns : goal.returns

@@ -1,4 +1,4 @@
-use Rattle.ceal_theory.proofs.PastLaws.{past-law}
+use Rattle.ceal_theory.proofs.SlicedRepair.PastLaws.{past-law}
 use Rattle.ceal_theory.proofs.carried.past_law.Goals as goal
 
 pub returns : goal.returns

@@ -1,4 +1,4 @@
-use Rattle.ceal_theory.proofs.CostBound.{bound-law}
+use Rattle.ceal_theory.proofs.Work.CostBound.{bound-law}
 use Rattle.ceal_theory.proofs.cost.cost_law.Goals as goal
 
 pub returns : goal.returns

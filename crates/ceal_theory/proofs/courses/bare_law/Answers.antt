@@ -1,4 +1,4 @@
-use Rattle.ceal_theory.proofs.Bare.{bare-law}
+use Rattle.ceal_theory.proofs.Reuse.StepsBetween.{bare-law}
 use Rattle.ceal_theory.proofs.courses.bare_law.Goals as goal
 
 pub returns : goal.returns

@@ -1,4 +1,4 @@
-use Rattle.ceal_theory.proofs.Course.{turn-course-law}
+use Rattle.ceal_theory.proofs.Nodes.TurnCourse.{turn-course-law}
 use Rattle.ceal_theory.proofs.courses.turn_course_law.Goals as goal
 
 pub returns : goal.returns

@@ -1,4 +1,4 @@
-use Rattle.ceal_theory.proofs.Found.{first-law}
+use Rattle.ceal_theory.proofs.Repair.EndAsFromScratch.{first-law}
 use Rattle.ceal_theory.proofs.laws.first_law.Goals as goal
 
 pub returns : goal.returns

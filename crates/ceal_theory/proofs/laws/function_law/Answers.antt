@@ -1,4 +1,4 @@
-use Rattle.ceal_theory.proofs.Main.{function-law}
+use Rattle.ceal_theory.proofs.Repair.RepairLaws.{function-law}
 use Rattle.ceal_theory.proofs.laws.function_law.Goals as goal
 
 pub returns : goal.returns

@@ -1,4 +1,4 @@
-use Rattle.ceal_theory.proofs.Main.{renamed-repair-law}
+use Rattle.ceal_theory.proofs.Repair.RepairLaws.{renamed-repair-law}
 use Rattle.ceal_theory.proofs.laws.renamed_repair_law.Goals as goal
 
 pub returns : goal.returns

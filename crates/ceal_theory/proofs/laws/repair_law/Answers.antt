@@ -1,4 +1,4 @@
-use Rattle.ceal_theory.proofs.Main.{repair-law}
+use Rattle.ceal_theory.proofs.Repair.RepairLaws.{repair-law}
 use Rattle.ceal_theory.proofs.laws.repair_law.Goals as goal
 
 pub returns : goal.returns

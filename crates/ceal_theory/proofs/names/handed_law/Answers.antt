@@ -1,4 +1,4 @@
-use Rattle.ceal_theory.proofs.Named.{handed-law}
+use Rattle.ceal_theory.proofs.Renaming.GivenNumbers.{handed-law}
 use Rattle.ceal_theory.proofs.names.handed_law.Goals as goal
 
 pub returns : goal.returns

@@ -1,4 +1,4 @@
-use Rattle.ceal_theory.proofs.Named.{named-law}
+use Rattle.ceal_theory.proofs.Renaming.GivenNumbers.{named-law}
 use Rattle.ceal_theory.proofs.names.named_law.Goals as goal
 
 pub returns : goal.returns

@@ -1,4 +1,4 @@
-use Rattle.ceal_theory.proofs.SliceLaws.{pop-law}
+use Rattle.ceal_theory.proofs.SlicedRepair.SliceLaws.{pop-law}
 use Rattle.ceal_theory.proofs.queue.pop_law.Goals as goal
 
 pub returns : goal.returns

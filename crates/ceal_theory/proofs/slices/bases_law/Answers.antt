@@ -1,4 +1,4 @@
-use Rattle.ceal_theory.proofs.SliceLaws.{bases-law}
+use Rattle.ceal_theory.proofs.SlicedRepair.SliceLaws.{bases-law}
 use Rattle.ceal_theory.proofs.slices.bases_law.Goals as goal
 
 pub returns : goal.returns

@@ -1,4 +1,4 @@
-use Rattle.ceal_theory.proofs.SliceLaws.{begun-adjusted-law}
+use Rattle.ceal_theory.proofs.SlicedRepair.SliceLaws.{begun-adjusted-law}
 use Rattle.ceal_theory.proofs.slices.begun_adjusted_law.Goals as goal
 
 pub returns : goal.returns

@@ -1,4 +1,4 @@
-use Rattle.ceal_theory.proofs.SliceLaws.{done-law}
+use Rattle.ceal_theory.proofs.SlicedRepair.SliceLaws.{done-law}
 use Rattle.ceal_theory.proofs.slices.done_law.Goals as goal
 
 pub returns : goal.returns

@@ -1,4 +1,4 @@
-use Rattle.ceal_theory.proofs.SliceLaws.{follow-law}
+use Rattle.ceal_theory.proofs.SlicedRepair.SliceLaws.{follow-law}
 use Rattle.ceal_theory.proofs.slices.follow_law.Goals as goal
 
 pub returns : goal.returns

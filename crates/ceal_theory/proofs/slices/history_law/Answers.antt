@@ -1,4 +1,4 @@
-use Rattle.ceal_theory.proofs.SliceLaws.{history-law}
+use Rattle.ceal_theory.proofs.SlicedRepair.SliceLaws.{history-law}
 use Rattle.ceal_theory.proofs.slices.history_law.Goals as goal
 
 pub returns : goal.returns

@@ -1,4 +1,4 @@
-use Rattle.ceal_theory.proofs.SliceLaws.{is-done-law}
+use Rattle.ceal_theory.proofs.SlicedRepair.SliceLaws.{is-done-law}
 use Rattle.ceal_theory.proofs.slices.is_done_law.Goals as goal
 
 pub returns : goal.returns

@@ -1,4 +1,4 @@
-use Rattle.ceal_theory.proofs.Listed.{listed-law}
+use Rattle.ceal_theory.proofs.Store.WritesByPlace.{listed-law}
 use Rattle.ceal_theory.proofs.slices.listed_law.Goals as goal
 
 pub returns : goal.returns

@@ -1,4 +1,4 @@
-use Rattle.ceal_theory.proofs.SliceLaws.{renamed-slice-law}
+use Rattle.ceal_theory.proofs.SlicedRepair.SliceLaws.{renamed-slice-law}
 use Rattle.ceal_theory.proofs.slices.renamed_slice_law.Goals as goal
 
 pub returns : goal.returns

@@ -1,4 +1,4 @@
-use Rattle.ceal_theory.proofs.SliceLaws.{slice-law}
+use Rattle.ceal_theory.proofs.SlicedRepair.SliceLaws.{slice-law}
 use Rattle.ceal_theory.proofs.slices.slice_law.Goals as goal
 
 pub returns : goal.returns

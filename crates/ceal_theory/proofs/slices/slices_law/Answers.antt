@@ -1,4 +1,4 @@
-use Rattle.ceal_theory.proofs.SliceLaws.{slices-law}
+use Rattle.ceal_theory.proofs.SlicedRepair.SliceLaws.{slices-law}
 use Rattle.ceal_theory.proofs.slices.slices_law.Goals as goal
 
 pub returns : goal.returns

@@ -1,4 +1,4 @@
-use Rattle.ceal_theory.proofs.SliceLaws.{split-law}
+use Rattle.ceal_theory.proofs.SlicedRepair.SliceLaws.{split-law}
 use Rattle.ceal_theory.proofs.slices.split_law.Goals as goal
 
 pub returns : goal.returns

@@ -1,4 +1,4 @@
-use Rattle.ceal_theory.proofs.SliceLaws.{start-law}
+use Rattle.ceal_theory.proofs.SlicedRepair.SliceLaws.{start-law}
 use Rattle.ceal_theory.proofs.slices.start_law.Goals as goal
 
 pub returns : goal.returns

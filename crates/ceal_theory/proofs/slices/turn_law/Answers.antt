@@ -1,4 +1,4 @@
-use Rattle.ceal_theory.proofs.SliceLaws.{turn-law}
+use Rattle.ceal_theory.proofs.SlicedRepair.SliceLaws.{turn-law}
 use Rattle.ceal_theory.proofs.slices.turn_law.Goals as goal
 
 pub returns : goal.returns

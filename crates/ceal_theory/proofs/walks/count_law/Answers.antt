@@ -1,4 +1,4 @@
-use Rattle.ceal_theory.proofs.Counts.{count-law}
+use Rattle.ceal_theory.proofs.Work.ItemCounts.{count-law}
 use Rattle.ceal_theory.proofs.walks.count_law.Goals as goal
 
 pub returns : goal.returns

@@ -1,4 +1,4 @@
-use Rattle.ceal_theory.proofs.Walk.{honest-fix-law}
+use Rattle.ceal_theory.proofs.Store.Walk.{honest-fix-law}
 use Rattle.ceal_theory.proofs.walks.honest_fix_law.Goals as goal
 
 pub returns : goal.returns

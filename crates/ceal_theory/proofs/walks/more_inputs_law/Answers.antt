@@ -1,4 +1,4 @@
-use Rattle.ceal_theory.proofs.MoreInputs.{inputs-law}
+use Rattle.ceal_theory.proofs.Store.MoreInputs.{inputs-law}
 use Rattle.ceal_theory.proofs.walks.more_inputs_law.Goals as goal
 
 pub returns : goal.returns

@@ -5,4 +5,4 @@ use Rattle.ceal_types.proofs.values.type_exprs.Given as goal
 
 abbrev pub invariant-loop-e : goal.invariant-loop-e
 invariant-loop-e l =
-    in_turn (with_expr l.program l.own l.scope) (drop l.e-index l.es) l.typed ≡ in_turn (with_expr l.program l.own l.scope) l.es []
+    in_turn (with_expr l.site.program.now l.site.own l.site.variables.now) (drop l.e-index l.es) l.typed ≡ in_turn (with_expr l.site.program.now l.site.own l.site.variables.now) l.es []

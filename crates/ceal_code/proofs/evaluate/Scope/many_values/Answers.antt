@@ -1,6 +1,6 @@
 use Rattle.std.proofs.Common.{◌<◌, length, arith}
 use Rattle.ceal_code.specs.Init.{arguments}
-use Rattle.ceal_code.proofs.ValueSteps.{values-take}
+use Rattle.ceal_code.proofs.Equations.ValueSteps.{values-take}
 use Rattle.ceal_code.proofs.evaluate.Scope.many_values.Goals as goal
 
 pub loop-e-preserved : goal.loop-e-preserved

@@ -1,4 +1,4 @@
-use Rattle.ceal_code.proofs.WaitSteps.{runs-over}
+use Rattle.ceal_code.proofs.Equations.WaitSteps.{runs-over}
 use Rattle.ceal_code.proofs.stack.Stack.arrive_at.Goals as goal
 
 pub returns-in-Move-clause-arrives : goal.returns-in-Move-clause-arrives

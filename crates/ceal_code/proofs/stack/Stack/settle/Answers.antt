@@ -1,5 +1,5 @@
 use Rattle.std.proofs.Common.{sym, ap, ◌∙◌}
-use Rattle.ceal_code.proofs.WaitSteps.{settle-over, settle-found, settle-none}
+use Rattle.ceal_code.proofs.Equations.WaitSteps.{settle-over, settle-found, settle-none}
 use Rattle.ceal_code.specs.Stacks.{waits_in, stack_in}
 use Rattle.ceal_code.specs.Step.{settled}
 use Rattle.ceal_code.proofs.stack.Stack.settle.Goals as goal

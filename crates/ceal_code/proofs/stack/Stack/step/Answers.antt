@@ -1,5 +1,5 @@
 use Rattle.ceal_code.specs.Stacks.{stack_in}
-use Rattle.ceal_code.proofs.WaitSteps.{next-of}
+use Rattle.ceal_code.proofs.Equations.WaitSteps.{next-of}
 use Rattle.ceal_code.proofs.stack.Stack.step.Goals as goal
 
 pub returns-in-Some : goal.returns-in-Some

@@ -1,5 +1,5 @@
 use Rattle.std.proofs.Common.{◌∙◌}
-use Rattle.ceal_code.proofs.TableSteps.{plain-done, store-done, memory-done}
+use Rattle.ceal_code.proofs.Equations.TableSteps.{plain-done, store-done, memory-done}
 use Rattle.ceal_code.specs.After.{store_after}
 use Rattle.ceal_code.specs.Replay.{bases, plain_of}
 use Rattle.ceal_code.specs.Tables.{code_in, plain_in, store_in}

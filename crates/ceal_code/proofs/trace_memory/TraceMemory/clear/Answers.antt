@@ -1,5 +1,5 @@
 use Rattle.std.proofs.Common.{refl}
-use Rattle.ceal_code.proofs.TableSteps.{contents-clear}
+use Rattle.ceal_code.proofs.Equations.TableSteps.{contents-clear}
 use Rattle.ceal_code.specs.Tables.{plain_in}
 use Rattle.ceal_code.proofs.trace_memory.TraceMemory.clear.Goals as goal
 

@@ -1,6 +1,6 @@
 use Rattle.std.proofs.Common.{refl, ap, ◌∙◌}
 use Rattle.ceal_base.specs.Block.{Block}
-use Rattle.ceal_code.proofs.TableSteps.{made-learnt, contents-known}
+use Rattle.ceal_code.proofs.Equations.TableSteps.{made-learnt, contents-known}
 use Rattle.ceal_code.specs.Replay.{cell_default}
 use Rattle.ceal_code.specs.Value.{field_kind}
 use Rattle.ceal_code.proofs.trace_memory.TraceMemory.know.Goals as goal

@@ -1,5 +1,5 @@
 use Rattle.std.proofs.Common.{refl, ap, ◌∙◌}
-use Rattle.ceal_code.proofs.TableSteps.{made-learnt}
+use Rattle.ceal_code.proofs.Equations.TableSteps.{made-learnt}
 use Rattle.ceal_code.specs.Replay.{learnt}
 use Rattle.ceal_code.specs.Tables.{plain_in, store_in}
 use Rattle.ceal_code.proofs.trace_memory.TraceMemory.learn.Goals as goal

@@ -1,4 +1,4 @@
-use Rattle.ceal_code.proofs.TableSteps.{plain-end}
+use Rattle.ceal_code.proofs.Equations.TableSteps.{plain-end}
 use Rattle.ceal_code.specs.Tables.{code_in, plain_in, plain_flat}
 use Rattle.ceal_code.proofs.trace_memory.TraceMemory.learn_items.Goals as goal
 

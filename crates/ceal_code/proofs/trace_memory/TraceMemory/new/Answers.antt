@@ -1,4 +1,4 @@
-use Rattle.ceal_code.proofs.TableSteps.{plain-new, store-new}
+use Rattle.ceal_code.proofs.Equations.TableSteps.{plain-new, store-new}
 use Rattle.ceal_code.proofs.trace_memory.TraceMemory.new.Goals as goal
 
 pub returns-clause-plain : goal.returns-clause-plain

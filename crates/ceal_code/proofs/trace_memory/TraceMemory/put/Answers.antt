@@ -1,5 +1,5 @@
 use Rattle.std.proofs.Common.{refl}
-use Rattle.ceal_code.proofs.TableSteps.{contents-put}
+use Rattle.ceal_code.proofs.Equations.TableSteps.{contents-put}
 use Rattle.ceal_code.specs.Tables.{plain_in}
 use Rattle.ceal_code.proofs.trace_memory.TraceMemory.put.Goals as goal
 

@@ -1,4 +1,4 @@
-use Rattle.ceal_code.proofs.TableSteps.{store-end}
+use Rattle.ceal_code.proofs.Equations.TableSteps.{store-end}
 use Rattle.ceal_code.specs.Tables.{code_in, store_in, store_flat}
 use Rattle.ceal_code.proofs.trace_memory.TraceMemory.store_items.Goals as goal
 

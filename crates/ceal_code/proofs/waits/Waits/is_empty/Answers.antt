@@ -1,6 +1,6 @@
 use Rattle.std.proofs.Common.{arith}
 use Rattle.ceal_code.specs.Stacks.{waits_in}
-use Rattle.ceal_code.proofs.WaitSteps.{wait-empty}
+use Rattle.ceal_code.proofs.Equations.WaitSteps.{wait-empty}
 use Rattle.ceal_code.proofs.waits.Waits.is_empty.Goals as goal
 
 pub returns : goal.returns

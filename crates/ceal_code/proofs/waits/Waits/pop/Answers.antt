@@ -1,6 +1,6 @@
 use Rattle.std.proofs.Common.{◌∙◌, ap, drop, length, arith}
 use Rattle.ceal_code.specs.Stacks.{waits_in}
-use Rattle.ceal_code.proofs.WaitSteps.{wait-pop}
+use Rattle.ceal_code.proofs.Equations.WaitSteps.{wait-pop}
 use Rattle.ceal_code.proofs.waits.Waits.pop.Goals as goal
 
 pub returns-clause-began : goal.returns-clause-began

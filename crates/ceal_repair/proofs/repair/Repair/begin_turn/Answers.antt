@@ -1,5 +1,6 @@
 use Rattle.std.proofs.Common.{ap, refl}
-use Rattle.ceal_repair.proofs.Beginning.{node-now, turn-runs}
+use Rattle.ceal_repair.proofs.Propagation.TurnBegin.{node-now, turn-runs}
+use Rattle.ceal_repair.proofs.Runs.RepairView.{with_parts}
 use Rattle.ceal_repair.specs.Repairs.{code_of, inputs_of}
 use Rattle.ceal_repair.specs.declared.repair.Repair.{Repair}
 use Rattle.ceal_trace.proofs.Entries.{has-held}
@@ -11,7 +12,7 @@ unit_at-requires c =
     let old : Repair = c.args.self.now in
     let found = c.requires.found.3 in
     let held = node-now (code_of old) (inputs_of old) c.requires.found.0 c.requires.found.1 c.requires.found.2 c.args.read.0 old.running c.listed_law.ensures.law c.ready_law.ensures.law c.turn_known_law.ensures.law found in
-    record { here = (found.place, _, record { unit = found.is_read.unit; var = found.is_read.var; args = found.is_read.args; is = held }) }
+    record { read = ap is_read held }
 
 pub end_of-self-requires : goal.end_of-self-requires
 end_of-self-requires c =
@@ -30,10 +31,8 @@ returns-clause-begins c = λ f args o found.
     let old : Repair = c.args.self.now in
     let s = c.set_steps.ensures in
     turn-runs (code_of old) (inputs_of old) f args o c.args.read.0 old.running c.listed_law.ensures.law c.ready_law.ensures.law c.turn_known_law.ensures.law found
-    (record old {
-      running = record { tables = c.set_steps.new.self; heap = old.running.heap; spent = old.running.spent };
+    (record (with_parts old (record { tables = c.set_steps.new.self; heap = old.running.heap; spent = old.running.spent }) c.unit_at.new.stack old.frames) {
       cursor = c.args.read;
-      stack = c.unit_at.new.stack;
       limit = c.end_of-self.result;
     })
     refl refl s.nodes s.mods s.queue s.kept refl refl refl c.requires.idle c.end_of-self.ensures.finished c.end_of-self.ensures.open c.in_ok-unit_at.ensures.unit

@@ -1,6 +1,6 @@
 use Rattle.std.proofs.Common.{◌≡◌, inr, None, Some, reverse, sym, ap, ◌∙◌}
 use Rattle.ceal_order.specs.declared.stamp.Stamp.{Stamp}
-use Rattle.ceal_repair.proofs.TurnEnding.{now-there, lies-ended, limit-ended, first-ended, turn-ends}
+use Rattle.ceal_repair.proofs.Propagation.TurnEnd.{now-there, lies-ended, limit-ended, first-ended, turn-ends}
 use Rattle.ceal_repair.specs.Entries.{stamped}
 use Rattle.ceal_repair.specs.Moment.{through}
 use Rattle.ceal_repair.specs.Repairs.{code_of, inputs_of, view}

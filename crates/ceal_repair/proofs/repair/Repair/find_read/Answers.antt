@@ -1,5 +1,5 @@
-use Rattle.ceal_repair.proofs.Taking.{limit-there, limit-behind}
-use Rattle.ceal_repair.proofs.Under_way.{running-here}
+use Rattle.ceal_repair.proofs.Reuse.AllocReuse.{limit-there, limit-behind}
+use Rattle.ceal_repair.proofs.Runs.RepairView.{running-here}
 use Rattle.ceal_repair.specs.Repairs.{code_of, inputs_of, view}
 use Rattle.ceal_repair.proofs.repair.Repair.find_read.Goals as goal
 

@@ -1,8 +1,8 @@
 use Rattle.std.proofs.Common.{ℕ, ◌++◌, ◌∷◌, refl}
-use Rattle.ceal_code.specs.Stacks.{stack_in}
-use Rattle.ceal_repair.proofs.Finishing.{among, open-is-read, open-before, now-finish}
-use Rattle.ceal_repair.proofs.Moves.{NodeMore, cursor-here}
-use Rattle.ceal_repair.proofs.Under_way.{runs-as}
+use Rattle.ceal_code.specs.Stacks.{waits_in}
+use Rattle.ceal_repair.proofs.Runs.NewReadEnd.{among, open-is-read, open-before, now-finish}
+use Rattle.ceal_repair.proofs.Runs.UnitSteps.{NodeMore, cursor-here}
+use Rattle.ceal_repair.proofs.Runs.RepairView.{runs-as, with_parts}
 use Rattle.ceal_repair.specs.Entries.{entries}
 use Rattle.ceal_repair.specs.Moment.{View}
 use Rattle.ceal_repair.specs.Repairs.{code_of, inputs_of, view}
@@ -41,7 +41,7 @@ returns-clause-runs c = λ start a.
     let f = c.in_ok-self.ensures in
     let k : NodeMore r.cursor.0 s (End c.args.read) r.running.tables c.finish_read.new.self =
     record { nodes = f.nodes; inserted = f.inserted; bases = λ p. rw f.mods refl; behind = f.behind; kept = f.kept } in
-    runs-as (code_of r) (inputs_of r) start (stack_in c.args.below) _
-    (record r { running = record r.running { tables = c.finish_read.new.self }; cursor = c.in_ok-self.field-0; stack = c.bring_back.new.self })
+    runs-as (code_of r) (inputs_of r) start (waits_in c.args.below) _
+    (record (with_parts r (record r.running { tables = c.finish_read.new.self }) c.bring_back.new.self r.frames) { cursor = c.in_ok-self.field-0 })
     (now-finish (code_of r) (inputs_of r) start a.stack (view r) c.args.below c.args.read a.now c.finish_read.new.self s a.over k)
-    refl refl c.in_ok-bring_back.ensures.back refl
+    refl refl c.bring_back.ensures.back refl

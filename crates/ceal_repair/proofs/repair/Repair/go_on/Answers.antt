@@ -2,8 +2,8 @@ use Rattle.std.proofs.Common.{◌≡◌, ℕ, inr, Some, Result, Ok, Err, refl, 
 use Rattle.std.specs.Result.{OnOk}
 use Rattle.ceal_base.specs.declared.no_memory.NoMemory.{NoMemory}
 use Rattle.ceal_order.specs.declared.stamp.Stamp.{Stamp}
-use Rattle.ceal_repair.proofs.Entering.{passes-as}
-use Rattle.ceal_repair.proofs.Going.{next-kept, lies-kept, first-kept, now-go-on}
+use Rattle.ceal_repair.proofs.Reuse.ReadReuseInCode.{passes-as}
+use Rattle.ceal_repair.proofs.KeptNodes.StaleReadEnd.{next-kept, lies-kept, first-kept, now-go-on}
 use Rattle.ceal_repair.specs.Entries.{stamped}
 use Rattle.ceal_repair.specs.Moment.{Start, through}
 use Rattle.ceal_repair.specs.Reads.{EndsKept}

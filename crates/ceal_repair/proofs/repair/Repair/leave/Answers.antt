@@ -1,8 +1,8 @@
 use Rattle.std.proofs.Common.{◌≡◌, ℕ, inr, true, Some, refl, sym, ap, subst, ◌∙◌}
-use Rattle.ceal_code.specs.Stacks.{stack_in}
+use Rattle.ceal_code.specs.Stacks.{waits_in}
 use Rattle.ceal_order.specs.declared.stamp.Stamp.{Stamp}
-use Rattle.ceal_repair.proofs.Leaving.{next-taken, lies-left, first-is, end-there, now-leave}
-use Rattle.ceal_repair.proofs.Under_way.{runs-as}
+use Rattle.ceal_repair.proofs.Reuse.TakenReadEnd.{next-taken, lies-left, first-is, end-there, now-leave}
+use Rattle.ceal_repair.proofs.Runs.RepairView.{runs-as, with_parts}
 use Rattle.ceal_repair.specs.Entries.{stamped}
 use Rattle.ceal_repair.specs.Moment.{through}
 use Rattle.ceal_repair.specs.Repairs.{code_of, inputs_of, view}
@@ -52,10 +52,10 @@ returns-clause-runs c = λ start a.
     let l = f.all (through a.now.placed.done a.now.placed.last) a.now.left a.now.tail (lies-left (code_of old) (inputs_of old) start a.stack (view old) c.args.below c.args.until a.now)
     (first-is (code_of old) (inputs_of old) start a.stack (view old) c.args.below c.args.until a.now ∙ ap (λ (s : Stamp). Some s.0) same) in
     let nodes : c.set_steps.new.self.trace.nodes ≡ with_steps n.end 0 t1.trace.nodes = g.nodes ∙ ap (λ (s : Stamp). with_steps s.0 0 t1.trace.nodes) (sym same) in
-    runs-as (code_of old) (inputs_of old) start (stack_in c.args.below)
+    runs-as (code_of old) (inputs_of old) start (waits_in c.args.below)
     (record { tables = c.set_steps.new.self; heap = c.cut_until.new.self.heap; spent = old.running.spent; cursor = n.end; limit = Some c.args.until; frames = (view old).frames })
-    (record old { running = record { tables = c.set_steps.new.self; heap = c.cut_until.new.self.heap; spent = c.cut_until.new.self.spent }; cursor = c.in-Some.end; stack = c.bring_back.new.self; limit = Some c.args.until })
+    (record (with_parts old (record { tables = c.set_steps.new.self; heap = c.cut_until.new.self.heap; spent = c.cut_until.new.self.spent }) c.bring_back.new.self old.frames) { cursor = c.in-Some.end; limit = Some c.args.until })
     (now-leave (code_of old) (inputs_of old) start a.stack (view old) c.args.below c.args.until a.now t1 c.set_steps.new.self c.cut_until.new.self.heap a.over l f.bases f.blocks (f.has (code_of old) (inputs_of old)) f.kept
-    nodes g.mods g.queue g.kept) refl refl c.in_ok-bring_back.ensures.back
+    nodes g.mods g.queue g.kept) refl refl c.bring_back.ensures.back
     (ap (λ (k : ℕ). record { tables = c.set_steps.new.self; heap = c.cut_until.new.self.heap; spent = k; cursor = c.in-Some.end.0; limit = Some c.args.until; frames = (view old).frames }) f.spent
     ∙ ap (λ (s : Stamp). record { tables = c.set_steps.new.self; heap = c.cut_until.new.self.heap; spent = old.running.spent; cursor = s.0; limit = Some c.args.until; frames = (view old).frames }) (sym same))

@@ -2,15 +2,15 @@ use Rattle.std.proofs.Common.{◌≡◌, ℕ, refl, sym, ap, subst, ◌∙◌}
 use Rattle.ceal_base.specs.declared.word.BlockId.{BlockId}
 use Rattle.ceal_base.specs.declared.word.BlockId.TheVariants.{Core}
 use Rattle.ceal_code.specs.Init.{arguments, pointer}
-use Rattle.ceal_code.specs.Stacks.{stack_in}
+use Rattle.ceal_code.specs.Stacks.{stack_in, top_of, below_in}
 use Rattle.ceal_code.specs.Step.{Run}
 use Rattle.ceal_code.specs.Value.{set}
 use Rattle.ceal_code.specs.declared.stack.Activation.{Activation}
-use Rattle.ceal_repair.proofs.Making.{MadeBlock, block-as, alloc-behind, now-make}
-use Rattle.ceal_repair.proofs.Matching.{none-left}
-use Rattle.ceal_repair.proofs.Moves.{NodeMore}
-use Rattle.ceal_repair.proofs.Under_way.{running-here, runs-as, IsStepped, stepped-here, made-view}
-use Rattle.ceal_repair.specs.Repairs.{code_of, inputs_of, view}
+use Rattle.ceal_repair.proofs.Runs.NewBlock.{MadeBlock, block-as, alloc-behind, now-make}
+use Rattle.ceal_repair.proofs.Reuse.AllocReuseInCode.{none-left}
+use Rattle.ceal_repair.proofs.Runs.UnitSteps.{NodeMore}
+use Rattle.ceal_repair.proofs.Runs.RepairView.{running-here, runs-as, IsStepped, stepped-here, made-view, with_parts}
+use Rattle.ceal_repair.specs.Repairs.{code_of, inputs_of, stack_of, view}
 use Rattle.ceal_repair.specs.declared.repair.Repair.{Repair}
 use Rattle.ceal_trace.specs.Nodes.{has_node}
 use Rattle.ceal_trace.specs.declared.node.Node.TheVariants.{Alloc}
@@ -41,19 +41,16 @@ returns-clause-runs c = λ start a.
     let g = c.in_ok-self.ensures in
     let node : NodeMore new.cursor.0 s (Alloc block c.args.key) c.make.new.self.tables c.put_alloc.new.self =
     record { nodes = g.nodes; inserted = g.inserted; bases = λ p. rw g.mods refl; behind = g.behind; kept = g.kept } in
-    let unit : Activation = c.args.unit in
-    let env : arguments c.set.new.self.env.items ≡ set (arguments unit.env.items) c.args.var (pointer c.args.key (Core b)) =
-    c.in_ok-set.ensures.env ∙ ap (λ w. set (arguments unit.env.items) c.args.var w) (c.pointer_to-pointer.ensures.value ∙ ap (pointer c.args.key) f.core.1) in
-    let stack : stack_in c.push.new.self ≡ Run unit.unit unit.index (set (arguments unit.env.items) c.args.var (pointer c.args.key (Core b))) (stack_in old.stack) =
-    c.in_ok-push.ensures.pushed ∙ (ap (λ u. Run u c.set.new.self.index (arguments c.set.new.self.env.items) (stack_in new.stack)) c.set.ensures.unit
-    ∙ (ap (λ i. Run unit.unit i (arguments c.set.new.self.env.items) (stack_in new.stack)) c.set.ensures.index
-    ∙ (ap (λ v. Run unit.unit unit.index v (stack_in new.stack)) env
-    ∙ ap (λ (r : Repair). Run unit.unit unit.index (set (arguments unit.env.items) c.args.var (pointer c.args.key (Core b))) (stack_in r.stack)) h.rest))) in
-    runs-as (code_of old) (inputs_of old) start (Run unit.unit unit.index (set (arguments unit.env.items) c.args.var (pointer c.args.key (Core b))) (stack_in old.stack)) _
-    (record new { running = record { tables = c.put_alloc.new.self; heap = c.make.new.self.heap; spent = c.make.new.self.spent }; cursor = c.in_ok-self.field-0; stack = c.push.new.self })
+    let unit : Activation = top_of (stack_of old) in
+    let below = below_in (stack_of old) in
+    let stack : stack_in c.set.new.self ≡ Run unit.unit unit.index (set (arguments unit.env.items) c.args.var (pointer c.args.key (Core b))) below =
+    c.in_ok-set.ensures.set ∙ (ap (λ (r : Repair). Run (top_of (stack_of r)).unit (top_of (stack_of r)).index (set (arguments (top_of (stack_of r)).env.items) c.args.var c.pointer_to-pointer.result) (below_in (stack_of r))) h.rest
+    ∙ ap (λ w. Run unit.unit unit.index (set (arguments unit.env.items) c.args.var w) below) (c.pointer_to-pointer.ensures.value ∙ ap (pointer c.args.key) f.core.1)) in
+    runs-as (code_of old) (inputs_of old) start (Run unit.unit unit.index (set (arguments unit.env.items) c.args.var (pointer c.args.key (Core b))) below) _
+    (record (with_parts new (record { tables = c.put_alloc.new.self; heap = c.make.new.self.heap; spent = c.make.new.self.spent }) c.set.new.self new.frames) { cursor = c.in_ok-self.field-0 })
     (now-make (code_of old) (inputs_of old) start a.stack (view old) a.now b c.args.key c.make.new.self.heap new.running.tables c.make.new.self.tables c.put_alloc.new.self s h.more
     (block-as old new h block b f.core.1 c.args.key c.make.new.self.heap new.running.tables c.make.new.self.tables made)
     (alloc-behind old new h block b f.core.1 c.args.key s c.make.new.self.tables c.put_alloc.new.self node)
-    (none-left old start a.stack a.now c.args.key c.requires.absent) c.args.var unit.unit unit.index (arguments unit.env.items) (stack_in old.stack) a.does)
+    (none-left old start a.stack a.now c.args.key c.requires.absent) c.args.var unit.unit unit.index (arguments unit.env.items) below a.does)
     (ap code_of h.rest) (ap inputs_of h.rest) stack
     (made-view old new h c.put_alloc.new.self c.make.new.self.heap c.make.new.self.spent s f.spent)

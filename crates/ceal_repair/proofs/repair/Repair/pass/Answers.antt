@@ -1,6 +1,6 @@
 use Rattle.std.proofs.Common.{subst}
 use Rattle.ceal_queue.specs.Queue.{IsBefore}
-use Rattle.ceal_repair.proofs.Passed.{limit-there, left-from}
+use Rattle.ceal_repair.proofs.KeptNodes.PassAll.{limit-there, left-from}
 use Rattle.ceal_repair.specs.Repairs.{code_of, inputs_of, view, PassesOn}
 use Rattle.ceal_repair.specs.declared.repair.Repair.{Repair}
 use Rattle.ceal_trace.specs.Nodes.{stamps_in}

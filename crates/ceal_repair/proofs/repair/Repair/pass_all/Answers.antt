@@ -1,9 +1,9 @@
 use Rattle.std.proofs.Common.{◌≡◌, true, Some, List, reverse, refl, sym, ap, subst, ◌∙◌}
-use Rattle.ceal_code.specs.Stacks.{stack_in}
+use Rattle.ceal_code.specs.Stacks.{waits_in}
 use Rattle.ceal_order.specs.declared.stamp.Stamp.{Stamp}
-use Rattle.ceal_repair.proofs.Entering.{bases-cells}
-use Rattle.ceal_repair.proofs.Passed.{around-it, frame-next, frames-next, end-there, now-passed}
-use Rattle.ceal_repair.proofs.Under_way.{runs-as}
+use Rattle.ceal_repair.proofs.Reuse.ReadReuseInCode.{bases-cells}
+use Rattle.ceal_repair.proofs.KeptNodes.PassAll.{around-it, frame-next, frames-next, end-there, now-passed}
+use Rattle.ceal_repair.proofs.Runs.RepairView.{runs-as, with_parts}
 use Rattle.ceal_repair.specs.Passing.{NoneStale}
 use Rattle.ceal_repair.specs.Moment.{View}
 use Rattle.ceal_repair.specs.Repairs.{code_of, inputs_of, view}
@@ -55,11 +55,11 @@ returns-clause-runs c = λ start a.
     let g = c.set_steps.ensures in
     let t : Tables = c.set_steps.new.self in
     let nodes : t.trace.nodes ≡ with_steps a.until.0 0 old.running.tables.trace.nodes = g.nodes ∙ ap (λ (s : Stamp). with_steps s.0 0 old.running.tables.trace.nodes) (sym same) in
-    runs-as (code_of old) (inputs_of old) start (stack_in n.below)
+    runs-as (code_of old) (inputs_of old) start (waits_in n.below)
     (record { tables = t; heap = old.running.heap; spent = old.running.spent; cursor = a.until.0; limit = Some n.next; frames = n.frames })
-    (record old { running = record old.running { tables = t }; cursor = c.in-Some.end; stack = c.in-Some-Taken.below; limit = Some c.in-Some-Taken.limit; frames = c.pop.new.self })
+    (record (with_parts old (record old.running { tables = t }) c.bring_back.new.self c.pop.new.self) { cursor = c.in-Some.end; limit = Some c.in-Some-Taken.limit })
     (now-passed (code_of old) (inputs_of old) start a.until w a.now old.running.tables t a.trace a.left (bases-cells old.running.tables.mods a.before.mods a.cells) a.kept nodes g.mods g.queue g.kept)
-    refl refl (ap stack_in below)
+    refl refl (c.bring_back.ensures.back ∙ ap waits_in below)
     (ap (λ (s : Stamp). record { tables = t; heap = old.running.heap; spent = old.running.spent; cursor = s.0; limit = Some c.in-Some-Taken.limit; frames = reverse c.pop.new.self.items }) (sym same)
     ∙ (ap (λ (l : Stamp). record { tables = t; heap = old.running.heap; spent = old.running.spent; cursor = a.until.0; limit = Some l; frames = reverse c.pop.new.self.items }) next
     ∙ ap (λ (gs : List Frame). record { tables = t; heap = old.running.heap; spent = old.running.spent; cursor = a.until.0; limit = Some n.next; frames = gs }) fs))

@@ -1,7 +1,7 @@
 use Rattle.std.proofs.Common.{ap}
 use Rattle.ceal_code.specs.Stacks.{stack_in}
-use Rattle.ceal_repair.proofs.Moves.{now-quiet}
-use Rattle.ceal_repair.proofs.Under_way.{running-here, runs-as, IsStepped, stepped-view}
+use Rattle.ceal_repair.proofs.Runs.UnitSteps.{now-quiet}
+use Rattle.ceal_repair.proofs.Runs.RepairView.{running-here, runs-as, IsStepped, stepped-view}
 use Rattle.ceal_repair.specs.Repairs.{code_of, inputs_of, view}
 use Rattle.ceal_repair.specs.declared.repair.Repair.{Repair}
 use Rattle.ceal_repair.proofs.repair.Repair.quiet.Goals as goal

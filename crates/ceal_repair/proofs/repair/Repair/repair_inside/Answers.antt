@@ -1,9 +1,9 @@
 use Rattle.std.proofs.Common.{◌≡◌, Option, Some, List, [], ◌∷◌, reverse, refl, sym, ap, ◌∙◌}
 use Rattle.std.proofs.lemmas.List.{reverse-append}
 use Rattle.ceal_order.specs.declared.stamp.Stamp.{Stamp}
-use Rattle.ceal_repair.proofs.Entering.{bases-cells}
-use Rattle.ceal_repair.proofs.Mending.{the-read, word, seen-as, read-here, node-then, end-then, now-mend, limit-of}
-use Rattle.ceal_repair.proofs.Under_way.{runs-as}
+use Rattle.ceal_repair.proofs.Reuse.ReadReuseInCode.{bases-cells}
+use Rattle.ceal_repair.proofs.KeptNodes.StaleRead.{the-read, word, seen-as, read-here, node-then, end-then, now-mend, limit-of}
+use Rattle.ceal_repair.proofs.Runs.RepairView.{runs-as, with_parts}
 use Rattle.ceal_repair.specs.Entries.{stamped}
 use Rattle.ceal_repair.specs.Passing.{StaleInside}
 use Rattle.ceal_repair.specs.Repairs.{code_of, inputs_of, view}
@@ -34,7 +34,7 @@ unit_at-requires c =
     let g = c.set_steps.ensures in
     let t : Tables = c.set_steps.new.self in
     let r = the-read (code_of old) (inputs_of old) start a.until (record (view old) { tables = a.before }) a.now c.args.read.0 a.stale a.limit in
-    record { here = (r.place, word (code_of old) (inputs_of old) start a.until (record (view old) { tables = a.before }) a.now c.args.read.0 a.stale a.limit, record { unit = r.unit; var = r.var; args = r.args; is = node-then (code_of old) (inputs_of old) start a.until (record (view old) { tables = a.before }) a.now c.args.read.0 a.stale a.limit t1 t seen a.queued (bases-cells t1.mods a.before.mods a.cells) a.kept g.nodes g.mods g.queue g.kept }) }
+    record { read = ap is_read (node-then (code_of old) (inputs_of old) start a.until (record (view old) { tables = a.before }) a.now c.args.read.0 a.stale a.limit t1 t seen a.queued (bases-cells t1.mods a.before.mods a.cells) a.kept g.nodes g.mods g.queue g.kept) }
 
 pub end_of-self-requires : goal.end_of-self-requires
 end_of-self-requires c =
@@ -64,7 +64,7 @@ returns-clause-runs c = λ start a.
     ap reverse c.in_ok-push.ensures.items ∙ (reverse-append old.frames.items (Kept c.in-Some.until ∷ []) ∙ ap (λ (s : Stamp). Kept s ∷ reverse old.frames.items) same) in
     runs-as (code_of old) (inputs_of old) start (resumed (code_of old) r.unit r.var r.args now-word)
     (record { tables = t; heap = old.running.heap; spent = old.running.spent; cursor = c.args.read.0; limit = Some (stamped r.end); frames = Kept a.until ∷ reverse old.frames.items })
-    (record old { running = record old.running { tables = t }; cursor = c.args.read; stack = c.unit_at.new.stack; limit = c.end_of-self.result; frames = c.push.new.self })
+    (record (with_parts old (record old.running { tables = t }) c.unit_at.new.stack c.push.new.self) { cursor = c.args.read; limit = c.end_of-self.result })
     (now-mend (code_of old) (inputs_of old) start a.until (record (view old) { tables = a.before }) a.now c.args.read.0 a.stale a.limit t1 t seen a.queued (bases-cells t1.mods a.before.mods a.cells) a.kept g.nodes g.mods g.queue g.kept)
     refl refl (c.in_ok-unit_at.ensures.unit r.place now-word r.unit r.var r.args (node-then (code_of old) (inputs_of old) start a.until (record (view old) { tables = a.before }) a.now c.args.read.0 a.stale a.limit t1 t seen a.queued (bases-cells t1.mods a.before.mods a.cells) a.kept g.nodes g.mods g.queue g.kept))
     (ap (λ (o : Option Stamp). record { tables = t; heap = old.running.heap; spent = old.running.spent; cursor = c.args.read.0; limit = o; frames = reverse c.push.new.self.items }) limit

@@ -1,16 +1,16 @@
 use Rattle.std.proofs.Common.{◌≡◌, Some, sym, ap, ◌∙◌}
 use Rattle.ceal_base.specs.declared.word.BlockId.{BlockId}
 use Rattle.ceal_code.specs.Init.{arguments, pointer}
-use Rattle.ceal_code.specs.Stacks.{stack_in}
+use Rattle.ceal_code.specs.Stacks.{stack_in, top_of, below_in}
 use Rattle.ceal_code.specs.Step.{Run}
 use Rattle.ceal_code.specs.Value.{set}
 use Rattle.ceal_code.specs.declared.stack.Activation.{Activation}
-use Rattle.ceal_repair.proofs.Items.{more}
-use Rattle.ceal_repair.proofs.Matching.{has-stepped, lies-code, until-code, matches-left, cut-result, found-there, cut-more-code, node-dropped}
-use Rattle.ceal_repair.proofs.Taking.{the-match, node-there, now-take-alloc}
-use Rattle.ceal_repair.proofs.Under_way.{running-here, runs-as, IsStepped, made-view}
+use Rattle.ceal_repair.proofs.Nodes.NodeItems.{more}
+use Rattle.ceal_repair.proofs.Reuse.AllocReuseInCode.{has-stepped, lies-code, until-code, matches-left, cut-result, found-there, cut-more-code, node-dropped}
+use Rattle.ceal_repair.proofs.Reuse.AllocReuse.{the-match, node-there, now-take-alloc}
+use Rattle.ceal_repair.proofs.Runs.RepairView.{running-here, runs-as, IsStepped, made-view, with_parts}
 use Rattle.ceal_repair.specs.Moment.{through}
-use Rattle.ceal_repair.specs.Repairs.{code_of, inputs_of, view}
+use Rattle.ceal_repair.specs.Repairs.{code_of, inputs_of, stack_of, view}
 use Rattle.ceal_repair.specs.declared.repair.Repair.{Repair}
 use Rattle.ceal_trace.specs.declared.node.Node.TheVariants.{Alloc}
 use Rattle.ceal_repair.proofs.repair.Repair.take_alloc.Goals as goal
@@ -64,7 +64,7 @@ block_at-block-requires c =
     let matches = matches-left old new h start a.stack a.now c.args.key c.args.found c.requires.found in
     let m = the-match (code_of old) (inputs_of old) start a.stack (view old) a.now c.args.key c.args.found c.cut_until.new.self.heap new.running.tables c.cut_until.new.self.tables c.set_steps.new.self r.0 h.more cut matches in
     record {
-      here = (
+      alloc = (
         m.block,
         m.own,
         node-dropped c.args.found.0 c.cut_until.new.self.tables c.set_steps.new.self g.nodes
@@ -86,21 +86,18 @@ returns-clause-runs c = λ start a.
     let matches = matches-left old new h start a.stack a.now c.args.key c.args.found c.requires.found in
     let m = the-match (code_of old) (inputs_of old) start a.stack (view old) a.now c.args.key c.args.found c.cut_until.new.self.heap new.running.tables c.cut_until.new.self.tables c.set_steps.new.self r.0 h.more cut matches in
     let block : BlockId = c.block_at-block.result in
-    let both : Some (Alloc block c.block_at-block.ensures.0) ≡ Some (Alloc m.block m.own) =
-    sym c.block_at-block.ensures.1 ∙ (node-dropped c.args.found.0 c.cut_until.new.self.tables c.set_steps.new.self g.nodes
+    let both : Some (Alloc block c.block_at-block.ensures.block.0) ≡ Some (Alloc m.block m.own) =
+    sym c.block_at-block.ensures.block.1 ∙ (node-dropped c.args.found.0 c.cut_until.new.self.tables c.set_steps.new.self g.nodes
     ∙ node-there (code_of old) (inputs_of old) start a.stack (view old) a.now c.args.key c.args.found c.cut_until.new.self.heap new.running.tables c.cut_until.new.self.tables c.set_steps.new.self r.0 h.more cut matches) in
     let same : block ≡ m.block = cc in
-    let unit : Activation = c.args.unit in
-    let env : arguments c.set.new.self.env.items ≡ set (arguments unit.env.items) c.args.var (pointer c.args.key m.block) =
-    c.in_ok-set.ensures.env ∙ ap (λ w. set (arguments unit.env.items) c.args.var w) (c.pointer_to.ensures.value ∙ ap (pointer c.args.key) same) in
-    let stack : stack_in c.push.new.self ≡ Run unit.unit unit.index (set (arguments unit.env.items) c.args.var (pointer c.args.key m.block)) (stack_in old.stack) =
-    c.in_ok-push.ensures.pushed ∙ (ap (λ u. Run u c.set.new.self.index (arguments c.set.new.self.env.items) (stack_in new.stack)) c.set.ensures.unit
-    ∙ (ap (λ i. Run unit.unit i (arguments c.set.new.self.env.items) (stack_in new.stack)) c.set.ensures.index
-    ∙ (ap (λ v. Run unit.unit unit.index v (stack_in new.stack)) env
-    ∙ ap (λ (r : Repair). Run unit.unit unit.index (set (arguments unit.env.items) c.args.var (pointer c.args.key m.block)) (stack_in r.stack)) h.rest))) in
-    runs-as (code_of old) (inputs_of old) start (Run unit.unit unit.index (set (arguments unit.env.items) c.args.var (pointer c.args.key m.block)) (stack_in old.stack)) _
-    (record new { running = record { tables = c.set_steps.new.self; heap = c.cut_until.new.self.heap; spent = c.cut_until.new.self.spent }; cursor = c.args.found; stack = c.push.new.self })
+    let unit : Activation = top_of (stack_of old) in
+    let below = below_in (stack_of old) in
+    let stack : stack_in c.set.new.self ≡ Run unit.unit unit.index (set (arguments unit.env.items) c.args.var (pointer c.args.key m.block)) below =
+    c.in_ok-set.ensures.set ∙ (ap (λ (r : Repair). Run (top_of (stack_of r)).unit (top_of (stack_of r)).index (set (arguments (top_of (stack_of r)).env.items) c.args.var c.pointer_to.result) (below_in (stack_of r))) h.rest
+    ∙ ap (λ w. Run unit.unit unit.index (set (arguments unit.env.items) c.args.var w) below) (c.pointer_to.ensures.value ∙ ap (pointer c.args.key) same)) in
+    runs-as (code_of old) (inputs_of old) start (Run unit.unit unit.index (set (arguments unit.env.items) c.args.var (pointer c.args.key m.block)) below) _
+    (record (with_parts new (record { tables = c.set_steps.new.self; heap = c.cut_until.new.self.heap; spent = c.cut_until.new.self.spent }) c.set.new.self new.frames) { cursor = c.args.found })
     (now-take-alloc (code_of old) (inputs_of old) start a.stack (view old) a.now c.args.key c.args.found c.cut_until.new.self.heap new.running.tables c.cut_until.new.self.tables c.set_steps.new.self r.0 h.more cut matches
-    c.args.var unit.unit unit.index (arguments unit.env.items) (stack_in old.stack) a.does)
+    c.args.var unit.unit unit.index (arguments unit.env.items) below a.does)
     (ap code_of h.rest) (ap inputs_of h.rest) stack
     (made-view old new h c.set_steps.new.self c.cut_until.new.self.heap c.cut_until.new.self.spent c.args.found.0 f.spent)

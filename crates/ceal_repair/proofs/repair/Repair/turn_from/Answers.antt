@@ -1,5 +1,5 @@
 use Rattle.std.proofs.Common.{arith, ◌≤◌}
-use Rattle.ceal_repair.proofs.TurnByTurn.{turn-out, began-gone, turn-made}
+use Rattle.ceal_repair.proofs.Propagation.TurnAgreement.{turn-out, began-gone, turn-made}
 use Rattle.ceal_repair.proofs.repair.Repair.turn_from.Goals as goal
 
 pub complete-requires : goal.complete-requires

@@ -1,6 +1,6 @@
 use Rattle.ceal_repair.specs.Turning.{later}
 use Rattle.std.proofs.Common.{arith}
-use Rattle.ceal_repair.proofs.TurnByTurn.{no-turns-in, not-last, one-more, is-under-way, is-done, is-up-to-date, found_by, found-never, turn-more}
+use Rattle.ceal_repair.proofs.Propagation.TurnAgreement.{no-turns-in, not-last, one-more, is-under-way, is-done, is-up-to-date, found_by, found-never, turn-more}
 use Rattle.ceal_repair.proofs.repair.Repair.turns.Goals as goal
 
 pub loop-turn-init : goal.loop-turn-init

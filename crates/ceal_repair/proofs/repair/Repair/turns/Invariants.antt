@@ -1,4 +1,4 @@
-use Rattle.ceal_repair.proofs.TurnByTurn.{TurningIn}
+use Rattle.ceal_repair.proofs.Propagation.TurnAgreement.{TurningIn}
 use Rattle.ceal_repair.proofs.repair.Repair.turns.Given as goal
 
 abbrev pub invariant-loop-turn : goal.invariant-loop-turn

@@ -1,7 +1,7 @@
 use Rattle.std.proofs.Common.{ℕ, ap}
 use Rattle.ceal_code.specs.Stacks.{stack_in}
-use Rattle.ceal_repair.proofs.Moves.{NodeMore, now-write}
-use Rattle.ceal_repair.proofs.Under_way.{running-here, runs-as, IsStepped, stepped-here, node-behind, put-view}
+use Rattle.ceal_repair.proofs.Runs.UnitSteps.{NodeMore, now-write}
+use Rattle.ceal_repair.proofs.Runs.RepairView.{running-here, runs-as, IsStepped, stepped-here, node-behind, put-view}
 use Rattle.ceal_repair.specs.Repairs.{code_of, inputs_of, view}
 use Rattle.ceal_repair.specs.declared.repair.Repair.{Repair}
 use Rattle.ceal_trace.specs.declared.node.Node.TheVariants.{Write}
@@ -26,7 +26,7 @@ returns-clause-runs c = λ start a.
     let f = c.in_ok-self.ensures in
     let k : NodeMore new.cursor.0 s (Write c.args.place c.args.value) new.running.tables c.put_write.new.self = record { nodes = f.nodes; inserted = f.inserted; bases = f.bases; behind = f.behind; kept = f.kept } in
     runs-as (code_of old) (inputs_of old) start (stack_in old.stack) _
-    (record new { running = record new.running { tables = c.put_write.new.self }; cursor = c.in_ok-self.field-0 })
+    (record new { running = (record new.running { tables = c.put_write.new.self }); cursor = c.in_ok-self.field-0 })
     (now-write (code_of old) (inputs_of old) start a.stack (view old) a.now (stack_in old.stack) c.args.place c.args.value new.running.tables c.put_write.new.self s a.does h.more
     (node-behind old new h s (Write c.args.place c.args.value) c.put_write.new.self k))
     (ap code_of h.rest) (ap inputs_of h.rest) (ap (λ (r : Repair). stack_in r.stack) h.rest) (put-view old new h c.put_write.new.self s)

@@ -1,8 +1,6 @@
-use Rattle.ceal_trace.proofs.Entries.{has-held}
-use Rattle.ceal_trace.specs.declared.node.Node.TheVariants.{Read}
 use Rattle.ceal_repair.proofs.repair.read.value_at.Goals as goal
 
-pub node-requires : goal.node-requires
-node-requires c =
-    let r = c.requires.here.2 in
-    record { here = has-held c.args.node.0 (Read c.requires.here.0 c.requires.here.1 r.unit r.var r.args) c.args.trace.now.nodes r.is }
+pub returns : goal.returns
+returns c =
+    let seen = c.read_at.result in
+    (seen.place, record { unit = seen.unit; var = seen.var; args = seen.args.now; is = c.read_at.ensures.read })

@@ -1,6 +1,6 @@
 use Rattle.std.proofs.Common.{◌∙◌, ap}
 use Rattle.ceal_code.specs.Program.{Code}
-use Rattle.ceal_repair.proofs.RunSteps.{none-queued, first-bases}
+use Rattle.ceal_repair.proofs.Runs.RunBlocks.{none-queued, first-bases}
 use Rattle.ceal_repair.proofs.running.Running.begin.Goals as goal
 use Rattle.ceal_trace.specs.Nodes.{Timeline}
 

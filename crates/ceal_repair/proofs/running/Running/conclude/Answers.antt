@@ -1,5 +1,5 @@
 use Rattle.std.proofs.Common.{refl, arith}
-use Rattle.ceal_repair.proofs.Propagated.{too-many, concluded-run}
+use Rattle.ceal_repair.proofs.Propagation.UpToDateRun.{too-many, concluded-run}
 use Rattle.ceal_repair.proofs.running.Running.conclude.Goals as goal
 
 pub returns-then-steps-from : goal.returns-then-steps-from

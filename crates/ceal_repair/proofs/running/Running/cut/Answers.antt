@@ -1,5 +1,5 @@
 use Rattle.std.proofs.Common.{ap}
-use Rattle.ceal_repair.proofs.Fewer.{has-first, plain-first, queued-from, end-some, alloc-live, cut-alloc-lies, cut-write-lies, cut-read-lies, alloc-has, write-has, read-has}
+use Rattle.ceal_repair.proofs.Revocation.FirstNode.{has-first, plain-first, queued-from, end-some, alloc-live, cut-alloc-lies, cut-write-lies, cut-read-lies, alloc-has, write-has, read-has}
 use Rattle.ceal_repair.specs.Kept.{base_in}
 use Rattle.ceal_repair.proofs.running.Running.cut.Goals as goal
 

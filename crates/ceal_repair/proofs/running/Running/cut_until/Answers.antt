@@ -1,4 +1,4 @@
-use Rattle.ceal_repair.proofs.Revoking.{cursor-is, next-first, one-revoked, revoked-to, all-revoked}
+use Rattle.ceal_repair.proofs.Revocation.UpToNode.{cursor-is, next-first, one-revoked, revoked-to, all-revoked}
 use Rattle.ceal_repair.proofs.running.Running.cut_until.Goals as goal
 
 pub next_before-requires : goal.next_before-requires

@@ -1,4 +1,4 @@
-use Rattle.ceal_repair.proofs.Revoking.{Revoking}
+use Rattle.ceal_repair.proofs.Revocation.UpToNode.{Revoking}
 use Rattle.ceal_repair.proofs.running.Running.cut_until.Given as goal
 
 abbrev pub invariant-loop-revoked : goal.invariant-loop-revoked

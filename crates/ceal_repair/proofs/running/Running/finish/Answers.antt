@@ -1,6 +1,6 @@
 use Rattle.ceal_repair.specs.Turning.{later, since_begun}
 use Rattle.std.proofs.Common.{refl, arith}
-use Rattle.ceal_repair.proofs.Propagated.{too-many, repaired}
+use Rattle.ceal_repair.proofs.Propagation.UpToDateRun.{too-many, repaired}
 use Rattle.ceal_repair.proofs.running.Running.finish.Goals as goal
 
 pub returns-then-steps-from : goal.returns-then-steps-from

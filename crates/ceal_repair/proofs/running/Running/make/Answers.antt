@@ -1,7 +1,7 @@
 use Rattle.std.proofs.Common.{ap, ◌∙◌}
 use Rattle.ceal_base.specs.Block.{Block}
 use Rattle.ceal_code.specs.Program.{Code}
-use Rattle.ceal_repair.proofs.RunSteps.{made-core, made-words, made-bases}
+use Rattle.ceal_repair.proofs.Runs.RunBlocks.{made-core, made-words, made-bases}
 use Rattle.ceal_repair.proofs.running.Running.make.Goals as goal
 use Rattle.ceal_repair.specs.Words.{words_of}
 

@@ -1,8 +1,8 @@
 use Rattle.std.proofs.Common.{◌≡◌, ◌↔◌, Bool, true, false, IsTrue, refl, sym, ap, ◌∙◌}
 use Rattle.ceal_base.specs.declared.forest.Key.{Key}
-use Rattle.ceal_repair.proofs.Tabling.{key-refl}
+use Rattle.ceal_repair.proofs.Lists.ListsOfNodes.{key-refl}
 use Rattle.ceal_repair.specs.Lists.{is_so, allocates}
-use Rattle.ceal_theory.proofs.Taken.{key-same}
+use Rattle.ceal_theory.proofs.Reuse.TakenItems.{key-same}
 use Rattle.ceal_theory.specs.Take.{same_key}
 use Rattle.ceal_repair.proofs.sought.SoughtAllocSought.has_key.Goals as goal
 

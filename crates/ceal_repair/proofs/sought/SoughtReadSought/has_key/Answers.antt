@@ -1,6 +1,6 @@
 use Rattle.std.proofs.Common.{◌≡◌, ◌↔◌, Bool, true, false, IsTrue, refl, sym, ap, ◌∙◌}
 use Rattle.ceal_memo.specs.declared.key.ReadKey.{ReadKey}
-use Rattle.ceal_repair.proofs.Tabling.{same_as, read-key-same, read-key-refl}
+use Rattle.ceal_repair.proofs.Lists.ListsOfNodes.{same_as, read-key-same, read-key-refl}
 use Rattle.ceal_repair.specs.Lists.{is_so, recalls}
 use Rattle.ceal_repair.proofs.sought.SoughtReadSought.has_key.Goals as goal
 

@@ -2,20 +2,20 @@ use Rattle.std.proofs.Common.{refl}
 use Rattle.ceal_trace.specs.Nodes.{stamps_in}
 use Rattle.ceal_trace.specs.declared.node.Node.{Node}
 use Rattle.ceal_trace.specs.declared.node.Node.TheVariants.{Alloc}
-use Rattle.ceal_repair.proofs.Changing.{node-has}
-use Rattle.ceal_repair.proofs.TakingOut.{alloc-cut-kept, no-end}
+use Rattle.ceal_repair.proofs.QueueCover.NodeChanges.{node-has}
+use Rattle.ceal_repair.proofs.TableCalls.CutKeepsTables.{alloc-cut-kept, no-end}
 use Rattle.ceal_repair.proofs.tables.Tables.cut_alloc.Goals as goal
 
 pub remove-requires-clause-here : goal.remove-requires-clause-here
 remove-requires-clause-here c = rw c.order.ensures (node-has c.args.alloc.0 (Alloc c.requires.here.0 c.requires.here.1) c.args.self.now.trace.nodes c.requires.here.2)
 
-pub remove-requires-2-clause-here : goal.remove-requires-2-clause-here
-remove-requires-2-clause-here c = node-has c.args.alloc.0 (Alloc c.requires.here.0 c.requires.here.1) c.args.self.now.trace.nodes c.requires.here.2
+pub discard-requires-clause-here : goal.discard-requires-clause-here
+discard-requires-clause-here c = node-has c.args.alloc.0 (Alloc c.requires.here.0 c.requires.here.1) c.args.self.now.trace.nodes c.requires.here.2
 
 pub returns-clause-kept : goal.returns-clause-kept
 returns-clause-kept c =
     let n : Node = Alloc c.requires.here.0 c.requires.here.1 in
-    alloc-cut-kept c.args.self.now c.requires.kept c.args.alloc.0 (Alloc c.requires.here.0 c.requires.here.1) c.requires.here.2 c.remove-2.new.self c.remove-2.ensures.nodes c.remove-2.ensures.others c.remove-2.ensures.whole
-    (c.remove-2.ensures.closed c.requires.kept.step.closed (no-end c.args.alloc.0 (Alloc c.requires.here.0 c.requires.here.1) c.args.self.now.trace c.requires.kept.step.whole c.requires.here.2 refl))
+    alloc-cut-kept c.args.self.now c.requires.kept c.args.alloc.0 (Alloc c.requires.here.0 c.requires.here.1) c.requires.here.2 c.discard.new.self c.discard.ensures.nodes c.discard.ensures.others c.discard.ensures.whole
+    (c.discard.ensures.closed c.requires.kept.step.closed (no-end c.args.alloc.0 (Alloc c.requires.here.0 c.requires.here.1) c.args.self.now.trace c.requires.kept.step.whole c.requires.here.2 refl))
     c.requires.here.0 c.requires.here.1 refl c.remove.new.self c.remove.ensures.stamps c.remove.ensures.gone
     (c.remove.ensures.follows (stamps_in c.args.self.now.trace.nodes) c.requires.kept.step.memo)

@@ -1,12 +1,11 @@
-use Rattle.std.proofs.Common.{◌≡◌, refl, sym, ◌∙◌}
+use Rattle.std.proofs.Common.{refl}
 use Rattle.std.proofs.lemmas.Bool.{eq-eqb}
-use Rattle.ceal_code.proofs.Same.{some-same}
 use Rattle.ceal_mods.specs.Mods.{cell_of}
 use Rattle.ceal_trace.specs.Nodes.{stamps_in}
 use Rattle.ceal_trace.specs.declared.node.Node.TheVariants.{End}
 use Rattle.ceal_mods.specs.Cell.{without_read}
-use Rattle.ceal_repair.proofs.TakingOut.{read-there, read-cut-behind, read-cut-kept, end-is, stamp-of}
-use Rattle.ceal_repair.proofs.Keeping.{bases-same}
+use Rattle.ceal_repair.proofs.TableCalls.CutKeepsTables.{read-there, read-cut-behind, read-cut-kept, end-is, stamp-of}
+use Rattle.ceal_repair.proofs.TableCalls.PutKeepsTables.{bases-same}
 use Rattle.ceal_repair.proofs.tables.Tables.cut_read.Goals as goal
 
 pub remove_read-requires-clause-there : goal.remove_read-requires-clause-there
@@ -18,21 +17,20 @@ returns-clause-bases c = λ p.
 
 pub returns-clause-behind : goal.returns-clause-behind
 returns-clause-behind c = λ s lt.
-    read-cut-behind c.args.self.now c.requires.kept c.args.read.0 c.in-Some.end.0 c.recorded-value.result.0 c.recorded-value.result.1 c.recorded-value.ensures c.in-Some.ensures.finished c.remove-2.new.self c.remove-3.new.self
-    (rw c.hand_on.ensures.trace at c.remove-2.ensures.nodes) (rw c.hand_on.ensures.trace at c.remove-2.ensures.others) c.remove-3.ensures.nodes c.remove-3.ensures.others c.remove-2.ensures.whole
+    read-cut-behind c.args.self.now c.requires.kept c.args.read.0 c.in-Some.end.0 c.recorded-value.result.0 c.recorded-value.result.1 c.recorded-value.ensures c.in-Some.ensures.finished c.discard.new.self c.discard-2.new.self
+    (rw c.hand_on.ensures.trace at c.discard.ensures.nodes) (rw c.hand_on.ensures.trace at c.discard.ensures.others) c.discard-2.ensures.nodes c.discard-2.ensures.others c.discard.ensures.whole
     c.remove_read.new.self (rw c.hand_on.ensures.mods at c.remove_read.ensures.cell) c.remove.new.self (rw c.hand_on.ensures.memo at c.remove.ensures.stamps)
     c.hand_on.new.self.stale c.hand_on.ensures.gone c.hand_on.ensures.more c.hand_on.ensures.only c.in-Some.ensures.behind (rw c.hand_on.ensures.trace at c.hand_on.ensures.stale) (rw c.hand_on.ensures.trace at c.hand_on.ensures.ahead) s lt
 
 pub returns-clause-kept : goal.returns-clause-kept
 returns-clause-kept c =
-    let is = end-is c.args.self.now c.requires.kept c.args.read.0 c.in-Some.end.0 c.recorded-value.result.0 c.recorded-value.result.1 c.recorded-value.ensures c.in-Some.ensures.finished c.remove-2.new.self c.remove-3.new.self
-    (rw c.hand_on.ensures.trace at c.remove-2.ensures.nodes) (rw c.hand_on.ensures.trace at c.remove-2.ensures.others) c.remove-3.ensures.nodes c.remove-3.ensures.others c.remove-2.ensures.whole
+    let is = end-is c.args.self.now c.requires.kept c.args.read.0 c.in-Some.end.0 c.recorded-value.result.0 c.recorded-value.result.1 c.recorded-value.ensures c.in-Some.ensures.finished c.discard.new.self c.discard-2.new.self
+    (rw c.hand_on.ensures.trace at c.discard.ensures.nodes) (rw c.hand_on.ensures.trace at c.discard.ensures.others) c.discard-2.ensures.nodes c.discard-2.ensures.others c.discard.ensures.whole
     c.remove_read.new.self (rw c.hand_on.ensures.mods at c.remove_read.ensures.cell) c.remove.new.self (rw c.hand_on.ensures.memo at c.remove.ensures.stamps) in
-    let node : c.remove-3.result.node ≡ End (stamp-of c.args.read.0) = some-same c.remove-3.result.node (End (stamp-of c.args.read.0)) (sym c.remove-3.ensures.node ∙ is) in
-    read-cut-kept c.args.self.now c.requires.kept c.args.read.0 c.in-Some.end.0 c.recorded-value.result.0 c.recorded-value.result.1 c.recorded-value.ensures c.in-Some.ensures.finished c.remove-2.new.self c.remove-3.new.self
-    (rw c.hand_on.ensures.trace at c.remove-2.ensures.nodes) (rw c.hand_on.ensures.trace at c.remove-2.ensures.others) c.remove-3.ensures.nodes c.remove-3.ensures.others c.remove-2.ensures.whole
+    read-cut-kept c.args.self.now c.requires.kept c.args.read.0 c.in-Some.end.0 c.recorded-value.result.0 c.recorded-value.result.1 c.recorded-value.ensures c.in-Some.ensures.finished c.discard.new.self c.discard-2.new.self
+    (rw c.hand_on.ensures.trace at c.discard.ensures.nodes) (rw c.hand_on.ensures.trace at c.discard.ensures.others) c.discard-2.ensures.nodes c.discard-2.ensures.others c.discard.ensures.whole
     c.remove_read.new.self (rw c.hand_on.ensures.mods at c.remove_read.ensures.cell) c.remove.new.self (rw c.hand_on.ensures.memo at c.remove.ensures.stamps)
-    c.hand_on.new.self.stale c.hand_on.ensures.gone c.hand_on.ensures.more c.hand_on.ensures.only c.hand_on.ensures.woken c.remove-3.ensures.whole
-    (c.remove-3.ensures.mended c.args.read.0 (c.remove-2.ensures.loose (rw c.hand_on.ensures.trace c.requires.kept.step.closed)) (rw (node, eq-eqb c.args.read.0 c.args.read.0 refl) refl))
+    c.hand_on.new.self.stale c.hand_on.ensures.gone c.hand_on.ensures.more c.hand_on.ensures.only c.hand_on.ensures.woken c.discard-2.ensures.whole
+    (c.discard-2.ensures.mended (End (stamp-of c.args.read.0)) c.args.read.0 is (c.discard.ensures.loose (rw c.hand_on.ensures.trace c.requires.kept.step.closed)) (rw (eq-eqb c.args.read.0 c.args.read.0 refl) refl))
     (rw (c.order.ensures, c.hand_on.ensures.trace) at c.remove_read.ensures.follows) c.remove.ensures.gone (c.remove.ensures.follows (stamps_in c.args.self.now.trace.nodes) (rw c.hand_on.ensures.memo c.requires.kept.step.memo))
     (rw c.hand_on.ensures.trace at c.hand_on.ensures.stale)

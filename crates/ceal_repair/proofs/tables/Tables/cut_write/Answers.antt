@@ -1,14 +1,14 @@
 use Rattle.std.proofs.Common.{◌≡◌, ℕ, Bool, true, false, Some, inl, inr, ◌⊎◌, refl, sym, ◌∙◌}
 use Rattle.ceal_base.specs.declared.word.Place.{Place}
 use Rattle.ceal_base.specs.declared.word.Word.{Word}
-use Rattle.ceal_code.proofs.Same.{some-same}
+use Rattle.ceal_code.proofs.Words.SameIsEqual.{some-same}
 use Rattle.ceal_repair.specs.declared.tables.Tables.{Tables}
 use Rattle.ceal_trace.specs.Nodes.{Timeline, stamps_in, node_at}
 use Rattle.ceal_trace.specs.declared.node.Node.TheVariants.{Write}
-use Rattle.ceal_repair.proofs.Changing.{node-has}
-use Rattle.ceal_repair.proofs.TakingOut.{write-there, write-cut-behind, write-cut-kept, no-end, room-kept, same-write}
-use Rattle.ceal_repair.proofs.Keeping.{tables}
-use Rattle.ceal_repair.proofs.Editing.{contents-same}
+use Rattle.ceal_repair.proofs.QueueCover.NodeChanges.{node-has}
+use Rattle.ceal_repair.proofs.TableCalls.CutKeepsTables.{write-there, write-cut-behind, write-cut-kept, no-end, room-kept, same-write}
+use Rattle.ceal_repair.proofs.TableCalls.PutKeepsTables.{tables}
+use Rattle.ceal_repair.proofs.TableCalls.BaseEdit.{contents-same}
 use Rattle.ceal_repair.specs.Kept.{contents_at}
 use Rattle.ceal_repair.proofs.tables.Tables.cut_write.Goals as goal
 
@@ -30,8 +30,8 @@ remove_write-requires-clause-there c =
 pub wake_unless-requires-clause-here : goal.wake_unless-requires-clause-here
 wake_unless-requires-clause-here c = rw c.is_needless-needless.ensures.trace (node-has c.args.write.0 (Write c.args.place c.requires.here.0) c.args.self.now.trace.nodes c.requires.here.1)
 
-pub remove-requires-clause-here : goal.remove-requires-clause-here
-remove-requires-clause-here c = rw (c.wake_unless.ensures.trace, c.is_needless-needless.ensures.trace) (node-has c.args.write.0 (Write c.args.place c.requires.here.0) c.args.self.now.trace.nodes c.requires.here.1)
+pub discard-requires-clause-here : goal.discard-requires-clause-here
+discard-requires-clause-here c = rw (c.wake_unless.ensures.trace, c.is_needless-needless.ensures.trace) (node-has c.args.write.0 (Write c.args.place c.requires.here.0) c.args.self.now.trace.nodes c.requires.here.1)
 
 either : {X Y : Type 0} (t : Bool) → (t ≡ true → X) → (t ≡ false → Y) → X ⊎ Y
 either true f g = inl (f refl)
@@ -41,9 +41,9 @@ pub returns-clause-behind : goal.returns-clause-behind
 returns-clause-behind c = λ s lt late r i.
     let b : Tables = c.is_needless-needless.new.self in
     let at_it : node_at c.args.write.0 b.trace.nodes ≡ Some (Write c.args.place c.requires.here.0) = there c.args.write.0 c.args.place c.requires.here.0 b.trace c.args.self.now.trace c.is_needless-needless.ensures.trace c.requires.here.1 in
-    write-cut-behind c.is_needless-needless.new.self c.is_needless-needless.ensures.kept c.args.write.0 (Write c.args.place c.requires.here.0) at_it c.remove.new.self
-    (rw c.wake_unless.ensures.trace at c.remove.ensures.nodes) (rw c.wake_unless.ensures.trace at c.remove.ensures.others)
-    c.remove.ensures.whole (c.remove.ensures.closed (rw c.wake_unless.ensures.trace c.is_needless-needless.ensures.kept.step.closed)
+    write-cut-behind c.is_needless-needless.new.self c.is_needless-needless.ensures.kept c.args.write.0 (Write c.args.place c.requires.here.0) at_it c.discard.new.self
+    (rw c.wake_unless.ensures.trace at c.discard.ensures.nodes) (rw c.wake_unless.ensures.trace at c.discard.ensures.others)
+    c.discard.ensures.whole (c.discard.ensures.closed (rw c.wake_unless.ensures.trace c.is_needless-needless.ensures.kept.step.closed)
     (rw c.wake_unless.ensures.trace (no-end c.args.write.0 (Write c.args.place c.requires.here.0) c.is_needless-needless.new.self.trace c.is_needless-needless.ensures.kept.step.whole at_it refl)))
     c.args.place c.requires.here.0 refl c.remove_write.new.self c.remove_write.ensures.cell c.wake_unless.new.self.stale (rw c.wake_unless.ensures.trace at c.wake_unless.ensures.stale)
     c.wake_unless.ensures.ahead s (rw c.is_needless-needless.ensures.trace lt)
@@ -55,9 +55,9 @@ returns-clause-kept c =
     let at_it : node_at c.args.write.0 b.trace.nodes ≡ Some (Write c.args.place c.requires.here.0) = there c.args.write.0 c.args.place c.requires.here.0 b.trace c.args.self.now.trace c.is_needless-needless.ensures.trace c.requires.here.1 in
     let before : Tables = tables c.args.self.now.trace c.args.self.now.mods c.reserve.new.self c.args.self.now.memo in
     rw (c.wake_unless.ensures.mods, c.wake_unless.ensures.memo)
-    (write-cut-kept c.is_needless-needless.new.self c.is_needless-needless.ensures.kept c.args.write.0 (Write c.args.place c.requires.here.0) at_it c.remove.new.self
-    (rw c.wake_unless.ensures.trace at c.remove.ensures.nodes) (rw c.wake_unless.ensures.trace at c.remove.ensures.others)
-    c.remove.ensures.whole (c.remove.ensures.closed (rw c.wake_unless.ensures.trace c.is_needless-needless.ensures.kept.step.closed)
+    (write-cut-kept c.is_needless-needless.new.self c.is_needless-needless.ensures.kept c.args.write.0 (Write c.args.place c.requires.here.0) at_it c.discard.new.self
+    (rw c.wake_unless.ensures.trace at c.discard.ensures.nodes) (rw c.wake_unless.ensures.trace at c.discard.ensures.others)
+    c.discard.ensures.whole (c.discard.ensures.closed (rw c.wake_unless.ensures.trace c.is_needless-needless.ensures.kept.step.closed)
     (rw c.wake_unless.ensures.trace (no-end c.args.write.0 (Write c.args.place c.requires.here.0) c.is_needless-needless.new.self.trace c.is_needless-needless.ensures.kept.step.whole at_it refl)))
     c.args.place c.requires.here.0 refl c.remove_write.new.self c.remove_write.ensures.cell c.wake_unless.new.self.stale
     c.wake_unless.ensures.more c.wake_unless.ensures.only

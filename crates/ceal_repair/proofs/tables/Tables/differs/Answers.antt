@@ -1,6 +1,6 @@
 use Rattle.std.proofs.Common.{arith}
-use Rattle.ceal_repair.proofs.Changing.{read-has}
-use Rattle.ceal_repair.proofs.TakingOut.{honest-read, stale-read}
+use Rattle.ceal_repair.proofs.QueueCover.NodeChanges.{read-has}
+use Rattle.ceal_repair.proofs.TableCalls.CutKeepsTables.{honest-read, stale-read}
 use Rattle.ceal_repair.proofs.tables.Tables.differs.Goals as goal
 
 pub value_at-now-requires-clause-here : goal.value_at-now-requires-clause-here

@@ -1,6 +1,6 @@
 use Rattle.ceal_trace.specs.Nodes.{stamps_in}
-use Rattle.ceal_repair.proofs.TakingOut.{as-tables}
-use Rattle.ceal_repair.proofs.Editing.{edit-base, edit-kept}
+use Rattle.ceal_repair.proofs.TableCalls.CutKeepsTables.{as-tables}
+use Rattle.ceal_repair.proofs.TableCalls.BaseEdit.{edit-base, edit-kept}
 use Rattle.ceal_repair.proofs.tables.Tables.edit.Goals as goal
 
 pub returns-clause-base : goal.returns-clause-base

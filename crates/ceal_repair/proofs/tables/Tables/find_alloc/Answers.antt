@@ -1,4 +1,4 @@
-use Rattle.ceal_repair.proofs.Finding.{found-as, allocs-listed, entries-there}
+use Rattle.ceal_repair.proofs.TableCalls.LookUp.{found-as, allocs-listed, entries-there}
 use Rattle.ceal_repair.specs.Lists.{allocates}
 use Rattle.ceal_repair.proofs.tables.Tables.find_alloc.Goals as goal
 

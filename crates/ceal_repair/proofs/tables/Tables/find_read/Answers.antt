@@ -1,4 +1,4 @@
-use Rattle.ceal_repair.proofs.Finding.{found-as, reads-listed, entries-there}
+use Rattle.ceal_repair.proofs.TableCalls.LookUp.{found-as, reads-listed, entries-there}
 use Rattle.ceal_repair.specs.Lists.{recalls}
 use Rattle.ceal_repair.proofs.tables.Tables.find_read.Goals as goal
 

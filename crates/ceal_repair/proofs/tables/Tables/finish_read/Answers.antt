@@ -1,9 +1,9 @@
 use Rattle.std.proofs.Common.{ℕ, refl}
 use Rattle.ceal_trace.specs.Nodes.{stamps_in}
 use Rattle.ceal_trace.specs.declared.node.Node.TheVariants.{End}
-use Rattle.ceal_repair.proofs.Changing.{read-has}
-use Rattle.ceal_repair.proofs.Keeping.{end-kept}
-use Rattle.ceal_repair.proofs.Steps.{behind-put}
+use Rattle.ceal_repair.proofs.QueueCover.NodeChanges.{read-has}
+use Rattle.ceal_repair.proofs.TableCalls.PutKeepsTables.{end-kept}
+use Rattle.ceal_repair.proofs.TableCalls.CallsKeepCover.{behind-put}
 use Rattle.ceal_repair.proofs.tables.Tables.finish_read.Goals as goal
 
 pub returns-clause-behind : goal.returns-clause-behind

@@ -1,6 +1,6 @@
 use Rattle.std.proofs.Common.{◌∙◌, arith}
-use Rattle.ceal_repair.proofs.Editing.{looking-first, none-late, popped-step, popped-covered, popped-read, looked-more, stale-same, nodes-same, if-none}
-use Rattle.ceal_repair.proofs.Keeping.{tables}
+use Rattle.ceal_repair.proofs.TableCalls.BaseEdit.{looking-first, none-late, popped-step, popped-covered, popped-read, looked-more, stale-same, nodes-same, if-none}
+use Rattle.ceal_repair.proofs.TableCalls.PutKeepsTables.{tables}
 use Rattle.ceal_repair.proofs.tables.Tables.first_stale.Goals as goal
 
 pub loop-looked-init : goal.loop-looked-init

@@ -1,5 +1,5 @@
 use Rattle.ceal_trace.specs.Nodes.{stamps_in}
-use Rattle.ceal_repair.proofs.TakingOut.{by-queue, behind-own, still-first}
+use Rattle.ceal_repair.proofs.TableCalls.CutKeepsTables.{by-queue, behind-own, still-first}
 use Rattle.ceal_repair.proofs.tables.Tables.hand_on.Goals as goal
 
 pub returns-then-unqueue-clause-ahead : goal.returns-then-unqueue-clause-ahead

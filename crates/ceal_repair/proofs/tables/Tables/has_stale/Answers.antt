@@ -1,9 +1,9 @@
 use Rattle.std.proofs.Common.{◌≡◌, ℕ, true, false, ◌∙◌, sym, arith}
 use Rattle.ceal_order.specs.Stamps.{is_in}
 use Rattle.ceal_trace.specs.Nodes.{stamps_in}
-use Rattle.ceal_repair.proofs.Editing.{looking-first, none-late, looked-more, stale-same}
-use Rattle.ceal_repair.proofs.Parting.{false-of}
-use Rattle.ceal_repair.proofs.TakingOut.{unqueued-honest}
+use Rattle.ceal_repair.proofs.TableCalls.BaseEdit.{looking-first, none-late, looked-more, stale-same}
+use Rattle.ceal_repair.proofs.Lists.PartedLists.{false-of}
+use Rattle.ceal_repair.proofs.TableCalls.CutKeepsTables.{unqueued-honest}
 use Rattle.ceal_repair.specs.Kept.{Kept, IsStale, IsHonestRecord}
 use Rattle.ceal_repair.specs.declared.tables.Tables.{Tables}
 use Rattle.ceal_repair.proofs.tables.Tables.has_stale.Goals as goal

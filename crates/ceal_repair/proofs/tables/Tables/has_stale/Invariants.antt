@@ -1,4 +1,4 @@
-use Rattle.ceal_repair.proofs.Editing.{Looking}
+use Rattle.ceal_repair.proofs.TableCalls.BaseEdit.{Looking}
 use Rattle.ceal_repair.proofs.tables.Tables.has_stale.Given as goal
 
 abbrev pub invariant-loop-looked : goal.invariant-loop-looked

@@ -2,10 +2,10 @@ use Rattle.std.proofs.Common.{sym, ap, ◌∙◌}
 use Rattle.ceal_order.specs.Stamps.{is_in}
 use Rattle.ceal_repair.specs.Kept.{base_in}
 use Rattle.ceal_trace.specs.Nodes.{stamps_in}
-use Rattle.ceal_repair.proofs.Changing.{read-has, covers-and}
-use Rattle.ceal_repair.proofs.TakingOut.{behind-own, still-first, unqueued-honest, same-queue, as-tables}
-use Rattle.ceal_repair.proofs.Editing.{honest-same}
-use Rattle.ceal_repair.proofs.Parting.{false-of}
+use Rattle.ceal_repair.proofs.QueueCover.NodeChanges.{read-has, covers-and}
+use Rattle.ceal_repair.proofs.TableCalls.CutKeepsTables.{behind-own, still-first, unqueued-honest, same-queue, as-tables}
+use Rattle.ceal_repair.proofs.TableCalls.BaseEdit.{honest-same}
+use Rattle.ceal_repair.proofs.Lists.PartedLists.{false-of}
 use Rattle.ceal_repair.proofs.tables.Tables.look.Goals as goal
 
 pub unqueue-requires-clause-here : goal.unqueue-requires-clause-here

@@ -1,6 +1,6 @@
 use Rattle.ceal_trace.specs.Nodes.{stamps_in}
-use Rattle.ceal_repair.proofs.Keeping.{tables}
-use Rattle.ceal_repair.proofs.Looking.{first-kept}
+use Rattle.ceal_repair.proofs.TableCalls.PutKeepsTables.{tables}
+use Rattle.ceal_repair.proofs.TableCalls.ContentAfter.{first-kept}
 use Rattle.ceal_repair.proofs.tables.Tables.new.Goals as goal
 
 pub returns-clause-kept : goal.returns-clause-kept

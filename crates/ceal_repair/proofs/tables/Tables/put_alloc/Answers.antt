@@ -1,9 +1,9 @@
 use Rattle.std.proofs.Common.{ℕ, refl}
 use Rattle.ceal_trace.specs.Nodes.{stamps_in}
 use Rattle.ceal_trace.specs.declared.node.Node.TheVariants.{Alloc}
-use Rattle.ceal_repair.proofs.Changing.{read-has}
-use Rattle.ceal_repair.proofs.Steps.{behind-put}
-use Rattle.ceal_repair.proofs.Keeping.{alloc-kept, no-entry}
+use Rattle.ceal_repair.proofs.QueueCover.NodeChanges.{read-has}
+use Rattle.ceal_repair.proofs.TableCalls.CallsKeepCover.{behind-put}
+use Rattle.ceal_repair.proofs.TableCalls.PutKeepsTables.{alloc-kept, no-entry}
 use Rattle.ceal_repair.proofs.tables.Tables.put_alloc.Goals as goal
 
 pub add-requires-clause-absent : goal.add-requires-clause-absent

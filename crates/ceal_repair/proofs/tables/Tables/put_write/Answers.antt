@@ -2,10 +2,10 @@ use Rattle.std.proofs.Common.{ℕ, refl}
 use Rattle.ceal_mods.specs.Mods.{cell_of}
 use Rattle.ceal_trace.specs.Nodes.{stamps_in}
 use Rattle.ceal_trace.specs.declared.node.Node.TheVariants.{Write}
-use Rattle.ceal_repair.proofs.Changing.{read-has}
-use Rattle.ceal_repair.proofs.TakingOut.{by-queue, as-tables}
-use Rattle.ceal_repair.proofs.Steps.{behind-put}
-use Rattle.ceal_repair.proofs.Keeping.{write-kept, is-free, bases-same}
+use Rattle.ceal_repair.proofs.QueueCover.NodeChanges.{read-has}
+use Rattle.ceal_repair.proofs.TableCalls.CutKeepsTables.{by-queue, as-tables}
+use Rattle.ceal_repair.proofs.TableCalls.CallsKeepCover.{behind-put}
+use Rattle.ceal_repair.proofs.TableCalls.PutKeepsTables.{write-kept, is-free, bases-same}
 use Rattle.ceal_mods.specs.Cell.{with_write}
 use Rattle.ceal_repair.proofs.tables.Tables.put_write.Goals as goal
 

@@ -1,4 +1,4 @@
-use Rattle.ceal_repair.proofs.Keeping.{steps-kept}
+use Rattle.ceal_repair.proofs.TableCalls.PutKeepsTables.{steps-kept}
 use Rattle.ceal_repair.proofs.tables.Tables.set_steps.Goals as goal
 
 pub returns-clause-kept : goal.returns-clause-kept

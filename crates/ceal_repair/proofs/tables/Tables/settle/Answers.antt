@@ -1,7 +1,7 @@
 use Rattle.std.proofs.Common.{ap, ◌∙◌}
 use Rattle.ceal_trace.specs.Nodes.{stamps_in, with_value}
-use Rattle.ceal_repair.proofs.Changing.{read-has}
-use Rattle.ceal_repair.proofs.TakingOut.{by-queue, behind-own, honest-read, stale-read, now-is, honest-kept, settled-kept}
+use Rattle.ceal_repair.proofs.QueueCover.NodeChanges.{read-has}
+use Rattle.ceal_repair.proofs.TableCalls.CutKeepsTables.{by-queue, behind-own, honest-read, stale-read, now-is, honest-kept, settled-kept}
 use Rattle.ceal_repair.proofs.tables.Tables.settle.Goals as goal
 
 pub wake-requires-clause-here : goal.wake-requires-clause-here

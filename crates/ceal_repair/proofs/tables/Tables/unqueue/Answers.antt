@@ -1,6 +1,6 @@
 use Rattle.std.proofs.Common.{refl, sym, ◌∙◌}
 use Rattle.ceal_trace.specs.Nodes.{stamps_in}
-use Rattle.ceal_repair.proofs.Editing.{pop-tells}
+use Rattle.ceal_repair.proofs.TableCalls.BaseEdit.{pop-tells}
 use Rattle.ceal_repair.proofs.tables.Tables.unqueue.Goals as goal
 
 pub returns-clause-was : goal.returns-clause-was

@@ -1,5 +1,5 @@
 use Rattle.std.proofs.Common.{◌∙◌}
-use Rattle.ceal_repair.proofs.Looking.{value-last, value-next}
+use Rattle.ceal_repair.proofs.TableCalls.ContentAfter.{value-last, value-next}
 use Rattle.ceal_repair.proofs.tables.Tables.value_behind.Goals as goal
 
 pub returns-in-None-clause-value : goal.returns-in-None-clause-value

@@ -3,14 +3,14 @@ use Rattle.ceal_trace.proofs.Shelving.{apart_less, put_fits, put_fresh, put_ther
 use Rattle.ceal_trace.proofs.shelf.Shelf.put.Goals as goal
 
 pub split-held-requires : goal.split-held-requires
-split-held-requires c =
+split-held-requires g c =
     let least = apart_less c.args.self.now.held c.args.self.now.apart c.requires.fit in
     let held = c.requires.held in
     let apart = c.requires.apart in
     omega arith
 
 pub returns : goal.returns
-returns c =
+returns g c =
     let s = c.split-held.ensures in
     let i = c.insert_reserved-key.ensures in
     record {

@@ -1,0 +1,130 @@
+-- The repair of INC after an edit: unit 0 reads its first parameter, and unit 1 writes one more than the value to the second.
+use Rattle.std.proofs.Common.{◌≡◌, ℕ, pos, Some, List, [], ◌∷◌, refl}
+use Rattle.ceal_base.specs.Block.{Block}
+use Rattle.ceal_base.specs.Trace.{Trace, Nothing, Stepped, Wrote, WasRead, flat}
+use Rattle.ceal_base.specs.declared.kind.Kind.TheVariants.{Int, ModInt as ModIntKind}
+use Rattle.ceal_base.specs.declared.kind.Shape.TheVariants.{ModInt}
+use Rattle.ceal_base.specs.declared.operators.Binary.TheVariants.{Add}
+use Rattle.ceal_base.specs.declared.word.BlockId.TheVariants.{Input, Core}
+use Rattle.ceal_base.specs.declared.word.Place.{Place}
+use Rattle.ceal_base.specs.declared.word.Word.{Word}
+use Rattle.ceal_base.specs.declared.word.Word.TheVariants.{Num, At}
+use Rattle.ceal_code.specs.Program.{Code}
+use Rattle.ceal_code.specs.declared.command.Cmd.TheVariants.{Write, Done, Read}
+use Rattle.ceal_code.specs.declared.expr.CodeExpr.TheBlock.{hidden-the_row-CodeExpr-0, shape-the_row-CodeExpr-0}
+use Rattle.ceal_code.specs.declared.expr.CodeExpr.TheVariants.{Var, Num as NumExpr}
+use Rattle.ceal_code.specs.declared.expr.CodeExpr.TheViews.{Binary}
+use Rattle.ceal_code.specs.declared.expr.VarId.{VarId}
+use Rattle.ceal_code.specs.declared.function.FunctionCode.TheVariants.{Core as CoreFunction}
+use Rattle.ceal_base.specs.declared.forest.Item.TheVariants as item
+use Rattle.ceal_code.specs.Fresh.{fresh, run}
+use Rattle.ceal_code.specs.Replay.{bases, input_plain, plain_of, stored, learnt}
+use Rattle.ceal_code.specs.Step.{settled, next, chosen, bound, woven}
+use Rattle.ceal_code.specs.Value.{expr_value, values, set, unset}
+use Rattle.ceal_code.specs.declared.stack.Closure.{Closure}
+use Rattle.ceal_adjust.specs.Answers.{IsAnswer}
+use Rattle.ceal_adjust.specs.Closures.{find_closure, mark_of_read}
+use Rattle.ceal_adjust.specs.KnownBlocks.{nothing, knowing}
+use Rattle.ceal_adjust.specs.Marks.{mark_of, depth, depths}
+use Rattle.ceal_adjust.specs.Slicing.{Comes}
+use Rattle.ceal_adjust.specs.declared.adjust.Adjusted.TheVariants.{Done as IsDone, OutOfFuel}
+use Rattle.ceal_adjust.specs.declared.mark.Mark.TheVariants.{Closed}
+use Rattle.ceal_adjust.specs.declared.slices.Sliced.TheVariants.{Done as Ends, Spent}
+use Rattle.ceal_theory.specs.Computed.{anew, adjusted}
+use Rattle.ceal_theory.specs.Levels.{find_read}
+use Rattle.ceal_theory.specs.Slices.{beginning, sliced, is_done, with_inputs, starting}
+
+abbrev var : ℕ → VarId
+var n = record { 0 = n }
+
+abbrev inc : Code
+inc = record {
+  structs = [];
+  functions = CoreFunction (105 ∷ 110 ∷ 99 ∷ []) (record { 0 = 0 }) (ModIntKind ∷ ModIntKind ∷ []) ∷ [];
+  units =
+      record { function = 0; params = var 0 ∷ var 1 ∷ []; body = Read (var 2) (Var (var 0)) (record { 0 = 1 }) (Var (var 1) ∷ []) ∷ [] }
+      ∷ record { function = 0; params = var 1 ∷ var 2 ∷ []; body = Write (Var (var 1)) (Binary Add (Var (var 2)) (NumExpr (pos 1))) ∷ Done ∷ [] }
+      ∷ [];
+  kinds = (ModIntKind ∷ ModIntKind ∷ Int ∷ []) ∷ [];
+}
+
+abbrev place : ℕ → Place
+place n = record { block = Input n; field = 0 }
+
+abbrev inputs : ℕ → ℕ → List Block
+inputs a b = record { shape = ModInt; words = Num (pos a) ∷ [] } ∷ record { shape = ModInt; words = Num (pos b) ∷ [] } ∷ []
+
+abbrev args : List Word
+args = At (place 0) ∷ At (place 1) ∷ []
+
+-- a read of a, and a write of b
+abbrev items : ℕ → ℕ → Trace
+items a b = Stepped (WasRead (place 0) (Num (pos a)) (record { 0 = 1 }) 2 (At (place 1) ∷ []) (Stepped (Wrote (place 1) (Num (pos b)) Nothing)) Nothing)
+
+-- the trace of a run on 4 is repaired where a is 9: one step runs anew
+repaired : IsAnswer (adjusted inc (inputs 9 0) 0 2 (items 4 5)) (fresh inc 0 args (inputs 9 0) 2) (IsDone (flat (items 9 10)) 1)
+unfolding adjusted anew fresh run next settled chosen bound woven set unset expr_value values bases input_plain plain_of stored hidden-the_row-CodeExpr-0 shape-the_row-CodeExpr-0 denote.Hole.Carrier.hidden
+repaired = record {
+  items = items 9 10;
+  flat_form = refl;
+  same = refl;
+  finished = record { memory = record { inputs = inputs 9 10; made = [] }; steps = 2; blocks = 0 };
+  ends = refl;
+}
+
+-- nothing has changed: nothing runs anew
+unchanged : IsAnswer (adjusted inc (inputs 4 7) 0 2 (items 4 5)) (fresh inc 0 args (inputs 4 7) 2) (IsDone (flat (items 4 5)) 0)
+unfolding adjusted anew fresh run next settled chosen bound woven set unset expr_value values bases input_plain plain_of stored hidden-the_row-CodeExpr-0 shape-the_row-CodeExpr-0 denote.Hole.Carrier.hidden
+unchanged = record {
+  items = items 4 5;
+  flat_form = refl;
+  same = refl;
+  finished = record { memory = record { inputs = inputs 4 5; made = [] }; steps = 2; blocks = 0 };
+  ends = refl;
+}
+
+-- a run from scratch takes two steps, and with fuel for one there is no repair
+out_of_fuel : IsAnswer (adjusted inc (inputs 9 0) 0 1 (items 4 5)) (fresh inc 0 args (inputs 9 0) 1) OutOfFuel
+unfolding adjusted anew fresh run next settled chosen bound woven set unset expr_value values bases input_plain plain_of stored hidden-the_row-CodeExpr-0 shape-the_row-CodeExpr-0 denote.Hole.Carrier.hidden
+out_of_fuel = refl
+
+-- the same in a slice of one read, after which none is stale
+in_a_slice : Comes inc (inputs 9 0) (Some 1) 2 (beginning inc (inputs 9 0) (items 4 5) 0) (Ends (record { forest = flat (items 9 10); known = []; next = 0; spent = 1 }))
+unfolding sliced is_done with_inputs starting anew knowing next settled chosen bound woven set unset expr_value values bases input_plain plain_of stored hidden-the_row-CodeExpr-0 shape-the_row-CodeExpr-0 denote.Hole.Carrier.hidden
+in_a_slice = record {
+  repair = record { items = items 9 10; known = with_inputs inc (inputs 9 0) (plain_of inc (inputs 9 0) (items 4 5)); number = 0; spent = 1 };
+  is = refl;
+  stands = record { items = refl; known = λ b. refl; next = refl; spent = refl };
+  ends = refl;
+}
+
+-- without a step no slice is there
+no_slice : Comes inc (inputs 9 0) (Some 1) 0 (beginning inc (inputs 9 0) (items 4 5) 0) Spent
+unfolding sliced with_inputs starting anew next settled chosen bound woven set unset expr_value values bases input_plain plain_of stored hidden-the_row-CodeExpr-0 shape-the_row-CodeExpr-0 denote.Hole.Carrier.hidden
+no_slice = refl
+
+-- the read is found by its closure, and behind it one level is left over around the items inside
+abbrev closure : Closure
+closure = record { place = place 0; unit = record { 0 = 1 }; var = 2; args = At (place 1) ∷ [] }
+
+found : find_closure closure 1 (flat (items 4 5))
+    ≡ Some (record { value = Num (pos 4); rest = item.Step ∷ item.Write (place 1) (Num (pos 5)) ∷ item.End ∷ []; levels = 1 })
+unfolding find_read
+found = refl
+
+its_mark : mark_of (item.Read (place 0) (Num (pos 4)) (record { 0 = 1 }) 2 (At (place 1) ∷ [])) 1 ≡ Some (mark_of_read closure)
+its_mark = refl
+
+-- the end of the read leads back to one level less
+its_end : mark_of item.End 2 ≡ Some (Closed 1)
+its_end = refl
+
+-- step, read, step, write and end: the read is open after its item, and up to its end
+open_reads : depths (flat (items 4 5)) 5 ≡ 5 ∷ 5 ∷ 6 ∷ 6 ∷ 6 ∷ []
+unfolding depths depth
+open_reads = refl
+
+-- a core block with its number
+a_block : knowing nothing (record { number = 3; block = record { shape = ModInt; words = [] } } ∷ []) (Core 3) ≡ Some (record { shape = ModInt; words = [] })
+unfolding knowing learnt
+a_block = refl

@@ -1,0 +1,6 @@
+-- The lists of a place and of a key, as the nodes give them.
+-- what crates above cite
+pub mod ListChanges
+pub mod PartedLists
+-- what this crate alone cites
+pub mod ListsOfNodes

@@ -1,0 +1,12 @@
+-- Change propagation, turn by turn, and its slices.
+-- what this crate alone cites
+pub mod KeptRun
+pub mod TurnBegin
+pub mod TurnAgreement
+pub mod TurnCourse
+pub mod TurnEnd
+pub mod NewBlockNumbers
+pub mod StaleNotDone
+pub mod UpToDateHonest
+pub mod UpToDateRun
+pub mod SlicesOfRun

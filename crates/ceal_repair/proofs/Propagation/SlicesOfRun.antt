@@ -1,0 +1,171 @@
+-- Slices from a run that stands for a repair.
+use Rattle.std.proofs.Common.{◌≡◌, ◌≢◌, ℕ, zero, suc, ◌≤◌, ◌<◌, Option, Some, None, List, [], ◌∷◌, inl, inr, ◌⊎◌, refl, sym, ap, ◌∙◌, subst, arith}
+use Rattle.std.proofs.lemmas.Bool.{cases_order}
+use Rattle.std.proofs.lemmas.Bool.Decides.{eqb_tells}
+use Rattle.std.specs.Prelude.{IsSome}
+use Rattle.ceal_base.specs.Block.{Block}
+use Rattle.ceal_base.specs.declared.word.BlockId.TheVariants.{Core}
+use Rattle.ceal_base.specs.declared.word.Word.{Word}
+use Rattle.ceal_code.specs.Program.{Code}
+use Rattle.ceal_code.specs.Replay.{In, here, there, IsHonest, count}
+use Rattle.ceal_heap.specs.Heap.{block_of, plain_block, Known}
+use Rattle.ceal_repair.proofs.Propagation.NewBlockNumbers.{GoesOn, goes-on}
+use Rattle.ceal_repair.specs.Propagation.{HasCome, IsUpToDate, IsUnderWay, IsSpent, IsWithin, IsLess}
+use Rattle.ceal_repair.proofs.Propagation.KeptRun.{same-running}
+use Rattle.ceal_repair.specs.Answers.{IsRunOf}
+use Rattle.ceal_repair.specs.Repairs.{code_of, inputs_of}
+use Rattle.ceal_repair.specs.Slicing.{IsPartRun, IsSliceOf, IsConcluded, IsSliced}
+use Rattle.ceal_repair.specs.declared.repair.Repair.{Repair as RepairInCode}
+use Rattle.ceal_repair.specs.declared.slice.Sliced.{Sliced}
+use Rattle.ceal_repair.specs.declared.slice.Sliced.TheVariants.{More, Done, Spent, OutOfFuel}
+use Rattle.ceal_repair.specs.Turning.{Since, turns_more, later, NamesOff, IsOrigin, StandsFor}
+use Rattle.ceal_repair.specs.declared.running.Running.{Running}
+use Rattle.ceal_theory.specs.Carried.{counted_anew}
+use Rattle.ceal_theory.proofs.SlicedRepair.SliceLaws.{other-names-law, slices-law, turns-law}
+use Rattle.ceal_theory.specs.SliceLaws.{Turned, Turns}
+use Rattle.ceal_theory.specs.Slices.{Repair, Slices, repair_at, goes_on, with_inputs}
+
+in-count : (b : ℕ) (bs : List ℕ) → In b bs → 1 ≤ count b bs
+in-count b [] i = elim i [ ]
+in-count b (c ∷ bs) here = elim (eqb_tells b b) [ inl e ↦ rw e.0 (omega arith) | inr e ↦ absurd (e.1 refl) ]
+in-count b (c ∷ bs) (there i) = elim (eqb_tells c b) [ inl e ↦ rw e.0 (omega arith) | inr e ↦ rw e.0 (omega (arith, in-count b bs i)) ]
+
+no-turns-more : (n : ℕ) → turns_more n 0 ≡ n
+no-turns-more zero = refl
+no-turns-more (suc n) = ap suc (no-turns-more n)
+
+there-in : (o : Option Known) (block : Block) → Rattle.std.specs.Option.option_map plain_block o ≡ Some block → IsSome o
+there-in None block e = absurd cc
+there-in (Some k) block e = cc
+
+module _ (code : Code) (inputs : List Block) (f : ℕ) (args : List Word) (fuel : ℕ) (r : Repair) (run : Running) (part : IsPartRun code inputs f args fuel r run) where
+  abbrev pub since : Since
+  since = record { repair = counted_anew r; first = part.stands.sound.blocks; turns = 0 }
+
+  -- a name that is none of the known blocks is not known
+  pub not-known : (names : ℕ → ℕ) → NamesOff names part.stands.sound.blocks → (k : ℕ) → r.known (Core (names k)) ≡ None
+  not-known names off k = of (r.known (Core (names k))) refl
+    where
+      of : (o : Option Block) → r.known (Core (names k)) ≡ o → r.known (Core (names k)) ≡ None
+      of None e = e
+      of (Some block) e = absurd (omega (arith, off k, in-count (names k) part.stands.sound.blocks (part.stands.sound.all (names k) block e)))
+
+  pub origin : IsOrigin code inputs f args since
+  origin = record {
+    fits = part.fits;
+    sound = λ names single off. other-names-law code part.stands.names names inputs f args r part.stands.sound single 0 (λ k h. not-known names off k);
+  }
+
+  abbrev some_names : GoesOn [] part.stands.sound.blocks
+  some_names = goes-on part.stands.sound.blocks [] (λ b. omega arith) (λ b i. absurd (elim i [ ]))
+
+  stands : StandsFor code inputs f args (counted_anew r) run
+  stands = record {
+    kept = part.stands.kept;
+    nests = part.stands.nests;
+    items = part.stands.items;
+    known = part.stands.known;
+    blocks = part.stands.blocks;
+    spent = part.stands.spent;
+    names = some_names.names;
+    sound = origin.sound some_names.names some_names.single some_names.apart;
+  }
+
+  known-there : (b : ℕ) → In b part.stands.sound.blocks → (block : Block) × (r.known (Core b) ≡ Some block)
+  unfolding with_inputs
+  known-there b i = let h = part.stands.sound.holds (Core b) i in (h.block, h.there)
+
+  still : (b : ℕ) → In b part.stands.sound.blocks → IsSome (block_of run.heap (Core b))
+  still b i = let k = known-there b i in there-in (block_of run.heap (Core b)) k.0 (sym (part.stands.known b) ∙ k.1)
+
+  -- no turn was made yet
+  pub begun : HasCome code inputs f args since run run
+  begun = record {
+    called = origin;
+    items = part.stands.items;
+    so_far = record {
+      repair = counted_anew r;
+      stands = stands;
+      chosen = [];
+      number = refl;
+      given = record { distinct = λ b. omega arith; apart = λ b i. absurd (elim i [ ]); there = λ b i. absurd (elim i [ ]); still = still };
+      history = λ names go. Turns.none;
+    };
+    front = λ front back e agrees. (back, e);
+    unchanged = λ h. (refl, sym part.stands.spent);
+  }
+
+  -- after some turns
+  module _ (before now : Running) (n : ℕ) (come : HasCome code inputs f args (later n since) before now) where
+    abbrev pub last : Repair
+    last = come.so_far.repair
+
+    abbrev pub going_on : GoesOn come.so_far.chosen part.stands.sound.blocks
+    going_on = goes-on part.stands.sound.blocks come.so_far.chosen come.so_far.given.distinct come.so_far.given.apart
+
+    turned : Turned code going_on.names inputs n (counted_anew r) last
+    turned = subst (λ m. Turned code going_on.names inputs m (counted_anew r) last) (no-turns-more n)
+        (turns-law code going_on.names inputs f args part.fits (counted_anew r) (origin.sound going_on.names going_on.single going_on.apart) (turns_more n 0) last (come.so_far.history going_on.names going_on.continues))
+
+    within : (reads : Option ℕ) (z : Repair) → Slices code going_on.names inputs reads (counted_anew r) z → z.spent ≤ fuel → IsSliceOf code inputs reads fuel r (Some z)
+    within reads z s few = record {
+      names = going_on.names;
+      single = going_on.single;
+      off = not-known going_on.names going_on.apart;
+      is = (slices-law code going_on.names inputs reads fuel (counted_anew r) z).1 (s, few);
+    }
+
+    spent-few : now.spent ≤ fuel → last.spent ≤ fuel
+    spent-few h = omega (arith, h, come.so_far.stands.spent)
+
+    -- as many as there were to be
+    pub is-slice : 1 ≤ n → now.spent ≤ fuel → IsSliceOf code inputs (Some n) fuel r (Some last)
+    is-slice h few = within (Some n) last (turned.many h) (spent-few few)
+
+    pub is-part : now.spent ≤ fuel → IsPartRun code inputs f args fuel last now
+    is-part few = record { fits = part.fits; stands = come.so_far.stands; few = few }
+
+    -- to the end: what it is a slice to, which has the same items and has spent as much
+    pub is-whole : IsHonest code inputs last.items → (reads : Option ℕ) → reads ≢ Some 0 → IsWithin n reads → now.spent ≤ fuel
+        → (z : Repair) × IsSliceOf code inputs reads fuel r (Some z) × (z.items ≡ last.items) × (z.spent ≡ last.spent)
+    is-whole honest None some less few = (repair_at (goes_on code inputs last) last.items, within None (repair_at (goes_on code inputs last) last.items) (turned.whole honest) (spent-few few), refl, refl)
+    is-whole honest (Some k) some less few = of (cases_order n k)
+      where
+        of : (n ≡ k) ⊎ ((n < k) ⊎ (k < n)) → (z : Repair) × IsSliceOf code inputs (Some k) fuel r (Some z) × (z.items ≡ last.items) × (z.spent ≡ last.spent)
+        of (inl e) = (last, subst (λ k. IsSliceOf code inputs (Some k) fuel r (Some last)) e (is-slice (at-least n (λ z. some (ap Some (sym e ∙ z)))) few), refl, refl)
+          where
+            at-least : (n : ℕ) → (n ≡ 0 → ⊥) → 1 ≤ n
+            at-least zero h = absurd (h refl)
+            at-least (suc n) h = omega arith
+        of (inr (inl l)) = (repair_at (goes_on code inputs last) last.items, within (Some k) (repair_at (goes_on code inputs last) last.items) (turned.ended honest k l) (spent-few few), refl, refl)
+        of (inr (inr g)) = absurd (omega (arith, less, g))
+
+  -- too many steps were spent
+  pub is-over : (n : ℕ) (reads : Option ℕ) → IsLess n reads → IsSpent code inputs fuel (later n since) → IsSliceOf code inputs reads fuel r None
+  is-over n None h s = record { names = s.names; single = s.single; off = not-known s.names s.off; is = s.whole }
+  is-over n (Some k) h s = record { names = s.names; single = s.single; off = not-known s.names s.off; is = s.part k (omega (arith, h, no-turns-more n)) }
+
+  -- a repair in code that begins with the run
+  pub begun-in : (rep : RepairInCode) → code_of rep ≡ code → inputs_of rep ≡ inputs → rep.running.tables ≡ run.tables → rep.running.heap ≡ run.heap → rep.running.spent ≡ run.spent
+      → HasCome (code_of rep) (inputs_of rep) f args since run rep.running
+  begun-in rep same_code same_inputs tables heap spent = rw (same_code, same_inputs, same-running rep.running run tables heap spent) begun
+
+  module _ (before now : Running) (n : ℕ) (done : IsUpToDate code inputs f args (later n since) before now) (reads : Option ℕ) (some : reads ≢ Some 0) (less : IsWithin n reads) (few : now.spent ≤ fuel) where
+    pub concluded : (s : Sliced) → IsConcluded code inputs f args fuel done.come.so_far.repair.items now.spent s → IsSliced code inputs f args reads fuel r s
+    concluded (More z) h = absurd h
+    concluded (Done z) h =
+        let w = is-whole before now n done.come done.honest reads some less few in
+        (w.0, w.1, subst (λ m. IsRunOf code inputs f args fuel m z) (sym w.2) h.0, h.1 ∙ (sym done.come.so_far.stands.spent ∙ sym w.3))
+    concluded Spent h = absurd h
+    concluded OutOfFuel h =
+        let w = is-whole before now n done.come done.honest reads some less few in
+        (w.0, w.1, subst (λ m. IsHonest code inputs m) (sym w.2) done.honest, h)
+
+  at-least : (n : ℕ) → ¬ (n ≡ 0) → 1 ≤ n
+  at-least zero h = absurd (h refl)
+  at-least (suc n) h = omega arith
+
+  pub goes-on-so : (before now : Running) (n : ℕ) → IsUnderWay code inputs f args (later n since) before now → (reads : Option ℕ) → reads ≢ Some 0 → reads ≡ Some n → now.spent ≤ fuel → IsSliced code inputs f args reads fuel r (More now)
+  goes-on-so before now n way reads some e few =
+      let s = is-slice before now n way.come (at-least n (λ z. some (e ∙ ap Some z))) few in
+      (last before now n way.come, subst (λ k. IsSliceOf code inputs k fuel r (Some (last before now n way.come))) (sym e) s, way.stale, is-part before now n way.come few)

@@ -1,0 +1,15 @@
+-- A unit that runs, from nothing or in a repair: its steps, blocks, reads and bases.
+-- what crates above cite
+pub mod NewBlock
+-- what this crate alone cites
+pub mod UnitSteps
+pub mod RepairView
+pub mod RunStart
+pub mod RunBlocks
+pub mod RunEnd
+pub mod NewRead
+pub mod NewReadEnd
+pub mod BlockBases
+pub mod InputPlaces
+pub mod NextAct
+pub mod RepeatedTurns

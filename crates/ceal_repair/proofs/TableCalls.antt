@@ -1,0 +1,8 @@
+-- Each call of the tables keeps them in step and the stale reads covered.
+-- what this crate alone cites
+pub mod PutKeepsTables
+pub mod CutKeepsTables
+pub mod CallsKeepCover
+pub mod BaseEdit
+pub mod LookUp
+pub mod ContentAfter

@@ -1,0 +1,6 @@
+-- What an engine does to its nodes, as the machine sees it.
+-- what crates above cite
+pub mod EngineMoves
+pub mod TurnCourse
+-- what this crate alone cites
+pub mod Layers

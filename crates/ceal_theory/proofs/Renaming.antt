@@ -1,0 +1,12 @@
+-- The numbers of core blocks, renamed one to one.
+-- what crates above cite
+pub mod GivenNumbers
+-- what this crate alone cites
+pub mod NamedBeginning
+pub mod FlippedPairs
+pub mod RenamedTrace
+pub mod RenamedWalk
+pub mod RepairSideBySide
+pub mod RenamedRepair
+pub mod RenamedSlice
+pub mod RenamedSoundness

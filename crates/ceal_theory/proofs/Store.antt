@@ -1,0 +1,14 @@
+-- The store along items: contents, plain words, inputs, and what is known.
+-- what crates above cite
+pub mod Walk
+pub mod KnownContent
+pub mod KnownPlaces
+pub mod KnownBlocks
+pub mod WordsOfWalk
+pub mod WordsGrow
+pub mod FittingInputs
+pub mod MoreInputs
+pub mod WritesByPlace
+-- what this crate alone cites
+pub mod EqualContents
+pub mod Mentions
