@@ -1,22 +1,13 @@
 -- The repair of INC after an edit: unit 0 reads its first parameter, and unit 1 writes one more than the value to the second.
-use Rattle.std.proofs.Common.{◌≡◌, ℕ, pos, Some, List, [], ◌∷◌, refl}
-use Rattle.ceal_base.specs.Block.{Block}
-use Rattle.ceal_base.specs.Trace.{Trace, Nothing, Stepped, Wrote, WasRead, flat}
-use Rattle.ceal_base.specs.declared.kind.Kind.TheVariants.{Int, ModInt as ModIntKind}
+use Rattle.std.proofs.Common.{◌≡◌, pos, Some, [], ◌∷◌, refl}
+use Rattle.ceal_base.specs.Trace.{flat}
 use Rattle.ceal_base.specs.declared.kind.Shape.TheVariants.{ModInt}
-use Rattle.ceal_base.specs.declared.operators.Binary.TheVariants.{Add}
-use Rattle.ceal_base.specs.declared.word.BlockId.TheVariants.{Input, Core}
-use Rattle.ceal_base.specs.declared.word.Place.{Place}
-use Rattle.ceal_base.specs.declared.word.Word.{Word}
+use Rattle.ceal_base.specs.declared.word.BlockId.TheVariants.{Core}
 use Rattle.ceal_base.specs.declared.word.Word.TheVariants.{Num, At}
-use Rattle.ceal_code.specs.Program.{Code}
-use Rattle.ceal_code.specs.declared.command.Cmd.TheVariants.{Write, Done, Read}
+use Rattle.ceal_code.specs.declared.command.Cmd.TheVariants.{Write, Read}
 use Rattle.ceal_code.specs.declared.expr.CodeExpr.TheBlock.{hidden-the_row-CodeExpr-0, shape-the_row-CodeExpr-0}
-use Rattle.ceal_code.specs.declared.expr.CodeExpr.TheVariants.{Var, Num as NumExpr}
-use Rattle.ceal_code.specs.declared.expr.CodeExpr.TheViews.{Binary}
-use Rattle.ceal_code.specs.declared.expr.VarId.{VarId}
-use Rattle.ceal_code.specs.declared.function.FunctionCode.TheVariants.{Core as CoreFunction}
 use Rattle.ceal_base.specs.declared.forest.Item.TheVariants as item
+use Rattle.ceal_code.proofs.Replay.Increment.{var, inc, place, inputs, args, items}
 use Rattle.ceal_code.specs.Fresh.{fresh, run}
 use Rattle.ceal_code.specs.Replay.{bases, input_plain, plain_of, stored, learnt}
 use Rattle.ceal_code.specs.Step.{settled, next, chosen, bound, woven}
@@ -33,33 +24,6 @@ use Rattle.ceal_adjust.specs.declared.slices.Sliced.TheVariants.{Done as Ends, S
 use Rattle.ceal_theory.specs.Computed.{anew, adjusted}
 use Rattle.ceal_theory.specs.Levels.{find_read}
 use Rattle.ceal_theory.specs.Slices.{beginning, sliced, is_done, with_inputs, starting}
-
-abbrev var : ℕ → VarId
-var n = record { 0 = n }
-
-abbrev inc : Code
-inc = record {
-  structs = [];
-  functions = CoreFunction (105 ∷ 110 ∷ 99 ∷ []) (record { 0 = 0 }) (ModIntKind ∷ ModIntKind ∷ []) ∷ [];
-  units =
-      record { function = 0; params = var 0 ∷ var 1 ∷ []; body = Read (var 2) (Var (var 0)) (record { 0 = 1 }) (Var (var 1) ∷ []) ∷ [] }
-      ∷ record { function = 0; params = var 1 ∷ var 2 ∷ []; body = Write (Var (var 1)) (Binary Add (Var (var 2)) (NumExpr (pos 1))) ∷ Done ∷ [] }
-      ∷ [];
-  kinds = (ModIntKind ∷ ModIntKind ∷ Int ∷ []) ∷ [];
-}
-
-abbrev place : ℕ → Place
-place n = record { block = Input n; field = 0 }
-
-abbrev inputs : ℕ → ℕ → List Block
-inputs a b = record { shape = ModInt; words = Num (pos a) ∷ [] } ∷ record { shape = ModInt; words = Num (pos b) ∷ [] } ∷ []
-
-abbrev args : List Word
-args = At (place 0) ∷ At (place 1) ∷ []
-
--- a read of a, and a write of b
-abbrev items : ℕ → ℕ → Trace
-items a b = Stepped (WasRead (place 0) (Num (pos a)) (record { 0 = 1 }) 2 (At (place 1) ∷ []) (Stepped (Wrote (place 1) (Num (pos b)) Nothing)) Nothing)
 
 -- the trace of a run on 4 is repaired where a is 9: one step runs anew
 repaired : IsAnswer (adjusted inc (inputs 9 0) 0 2 (items 4 5)) (fresh inc 0 args (inputs 9 0) 2) (IsDone (flat (items 9 10)) 1)

@@ -6,6 +6,7 @@ pub mod FinalMemory
 pub mod ReplayedCall
 pub mod AfterLaws
 pub mod RunEnds
+pub mod Increment
 -- what this crate alone cites
 pub mod StackOver
 pub mod Samples

@@ -2,54 +2,19 @@
 -- unit 1 writes one more than the value to the second.
 use Rattle.std.proofs.Common.{◌≡◌, ℕ, pos, Some, None, List, [], ◌∷◌, refl, ap}
 use Rattle.ceal_base.specs.Block.{Block}
-use Rattle.ceal_base.specs.Trace.{Trace, Nothing, Stepped, Wrote, WasRead, Allocated, flat}
-use Rattle.ceal_base.specs.declared.kind.Kind.TheVariants.{Int, ModInt as ModIntKind}
-use Rattle.ceal_base.specs.declared.kind.Shape.TheVariants.{ModInt}
-use Rattle.ceal_base.specs.declared.operators.Binary.TheVariants.{Add}
-use Rattle.ceal_base.specs.declared.word.BlockId.TheVariants.{Input, Core}
+use Rattle.ceal_base.specs.Trace.{Trace, Nothing, Stepped, Wrote, Allocated, flat}
+use Rattle.ceal_base.specs.declared.word.BlockId.TheVariants.{Core}
 use Rattle.ceal_base.specs.declared.word.Place.{Place}
 use Rattle.ceal_base.specs.declared.word.Word.{Word}
 use Rattle.ceal_base.specs.declared.word.Word.TheVariants.{Num, At}
-use Rattle.ceal_code.specs.Program.{Code}
-use Rattle.ceal_code.specs.declared.command.Cmd.TheVariants.{Write, Done, Read}
-use Rattle.ceal_code.specs.declared.expr.CodeExpr.TheVariants.{Var, Num as NumExpr}
-use Rattle.ceal_code.specs.declared.expr.CodeExpr.TheViews.{Binary}
-use Rattle.ceal_code.specs.declared.expr.VarId.{VarId}
-use Rattle.ceal_code.specs.declared.function.FunctionCode.TheVariants.{Core as CoreFunction}
 use Rattle.ceal_base.specs.declared.call.Call.{Call}
 use Rattle.ceal_base.specs.declared.forest.Key.TheVariants.{ModInt as IntKey}
 use Rattle.ceal_base.specs.declared.recorded.Record.{Record}
+use Rattle.ceal_code.proofs.Replay.Increment.{inc, place, inputs, args, items}
 use Rattle.ceal_code.specs.Replay.{bases, stored}
 use Rattle.ceal_code.specs.Step.{first_word}
 use Rattle.ceal_record.specs.Numbers.{place_in}
 use Rattle.ceal_record.specs.Recorded.{in_order, left_by, IsRecordOf}
-
-abbrev var : ℕ → VarId
-var n = record { 0 = n }
-
-abbrev inc : Code
-inc = record {
-  structs = [];
-  functions = CoreFunction (105 ∷ 110 ∷ 99 ∷ []) (record { 0 = 0 }) (ModIntKind ∷ ModIntKind ∷ []) ∷ [];
-  units =
-      record { function = 0; params = var 0 ∷ var 1 ∷ []; body = Read (var 2) (Var (var 0)) (record { 0 = 1 }) (Var (var 1) ∷ []) ∷ [] }
-      ∷ record { function = 0; params = var 1 ∷ var 2 ∷ []; body = Write (Var (var 1)) (Binary Add (Var (var 2)) (NumExpr (pos 1))) ∷ Done ∷ [] }
-      ∷ [];
-  kinds = (ModIntKind ∷ ModIntKind ∷ Int ∷ []) ∷ [];
-}
-
-abbrev place : ℕ → Place
-place n = record { block = Input n; field = 0 }
-
-abbrev inputs : ℕ → ℕ → List Block
-inputs a b = record { shape = ModInt; words = Num (pos a) ∷ [] } ∷ record { shape = ModInt; words = Num (pos b) ∷ [] } ∷ []
-
-abbrev args : List Word
-args = At (place 0) ∷ At (place 1) ∷ []
-
--- a read of a, and a write of b
-abbrev items : ℕ → ℕ → Trace
-items a b = Stepped (WasRead (place 0) (Num (pos a)) (record { 0 = 1 }) 2 (At (place 1) ∷ []) (Stepped (Wrote (place 1) (Num (pos b)) Nothing)) Nothing)
 
 abbrev call : Call
 call = record { function = 0; args = args }

@@ -6,52 +6,30 @@ use Rattle.ceal_base.specs.Trace.{Trace, Nothing, Stepped, Wrote, WasRead}
 use Rattle.ceal_base.specs.declared.kind.FieldKind.TheVariants.{Plain as PlainField, CellInt, CellPtr}
 use Rattle.ceal_base.specs.declared.kind.Kind.TheVariants.{Int, Ptr, ModInt as ModIntKind}
 use Rattle.ceal_base.specs.declared.kind.Shape.TheVariants.{ModInt}
-use Rattle.ceal_base.specs.declared.operators.Binary.TheVariants.{Add, Pick}
+use Rattle.ceal_base.specs.declared.operators.Binary.TheVariants.{Pick}
 use Rattle.ceal_base.specs.declared.typed.StructInfo.{StructInfo}
-use Rattle.ceal_base.specs.declared.word.BlockId.TheVariants.{Input}
-use Rattle.ceal_base.specs.declared.word.Place.{Place}
 use Rattle.ceal_base.specs.declared.word.Word.{Word}
 use Rattle.ceal_base.specs.declared.word.Word.TheVariants.{Num, At}
+use Rattle.ceal_code.proofs.Replay.Increment.{var, inc, place, args}
 use Rattle.ceal_code.specs.Fresh.{fresh, run}
 use Rattle.ceal_code.specs.Program.{Code}
 use Rattle.ceal_code.specs.Replay.{Yields, Honest, plain_of, bases, stored}
 use Rattle.ceal_code.specs.Step.{started, settled, next, chosen, bound, woven}
 use Rattle.ceal_code.specs.Valid.{valid, structs_ok, functions_ok, units_ok, unit_ok, is_prefix, kinds_ok, below, all_forward, is_tree, reached, all_followers, all_true, paths_ok, with_params, type_of, params_fit, others, row_goes_on, rows_ok}
 use Rattle.ceal_code.specs.Value.{expr_value, values, set, unset}
-use Rattle.ceal_code.specs.declared.command.Cmd.TheVariants.{Write, If, Done, Read, Call}
+use Rattle.ceal_code.specs.declared.command.Cmd.TheVariants.{If, Done, Call}
 use Rattle.ceal_code.specs.declared.expr.CodeExpr.TheBlock.{hidden-the_row-CodeExpr-0, shape-the_row-CodeExpr-0}
 use Rattle.ceal_code.specs.declared.expr.CodeExpr.TheVariants.{Null, Var, Num as NumExpr}
 use Rattle.ceal_code.specs.declared.expr.CodeExpr.TheViews.{Binary, Address}
 use Rattle.ceal_code.specs.declared.expr.CodeExpr.{CodeExpr}
 use Rattle.ceal_code.specs.declared.typing.ExprType.TheVariants.{Of, AnyPlace}
-use Rattle.ceal_code.specs.declared.expr.VarId.{VarId}
 use Rattle.ceal_code.specs.declared.function.FunctionCode.TheVariants.{Core as CoreFunction}
-
-abbrev var : ℕ → VarId
-var n = record { 0 = n }
-
-abbrev inc : Code
-inc = record {
-  structs = [];
-  functions = CoreFunction (105 ∷ 110 ∷ 99 ∷ []) (record { 0 = 0 }) (ModIntKind ∷ ModIntKind ∷ []) ∷ [];
-  units =
-      record { function = 0; params = var 0 ∷ var 1 ∷ []; body = Read (var 2) (Var (var 0)) (record { 0 = 1 }) (Var (var 1) ∷ []) ∷ [] }
-      ∷ record { function = 0; params = var 1 ∷ var 2 ∷ []; body = Write (Var (var 1)) (Binary Add (Var (var 2)) (NumExpr (pos 1))) ∷ Done ∷ [] }
-      ∷ [];
-  kinds = (ModIntKind ∷ ModIntKind ∷ Int ∷ []) ∷ [];
-}
-
-abbrev place : ℕ → Place
-place n = record { block = Input n; field = 0 }
 
 abbrev cell : Word → Block
 cell word = record { shape = ModInt; words = word ∷ [] }
 
 abbrev inputs : ℕ → List Block
 inputs n = cell (Num (pos n)) ∷ cell (Num (pos 0)) ∷ []
-
-abbrev args : List Word
-args = At (place 0) ∷ At (place 1) ∷ []
 
 inc-fresh : fresh inc 0 args (inputs 4) 2
     ≡ Some (record { memory = record { inputs = cell (Num (pos 4)) ∷ cell (Num (pos 5)) ∷ []; made = [] }; steps = 2; blocks = 0 })
