@@ -67,8 +67,24 @@ def difference(row, program):
     return None
 
 
+def tried_as_one():
+    """Passes all rows but the large ones by ceal_rows, which is compiled with no proof, and returns its status: a row costs hardly a moment."""
+    with tempfile.NamedTemporaryFile(prefix='ceal-') as file:
+        own, row = b'', Row()
+        for line in ROWS.read_bytes().splitlines(keepends=True):
+            own += line
+            row.add(line.rstrip(b'\n'))
+            if line == b'end\n':
+                file.write(b'' if row.name in LARGE else own)
+                own, row = b'', Row()
+        file.write(own)
+        file.flush()
+        words = ['rt', 'try', '--steps', '1', '--seconds', '600', '--data', f'{ROWS.name}={file.name}']
+        return answers.start(words, cwd=ROWS.parent.parent, stdin=subprocess.DEVNULL).wait()
+
+
 def tried(all_rows):
-    """The rows that `rt try` answers otherwise, each with how."""
+    """The rows that `rt try` answers otherwise, each with how. Each row is a process of its own, which takes a second or more."""
     with tempfile.TemporaryDirectory(prefix='ceal-') as folder:
         for row in all_rows:
             path = pathlib.Path(folder, row.name)
@@ -89,7 +105,9 @@ def tried(all_rows):
 
 def main(program, names):
     is_tried = program == 'try'
-    all_rows = [it for it in rows() if it.name in names or not (names or is_tried and it.name in LARGE)]
+    if is_tried and not names:
+        return tried_as_one()
+    all_rows = [it for it in rows() if not names or it.name in names]
     if is_tried:
         different = list(tried(all_rows))
     else:

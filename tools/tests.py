@@ -48,11 +48,8 @@ def parts(is_proved):
         return [Part('rows', python('-m', 'tools.rows', str(PROGRAM))), Part('./run', own), Part('streams', python('.ci/program')), pages], [
             'the tests of three crates: `rt ci` and `rt test` prove and pass them'
         ]
-    crates = [
-        Part(f'tests of {it}', ['rt', 'try', '--test', '--seconds', '600'], TOP / 'crates' / it)
-        for it in ('ceal_engine_tests', 'ceal_tests', 'ceal_runtime_tests')
-    ]
-    return [*crates[:2], Part('rows', python('-m', 'tools.rows', 'try')), Part('./run', own), *crates[2:], pages], [
+    tests = Part('tests of three crates', python('-m', 'tools.joined_tests'))
+    return [tests, Part('./run', own), Part('rows', python('-m', 'tools.rows', 'try')), pages], [
         'the streams of the program: they need one that is built',
         f'{len(rows.LARGE)} large rows: `python3 -B -m tools.rows try NAME` tries one, which takes up to a few minutes',
     ]
