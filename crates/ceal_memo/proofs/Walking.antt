@@ -1,12 +1,12 @@
 -- The stamps of a list are looked at one after another, until one has a key.
-use Rattle.std.proofs.Common.{◌≡◌, ◌≢◌, ◌<◌, ◌≤◌, ◌+◌, ℕ, Bool, inl, inr, true, false, List, [], ◌∷◌, refl, sym, ap, ◌∙◌, subst, arith}
+use Rattle.std.proofs.Common.{◌≡◌, ◌≢◌, ◌<◌, ◌≤◌, ◌-◌, ℕ, Bool, inl, inr, true, false, List, [], ◌∷◌, refl, sym, ap, ◌∙◌, subst, arith}
 use Rattle.std.proofs.lemmas.Bool.{false≢true}
 use Rattle.ceal_order.specs.Stamps.{is_in, place}
 use Rattle.ceal_order.specs.Rising.{IsRising, IsFirstAfter, NoneAfter}
 use Rattle.ceal_order.proofs.Places.{place_below, place_tells}
 use Rattle.ceal_order.proofs.RisingLemmas.{in_order}
 use Rattle.std.proofs.lemmas.Bool.Decides.{eqb_tells}
-use Rattle.std.specs.Prelude.{length, ◌^◌, ◌==◌}
+use Rattle.std.specs.Prelude.{length, ◌==◌}
 use Rattle.ceal_memo.specs.Lists.{those, NoneBetween}
 
 -- one of those is one of the list, and passes the test
@@ -34,18 +34,17 @@ in_those test (s ∷ ss) t there passes = elim (eqb_tells s t) [
     by true p q rest = rw (p, q) rest
     by false p q rest = rw p rest
 
--- those behind the first stamp and up to the one that was passed last do not pass the test, and so many were looked at
-pub record Passed (order stamps : List ℕ) (test : ℕ → Bool) (after last looked : ℕ) : Type 0 where
+-- those behind the first stamp and up to the one that was passed last do not pass the test
+pub record Passed (order stamps : List ℕ) (test : ℕ → Bool) (after last : ℕ) : Type 0 where
   pub here : is_in last order ≡ true
-  pub far : looked ≤ place last order
   pub behind : place after order ≤ place last order
   pub others : (t : ℕ) → is_in t stamps ≡ true → test t ≡ true → place after order < place t order → place last order < place t order
 
 module _ (order stamps : List ℕ) (test : ℕ → Bool) (after : ℕ) where
-  pub passed_none : is_in after order ≡ true → Passed order stamps test after after 0
-  passed_none here = record { here = here; far = omega arith; behind = omega arith; others = λ t there passes later. later }
+  pub passed_none : is_in after order ≡ true → Passed order stamps test after after
+  passed_none here = record { here = here; behind = omega arith; others = λ t there passes later. later }
 
-  module _ (last looked : ℕ) (passed : Passed order stamps test after last looked) where
+  module _ (last : ℕ) (passed : Passed order stamps test after last) where
     -- nothing stands behind it
     pub passed_all : NoneAfter order stamps last → (until : ℕ) → NoneBetween order (those test stamps) after until
     passed_all none until t there later =
@@ -53,13 +52,6 @@ module _ (order stamps : List ℕ) (test : ℕ → Bool) (after : ℕ) where
         let more = passed.others t both.0 both.1 later in
         let most = none t both.0 in
         absurd (omega (arith, more, most))
-
-    -- so many are never looked at
-    pub passed_too_many : length order < 2 ^ 32 → 18446744073709551615 ≤ looked → ⊥
-    passed_too_many few many =
-        let far = passed.far in
-        let below = place_below last order passed.here in
-        omega (arith, few, many, far, below)
 
     module _ (next : ℕ) (first : IsFirstAfter order stamps last next) where
       pub passed_found : test next ≡ true → IsFirstAfter order (those test stamps) after next
@@ -77,13 +69,19 @@ module _ (order stamps : List ℕ) (test : ℕ → Bool) (after : ℕ) where
           let nearest = first.nearest t both.0 (passed.others t both.0 both.1 later) in
           omega (arith, nearest, not)
 
-      pub passed_more : IsRising order stamps → test next ≡ false → Passed order stamps test after next (looked + 1)
+      pub passed_more : IsRising order stamps → test next ≡ false → Passed order stamps test after next
       passed_more rising fails = record {
         here = in_order next stamps order rising first.there;
-        far = (let a = passed.far in let b = first.behind in omega (arith, a, b));
         behind = (let a = passed.behind in let b = first.behind in omega (arith, a, b));
         others = λ t there passes later.
             let nearest = first.nearest t there (passed.others t there passes later) in
             let apart : place next order ≢ place t order = λ same. false≢true (sym fails ∙ subst (λ (u : ℕ). test u ≡ true) (sym (place_tells next t order (in_order next stamps order rising first.there) (in_order t stamps order rising there) same)) passes) in
             omega (arith, nearest, apart);
       }
+
+      -- fewer stand behind the one that is passed next
+      pub fewer_left : IsRising order stamps → length order - place next order < length order - place last order
+      fewer_left rising =
+          let later = first.behind in
+          let below = place_below next order (in_order next stamps order rising first.there) in
+          omega (arith, later, below)

@@ -51,10 +51,8 @@ pub fn first_with_key<S: Sought>(
     ensures none { IfNone result (NoneBetween order.now.stamps
         (those (S.has_key sought.now) list.now) after.0 until.0) }
 {
-    let _first = order.first();
     let mut passed = after;
-    for _looked in 0..u64::MAX {
-        let next = list.first_after(order, passed)?;
+    while let Some(next) = list.first_after(order, passed) {
         if !order.before(next, until) {
             return None;
         }
