@@ -136,7 +136,8 @@ impl<'a> Repair<'a> {
             }
             None => {
                 self.frames.push(Frame::Run { below })?;
-                self.stack.resume(self.memory.code(), closure.continuation(), now)?;
+                self.stack
+                    .resume(self.memory.code(), closure.continuation(), now)?;
                 Ok(now)
             }
         }
