@@ -73,7 +73,7 @@ def main():
     why = answers.why_unproved()
     if why:
         answers.need_toolchain()
-        print(f'{why}: all is compiled with no proof, in some ten minutes of processor time', flush=True)
+        print(f'{why}: all is compiled with no proof, in some six minutes of processor time', flush=True)
     waiting, skipped = parts(not why)
     running, passed, failed = [], 0, 0
     while waiting or running:
