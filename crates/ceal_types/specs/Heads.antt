@@ -93,7 +93,8 @@ added_field name (Some row) fields kind = with_elements name kind row row fields
 
 -- one more field: the struct's name in its type, and then its own name
 abbrev pub new_field : Ident → Option ℕ → List (Name × Field) → FieldKind → Result (List (Name × Field)) Fault
-new_field name row fields kind = if has_member fields name.text then fault N2 name.span else added_field name row fields kind
+new_field name row fields kind =
+    if has_member fields name.text then fault N2 name.span else added_field name row fields kind
 
 -- the fields of a struct with one more
 unfoldable pub with_field : List Name → FieldDecl → List (Name × Field) → Result (List (Name × Field)) Fault

@@ -161,7 +161,8 @@ assignment name n value = AssignTyped name.span n value
 -- an assignment to a variable, if it is in scope and the value suits
 abbrev pub assign_if_found : Program → Option ℕ → Ident → Value → Scope → Option Variable → Result TypedStmt Fault
 assign_if_found p own name value scope None = fault N1 name.span
-assign_if_found p own name value scope (Some x) = result_map (assignment name x.number) (typed_value p own scope x.kind value)
+assign_if_found p own name value scope (Some x) =
+    result_map (assignment name x.number) (typed_value p own scope x.kind value)
 
 -- an assignment to the variable with the name
 abbrev pub assign : Program → Option ℕ → Scope → Ident → Value → Result TypedStmt Fault
