@@ -46,14 +46,14 @@ use Rattle.ceal_types.specs.declared.program.Member.{Member}
 use Rattle.ceal_types.specs.declared.program.Program.{Program}
 use Rattle.ceal_types.specs.declared.program.Variable.{Variable}
 use Rattle.ceal_types.specs.declared.program.Variables.{Variables}
-use Rattle.ceal_types.proofs.ExpressionComplete.{VariableKind, ScopeKinds, member-meant, expr-complete, exprs-complete, condition-complete}
-use Rattle.ceal_types.proofs.ExpressionResolved.{Whole}
-use Rattle.ceal_types.proofs.ExpressionTyped.{around}
-use Rattle.ceal_types.proofs.GrowLemmas.{Grows, grows-same, grows-more, grows-on, grows-take}
-use Rattle.ceal_types.proofs.PlaceLemmas.{find-place}
-use Rattle.ceal_types.proofs.ResolveLemmas.{numbers, numbers-added, number_of, lookup-numbers, first, find-number, some-same, after-at, mapped-at, both-at, if-true, if-false, same-true, suits-true}
-use Rattle.ceal_types.proofs.StatementTyped.{row-declarations}
-use Rattle.ceal_types.proofs.ValueTyped.{HasHead, HeadsMatch}
+use Rattle.ceal_types.proofs.Completeness.ExpressionComplete.{VariableKind, ScopeKinds, member-meant, expr-complete, exprs-complete, condition-complete}
+use Rattle.ceal_types.proofs.Resolution.ExpressionResolved.{Whole}
+use Rattle.ceal_types.proofs.Typing.ExpressionTyped.{around}
+use Rattle.ceal_types.proofs.Walks.LongerList.{Grows, grows-same, grows-more, grows-on, grows-take}
+use Rattle.ceal_types.proofs.Names.FoundPlace.{find-place}
+use Rattle.ceal_types.proofs.Resolution.NumbersOfNames.{numbers, numbers-added, number_of, lookup-numbers, first, find-number, some-same, after-at, mapped-at, both-at, if-true, if-false, same-true, suits-true}
+use Rattle.ceal_types.proofs.Typing.StatementTyped.{row-declarations}
+use Rattle.ceal_types.proofs.Typing.ValueTyped.{HasHead, HeadsMatch}
 
 -- ---- a list that goes on with what stands there
 pub grows-next : {A : Type 0} (xs ys : List A) (x : A) → Grows xs ys → slice_get ys (length xs) ≡ Some x → Grows (xs ++ x ∷ []) ys

@@ -38,11 +38,11 @@ use Rattle.ceal_types.specs.declared.program.Member.{Member}
 use Rattle.ceal_types.specs.declared.program.Program.{Program}
 use Rattle.ceal_types.specs.declared.program.Variable.{Variable}
 use Rattle.ceal_types.specs.declared.program.Variables.{Variables}
-use Rattle.ceal_types.proofs.ExpressionResolved.{Whole, Found, member-named, expr-resolved, exprs-resolved, condition-resolved}
-use Rattle.ceal_types.proofs.GrowLemmas.{Grows, grows-same, grows-more, grows-on, grows-take}
-use Rattle.ceal_types.proofs.KeepLemmas.{after-keeps, mapped-keeps, both-keeps, if-keeps, weaken, any-ok}
-use Rattle.ceal_types.proofs.ResolveLemmas.{numbers, numbers-added, number_of, lookup-numbers, first, find-number}
-use Rattle.ceal_types.proofs.NumberLemmas.{absent}
+use Rattle.ceal_types.proofs.Resolution.ExpressionResolved.{Whole, Found, member-named, expr-resolved, exprs-resolved, condition-resolved}
+use Rattle.ceal_types.proofs.Walks.LongerList.{Grows, grows-same, grows-more, grows-on, grows-take}
+use Rattle.ceal_types.proofs.Walks.WalkKeeps.{after-keeps, mapped-keeps, both-keeps, if-keeps, weaken, any-ok}
+use Rattle.ceal_types.proofs.Resolution.NumbersOfNames.{numbers, numbers-added, number_of, lookup-numbers, first, find-number}
+use Rattle.ceal_types.proofs.Names.NumberOfName.{absent}
 
 module _ (p : Program) (fs : List TypedFunction) (names : p.names ≡ map struct_name (map struct_info p.structs)) (functions : map function_name fs ≡ keys_of p.functions) where
   -- ---- structs, functions and types
