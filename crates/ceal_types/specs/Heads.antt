@@ -115,7 +115,7 @@ new_parameter name v kind = if has v.scope name.text then fault N2 name.span els
 unfoldable pub with_parameter : List Name → FieldDecl → Variables → Result Variables Fault
 with_parameter names d v = after (new_parameter d.name v) (kind_of names d.form)
 
--- the struct of `self`, of an initialiser alone
+-- the struct of `self`, only of an initialiser
 abbrev pub own_of : List Name → Option Ident → Result (Option ℕ) Fault
 own_of names None = Ok None
 own_of names (Some name) = result_map Some (struct_number names name)

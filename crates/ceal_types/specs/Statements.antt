@@ -24,7 +24,8 @@ use Rattle.ceal_base.specs.declared.typed.TypedValue.{TypedValue}
 use Rattle.ceal_base.specs.declared.typed.TypedValue.TheVariants.{Plain as PlainTyped, Read as ReadTyped, Alloc as AllocTyped, ModrefInt as ModrefIntTyped, Modref as ModrefTyped}
 use Rattle.ceal_types.specs.Expressions.{Scope, typed_expr, typed_exprs, condition, member}
 use Rattle.ceal_types.specs.Heads.{kind_of, struct_number, with_variable}
-use Rattle.ceal_types.specs.Kinds.{suits, same_kind}
+use Rattle.ceal_base.specs.Kinds.{same_kind}
+use Rattle.ceal_types.specs.Kinds.{suits}
 use Rattle.ceal_types.specs.Tables.{has, find}
 use Rattle.ceal_types.specs.Walk.{fault, after, result_map, both, in_turn}
 use Rattle.ceal_types.specs.declared.program.Head.{Head}

@@ -83,7 +83,7 @@ elements-same name kind row (suc i) =
     map-append field_info (walked_elements name kind row i) (element name kind row i ∷ [])
     ∙ ap (λ (l : List FieldInfo). l ++ field_info (element name kind row i) ∷ []) (elements-same name kind row i)
 
--- the keys of fields and of what comes behind them
+-- the keys of fields and of what comes after them
 abbrev Apart : Fields → List FieldInfo → Type 0
 Apart fields infos = IsDistinct bytes_eq (keys_of fields ++ map name_of_field infos)
 

@@ -36,7 +36,8 @@ use Rattle.ceal_base.specs.declared.typed.TypedValue.TheVariants.{Plain as Plain
 use Rattle.ceal_types.specs.Checked.{struct_info}
 use Rattle.ceal_types.specs.Expressions.{Scope, typed_expr, typed_exprs, condition, member}
 use Rattle.ceal_types.specs.Heads.{number_or_fault, struct_number, kind_of, with_variable}
-use Rattle.ceal_types.specs.Kinds.{suits, same_kind}
+use Rattle.ceal_base.specs.Kinds.{same_kind}
+use Rattle.ceal_types.specs.Kinds.{suits}
 use Rattle.ceal_types.specs.Resolves.{Environment, IsStruct, IsFunction, IsKind, IsVariable, IsMember, ExprResolves, ExprsResolve, ValueResolves, StmtResolves, RowResolves, StmtsResolve, in_scope}
 use Rattle.ceal_types.specs.Statements.{Block, step, block, still, empty_block, block_end, inner_block, with_step, declaration, declare, assignment, assign_if_found, assign, plain_kind, set_suited, set_value, set_member, set_left, set_field, write_held, write_of, write, call_of, call_checked, call_if_found, call, call_suits, call_by_own, arguments_suit, if_step, choose, branch, while_step, loop, asked_for, plain_value, held_value, read_value, modref_value, block_value, alloc_suits, alloc_by_own, alloc_value, alloc_by, alloc_of, typed_value, typed_stmt, typed_row, typed_stmts}
 use Rattle.ceal_types.specs.Tables.{Name, has, find, value_at}

@@ -93,7 +93,7 @@ keys-given fields all more h =
     sym (names-of-fields all) ∙ ap (map name_of_field) h ∙ map-append name_of_field (map field_info fields) more
     ∙ ap (λ (l : List Name). l ++ map name_of_field more) (names-of-fields fields)
 
--- a parameter's kind is there, whatever comes behind
+-- a parameter's kind is there, whatever comes after
 more-parameters : (p : Typed) (ds : List FieldDecl) (kinds more : List Kind) → ParametersResolve p ds kinds → ParametersResolve p ds (kinds ++ more)
 more-parameters p [] kinds more h = tt
 more-parameters p (d ∷ ds) [] more h = absurd h
