@@ -27,7 +27,8 @@ block_at m (Core n) = slice_get m.made n
 -- the blocks with another word at a field of one of them; where there is no such field they are the same
 abbrev pub changed : List Block → Option Block → ℕ → ℕ → Word → List Block
 changed blocks None at field word = blocks
-changed blocks (Some block) at field word = slice_set blocks at (record block { words = slice_set block.words field word })
+changed blocks (Some block) at field word =
+    slice_set blocks at (record block { words = slice_set block.words field word })
 
 -- blocks with another word at a field of one
 abbrev pub with_word : List Block → ℕ → ℕ → Word → List Block

@@ -5,7 +5,7 @@ use Rattle.std.specs.Prelude.{ℕ, ◌+◌, ◌-◌, ◌*◌, ◌&&◌, Bool, Li
 abbrev pub is_digit : ℕ → Bool
 is_digit b = nat_le 48 b && nat_le b 57
 
--- a number n with the digits behind it
+-- a number n with the digits after it
 unfoldable pub continued : ℕ → List ℕ → ℕ
 continued n [] = n
 continued n (b ∷ bs) = continued (10 * n + (b - 48)) bs

@@ -28,15 +28,18 @@ word_digest (At p) = place_number p
 abbrev pub xor_shifted : ℕ → ℕ → ℕ
 xor_shifted number bits = bit_xor number (number / 2 ^ bits)
 
--- a number scrambled: the last steps of SplitMix64 (Steele, Lea and Flood, "Fast splittable pseudorandom number generators", 2014)
+-- a number scrambled: the last steps of SplitMix64
+-- (Steele, Lea and Flood, "Fast splittable pseudorandom number generators", 2014)
 abbrev pub scrambled : ℕ → ℕ
-scrambled n = xor_shifted ((xor_shifted ((xor_shifted n 30 * 13787848793156543929) % 2 ^ 64) 27 * 10723151780598845931) % 2 ^ 64) 31
+scrambled n = xor_shifted
+    ((xor_shifted ((xor_shifted n 30 * 13787848793156543929) % 2 ^ 64) 27 * 10723151780598845931) % 2 ^ 64) 31
 
--- one more number behind a digest: what scrambles them is no sum of products, so no numbers are chosen by one that have one digest
+-- one more number after a digest: what scrambles them is no sum of products,
+-- so no numbers are chosen by one that have one digest
 abbrev pub mixed : ℕ → ℕ → ℕ
 mixed digest number = scrambled ((digest + number) % 2 ^ 64)
 
--- a digest with words behind it
+-- a digest with words after it
 unfoldable pub digest_behind : ℕ → List Word → ℕ
 digest_behind digest [] = digest
 digest_behind digest (w ∷ ws) = digest_behind (mixed digest (word_digest w)) ws

@@ -1,5 +1,5 @@
--- What the operators give, as in C (ISO C, 6.5): a quotient is cut off towards 0. Numbers of 64 bits wrap, and a division by 0
--- gives 0 and has the dividend as its remainder (our own).
+-- What the operators give, as in C (ISO C, 6.5): a quotient is cut off towards 0. Numbers of 64 bits wrap,
+-- and a division by 0 gives 0 and has the dividend as its remainder (our own).
 use Rattle.std.specs.Prelude.{ℕ, ◌+◌, ◌^◌, nat_lt, ℤ, pos, negsuc, Bool, true, false, not, ◌==◌, ◌&&◌, ◌||◌, if◌then◌else◌, int_lt, int_le, int_rem}
 use Rattle.std.specs.Ordering.{int_eq}
 use Rattle.std.specs.Int.{w64, int_wrapping_add, int_wrapping_sub, int_wrapping_mul, int_wrapping_div, int_wrapping_neg}

@@ -1,4 +1,4 @@
--- A program that keeps the rules of usage: fields are written by initialisers alone, on `self` alone, and an
+-- A program that keeps the rules of usage: fields are written only by initialisers, only on `self`, and an
 -- initialiser does nothing else.
 use Rattle.std.specs.Prelude.{◌≡◌, Bool, true, false, Option, Some, None, IsSome, IsNone, IsSomeAnd, List, slice_get, All}
 use Rattle.ceal_base.specs.declared.typed.Typed.{Typed}

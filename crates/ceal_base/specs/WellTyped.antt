@@ -31,7 +31,11 @@ KindKnown structs (ModPtr s) = s < length structs
 
 -- the struct that a field may point to is there
 abbrev pub FieldKnown : List StructInfo → FieldInfo → Type 0
-FieldKnown structs f = elim f.kind [ Plain kind ↦ KindKnown structs kind | CellInt ↦ Unit {0} | CellPtr s ↦ s < length structs ]
+FieldKnown structs f = elim f.kind [
+  | Plain kind ↦ KindKnown structs kind
+  | CellInt ↦ Unit {0}
+  | CellPtr s ↦ s < length structs
+]
 
 -- the kind has null
 abbrev pub IsPointer : Kind → Type 0
@@ -124,9 +128,11 @@ unfoldable mutual
       OperandTyped c seen a × OperandTyped c seen b × OperandsSuit op (operand_kind a) (operand_kind b)
       × LeftSuits c.structs op a × (kind ≡ kind_given op (operand_kind a))
   FormTyped c seen kind (Field' _ a s field) =
-      OperandTyped c seen a × (operand_kind a ≡ Some (Ptr s)) × IsSome kind × (plain_kind (field_kind c.structs s field) ≡ kind)
+      OperandTyped c seen a × (operand_kind a ≡ Some (Ptr s)) × IsSome kind
+      × (plain_kind (field_kind c.structs s field) ≡ kind)
   FormTyped c seen kind (Address' _ a s field) =
-      OperandTyped c seen a × (operand_kind a ≡ Some (Ptr s)) × IsSome kind × (address_kind (field_kind c.structs s field) ≡ kind)
+      OperandTyped c seen a × (operand_kind a ≡ Some (Ptr s)) × IsSome kind
+      × (address_kind (field_kind c.structs s field) ≡ kind)
 
   -- an operand has its kind
   pub OperandTyped : Context → List ℕ → {n : _} → Row_of-TypedExpr n → Type 0
@@ -160,14 +166,18 @@ CallSuits (Some f) args = elim f.initialiser [ None ↦ ArgsSuit (param_kinds f)
 -- arguments and struct of an `alloc`; those of a core function are not looked at, since none may be named there
 abbrev pub AllocSuits : Option TypedFunction → ℕ → List TypedExpr → Type 0
 AllocSuits None shape args = ⊥
-AllocSuits (Some f) shape args = elim f.initialiser [ None ↦ Unit {0} | Some s ↦ (s ≡ shape) × ArgsSuit (param_kinds f) args ]
+AllocSuits (Some f) shape args = elim f.initialiser [
+  | None ↦ Unit {0}
+  | Some s ↦ (s ≡ shape) × ArgsSuit (param_kinds f) args
+]
 
 -- a variable of the kind may be given the value
 abbrev pub ValueTyped : Context → List ℕ → Kind → TypedValue → Type 0
 ValueTyped c seen asked (PlainValue e) = ExprSuits c seen asked e
 ValueTyped c seen asked (Read at e) = ExprTyped c seen e × (kind_held e.kind ≡ Some asked)
 ValueTyped c seen asked (Alloc at shape f name args) =
-    (shape < length c.structs) × (asked ≡ Ptr shape) × All (ExprTyped c seen) args × AllocSuits (slice_get c.functions f) shape args
+    (shape < length c.structs) × (asked ≡ Ptr shape) × All (ExprTyped c seen) args
+    × AllocSuits (slice_get c.functions f) shape args
 ValueTyped c seen asked (ModrefInt at) = asked ≡ ModInt
 ValueTyped c seen asked (Modref at s) = (s < length c.structs) × (asked ≡ ModPtr s)
 
@@ -197,16 +207,21 @@ seen_after seen _ = seen
 -- the statement is typed where these variables are in scope, and `next` is the number of the next declaration
 unfoldable mutual
   pub StmtTyped : Context → List ℕ → ℕ → TypedStmt → Type 0
-  StmtTyped c seen next (Declare at n kind value) = (n ≡ next) × (slice_get c.kinds n ≡ Some kind) × ValueTyped c seen kind value
-  StmtTyped c seen next (Assign at n value) = Contains seen n × MatchOption (slice_get c.kinds n) ⊥ (λ kind. ValueTyped c seen kind value)
+  StmtTyped c seen next (Declare at n kind value) =
+      (n ≡ next) × (slice_get c.kinds n ≡ Some kind) × ValueTyped c seen kind value
+  StmtTyped c seen next (Assign at n value) =
+      Contains seen n × MatchOption (slice_get c.kinds n) ⊥ (λ kind. ValueTyped c seen kind value)
   StmtTyped c seen next (SetField at left s field e) =
-      ExprTyped c seen left × (left.kind ≡ Some (Ptr s)) × MatchOption (plain_kind (field_kind c.structs s field)) ⊥ (λ kind. ExprSuits c seen kind e)
+      ExprTyped c seen left × (left.kind ≡ Some (Ptr s))
+      × MatchOption (plain_kind (field_kind c.structs s field)) ⊥ (λ kind. ExprSuits c seen kind e)
   StmtTyped c seen next (Write at place e) =
       ExprTyped c seen place × MatchOption (kind_held place.kind) ⊥ (λ kind. ExprSuits c seen kind e)
   StmtTyped c seen next (Call at f args) = All (ExprTyped c seen) args × CallSuits (slice_get c.functions f) args
   StmtTyped c seen next (If' at test _ first _ second) =
-      ExprTyped c seen test × (test.kind ≡ Some Int) × RowTyped c seen next first × RowTyped c seen (next + row_declarations first) second
-  StmtTyped c seen next (While' at test _ body) = ExprTyped c seen test × (test.kind ≡ Some Int) × RowTyped c seen next body
+      ExprTyped c seen test × (test.kind ≡ Some Int)
+      × RowTyped c seen next first × RowTyped c seen (next + row_declarations first) second
+  StmtTyped c seen next (While' at test _ body) =
+      ExprTyped c seen test × (test.kind ≡ Some Int) × RowTyped c seen next body
   StmtTyped c seen next (Return at) = Unit {0}
   StmtTyped c seen next (Break at) = Unit {0}
   StmtTyped c seen next (Continue at) = Unit {0}
@@ -220,7 +235,8 @@ unfoldable mutual
 -- the statements one after another
 unfoldable pub StmtsTyped : Context → List ℕ → ℕ → List TypedStmt → Type 0
 StmtsTyped c seen next [] = Unit {0}
-StmtsTyped c seen next (s ∷ rest) = StmtTyped c seen next s × StmtsTyped c (seen_after seen s) (next + declarations s) rest
+StmtsTyped c seen next (s ∷ rest) =
+    StmtTyped c seen next s × StmtsTyped c (seen_after seen s) (next + declarations s) rest
 
 -- n - 1 down to 0
 abbrev pub numbers_below : ℕ → List ℕ
@@ -229,7 +245,12 @@ numbers_below (suc n) = n ∷ numbers_below n
 
 -- what the statements of a function are typed in
 abbrev pub context_of : List StructInfo → List TypedFunction → TypedFunction → Context
-context_of structs functions f = record { structs = structs; functions = functions; own = f.initialiser; kinds = f.kinds }
+context_of structs functions f = record {
+  structs = structs;
+  functions = functions;
+  own = f.initialiser;
+  kinds = f.kinds;
+}
 
 -- the function is typed: the struct of `self` and those of its variables are there, parameters come first and then
 -- the declarations in text order, and the body is typed where the parameters are in scope

@@ -11,7 +11,7 @@ pub fn is_digit(byte: u8) -> bool
     matches!(byte, b'0'..=b'9')
 }
 
-/// The number with a digit behind it, unless it is larger than this.
+/// The number with a digit after it, unless it is larger than this.
 fn with_digit(number: u64, digit: u64, most: u64) -> Option<u64>
     ensures { MatchOption result (most < 10 * number + digit)
         (λ n. (n ≡ 10 * number + digit) × (n ≤ most)) }

@@ -10,6 +10,7 @@ pub mod access;
 pub mod boxed;
 pub mod call;
 pub mod copies;
+pub mod count;
 pub mod digits;
 pub mod fault;
 pub mod fitting;

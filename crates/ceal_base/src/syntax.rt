@@ -56,13 +56,13 @@ pub enum TypeForm {
     ModInt,
     /// `mod struct S *`
     ModPtr(Ident),
-    /// `mod int f`, of a field alone
+    /// `mod int f`, only of a field
     CellInt,
-    /// `mod struct S f`, of a field alone
+    /// `mod struct S f`, only of a field
     CellPtr(Ident),
-    /// `mod int f[N]`, of a field alone: a row of N modifiables
+    /// `mod int f[N]`, only of a field: a row of N modifiables
     CellRow(u32),
-    /// `mod struct S f[N]`, of a field alone
+    /// `mod struct S f[N]`, only of a field
     CellPtrRow(Ident, u32),
 }
 

@@ -30,7 +30,7 @@ pub struct StructInfo {
 pub type Structs = Items<StructInfo>;
 
 /// An expression. `span` is that of its first token, parentheses round the whole of it left out; `kind` is None
-/// for `null` alone.
+/// only for `null`.
 #[cycle(typed_expr)]
 #[derive(Drop)]
 pub struct TypedExpr {

@@ -8,7 +8,8 @@ use Rattle.ceal_base.specs.declared.word.Word.{Word}
 use Rattle.ceal_code.specs.Program.{Code}
 use Rattle.ceal_code.specs.Replay.{Store, Honest, Replays, bases, plain_of, cleared, stored, block_after, inputs_after}
 
--- the store after the items: an allocation puts the modifiables of its block at their defaults, a write changes its place
+-- the store after the items: an allocation puts the modifiables of its block at their defaults,
+-- a write changes its place
 abbrev pub store_after : Code → Store → Trace → Store
 store_after code s Nothing = s
 store_after code s (Stepped rest) = store_after code s rest
@@ -27,4 +28,5 @@ StoreLaw = (code : Code) (s t : Store) (l : Trace) → Honest code s l t → t �
 -- the input blocks after a trace are those of the memory
 abbrev pub InputsLaw : Type 0
 InputsLaw = (code : Code) (inputs : List Block) (f : ℕ) (args : List Word) (l : Trace) → Replays code inputs f args l
-    → (s : Store) (i : ℕ) → slice_get (inputs_after code s 0 inputs) i ≡ block_after code (plain_of code inputs l) s (Input i)
+    → (s : Store) (i : ℕ)
+    → slice_get (inputs_after code s 0 inputs) i ≡ block_after code (plain_of code inputs l) s (Input i)

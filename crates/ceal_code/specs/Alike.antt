@@ -82,7 +82,8 @@ pub data ActAlike (ps : Pairs) : Act → Act → Type 0 where
   writes : {p q : Place} {v w : Word} {st st' : Stack}
       → PlaceAlike ps p q → WordAlike ps v w → StackAlike ps st st' → ActAlike ps (Writes p v st) (Writes q w st')
   reads : {p q : Place} {u : UnitId} {v : ℕ} {vs ws : List Word} {st st' : Stack}
-      → PlaceAlike ps p q → WordsAlike ps vs ws → StackAlike ps st st' → ActAlike ps (Reads p u v vs st) (Reads q u v ws st')
+      → PlaceAlike ps p q → WordsAlike ps vs ws → StackAlike ps st st'
+      → ActAlike ps (Reads p u v vs st) (Reads q u v ws st')
 
 -- one word for each field, and those of plain fields are alike
 pub data FieldsAlike (ps : Pairs) : List FieldKind → List Word → List Word → Type 0 where

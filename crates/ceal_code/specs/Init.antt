@@ -26,14 +26,17 @@ set_plain _ words field word = words
 -- the words of the new block after a statement of the initialiser
 unfoldable mutual
   pub set_by : List StructInfo → Plain → Variables → ℕ → List Word → InitStmt → List Word
-  set_by structs x env s words (Set field e) = set_plain (field_kind structs (Struct s) field) words field (expr_value structs x env e)
+  set_by structs x env s words (Set field e) =
+      set_plain (field_kind structs (Struct s) field) words field (expr_value structs x env e)
   set_by structs x env s words (If' test _ first _ second) =
-      if holds (expr_value structs x env test) then set_by_row structs x env s words first else set_by_row structs x env s words second
+      if holds (expr_value structs x env test) then set_by_row structs x env s words first
+      else set_by_row structs x env s words second
 
   -- the words of a block after the statements of a row
   pub set_by_row : List StructInfo → Plain → Variables → ℕ → List Word → {n : _} → Row_of-InitStmt n → List Word
   set_by_row structs x env s words end_of-InitStmt = words
-  set_by_row structs x env s words (more_of-InitStmt stmt rest) = set_by_row structs x env s (set_by structs x env s words stmt) rest
+  set_by_row structs x env s words (more_of-InitStmt stmt rest) =
+      set_by_row structs x env s (set_by structs x env s words stmt) rest
 
 -- and after all of them
 unfoldable pub set_by_all : List StructInfo → Plain → Variables → ℕ → List Word → List InitStmt → List Word

@@ -37,6 +37,9 @@ KnownStack inputs bs (Run u i env below) = KnownVariables inputs bs env × Known
 abbrev pub KnownAct : ℕ → List ℕ → Act → Type 0
 KnownAct inputs bs Over = ⊤
 KnownAct inputs bs (Quiet after) = KnownStack inputs bs after
-KnownAct inputs bs (Makes key v u i env below) = KnownKey inputs bs key × KnownVariables inputs bs env × KnownStack inputs bs below
-KnownAct inputs bs (Writes p value after) = KnownBlock inputs bs p.block × KnownWord inputs bs value × KnownStack inputs bs after
-KnownAct inputs bs (Reads p u v args below) = KnownBlock inputs bs p.block × KnownWords inputs bs args × KnownStack inputs bs below
+KnownAct inputs bs (Makes key v u i env below) =
+    KnownKey inputs bs key × KnownVariables inputs bs env × KnownStack inputs bs below
+KnownAct inputs bs (Writes p value after) =
+    KnownBlock inputs bs p.block × KnownWord inputs bs value × KnownStack inputs bs after
+KnownAct inputs bs (Reads p u v args below) =
+    KnownBlock inputs bs p.block × KnownWords inputs bs args × KnownStack inputs bs below

@@ -30,14 +30,16 @@ StepLaw = (code : Code) (inputs : ℕ) (bs : List ℕ) (x y : Plain) → Holds i
 -- so is what a new block holds, where its key names known blocks alone
 abbrev pub BlockLaw : Type 0
 BlockLaw = (code : Code) (inputs : ℕ) (bs : List ℕ) (x y : Plain) → Holds inputs bs x → Agree inputs bs x y
-    → (key : Key) → KnownKey inputs bs key → KnownWords inputs bs (made code x key).words × (made code x key ≡ made code y key)
+    → (key : Key) → KnownKey inputs bs key
+    → KnownWords inputs bs (made code x key).words × (made code x key ≡ made code y key)
 
 -- a stack over another one takes its own step, and the other one's where nothing of it is left
 abbrev pub OverLaw : Type 0
-OverLaw = (code : Code) (x : Plain) (st below : Stack) → next code x (on st below) ≡ act_on (next code x st) below (next code x below)
+OverLaw = (code : Code) (x : Plain) (st below : Stack)
+    → next code x (on st below) ≡ act_on (next code x st) below (next code x below)
 
--- a step does not depend on the numbers of core blocks: like stacks over like plain words have like next steps, and like keys
--- make like blocks
+-- a step does not depend on the numbers of core blocks: like stacks over like plain words have like next steps,
+-- and like keys make like blocks
 abbrev pub AlikeLaw : Type 0
 AlikeLaw = (code : Code) (ps : Pairs) → OneToOne ps → (x y : Plain) → PlainAlike code.structs ps x y
     → ((st st' : Stack) → StackAlike ps st st' → ActAlike ps (next code x st) (next code y st'))
@@ -46,19 +48,23 @@ AlikeLaw = (code : Code) (ps : Pairs) → OneToOne ps → (x y : Plain) → Plai
 -- a trace that replays a call and is honest determines the run of the call from scratch
 abbrev pub TraceLaw : Type 0
 TraceLaw = (code : Code) (inputs : List Block) (f : ℕ) (args : List Word) → Fits code inputs f args
-    → (l : Trace) → Replays code inputs f args l → (h : IsHonest code inputs l) → Determined code inputs f args l h.after
+    → (l : Trace) → Replays code inputs f args l → (h : IsHonest code inputs l)
+    → Determined code inputs f args l h.after
 
--- in valid code some path comes to each command of a unit's body, and the command is right for what is known on each path
--- to it
+-- in valid code some path comes to each command of a unit's body, and the command is right for what is known
+-- on each path to it
 abbrev pub PathLaw : Type 0
 PathLaw = (code : Code) → valid code ≡ true → (u : ℕ) (unit : Unit) → slice_get code.units u ≡ Some unit
     → (i : ℕ) (c : Cmd) → slice_get unit.body i ≡ Some c → IsReached code unit i
-    × ((known : List Bool) (stepped : Bool) → IsOnPath code unit i known stepped → command_ok code unit.function known stepped c ≡ true)
+    × ((known : List Bool) (stepped : Bool)
+    → IsOnPath code unit i known stepped → command_ok code unit.function known stepped c ≡ true)
 
 -- valid code is never stuck
 abbrev pub ProgressLaw : Type 0
-ProgressLaw = (code : Code) → valid code ≡ true → (inputs : List Block) (f : ℕ) (args : List Word) → Fits code inputs f args
-    → (m : Blocks) (st : Stack) → Reaches code (record { inputs = inputs; made = [] }) (started code f args) m st → NotStuck code m st
+ProgressLaw = (code : Code) → valid code ≡ true
+    → (inputs : List Block) (f : ℕ) (args : List Word) → Fits code inputs f args
+    → (m : Blocks) (st : Stack)
+    → Reaches code (record { inputs = inputs; made = [] }) (started code f args) m st → NotStuck code m st
 
 -- a finished run is at a state that it came to, by as many steps as it tells, and at the end
 pub record Ended (code : Code) (inputs : List Block) (f : ℕ) (args : List Word) (r : Finished) : Type 0 where

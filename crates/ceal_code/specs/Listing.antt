@@ -97,7 +97,8 @@ unfoldable mutual
       if is_pick op then without_index (operand_text structs a) ++ binary_sign op ++ operand_text structs b ++ codes "]"
       else codes "(" ++ operand_text structs a ++ binary_sign op ++ operand_text structs b ++ codes ")"
   expr_text structs (Field' _ a s field) = operand_text structs a ++ codes "->" ++ field_name structs s field
-  expr_text structs (Address' _ a s field) = codes "&" ++ operand_text structs a ++ codes "->" ++ field_name structs s field
+  expr_text structs (Address' _ a s field) =
+      codes "&" ++ operand_text structs a ++ codes "->" ++ field_name structs s field
 
   -- the text of an operand
   pub operand_text : List StructInfo → {n : _} → Row_of-CodeExpr n → List ℕ
@@ -145,12 +146,14 @@ command_text code Tick = codes "tick"
 command_text code (Alloc v f args) =
     var_text v ++ codes " = alloc " ++ name_of_function (slice_get code.functions f) ++ exprs_text code.structs args
 command_text code (Modref v shape) = var_text v ++ codes " = modref " ++ shape_text code.structs shape
-command_text code (Write p e) = codes "write(" ++ expr_text code.structs p ++ codes ", " ++ expr_text code.structs e ++ codes ")"
+command_text code (Write p e) =
+    codes "write(" ++ expr_text code.structs p ++ codes ", " ++ expr_text code.structs e ++ codes ")"
 command_text code (If test first second) = codes "if " ++ expr_text code.structs test
 command_text code Done = codes "done"
 command_text code (Tail w args) = codes "tail " ++ unit_text w ++ exprs_text code.structs args
 command_text code (Read v p w args) =
-    var_text v ++ codes " = read(" ++ expr_text code.structs p ++ codes ") " ++ unit_text w ++ exprs_text code.structs args
+    var_text v ++ codes " = read(" ++ expr_text code.structs p ++ codes ") "
+    ++ unit_text w ++ exprs_text code.structs args
 command_text code (Call f args w rest) =
     codes "call " ++ name_of_function (slice_get code.functions f) ++ exprs_text code.structs args
     ++ codes " " ++ unit_text w ++ exprs_text code.structs rest
@@ -219,7 +222,8 @@ unfoldable mutual
   stmt_text structs s depth (Set field e) =
       line depth (codes "self->" ++ field_name structs s field ++ codes " = " ++ expr_text structs e)
   stmt_text structs s depth (IfStmt' test _ first _ second) =
-      line depth (codes "if " ++ expr_text structs test) ++ row_text structs s (depth + 1) first ++ else_row structs s depth second
+      line depth (codes "if " ++ expr_text structs test)
+      ++ row_text structs s (depth + 1) first ++ else_row structs s depth second
 
   -- without statements there is no line `else`
   pub else_row : List StructInfo → ℕ → ℕ → {n : _} → Row_of-InitStmt n → List ℕ
@@ -230,7 +234,8 @@ unfoldable mutual
   -- the lines of the statements of a row
   pub row_text : List StructInfo → ℕ → ℕ → {n : _} → Row_of-InitStmt n → List ℕ
   row_text structs s depth end_of-InitStmt = []
-  row_text structs s depth (more_of-InitStmt stmt rest) = stmt_text structs s depth stmt ++ row_text structs s depth rest
+  row_text structs s depth (more_of-InitStmt stmt rest) =
+      stmt_text structs s depth stmt ++ row_text structs s depth rest
 
 -- the lines of the statements of a list
 unfoldable pub stmts_text : List StructInfo → ℕ → ℕ → List InitStmt → List ℕ
@@ -251,7 +256,8 @@ function_text code (InitFunction name s params body) units =
 
 -- the lines of functions, each with its units
 unfoldable pub functions_text : Code → List FunctionCode → List (List ℕ) → List ℕ
-functions_text code (function ∷ functions) (units ∷ groups) = function_text code function units ++ functions_text code functions groups
+functions_text code (function ∷ functions) (units ∷ groups) =
+    function_text code function units ++ functions_text code functions groups
 functions_text code [] groups = []
 functions_text code (function ∷ functions) [] = []
 

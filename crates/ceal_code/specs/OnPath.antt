@@ -17,8 +17,8 @@ known_after known (Alloc v g args) = slice_set known v.0 true
 known_after known (Modref v shape) = slice_set known v.0 true
 known_after known _ = known
 
--- an index lies on a path from the first, on which these variables have got a word; `stepped` says that a command stands
--- before it on the path
+-- an index lies on a path from the first, on which these variables have got a word; `stepped` says that a command
+-- stands before it on the path
 pub data IsOnPath (code : Code) (unit : Unit) : ℕ → (known : List Bool) → (stepped : Bool) → Type 0 where
   first : IsOnPath code unit 0 (params_known code unit) false
   next : {i j : ℕ} {known : List Bool} {stepped : Bool} {c : Cmd} → IsOnPath code unit i known stepped

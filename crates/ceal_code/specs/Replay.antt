@@ -28,7 +28,8 @@ use Rattle.ceal_code.specs.Value.{Plain, set, is_cell, field_kind, field_default
 -- each allocation by its recorded block. No contents of modifiables are involved.
 pub data Yields (code : Code) (x : Plain) : Stack → Trace → Type 0 where
   over : {st : Stack} → next code x st ≡ Over → Yields code x st Nothing
-  quiet : {st after : Stack} {rest : Trace} → next code x st ≡ Quiet after → Yields code x after rest → Yields code x st (Stepped rest)
+  quiet : {st after : Stack} {rest : Trace}
+      → next code x st ≡ Quiet after → Yields code x after rest → Yields code x st (Stepped rest)
   makes : {st : Stack} {key : Key} {v u i : ℕ} {env : _} {below : Stack} {b : ℕ} {rest : Trace}
       → next code x st ≡ Makes key v u i env below
       → x (Core b) ≡ Some (made code x key)
@@ -114,7 +115,8 @@ shape_of code (PtrKey s) = ModPtr s
 
 -- with the modifiables of a new block at their defaults
 unfoldable pub cleared : Code → Store → BlockId → Key → Store
-cleared code s b key = λ p. if same_block p.block b then cell_default (field_kind code.structs (shape_of code key) p.field) else s p
+cleared code s b key = λ p.
+    if same_block p.block b then cell_default (field_kind code.structs (shape_of code key) p.field) else s p
 
 -- with another content of one place
 unfoldable pub stored : Store → Place → Word → Store
@@ -129,7 +131,8 @@ pub data Honest (code : Code) : Store → Trace → Store → Type 0 where
   write : {s s' : Store} {p : Place} {value : Word} {rest : Trace}
       → Honest code (stored s p value) rest s' → Honest code s (Wrote p value rest) s'
   read : {s t s' : Store} {p : Place} {value : Word} {u : UnitId} {v : ℕ} {args : List Word} {inside rest : Trace}
-      → s p ≡ value → Honest code s inside t → Honest code t rest s' → Honest code s (WasRead p value u v args inside rest) s'
+      → s p ≡ value → Honest code s inside t → Honest code t rest s'
+      → Honest code s (WasRead p value u v args inside rest) s'
 
 -- a number is among these
 pub data In (b : ℕ) : List ℕ → Type 0 where
@@ -167,7 +170,8 @@ pub data Mentions (inputs : ℕ) : List ℕ → Trace → List ℕ → Type 0 wh
   alloc : {bs cs : List ℕ} {b : ℕ} {key : Key} {rest : Trace}
       → KnownKey inputs bs key → Mentions inputs (b ∷ bs) rest cs → Mentions inputs bs (Allocated (Core b) key rest) cs
   write : {bs cs : List ℕ} {p : Place} {value : Word} {rest : Trace}
-      → KnownBlock inputs bs p.block → KnownWord inputs bs value → Mentions inputs bs rest cs → Mentions inputs bs (Wrote p value rest) cs
+      → KnownBlock inputs bs p.block → KnownWord inputs bs value → Mentions inputs bs rest cs
+      → Mentions inputs bs (Wrote p value rest) cs
   read : {bs ds cs : List ℕ} {p : Place} {value : Word} {u : UnitId} {v : ℕ} {args : List Word} {inside rest : Trace}
       → KnownBlock inputs bs p.block → KnownWord inputs bs value → KnownWords inputs bs args
       → Mentions inputs bs inside ds → Mentions inputs ds rest cs
@@ -209,7 +213,8 @@ with_contents s b n (kind ∷ kinds) (word ∷ words) =
 
 -- a block with the contents of its modifiables
 abbrev pub filled : Code → Store → BlockId → Block → Block
-filled code s b block = record block { words = with_contents s b 0 (kinds_of_shape code.structs block.shape) block.words }
+filled code s b block =
+    record block { words = with_contents s b 0 (kinds_of_shape code.structs block.shape) block.words }
 
 -- memory after a trace: a block of the plain words with the contents of the store
 unfoldable pub block_after : Code → Plain → Store → BlockId → Option Block

@@ -35,22 +35,26 @@ pub data Steps (code : Code) : Blocks → Stack → Blocks → Stack → Type 0 
   quiet : {m : Blocks} {st after : Stack} → next code (block_at m) st ≡ Quiet after → Steps code m st m after
   makes : {m : Blocks} {st below : Stack} {key : Key} {v u i : ℕ} {env : Variables}
       → next code (block_at m) st ≡ Makes key v u i env below
-      → Steps code m st (with_block m (made code (block_at m) key)) (Run u i (set env v (pointer key (Core (length m.made)))) below)
+      → Steps code m st (with_block m (made code (block_at m) key))
+      (Run u i (set env v (pointer key (Core (length m.made)))) below)
   writes : {m : Blocks} {st after : Stack} {p : Place} {value : Word}
       → next code (block_at m) st ≡ Writes p value after → Steps code m st (written_at m p.block p.field value) after
   reads : {m : Blocks} {st below : Stack} {p : Place} {u : UnitId} {v : ℕ} {args : List Word}
       → next code (block_at m) st ≡ Reads p u v args below
-      → Steps code m st m (entered code u.0 (given code u.0 v args (content_of m (At p) (variable_default code u.0 v))) below)
+      → Steps code m st m
+      (entered code u.0 (given code u.0 v args (content_of m (At p) (variable_default code u.0 v))) below)
 
 -- any number of steps
 pub data Reaches (code : Code) (m : Blocks) (st : Stack) : Blocks → Stack → Type 0 where
   begin : Reaches code m st m st
-  step : {m' m'' : Blocks} {st' st'' : Stack} → Reaches code m st m' st' → Steps code m' st' m'' st'' → Reaches code m st m'' st''
+  step : {m' m'' : Blocks} {st' st'' : Stack}
+      → Reaches code m st m' st' → Steps code m' st' m'' st'' → Reaches code m st m'' st''
 
 -- that many steps
 pub data Takes (code : Code) (m : Blocks) (st : Stack) : (steps : ℕ) → Blocks → Stack → Type 0 where
   none : Takes code m st 0 m st
-  more : {k : ℕ} {m' m'' : Blocks} {st' st'' : Stack} → Takes code m st k m' st' → Steps code m' st' m'' st'' → Takes code m st (k + 1) m'' st''
+  more : {k : ℕ} {m' m'' : Blocks} {st' st'' : Stack}
+      → Takes code m st k m' st' → Steps code m' st' m'' st'' → Takes code m st (k + 1) m'' st''
 
 -- null, or a block of the struct
 abbrev pub Points : Blocks → ℕ → Word → Type 0
@@ -76,11 +80,14 @@ abbrev mutual
   ExprThere structs m kinds env NullExpr = ⊤
   ExprThere structs m kinds env (Var v) = WordThere structs m (slice_get kinds v.0) (env v.0)
   ExprThere structs m kinds env (Unary' op _ a) = OperandThere structs m kinds env a
-  ExprThere structs m kinds env (Binary' op _ a _ b) = OperandThere structs m kinds env a × OperandThere structs m kinds env b
+  ExprThere structs m kinds env (Binary' op _ a _ b) =
+      OperandThere structs m kinds env a × OperandThere structs m kinds env b
   ExprThere structs m kinds env (Field' _ a s field) =
-      OperandThere structs m kinds env a × (field < length (kinds_of_shape structs (Struct s))) × Points m s (operand_value structs (block_at m) env a)
+      OperandThere structs m kinds env a × (field < length (kinds_of_shape structs (Struct s)))
+      × Points m s (operand_value structs (block_at m) env a)
   ExprThere structs m kinds env (Address' _ a s field) =
-      OperandThere structs m kinds env a × (field < length (kinds_of_shape structs (Struct s))) × Points m s (operand_value structs (block_at m) env a)
+      OperandThere structs m kinds env a × (field < length (kinds_of_shape structs (Struct s)))
+      × Points m s (operand_value structs (block_at m) env a)
 
   -- all that an operand names is there
   pub OperandThere : List StructInfo → Blocks → List Kind → Variables → {k : _} → Row_of-CodeExpr k → Type 0
@@ -102,19 +109,22 @@ IsPlainField (Some (CellPtr s)) = ⊥
 -- each field that a statement of an initialiser of the struct's blocks sets is there, and all that its expressions name
 abbrev mutual
   pub StmtThere : List StructInfo → Blocks → List Kind → Variables → ℕ → InitStmt → Type 0
-  StmtThere structs m kinds env s (Set field e) = IsPlainField (field_kind structs (Struct s) field) × ExprThere structs m kinds env e
+  StmtThere structs m kinds env s (Set field e) =
+      IsPlainField (field_kind structs (Struct s) field) × ExprThere structs m kinds env e
   StmtThere structs m kinds env s (IfStmt' test _ first _ second) =
       ExprThere structs m kinds env test × RowThere structs m kinds env s first × RowThere structs m kinds env s second
 
   -- the same of the statements of a row
   pub RowThere : List StructInfo → Blocks → List Kind → Variables → ℕ → {k : _} → Row_of-InitStmt k → Type 0
   RowThere structs m kinds env s end_of-InitStmt = ⊤
-  RowThere structs m kinds env s (more_of-InitStmt stmt rest) = StmtThere structs m kinds env s stmt × RowThere structs m kinds env s rest
+  RowThere structs m kinds env s (more_of-InitStmt stmt rest) =
+      StmtThere structs m kinds env s stmt × RowThere structs m kinds env s rest
 
 -- the same of the statements of a list
 abbrev pub StmtsThere : List StructInfo → Blocks → List Kind → Variables → ℕ → List InitStmt → Type 0
 StmtsThere structs m kinds env s [] = ⊤
-StmtsThere structs m kinds env s (stmt ∷ rest) = StmtThere structs m kinds env s stmt × StmtsThere structs m kinds env s rest
+StmtsThere structs m kinds env s (stmt ∷ rest) =
+    StmtThere structs m kinds env s stmt × StmtsThere structs m kinds env s rest
 
 -- an initialiser with one parameter for each word; its struct is there, and on these words all that its body names
 abbrev pub Initialiser : List StructInfo → Blocks → Option FunctionCode → List Word → Type 0
@@ -157,14 +167,16 @@ CommandThere code m u env (Write p e) =
     ExprThere code.structs m (variables code u) env p × ExprThere code.structs m (variables code u) env e
     × Modifiable code.structs m (expr_value code.structs (block_at m) env p)
 CommandThere code m u env (If test first second) =
-    ExprThere code.structs m (variables code u) env test × (first < length (unit_at code u).body) × (second < length (unit_at code u).body)
+    ExprThere code.structs m (variables code u) env test
+    × (first < length (unit_at code u).body) × (second < length (unit_at code u).body)
 CommandThere code m u env Done = ⊤
 CommandThere code m u env (Tail w args) =
     ExprsThere code.structs m (variables code u) env args
     × UnitThere code (unit_at code u).function w.0 (unit_at code w.0).params args × NoTail (command_at code w.0 0)
 CommandThere code m u env (Read v p w args) =
     (v.0 < length (variables code u)) × ExprThere code.structs m (variables code u) env p
-    × Modifiable code.structs m (expr_value code.structs (block_at m) env p) × ExprsThere code.structs m (variables code u) env args
+    × Modifiable code.structs m (expr_value code.structs (block_at m) env p)
+    × ExprsThere code.structs m (variables code u) env args
     × UnitThere code (unit_at code u).function w.0 (others v.0 (unit_at code w.0).params) args
 CommandThere code m u env (Call g args w rest) =
     (is_core (slice_get code.functions g) ≡ true) × ExprsThere code.structs m (variables code u) env args

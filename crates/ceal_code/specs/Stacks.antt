@@ -29,7 +29,8 @@ over a below = Run a.unit a.index (arguments a.env.items) below
 abbrev pub waiting_on : List Waiting → List Word → Stack
 waiting_on [] words = Empty
 waiting_on (w ∷ more) words =
-    Run w.unit w.index (arguments (drop (length words - w.count) words)) (waiting_on more (take (length words - w.count) words))
+    Run w.unit w.index (arguments (drop (length words - w.count) words))
+    (waiting_on more (take (length words - w.count) words))
 
 -- the same with the next one last
 unfoldable pub waiting : List Waiting → List Word → Stack
@@ -108,6 +109,7 @@ reading_in code x r env below = Reads r.place r.unit r.var (values code.structs 
 abbrev pub step_in : Code → Plain → CodeStep → CodeStack → Act
 step_in code x StepOver s = Over
 step_in code x StepQuiet s = Quiet (stack_in s)
-step_in code x (StepMakes m) s = making_in code x m s.top.unit s.top.index (arguments s.top.env.items) (waits_in s.waits)
+step_in code x (StepMakes m) s =
+    making_in code x m s.top.unit s.top.index (arguments s.top.env.items) (waits_in s.waits)
 step_in code x (StepWrites p value) s = Writes p value (stack_in s)
 step_in code x (StepReads r) s = reading_in code x r (arguments s.top.env.items) (waits_in s.waits)

@@ -139,7 +139,8 @@ act code x (Tail w args) u i env below = Over
 act code x (Read v p w args) u i env below =
     reads_at code (place_of (expr_value code.structs x env p)) w v.0 (values code.structs x env args) below
 act code x (Call f args w rest) u i env below =
-    Quiet (entered code (entry_of code f) (values code.structs x env args) (entered code w.0 (values code.structs x env rest) below))
+    Quiet (entered code (entry_of code f) (values code.structs x env args)
+    (entered code w.0 (values code.structs x env rest) below))
 
 -- where a tail call arrives; on a command that is again a tail, which valid code has not, the activation ends
 abbrev pub landed : Cmd → Stack → Stack → Stack

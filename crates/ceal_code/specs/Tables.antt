@@ -87,4 +87,5 @@ store_flat code s (i ∷ is) = store_flat code (store_item code s i) is
 
 -- the store where the modifiables of a block have their defaults
 unfoldable pub defaulted : Code → Store → BlockId → Block → Store
-defaulted code s id block = λ p. if same_block p.block id then cell_default (field_kind code.structs block.shape p.field) else s p
+defaulted code s id block = λ p.
+    if same_block p.block id then cell_default (field_kind code.structs block.shape p.field) else s p

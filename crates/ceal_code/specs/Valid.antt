@@ -144,11 +144,14 @@ unfoldable mutual
   type_of structs kinds known (Var v) = variable_type (slice_get kinds v.0) (unwrap_or (slice_get known v.0) false)
   type_of structs kinds known (Unary' op _ a) = int_if (fits Int (operand_type structs kinds known a))
   type_of structs kinds known (Binary' op _ a _ b) =
-      if operand_suits structs op a then binary_type op (operand_type structs kinds known a) (operand_type structs kinds known b) else None
+      if operand_suits structs op a
+      then binary_type op (operand_type structs kinds known a) (operand_type structs kinds known b) else None
   type_of structs kinds known (Field' _ a s field) =
-      if points_to s (operand_type structs kinds known a) then plain_type (field_kind structs (Struct s) field) else None
+      if points_to s (operand_type structs kinds known a)
+      then plain_type (field_kind structs (Struct s) field) else None
   type_of structs kinds known (Address' _ a s field) =
-      if points_to s (operand_type structs kinds known a) then cell_type (field_kind structs (Struct s) field) else None
+      if points_to s (operand_type structs kinds known a)
+      then cell_type (field_kind structs (Struct s) field) else None
 
   pub operand_type : List StructInfo → List Kind → List Bool → {n : _} → Row_of-CodeExpr n → Typing
   operand_type structs kinds known end_of-CodeExpr = None
@@ -157,7 +160,8 @@ unfoldable mutual
 -- one argument of the right type for each kind
 unfoldable pub all_fit : List StructInfo → List Kind → List Bool → List Kind → List CodeExpr → Bool
 all_fit structs kinds known [] [] = true
-all_fit structs kinds known (asked ∷ more) (e ∷ es) = fits asked (type_of structs kinds known e) && all_fit structs kinds known more es
+all_fit structs kinds known (asked ∷ more) (e ∷ es) =
+    fits asked (type_of structs kinds known e) && all_fit structs kinds known more es
 all_fit structs kinds known _ _ = false
 
 -- one argument of the right type for each parameter, whose kinds are these
@@ -187,10 +191,12 @@ read_fits code f known v (Some unit) args =
 -- the arguments are for the entry unit of another function
 abbrev pub entry_fits : Code → ℕ → List Bool → ℕ → Option Unit → List CodeExpr → Bool
 entry_fits code f known g None args = false
-entry_fits code f known g (Some unit) args = params_fit code.structs (kinds_of code f) known (kinds_of code g) unit.params args
+entry_fits code f known g (Some unit) args =
+    params_fit code.structs (kinds_of code f) known (kinds_of code g) unit.params args
 
 abbrev pub call_fits : Code → ℕ → List Bool → ℕ → Option FunctionCode → List CodeExpr → Bool
-call_fits code f known g (Some (CoreFunction name entry params)) args = entry_fits code f known g (slice_get code.units entry.0) args
+call_fits code f known g (Some (CoreFunction name entry params)) args =
+    entry_fits code f known g (slice_get code.units entry.0) args
 call_fits code f known g (Some (InitFunction name s params body)) args = false
 call_fits code f known g None args = false
 
@@ -229,9 +235,11 @@ write_fits _ t = false
 -- a command of a unit of the function, where these variables are known; `stepped` says that a command before it
 -- takes a step
 abbrev pub command_ok : Code → ℕ → List Bool → Bool → Cmd → Bool
-command_ok code f known stepped (Move v e) = fits_maybe (slice_get (kinds_of code f) v.0) (type_of code.structs (kinds_of code f) known e)
+command_ok code f known stepped (Move v e) =
+    fits_maybe (slice_get (kinds_of code f) v.0) (type_of code.structs (kinds_of code f) known e)
 command_ok code f known stepped Tick = true
-command_ok code f known stepped (Alloc v g args) = alloc_fits code f known (slice_get (kinds_of code f) v.0) (slice_get code.functions g) args
+command_ok code f known stepped (Alloc v g args) =
+    alloc_fits code f known (slice_get (kinds_of code f) v.0) (slice_get code.functions g) args
 command_ok code f known stepped (Modref v shape) = modref_fits (slice_get (kinds_of code f) v.0) shape
 command_ok code f known stepped (Write p e) =
     write_fits (type_of code.structs (kinds_of code f) known p) (type_of code.structs (kinds_of code f) known e)
@@ -265,7 +273,8 @@ path_ok code f on (Some c) i known stepped = command_ok code f known stepped c &
 -- than the body
 unfoldable pub paths_ok : Code → ℕ → List Cmd → ℕ → ℕ → List Bool → Bool → Bool
 paths_ok code f body zero i known stepped = false
-paths_ok code f body (suc fuel) i known stepped = path_ok code f (paths_ok code f body fuel) (slice_get body i) i known stepped
+paths_ok code f body (suc fuel) i known stepped =
+    path_ok code f (paths_ok code f body fuel) (slice_get body i) i known stepped
 
 -- where an `If` goes on is after it
 abbrev pub goes_forward : Cmd → ℕ → Bool
@@ -364,13 +373,16 @@ set_ok None t = false
 -- the statements of an initialiser of blocks of the struct
 unfoldable mutual
   pub stmt_ok : List StructInfo → List Kind → List Bool → ℕ → InitStmt → Bool
-  stmt_ok structs kinds known s (Set field e) = set_ok (field_kind structs (Struct s) field) (type_of structs kinds known e)
+  stmt_ok structs kinds known s (Set field e) =
+      set_ok (field_kind structs (Struct s) field) (type_of structs kinds known e)
   stmt_ok structs kinds known s (IfStmt' test _ first _ second) =
-      fits Int (type_of structs kinds known test) && (row_ok structs kinds known s first && row_ok structs kinds known s second)
+      fits Int (type_of structs kinds known test)
+      && (row_ok structs kinds known s first && row_ok structs kinds known s second)
 
   pub row_ok : List StructInfo → List Kind → List Bool → ℕ → {n : _} → Row_of-InitStmt n → Bool
   row_ok structs kinds known s end_of-InitStmt = true
-  row_ok structs kinds known s (more_of-InitStmt stmt rest) = stmt_ok structs kinds known s stmt && row_ok structs kinds known s rest
+  row_ok structs kinds known s (more_of-InitStmt stmt rest) =
+      stmt_ok structs kinds known s stmt && row_ok structs kinds known s rest
 
 unfoldable pub stmts_ok : List StructInfo → List Kind → List Bool → ℕ → List InitStmt → Bool
 stmts_ok structs kinds known s [] = true
@@ -448,7 +460,8 @@ function_ok code f (InitFunction name s params body) kinds =
 -- one item of kinds for each function, from a number on
 unfoldable pub functions_ok : Code → ℕ → List FunctionCode → List (List Kind) → Bool
 functions_ok code f [] [] = true
-functions_ok code f (function ∷ functions) (ks ∷ kinds) = function_ok code f function ks && functions_ok code (f + 1) functions kinds
+functions_ok code f (function ∷ functions) (ks ∷ kinds) =
+    function_ok code f function ks && functions_ok code (f + 1) functions kinds
 functions_ok code f [] (ks ∷ kinds) = false
 functions_ok code f (function ∷ functions) [] = false
 

@@ -81,7 +81,8 @@ unfoldable mutual
   expr_value structs x env NullExpr = Null
   expr_value structs x env (Var v) = env v.0
   expr_value structs x env (Unary' op _ a) = unary_value op (operand_value structs x env a)
-  expr_value structs x env (Binary' op _ a _ b) = binary_value op (operand_value structs x env a) (operand_value structs x env b)
+  expr_value structs x env (Binary' op _ a _ b) =
+      binary_value op (operand_value structs x env a) (operand_value structs x env b)
   expr_value structs x env (Field' _ a s field) = field_value structs x (operand_value structs x env a) s field
   expr_value structs x env (Address' _ a s field) = address_value structs x (operand_value structs x env a) s field
 

@@ -100,7 +100,7 @@ fn is_dump(alloc: Global, kept: &Record, bytes: &[u8]) -> Result<bool, NoMemory>
     Ok(text.items() == bytes)
 }
 
-/// The record whose dump text the bytes are. They are unreadable exactly where they are that of no record.
+/// The record whose dump text the bytes are. They are unreadable exactly when they are that of no record.
 pub fn read_dump(alloc: Global, bytes: &[u8]) -> Result<Record, DumpError>
     ensures read { IsRead bytes.now result }
 {

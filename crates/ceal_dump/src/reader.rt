@@ -24,7 +24,7 @@ impl<'a> Model for Reader<'a> {
     ghost view = { λ r. r.rest.now };
 }
 
-/// A number with a digit behind it.
+/// A number with a digit after it.
 fn with_digit(n: u64, byte: u8) -> u64
     ensures { result ≡ reading.with_digit n byte }
 {

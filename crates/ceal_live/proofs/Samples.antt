@@ -19,7 +19,7 @@ one = record { span = at; kind = Some Int; form = Num (pos 1) }
 abbrev sets : List (List ℕ)
 sets = (0 ∷ 2 ∷ []) ∷ (1 ∷ []) ∷ []
 
--- a variable of the set behind an assignment comes to it, unless it is the one that is assigned
+-- a variable of the set after an assignment comes to it, unless it is the one that is assigned
 kept : comes sets (Act (Assign at 0 (Plain one)) 0) 2 ≡ true
 kept = refl
 

@@ -10,7 +10,7 @@ use Rattle.ceal_many.specs.Standing.{IsAnswered, IsLeft}
 use Rattle.ceal_many.specs.declared.entry.Entry.{Entry}
 use Rattle.ceal_many.proofs.Finding.{is_its, found, its-name, missing, behind, no-room}
 
--- a new name is not there, and after want of memory it is not there either
+-- a new name is not there, and after running out of memory it is not there either
 module _ {A S : Type 0} (stands : A → S → Type 0) (answers : S → List ℕ → List ℕ → S → Type 0) (leaves : S → List ℕ → S → Type 0)
     (held : List (Entry A)) (name line : List ℕ) (p : position (is_its stands name) held ≡ None) where
   none-left : (ss : List (Named S)) → StandFor stands held ss → LeavesFor answers leaves name ss line ss

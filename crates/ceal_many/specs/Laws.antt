@@ -20,7 +20,7 @@ HasSession name names = list_any (bytes_eq name) names ≡ true
 abbrev pub HasNoSession : List ℕ → List (List ℕ) → Type 0
 HasNoSession name names = list_any (bytes_eq name) names ≡ false
 
--- The replies to the lines for one of the first names are those that its session alone gives to these lines.
+-- The replies to the lines for one of the first names are those that its session by itself gives to these lines.
 abbrev pub OwnRepliesLaw : {S : Type 0} → Answering S → Type 0
 OwnRepliesLaw {S} answers = (opening : S) (ss next : List (Named S)) (lines texts : List (List ℕ)) (name : List ℕ)
     → AreReplies answers opening ss lines texts next → HasSession name (names_after (names_of ss) lines)

@@ -1,5 +1,5 @@
 -- The replies to lines of many sessions. `answers` says of one session's state which text answers a line and
--- what the next state is, and `leaves` what is left of it after want of memory.
+-- what the next state is, and `leaves` what is left of it after running out of memory.
 use Rattle.std.specs.Prelude.{◌≡◌, ◌⊎◌, ℕ, Bool, true, false, Option, Some, None, List, [], ◌∷◌}
 use Rattle.ceal_many.specs.Lines.{Said, Blank, For, Unreadable, said}
 use Rattle.ceal_many.specs.Prefixes.{prefixed, unreadable_text, full_text}
@@ -48,7 +48,7 @@ AnswersSaid answers opening ss (For name line) text next = AnswersFor answers op
 abbrev pub Answers : {S : Type 0} → Answering S → S → List (Named S) → List ℕ → List ℕ → List (Named S) → Type 0
 Answers answers opening ss line text next = AnswersSaid answers opening ss (said line) text next
 
--- A session after want of memory: its own answer stands, which was not written, or it is left without one.
+-- A session after running out of memory: its own answer stands, which was not written, or it is left without one.
 abbrev pub LeavesOne : {S : Type 0} → Answering S → Leaving S → S → List ℕ → S → Type 0
 LeavesOne answers leaves s line n = ((reply : List ℕ) × answers s line reply n) ⊎ leaves s line n
 

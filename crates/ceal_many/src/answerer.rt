@@ -8,10 +8,10 @@ use ceal_base::text::Text;
 
 /// What answers the lines of one session.
 pub trait Answerer: Drop {
-    /// What a session begins with. It is for contracts alone: nothing makes a value of it.
+    /// What a session begins with. It is only for contracts: nothing makes a value of it.
     type Beginning;
 
-    /// The states, which contracts alone speak of.
+    /// The states, of which only contracts speak.
     ghost State: { Type 0 };
 
     /// The state of a session that has answered no line.

@@ -4,7 +4,7 @@ ghost use Rattle.ceal_many.specs.Laws.{OwnRepliesLaw, RefusedLaw, NamesLaw, OneR
 
 use crate::answerer::Answerer;
 
-/// A law: the replies to the lines for one of the first 64 names are those that its session alone gives to these
+/// A law: the replies to the lines for one of the first 64 names are those that its session by itself gives to these
 /// lines. The lines for any other name are refused.
 pub fn own_replies<A: Answerer>()
     ensures own { OwnRepliesLaw A.answers }
@@ -13,7 +13,7 @@ pub fn own_replies<A: Answerer>()
 {}
 
 /// A law: where a session has one reply to a line at most, many sessions have, and the replies to one name's lines
-/// depend on these lines alone.
+/// depend only on these lines.
 pub fn one_reply<A: Answerer>()
     ensures reply { OneReplyLaw A.answers }
     ensures alone { AloneLaw A.answers }

@@ -2,7 +2,7 @@
 //!
 //! What a session is stands open: `Answerer` is what answers the lines of one, and `Maker` what makes one. `Many` is
 //! proved for every maker. `specs/` says what a line says (`Lines`), how replies are written (`Prefixes`), and what
-//! they are (`Replies`); `Alone` and `Laws` say that the replies to one name's lines depend on these lines alone.
+//! they are (`Replies`); `Alone` and `Laws` say that the replies to one name's lines depend only on these lines.
 #![tactic(auto)]
 
 mod answerer;

@@ -19,4 +19,5 @@ those test (s ∷ ss) = if test s then s ∷ those test ss else those test ss
 
 -- none of these stands between two stamps
 abbrev pub NoneBetween : List ℕ → List ℕ → ℕ → ℕ → Type 0
-NoneBetween order stamps after until = (s : ℕ) → is_in s stamps ≡ true → place after order < place s order → place until order ≤ place s order
+NoneBetween order stamps after until = (s : ℕ)
+    → is_in s stamps ≡ true → place after order < place s order → place until order ≤ place s order

@@ -26,8 +26,10 @@ pub record IsFound {K : Type 0} (eq : K → K → Bool) (entries : List (K × Li
   pub found : lookup_key (eq key) entries ≡ Some stored
   pub value : lookup (eq key) entries ≡ Some stamps
 
--- a key has these stamps now, in the list with this number, which had those of the key before; the other lists are as they were
-pub record IsEntered {K : Type 0} (eq : K → K → Bool) (old new : List (K × List ℕ)) (key : K) (n : ℕ) (stamps : List ℕ) : Type 0 where
+-- a key has these stamps now, in the list with this number, which had those of the key before;
+-- the other lists are as they were
+pub record IsEntered {K : Type 0} (eq : K → K → Bool)
+    (old new : List (K × List ℕ)) (key : K) (n : ℕ) (stamps : List ℕ) : Type 0 where
   pub stored : K
   pub same : eq key stored ≡ true
   pub here : slice_get new n ≡ Some (stored, stamps)

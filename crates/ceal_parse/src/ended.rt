@@ -31,7 +31,7 @@ fn wanted(mode: &mut Mode, found: Sign, sign: Sign, next: Mode) -> Turn
     }
 }
 
-/// A whole expression begins anew, for the same.
+/// A whole expression begins again, for the same.
 fn begin_again(alloc: Global, whole: &mut Whole)
     ensures value { whole.new ≡ begun whole.old.nesting whole.old.receiver }
 {

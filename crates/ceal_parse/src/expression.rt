@@ -136,7 +136,7 @@ fn take_address(frames: &mut Stack<Frame>) -> Option<Span>
     at
 }
 
-/// The `[` of an index, which stands after the operand of an `&` alone.
+/// The `[` of an index, which stands only after the operand of an `&`.
 fn take_index(whole: &mut Whole, place: &mut Place, piece: Piece) -> Result<Part, NoMemory>
     requires shallow { whole.old.nesting < 2 ^ 31 }
     requires few { whole.old.operators < 2 ^ 31 }

@@ -178,7 +178,7 @@ pub fn take_declared(mode: &mut Mode, at: Span, form: TypeForm, name: Ident, tok
     }
 }
 
-/// The path that is this name alone.
+/// The path that is only this name.
 fn path(name: Ident) -> Expr
     ensures value { result ≡ path_of name }
 {

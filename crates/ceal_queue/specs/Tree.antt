@@ -15,7 +15,7 @@ abbrev pub AllBefore : List ℕ → ℕ → List ℕ → Type 0
 AllBefore order s [] = Unit {0}
 AllBefore order s (t ∷ ts) = (place t order < place s order) × AllBefore order s ts
 
--- each of these is a stamp, or stands behind it
+-- each of these is a stamp, or stands after it
 abbrev pub AllFrom : List ℕ → ℕ → List ℕ → Type 0
 AllFrom order s [] = Unit {0}
 AllFrom order s (t ∷ ts) = ((s ≡ t) ⊎ (place s order < place t order)) × AllFrom order s ts

@@ -51,7 +51,7 @@ impl Stale {
         })
     }
 
-    /// Makes room for `n` more stamps. `NoMemory` also comes where there would be 2^32 stamps or more, the room counted.
+    /// Makes room for `n` more stamps. `NoMemory` also comes when there would be 2^32 stamps or more, the room counted.
     pub fn reserve(&mut self, n: u32) -> Result<(), NoMemory>
         ensures stamps { self.new.stamps ≡ self.old.stamps }
         ensures room { OnOk result (self.new.spare ≡ max self.old.spare n) }

@@ -262,7 +262,7 @@ pub fn taken_first(mut fork: Box<Fork>) -> (Box<Fork>, Tree)
     }
 }
 
-/// The tree with one more stamp, which takes the fork that is handed in.
+/// The tree with one more stamp, which takes the fork that is given.
 pub fn with_stamp(order: &Order, tree: Tree, mut fork: Box<Fork>, stamp: Stamp) -> Tree
     requires here { IsTrue (is_in stamp.0 order.now.stamps) }
     requires rising { IsRising order.now.stamps (stamps_of tree) }
@@ -291,7 +291,7 @@ pub fn without_stamp(order: &Order, tree: Tree, stamp: Stamp) -> (Box<Fork>, Tre
     }
 }
 
-/// Adds so many forks. Where there is no memory for all of them, none is added.
+/// Adds that many forks. Where there is no memory for all of them, none is added.
 pub fn add_forks(spares: &mut Vec<Box<Fork>>, more: u32) -> Result<(), NoMemory>
     ensures ok { OnOk result (vec_len spares.new ≡ vec_len spares.old + more) }
     ensures err { OnErr result (vec_len spares.new ≡ vec_len spares.old) }

@@ -23,8 +23,8 @@ use Rattle.ceal_theory.specs.Walk.{AgreesAll}
 use Rattle.ceal_trace.specs.Items.{forest_of, Nests}
 use Rattle.ceal_trace.specs.Nodes.{Entry}
 
--- The nodes of a run stand for this trace on these inputs: its flat items are theirs, and the blocks that can be read are its blocks
--- with their plain words, none of them revoked; the region has their slots and no others.
+-- The nodes of a run stand for this trace on these inputs: its flat items are theirs, and the blocks that can be read
+-- are its blocks with their plain words, none of them revoked; the region has their slots and no others.
 pub record Stands (code : Code) (inputs : List Block) (l : Trace) (run : Running) : Type 0 where
   pub kept : Kept run.tables
   pub nests : Nests run.tables.trace.nodes
@@ -34,22 +34,26 @@ pub record Stands (code : Code) (inputs : List Block) (l : Trace) (run : Running
   pub slots : HasSlots run.heap
   pub blocks : HasBlocks code inputs run.heap run.tables
 
--- The nodes stand for a trace of the call that has no more steps than the fuel. Inputs may have got other bases since it was honest.
-pub record IsKeptRun (code : Code) (inputs : List Block) (f : ℕ) (args : List Word) (fuel : ℕ) (l : Trace) (run : Running) : Type 0 where
+-- The nodes stand for a trace of the call that has no more steps than the fuel.
+-- Inputs may have got other bases since it was honest.
+pub record IsKeptRun (code : Code) (inputs : List Block) (f : ℕ) (args : List Word) (fuel : ℕ)
+    (l : Trace) (run : Running) : Type 0 where
   pub stands : Stands code inputs l run
   pub fits : Fits code inputs f args
   pub replays : Replays code inputs f args l
   pub few : steps_of l ≤ fuel
 
 -- The nodes stand for a trace of the call that is honest on the inputs and has no more steps than the fuel.
-pub record IsRunOf (code : Code) (inputs : List Block) (f : ℕ) (args : List Word) (fuel : ℕ) (l : Trace) (run : Running) : Type 0 where
+pub record IsRunOf (code : Code) (inputs : List Block) (f : ℕ) (args : List Word) (fuel : ℕ)
+    (l : Trace) (run : Running) : Type 0 where
   pub stands : Stands code inputs l run
   pub replays : Replays code inputs f args l
   pub honest : IsHonest code inputs l
   pub few : steps_of l ≤ fuel
 
 -- The trace is the first trace of the call, with these names for its blocks; all its steps are work.
-pub record IsFirstRun (code : Code) (inputs : List Block) (f : ℕ) (args : List Word) (fuel : ℕ) (run : Running) : Type 0 where
+pub record IsFirstRun (code : Code) (inputs : List Block) (f : ℕ) (args : List Word) (fuel : ℕ)
+    (run : Running) : Type 0 where
   pub trace : Trace
   pub is_run : IsRunOf code inputs f args fuel trace run
   pub first : Repaired
@@ -63,15 +67,19 @@ abbrev pub IsFirst : Code → List Block → ℕ → List Word → ℕ → Outco
 IsFirst code inputs f args fuel (Done run) = IsFirstRun code inputs f args fuel run
 IsFirst code inputs f args fuel OutOfFuel = fresh code f args inputs fuel ≡ None
 
--- The new trace is the repair of the old one with new blocks from `next` on, which have these names in place of their numbers.
-pub record IsRepairFrom (code : Code) (inputs : List Block) (fuel : ℕ) (names : ℕ → ℕ) (old new : Trace) (work next : ℕ) : Type 0 where
+-- The new trace is the repair of the old one with new blocks from `next` on,
+-- which have these names in place of their numbers.
+pub record IsRepairFrom (code : Code) (inputs : List Block) (fuel : ℕ) (names : ℕ → ℕ)
+    (old new : Trace) (work next : ℕ) : Type 0 where
   pub repair : Repaired
   pub is : adjusted code inputs next fuel old ≡ Some repair
   pub same : new ≡ trace_by (naming next names) repair.items
   pub counted : work ≡ repair.work
 
--- The run is that of the repair of the old trace on the present inputs. Where the old trace is honest on them nothing changes.
-pub record IsRepairedRun (code : Code) (inputs : List Block) (f : ℕ) (args : List Word) (fuel : ℕ) (old : Trace) (before run : Running) : Type 0 where
+-- The run is that of the repair of the old trace on the present inputs.
+-- Where the old trace is honest on them nothing changes.
+pub record IsRepairedRun (code : Code) (inputs : List Block) (f : ℕ) (args : List Word) (fuel : ℕ)
+    (old : Trace) (before run : Running) : Type 0 where
   pub trace : Trace
   pub is_run : IsRunOf code inputs f args fuel trace run
   pub names : ℕ → ℕ
@@ -80,7 +88,8 @@ pub record IsRepairedRun (code : Code) (inputs : List Block) (f : ℕ) (args : L
   pub from : (next : ℕ) → Above next old → IsRepairFrom code inputs fuel names old trace run.spent next
   pub unchanged : IsHonest code inputs old → (run.tables.trace ≡ before.tables.trace) × (run.spent ≡ 0)
   -- nodes at the beginning that agree with the walk over the inputs stay as they are, in front of all others
-  pub front : (front back : List Entry) → before.tables.trace.nodes ≡ front ++ back → AgreesAll code (bases code inputs) (forest_of front)
+  pub front : (front back : List Entry) → before.tables.trace.nodes ≡ front ++ back
+      → AgreesAll code (bases code inputs) (forest_of front)
       → (later : List Entry) × (run.tables.trace.nodes ≡ front ++ later)
 
 abbrev pub IsRepaired : Code → List Block → ℕ → List Word → ℕ → Trace → Running → Outcome → Type 0

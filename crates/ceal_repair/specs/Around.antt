@@ -10,39 +10,48 @@ use Rattle.ceal_theory.specs.Course.{Wait, Fixes, Takes, Begins}
 use Rattle.ceal_theory.specs.Groves.{Grove}
 use Rattle.ceal_trace.specs.Nodes.{Entry}
 
--- Kept nodes up to the end of a taken read: those of the innermost read that is open at the cursor, its end, and so on. Each
--- such read waits for its end; with these the first waits and open reads become the second ones.
+-- Kept nodes up to the end of a taken read: those of the innermost read that is open at the cursor, its end, and so on.
+-- Each such read waits for its end; with these the first waits and open reads become the second ones.
 pub data Inside (ws : List Wait) (rs : List ℕ) : List Wait → List ℕ → List Entry → Type 0 where
   level : (g : Grove) → Inside ws rs ws rs (entries g)
-  deeper : {vs : List Wait} {qs : List ℕ} {es : List Entry} (g : Grove) (e r m : ℕ) → Inside ws rs vs qs es → Inside ws rs (Fixes ∷ vs) (r ∷ qs) (entries g ++ closing e r m ∷ es)
+  deeper : {vs : List Wait} {qs : List ℕ} {es : List Entry} (g : Grove) (e r m : ℕ)
+      → Inside ws rs vs qs es
+      → Inside ws rs (Fixes ∷ vs) (r ∷ qs) (entries g ++ closing e r m ∷ es)
 
 -- Where nodes that are left over end: without a limit nothing stands behind them, else the end of a read, at the limit.
 abbrev pub Bounds : Option Stamp → List Entry → Type 0
 Bounds None es = es ≡ []
 Bounds (Some e) es = (r m : ℕ) × (rest : List Entry) × (es ≡ closing e.0 r m ∷ rest)
 
--- Both begin with the limit, the frames (the next first), what waits for them, and the reads that are open for them, the last
--- begun first; the last list is that of the nodes. A repair ends at the limit and the nodes with which it began.
+-- Both begin with the limit, the frames (the next first), what waits for them, and the reads that are open for them,
+-- the last begun first; the last list is that of the nodes.
+-- A repair ends at the limit and the nodes with which it began.
 mutual
   -- the nodes behind those that are left over to the unit that runs
-  pub data Tails (limit : Option Stamp) (beyond : List Entry) : Option Stamp → List Frame → List Wait → List ℕ → List Entry → Type 0 where
+  pub data Tails (limit : Option Stamp) (beyond : List Entry)
+      : Option Stamp → List Frame → List Wait → List ℕ → List Entry → Type 0 where
     last : Tails limit beyond limit [] [] [] beyond
     -- a new read shares what is left over
-    begun : {until : Option Stamp} {fs : List Frame} {ws : List Wait} {rs : List ℕ} {tail : List Entry} (below : Waits) (read : Stamp)
+    begun : {until : Option Stamp} {fs : List Frame} {ws : List Wait} {rs : List ℕ} {tail : List Entry}
+        (below : Waits) (read : Stamp)
         → Tails limit beyond until fs ws rs tail
         → Tails limit beyond until (Begun below read ∷ fs) (Begins (waits_in below) ∷ ws) (read.0 ∷ rs) tail
     -- a taken read that runs anew: its end, and what is left over behind it
-    taken : {until : Stamp} {fs : List Frame} {ws : List Wait} {rs : List ℕ} {tail : List Entry} (below : Waits) (e r m : ℕ) (g : Grove)
+    taken : {until : Stamp} {fs : List Frame} {ws : List Wait} {rs : List ℕ} {tail : List Entry}
+        (below : Waits) (e r m : ℕ) (g : Grove)
         → Tails limit beyond (Some until) fs ws rs tail
-        → Tails limit beyond (Some (stamped e)) (Taken below until ∷ fs) (Takes (waits_in below) ∷ ws) (r ∷ rs) (closing e r m ∷ (entries g ++ tail))
+        → Tails limit beyond (Some (stamped e)) (Taken below until ∷ fs) (Takes (waits_in below) ∷ ws) (r ∷ rs)
+        (closing e r m ∷ (entries g ++ tail))
     -- a stale read of a taken one: its end, and the nodes that are passed then
     kept : {until : Stamp} {fs : List Frame} {ws : List Wait} {rs : List ℕ} {back : List Entry} (e r m : ℕ)
         → Passes limit beyond until fs ws rs back
         → Tails limit beyond (Some (stamped e)) (Kept until ∷ fs) (Fixes ∷ ws) (r ∷ rs) (closing e r m ∷ back)
 
   -- the nodes behind the cursor, where kept nodes are passed up to the end of a taken read
-  pub data Passes (limit : Option Stamp) (beyond : List Entry) : Stamp → List Frame → List Wait → List ℕ → List Entry → Type 0 where
-    passes : {until : Stamp} {fs : List Frame} {ws vs : List Wait} {rs qs : List ℕ} {es tail : List Entry} (below : Waits) (e r m : ℕ) (g : Grove)
+  pub data Passes (limit : Option Stamp) (beyond : List Entry)
+      : Stamp → List Frame → List Wait → List ℕ → List Entry → Type 0 where
+    passes : {until : Stamp} {fs : List Frame} {ws vs : List Wait} {rs qs : List ℕ} {es tail : List Entry}
+        (below : Waits) (e r m : ℕ) (g : Grove)
         → Inside (Takes (waits_in below) ∷ ws) (r ∷ rs) vs qs es
         → Tails limit beyond (Some until) fs ws rs tail
         → Passes limit beyond (stamped e) (Taken below until ∷ fs) vs qs (es ++ closing e r m ∷ (entries g ++ tail))

@@ -24,7 +24,8 @@ There inputs heap (Core b) = IsSome (block_of heap (Core b))
 
 -- the places that are read are those of blocks that are there
 abbrev pub ReadsThere : ℕ → Contents → List Entry → Type 0
-ReadsThere inputs heap nodes = (s : ℕ) (p : Place) (v : Word) → Records p v (node_at s nodes) → There inputs heap p.block
+ReadsThere inputs heap nodes = (s : ℕ) (p : Place) (v : Word)
+    → Records p v (node_at s nodes) → There inputs heap p.block
 
 -- the live blocks are those that the nodes allocate, each once; no node allocates an input
 pub record Lives (heap : Contents) (nodes : List Entry) : Type 0 where
@@ -38,8 +39,8 @@ pub record HasBlocks (code : Code) (inputs : List Block) (heap : Contents) (t : 
   pub lives : Lives heap t.trace.nodes
   pub reads : ReadsThere (length inputs) heap t.trace.nodes
 
--- The numbers that new blocks were given: each is another one, none is that of a block that was there at first, and all these
--- can be read.
+-- The numbers that new blocks were given: each is another one, none is that of a block that was there at first,
+-- and all these can be read.
 pub record Given (first chosen : List ℕ) (heap : Contents) : Type 0 where
   pub distinct : Distinct chosen
   pub apart : (b : ℕ) → In b chosen → count b first ≡ 0

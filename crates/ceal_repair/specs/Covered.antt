@@ -1,5 +1,5 @@
--- The contents that nodes leave, and what the queue of stale reads has to hold: wherever a read has not the content of its
--- moment, a queued read of its place stands there or before it, with no write of the place between.
+-- The contents that nodes leave, and what the queue of stale reads has to hold: wherever a read has not the content
+-- of its moment, a queued read of its place stands there or before it, with no write of the place between.
 use Rattle.std.specs.Prelude.{◌≡◌, ◌⊎◌, ℕ, Bool, true, false, if◌then◌else◌, List, [], ◌∷◌, ⊤, ◌==◌}
 use Rattle.ceal_base.specs.Operators.{same_place}
 use Rattle.ceal_base.specs.declared.word.Place.{Place}
@@ -53,4 +53,6 @@ IsCovered s g _ = ⊤
 -- each of these is covered, where contents are these at first
 abbrev pub Covers : Queue → Store → Seen → List Entry → Type 0
 Covers q s g [] = ⊤
-Covers q s g (e ∷ es) = IsCovered s (seen_after q g e.stamp e.node) e.node × Covers q (content_after s e.node) (seen_after q g e.stamp e.node) es
+Covers q s g (e ∷ es) =
+    IsCovered s (seen_after q g e.stamp e.node) e.node
+    × Covers q (content_after s e.node) (seen_after q g e.stamp e.node) es

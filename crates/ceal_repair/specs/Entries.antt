@@ -31,7 +31,8 @@ abbrev pub entries : Grove → List Entry
 entries Bare = []
 entries (Made s b key n rest) = entry s (Alloc b key) n ∷ entries rest
 entries (Put s p v n rest) = entry s (Write p v) n ∷ entries rest
-entries (Got s p v u x args n inside e m rest) = entry s (Read p v u x args) n ∷ (entries inside ++ closing e s m ∷ entries rest)
+entries (Got s p v u x args n inside e m rest) =
+    entry s (Read p v u x args) n ∷ (entries inside ++ closing e s m ∷ entries rest)
 
 -- nodes as the laws of courses have them; the root is no such node
 abbrev pub knots_of : List Entry → List Knot
@@ -45,14 +46,14 @@ first_stamp (Made s b key n rest) = Some s
 first_stamp (Put s p v n rest) = Some s
 first_stamp (Got s p v u x args n inside e m rest) = Some s
 
--- The second grove is what is left of the first one where its first nodes are revoked up to the node at a stamp, each read with its
--- end.
+-- The second grove is what is left of the first one where its first nodes are revoked up to the node at a stamp,
+-- each read with its end.
 pub data CutTo (s : ℕ) : Grove → Grove → Type 0 where
   there : {g : Grove} → first_stamp g ≡ Some s → CutTo s g g
   more : {g h : Grove} → ¬ (first_stamp g ≡ Some s) → CutTo s (cut g) h → CutTo s g h
 
--- Behind the last of these nodes, which is at the cursor, stand the nodes of a grove, and then these. Nothing up to the cursor is
--- queued.
+-- Behind the last of these nodes, which is at the cursor, stand the nodes of a grove, and then these.
+-- Nothing up to the cursor is queued.
 pub record Lies (cursor : ℕ) (front : List Entry) (left : Grove) (tail : List Entry) (t : Tables) : Type 0 where
   pub done : List Entry
   pub last : Entry

@@ -77,4 +77,6 @@ IsHonestRecord s t = (p : Place) (v : Word) → Records p v (node_at s t.trace.n
 
 -- the first read that sees the change after a stamp is queued
 abbrev pub IsAwake : List ℕ → Cell → ℕ → List ℕ → Type 0
-IsAwake order cell after queue = (r : ℕ) → Sees order cell after r → ((other : ℕ) → Sees order cell after other → place r order ≤ place other order) → is_in r queue ≡ true
+IsAwake order cell after queue = (r : ℕ) → Sees order cell after r
+    → ((other : ℕ) → Sees order cell after other → place r order ≤ place other order)
+    → is_in r queue ≡ true

@@ -32,7 +32,8 @@ allocates key _ = false
 -- whether a node is found by a key with a hash
 abbrev pub is_hashed : ℕ → Node → Bool
 is_hashed hash (Alloc block key) = alloc_hash key == hash
-is_hashed hash (Read p value unit var args) = read_hash (record { place = p; unit = unit; var = var; args = args }) == hash
+is_hashed hash (Read p value unit var args) =
+    read_hash (record { place = p; unit = unit; var = var; args = args }) == hash
 is_hashed hash _ = false
 
 -- whether a node is a read with a key: of its place, with its closure

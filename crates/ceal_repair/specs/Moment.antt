@@ -30,8 +30,8 @@ use Rattle.ceal_trace.specs.Nodes.{Entry, end_in}
 use Rattle.ceal_trace.specs.declared.node.Node.{Node}
 use Rattle.ceal_trace.specs.declared.node.Node.TheVariants.{Root}
 
--- the parts of a repair under way: its tables and its heap, the steps that were run anew, the stamp of the cursor, the limit of
--- what is left over, and what follows, the next first
+-- the parts of a repair under way: its tables and its heap, the steps that were run anew, the stamp of the cursor,
+-- the limit of what is left over, and what follows, the next first
 pub record View : Type 0 where
   pub tables : Tables
   pub heap : Contents
@@ -40,9 +40,10 @@ pub record View : Type 0 where
   pub limit : Option Stamp
   pub frames : List Frame
 
--- Where the run of one unit by itself began, and what stays until it ends: its machine; the blocks that were there before any was
--- made, the numbers that were given out until then, and the blocks that old items name; the nodes before the one behind which it
--- runs, that node, and the reads that are open behind it; the limit and the nodes from there on.
+-- Where the run of one unit by itself began, and what stays until it ends: its machine; the blocks that were there
+-- before any was made, the numbers that were given out until then, and the blocks that old items name; the nodes
+-- before the one behind which it runs, that node, and the reads that are open behind it; the limit and the nodes
+-- from there on.
 pub record Start : Type 0 where
   pub machine : Machine
   pub first : List ℕ
@@ -91,8 +92,8 @@ Unfinished (Begun below read ∷ fs) nodes = (end_in read.0 nodes ≡ None) × U
 Unfinished (Taken below limit ∷ fs) nodes = Unfinished fs nodes
 Unfinished (FrameKept until ∷ fs) nodes = Unfinished fs nodes
 
--- The nodes: those in front are final, the last of them is at the cursor, and nothing before it or at it is queued; then those
--- behind. These reads are open behind the cursor, and then those that were open at the start.
+-- The nodes: those in front are final, the last of them is at the cursor, and nothing before it or at it is queued;
+-- then those behind. These reads are open behind the cursor, and then those that were open at the start.
 pub record Placed (start : Start) (v : View) (reads : List ℕ) (behind : List Entry) : Type 0 where
   pub kept : Kept v.tables
   pub done : List Entry
@@ -113,21 +114,26 @@ state_at code inputs v store chosen = record {
   work = v.spent;
 }
 
--- The machine, by its state, has come from its start and has written the items of the nodes in front, whatever the names of the
--- new blocks to come. The items mention blocks that they allocate before; these are those that the machine knows, and at their
--- places its store has what the lists of writes say.
-pub record CourseNow (code : Code) (inputs : List Block) (start : Start) (v : View) (front : List Entry) (items : List Item) (machine : State → Machine) : Type 0 where
+-- The machine, by its state, has come from its start and has written the items of the nodes in front, whatever the
+-- names of the new blocks to come. The items mention blocks that they allocate before; these are those that the
+-- machine knows, and at their places its store has what the lists of writes say.
+pub record CourseNow (code : Code) (inputs : List Block) (start : Start) (v : View)
+    (front : List Entry) (items : List Item) (machine : State → Machine) : Type 0 where
   pub store : Store
   pub made : List ℕ
   pub out : List Item
   pub written : items ≡ items_before start ++ out
   pub mentions : KnownItems (length inputs) [] items (known_after [] items)
-  pub comes : ComesBy code start.machine (machine (state_at code inputs v store (start.chosen ++ made))) (start.chosen ++ made) out
-  pub knows : Knows code (length inputs) start.old (known_after [] items) (machine (state_at code inputs v store (start.chosen ++ made)))
-  pub same : (p : Place) → KnownBlock (length inputs) (known_after [] items) p.block → store p ≡ contents_after (base_in v.tables.mods) front p
+  pub comes : ComesBy code start.machine (machine (state_at code inputs v store (start.chosen ++ made)))
+      (start.chosen ++ made) out
+  pub knows : Knows code (length inputs) start.old (known_after [] items)
+      (machine (state_at code inputs v store (start.chosen ++ made)))
+  pub same : (p : Place) → KnownBlock (length inputs) (known_after [] items) p.block
+      → store p ≡ contents_after (base_in v.tables.mods) front p
   pub given : Given start.first (start.chosen ++ made) v.heap
 
--- A unit runs with the nodes left over that stand behind the cursor, up to the limit; where there is no limit nothing is left over.
+-- A unit runs with the nodes left over that stand behind the cursor, up to the limit;
+-- where there is no limit nothing is left over.
 pub record RunningNow (code : Code) (inputs : List Block) (start : Start) (st : Stack) (v : View) : Type 0 where
   pub reads : List ℕ
   pub left : Grove
@@ -138,7 +144,9 @@ pub record RunningNow (code : Code) (inputs : List Block) (start : Start) (st : 
   pub bare : v.limit ≡ None → left ≡ Bare
   pub bounds : Bounds start.limit start.beyond
   pub blocks : HasBlocks code inputs v.heap v.tables
-  pub course : CourseNow code inputs start v (through placed.done placed.last) (forest_of (through placed.done placed.last)) (λ s. running_at s st waits (forest_of (entries left ++ tail)))
+  pub course : CourseNow code inputs start v (through placed.done placed.last)
+      (forest_of (through placed.done placed.last))
+      (λ s. running_at s st waits (forest_of (entries left ++ tail)))
 
 -- Kept nodes are passed up to the limit. The steps on the node at the cursor are not written yet.
 pub record PassingNow (code : Code) (inputs : List Block) (start : Start) (until : Stamp) (v : View) : Type 0 where
@@ -150,5 +158,6 @@ pub record PassingNow (code : Code) (inputs : List Block) (start : Start) (until
   pub passes : Passes start.limit start.beyond until v.frames waits reads behind
   pub bounds : Bounds start.limit start.beyond
   pub blocks : HasBlocks code inputs v.heap v.tables
-  pub course : CourseNow code inputs start v (through placed.done placed.last) (forest_of placed.done ++ item_of placed.last.node)
+  pub course : CourseNow code inputs start v (through placed.done placed.last)
+      (forest_of placed.done ++ item_of placed.last.node)
       (λ s. fixing_at s waits (ticks placed.last.steps ++ forest_of behind))

@@ -18,25 +18,29 @@ use Rattle.ceal_trace.specs.Nodes.{Entry}
 
 -- nodes that agree with the walk over the inputs stay as they are, in front of all others
 abbrev pub KeepsFront : Code → List Block → List Entry → List Entry → Type 0
-KeepsFront code inputs old new = (front back : List Entry) → old ≡ front ++ back → AgreesAll code (bases code inputs) (forest_of front)
+KeepsFront code inputs old new = (front back : List Entry) → old ≡ front ++ back
+    → AgreesAll code (bases code inputs) (forest_of front)
     → (later : List Entry) × (new ≡ front ++ later)
 
--- A run has come by turns from a run before it, whose nodes had the items of the repair that the turns began from. What agreed at the
--- beginning is as it was.
-pub record HasCome (code : Code) (inputs : List Block) (f : ℕ) (args : List Word) (o : Since) (before run : Running) : Type 0 where
+-- A run has come by turns from a run before it, whose nodes had the items of the repair that the turns began from.
+-- What agreed at the beginning is as it was.
+pub record HasCome (code : Code) (inputs : List Block) (f : ℕ) (args : List Word)
+    (o : Since) (before run : Running) : Type 0 where
   pub called : IsOrigin code inputs f args o
   pub items : forest_of before.tables.trace.nodes ≡ flat o.repair.items
   pub so_far : TurnedSoFar code inputs f args o run
   pub front : KeepsFront code inputs before.tables.trace.nodes run.tables.trace.nodes
-  pub unchanged : IsHonest code inputs o.repair.items → (run.tables.trace ≡ before.tables.trace) × (run.spent ≡ o.repair.spent)
+  pub unchanged : IsHonest code inputs o.repair.items
+      → (run.tables.trace ≡ before.tables.trace) × (run.spent ≡ o.repair.spent)
 
 -- and no read is stale any more
-pub record IsUpToDate (code : Code) (inputs : List Block) (f : ℕ) (args : List Word) (o : Since) (before run : Running) : Type 0 where
+pub record IsUpToDate (code : Code) (inputs : List Block) (f : ℕ) (args : List Word)
+    (o : Since) (before run : Running) : Type 0 where
   pub come : HasCome code inputs f args o before run
   pub honest : IsHonest code inputs come.so_far.repair.items
 
--- More steps were spent in the next turn than the fuel allows: no slice of more reads than there were turns, and none without a number
--- of reads, comes to an end within it.
+-- More steps were spent in the next turn than the fuel allows: no slice of more reads than there were turns,
+-- and none without a number of reads, comes to an end within it.
 pub record IsSpent (code : Code) (inputs : List Block) (fuel : ℕ) (o : Since) : Type 0 where
   pub names : ℕ → ℕ
   pub single : Single names
@@ -54,18 +58,23 @@ IsWithin n None = ⊤
 IsWithin n (Some k) = n ≤ k
 
 -- as many turns were made as there are to be, and a read is stale still
-pub record IsUnderWay (code : Code) (inputs : List Block) (f : ℕ) (args : List Word) (o : Since) (before run : Running) : Type 0 where
+pub record IsUnderWay (code : Code) (inputs : List Block) (f : ℕ) (args : List Word)
+    (o : Since) (before run : Running) : Type 0 where
   pub come : HasCome code inputs f args o before run
   pub stale : ¬ IsHonest code inputs come.so_far.repair.items
 
 -- after some turns more a run is up to date, or under way, or too many steps were spent
 abbrev pub Propagated : Ending → Code → List Block → ℕ → List Word → Option ℕ → ℕ → Since → Running → Running → Type 0
-Propagated Done code inputs f args reads fuel o before run = (n : ℕ) × IsWithin n reads × IsUpToDate code inputs f args (later n o) before run
-Propagated More code inputs f args reads fuel o before run = (n : ℕ) × (reads ≡ Some n) × IsUnderWay code inputs f args (later n o) before run
-Propagated Spent code inputs f args reads fuel o before run = (n : ℕ) × IsLess n reads × IsSpent code inputs fuel (later n o)
+Propagated Done code inputs f args reads fuel o before run =
+    (n : ℕ) × IsWithin n reads × IsUpToDate code inputs f args (later n o) before run
+Propagated More code inputs f args reads fuel o before run =
+    (n : ℕ) × (reads ≡ Some n) × IsUnderWay code inputs f args (later n o) before run
+Propagated Spent code inputs f args reads fuel o before run =
+    (n : ℕ) × IsLess n reads × IsSpent code inputs fuel (later n o)
 
 -- one turn from a run to the next
-pub record TurnMade (code : Code) (inputs : List Block) (f : ℕ) (args : List Word) (o : Since) (before run : Running) : Type 0 where
+pub record TurnMade (code : Code) (inputs : List Block) (f : ℕ) (args : List Word)
+    (o : Since) (before run : Running) : Type 0 where
   pub start : Start
   pub began : TurnBegan code inputs f args o before start
   pub ended : TurnEnded code inputs f args o start run

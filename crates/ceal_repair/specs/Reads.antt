@@ -28,7 +28,8 @@ Entered false start r = PassesOn start r
 -- the unit of a read that was taken is over; its frame was taken off
 pub record EndsTaken (start : Start) (below : Waits) (until : Stamp) (r : Repair) : Type 0 where
   pub stack : Stack
-  pub now : RunningNow (code_of r) (inputs_of r) start stack (record (view r) { frames = Taken below until ∷ (view r).frames })
+  pub now : RunningNow (code_of r) (inputs_of r) start stack
+      (record (view r) { frames = Taken below until ∷ (view r).frames })
   pub over : next_in r stack ≡ Over
 
 -- the unit of a stale read among nodes that are kept is over; its frame was taken off

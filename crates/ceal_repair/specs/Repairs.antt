@@ -101,7 +101,8 @@ pub record SameCall (old new : Repair) : Type 0 where
 -- the unit of a new read is over; its frame was taken off
 pub record EndsRead (start : Start) (below : Waits) (read : Stamp) (r : Repair) : Type 0 where
   pub stack : Stack
-  pub now : RunningNow (code_of r) (inputs_of r) start stack (record (view r) { frames = Begun below read ∷ (view r).frames })
+  pub now : RunningNow (code_of r) (inputs_of r) start stack
+      (record (view r) { frames = Begun below read ∷ (view r).frames })
   pub over : next_in r stack ≡ Over
 
 -- the nodes behind a cursor up to the limit; without a limit none is left over

@@ -17,15 +17,17 @@ use Rattle.ceal_theory.specs.Carried.{counted_anew}
 use Rattle.ceal_theory.specs.Repair.{Single}
 use Rattle.ceal_theory.specs.Slices.{Repair, sliced}
 
--- The nodes, the queue and the heap of a run stand for a repair of the call that goes on, with no more steps spent than the fuel.
--- Revoked blocks can be read.
-pub record IsPartRun (code : Code) (inputs : List Block) (f : ℕ) (args : List Word) (fuel : ℕ) (r : Repair) (run : Running) : Type 0 where
+-- The nodes, the queue and the heap of a run stand for a repair of the call that goes on, with no more steps spent
+-- than the fuel. Revoked blocks can be read.
+pub record IsPartRun (code : Code) (inputs : List Block) (f : ℕ) (args : List Word) (fuel : ℕ)
+    (r : Repair) (run : Running) : Type 0 where
   pub fits : Fits code inputs f args
   pub stands : StandsFor code inputs f args r run
   pub few : run.spent ≤ fuel
 
 -- It is a slice of the repair, with some names for new blocks, none of them that of a known one.
-pub record IsSliceOf (code : Code) (inputs : List Block) (reads : Option ℕ) (fuel : ℕ) (r : Repair) (o : Option Repair) : Type 0 where
+pub record IsSliceOf (code : Code) (inputs : List Block) (reads : Option ℕ) (fuel : ℕ)
+    (r : Repair) (o : Option Repair) : Type 0 where
   pub names : ℕ → ℕ
   pub single : Single names
   pub off : (k : ℕ) → r.known (Core (names k)) ≡ None
@@ -41,9 +43,12 @@ IsConcluded code inputs f args fuel l spent OutOfFuel = fresh code f args inputs
 -- what a slice comes to
 abbrev pub IsSliced : Code → List Block → ℕ → List Word → Option ℕ → ℕ → Repair → Sliced → Type 0
 IsSliced code inputs f args reads fuel r (More run) =
-    (r' : Repair) × IsSliceOf code inputs reads fuel r (Some r') × (¬ IsHonest code inputs r'.items) × IsPartRun code inputs f args fuel r' run
+    (r' : Repair) × IsSliceOf code inputs reads fuel r (Some r')
+    × (¬ IsHonest code inputs r'.items) × IsPartRun code inputs f args fuel r' run
 IsSliced code inputs f args reads fuel r (Done run) =
-    (r' : Repair) × IsSliceOf code inputs reads fuel r (Some r') × IsRunOf code inputs f args fuel r'.items run × (run.spent ≡ r'.spent)
+    (r' : Repair) × IsSliceOf code inputs reads fuel r (Some r')
+    × IsRunOf code inputs f args fuel r'.items run × (run.spent ≡ r'.spent)
 IsSliced code inputs f args reads fuel r Spent = IsSliceOf code inputs reads fuel r None
 IsSliced code inputs f args reads fuel r OutOfFuel =
-    (r' : Repair) × IsSliceOf code inputs reads fuel r (Some r') × IsHonest code inputs r'.items × (fresh code f args inputs fuel ≡ None)
+    (r' : Repair) × IsSliceOf code inputs reads fuel r (Some r')
+    × IsHonest code inputs r'.items × (fresh code f args inputs fuel ≡ None)

@@ -41,13 +41,17 @@ pub record ReadAt (nodes : List Entry) : Type 0 where
   pub end : ℕ
   pub end_steps : ℕ
   pub behind : List Entry
-  pub whole : nodes ≡ before ++ entry read (Read place value unit var args) steps ∷ (entries inside ++ closing end read end_steps ∷ behind)
+  pub whole : nodes ≡ before
+      ++ entry read (Read place value unit var args) steps ∷ (entries inside ++ closing end read end_steps ∷ behind)
 
--- A turn begins: the unit of a read runs on this content, with what is inside the read left over. These blocks were there at first,
--- these numbers were given out before, these blocks are known, and these reads are open inside the read.
-abbrev pub turn_start : {nodes : List Entry} → Code → List Block → Repair → (first chosen old reads : List ℕ) → ReadAt nodes → Word → Start
+-- A turn begins: the unit of a read runs on this content, with what is inside the read left over.
+-- These blocks were there at first, these numbers were given out before, these blocks are known,
+-- and these reads are open inside the read.
+abbrev pub turn_start : {nodes : List Entry}
+    → Code → List Block → Repair → (first chosen old reads : List ℕ) → ReadAt nodes → Word → Start
 turn_start code inputs r first chosen old reads a now = record {
-  machine = unit_alone code inputs r (forest_of a.before) a.place a.unit a.var a.args (stepped a.steps (trace_in a.inside));
+  machine =
+      unit_alone code inputs r (forest_of a.before) a.place a.unit a.var a.args (stepped a.steps (trace_in a.inside));
   first = first;
   chosen = chosen;
   old = old;
@@ -60,7 +64,8 @@ turn_start code inputs r first chosen old reads a now = record {
 }
 
 -- The nodes, the queue and the heap of a run stand for a repair that goes on.
-pub record StandsFor (code : Code) (inputs : List Block) (f : ℕ) (args : List Word) (r : Repair) (run : Running) : Type 0 where
+pub record StandsFor (code : Code) (inputs : List Block) (f : ℕ) (args : List Word)
+    (r : Repair) (run : Running) : Type 0 where
   pub kept : Kept run.tables
   pub nests : Nests run.tables.trace.nodes
   pub items : forest_of run.tables.trace.nodes ≡ flat r.items
@@ -99,7 +104,8 @@ pub record IsOrigin (code : Code) (inputs : List Block) (f : ℕ) (args : List W
   pub sound : (names : ℕ → ℕ) → Single names → NamesOff names o.first → Sound code names inputs f args o.repair
 
 -- A repair that has come so far by turns, whatever the names of the new blocks to come.
-pub record TurnedSoFar (code : Code) (inputs : List Block) (f : ℕ) (args : List Word) (o : Since) (run : Running) : Type 0 where
+pub record TurnedSoFar (code : Code) (inputs : List Block) (f : ℕ) (args : List Word)
+    (o : Since) (run : Running) : Type 0 where
   pub repair : Repair
   pub stands : StandsFor code inputs f args repair run
   pub chosen : List ℕ
@@ -107,9 +113,10 @@ pub record TurnedSoFar (code : Code) (inputs : List Block) (f : ℕ) (args : Lis
   pub given : Given o.first chosen run.heap
   pub history : (names : ℕ → ℕ) → Continues chosen names → Turns code names inputs o.turns o.repair repair
 
--- The first stale read of a run that has come so far was found, and has the content of its moment since then; what is queued stands
--- behind it, and all else is as it was.
-pub record FoundStale (code : Code) (inputs : List Block) (f : ℕ) (args : List Word) (o : Since) (read : ℕ) (run : Running) : Type 0 where
+-- The first stale read of a run that has come so far was found, and has the content of its moment since then;
+-- what is queued stands behind it, and all else is as it was.
+pub record FoundStale (code : Code) (inputs : List Block) (f : ℕ) (args : List Word)
+    (o : Since) (read : ℕ) (run : Running) : Type 0 where
   pub called : IsOrigin code inputs f args o
   pub before : Running
   pub so_far : TurnedSoFar code inputs f args o before
@@ -124,27 +131,32 @@ pub record FoundStale (code : Code) (inputs : List Block) (f : ℕ) (args : List
   pub spent : run.spent ≡ before.spent
   pub kept : Kept run.tables
 
--- A turn has begun at the first stale read of a run that has come so far: the items before the read agree with the store, its
--- own content does not.
-pub record TurnBegan (code : Code) (inputs : List Block) (f : ℕ) (args : List Word) (o : Since) (before : Running) (start : Start) : Type 0 where
+-- A turn has begun at the first stale read of a run that has come so far: the items before the read agree with
+-- the store, its own content does not.
+pub record TurnBegan (code : Code) (inputs : List Block) (f : ℕ) (args : List Word)
+    (o : Since) (before : Running) (start : Start) : Type 0 where
   pub called : IsOrigin code inputs f args o
   pub so_far : TurnedSoFar code inputs f args o before
   pub spot : ReadAt before.tables.trace.nodes
   pub agrees : AgreesAll code (starting code inputs so_far.repair.known) (forest_of spot.before)
-  pub stale : ¬ (store_after code (starting code inputs so_far.repair.known) (forest_of spot.before) spot.place ≡ spot.value)
+  pub stale :
+      ¬ (store_after code (starting code inputs so_far.repair.known) (forest_of spot.before) spot.place ≡ spot.value)
   pub reads : List ℕ
   pub opened : unclosed (Some []) spot.before ≡ Some reads
-  pub is : start ≡ turn_start code inputs so_far.repair o.first so_far.chosen so_far.stands.sound.blocks (spot.read ∷ reads) spot
+  pub is : start ≡ turn_start code inputs so_far.repair o.first so_far.chosen so_far.stands.sound.blocks
+      (spot.read ∷ reads) spot
       (store_after code (starting code inputs so_far.repair.known) (forest_of spot.before) spot.place)
 
 -- the unit of that read runs
-pub record TurnRuns (code : Code) (inputs : List Block) (f : ℕ) (args : List Word) (o : Since) (before : Running) (r : RepairInCode) : Type 0 where
+pub record TurnRuns (code : Code) (inputs : List Block) (f : ℕ) (args : List Word)
+    (o : Since) (before : Running) (r : RepairInCode) : Type 0 where
   pub start : Start
   pub began : TurnBegan code inputs f args o before start
   pub runs : Runs start r
 
 -- the turn has ended: the run has come further, and the nodes before the read are as they were
-pub record TurnEnded (code : Code) (inputs : List Block) (f : ℕ) (args : List Word) (o : Since) (start : Start) (run : Running) : Type 0 where
+pub record TurnEnded (code : Code) (inputs : List Block) (f : ℕ) (args : List Word)
+    (o : Since) (start : Start) (run : Running) : Type 0 where
   pub so_far : TurnedSoFar code inputs f args (later 1 o) run
   pub after : List Entry
   pub front : run.tables.trace.nodes ≡ start.before ++ after

@@ -10,6 +10,6 @@ is_gap b = nat_eq b 32 || nat_eq b 9
 abbrev pub is_letter : ℕ → Bool
 is_letter b = (nat_le 65 b && nat_le b 90) || (nat_le 97 b && nat_le b 122) || nat_eq b 95
 
--- what a name may have behind its first byte
+-- what a name may have after its first byte
 abbrev pub is_name_byte : ℕ → Bool
 is_name_byte b = is_letter b || is_digit b

@@ -11,7 +11,7 @@ pub struct PlaceWord {
     pub field: Option<Text>,
 }
 
-/// A value. A name alone may also stand for a block made by `new`.
+/// A value. A name by itself may also stand for a block made by `new`.
 #[derive(PartialEq, Eq, Debug, Drop)]
 pub enum ValueWord {
     Num(i64),

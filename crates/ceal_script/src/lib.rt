@@ -2,7 +2,7 @@
 //!
 //! `read_line` reads one line. `specs/` says which bytes are a line of which command: the words of a line, what
 //! spells a name, a number, a place or a value, and the form of each command. A line is one command's at most, and
-//! unreadable exactly where it is none's. The script and its lines are this project's own.
+//! unreadable exactly when it is none's. The script and its lines are this project's own.
 #![tactic(auto)]
 
 mod bytes;

@@ -17,7 +17,7 @@ const LARGEST: u64 = 1 << 63;
 /// How many elements a row has at most.
 const LONGEST_ROW: u64 = 255;
 
-/// How many reads a part of a repair runs anew at most.
+/// How many reads a part of a repair re-executes at most.
 const MOST_READS: u64 = 1_000_000;
 
 fn all_digits(bytes: &[u8]) -> bool

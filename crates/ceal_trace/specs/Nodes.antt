@@ -148,8 +148,10 @@ pub record IsTrace (t : Timeline) : Type 0 where
   pub only_root : (s : ℕ) → node_at s t.nodes ≡ Some Root → head_of (stamps_in t.nodes) ≡ Some s
   pub one_end : (s : ℕ) (read : Stamp) → node_at s t.nodes ≡ Some (End read) → end_in read.0 t.nodes ≡ Some s
   pub end_node : (s read : ℕ) → end_in read t.nodes ≡ Some s → node_at s t.nodes ≡ Some (End (record { 0 = read }))
-  pub of_read : (s read : ℕ) → end_in read t.nodes ≡ Some s → has_node read t.nodes ≡ true → is_read (node_at read t.nodes) ≡ true
-  pub behind : (s read : ℕ) → end_in read t.nodes ≡ Some s → has_node read t.nodes ≡ true → position read t.nodes < position s t.nodes
+  pub of_read : (s read : ℕ) → end_in read t.nodes ≡ Some s → has_node read t.nodes ≡ true
+      → is_read (node_at read t.nodes) ≡ true
+  pub behind : (s read : ℕ) → end_in read t.nodes ≡ Some s → has_node read t.nodes ≡ true
+      → position read t.nodes < position s t.nodes
 
 -- each end's read is there
 pub record NoLooseEnd (nodes : List Entry) : Type 0 where

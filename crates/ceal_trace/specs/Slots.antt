@@ -14,14 +14,19 @@ abbrev pub slot_of : List Slot → ℕ → Slot
 slot_of slots s = slice_index_or slots s blank_slot
 
 abbrev pub row_in : Shelf → Slot → Row
-row_in shelf slot = record { node = or_root (at shelf slot.key); held = is_some (at shelf slot.key); steps = slot.steps; end = slot.end }
+row_in shelf slot = record {
+  node = or_root (at shelf slot.key);
+  held = is_some (at shelf slot.key);
+  steps = slot.steps;
+  end = slot.end;
+}
 
 -- the table of slots and a shelf
 abbrev pub table : List Slot → Shelf → Table
 table slots shelf = record { rows = map (row_in shelf) slots; count = count_of shelf }
 
--- each key is that of a node, no two slots have the same one, there are no more nodes than slots, and the shelf has room
--- for as many
+-- each key is that of a node, no two slots have the same one, there are no more nodes than slots,
+-- and the shelf has room for as many
 pub record IsTable (slots : List Slot) (shelf : Shelf) : Type 0 where
   pub fit : IsFit shelf.held shelf.apart
   pub none : at shelf no_key ≡ None
@@ -43,10 +48,12 @@ pub record KeyTaken (old new : List Slot) (at : ℕ) (was : Slot) : Type 0 where
   pub set : SlotSet old new at (record { key = no_key; steps = was.steps; end = was.end })
 
 abbrev pub StepsPut : List Slot → List Slot → ℕ → ℕ → Type 0
-StepsPut old new at steps = SlotSet old new at (record { key = (slot_of old at).key; steps = steps; end = (slot_of old at).end })
+StepsPut old new at steps =
+    SlotSet old new at (record { key = (slot_of old at).key; steps = steps; end = (slot_of old at).end })
 
 abbrev pub EndPut : List Slot → List Slot → ℕ → ℕ → Type 0
-EndPut old new at end = SlotSet old new at (record { key = (slot_of old at).key; steps = (slot_of old at).steps; end = end })
+EndPut old new at end =
+    SlotSet old new at (record { key = (slot_of old at).key; steps = (slot_of old at).steps; end = end })
 
 -- slots without keys were added
 pub record Longer (old new : List Slot) : Type 0 where

@@ -1,4 +1,4 @@
--- The types of expressions. Each rule has the fault that comes where it does not hold.
+-- The types of expressions. Each rule has the fault that comes when it does not hold.
 use Rattle.std.specs.Prelude.{ℕ, ◌==◌, Option, Some, None, Result, Ok, List, [], if◌then◌else◌}
 use Rattle.std.specs.Map.{lookup}
 use Rattle.std.specs.Str.{bytes_eq}

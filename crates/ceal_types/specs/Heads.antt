@@ -93,7 +93,8 @@ added_field name (Some row) fields kind = with_elements name kind row row fields
 
 -- one more field: the struct's name in its type, and then its own name
 abbrev pub new_field : Ident → Option ℕ → List (Name × Field) → FieldKind → Result (List (Name × Field)) Fault
-new_field name row fields kind = if has_member fields name.text then fault N2 name.span else added_field name row fields kind
+new_field name row fields kind =
+    if has_member fields name.text then fault N2 name.span else added_field name row fields kind
 
 -- the fields of a struct with one more
 unfoldable pub with_field : List Name → FieldDecl → List (Name × Field) → Result (List (Name × Field)) Fault
@@ -114,7 +115,7 @@ new_parameter name v kind = if has v.scope name.text then fault N2 name.span els
 unfoldable pub with_parameter : List Name → FieldDecl → Variables → Result Variables Fault
 with_parameter names d v = after (new_parameter d.name v) (kind_of names d.form)
 
--- the struct of `self`, of an initialiser alone
+-- the struct of `self`, only of an initialiser
 abbrev pub own_of : List Name → Option Ident → Result (Option ℕ) Fault
 own_of names None = Ok None
 own_of names (Some name) = result_map Some (struct_number names name)

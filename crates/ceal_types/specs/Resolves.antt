@@ -266,7 +266,7 @@ ParametersResolve p [] kinds = Unit {0}
 ParametersResolve p (d ∷ ds) (kind ∷ kinds) = IsKind p d.form kind × ParametersResolve p ds kinds
 ParametersResolve p (d ∷ ds) [] = ⊥
 
--- the struct of `self`, of an initialiser alone
+-- the struct of `self`, only of an initialiser
 abbrev pub OwnResolves : Typed → Option Ident → Option ℕ → Type 0
 OwnResolves p None None = Unit {0}
 OwnResolves p (Some name) (Some s) = IsStruct p name s

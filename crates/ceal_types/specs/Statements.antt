@@ -24,7 +24,8 @@ use Rattle.ceal_base.specs.declared.typed.TypedValue.{TypedValue}
 use Rattle.ceal_base.specs.declared.typed.TypedValue.TheVariants.{Plain as PlainTyped, Read as ReadTyped, Alloc as AllocTyped, ModrefInt as ModrefIntTyped, Modref as ModrefTyped}
 use Rattle.ceal_types.specs.Expressions.{Scope, typed_expr, typed_exprs, condition, member}
 use Rattle.ceal_types.specs.Heads.{kind_of, struct_number, with_variable}
-use Rattle.ceal_types.specs.Kinds.{suits, same_kind}
+use Rattle.ceal_base.specs.Kinds.{same_kind}
+use Rattle.ceal_types.specs.Kinds.{suits}
 use Rattle.ceal_types.specs.Tables.{has, find}
 use Rattle.ceal_types.specs.Walk.{fault, after, result_map, both, in_turn}
 use Rattle.ceal_types.specs.declared.program.Head.{Head}
@@ -161,7 +162,8 @@ assignment name n value = AssignTyped name.span n value
 -- an assignment to a variable, if it is in scope and the value suits
 abbrev pub assign_if_found : Program → Option ℕ → Ident → Value → Scope → Option Variable → Result TypedStmt Fault
 assign_if_found p own name value scope None = fault N1 name.span
-assign_if_found p own name value scope (Some x) = result_map (assignment name x.number) (typed_value p own scope x.kind value)
+assign_if_found p own name value scope (Some x) =
+    result_map (assignment name x.number) (typed_value p own scope x.kind value)
 
 -- an assignment to the variable with the name
 abbrev pub assign : Program → Option ℕ → Scope → Ident → Value → Result TypedStmt Fault

@@ -1,6 +1,6 @@
 //! Names and types: the tree of a source text becomes the program's tree with names resolved, or its first fault.
 //!
-//! `specs/` gives the typed tree of each form by one rule, with the fault that comes where the rule does not hold: `Heads`
+//! `specs/` gives the typed tree of each form by one rule, with the fault that comes when the rule does not hold: `Heads`
 //! for structs and the heads of functions, `Expressions`, `Statements`, and `Checked` for the whole. The walk is part of the
 //! language: twice through the entries, heads and then bodies, and in text order within them. `check` answers what
 //! `checked` says, and a program that it answers is well typed (`WellTyped` in ceal_base).

@@ -23,7 +23,7 @@ pub struct Variables {
     pub kinds: Kinds,
 }
 
-/// A function's head: the struct of `self`, of an initialiser alone, and the parameters.
+/// A function's head: the struct of `self`, only of an initialiser, and the parameters.
 #[derive(Drop)]
 pub struct Head {
     pub own: Option<u32>,
@@ -55,7 +55,7 @@ pub struct Member {
     pub row: u32,
 }
 
-/// The function whose body is gone through: the heads of its program, and the struct of `self`, of an initialiser alone.
+/// The function whose body is gone through: the heads of its program, and the struct of `self`, only of an initialiser.
 #[derive(Clone, Copy)]
 pub struct Body<'p> {
     pub alloc: Global,

@@ -61,7 +61,7 @@ impl Fed {
         }
     }
 
-    /// A whole word, so that each hash goes on behind a word.
+    /// A whole word, so that each hash goes on after a word.
     pub fn seed(&self) -> Seed {
         let mut start = DefaultHasher::new();
         start.write_u64(self.all.finish());

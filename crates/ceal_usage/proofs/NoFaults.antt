@@ -1,4 +1,4 @@
--- There is no fault of usage exactly where the program keeps the rules of usage.
+-- There is no fault of usage exactly when the program keeps the rules of usage.
 use Rattle.std.proofs.Common.{◌≡◌, ◌↔◌, ℕ, Bool, true, false, is_some, is_none, Option, Some, None, IsOk, List, [], ◌∷◌, ◌++◌, All, slice_get, if◌then◌else◌, refl}
 use Rattle.std.proofs.lemmas.List.Elements.{All-nil, All-cons, All-head, All-tail}
 use Rattle.ceal_base.specs.Usage.{WithoutOwn, OperandWithoutOwn, IsCore, IsInitialiser, ValueUsage, CoreUsage, RowCoreUsage, InitUsage, RowInitUsage, FunctionUsage, KeepsUsage}
@@ -158,7 +158,7 @@ ok-iff : (fs : List Fault) → IsOk (verdict fs) ↔ (fs ≡ [])
 ok-iff [] = (λ _. refl, λ _. refl)
 ok-iff (f ∷ fs) = (λ e. cc, λ e. cc)
 
--- the program passes exactly where it keeps the rules
+-- the program passes exactly when it keeps the rules
 pub kept-iff : (program : Typed) → IsOk (verdict (usage_faults program)) ↔ KeepsUsage program
 kept-iff program = (
   λ ok. (usage-iff program).0 ((ok-iff (usage_faults program)).0 ok),

@@ -2,7 +2,7 @@
 
 ghost use Rattle.ceal_usage.specs.Laws.{KeptLaw};
 
-/// A program has no fault of usage exactly where it keeps the rules.
+/// A program has no fault of usage exactly when it keeps the rules.
 pub fn kept_law()
     ensures law { KeptLaw }
 {}

@@ -5,7 +5,7 @@ ghost use base.Fml.{ftrue};
 
 use std::marker::Model;
 
-/// The marks of the pieces of a chunk. They take no space: the proofs alone know them.
+/// The marks of the pieces of a chunk. They take no space: only the proofs know them.
 #[derive(Drop)]
 pub(crate) struct Marks {
     pub(crate) ghost lens: { List ℕ },

@@ -35,15 +35,18 @@ pub the_items_listed : (X : Type 0) (xs : List X) → listed _ (children (the_fo
 the_items_listed X xs = list-listed X xs
 
 abbrev fields : Former {0}
-fields = via (vec.the_former this Global) Inside (λ X s. s.items) (λ X v. record { items = v }) (λ X s. refl) (λ X v. refl)
+fields =
+    via (vec.the_former this Global) Inside (λ X s. s.items) (λ X v. record { items = v }) (λ X s. refl) (λ X v. refl)
 
 module _ (R S : RattleType) (h : R.Denot → S.Denot) where
-  pub the_places : Alike R S h → Alike (contract.the_row R) (contract.the_row S) ((the_former this).map R.Denot S.Denot h)
+  pub the_places : Alike R S h
+      → Alike (contract.the_row R) (contract.the_row S) ((the_former this).map R.Denot S.Denot h)
   the_places alike = view_places fields (list this) view (λ X Y k s. refl) (λ X s. refl) R.Denot S.Denot h
       (contract.the_row R).coded (contract.the_row S).coded (invariant R.Denot) (invariant S.Denot)
       (λ s p q. refl) (λ s p q. refl) (λ s e. tt) (λ s e. tt) (over (inside.the_row R)) (over (inside.the_row S))
       (struct_places (inside.the_type R) (inside.the_type S) (vec.mapped h, tt) _ (λ s. refl) refl
       (laid _ _ _ (vec.the_places heap.the_row ghosts R S h alike), tt))
 
-  pub the_codes_placed : Recodes R S h → Recodes (contract.the_row R) (contract.the_row S) ((the_former this).map R.Denot S.Denot h)
+  pub the_codes_placed : Recodes R S h
+      → Recodes (contract.the_row R) (contract.the_row S) ((the_former this).map R.Denot S.Denot h)
   the_codes_placed same xs = sym (code_map R.coded.code S.coded.code h (λ x. sym (same x)) xs)

@@ -1,6 +1,6 @@
 use Rattle.std.proofs.Common.{◌≡◌, Ok, rules}
 use Rattle.ceal_types.specs.Checked.{checked}
-use Rattle.ceal_types.proofs.ProgramTyped.{answered-typed}
+use Rattle.ceal_types.proofs.Typing.ProgramTyped.{answered-typed}
 use Rattle.ceal_types.proofs.check.check.Goals as goal
 
 pub returns-clause-well_typed : goal.returns-clause-well_typed

@@ -1,6 +1,6 @@
 use Rattle.std.proofs.Common.{sym}
 use Rattle.ceal_types.specs.Checked.{field_info}
-use Rattle.ceal_types.proofs.TakeLemmas.{map-more}
+use Rattle.ceal_types.proofs.Walks.OneItemMore.{map-more}
 use Rattle.ceal_types.proofs.check.field_infos.Goals as goal
 
 pub loop-i-preserved : goal.loop-i-preserved

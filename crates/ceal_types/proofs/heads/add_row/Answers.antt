@@ -1,6 +1,6 @@
 use Rattle.std.proofs.Common.{◌≤◌, ◌+◌, arith}
 use Rattle.std.proofs.lemmas.Result.{err_from_is_err_and}
-use Rattle.ceal_types.proofs.ElementLemmas.{elements-none, elements-passed, elements-failed}
+use Rattle.ceal_types.proofs.Walks.ElementsOfRow.{elements-none, elements-passed, elements-failed}
 use Rattle.ceal_types.proofs.heads.add_row.Goals as goal
 
 pub loop-index-init : goal.loop-index-init

@@ -1,7 +1,7 @@
 use Rattle.std.proofs.Common.{◌<◌, ◌≤◌, length, arith}
 use Rattle.std.proofs.lemmas.Result.{err_from_is_err_and}
 use Rattle.ceal_types.specs.Heads.{with_parameter}
-use Rattle.ceal_types.proofs.TurnLemmas.{turn-passed, turn-failed, turn-over}
+use Rattle.ceal_types.proofs.Walks.WalkFromItem.{turn-passed, turn-failed, turn-over}
 use Rattle.ceal_types.proofs.heads.parameters_of.Goals as goal
 
 pub returns-in_err-add_parameter : goal.returns-in_err-add_parameter

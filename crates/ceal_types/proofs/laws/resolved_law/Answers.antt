@@ -1,4 +1,4 @@
-use Rattle.ceal_types.proofs.ProgramResolved.{answered-resolves}
+use Rattle.ceal_types.proofs.Resolution.ProgramResolved.{answered-resolves}
 use Rattle.ceal_types.proofs.laws.resolved_law.Goals as goal
 
 pub returns : goal.returns

@@ -1,7 +1,7 @@
 use Rattle.std.proofs.Common.{◌≡◌, ◌<◌, ◌≤◌, Ok, length, arith, refl}
 use Rattle.std.proofs.lemmas.Result.{err_from_is_err_and}
 use Rattle.ceal_types.specs.Statements.{with_stmt, with_step, block, block_end}
-use Rattle.ceal_types.proofs.TurnLemmas.{turn-passed, turn-failed, turn-over, fails-mapped}
+use Rattle.ceal_types.proofs.Walks.WalkFromItem.{turn-passed, turn-failed, turn-over, fails-mapped}
 use Rattle.ceal_types.proofs.statements.+stmts.Goals as goal
 
 pub type_block-returns-in_err-s : goal.type_block-returns-in_err-s

@@ -1,5 +1,5 @@
 use Rattle.std.proofs.Common.{◌≤◌, length, arith}
-use Rattle.ceal_types.proofs.ArgumentLemmas.{arguments-over}
+use Rattle.ceal_types.proofs.Walks.AllArguments.{arguments-over}
 use Rattle.ceal_types.proofs.values.check_arguments.Goals as goal
 
 pub returns : goal.returns

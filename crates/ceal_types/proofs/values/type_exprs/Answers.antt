@@ -2,7 +2,7 @@ use Rattle.std.proofs.Common.{◌≡◌, ◌<◌, ◌≤◌, Ok, length, arith, 
 use Rattle.std.proofs.lemmas.Result.{err_from_is_err_and}
 use Rattle.ceal_types.specs.Expressions.{with_expr}
 use Rattle.ceal_types.specs.Walk.{at_end}
-use Rattle.ceal_types.proofs.TurnLemmas.{turn-passed, turn-failed, turn-over, fails-mapped}
+use Rattle.ceal_types.proofs.Walks.WalkFromItem.{turn-passed, turn-failed, turn-over, fails-mapped}
 use Rattle.ceal_types.proofs.values.type_exprs.Goals as goal
 
 pub returns-in_err-e : goal.returns-in_err-e

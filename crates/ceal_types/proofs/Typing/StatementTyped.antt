@@ -38,12 +38,12 @@ use Rattle.ceal_types.specs.declared.program.Member.{Member}
 use Rattle.ceal_types.specs.declared.program.Program.{Program}
 use Rattle.ceal_types.specs.declared.program.Variable.{Variable}
 use Rattle.ceal_types.specs.declared.program.Variables.{Variables}
-use Rattle.ceal_types.proofs.ExpressionTyped.{around, VariableGood, ScopeGood, MemberGood, member-good, Good, expr-typed, exprs-typed, condition-typed}
-use Rattle.ceal_types.proofs.GrowLemmas.{Grows, grows-same, grows-more, grows-on, grows-get, get-last, grows-take}
-use Rattle.ceal_types.proofs.KeepLemmas.{after-keeps, mapped-keeps, both-keeps, if-keeps, turn-keeps}
-use Rattle.ceal_types.proofs.KindLemmas.{suited}
-use Rattle.ceal_types.proofs.PlaceLemmas.{find-place}
-use Rattle.ceal_types.proofs.ValueTyped.{HeadsMatch, call-good, value-good, kind-known}
+use Rattle.ceal_types.proofs.Typing.ExpressionTyped.{around, VariableGood, ScopeGood, MemberGood, member-good, Good, expr-typed, exprs-typed, condition-typed}
+use Rattle.ceal_types.proofs.Walks.LongerList.{Grows, grows-same, grows-more, grows-on, grows-get, get-last, grows-take}
+use Rattle.ceal_types.proofs.Walks.WalkKeeps.{after-keeps, mapped-keeps, both-keeps, if-keeps, turn-keeps}
+use Rattle.ceal_types.proofs.Typing.KindTests.{suited}
+use Rattle.ceal_types.proofs.Names.FoundPlace.{find-place}
+use Rattle.ceal_types.proofs.Typing.ValueTyped.{HeadsMatch, call-good, value-good, kind-known}
 use Rattle.ceal_base.specs.WellTyped.{CallSuits}
 
 -- what holds for each K of what is given, where it does

@@ -36,7 +36,8 @@ use Rattle.ceal_base.specs.declared.typed.TypedValue.TheVariants.{Plain as Plain
 use Rattle.ceal_types.specs.Checked.{struct_info}
 use Rattle.ceal_types.specs.Expressions.{Scope, typed_expr, typed_exprs, condition, member}
 use Rattle.ceal_types.specs.Heads.{number_or_fault, struct_number, kind_of, with_variable}
-use Rattle.ceal_types.specs.Kinds.{suits, same_kind}
+use Rattle.ceal_base.specs.Kinds.{same_kind}
+use Rattle.ceal_types.specs.Kinds.{suits}
 use Rattle.ceal_types.specs.Resolves.{Environment, IsStruct, IsFunction, IsKind, IsVariable, IsMember, ExprResolves, ExprsResolve, ValueResolves, StmtResolves, RowResolves, StmtsResolve, in_scope}
 use Rattle.ceal_types.specs.Statements.{Block, step, block, still, empty_block, block_end, inner_block, with_step, declaration, declare, assignment, assign_if_found, assign, plain_kind, set_suited, set_value, set_member, set_left, set_field, write_held, write_of, write, call_of, call_checked, call_if_found, call, call_suits, call_by_own, arguments_suit, if_step, choose, branch, while_step, loop, asked_for, plain_value, held_value, read_value, modref_value, block_value, alloc_suits, alloc_by_own, alloc_value, alloc_by, alloc_of, typed_value, typed_stmt, typed_row, typed_stmts}
 use Rattle.ceal_types.specs.Tables.{Name, has, find, value_at}
@@ -46,14 +47,14 @@ use Rattle.ceal_types.specs.declared.program.Member.{Member}
 use Rattle.ceal_types.specs.declared.program.Program.{Program}
 use Rattle.ceal_types.specs.declared.program.Variable.{Variable}
 use Rattle.ceal_types.specs.declared.program.Variables.{Variables}
-use Rattle.ceal_types.proofs.ExpressionComplete.{VariableKind, ScopeKinds, member-meant, expr-complete, exprs-complete, condition-complete}
-use Rattle.ceal_types.proofs.ExpressionResolved.{Whole}
-use Rattle.ceal_types.proofs.ExpressionTyped.{around}
-use Rattle.ceal_types.proofs.GrowLemmas.{Grows, grows-same, grows-more, grows-on, grows-take}
-use Rattle.ceal_types.proofs.PlaceLemmas.{find-place}
-use Rattle.ceal_types.proofs.ResolveLemmas.{numbers, numbers-added, number_of, lookup-numbers, first, find-number, some-same, after-at, mapped-at, both-at, if-true, if-false, same-true, suits-true}
-use Rattle.ceal_types.proofs.StatementTyped.{row-declarations}
-use Rattle.ceal_types.proofs.ValueTyped.{HasHead, HeadsMatch}
+use Rattle.ceal_types.proofs.Completeness.ExpressionComplete.{VariableKind, ScopeKinds, member-meant, expr-complete, exprs-complete, condition-complete}
+use Rattle.ceal_types.proofs.Resolution.ExpressionResolved.{Whole}
+use Rattle.ceal_types.proofs.Typing.ExpressionTyped.{around}
+use Rattle.ceal_types.proofs.Walks.LongerList.{Grows, grows-same, grows-more, grows-on, grows-take}
+use Rattle.ceal_types.proofs.Names.FoundPlace.{find-place}
+use Rattle.ceal_types.proofs.Resolution.NumbersOfNames.{numbers, numbers-added, number_of, lookup-numbers, first, find-number, some-same, after-at, mapped-at, both-at, if-true, if-false, same-true, suits-true}
+use Rattle.ceal_types.proofs.Typing.StatementTyped.{row-declarations}
+use Rattle.ceal_types.proofs.Typing.ValueTyped.{HasHead, HeadsMatch}
 
 -- ---- a list that goes on with what stands there
 pub grows-next : {A : Type 0} (xs ys : List A) (x : A) → Grows xs ys → slice_get ys (length xs) ≡ Some x → Grows (xs ++ x ∷ []) ys

@@ -37,10 +37,10 @@ use Rattle.ceal_types.specs.declared.program.Field.{Field}
 use Rattle.ceal_types.specs.declared.program.Member.{Member}
 use Rattle.ceal_types.specs.declared.program.Program.{Program}
 use Rattle.ceal_types.specs.declared.program.Variable.{Variable}
-use Rattle.ceal_types.proofs.ExpressionResolved.{Whole}
-use Rattle.ceal_types.proofs.ExpressionTyped.{around, MemberGood, member-good}
-use Rattle.ceal_types.proofs.KeepLemmas.{ok-at}
-use Rattle.ceal_types.proofs.ResolveLemmas.{numbers, number_of, lookup-numbers, first, member-place, names-there, none-there, some-same, after-at, mapped-at, both-at, if-true, if-false, same-expr, comparable-true}
+use Rattle.ceal_types.proofs.Resolution.ExpressionResolved.{Whole}
+use Rattle.ceal_types.proofs.Typing.ExpressionTyped.{around, MemberGood, member-good}
+use Rattle.ceal_types.proofs.Walks.WalkKeeps.{ok-at}
+use Rattle.ceal_types.proofs.Resolution.NumbersOfNames.{numbers, number_of, lookup-numbers, first, member-place, names-there, none-there, some-same, after-at, mapped-at, both-at, if-true, if-false, same-expr, comparable-true}
 
 -- the variables in scope have these kinds
 abbrev pub VariableKind : List Kind → Variable → Type 0

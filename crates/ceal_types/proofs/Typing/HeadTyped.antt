@@ -32,12 +32,12 @@ use Rattle.ceal_types.specs.Walk.{fault, result_map, in_turn}
 use Rattle.ceal_types.specs.declared.program.Head.{Head}
 use Rattle.ceal_types.specs.declared.program.Program.{Program}
 use Rattle.ceal_types.specs.declared.program.Variables.{Variables}
-use Rattle.ceal_types.proofs.ExpressionTyped.{ScopeGood}
-use Rattle.ceal_types.proofs.KeepLemmas.{after-keeps, mapped-keeps, if-keeps, weaken, any-ok, turn-keeps, turn-keeps-each, turn-counts}
-use Rattle.ceal_types.proofs.RowLemmas.{element, elements, rows-append, row-whole}
+use Rattle.ceal_types.proofs.Typing.ExpressionTyped.{ScopeGood}
+use Rattle.ceal_types.proofs.Walks.WalkKeeps.{after-keeps, mapped-keeps, if-keeps, weaken, any-ok, turn-keeps, turn-keeps-each, turn-counts}
+use Rattle.ceal_types.proofs.Typing.WholeRows.{element, elements, rows-append, row-whole}
 use Rattle.std.proofs.lemmas.Bool.{false≢true}
-use Rattle.ceal_types.proofs.StatementTyped.{variable-good}
-use Rattle.ceal_types.proofs.ValueTyped.{struct-known, kind-known}
+use Rattle.ceal_types.proofs.Typing.StatementTyped.{variable-good}
+use Rattle.ceal_types.proofs.Typing.ValueTyped.{struct-known, kind-known}
 
 -- a new name keeps names apart
 pub distinct-more : {A : Type 0} (table : List (Name × A)) (name : Name) (v : A) → IsDistinct bytes_eq (keys_of table) → has table name ≡ false

@@ -33,9 +33,9 @@ use Rattle.ceal_types.specs.declared.program.Field.{Field}
 use Rattle.ceal_types.specs.declared.program.Member.{Member}
 use Rattle.ceal_types.specs.declared.program.Program.{Program}
 use Rattle.ceal_types.specs.declared.program.Variable.{Variable}
-use Rattle.ceal_types.proofs.ExpressionTyped.{MemberGood, member-good}
-use Rattle.ceal_types.proofs.KeepLemmas.{after-keeps, mapped-keeps, both-keeps, if-keeps, weaken}
-use Rattle.ceal_types.proofs.ResolveLemmas.{numbers, number_of, lookup-numbers, first, member-place, names-there, both-hold}
+use Rattle.ceal_types.proofs.Typing.ExpressionTyped.{MemberGood, member-good}
+use Rattle.ceal_types.proofs.Walks.WalkKeeps.{after-keeps, mapped-keeps, both-keeps, if-keeps, weaken}
+use Rattle.ceal_types.proofs.Resolution.NumbersOfNames.{numbers, number_of, lookup-numbers, first, member-place, names-there, both-hold}
 
 module _ (p : Program) (fs : List TypedFunction) where
   abbrev pub Whole : Typed

@@ -5,7 +5,8 @@ use Rattle.std.proofs.lemmas.Bool.Decides.{Decides-eqb}
 use Rattle.ceal_base.specs.WellTyped.{IsPointer, Suits, Comparable}
 use Rattle.ceal_base.specs.declared.kind.Kind.{Kind}
 use Rattle.ceal_base.specs.declared.kind.Kind.TheVariants.{Int, Ptr, ModInt, ModPtr}
-use Rattle.ceal_types.specs.Kinds.{same_kind, is_pointer, suits, comparable}
+use Rattle.ceal_base.specs.Kinds.{same_kind, is_pointer}
+use Rattle.ceal_types.specs.Kinds.{suits, comparable}
 
 pub same-kind : (a b : Kind) → same_kind a b ≡ true → a ≡ b
 same-kind Int Int h = refl

@@ -28,12 +28,12 @@ use Rattle.ceal_types.specs.Tables.{Name, has, second}
 use Rattle.ceal_types.specs.Walk.{fault, result_map, in_turn, at_end}
 use Rattle.ceal_types.specs.declared.program.Head.{Head}
 use Rattle.ceal_types.specs.declared.program.Program.{Program}
-use Rattle.ceal_types.proofs.GrowLemmas.{grows-same, grows-take}
-use Rattle.ceal_types.proofs.HeadTyped.{HeadGood, head-good, ProgramGood, entries-good, entries-names}
-use Rattle.ceal_types.proofs.KeepLemmas.{after-keeps, mapped-keeps, if-keeps, any-ok, ok-self, ok-at, after-ok, turn-keeps-each}
-use Rattle.ceal_types.proofs.KindsGrow.{BlockGrows, body-grows}
-use Rattle.ceal_types.proofs.StatementTyped.{NestedGood, nested-good, stmts-good}
-use Rattle.ceal_types.proofs.ValueTyped.{HasHead, HeadsMatch}
+use Rattle.ceal_types.proofs.Walks.LongerList.{grows-same, grows-take}
+use Rattle.ceal_types.proofs.Typing.HeadTyped.{HeadGood, head-good, ProgramGood, entries-good, entries-names}
+use Rattle.ceal_types.proofs.Walks.WalkKeeps.{after-keeps, mapped-keeps, if-keeps, any-ok, ok-self, ok-at, after-ok, turn-keeps-each}
+use Rattle.ceal_types.proofs.Typing.KindsGrow.{BlockGrows, body-grows}
+use Rattle.ceal_types.proofs.Typing.StatementTyped.{NestedGood, nested-good, stmts-good}
+use Rattle.ceal_types.proofs.Typing.ValueTyped.{HasHead, HeadsMatch}
 
 -- what a function shows of its head
 pub record View : Type 0 where

@@ -35,15 +35,15 @@ use Rattle.ceal_types.specs.Walk.{fault, result_map, in_turn, at_end}
 use Rattle.ceal_types.specs.declared.program.Program.{Program}
 use Rattle.ceal_types.specs.declared.program.Variable.{Variable}
 use Rattle.ceal_types.specs.declared.program.Variables.{Variables}
-use Rattle.ceal_types.proofs.ExpressionComplete.{VariableKind, ScopeKinds}
-use Rattle.ceal_types.proofs.ExpressionResolved.{Whole}
-use Rattle.ceal_types.proofs.GrowLemmas.{Grows, grows-take}
-use Rattle.ceal_types.proofs.NumberLemmas.{has-any, keys-added}
-use Rattle.ceal_types.proofs.ProgramTyped.{View, view, head_view, view_name, heads-match, names-of-functions, names-of-heads}
-use Rattle.ceal_types.proofs.ResolveLemmas.{numbers, numbers-added, names-of-fields, after-at, mapped-at, if-false}
-use Rattle.ceal_types.proofs.RowLemmas.{element}
-use Rattle.ceal_types.proofs.RowLemmas.{elements as walked_elements}
-use Rattle.ceal_types.proofs.StatementComplete.{body-walked}
+use Rattle.ceal_types.proofs.Completeness.ExpressionComplete.{VariableKind, ScopeKinds}
+use Rattle.ceal_types.proofs.Resolution.ExpressionResolved.{Whole}
+use Rattle.ceal_types.proofs.Walks.LongerList.{Grows, grows-take}
+use Rattle.ceal_types.proofs.Names.NumberOfName.{has-any, keys-added}
+use Rattle.ceal_types.proofs.Typing.ProgramTyped.{View, view, head_view, view_name, heads-match, names-of-functions, names-of-heads}
+use Rattle.ceal_types.proofs.Resolution.NumbersOfNames.{numbers, numbers-added, names-of-fields, after-at, mapped-at, if-false}
+use Rattle.ceal_types.proofs.Typing.WholeRows.{element}
+use Rattle.ceal_types.proofs.Typing.WholeRows.{elements as walked_elements}
+use Rattle.ceal_types.proofs.Completeness.StatementComplete.{body-walked}
 
 -- ---- names that are apart
 middle : {A : Type 0} (P : A → Type 0) (xs ys : List A) (y : A) → AllByRecursion P (xs ++ y ∷ ys) → P y
@@ -83,7 +83,7 @@ elements-same name kind row (suc i) =
     map-append field_info (walked_elements name kind row i) (element name kind row i ∷ [])
     ∙ ap (λ (l : List FieldInfo). l ++ field_info (element name kind row i) ∷ []) (elements-same name kind row i)
 
--- the keys of fields and of what comes behind them
+-- the keys of fields and of what comes after them
 abbrev Apart : Fields → List FieldInfo → Type 0
 Apart fields infos = IsDistinct bytes_eq (keys_of fields ++ map name_of_field infos)
 

@@ -16,14 +16,15 @@ use Rattle.ceal_base.specs.declared.typed.TypedExpr.{TypedExpr}
 use Rattle.ceal_base.specs.declared.typed.TypedForm.{TypedForm}
 use Rattle.ceal_types.specs.Checked.{field_info, struct_info}
 use Rattle.ceal_types.specs.Expressions.{Fields, Scope, expression, found_or, field_or_row}
-use Rattle.ceal_types.specs.Kinds.{same_kind, is_pointer, suits, comparable}
+use Rattle.ceal_base.specs.Kinds.{same_kind, is_pointer}
+use Rattle.ceal_types.specs.Kinds.{suits, comparable}
 use Rattle.ceal_types.specs.Numbers.{or_second}
 use Rattle.ceal_types.specs.Resolves.{Environment, field_names, member_number}
 use Rattle.ceal_types.specs.Tables.{Name, find, both_some, second, value_at, element_name}
 use Rattle.ceal_types.specs.Walk.{after, result_map, both}
 use Rattle.ceal_types.specs.declared.program.Field.{Field}
 use Rattle.ceal_types.specs.declared.program.Variable.{Variable}
-use Rattle.ceal_types.proofs.NumberLemmas.{has-number}
+use Rattle.ceal_types.proofs.Names.NumberOfName.{has-number}
 
 abbrev pub number_of : Variable → ℕ
 number_of v = v.number

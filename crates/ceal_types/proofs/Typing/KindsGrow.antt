@@ -13,8 +13,8 @@ use Rattle.ceal_types.specs.Tables.{has}
 use Rattle.ceal_types.specs.Walk.{fault, result_map}
 use Rattle.ceal_types.specs.declared.program.Program.{Program}
 use Rattle.ceal_types.specs.declared.program.Variables.{Variables}
-use Rattle.ceal_types.proofs.GrowLemmas.{Grows, grows-same, grows-more, grows-on}
-use Rattle.ceal_types.proofs.KeepLemmas.{after-keeps, mapped-keeps, if-keeps, any-ok, turn-keeps}
+use Rattle.ceal_types.proofs.Walks.LongerList.{Grows, grows-same, grows-more, grows-on}
+use Rattle.ceal_types.proofs.Walks.WalkKeeps.{after-keeps, mapped-keeps, if-keeps, any-ok, turn-keeps}
 
 abbrev Any : {A : Type 0} → A → Type 0
 Any x = Unit {0}

@@ -34,14 +34,14 @@ use Rattle.ceal_types.specs.Walk.{fault, result_map, in_turn, at_end}
 use Rattle.ceal_types.specs.declared.program.Head.{Head}
 use Rattle.ceal_types.specs.declared.program.Program.{Program}
 use Rattle.ceal_types.specs.declared.program.Variables.{Variables}
-use Rattle.ceal_types.proofs.ExpressionResolved.{Whole}
-use Rattle.ceal_types.proofs.HeadTyped.{distinct-more, entries-names}
-use Rattle.ceal_types.proofs.KeepLemmas.{after-keeps, mapped-keeps, if-keeps, weaken, any-ok, ok-at, after-ok, turn-keeps}
-use Rattle.ceal_types.proofs.KindsGrow.{BlockGrows, body-grows}
-use Rattle.ceal_types.proofs.NumberLemmas.{has-any, keys-added}
-use Rattle.ceal_types.proofs.ProgramTyped.{view_name, HeadAdded, head-added, struct-added, shown-all, names-of-functions, names-of-heads, names-of-structs, same-ok}
-use Rattle.ceal_types.proofs.ResolveLemmas.{numbers, numbers-added, names-of-fields, both-hold}
-use Rattle.ceal_types.proofs.StatementResolved.{struct-named, kind-named, body-resolves}
+use Rattle.ceal_types.proofs.Resolution.ExpressionResolved.{Whole}
+use Rattle.ceal_types.proofs.Typing.HeadTyped.{distinct-more, entries-names}
+use Rattle.ceal_types.proofs.Walks.WalkKeeps.{after-keeps, mapped-keeps, if-keeps, weaken, any-ok, ok-at, after-ok, turn-keeps}
+use Rattle.ceal_types.proofs.Typing.KindsGrow.{BlockGrows, body-grows}
+use Rattle.ceal_types.proofs.Names.NumberOfName.{has-any, keys-added}
+use Rattle.ceal_types.proofs.Typing.ProgramTyped.{view_name, HeadAdded, head-added, struct-added, shown-all, names-of-functions, names-of-heads, names-of-structs, same-ok}
+use Rattle.ceal_types.proofs.Resolution.NumbersOfNames.{numbers, numbers-added, names-of-fields, both-hold}
+use Rattle.ceal_types.proofs.Resolution.StatementResolved.{struct-named, kind-named, body-resolves}
 
 append-more : {A : Type 0} (xs ys zs more : List A) (x : A) → xs ≡ ys ++ more → zs ≡ xs ++ x ∷ [] → zs ≡ ys ++ (more ++ x ∷ [])
 append-more xs ys zs more x h k = k ∙ ap (λ (l : List _). l ++ x ∷ []) h ∙ append_assoc ys more (x ∷ [])
@@ -93,7 +93,7 @@ keys-given fields all more h =
     sym (names-of-fields all) ∙ ap (map name_of_field) h ∙ map-append name_of_field (map field_info fields) more
     ∙ ap (λ (l : List Name). l ++ map name_of_field more) (names-of-fields fields)
 
--- a parameter's kind is there, whatever comes behind
+-- a parameter's kind is there, whatever comes after
 more-parameters : (p : Typed) (ds : List FieldDecl) (kinds more : List Kind) → ParametersResolve p ds kinds → ParametersResolve p ds (kinds ++ more)
 more-parameters p [] kinds more h = tt
 more-parameters p (d ∷ ds) [] more h = absurd h

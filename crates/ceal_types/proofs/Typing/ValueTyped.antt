@@ -24,16 +24,17 @@ use Rattle.ceal_base.specs.declared.typed.TypedValue.TheVariants.{Plain as Plain
 use Rattle.ceal_types.specs.Checked.{struct_info}
 use Rattle.ceal_types.specs.Expressions.{Scope, typed_expr, typed_exprs}
 use Rattle.ceal_types.specs.Heads.{number_or_fault, struct_number, kind_of}
-use Rattle.ceal_types.specs.Kinds.{suits, same_kind}
+use Rattle.ceal_base.specs.Kinds.{same_kind}
+use Rattle.ceal_types.specs.Kinds.{suits}
 use Rattle.ceal_types.specs.Statements.{arguments_suit, call_by_own, call_suits, alloc_by_own, alloc_suits, asked_for, plain_value, held_value, read_value, modref_value, block_value, alloc_value, alloc_by, alloc_of, typed_value}
 use Rattle.ceal_types.specs.Tables.{Name, find, value_at}
 use Rattle.ceal_types.specs.Walk.{fault}
 use Rattle.ceal_types.specs.declared.program.Head.{Head}
 use Rattle.ceal_types.specs.declared.program.Program.{Program}
-use Rattle.ceal_types.proofs.ExpressionTyped.{around, ScopeGood, Good, expr-typed, exprs-typed}
-use Rattle.ceal_types.proofs.KeepLemmas.{after-keeps, mapped-keeps, if-keeps, weaken}
-use Rattle.ceal_types.proofs.KindLemmas.{suited, same-kind}
-use Rattle.ceal_types.proofs.PlaceLemmas.{find-place}
+use Rattle.ceal_types.proofs.Typing.ExpressionTyped.{around, ScopeGood, Good, expr-typed, exprs-typed}
+use Rattle.ceal_types.proofs.Walks.WalkKeeps.{after-keeps, mapped-keeps, if-keeps, weaken}
+use Rattle.ceal_types.proofs.Typing.KindTests.{suited, same-kind}
+use Rattle.ceal_types.proofs.Names.FoundPlace.{find-place}
 
 -- the number of a struct is that of one
 within-position : (test : Name → Bool) (names : List Name) (o : Option ℕ) → position test names ≡ o → IfSome o (λ n. n < length names)

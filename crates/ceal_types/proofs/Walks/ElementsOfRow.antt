@@ -7,7 +7,7 @@ use Rattle.ceal_base.specs.declared.syntax.Ident.{Ident}
 use Rattle.ceal_types.specs.Expressions.{Fields}
 use Rattle.ceal_types.specs.Heads.{with_element, with_elements}
 use Rattle.ceal_types.specs.Walk.{after}
-use Rattle.ceal_types.proofs.TurnLemmas.{fails-after}
+use Rattle.ceal_types.proofs.Walks.WalkFromItem.{fails-after}
 
 split-more : (i n : ℕ) → (i ≡ suc n) ⊎ (i ≤ n) → (suc i ≡ suc (suc n)) ⊎ (suc i ≤ suc n)
 split-more i n (inl e) = inl (ap suc e)

@@ -28,7 +28,8 @@ use Rattle.ceal_base.specs.declared.typed.TypedValue.TheVariants.{Plain as Plain
 use Rattle.ceal_types.specs.Checked.{struct_info}
 use Rattle.ceal_types.specs.Expressions.{Scope, typed_expr, typed_exprs, condition, member}
 use Rattle.ceal_types.specs.Heads.{number_or_fault, struct_number, kind_of}
-use Rattle.ceal_types.specs.Kinds.{suits, same_kind}
+use Rattle.ceal_base.specs.Kinds.{same_kind}
+use Rattle.ceal_types.specs.Kinds.{suits}
 use Rattle.ceal_types.specs.Resolves.{Environment, IsStruct, IsFunction, IsKind, ExprResolves, ExprsResolve, ValueResolves, StmtResolves, RowResolves, StmtsResolve, in_scope}
 use Rattle.ceal_types.specs.Statements.{Step, Block, still, empty_block, block_end, inner_block, with_step, declaration, declare, assignment, assign_if_found, assign, plain_kind, set_suited, set_value, set_member, set_left, set_field, write_held, write_of, write, call_of, call_checked, call_if_found, call, call_suits, if_step, choose, branch, while_step, loop, asked_for, plain_value, held_value, read_value, modref_value, block_value, alloc_suits, alloc_value, alloc_by, alloc_of, typed_value, typed_stmt, typed_row, typed_stmts}
 use Rattle.ceal_types.specs.Tables.{has, find}
@@ -38,11 +39,11 @@ use Rattle.ceal_types.specs.declared.program.Member.{Member}
 use Rattle.ceal_types.specs.declared.program.Program.{Program}
 use Rattle.ceal_types.specs.declared.program.Variable.{Variable}
 use Rattle.ceal_types.specs.declared.program.Variables.{Variables}
-use Rattle.ceal_types.proofs.ExpressionResolved.{Whole, Found, member-named, expr-resolved, exprs-resolved, condition-resolved}
-use Rattle.ceal_types.proofs.GrowLemmas.{Grows, grows-same, grows-more, grows-on, grows-take}
-use Rattle.ceal_types.proofs.KeepLemmas.{after-keeps, mapped-keeps, both-keeps, if-keeps, weaken, any-ok}
-use Rattle.ceal_types.proofs.ResolveLemmas.{numbers, numbers-added, number_of, lookup-numbers, first, find-number}
-use Rattle.ceal_types.proofs.NumberLemmas.{absent}
+use Rattle.ceal_types.proofs.Resolution.ExpressionResolved.{Whole, Found, member-named, expr-resolved, exprs-resolved, condition-resolved}
+use Rattle.ceal_types.proofs.Walks.LongerList.{Grows, grows-same, grows-more, grows-on, grows-take}
+use Rattle.ceal_types.proofs.Walks.WalkKeeps.{after-keeps, mapped-keeps, both-keeps, if-keeps, weaken, any-ok}
+use Rattle.ceal_types.proofs.Resolution.NumbersOfNames.{numbers, numbers-added, number_of, lookup-numbers, first, find-number}
+use Rattle.ceal_types.proofs.Names.NumberOfName.{absent}
 
 module _ (p : Program) (fs : List TypedFunction) (names : p.names ≡ map struct_name (map struct_info p.structs)) (functions : map function_name fs ≡ keys_of p.functions) where
   -- ---- structs, functions and types

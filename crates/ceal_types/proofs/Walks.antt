@@ -1,0 +1,7 @@
+-- Walks over lists: what each step keeps, all keep, and a fault of an item is that of the walk.
+pub mod WalkFromItem
+pub mod WalkKeeps
+pub mod LongerList
+pub mod OneItemMore
+pub mod AllArguments
+pub mod ElementsOfRow
