@@ -151,7 +151,8 @@ copies_past at i c = λ j. if is_among j (followers c i) then copies_after (at i
 unfoldable pub folded_commands : List StructInfo → (ℕ → Copies) → ℕ → List Cmd → List Cmd
 folded_commands structs at i [] = []
 folded_commands structs at i (c ∷ cs) =
-    folded_command structs (at i) c ∷ folded_commands structs (copies_past at i (folded_command structs (at i) c)) (i + 1) cs
+    folded_command structs (at i) c
+    ∷ folded_commands structs (copies_past at i (folded_command structs (at i) c)) (i + 1) cs
 
 unfoldable mutual
   -- whether the expression mentions the variable
