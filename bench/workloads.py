@@ -7,7 +7,7 @@ RUN = ['run', '--fuel', str(FUEL)]
 
 
 class Work:
-    """A script in parts: the lines that make inputs, the line that runs, and edits, each with its name, lines there and lines back; behind
+    """A script in parts: the lines that make inputs, the line that runs, and edits, each with its name, lines there and lines back; after
     each line of an edit comes a propagation."""
 
     def __init__(self, inputs, run, edits):
@@ -24,7 +24,7 @@ def numbers(count, seed, limit=1_000_000):
 
 
 def list_edits(last='tail'):
-    """A cell put in before the first one and taken out again, and the same behind the last one, which is c1."""
+    """A cell put in before the first one and taken out again, and the same after the last one, which is c1."""
     return lambda size: [('at the head', 'set l x', f'set l c{size}'), ('at the tail', f'set c1.{last} y', f'set c1.{last} null')]
 
 
@@ -129,7 +129,7 @@ def tree(size):
 
 
 def asked(run, more):
-    """So many of the same, and one more before them and one behind them where it is asked for."""
+    """So many of the same, and one more before them and one after them where it is asked for."""
     edits = by_turns('set p 1', 'set q 1', ['set p 0', 'set q 0'])
     return lambda size: Work(['mod p int 0', 'mod q int 0', more], f'{run} {size}', edits)
 

@@ -7,7 +7,7 @@ use Rattle.ceal_code.specs.declared.command.Cmd.{Cmd}
 use Rattle.ceal_code.specs.declared.command.Cmd.TheVariants.{Move, Tick, Alloc, Modref, Write, If, Done, Tail, Read, Call}
 use Rattle.ceal_fold.proofs.Trees.{same-tree}
 use Rattle.ceal_fold.proofs.UnusedSteps.{ticked-followers, among-part}
-use Rattle.ceal_fold.specs.Folding.{Copies, no_copies, at_root, copies_after, is_among, handed, folded_command, replaced, used, used_in, used_by, ticked, without_unused}
+use Rattle.ceal_fold.specs.Folding.{Copies, no_copies, at_root, copies_after, is_among, copies_past, folded_command, folded_commands, used, used_in, used_by, command_or_tick, without_unused}
 
 -- a list around one of its items
 pub record Around (c : Cmd) (cs : List Cmd) (i : ℕ) : Type 0 where
@@ -41,7 +41,7 @@ module _ (structs : List StructInfo) where
   -- what is known at an index of a body
   unfoldable pub facts : (ℕ → Copies) → ℕ → List Cmd → ℕ → Copies
   facts at n [] j = at j
-  facts at n (c ∷ cs) j = if j == n then at n else facts (handed at n (folded_command structs (at n) c)) (n + 1) cs j
+  facts at n (c ∷ cs) j = if j == n then at n else facts (copies_past at n (folded_command structs (at n) c)) (n + 1) cs j
 
   pub folded-followers : (k : Copies) (c : Cmd) (i : ℕ) → followers (folded_command structs k c) i ≡ followers c i
   folded-followers k (Move v e) i = refl
@@ -64,26 +64,26 @@ module _ (structs : List StructInfo) where
   unfolding facts
   facts-here at n c cs i e =
       let r : (i == n) ≡ true = subst (λ n. (i == n) ≡ true) e (is-first i) in
-      ap (λ b. if b then at n else facts (handed at n (folded_command structs (at n) c)) (n + 1) cs i) r
+      ap (λ b. if b then at n else facts (copies_past at n (folded_command structs (at n) c)) (n + 1) cs i) r
 
-  pub facts-later : (at : ℕ → Copies) (n : ℕ) (c : Cmd) (cs : List Cmd) (i : ℕ) → (i == n) ≡ false → facts at n (c ∷ cs) i ≡ facts (handed at n (folded_command structs (at n) c)) (n + 1) cs i
+  pub facts-later : (at : ℕ → Copies) (n : ℕ) (c : Cmd) (cs : List Cmd) (i : ℕ) → (i == n) ≡ false → facts at n (c ∷ cs) i ≡ facts (copies_past at n (folded_command structs (at n) c)) (n + 1) cs i
   unfolding facts
-  facts-later at n c cs i r = ap (λ b. if b then at n else facts (handed at n (folded_command structs (at n) c)) (n + 1) cs i) r
+  facts-later at n c cs i r = ap (λ b. if b then at n else facts (copies_past at n (folded_command structs (at n) c)) (n + 1) cs i) r
 
-  handed-among : (at : ℕ → Copies) (i : ℕ) (c : Cmd) (j : ℕ) → is_among j (followers c i) ≡ true → handed at i c j ≡ copies_after (at i) c
-  unfolding handed
+  handed-among : (at : ℕ → Copies) (i : ℕ) (c : Cmd) (j : ℕ) → is_among j (followers c i) ≡ true → copies_past at i c j ≡ copies_after (at i) c
+  unfolding copies_past
   handed-among at i c j m = ap (λ b. if b then copies_after (at i) c else at j) m
 
   -- where no command leads there, it is as before
   facts-absent : (at : ℕ → Copies) (n : ℕ) (cs : List Cmd) (j : ℕ) → is_among j (all_followers cs n) ≡ false → facts at n cs j ≡ at j
-  unfolding facts all_followers handed
+  unfolding facts all_followers copies_past
   facts-absent at n [] j h = refl
   facts-absent at n (c ∷ cs) j h =
       let p = among-part j (followers c n) (all_followers cs (n + 1)) h in
-      go (j == n) refl (facts-absent (handed at n (folded_command structs (at n) c)) (n + 1) cs j p.1 ∙ rw (folded-followers (at n) c n, p.0) refl)
+      go (j == n) refl (facts-absent (copies_past at n (folded_command structs (at n) c)) (n + 1) cs j p.1 ∙ rw (folded-followers (at n) c n, p.0) refl)
     where
-      go : (b : Bool) → (j == n) ≡ b → facts (handed at n (folded_command structs (at n) c)) (n + 1) cs j ≡ at j
-          → (if b then at n else facts (handed at n (folded_command structs (at n) c)) (n + 1) cs j) ≡ at j
+      go : (b : Bool) → (j == n) ≡ b → facts (copies_past at n (folded_command structs (at n) c)) (n + 1) cs j ≡ at j
+          → (if b then at n else facts (copies_past at n (folded_command structs (at n) c)) (n + 1) cs j) ≡ at j
       go true e g = let i : j ≡ n = nat-same j n e in ap at (sym i)
       go false e g = g
 
@@ -93,7 +93,7 @@ module _ (structs : List StructInfo) where
     facts-first at i j lo m a =
         let d = folded_command structs (at i) c in
         let m' : is_among j (followers d i) ≡ true = ap (is_among j) (folded-followers (at i) c i) ∙ m in
-        facts-later at i c after j (not-first i j lo) ∙ facts-absent (handed at i d) (i + 1) after j a ∙ handed-among at i d j m'
+        facts-later at i c after j (not-first i j lo) ∙ facts-absent (copies_past at i d) (i + 1) after j a ∙ handed-among at i d j m'
         ∙ ap (λ k. copies_after k (folded_command structs k c)) (sym (facts-here at i c after i refl))
 
     -- the command at an index, and what is known at those that follow it
@@ -106,39 +106,39 @@ module _ (structs : List StructInfo) where
     facts-follow at n (d ∷ before) i e j lo m a =
         let s : n < i = omega (arith, e) in
         facts-later at n d (before ++ c ∷ after) j (not-first n j (omega (arith, s, lo)))
-        ∙ facts-follow (handed at n (folded_command structs (at n) d)) (n + 1) before i (omega (arith, e)) j lo m a
+        ∙ facts-follow (copies_past at n (folded_command structs (at n) d)) (n + 1) before i (omega (arith, e)) j lo m a
         ∙ ap (λ k. copies_after k (folded_command structs k c)) (sym (facts-later at n d (before ++ c ∷ after) i (not-first n i s)))
 
     pub record ReplacedAround (at : ℕ → Copies) (n : ℕ) (before : List Cmd) (i : ℕ) : Type 0 where
       pub before' : List Cmd
       pub after' : List Cmd
-      pub whole : replaced structs at n (before ++ c ∷ after) ≡ before' ++ folded_command structs (facts at n (before ++ c ∷ after) i) c ∷ after'
+      pub whole : folded_commands structs at n (before ++ c ∷ after) ≡ before' ++ folded_command structs (facts at n (before ++ c ∷ after) i) c ∷ after'
       pub long : length before' ≡ length before
 
     pub replaced-around : (at : ℕ → Copies) (n : ℕ) (before : List Cmd) (i : ℕ) → i ≡ n + length before → ReplacedAround at n before i
-    unfolding replaced facts
+    unfolding folded_commands facts
     replaced-around at n [] i e =
         let z : i ≡ n = omega (arith, e) in
         let r : (i == n) ≡ true = rw z (is-first n) in
-        record { before' = []; after' = replaced structs (handed at n (folded_command structs (at n) c)) (n + 1) after; whole = rw r refl; long = refl }
+        record { before' = []; after' = folded_commands structs (copies_past at n (folded_command structs (at n) c)) (n + 1) after; whole = rw r refl; long = refl }
     replaced-around at n (d ∷ before) i e =
         let s : n < i = omega (arith, e) in
         let r : (i == n) ≡ false = not-first n i s in
-        let q = replaced-around (handed at n (folded_command structs (at n) d)) (n + 1) before i (omega (arith, e)) in
+        let q = replaced-around (copies_past at n (folded_command structs (at n) d)) (n + 1) before i (omega (arith, e)) in
         record { before' = folded_command structs (at n) d ∷ q.before'; after' = q.after'; whole = rw r (ap (λ cs. folded_command structs (at n) d ∷ cs) q.whole); long = ap suc q.long }
 
-  replaced-length : (at : ℕ → Copies) (n : ℕ) (cs : List Cmd) → length (replaced structs at n cs) ≡ length cs
-  unfolding replaced
+  replaced-length : (at : ℕ → Copies) (n : ℕ) (cs : List Cmd) → length (folded_commands structs at n cs) ≡ length cs
+  unfolding folded_commands
   replaced-length at n [] = refl
-  replaced-length at n (c ∷ cs) = ap suc (replaced-length (handed at n (folded_command structs (at n) c)) (n + 1) cs)
+  replaced-length at n (c ∷ cs) = ap suc (replaced-length (copies_past at n (folded_command structs (at n) c)) (n + 1) cs)
 
-  replaced-followers : (at : ℕ → Copies) (n : ℕ) (cs : List Cmd) → all_followers (replaced structs at n cs) n ≡ all_followers cs n
-  unfolding replaced all_followers
+  replaced-followers : (at : ℕ → Copies) (n : ℕ) (cs : List Cmd) → all_followers (folded_commands structs at n cs) n ≡ all_followers cs n
+  unfolding folded_commands all_followers
   replaced-followers at n [] = refl
-  replaced-followers at n (c ∷ cs) = ap₂ (λ js ks. js ++ ks) (folded-followers (at n) c n) (replaced-followers (handed at n (folded_command structs (at n) c)) (n + 1) cs)
+  replaced-followers at n (c ∷ cs) = ap₂ (λ js ks. js ++ ks) (folded-followers (at n) c n) (replaced-followers (copies_past at n (folded_command structs (at n) c)) (n + 1) cs)
 
-  pub replaced-tree : (cs : List Cmd) → is_tree (replaced structs at_root 0 cs) ≡ is_tree cs
-  replaced-tree cs = same-tree (replaced structs at_root 0 cs) cs (replaced-length at_root 0 cs) (replaced-followers at_root 0 cs)
+  pub replaced-tree : (cs : List Cmd) → is_tree (folded_commands structs at_root 0 cs) ≡ is_tree cs
+  replaced-tree cs = same-tree (folded_commands structs at_root 0 cs) cs (replaced-length at_root 0 cs) (replaced-followers at_root 0 cs)
 
 ticked-length : (n : ℕ) (cs : List Cmd) → length (without_unused n cs) ≡ length cs
 unfolding without_unused
@@ -153,13 +153,13 @@ ticked-all n (c ∷ cs) = ap₂ (λ js ks. js ++ ks) (ticked-followers (used_in 
 pub ticked-tree : (cs : List Cmd) → is_tree (without_unused 0 cs) ≡ is_tree cs
 ticked-tree cs = same-tree (without_unused 0 cs) cs (ticked-length 0 cs) (ticked-all 0 cs)
 
-pub folded-length : (structs : List StructInfo) (cs : List Cmd) → length (without_unused 0 (replaced structs at_root 0 cs)) ≡ length cs
-folded-length structs cs = ticked-length 0 (replaced structs at_root 0 cs) ∙ replaced-length structs at_root 0 cs
+pub folded-length : (structs : List StructInfo) (cs : List Cmd) → length (without_unused 0 (folded_commands structs at_root 0 cs)) ≡ length cs
+folded-length structs cs = ticked-length 0 (folded_commands structs at_root 0 cs) ∙ replaced-length structs at_root 0 cs
 
 pub record TickedAround (c : Cmd) (after : List Cmd) (n : ℕ) (before : List Cmd) (i : ℕ) : Type 0 where
   pub before' : List Cmd
   pub after' : List Cmd
-  pub whole : without_unused n (before ++ c ∷ after) ≡ before' ++ ticked (used_in (used (i + 1) after') (followers c i)) c ∷ after'
+  pub whole : without_unused n (before ++ c ∷ after) ≡ before' ++ command_or_tick (used_in (used (i + 1) after') (followers c i)) c ∷ after'
   pub long : length before' ≡ length before
 
 pub ticked-around : (c : Cmd) (after : List Cmd) (n : ℕ) (before : List Cmd) (i : ℕ) → i ≡ n + length before → TickedAround c after n before i
@@ -170,9 +170,9 @@ ticked-around c after n [] i e =
 ticked-around c after n (d ∷ before) i e =
     let q = ticked-around c after (n + 1) before i (omega (arith, e)) in
     record {
-      before' = ticked (used_in (used (n + 1) (without_unused (n + 1) (before ++ c ∷ after))) (followers d n)) d ∷ q.before';
+      before' = command_or_tick (used_in (used (n + 1) (without_unused (n + 1) (before ++ c ∷ after))) (followers d n)) d ∷ q.before';
       after' = q.after';
-      whole = ap (λ cs. ticked (used_in (used (n + 1) (without_unused (n + 1) (before ++ c ∷ after))) (followers d n)) d ∷ cs) q.whole;
+      whole = ap (λ cs. command_or_tick (used_in (used (n + 1) (without_unused (n + 1) (before ++ c ∷ after))) (followers d n)) d ∷ cs) q.whole;
       long = ap suc q.long;
     }
 

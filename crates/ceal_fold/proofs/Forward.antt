@@ -5,7 +5,7 @@ use Rattle.ceal_code.proofs.Words.SameIsEqual.{both, none-some, some-same}
 use Rattle.ceal_code.specs.Valid.{goes_forward, all_forward, followers}
 use Rattle.ceal_code.specs.declared.command.Cmd.{Cmd}
 use Rattle.ceal_code.specs.declared.command.Cmd.TheVariants.{Move, Tick, Alloc, Modref, Write, If, Done, Tail, Read, Call}
-use Rattle.ceal_fold.specs.Folding.{Copies, at_root, handed, folded_command, replaced, used, used_in, ticked, without_unused}
+use Rattle.ceal_fold.specs.Folding.{Copies, at_root, copies_past, folded_command, folded_commands, used, used_in, command_or_tick, without_unused}
 
 -- where each `If` goes forward, that of an index does
 pub forward-at : (cs : List Cmd) (n i k : ℕ) (c : Cmd) → all_forward cs n ≡ true → slice_get cs i ≡ Some c → k ≡ n + i → goes_forward c k ≡ true
@@ -31,13 +31,13 @@ folded-forward structs k (Tail w args) i = refl
 folded-forward structs k (Read v p w args) i = refl
 folded-forward structs k (Call g args w rest) i = refl
 
-replaced-forward : (structs : List StructInfo) (at : ℕ → Copies) (n : ℕ) (cs : List Cmd) → all_forward (replaced structs at n cs) n ≡ all_forward cs n
-unfolding replaced all_forward
+replaced-forward : (structs : List StructInfo) (at : ℕ → Copies) (n : ℕ) (cs : List Cmd) → all_forward (folded_commands structs at n cs) n ≡ all_forward cs n
+unfolding folded_commands all_forward
 replaced-forward structs at n [] = refl
 replaced-forward structs at n (c ∷ cs) =
-    ap₂ (λ a b. a && b) (folded-forward structs (at n) c n) (replaced-forward structs (handed at n (folded_command structs (at n) c)) (n + 1) cs)
+    ap₂ (λ a b. a && b) (folded-forward structs (at n) c n) (replaced-forward structs (copies_past at n (folded_command structs (at n) c)) (n + 1) cs)
 
-ticked-forward : (later : ℕ → Bool) (c : Cmd) (i : ℕ) → goes_forward (ticked later c) i ≡ goes_forward c i
+ticked-forward : (later : ℕ → Bool) (c : Cmd) (i : ℕ) → goes_forward (command_or_tick later c) i ≡ goes_forward c i
 ticked-forward later (Move v e) i = go (later v.0)
   where
     go : (b : Bool) → goes_forward (if b then Move v e else Tick) i ≡ true
@@ -59,5 +59,5 @@ unused-forward n [] = refl
 unused-forward n (c ∷ cs) =
     ap₂ (λ a b. a && b) (ticked-forward (used_in (used (n + 1) (without_unused (n + 1) cs)) (followers c n)) c n) (unused-forward (n + 1) cs)
 
-pub forward-folded : (structs : List StructInfo) (cs : List Cmd) → all_forward (without_unused 0 (replaced structs at_root 0 cs)) 0 ≡ all_forward cs 0
-forward-folded structs cs = unused-forward 0 (replaced structs at_root 0 cs) ∙ replaced-forward structs at_root 0 cs
+pub forward-folded : (structs : List StructInfo) (cs : List Cmd) → all_forward (without_unused 0 (folded_commands structs at_root 0 cs)) 0 ≡ all_forward cs 0
+forward-folded structs cs = unused-forward 0 (folded_commands structs at_root 0 cs) ∙ replaced-forward structs at_root 0 cs

@@ -6,8 +6,8 @@ use Rattle.std.specs.Map.{lookup}
 use Rattle.std.specs.Ordering.{nat_cmp}
 use Rattle.ceal_code.proofs.Words.SameIsEqual.{nat-same, nat-refl}
 use Rattle.ceal_code.specs.declared.expr.CodeExpr.{CodeExpr, Num as NumExpr, Null as NullExpr, Var, Unary', Binary', Field', Address'}
-use Rattle.ceal_fold.specs.Folding.{copy_by, copy_without, assigned}
-use Rattle.ceal_fold.specs.States.{last_of, time, still, standing, copy_at}
+use Rattle.ceal_fold.specs.Folding.{copy_by, copy_without, copies_with}
+use Rattle.ceal_fold.specs.States.{last_of, time, lasting_copy, current_copy, copy_at}
 use Rattle.ceal_fold.specs.declared.copies.Copied.{Copied}
 use Rattle.ceal_fold.specs.declared.copies.Copied.TheVariants.{Num as CopiedNum, Null as CopiedNull, Var as CopiedVar}
 use Rattle.ceal_fold.specs.declared.known.Assigned.{Assigned}
@@ -52,7 +52,7 @@ module _ (last last' : ℕ → Option Assigned) (v at : ℕ) (copy : Option Copi
           omega (arith, t, h)
 
   -- what is left of another variable's copy
-  left : (n : ℕ) (o : Option Copied) → n < at → still last' n o ≡ copy_without v (still last n o)
+  left : (n : ℕ) (o : Option Copied) → n < at → lasting_copy last' n o ≡ copy_without v (lasting_copy last n o)
   left n None h = refl
   left n (Some (CopiedNum k)) h = refl
   left n (Some CopiedNull) h = refl
@@ -72,7 +72,7 @@ module _ (last last' : ℕ → Option Assigned) (v at : ℕ) (copy : Option Copi
       go false e false f = rw (put-other w.0 e, f) refl
 
   -- the copy that was made just now
-  new : (o : Option Copied) → copy_without v o ≡ o → still last' at o ≡ o
+  new : (o : Option Copied) → copy_without v o ≡ o → lasting_copy last' at o ≡ o
   new None h = refl
   new (Some (CopiedNum k)) h = refl
   new (Some CopiedNull) h = refl
@@ -85,18 +85,18 @@ module _ (last last' : ℕ → Option Assigned) (v at : ℕ) (copy : Option Copi
           let lt : nat_lt (time (last w.0)) at ≡ true = grind (arith, k) in
           rw (put-other w.0 e, lt) refl
 
-  put-copies : copy_without v copy ≡ copy → (u : ℕ) → standing last' (last' u) ≡ (if u == v then copy else copy_without v (standing last (last u)))
+  put-copies : copy_without v copy ≡ copy → (u : ℕ) → current_copy last' (last' u) ≡ (if u == v then copy else copy_without v (current_copy last (last u)))
   put-copies h u = go (u == v) refl
     where
-      other : (o : Option Assigned) → last u ≡ o → standing last' o ≡ copy_without v (standing last o)
+      other : (o : Option Assigned) → last u ≡ o → current_copy last' o ≡ copy_without v (current_copy last o)
       other None e = refl
       other (Some a) e = left a.at a.copy (let k = earlier u in let t : time (last u) ≡ a.at = ap time e in omega (arith, k, t))
 
-      go : (b : Bool) → (u == v) ≡ b → standing last' (last' u) ≡ (if b then copy else copy_without v (standing last (last u)))
+      go : (b : Bool) → (u == v) ≡ b → current_copy last' (last' u) ≡ (if b then copy else copy_without v (current_copy last (last u)))
       go true e =
           let i : u ≡ v = nat-same u v e in
-          ap (standing last') (ap last' i ∙ put-same) ∙ new copy h
-      go false e = ap (standing last') (put-other u e) ∙ other (last u) refl
+          ap (current_copy last') (ap last' i ∙ put-same) ∙ new copy h
+      go false e = ap (current_copy last') (put-other u e) ∙ other (last u) refl
 
 at-is : (v u : ℕ) → is_at (nat_cmp v) u ≡ (u == v)
 at-is v u = grind arith
@@ -111,8 +111,8 @@ module _ (known known' : List (ℕ × Assigned)) (v at : ℕ) (copy : Option Cop
   pub assigned-times : (u : ℕ) → time (last_of known' u) ≤ at
   assigned-times = put-times (last_of known) (last_of known') v at copy put-last earlier
 
-  pub assigned-copies : copy_without v copy ≡ copy → copy_at known' ≡ assigned (copy_at known) v copy
-  unfolding copy_at assigned
+  pub assigned-copies : copy_without v copy ≡ copy → copy_at known' ≡ copies_with (copy_at known) v copy
+  unfolding copy_at copies_with
   assigned-copies h = fun_ext (put-copies (last_of known) (last_of known') v at copy put-last earlier h)
 
 pub ruleset pass_steps = (copy-other)

@@ -6,7 +6,7 @@ use Rattle.ceal_code.proofs.Words.SameIsEqual.{nat-same}
 use Rattle.ceal_code.specs.Valid.{followers}
 use Rattle.ceal_code.specs.declared.command.Cmd.{Cmd}
 use Rattle.ceal_fold.proofs.ListSteps.{at-same, at-other}
-use Rattle.ceal_fold.specs.Folding.{Copies, no_copies, copies_after, folded_command, is_among, handed, replaced}
+use Rattle.ceal_fold.specs.Folding.{Copies, no_copies, copies_after, folded_command, is_among, copies_past, folded_commands}
 use Rattle.ceal_fold.specs.States.{last_of, time, copy_at, state_at, copies_at, Until, AllUntil}
 use Rattle.ceal_fold.specs.declared.known.Assigned.{Assigned}
 
@@ -96,31 +96,31 @@ root-none (suc n) (suc j) = root-none n j
 -- what the followers of a command are handed
 pub handed-is : (states : List (List (ℕ × Assigned))) (i : ℕ) (c : Cmd) (known : Copies) (j : ℕ) (new : Copies)
     → new ≡ (if is_among j (followers c i) then known else copies_at (slice_set states i []) j)
-    → known ≡ copies_after (copies_at states i) c → i < j → new ≡ handed (copies_at states) i c j
-unfolding handed
+    → known ≡ copies_after (copies_at states i) c → i < j → new ≡ copies_past (copies_at states) i c j
+unfolding copies_past
 handed-is states i c known j new e k lo =
     e ∙ ap₂ (λ a b. if is_among j (followers c i) then a else b) k (states-other states i [] j (λ h. omega (arith, lo, h)))
 
 module _ (structs : List StructInfo) where
-  pub replaced-same : (at at' : ℕ → Copies) (i : ℕ) (cs : List Cmd) → ((j : ℕ) → i ≤ j → j < i + length cs → at j ≡ at' j) → replaced structs at i cs ≡ replaced structs at' i cs
-  unfolding replaced handed
+  pub replaced-same : (at at' : ℕ → Copies) (i : ℕ) (cs : List Cmd) → ((j : ℕ) → i ≤ j → j < i + length cs → at j ≡ at' j) → folded_commands structs at i cs ≡ folded_commands structs at' i cs
+  unfolding folded_commands copies_past
   replaced-same at at' i [] h = refl
   replaced-same at at' i (c ∷ cs) h =
       let e : at i ≡ at' i = h i (omega arith) (omega arith) in
       ap₂ (λ k rest. folded_command structs k c ∷ rest) e
-      (replaced-same (handed at i (folded_command structs (at i) c)) (handed at' i (folded_command structs (at' i) c)) (i + 1) cs
+      (replaced-same (copies_past at i (folded_command structs (at i) c)) (copies_past at' i (folded_command structs (at' i) c)) (i + 1) cs
       (λ j lo hi. ap₂ (λ k l. if is_among j (followers (folded_command structs k c) i) then copies_after k (folded_command structs k c) else l) e (h j (omega (arith, lo)) (omega (arith, hi)))))
 
   pub replaced-step : (at at' : ℕ → Copies) (i : ℕ) (c : Cmd) (cs : List Cmd)
-      → ((j : ℕ) → i < j → j < i + length (c ∷ cs) → at' j ≡ handed at i (folded_command structs (at i) c) j)
-      → replaced structs at i (c ∷ cs) ≡ folded_command structs (at i) c ∷ replaced structs at' (i + 1) cs
-  unfolding replaced
+      → ((j : ℕ) → i < j → j < i + length (c ∷ cs) → at' j ≡ copies_past at i (folded_command structs (at i) c) j)
+      → folded_commands structs at i (c ∷ cs) ≡ folded_command structs (at i) c ∷ folded_commands structs at' (i + 1) cs
+  unfolding folded_commands
   replaced-step at at' i c cs h =
       ap (λ rest. folded_command structs (at i) c ∷ rest)
-      (sym (replaced-same at' (handed at i (folded_command structs (at i) c)) (i + 1) cs (λ j lo hi. h j (omega (arith, lo)) (omega (arith, hi)))))
+      (sym (replaced-same at' (copies_past at i (folded_command structs (at i) c)) (i + 1) cs (λ j lo hi. h j (omega (arith, lo)) (omega (arith, hi)))))
 
-  pub replaced-end : (at : ℕ → Copies) (i : ℕ) (cs : List Cmd) → length cs ≡ 0 → replaced structs at i cs ≡ []
-  unfolding replaced
+  pub replaced-end : (at : ℕ → Copies) (i : ℕ) (cs : List Cmd) → length cs ≡ 0 → folded_commands structs at i cs ≡ []
+  unfolding folded_commands
   replaced-end at i [] h = refl
   replaced-end at i (c ∷ cs) h = absurd (omega (arith, h))
 
@@ -130,16 +130,16 @@ replicate-length (suc n) x = ap suc (replicate-length n x)
 
 pub walk-on : (structs : List StructInfo) (states states' : List (List (ℕ × Assigned))) (i : ℕ) (c command : Cmd) (cs rest done done' whole : List Cmd)
     → rest ≡ c ∷ cs → done' ≡ done ++ command ∷ [] → command ≡ folded_command structs (copies_at states i) c → i + length rest ≡ length states
-    → ((j : ℕ) → i < j → j < length states → copies_at states' j ≡ handed (copies_at states) i command j)
-    → (done ++ replaced structs (copies_at states) i rest) ≡ whole → (done' ++ replaced structs (copies_at states') (i + 1) cs) ≡ whole
+    → ((j : ℕ) → i < j → j < length states → copies_at states' j ≡ copies_past (copies_at states) i command j)
+    → (done ++ folded_commands structs (copies_at states) i rest) ≡ whole → (done' ++ folded_commands structs (copies_at states') (i + 1) cs) ≡ whole
 walk-on structs states states' i c command cs rest done done' whole r p e n h w =
     let long : i + length (c ∷ cs) ≡ length states = ap (λ rest. i + length rest) (sym r) ∙ n in
-    let step = replaced-step structs (copies_at states) (copies_at states') i c cs (λ j lo hi. h j lo (omega (arith, hi, long)) ∙ ap (λ d. handed (copies_at states) i d j) e) in
-    ap (λ ds. ds ++ replaced structs (copies_at states') (i + 1) cs) p
-    ∙ append_assoc done (command ∷ []) (replaced structs (copies_at states') (i + 1) cs)
-    ∙ ap (λ d. done ++ d ∷ replaced structs (copies_at states') (i + 1) cs) e
+    let step = replaced-step structs (copies_at states) (copies_at states') i c cs (λ j lo hi. h j lo (omega (arith, hi, long)) ∙ ap (λ d. copies_past (copies_at states) i d j) e) in
+    ap (λ ds. ds ++ folded_commands structs (copies_at states') (i + 1) cs) p
+    ∙ append_assoc done (command ∷ []) (folded_commands structs (copies_at states') (i + 1) cs)
+    ∙ ap (λ d. done ++ d ∷ folded_commands structs (copies_at states') (i + 1) cs) e
     ∙ ap (λ ds. done ++ ds) (sym step)
-    ∙ ap (λ rest. done ++ replaced structs (copies_at states) i rest) (sym r) ∙ w
+    ∙ ap (λ rest. done ++ folded_commands structs (copies_at states) i rest) (sym r) ∙ w
 
 pub ruleset take_steps = (at-same)
 

@@ -28,14 +28,14 @@ use Rattle.ceal_fold.proofs.Bodies.{facts, facts-root}
 use Rattle.ceal_fold.proofs.Forward.{forward-at}
 use Rattle.ceal_fold.proofs.Simulated.{spot, FrameTied, CmdsTied, cmd-tied}
 use Rattle.ceal_fold.proofs.Values.{Holds, holds-none}
-use Rattle.ceal_fold.specs.Folding.{at_root, folded_command, ticked, replaced, used_in, without_unused, folded_unit, folded_units, folded}
+use Rattle.ceal_fold.specs.Folding.{at_root, folded_command, command_or_tick, folded_commands, used_in, without_unused, folded_unit, folded_units, folded}
 
 abbrev none : CodeUnit
 none = record { function = 0; params = []; body = [] }
 
 pub unit-folded : (structs : List StructInfo) (units : List CodeUnit) (u : ℕ)
     → unwrap_or (slice_get (folded_units structs units) u) (record { function = 0; params = []; body = [] }) ≡ folded_unit structs (unwrap_or (slice_get units u) (record { function = 0; params = []; body = [] }))
-unfolding folded_units replaced without_unused
+unfolding folded_units folded_commands without_unused
 unit-folded structs [] u = refl
 unit-folded structs (unit ∷ units) zero = refl
 unit-folded structs (unit ∷ units) (suc u) = unit-folded structs units u
@@ -46,7 +46,7 @@ units-length structs [] = refl
 units-length structs (unit ∷ units) = ap suc (units-length structs units)
 
 ended : (structs : List StructInfo) (i : ℕ) → unwrap_or (slice_get (folded_unit structs none).body i) Done ≡ Done
-unfolding replaced without_unused
+unfolding folded_commands without_unused
 ended structs i = refl
 
 -- what valid code says of a unit's body
@@ -112,7 +112,7 @@ module _ (code : Code) (ok : valid code ≡ true) where
           let up = forward-at unit.body 0 i i c (unit-forward code unit (unit-valid code ok u unit is)) e (omega arith) in
           let p : unit_at code u ≡ unit = ap (λ o. unwrap_or o none) is in
           let a : command_at code u i ≡ c = ap (λ unit. unwrap_or (slice_get unit.body i) Done) p ∙ ap (λ o. unwrap_or o Done) e in
-          let b : command_at after u i ≡ ticked (used_in s.later (followers c i)) (folded_command code.structs (facts code.structs at_root 0 unit.body i) c) = ap (λ unit. unwrap_or (slice_get unit.body i) Done) (unit-is u ∙ ap (folded_unit code.structs) p) ∙ ap (λ o. unwrap_or o Done) s.there in
+          let b : command_at after u i ≡ command_or_tick (used_in s.later (followers c i)) (folded_command code.structs (facts code.structs at_root 0 unit.body i) c) = ap (λ unit. unwrap_or (slice_get unit.body i) Done) (unit-is u ∙ ap (folded_unit code.structs) p) ∙ ap (λ o. unwrap_or o Done) s.there in
           subst (λ c. CmdsTied code ok u i env env' c (command_at after u i)) (sym a)
           (subst (CmdsTied code ok u i env env' c) (sym b) (cmd-tied code ok u i env env' unit is known same s.later s.ahead c up s.here s.follow n flags h))
 

@@ -15,17 +15,17 @@ use Rattle.ceal_code.specs.declared.expr.VarId.{VarId}
 use Rattle.ceal_fold.proofs.Bodies.{around, in-middle, facts, facts-follow, replaced-around, folded-followers, ticked-around, used-later, used-here}
 use Rattle.ceal_fold.proofs.Trees.{tree-apart}
 use Rattle.ceal_fold.proofs.Values.{CopyHolds, Holds, value-folded, values-folded, value-mentioned, values-mentioned, set-other, holds-set, move-holds}
-use Rattle.ceal_fold.specs.Folding.{Copies, at_root, copies_after, copy_by, is_among, folded_expr, folded_exprs, folded_command, replaced, mentions, all_mention, uses, assigns, used, used_in, used_by, ticked, without_unused}
+use Rattle.ceal_fold.specs.Folding.{Copies, at_root, copies_after, copy_by, is_among, folded_expr, folded_exprs, folded_command, folded_commands, mentions, all_mention, uses, assigns, used, used_in, used_by, command_or_tick, without_unused}
 
 -- the body of a folded unit
 abbrev pub final : List StructInfo → List Cmd → List Cmd
-final structs body = without_unused 0 (replaced structs at_root 0 body)
+final structs body = without_unused 0 (folded_commands structs at_root 0 body)
 
 -- what stands at an index of a folded body, and what is known and used there
 pub record Spot (structs : List StructInfo) (body : List Cmd) (i : ℕ) (c : Cmd) : Type 0 where
   pub later : ℕ → ℕ → Bool
-  pub there : slice_get (final structs body) i ≡ Some (ticked (used_in later (followers c i)) (folded_command structs (facts structs at_root 0 body i) c))
-  pub here : (v : ℕ) → used 0 (final structs body) i v ≡ used_by later (ticked (used_in later (followers c i)) (folded_command structs (facts structs at_root 0 body i) c)) i v
+  pub there : slice_get (final structs body) i ≡ Some (command_or_tick (used_in later (followers c i)) (folded_command structs (facts structs at_root 0 body i) c))
+  pub here : (v : ℕ) → used 0 (final structs body) i v ≡ used_by later (command_or_tick (used_in later (followers c i)) (folded_command structs (facts structs at_root 0 body i) c)) i v
   pub ahead : (j v : ℕ) → i < j → used 0 (final structs body) j v ≡ later j v
   pub follow : (j : ℕ) → i < j → is_among j (followers c i) ≡ true
       → facts structs at_root 0 body j ≡ copies_after (facts structs at_root 0 body i) (folded_command structs (facts structs at_root 0 body i) c)
@@ -40,9 +40,9 @@ spot-around structs before c after tree =
     let t = ticked-around d q.after' 0 q.before' i (omega (arith, q.long)) in
     let long : length t.before' ≡ i = t.long ∙ q.long in
     let is : followers d i ≡ followers c i = folded-followers structs k c i in
-    let whole : final structs body ≡ t.before' ++ ticked (used_in (used (i + 1) t.after') (followers c i)) d ∷ t.after' =
-    ap (without_unused 0) q.whole ∙ t.whole ∙ ap (λ js. t.before' ++ ticked (used_in (used (i + 1) t.after') js) d ∷ t.after') is in
-    let e = ticked (used_in (used (i + 1) t.after') (followers c i)) d in
+    let whole : final structs body ≡ t.before' ++ command_or_tick (used_in (used (i + 1) t.after') (followers c i)) d ∷ t.after' =
+    ap (without_unused 0) q.whole ∙ t.whole ∙ ap (λ js. t.before' ++ command_or_tick (used_in (used (i + 1) t.after') js) d ∷ t.after') is in
+    let e = command_or_tick (used_in (used (i + 1) t.after') (followers c i)) d in
     record {
       later = used (i + 1) t.after';
       there = ap (λ cs. slice_get cs i) whole ∙ subst (λ n. slice_get (t.before' ++ e ∷ t.after') n ≡ Some e) long (in-middle t.before' e t.after');
@@ -176,10 +176,10 @@ module _ (code : Code) (ok : valid code ≡ true) where
     next-up : i < i + 1
     next-up = omega arith
 
-    pub cmd-tied : (c : Cmd) → goes_forward c i ≡ true → ((v : ℕ) → used 0 (final code.structs unit.body) i v ≡ used_by later (ticked (used_in later (followers c i)) (folds c)) i v)
+    pub cmd-tied : (c : Cmd) → goes_forward c i ≡ true → ((v : ℕ) → used 0 (final code.structs unit.body) i v ≡ used_by later (command_or_tick (used_in later (followers c i)) (folds c)) i v)
         → ((j : ℕ) → i < j → is_among j (followers c i) ≡ true → F j ≡ copies_after (F i) (folds c))
         → (fuel : ℕ) (flags : List Bool) → onward (paths_ok code unit.function unit.body fuel) c i flags ≡ true
-        → CmdsTied u i env env' c (ticked (used_in later (followers c i)) (folds c))
+        → CmdsTied u i env env' c (command_or_tick (used_in later (followers c i)) (folds c))
     cmd-tied (Move v e) up here follow fuel flags p = go (used_in later ((i + 1) ∷ []) v.0) refl here
       where
         e' : CodeExpr

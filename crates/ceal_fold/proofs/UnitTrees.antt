@@ -8,7 +8,7 @@ use Rattle.ceal_code.specs.Valid.{is_tree, unit_ok, units_ok, valid}
 use Rattle.ceal_code.specs.declared.command.Cmd.{Cmd}
 use Rattle.ceal_fold.proofs.Bodies.{replaced-tree}
 use Rattle.ceal_fold.proofs.Runs.{unit-tree}
-use Rattle.ceal_fold.specs.Folding.{at_root, replaced}
+use Rattle.ceal_fold.specs.Folding.{at_root, folded_commands}
 use Rattle.ceal_fold.specs.Trees.{are_trees}
 
 units-trees : (code : Code) (units : List CodeUnit) → units_ok code units ≡ true → are_trees units ≡ true
@@ -21,5 +21,5 @@ units-trees code (unit ∷ units) h =
 pub valid-trees : (code : Code) → valid code ≡ true → are_trees code.units ≡ true
 valid-trees code ok = units-trees code code.units (units-valid code ok)
 
-pub tree-replaced : (structs : List StructInfo) (body : List Cmd) → is_tree body ≡ true → is_tree (replaced structs at_root 0 body) ≡ true
+pub tree-replaced : (structs : List StructInfo) (body : List Cmd) → is_tree body ≡ true → is_tree (folded_commands structs at_root 0 body) ≡ true
 tree-replaced structs body h = replaced-tree structs body ∙ h

@@ -8,7 +8,7 @@ use Rattle.ceal_code.specs.declared.command.Cmd.{Cmd}
 use Rattle.ceal_code.specs.declared.command.Cmd.TheVariants.{Move, Tick, Alloc, Modref, Write, If, Done, Tail, Read, Call}
 use Rattle.ceal_fold.proofs.ListSteps.{at-same, at-other}
 use Rattle.ceal_fold.proofs.Trees.{all-after, same-tree, tree-apart}
-use Rattle.ceal_fold.specs.Folding.{is_among, ticked, uses, assigns, used, used_in, used_by, without_unused}
+use Rattle.ceal_fold.specs.Folding.{is_among, command_or_tick, uses, assigns, used, used_in, used_by, without_unused}
 use Rattle.ceal_fold.specs.States.{has, has_at}
 
 pub sets-same : (sets : List (List ℕ)) (i : ℕ) (s : List ℕ) (u : ℕ) → i < length sets → has_at (slice_set sets i s) i u ≡ has s u
@@ -91,8 +91,8 @@ taken-two sets i k j u h =
     let q = among-not (j == k) false p.1 in
     sets-other (slice_set sets i []) k [] j u (λ e. grind (arith, q.0, e)) ∙ sets-other sets i [] j u (λ e. grind (arith, p.0, e))
 
-pub ticked-ext : (f g : ℕ → Bool) (c : Cmd) → ((u : ℕ) → f u ≡ g u) → ticked f c ≡ ticked g c
-ticked-ext f g c h = ap (λ later. ticked later c) (fun_ext h)
+pub ticked-ext : (f g : ℕ → Bool) (c : Cmd) → ((u : ℕ) → f u ≡ g u) → command_or_tick f c ≡ command_or_tick g c
+ticked-ext f g c h = ap (λ later. command_or_tick later c) (fun_ext h)
 
 pub root-sets : (n j u : ℕ) → has_at (replicate n []) j u ≡ false
 unfolding has_at has
@@ -100,7 +100,7 @@ root-sets zero j u = refl
 root-sets (suc n) zero u = refl
 root-sets (suc n) (suc j) u = root-sets n j u
 
-pub ticked-followers : (later : ℕ → Bool) (c : Cmd) (i : ℕ) → followers (ticked later c) i ≡ followers c i
+pub ticked-followers : (later : ℕ → Bool) (c : Cmd) (i : ℕ) → followers (command_or_tick later c) i ≡ followers c i
 ticked-followers later (Move v e) i = go (later v.0)
   where
     go : (b : Bool) → followers (if b then Move v e else Tick) i ≡ (i + 1) ∷ []
@@ -119,19 +119,19 @@ ticked-followers later (Call g args w rest) i = refl
 -- these commands, before others of which this is known already
 unfoldable pub onto : ℕ → List Cmd → List Cmd → List Cmd
 onto i [] done = done
-onto i (c ∷ cs) done = ticked (used_in (used (i + 1) (onto (i + 1) cs done)) (followers c i)) c ∷ onto (i + 1) cs done
+onto i (c ∷ cs) done = command_or_tick (used_in (used (i + 1) (onto (i + 1) cs done)) (followers c i)) c ∷ onto (i + 1) cs done
 
 pub onto-none : (i : ℕ) (cs : List Cmd) → onto i cs [] ≡ without_unused i cs
 unfolding onto without_unused
 onto-none i [] = refl
-onto-none i (c ∷ cs) = ap (λ rest. ticked (used_in (used (i + 1) rest) (followers c i)) c ∷ rest) (onto-none (i + 1) cs)
+onto-none i (c ∷ cs) = ap (λ rest. command_or_tick (used_in (used (i + 1) rest) (followers c i)) c ∷ rest) (onto-none (i + 1) cs)
 
 pub onto-push : (i : ℕ) (cs : List Cmd) (c : Cmd) (done : List Cmd) (n : ℕ) → n ≡ i + length cs
-    → onto i (cs ++ c ∷ []) done ≡ onto i cs (ticked (used_in (used (n + 1) done) (followers c n)) c ∷ done)
+    → onto i (cs ++ c ∷ []) done ≡ onto i cs (command_or_tick (used_in (used (n + 1) done) (followers c n)) c ∷ done)
 unfolding onto
 onto-push i [] c done n h = let e : n ≡ i = omega (arith, h) in rw e refl
 onto-push i (d ∷ cs) c done n h =
-    ap (λ rest. ticked (used_in (used (i + 1) rest) (followers d i)) d ∷ rest) (onto-push (i + 1) cs c done n (omega (arith, h)))
+    ap (λ rest. command_or_tick (used_in (used (i + 1) rest) (followers d i)) d ∷ rest) (onto-push (i + 1) cs c done n (omega (arith, h)))
 
 used-same : (later later' : ℕ → ℕ → Bool) (js : List ℕ) (u : ℕ) → ((j : ℕ) → is_among j js ≡ true → later j u ≡ later' j u) → used_in later js u ≡ used_in later' js u
 unfolding used_in is_among
@@ -177,8 +177,8 @@ module _ (cs : List Cmd) (c : Cmd) (done : List Cmd) (tree : is_tree (cs ++ c �
   pub later-right : (u : ℕ) → used_in (has_at sets) (followers c (length cs)) u ≡ used_in (used (length cs + 1) done) (followers c (length cs)) u
   later-right u = used-same (has_at sets) (used (length cs + 1) done) (followers c (length cs)) u (λ j m. right j u (tree-apart cs c done tree j m))
 
-  pub ticked-right : ticked (used_in (has_at sets) (followers c (length cs))) c ≡ ticked (used_in (used (length cs + 1) done) (followers c (length cs))) c
-  ticked-right = ap (λ later. ticked later c) (fun_ext later-right)
+  pub ticked-right : command_or_tick (used_in (has_at sets) (followers c (length cs))) c ≡ command_or_tick (used_in (used (length cs + 1) done) (followers c (length cs))) c
+  ticked-right = ap (λ later. command_or_tick later c) (fun_ext later-right)
 
   pub sets-right : (d : Cmd) (sets' : List (List ℕ)) → ((i : ℕ) → followers d i ≡ followers c i)
       → ((u : ℕ) → has_at sets' (length cs) u ≡ used_by (has_at sets) d (length cs) u)
@@ -236,7 +236,7 @@ unfolding onto
 underway-over body left done sets w e = ap (λ left. onto 0 left (reverse done)) (sym (no-more left e)) ∙ w.whole
 
 module _ (body cs : List Cmd) (c d : Cmd) (done : List Cmd) (sets sets' : List (List ℕ)) where
-  on-command : Underway body (cs ++ c ∷ []) done sets → d ≡ ticked (used_in (has_at sets) (followers c (length cs))) c
+  on-command : Underway body (cs ++ c ∷ []) done sets → d ≡ command_or_tick (used_in (has_at sets) (followers c (length cs))) c
       → ((u : ℕ) → has_at sets' (length cs) u ≡ used_by (has_at sets) d (length cs) u)
       → ((j u : ℕ) → (j ≡ length cs → ⊥) → is_among j (followers c (length cs)) ≡ false → has_at sets' j u ≡ has_at sets j u)
       → length sets' ≡ length sets → Underway body cs (done ++ d ∷ []) sets'
@@ -246,7 +246,7 @@ module _ (body cs : List Cmd) (c d : Cmd) (done : List Cmd) (sets sets' : List (
       let tree : is_tree (cs ++ c ∷ reverse done) ≡ true = subst (λ ds. is_tree ds ≡ true) (append_assoc cs (c ∷ []) (reverse done)) (w.tree) in
       let right : SetsRight sets (length cs + 1) (reverse done) = subst (λ n. SetsRight sets n (reverse done)) (push-length cs c) (w.right) in
       let same : (i : ℕ) → followers d i ≡ followers c i = λ i. ap (λ d. followers d i) e ∙ ticked-followers (used_in (has_at sets) (followers c (length cs))) c i in
-      let is : d ≡ ticked (used_in (used (length cs + 1) (reverse done)) (followers c (length cs))) c = e ∙ ticked-right cs c (reverse done) tree sets right in
+      let is : d ≡ command_or_tick (used_in (used (length cs + 1) (reverse done)) (followers c (length cs))) c = e ∙ ticked-right cs c (reverse done) tree sets right in
       record {
         whole = ap (onto 0 cs) back ∙ ap (λ d. onto 0 cs (d ∷ reverse done)) is ∙ sym (onto-push 0 cs c (reverse done) (length cs) (omega arith)) ∙ w.whole;
         right = subst (SetsRight sets' (length cs)) (sym back) (sets-right cs c (reverse done) tree sets right d sets' same here others);
@@ -255,14 +255,14 @@ module _ (body cs : List Cmd) (c d : Cmd) (done : List Cmd) (sets sets' : List (
       }
 
   pub underway-on : (left done' : List Cmd) (n : ℕ) → left ≡ cs ++ c ∷ [] → done' ≡ done ++ d ∷ [] → n ≡ length cs → Underway body left done sets
-      → d ≡ ticked (used_in (has_at sets) (followers c n)) c
+      → d ≡ command_or_tick (used_in (has_at sets) (followers c n)) c
       → ((u : ℕ) → has_at sets' n u ≡ used_by (has_at sets) d n u)
       → ((j u : ℕ) → (j ≡ n → ⊥) → is_among j (followers c n) ≡ false → has_at sets' j u ≡ has_at sets j u)
       → length sets' ≡ length sets → Underway body cs done' sets'
   underway-on left done' n l p i w e here others long =
       subst (λ done. Underway body cs done sets') (sym p)
       (on-command (subst (λ left. Underway body left done sets) l w)
-      (subst (λ n. d ≡ ticked (used_in (has_at sets) (followers c n)) c) i e)
+      (subst (λ n. d ≡ command_or_tick (used_in (has_at sets) (followers c n)) c) i e)
       (subst (λ n. (u : ℕ) → has_at sets' n u ≡ used_by (has_at sets) d n u) i here)
       (subst (λ n. (j u : ℕ) → (j ≡ n → ⊥) → is_among j (followers c n) ≡ false → has_at sets' j u ≡ has_at sets j u) i others) long)
 

@@ -22,7 +22,7 @@ use Rattle.ceal_fold.proofs.ListSteps.{at-same, at-other, at-past}
 use Rattle.ceal_fold.proofs.ReplaceSteps.{set-length}
 use Rattle.ceal_fold.proofs.Simulated.{final, spot, used-follower, among-next, among-first, among-second, lt-true}
 use Rattle.ceal_fold.proofs.Types.{Refined, refined-refl, refined-fits, refined-maybe, refined-place, refined-write, known_at, CopiesTyped, type-folded, type-final, all-final, params-final}
-use Rattle.ceal_fold.specs.Folding.{Copies, no_copies, at_root, use_of, copies_after, copy_by, copy_without, assigned, is_among, folded_expr, folded_exprs, folded_command, replaced, mentions, all_mention, uses, assigns, used, used_in, used_by, ticked, folded_unit, folded_units, folded}
+use Rattle.ceal_fold.specs.Folding.{Copies, no_copies, at_root, use_of, copies_after, copy_by, copy_without, copies_with, is_among, folded_expr, folded_exprs, folded_command, folded_commands, mentions, all_mention, uses, assigns, used, used_in, used_by, command_or_tick, folded_unit, folded_units, folded}
 use Rattle.ceal_fold.specs.declared.copies.Copied.{Copied}
 use Rattle.ceal_fold.specs.declared.copies.Copied.TheVariants.{Num as CopiedNum, Null as CopiedNull, Var as CopiedVar}
 
@@ -100,8 +100,8 @@ module _ (structs : List StructInfo) (kinds : List Kind) (known : List Bool) whe
 
     copies-set : (copies : Copies) (copy : Option Copied) → CopiesTyped structs kinds known copies
         → ((w : VarId) → w.0 ≡ v → Refined (variable_type (slice_get kinds w.0) (known_at after w.0)) (type_of structs kinds after (use_of w copy)))
-        → CopiesTyped structs kinds after (assigned copies v copy)
-    unfolding assigned
+        → CopiesTyped structs kinds after (copies_with copies v copy)
+    unfolding copies_with
     copies-set copies copy good h w = go (w.0 == v) refl
       where
         go : (b : Bool) → (w.0 == v) ≡ b → Refined (variable_type (slice_get kinds w.0) (known_at after w.0)) (type_of structs kinds after (use_of w (if b then copy else copy_without v (copies w.0))))
@@ -281,9 +281,9 @@ module _ (code : Code) (ok : valid code ≡ true) where
       keep-live : (d : Cmd) (here : (z : ℕ) → U i z ≡ used_by later d i z) → ((z : ℕ) → assigns d z ≡ false) → (j : ℕ) → i < j → is_among j (followers d i) ≡ true → Live j known known'
       keep-live d here a j lo m z g k = kept-known d here z (a z) (used-follower later (followers d i) j z m (sym (ahead j z lo) ∙ g)) k
 
-      cmd-go : (c : Cmd) → goes_forward c i ≡ true → ((v : ℕ) → U i v ≡ used_by later (ticked (used_in later (followers c i)) (fold-it c)) i v)
+      cmd-go : (c : Cmd) → goes_forward c i ≡ true → ((v : ℕ) → U i v ≡ used_by later (command_or_tick (used_in later (followers c i)) (fold-it c)) i v)
           → ((j : ℕ) → i < j → is_among j (followers c i) ≡ true → F j ≡ copies_after (F i) (fold-it c))
-          → command_ok code f known stepped c ≡ true → onward (paths_ok code f body n) c i known ≡ true → Goes (ticked (used_in later (followers c i)) (fold-it c))
+          → command_ok code f known stepped c ≡ true → onward (paths_ok code f body n) c i known ≡ true → Goes (command_or_tick (used_in later (followers c i)) (fold-it c))
       cmd-go (Move v e) up here follow k p = go (used_in later ((i + 1) ∷ []) v.0) refl here
         where
           e' : CodeExpr
@@ -389,7 +389,7 @@ module _ (code : Code) (ok : valid code ≡ true) where
       let r = both (all_forward unit.body 0 && is_tree unit.body) (paths_ok code f unit.body (length unit.body) 0 begun false) q.1 in
       let shape = both (all_forward unit.body 0) (is_tree unit.body) r.0 in
       let forward : all_forward B 0 ≡ true = forward-folded code.structs unit.body ∙ shape.0 in
-      let tree : is_tree B ≡ true = ticked-tree (replaced code.structs at_root 0 unit.body) ∙ replaced-tree code.structs unit.body ∙ shape.1 in
+      let tree : is_tree B ≡ true = ticked-tree (folded_commands code.structs at_root 0 unit.body) ∙ replaced-tree code.structs unit.body ∙ shape.1 in
       let paths : paths_ok folds f B (length B) 0 begun false ≡ true =
       ap (λ n. paths_ok folds f B n 0 begun false) (folded-length code.structs unit.body)
       ∙ paths-go f unit.body shape.1 shape.0 (length unit.body) 0 begun begun false refl r.1

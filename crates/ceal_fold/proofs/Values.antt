@@ -20,7 +20,7 @@ use Rattle.ceal_code.specs.declared.expr.CodeExpr.{CodeExpr, Num as NumExpr, Nul
 use Rattle.ceal_code.specs.declared.expr.CodeExpr.TheBlock.{hidden-the_row-CodeExpr-0, shape-the_row-CodeExpr-0}
 use Rattle.ceal_code.specs.declared.expr.CodeExpr.TheViews.{Unary, Binary, Field, Address}
 use Rattle.ceal_code.specs.declared.expr.VarId.{VarId}
-use Rattle.ceal_fold.specs.Folding.{Copies, no_copies, use_of, constant, constant_expr, is_null, unary_folded, binary_folded, folded_expr, folded_operand, folded_exprs, copy_by, copy_without, assigned, mentions, operand_mentions, all_mention}
+use Rattle.ceal_fold.specs.Folding.{Copies, no_copies, use_of, constant, constant_expr, is_null, unary_folded, binary_folded, folded_expr, folded_operand, folded_exprs, copy_by, copy_without, copies_with, mentions, operand_mentions, all_mention}
 use Rattle.ceal_fold.specs.declared.copies.Copied.{Copied}
 use Rattle.ceal_fold.specs.declared.copies.Copied.TheVariants.{Num as CopiedNum, Null as CopiedNull, Var as CopiedVar}
 
@@ -247,8 +247,8 @@ pub set-other : (env : Variables) (v u : ℕ) (word : Word) → (u == v) ≡ fal
 unfolding set
 set-other env v u word e = rw e refl
 
-pub holds-set : (known : Copies) (env : Variables) (v : ℕ) (word : Word) (copy : Option Copied) → Holds known env → CopyHolds (set env v word) word copy → Holds (assigned known v copy) (set env v word)
-unfolding assigned
+pub holds-set : (known : Copies) (env : Variables) (v : ℕ) (word : Word) (copy : Option Copied) → Holds known env → CopyHolds (set env v word) word copy → Holds (copies_with known v copy) (set env v word)
+unfolding copies_with
 holds-set known env v word copy h k u = go (u == v) refl
   where
     left : (u == v) ≡ false → (o : Option Copied) → CopyHolds env (env u) o → CopyHolds (set env v word) (set env v word u) (copy_without v o)

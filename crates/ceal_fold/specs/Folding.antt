@@ -128,14 +128,14 @@ copy_without v (Some CopiedNull) = Some CopiedNull
 copy_without v (Some (CopiedVar w)) = if w.0 == v then None else Some (CopiedVar w)
 
 -- after an assignment to the variable, which makes it this copy
-unfoldable pub assigned : Copies → ℕ → Option Copied → Copies
-assigned known v copy = λ u. if u == v then copy else copy_without v (known u)
+unfoldable pub copies_with : Copies → ℕ → Option Copied → Copies
+copies_with known v copy = λ u. if u == v then copy else copy_without v (known u)
 
 -- after a command
 abbrev pub copies_after : Copies → Cmd → Copies
-copies_after known (Move v e) = assigned known v.0 (copy_by v.0 e)
-copies_after known (Alloc v g args) = assigned known v.0 None
-copies_after known (Modref v shape) = assigned known v.0 None
+copies_after known (Move v e) = copies_with known v.0 (copy_by v.0 e)
+copies_after known (Alloc v g args) = copies_with known v.0 None
+copies_after known (Modref v shape) = copies_with known v.0 None
 copies_after known _ = known
 
 -- whether the index is in the list
@@ -143,15 +143,16 @@ unfoldable pub is_among : ℕ → List ℕ → Bool
 is_among j [] = false
 is_among j (k ∷ ks) = j == k || is_among j ks
 
--- the copies at each index, with those after the command that stands at index `i` handed to its followers
-unfoldable pub handed : (ℕ → Copies) → ℕ → Cmd → (ℕ → Copies)
-handed at i c = λ j. if is_among j (followers c i) then copies_after (at i) c else at j
+-- the copies at each index past the command at index `i`: its followers have those after the command
+unfoldable pub copies_past : (ℕ → Copies) → ℕ → Cmd → (ℕ → Copies)
+copies_past at i c = λ j. if is_among j (followers c i) then copies_after (at i) c else at j
 
 -- From the root down: the commands that stand from an index on, each with its expressions folded.
-unfoldable pub replaced : List StructInfo → (ℕ → Copies) → ℕ → List Cmd → List Cmd
-replaced structs at i [] = []
-replaced structs at i (c ∷ cs) =
-    folded_command structs (at i) c ∷ replaced structs (handed at i (folded_command structs (at i) c)) (i + 1) cs
+unfoldable pub folded_commands : List StructInfo → (ℕ → Copies) → ℕ → List Cmd → List Cmd
+folded_commands structs at i [] = []
+folded_commands structs at i (c ∷ cs) =
+    folded_command structs (at i) c
+    ∷ folded_commands structs (copies_past at i (folded_command structs (at i) c)) (i + 1) cs
 
 unfoldable mutual
   -- whether the expression mentions the variable
@@ -209,15 +210,15 @@ used i [] j v = false
 used i (c ∷ cs) j v = if j == i then used_by (used (i + 1) cs) c i v else used (i + 1) cs j v
 
 -- the command; a step alone, where it is a move of a variable that is not used later
-abbrev pub ticked : (ℕ → Bool) → Cmd → Cmd
-ticked later (Move v e) = if later v.0 then Move v e else Tick
-ticked later c = c
+abbrev pub command_or_tick : (ℕ → Bool) → Cmd → Cmd
+command_or_tick later (Move v e) = if later v.0 then Move v e else Tick
+command_or_tick later c = c
 
 -- From the leaves up: the commands that stand from an index on, each move that nothing later uses a tick.
 unfoldable pub without_unused : ℕ → List Cmd → List Cmd
 without_unused i [] = []
 without_unused i (c ∷ cs) =
-    ticked (used_in (used (i + 1) (without_unused (i + 1) cs)) (followers c i)) c ∷ without_unused (i + 1) cs
+    command_or_tick (used_in (used (i + 1) (without_unused (i + 1) cs)) (followers c i)) c ∷ without_unused (i + 1) cs
 
 -- what is known at the root of a body: nothing
 abbrev pub at_root : ℕ → Copies
@@ -225,7 +226,7 @@ at_root i = no_copies
 
 -- a unit with its body folded
 abbrev pub folded_unit : List StructInfo → Unit → Unit
-folded_unit structs unit = record unit { body = without_unused 0 (replaced structs at_root 0 unit.body) }
+folded_unit structs unit = record unit { body = without_unused 0 (folded_commands structs at_root 0 unit.body) }
 
 -- the same of each unit
 unfoldable pub folded_units : List StructInfo → List Unit → List Unit

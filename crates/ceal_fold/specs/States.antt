@@ -19,20 +19,20 @@ time None = 0
 time (Some a) = a.at
 
 -- what is left of a copy that was made at this time: nothing where its source was assigned since
-abbrev pub still : (ℕ → Option Assigned) → ℕ → Option Copied → Option Copied
-still last at None = None
-still last at (Some (CopiedNum n)) = Some (CopiedNum n)
-still last at (Some CopiedNull) = Some CopiedNull
-still last at (Some (CopiedVar w)) = if nat_lt (time (last w.0)) at then Some (CopiedVar w) else None
+abbrev pub lasting_copy : (ℕ → Option Assigned) → ℕ → Option Copied → Option Copied
+lasting_copy last at None = None
+lasting_copy last at (Some (CopiedNum n)) = Some (CopiedNum n)
+lasting_copy last at (Some CopiedNull) = Some CopiedNull
+lasting_copy last at (Some (CopiedVar w)) = if nat_lt (time (last w.0)) at then Some (CopiedVar w) else None
 
 -- what is copied by an assignment, if it still holds
-abbrev pub standing : (ℕ → Option Assigned) → Option Assigned → Option Copied
-standing last None = None
-standing last (Some a) = still last a.at a.copy
+abbrev pub current_copy : (ℕ → Option Assigned) → Option Assigned → Option Copied
+current_copy last None = None
+current_copy last (Some a) = lasting_copy last a.at a.copy
 
 -- what a variable is a copy of
 unfoldable pub copy_at : List (ℕ × Assigned) → Copies
-copy_at known v = standing (last_of known) (last_of known v)
+copy_at known v = current_copy (last_of known) (last_of known v)
 
 -- what is kept at an index of the body
 unfoldable pub state_at : List (List (ℕ × Assigned)) → ℕ → List (ℕ × Assigned)

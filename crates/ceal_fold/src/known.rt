@@ -4,8 +4,8 @@ ghost use Rattle.std.specs.Prelude.{◌≡◌, ◌<◌, ◌≤◌, ℕ, [], Some
 ghost use Rattle.std.specs.BTreeMap.{is_at};
 ghost use Rattle.std.specs.Map.{lookup};
 ghost use Rattle.std.specs.Ordering.{nat_cmp};
-ghost use Rattle.ceal_fold.specs.Folding.{assigned, copy_without, copies_after};
-ghost use Rattle.ceal_fold.specs.States.{last_of, time, still, copy_at};
+ghost use Rattle.ceal_fold.specs.Folding.{copies_with, copy_without, copies_after};
+ghost use Rattle.ceal_fold.specs.States.{last_of, time, lasting_copy, copy_at};
 
 use crate::copies::{Copied, copy_by_move};
 use crate::shared::Shared;
@@ -81,7 +81,7 @@ impl Known {
     }
 
     fn left_of(&self, a: Assigned) -> Option<Copied>
-        ensures value { result ≡ still (last_of self.now) a.at a.copy }
+        ensures value { result ≡ lasting_copy (last_of self.now) a.at a.copy }
     {
         match a.copy {
             None => None,
@@ -128,7 +128,8 @@ impl Known {
     fn assign(&mut self, v: VarId, at: usize, copy: Option<Copied>) -> Result<(), NoMemory>
         requires earlier { (u : ℕ) → time (last_of self.old u) < at }
         requires other { copy_without v.0 copy ≡ copy }
-        ensures value { IfOk result (λ _. copy_at self.new ≡ assigned (copy_at self.old) v.0 copy) }
+        ensures value { IfOk result
+            (λ _. copy_at self.new ≡ copies_with (copy_at self.old) v.0 copy) }
         ensures times { IfOk result (λ _. (u : ℕ) → time (last_of self.new u) ≤ at) }
     {
         let last = Assigned { at, copy };

@@ -2,7 +2,7 @@
 
 ghost use Rattle.std.specs.Prelude.{◌≡◌, ◌<◌, ◌+◌, ◌^◌, ℕ, [], length, slice_get, slice_set, replicate, if◌then◌else◌, IfOk};
 ghost use Rattle.ceal_code.specs.Valid.{followers};
-ghost use Rattle.ceal_fold.specs.Folding.{at_root, copies_after, is_among, folded_command, handed, replaced};
+ghost use Rattle.ceal_fold.specs.Folding.{at_root, copies_after, is_among, folded_command, copies_past, folded_commands};
 ghost use Rattle.ceal_fold.specs.States.{last_of, time, copy_at, state_at, copies_at, Until, AllUntil};
 
 use crate::expr::fold_command;
@@ -114,7 +114,7 @@ fn replace_at(
         (λ c. c ≡ folded_command structs.now (copies_at states.old.items index) command.now) }
     ensures length { IfOk result (λ c. length states.new.items ≡ length states.old.items) }
     ensures handed { IfOk result (λ c. (j : ℕ) → index < j → j < length states.old.items
-        → copies_at states.new.items j ≡ handed (copies_at states.old.items) index c j) }
+        → copies_at states.new.items j ≡ copies_past (copies_at states.old.items) index c j) }
 {
     let known = take_state(alloc, states, index);
     let command = fold_command(alloc, structs, &known, command)?;
@@ -134,7 +134,8 @@ pub fn replace_all(
     structs: &[StructInfo],
     body: &[Cmd],
 ) -> Result<Vec<Cmd>, NoMemory>
-    ensures value { IfOk result (λ done. done.items ≡ replaced structs.now at_root 0 body.now) }
+    ensures value { IfOk result
+        (λ done. done.items ≡ folded_commands structs.now at_root 0 body.now) }
 {
     let mut states = no_states(alloc, body.len())?;
     let mut done = Vec::with_capacity(alloc, body.len())?;

@@ -2,7 +2,7 @@
 
 ghost use Rattle.std.specs.Prelude.{◌≡◌, ◌<◌, ◌≤◌, ◌^◌, ◌||◌, ◌&&◌, not, ℕ, [], true, false, length, replicate, slice_set, IfOk};
 ghost use Rattle.ceal_code.specs.Valid.{followers, is_tree};
-ghost use Rattle.ceal_fold.specs.Folding.{is_among, ticked, uses, assigns, used_in, used_by, without_unused};
+ghost use Rattle.ceal_fold.specs.Folding.{is_among, command_or_tick, uses, assigns, used_in, used_by, without_unused};
 ghost use Rattle.ceal_fold.specs.States.{has, has_at};
 
 use crate::uses::pass_back;
@@ -64,7 +64,7 @@ fn take_later(
 
 /// The command, or a tick for a move of a variable that is not among these.
 fn tick_unused(command: Cmd, later: &Vars) -> Cmd
-    ensures value { result ≡ ticked (has later.now) command }
+    ensures value { result ≡ command_or_tick (has later.now) command }
 {
     let is_unused = match &command {
         Cmd::Move { var, .. } => !later.has(*var),
@@ -108,7 +108,7 @@ fn tick_before(
     index: usize,
 ) -> Result<Cmd, NoMemory>
     requires there { index < length sets.old.items }
-    ensures command { IfOk result (λ c. c ≡ ticked (has later) command) }
+    ensures command { IfOk result (λ c. c ≡ command_or_tick (has later) command) }
     ensures length { IfOk result (λ _. length sets.new.items ≡ length sets.old.items) }
     ensures here { IfOk result (λ c. (u : ℕ) → has_at sets.new.items index u
         ≡ (uses c u || (not (assigns c u) && has later u))) }
@@ -130,7 +130,8 @@ fn tick_at(alloc: Global, sets: &mut Vec<Vars>, command: Cmd, index: usize) -> R
     requires there { index < length sets.old.items }
     requires room { index < 2 ^ 63 }
     ensures command { IfOk result
-        (λ c. c ≡ ticked (used_in (has_at sets.old.items) (followers command index)) command) }
+        (λ c. c
+        ≡ command_or_tick (used_in (has_at sets.old.items) (followers command index)) command) }
     ensures length { IfOk result (λ c. length sets.new.items ≡ length sets.old.items) }
     ensures here { IfOk result
         (λ c. (u : ℕ) → has_at sets.new.items index u ≡ used_by (has_at sets.old.items) c index u) }

@@ -9,3 +9,4 @@ pub mod Nodes
 pub mod Work
 -- what this crate alone cites
 pub mod QueueCover
+pub mod SampleBox

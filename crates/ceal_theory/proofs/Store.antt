@@ -9,6 +9,7 @@ pub mod WordsGrow
 pub mod FittingInputs
 pub mod MoreInputs
 pub mod WritesByPlace
+pub mod WordsOneByOne
 -- what this crate alone cites
 pub mod EqualContents
 pub mod Mentions

@@ -1,7 +1,7 @@
 pub mod ExpressionSteps
 pub mod Walks
 pub mod Typing
-pub mod Names
+pub mod NameNumbers
 pub mod StatementSteps
 pub mod Samples
 pub mod Resolution

@@ -45,7 +45,7 @@ impl Names {
     }
 
     /// Adds a name, if it is not there.
-    #[tactic(auto, using(crate::proofs::Names::NumberOfName::name_steps))]
+    #[tactic(auto, using(crate::proofs::NameNumbers::NumberOfName::name_steps))]
     pub fn add(&mut self, name: &Text) -> Result<(), NoMemory>
         ensures ok { OnOk result (self.new ≡ with_name self.old name.now) }
         ensures err { OnErr result (self.new ≡ self.old) }
@@ -57,7 +57,7 @@ impl Names {
     }
 
     /// Adds a name that is not there.
-    #[tactic(auto, using(crate::proofs::Names::NumberOfName::name_steps))]
+    #[tactic(auto, using(crate::proofs::NameNumbers::NumberOfName::name_steps))]
     pub fn add_new(&mut self, name: &Text) -> Result<(), NoMemory>
         requires new { list_any (bytes_eq name.now) self.old ≡ false }
         ensures ok { OnOk result (self.new ≡ self.old ++ name.now ∷ []) }
@@ -81,14 +81,14 @@ impl Names {
     }
 
     /// Leaves the first `len` names.
-    #[tactic(auto, using(crate::proofs::Names::NumberOfName::name_steps))]
+    #[tactic(auto, using(crate::proofs::NameNumbers::NumberOfName::name_steps))]
     pub fn truncate(&mut self, len: usize)
         ensures kept { self.new ≡ take len self.old }
     {
         self.table.truncate(len);
     }
 
-    #[tactic(auto, using(crate::proofs::Names::NumberOfName::name_steps))]
+    #[tactic(auto, using(crate::proofs::NameNumbers::NumberOfName::name_steps))]
     pub fn has(&self, name: &Text) -> bool
         ensures there { result ≡ list_any (bytes_eq name.now) self.now }
     {

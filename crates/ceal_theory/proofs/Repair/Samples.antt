@@ -3,13 +3,11 @@
 use Rattle.std.proofs.Common.{◌≡◌, ℕ, pos, Option, Some, None, List, [], ◌∷◌, refl}
 use Rattle.ceal_base.specs.Block.{Block}
 use Rattle.ceal_base.specs.Trace.{Trace, Nothing, Stepped, Wrote, WasRead, steps_of, blocks_of}
-use Rattle.ceal_base.specs.declared.forest.UnitId.{UnitId}
 use Rattle.ceal_base.specs.declared.kind.FieldKind.TheVariants.{Plain as PlainField, CellPtr}
 use Rattle.ceal_base.specs.declared.kind.Kind.TheVariants.{Int, Ptr, ModInt as ModIntKind, ModPtr as ModPtrKind}
-use Rattle.ceal_base.specs.declared.kind.Shape.TheVariants.{Struct, ModInt, ModPtr}
-use Rattle.ceal_base.specs.declared.operators.Binary.TheVariants.{Add, Mul, Same, Differ}
+use Rattle.ceal_base.specs.declared.kind.Shape.TheVariants.{Struct}
+use Rattle.ceal_base.specs.declared.operators.Binary.TheVariants.{Add, Mul, Differ}
 use Rattle.ceal_base.specs.declared.word.BlockId.TheVariants.{Input}
-use Rattle.ceal_base.specs.declared.word.Place.{Place}
 use Rattle.ceal_base.specs.declared.word.Word.{Word}
 use Rattle.ceal_base.specs.declared.word.Word.TheVariants.{Num, Null, Block as BlockWord, At}
 use Rattle.ceal_code.specs.Init.{made, set_by, set_by_all, arguments}
@@ -19,30 +17,14 @@ use Rattle.ceal_code.specs.Step.{settled, next, chosen, bound, woven}
 use Rattle.ceal_code.specs.Value.{expr_value, values, set, unset}
 use Rattle.ceal_code.specs.declared.command.Cmd.TheVariants.{Alloc, Write, If, Done, Tail, Read, Call}
 use Rattle.ceal_code.specs.declared.expr.CodeExpr.TheBlock.{hidden-the_row-CodeExpr-0, shape-the_row-CodeExpr-0}
-use Rattle.ceal_code.specs.declared.expr.CodeExpr.TheVariants.{Var, Num as NumExpr, Null as NullExpr}
+use Rattle.ceal_code.specs.declared.expr.CodeExpr.TheVariants.{Num as NumExpr, Null as NullExpr}
 use Rattle.ceal_code.specs.declared.expr.CodeExpr.TheViews.{Binary, Field, Address}
-use Rattle.ceal_code.specs.declared.expr.CodeExpr.{CodeExpr}
-use Rattle.ceal_code.specs.declared.expr.VarId.{VarId}
 use Rattle.ceal_code.specs.declared.function.FunctionCode.TheVariants.{Core as CoreFunction, Init as InitFunction}
 use Rattle.ceal_code.specs.declared.function.InitStmt.TheVariants.{Set}
+use Rattle.ceal_theory.proofs.SampleBox.{var, v, u, place, number, pointer, box, box_inputs, box_first}
 use Rattle.ceal_theory.specs.Cost.{aligned, cost_from}
 use Rattle.ceal_theory.specs.Computed.{anew, Repaired, adjusted, first_of}
 use Rattle.ceal_theory.specs.Take.{take_alloc, take_read}
-
-abbrev var : ℕ → VarId
-var n = record { 0 = n }
-
-abbrev v : ℕ → CodeExpr
-v n = Var (record { 0 = n })
-
-abbrev u : ℕ → UnitId
-u n = record { 0 = n }
-
-abbrev place : ℕ → Place
-place n = record { block = Input n; field = 0 }
-
-abbrev number : ℕ → Block
-number n = record { shape = ModInt; words = Num (pos n) ∷ [] }
 
 -- work, steps and blocks
 abbrev report : Option Repaired → List ℕ
@@ -117,9 +99,6 @@ mapping = record {
 abbrev cell : ℕ → Word → Block
 cell head tail = record { shape = Struct 0; words = Num (pos head) ∷ tail ∷ [] }
 
-abbrev pointer : Word → Block
-pointer word = record { shape = ModPtr 0; words = word ∷ [] }
-
 -- input 0 is the list and input 1 its image; inputs 2, 3 and 4 are cells, and 5 is a cell before them
 abbrev map_inputs : ℕ → List Block
 map_inputs first =
@@ -141,41 +120,6 @@ mapped = refl
 mapped_again : report (map_again map_first) ≡ 10 ∷ 23 ∷ 3 ∷ 0 ∷ 1 ∷ 2 ∷ []
 unfolding first_of adjusted anew next settled chosen bound woven set unset expr_value values bases input_plain plain_of stored cleared learnt made set_by set_by_all arguments take_read take_alloc hidden-the_row-CodeExpr-0 shape-the_row-CodeExpr-0 denote.Hole.Carrier.hidden
 mapped_again = refl
-
--- BOX: `make` puts a box into the modifiable where the number is its own one, `look` reads the box, and `top` makes for 1
--- and for 2 and then looks.
-abbrev box : Code
-box = record {
-  structs = record { name = []; fields = record { name = []; kind = PlainField Int; row = 0 } ∷ [] } ∷ [];
-  functions =
-      InitFunction [] 0 (Int ∷ []) (Set 0 (v 0) ∷ [])
-      ∷ CoreFunction [] (u 0) (ModIntKind ∷ Int ∷ ModPtrKind 0 ∷ [])
-      ∷ CoreFunction [] (u 3) (ModPtrKind 0 ∷ ModIntKind ∷ [])
-      ∷ CoreFunction [] (u 5) (ModIntKind ∷ ModPtrKind 0 ∷ ModIntKind ∷ [])
-      ∷ [];
-  units =
-      record { function = 1; params = var 0 ∷ var 1 ∷ var 2 ∷ []; body = Read (var 3) (v 0) (u 1) (v 1 ∷ v 2 ∷ []) ∷ [] }
-      ∷ record {
-        function = 1;
-        params = var 1 ∷ var 2 ∷ var 3 ∷ [];
-        body = If (Binary Same (v 3) (v 1)) 1 4 ∷ Alloc (var 4) 0 (v 3 ∷ []) ∷ Write (v 2) (v 4) ∷ Tail (u 2) [] ∷ Tail (u 2) [] ∷ [];
-      }
-      ∷ record { function = 1; params = []; body = Done ∷ [] }
-      ∷ record { function = 2; params = var 0 ∷ var 1 ∷ []; body = Read (var 2) (v 0) (u 4) (v 1 ∷ []) ∷ [] }
-      ∷ record { function = 2; params = var 1 ∷ var 2 ∷ []; body = Write (v 1) (Field (v 2) 0 0) ∷ Done ∷ [] }
-      ∷ record { function = 3; params = var 0 ∷ var 1 ∷ var 2 ∷ []; body = Call 1 (v 0 ∷ NumExpr (pos 1) ∷ v 1 ∷ []) (u 6) (v 0 ∷ v 1 ∷ v 2 ∷ []) ∷ [] }
-      ∷ record { function = 3; params = var 0 ∷ var 1 ∷ var 2 ∷ []; body = Call 1 (v 0 ∷ NumExpr (pos 2) ∷ v 1 ∷ []) (u 7) (v 1 ∷ v 2 ∷ []) ∷ [] }
-      ∷ record { function = 3; params = var 1 ∷ var 2 ∷ []; body = Call 2 (v 1 ∷ v 2 ∷ []) (u 8) [] ∷ [] }
-      ∷ record { function = 3; params = []; body = Done ∷ [] }
-      ∷ [];
-  kinds = [] ∷ (ModIntKind ∷ Int ∷ ModPtrKind 0 ∷ Int ∷ Ptr 0 ∷ []) ∷ (ModPtrKind 0 ∷ ModIntKind ∷ Ptr 0 ∷ []) ∷ (ModIntKind ∷ ModPtrKind 0 ∷ ModIntKind ∷ []) ∷ [];
-}
-
-abbrev box_inputs : ℕ → List Block
-box_inputs n = number n ∷ pointer Null ∷ number 0 ∷ []
-
-abbrev box_first : Option Repaired
-box_first = first_of box (box_inputs 1) 11 3 (At (place 0) ∷ At (place 1) ∷ At (place 2) ∷ [])
 
 abbrev box_again : Option Repaired → Option Repaired
 box_again None = None

@@ -3,50 +3,24 @@
 use Rattle.std.proofs.Common.{◌≡◌, ℕ, pos, Bool, true, false, Option, Some, None, List, [], ◌∷◌, refl}
 use Rattle.ceal_base.specs.Block.{Block}
 use Rattle.ceal_base.specs.Trace.{steps_of, blocks_of}
-use Rattle.ceal_base.specs.declared.forest.UnitId.{UnitId}
-use Rattle.ceal_base.specs.declared.kind.FieldKind.TheVariants.{Plain as PlainField}
-use Rattle.ceal_base.specs.declared.kind.Kind.TheVariants.{Int, Ptr, ModInt as ModIntKind, ModPtr as ModPtrKind}
-use Rattle.ceal_base.specs.declared.kind.Shape.TheVariants.{ModInt, ModPtr}
-use Rattle.ceal_base.specs.declared.operators.Binary.TheVariants.{Add, Same}
-use Rattle.ceal_base.specs.declared.word.BlockId.TheVariants.{Input}
-use Rattle.ceal_base.specs.declared.word.Place.{Place}
-use Rattle.ceal_base.specs.declared.word.Word.{Word}
-use Rattle.ceal_base.specs.declared.word.Word.TheVariants.{Num, Null, At}
+use Rattle.ceal_base.specs.declared.kind.Kind.TheVariants.{Int, ModInt as ModIntKind}
+use Rattle.ceal_base.specs.declared.operators.Binary.TheVariants.{Add}
+use Rattle.ceal_base.specs.declared.word.Word.TheVariants.{At}
 use Rattle.ceal_code.specs.Init.{made, set_by, set_by_all, arguments}
 use Rattle.ceal_code.specs.Program.{Code}
 use Rattle.ceal_code.specs.Replay.{input_plain, plain_of, bases, learnt, stored, cleared, core_numbers}
 use Rattle.ceal_code.specs.Step.{settled, next, chosen, bound, woven}
 use Rattle.ceal_code.specs.Value.{expr_value, values, set, unset}
-use Rattle.ceal_code.specs.declared.command.Cmd.TheVariants.{Alloc, Write, If, Done, Tail, Read, Call}
+use Rattle.ceal_code.specs.declared.command.Cmd.TheVariants.{Write, Done, Read, Call}
 use Rattle.ceal_code.specs.declared.expr.CodeExpr.TheBlock.{hidden-the_row-CodeExpr-0, shape-the_row-CodeExpr-0}
-use Rattle.ceal_code.specs.declared.expr.CodeExpr.TheVariants.{Var, Num as NumExpr}
-use Rattle.ceal_code.specs.declared.expr.CodeExpr.TheViews.{Binary, Field}
-use Rattle.ceal_code.specs.declared.expr.CodeExpr.{CodeExpr}
-use Rattle.ceal_code.specs.declared.expr.VarId.{VarId}
-use Rattle.ceal_code.specs.declared.function.FunctionCode.TheVariants.{Core as CoreFunction, Init as InitFunction}
-use Rattle.ceal_code.specs.declared.function.InitStmt.TheVariants.{Set}
+use Rattle.ceal_code.specs.declared.expr.CodeExpr.TheVariants.{Num as NumExpr}
+use Rattle.ceal_code.specs.declared.expr.CodeExpr.TheViews.{Binary}
+use Rattle.ceal_code.specs.declared.function.FunctionCode.TheVariants.{Core as CoreFunction}
+use Rattle.ceal_theory.proofs.SampleBox.{var, v, u, place, number, box, box_inputs, box_first}
 use Rattle.ceal_theory.specs.Computed.{anew, Repaired, first_of}
 use Rattle.ceal_theory.specs.Repair.{own}
 use Rattle.ceal_theory.specs.Take.{take_alloc, take_read}
 use Rattle.ceal_theory.specs.Slices.{Repair, sliced, is_done, with_inputs, starting, beginning}
-
-abbrev var : ℕ → VarId
-var n = record { 0 = n }
-
-abbrev v : ℕ → CodeExpr
-v n = Var (record { 0 = n })
-
-abbrev u : ℕ → UnitId
-u n = record { 0 = n }
-
-abbrev place : ℕ → Place
-place n = record { block = Input n; field = 0 }
-
-abbrev number : ℕ → Block
-number n = record { shape = ModInt; words = Num (pos n) ∷ [] }
-
-abbrev pointer : Word → Block
-pointer word = record { shape = ModPtr 0; words = word ∷ [] }
 
 -- the slices' number spent, whether it is done, steps, and blocks
 pub record Report : Type 0 where
@@ -66,41 +40,6 @@ begun code inputs number (Some r) = Some (beginning code inputs r.items number)
 abbrev slice_one : Code → List Block → ℕ → Option Repair → Option Repair
 slice_one code inputs n None = None
 slice_one code inputs n (Some r) = sliced code own inputs (Some 1) n r
-
--- BOX: `make` puts a box into the modifiable where the number is its own one, `look` reads the box, and `top` makes for 1
--- and for 2 and then looks.
-abbrev box : Code
-box = record {
-  structs = record { name = []; fields = record { name = []; kind = PlainField Int; row = 0 } ∷ [] } ∷ [];
-  functions =
-      InitFunction [] 0 (Int ∷ []) (Set 0 (v 0) ∷ [])
-      ∷ CoreFunction [] (u 0) (ModIntKind ∷ Int ∷ ModPtrKind 0 ∷ [])
-      ∷ CoreFunction [] (u 3) (ModPtrKind 0 ∷ ModIntKind ∷ [])
-      ∷ CoreFunction [] (u 5) (ModIntKind ∷ ModPtrKind 0 ∷ ModIntKind ∷ [])
-      ∷ [];
-  units =
-      record { function = 1; params = var 0 ∷ var 1 ∷ var 2 ∷ []; body = Read (var 3) (v 0) (u 1) (v 1 ∷ v 2 ∷ []) ∷ [] }
-      ∷ record {
-        function = 1;
-        params = var 1 ∷ var 2 ∷ var 3 ∷ [];
-        body = If (Binary Same (v 3) (v 1)) 1 4 ∷ Alloc (var 4) 0 (v 3 ∷ []) ∷ Write (v 2) (v 4) ∷ Tail (u 2) [] ∷ Tail (u 2) [] ∷ [];
-      }
-      ∷ record { function = 1; params = []; body = Done ∷ [] }
-      ∷ record { function = 2; params = var 0 ∷ var 1 ∷ []; body = Read (var 2) (v 0) (u 4) (v 1 ∷ []) ∷ [] }
-      ∷ record { function = 2; params = var 1 ∷ var 2 ∷ []; body = Write (v 1) (Field (v 2) 0 0) ∷ Done ∷ [] }
-      ∷ record { function = 3; params = var 0 ∷ var 1 ∷ var 2 ∷ []; body = Call 1 (v 0 ∷ NumExpr (pos 1) ∷ v 1 ∷ []) (u 6) (v 0 ∷ v 1 ∷ v 2 ∷ []) ∷ [] }
-      ∷ record { function = 3; params = var 0 ∷ var 1 ∷ var 2 ∷ []; body = Call 1 (v 0 ∷ NumExpr (pos 2) ∷ v 1 ∷ []) (u 7) (v 1 ∷ v 2 ∷ []) ∷ [] }
-      ∷ record { function = 3; params = var 1 ∷ var 2 ∷ []; body = Call 2 (v 1 ∷ v 2 ∷ []) (u 8) [] ∷ [] }
-      ∷ record { function = 3; params = []; body = Done ∷ [] }
-      ∷ [];
-  kinds = [] ∷ (ModIntKind ∷ Int ∷ ModPtrKind 0 ∷ Int ∷ Ptr 0 ∷ []) ∷ (ModPtrKind 0 ∷ ModIntKind ∷ Ptr 0 ∷ []) ∷ (ModIntKind ∷ ModPtrKind 0 ∷ ModIntKind ∷ []) ∷ [];
-}
-
-abbrev box_inputs : ℕ → List Block
-box_inputs n = number n ∷ pointer Null ∷ number 0 ∷ []
-
-abbrev box_first : Option Repaired
-box_first = first_of box (box_inputs 1) 11 3 (At (place 0) ∷ At (place 1) ∷ At (place 2) ∷ [])
 
 abbrev box_1 : Option Repair
 box_1 = slice_one box (box_inputs 2) 11 (begun box (box_inputs 2) 1 box_first)

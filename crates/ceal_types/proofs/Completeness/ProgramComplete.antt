@@ -38,7 +38,7 @@ use Rattle.ceal_types.specs.declared.program.Variables.{Variables}
 use Rattle.ceal_types.proofs.Completeness.ExpressionComplete.{VariableKind, ScopeKinds}
 use Rattle.ceal_types.proofs.Resolution.ExpressionResolved.{Whole}
 use Rattle.ceal_types.proofs.Walks.LongerList.{Grows, grows-take}
-use Rattle.ceal_types.proofs.Names.NumberOfName.{has-any, keys-added}
+use Rattle.ceal_types.proofs.NameNumbers.NumberOfName.{has-any, keys-added}
 use Rattle.ceal_types.proofs.Typing.ProgramTyped.{View, view, head_view, view_name, heads-match, names-of-functions, names-of-heads}
 use Rattle.ceal_types.proofs.Resolution.NumbersOfNames.{numbers, numbers-added, names-of-fields, after-at, mapped-at, if-false}
 use Rattle.ceal_types.proofs.Typing.WholeRows.{element}

@@ -51,7 +51,7 @@ use Rattle.ceal_types.proofs.Completeness.ExpressionComplete.{VariableKind, Scop
 use Rattle.ceal_types.proofs.Resolution.ExpressionResolved.{Whole}
 use Rattle.ceal_types.proofs.Typing.ExpressionTyped.{around}
 use Rattle.ceal_types.proofs.Walks.LongerList.{Grows, grows-same, grows-more, grows-on, grows-take}
-use Rattle.ceal_types.proofs.Names.FoundPlace.{find-place}
+use Rattle.ceal_types.proofs.NameNumbers.FoundPlace.{find-place}
 use Rattle.ceal_types.proofs.Resolution.NumbersOfNames.{numbers, numbers-added, number_of, lookup-numbers, first, find-number, some-same, after-at, mapped-at, both-at, if-true, if-false, same-true, suits-true}
 use Rattle.ceal_types.proofs.Typing.StatementTyped.{row-declarations}
 use Rattle.ceal_types.proofs.Typing.ValueTyped.{HasHead, HeadsMatch}

@@ -24,7 +24,7 @@ use Rattle.ceal_types.specs.Tables.{Name, find, both_some, second, value_at, ele
 use Rattle.ceal_types.specs.Walk.{after, result_map, both}
 use Rattle.ceal_types.specs.declared.program.Field.{Field}
 use Rattle.ceal_types.specs.declared.program.Variable.{Variable}
-use Rattle.ceal_types.proofs.Names.NumberOfName.{has-number}
+use Rattle.ceal_types.proofs.NameNumbers.NumberOfName.{has-number}
 
 abbrev pub number_of : Variable → ℕ
 number_of v = v.number

@@ -38,7 +38,7 @@ use Rattle.ceal_types.proofs.Resolution.ExpressionResolved.{Whole}
 use Rattle.ceal_types.proofs.Typing.HeadTyped.{distinct-more, entries-names}
 use Rattle.ceal_types.proofs.Walks.WalkKeeps.{after-keeps, mapped-keeps, if-keeps, weaken, any-ok, ok-at, after-ok, turn-keeps}
 use Rattle.ceal_types.proofs.Typing.KindsGrow.{BlockGrows, body-grows}
-use Rattle.ceal_types.proofs.Names.NumberOfName.{has-any, keys-added}
+use Rattle.ceal_types.proofs.NameNumbers.NumberOfName.{has-any, keys-added}
 use Rattle.ceal_types.proofs.Typing.ProgramTyped.{view_name, HeadAdded, head-added, struct-added, shown-all, names-of-functions, names-of-heads, names-of-structs, same-ok}
 use Rattle.ceal_types.proofs.Resolution.NumbersOfNames.{numbers, numbers-added, names-of-fields, both-hold}
 use Rattle.ceal_types.proofs.Resolution.StatementResolved.{struct-named, kind-named, body-resolves}

@@ -43,7 +43,7 @@ use Rattle.ceal_types.proofs.Resolution.ExpressionResolved.{Whole, Found, member
 use Rattle.ceal_types.proofs.Walks.LongerList.{Grows, grows-same, grows-more, grows-on, grows-take}
 use Rattle.ceal_types.proofs.Walks.WalkKeeps.{after-keeps, mapped-keeps, both-keeps, if-keeps, weaken, any-ok}
 use Rattle.ceal_types.proofs.Resolution.NumbersOfNames.{numbers, numbers-added, number_of, lookup-numbers, first, find-number}
-use Rattle.ceal_types.proofs.Names.NumberOfName.{absent}
+use Rattle.ceal_types.proofs.NameNumbers.NumberOfName.{absent}
 
 module _ (p : Program) (fs : List TypedFunction) (names : p.names ≡ map struct_name (map struct_info p.structs)) (functions : map function_name fs ≡ keys_of p.functions) where
   -- ---- structs, functions and types

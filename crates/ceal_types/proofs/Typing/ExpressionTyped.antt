@@ -35,7 +35,7 @@ use Rattle.ceal_types.specs.declared.program.Program.{Program}
 use Rattle.ceal_types.specs.declared.program.Variable.{Variable}
 use Rattle.ceal_types.proofs.Walks.WalkKeeps.{after-keeps, mapped-keeps, both-keeps, if-keeps, turn-keeps}
 use Rattle.ceal_types.proofs.Typing.KindTests.{int-suited, compared-kinds}
-use Rattle.ceal_types.proofs.Names.FoundPlace.{find-place, field-place, row-place}
+use Rattle.ceal_types.proofs.NameNumbers.FoundPlace.{find-place, field-place, row-place}
 use Rattle.std.proofs.lemmas.List.Elements.{All-push}
 
 abbrev pub VariableGood : List ℕ → List Kind → Variable → Type 0

@@ -42,7 +42,7 @@ use Rattle.ceal_types.proofs.Typing.ExpressionTyped.{around, VariableGood, Scope
 use Rattle.ceal_types.proofs.Walks.LongerList.{Grows, grows-same, grows-more, grows-on, grows-get, get-last, grows-take}
 use Rattle.ceal_types.proofs.Walks.WalkKeeps.{after-keeps, mapped-keeps, both-keeps, if-keeps, turn-keeps}
 use Rattle.ceal_types.proofs.Typing.KindTests.{suited}
-use Rattle.ceal_types.proofs.Names.FoundPlace.{find-place}
+use Rattle.ceal_types.proofs.NameNumbers.FoundPlace.{find-place}
 use Rattle.ceal_types.proofs.Typing.ValueTyped.{HeadsMatch, call-good, value-good, kind-known}
 use Rattle.ceal_base.specs.WellTyped.{CallSuits}
 

@@ -34,7 +34,7 @@ use Rattle.ceal_types.specs.declared.program.Program.{Program}
 use Rattle.ceal_types.proofs.Typing.ExpressionTyped.{around, ScopeGood, Good, expr-typed, exprs-typed}
 use Rattle.ceal_types.proofs.Walks.WalkKeeps.{after-keeps, mapped-keeps, if-keeps, weaken}
 use Rattle.ceal_types.proofs.Typing.KindTests.{suited, same-kind}
-use Rattle.ceal_types.proofs.Names.FoundPlace.{find-place}
+use Rattle.ceal_types.proofs.NameNumbers.FoundPlace.{find-place}
 
 -- the number of a struct is that of one
 within-position : (test : Name → Bool) (names : List Name) (o : Option ℕ) → position test names ≡ o → IfSome o (λ n. n < length names)

@@ -1,5 +1,5 @@
 use Rattle.std.proofs.Common.{[], ◌++◌, length, ap, ◌∙◌, sym, subst, arith}
-use Rattle.ceal_fold.specs.Folding.{at_root, replaced}
+use Rattle.ceal_fold.specs.Folding.{at_root, folded_commands}
 use Rattle.ceal_fold.specs.States.{copies_at, AllUntil}
 use Rattle.ceal_fold.proofs.ReplaceSteps.{replaced-same, root-none, replicate-length, until-begun, walk-on}
 use Rattle.ceal_fold.proofs.replace.replace_all.Goals as goal
@@ -10,7 +10,7 @@ loop-command-init c =
     let states = c.in_ok-states.states.items in
     let body = c.args.body.now in
     record {
-      whole = ap (λ ds. ds ++ replaced structs (copies_at states) 0 body) c.in_ok-done.ensures.items
+      whole = ap (λ ds. ds ++ folded_commands structs (copies_at states) 0 body) c.in_ok-done.ensures.items
           ∙ replaced-same structs (copies_at states) at_root 0 body (λ j lo hi. ap (λ s. copies_at s j) c.in_ok-states.ensures ∙ root-none _ j);
       long = ap length c.in_ok-states.ensures ∙ replicate-length _ [];
       left = omega arith;

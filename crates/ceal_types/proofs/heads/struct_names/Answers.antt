@@ -1,5 +1,5 @@
 use Rattle.std.proofs.Common.{◌<◌, ◌≤◌, length, arith}
-use Rattle.ceal_types.proofs.Names.NamesOfStructs.{names-passed, names-over}
+use Rattle.ceal_types.proofs.NameNumbers.NamesOfStructs.{names-passed, names-over}
 use Rattle.ceal_types.proofs.heads.struct_names.Goals as goal
 
 pub loop-entry-preserved : goal.loop-entry-preserved

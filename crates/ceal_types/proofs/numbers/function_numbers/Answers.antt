@@ -1,6 +1,6 @@
 use Rattle.std.proofs.Common.{◌<◌, sym, length, bytes_eq, rules}
 use Rattle.ceal_base.specs.declared.typed.TypedFunction.{TypedFunction}
-use Rattle.ceal_types.proofs.Names.FirstOfName.{first-taken}
+use Rattle.ceal_types.proofs.NameNumbers.FirstOfName.{first-taken}
 use Rattle.ceal_types.proofs.numbers.function_numbers.Goals as goal
 
 pub loop-i-preserved : goal.loop-i-preserved

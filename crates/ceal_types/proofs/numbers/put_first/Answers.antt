@@ -1,4 +1,4 @@
-use Rattle.ceal_types.proofs.Names.FirstOfName.{with-new}
+use Rattle.ceal_types.proofs.NameNumbers.FirstOfName.{with-new}
 use Rattle.ceal_types.proofs.numbers.put_first.Goals as goal
 
 pub returns : goal.returns

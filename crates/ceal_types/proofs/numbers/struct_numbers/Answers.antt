@@ -1,6 +1,6 @@
 use Rattle.std.proofs.Common.{◌<◌, sym, length, bytes_eq, rules}
 use Rattle.ceal_base.specs.declared.typed.StructInfo.{StructInfo}
-use Rattle.ceal_types.proofs.Names.FirstOfName.{first-taken}
+use Rattle.ceal_types.proofs.NameNumbers.FirstOfName.{first-taken}
 use Rattle.ceal_types.proofs.numbers.struct_numbers.Goals as goal
 
 pub loop-i-preserved : goal.loop-i-preserved

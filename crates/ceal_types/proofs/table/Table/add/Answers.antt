@@ -2,7 +2,7 @@ use Rattle.std.proofs.Common.{◌≡◌, ◌∙◌, ◌++◌, ◌∷◌, [], fal
 use Rattle.std.specs.Str.{bytes_eq}
 use Rattle.indexmap.proofs.CallerLemmas.{insert_entry-new}
 use Rattle.ceal_types.specs.Tables.{has}
-use Rattle.ceal_types.proofs.Names.NumberOfName.{absent}
+use Rattle.ceal_types.proofs.NameNumbers.NumberOfName.{absent}
 use Rattle.ceal_types.proofs.table.Table.add.Goals as goal
 
 pub returns-clause-ok : goal.returns-clause-ok

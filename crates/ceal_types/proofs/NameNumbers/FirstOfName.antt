@@ -5,7 +5,7 @@ use Rattle.std.specs.Cmp.Lexicographic.{nat_list_eq_equiv}
 use Rattle.std.specs.Map.{lookup}
 use Rattle.std.specs.Option.{option_map}
 use Rattle.std.specs.Str.{bytes_eq}
-use Rattle.ceal_types.proofs.Names.NumberOfName.{hit, miss}
+use Rattle.ceal_types.proofs.NameNumbers.NumberOfName.{hit, miss}
 use Rattle.ceal_types.specs.Numbers.{or_second, number_if}
 use Rattle.ceal_types.specs.Tables.{Name}
 
