@@ -8,6 +8,7 @@ pub mod Accepted
 pub mod Known
 pub mod HonestItems
 pub mod Checked
+pub mod Stages
 pub mod Sound
 pub mod Decided
 pub mod SomeVerdict
