@@ -118,6 +118,7 @@ pub fn check_part(alloc: Global, input: &[u8], part: &Split) -> Result<Typed, Fr
     ensures fault { IfFault result (λ fault. IsFirstFault input.now fault) }
     ensures only { (r : ResultOf TypedRecord FaultRecord) → Comes input.now r → Gives result r }
 {
+    // for the proof: an input has one split
     one_split();
     read_part(alloc, input, part)
 }
@@ -187,6 +188,7 @@ pub fn one_answer()
     ensures law { (input : List ℕ) (a b : ResultOf TypedRecord FaultRecord) → Comes input a
         → Comes input b → a ≡ b }
 {
+    // for the proof: an input has one split, one reading, and one tree or one fault
     one_split();
     ceal_lex::lex::one_reading();
     ceal_grammar::laws::one_tree();

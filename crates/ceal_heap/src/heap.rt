@@ -102,6 +102,7 @@ impl Heap {
         match block {
             BlockId::Input(_) => None,
             BlockId::Core(number) => {
+                // for the proof: the block is there, where something is kept of it
                 let _held = self.table.find(number)?;
                 Some(self.table.shape(number))
             }

@@ -53,6 +53,7 @@ impl Memo {
     pub fn one_entry(&self)
         ensures law { OneEntry self.now }
     {
+        // for the proof: the invariant, which speaks of this field
         let _homes = &self.homes;
     }
 

@@ -48,7 +48,7 @@ fn put_following(pending: &mut Vec<Pending>, on: bool, next: u32) -> Result<(), 
 }
 
 /// Adds the command of a statement, and puts what follows it.
-#[tactic(auto, using(crate::proofs::BodySteps::act_steps))]
+#[tactic(auto, using(crate::proofs::Equations::BodySteps::act_steps))]
 fn put_act(plan: &Plan<'_>, out: &mut Writing, s: &TypedStmt, next: u32) -> Result<(), NoMemory>
     requires there { next < length plan.now.graph.blocks }
     requires below { AllBelow (length plan.now.graph.blocks) (reverse out.old.pending.items) }
@@ -69,7 +69,7 @@ fn put_act(plan: &Plan<'_>, out: &mut Writing, s: &TypedStmt, next: u32) -> Resu
 }
 
 /// Puts both parts of an `if` that stands at an index.
-#[tactic(auto, using(crate::proofs::BodySteps::push_steps))]
+#[tactic(auto, using(crate::proofs::Equations::BodySteps::push_steps))]
 fn put_parts(pending: &mut Vec<Pending>, at: u32, first: u32, second: u32) -> Result<(), NoMemory>
     ensures { OnOk result
         (reverse pending.new.items ≡ parts at first second ++ reverse pending.old.items) }
@@ -86,7 +86,7 @@ fn put_parts(pending: &mut Vec<Pending>, at: u32, first: u32, second: u32) -> Re
 }
 
 /// Adds an `if`, and puts its two parts, of which the second has its index only when it begins.
-#[tactic(auto, using(crate::proofs::BodySteps::test_steps))]
+#[tactic(auto, using(crate::proofs::Equations::BodySteps::test_steps))]
 fn put_test(
     plan: &Plan<'_>,
     out: &mut Writing,
@@ -169,7 +169,7 @@ fn put_tree(plan: &Plan<'_>, out: &mut Writing, b: u32) -> Result<(), NoMemory>
 }
 
 /// Adds the first command of what stands where a jump leads to a block, and puts what follows it.
-#[tactic(auto, using(crate::proofs::BodySteps::jump_steps))]
+#[tactic(auto, using(crate::proofs::Equations::BodySteps::jump_steps))]
 fn put_jump(plan: &Plan<'_>, out: &mut Writing, b: u32) -> Result<(), NoMemory>
     requires there { b < length plan.now.graph.blocks }
     requires below { AllBelow (length plan.now.graph.blocks) (reverse out.old.pending.items) }
@@ -219,7 +219,7 @@ fn begin(body: &mut Vec<Cmd>, test: Option<u32>) -> Result<(), NoMemory>
     Ok(())
 }
 
-#[tactic(auto, using(crate::proofs::BodySteps::pending_steps))]
+#[tactic(auto, using(crate::proofs::Equations::BodySteps::pending_steps))]
 fn put_pending(plan: &Plan<'_>, out: &mut Writing, next: Pending) -> Result<(), NoMemory>
     requires below { AllBelow (length plan.now.graph.blocks)
         (next ∷ reverse out.old.pending.items) }

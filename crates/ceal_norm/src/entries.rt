@@ -77,7 +77,7 @@ fn put_behind(out: &mut Vec<u32>, block: &GraphBlock) -> Result<(), NoMemory>
     Ok(())
 }
 
-#[tactic(auto, using(crate::proofs::EntrySteps::behind_steps))]
+#[tactic(auto, using(crate::proofs::Equations::EntrySteps::behind_steps))]
 fn blocks_behind(alloc: Global, blocks: &[GraphBlock]) -> Result<Vec<u32>, NoMemory>
     ensures { IfOk result (λ bs. bs.items ≡ all_behind blocks.now) }
 {
@@ -108,7 +108,7 @@ fn put_jumps(out: &mut Vec<u32>, block: &GraphBlock) -> Result<(), NoMemory>
     }
 }
 
-#[tactic(auto, using(crate::proofs::EntrySteps::jump_steps))]
+#[tactic(auto, using(crate::proofs::Equations::EntrySteps::jump_steps))]
 fn targets(alloc: Global, blocks: &[GraphBlock]) -> Result<Vec<u32>, NoMemory>
     ensures { IfOk result (λ bs. bs.items ≡ all_jumps blocks.now) }
 {
@@ -207,7 +207,7 @@ fn marked_entries(alloc: Global, graph: &Graph) -> Result<Vec<bool>, NoMemory>
 }
 
 /// The table of the entries of a graph.
-#[tactic(auto, using(crate::proofs::EntrySteps::table_steps))]
+#[tactic(auto, using(crate::proofs::Equations::EntrySteps::table_steps))]
 pub fn entry_table(alloc: Global, graph: &Graph) -> Result<Vec<Entry>, NoMemory>
     ensures value { IfOk result
         (λ entries. entries.items ≡ table graph.now (length graph.now.blocks)) }

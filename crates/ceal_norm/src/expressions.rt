@@ -13,7 +13,7 @@ use std::alloc::Global;
 
 /// The expression, without its kind and its places.
 #[cycle(expr)]
-#[tactic(auto, using(crate::proofs::ExprSteps::expr_steps))]
+#[tactic(auto, using(crate::proofs::Equations::ExpressionSteps::expr_steps))]
 pub fn expr_of(alloc: Global, e: &TypedExpr) -> Result<CodeExpr, NoMemory>
     ensures value { IfOk result (λ c. c ≡ expr_code e.now) }
 {
@@ -83,7 +83,7 @@ fn put_other(out: &mut Vec<CodeExpr>, but: u32, v: u32) -> Result<(), NoMemory>
 }
 
 /// The variables themselves but one.
-#[tactic(auto, using(crate::proofs::ExprSteps::others_steps))]
+#[tactic(auto, using(crate::proofs::Equations::ExpressionSteps::others_steps))]
 pub fn other_args_of(alloc: Global, but: u32, vs: &[u32]) -> Result<CodeExprs, NoMemory>
     ensures value { IfOk result (λ cs. cs ≡ own_args (without but vs.now)) }
 {

@@ -12,7 +12,7 @@ use std::alloc::Global;
 
 /// Adds a statement; what no initialiser has is left out.
 #[cycle(init)]
-#[tactic(auto, using(crate::proofs::InitSteps::init_steps))]
+#[tactic(auto, using(crate::proofs::Equations::InitialiserSteps::init_steps))]
 fn put_init(alloc: Global, out: &mut Vec<InitStmt>, s: &TypedStmt) -> Result<(), NoMemory>
     ensures { OnOk result (out.new.items ≡ out.old.items ++ init_code s.now) }
 {
@@ -45,7 +45,7 @@ fn put_init(alloc: Global, out: &mut Vec<InitStmt>, s: &TypedStmt) -> Result<(),
 
 /// The statements of an initialiser.
 #[cycle(init)]
-#[tactic(auto, using(crate::proofs::InitSteps::init_steps))]
+#[tactic(auto, using(crate::proofs::Equations::InitialiserSteps::init_steps))]
 pub fn inits_of(alloc: Global, stmts: &[TypedStmt]) -> Result<InitStmts, NoMemory>
     ensures value { IfOk result (λ cs. cs ≡ all_init_code stmts.now) }
 {

@@ -38,6 +38,7 @@ pub fn normalise(alloc: Global, graph: &Graph, live: &LiveSets) -> Result<Code, 
     let units = units_of(alloc, &plan)?;
     let kinds = all_kinds(alloc, graph.functions())?;
     let structs = copied_structs(alloc, graph.structs.items())?;
+    // for the proof: the code is valid, and runs as the graph does
     valid_law();
     run_law();
     Ok(Code::new(structs, functions, units, kinds))

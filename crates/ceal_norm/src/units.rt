@@ -37,7 +37,7 @@ fn unit_of_entry(alloc: Global, plan: &Plan<'_>, function: u32, b: u32) -> Resul
 }
 
 /// The numbers of the core functions.
-#[tactic(auto, using(crate::proofs::UnitSteps::core_steps))]
+#[tactic(auto, using(crate::proofs::Equations::UnitSteps::core_steps))]
 fn cores(alloc: Global, functions: &[GraphFunction]) -> Result<Vec<u32>, NoMemory>
     ensures { IfOk result (λ ns. ns.items ≡ core_numbers 0 functions.now) }
 {
@@ -93,7 +93,7 @@ fn put_unit(
 }
 
 /// All units, by the numbers of their entries.
-#[tactic(auto, using(crate::proofs::UnitSteps::unit_steps))]
+#[tactic(auto, using(crate::proofs::Equations::UnitSteps::unit_steps))]
 pub fn units_of(alloc: Global, plan: &Plan<'_>) -> Result<Vec<Unit>, NoMemory>
     ensures value { IfOk result
         (λ units. units.items ≡ units_before plan.now (length plan.now.graph.blocks)) }

@@ -61,6 +61,7 @@ impl Order {
         ensures at_start { place result.0 self.now.stamps ≡ 0 }
         ensures whole { IsOrder self.now }
     {
+        // for the proof: the invariant, which speaks of this field
         let _links = &self.links;
         Stamp(FIRST)
     }

@@ -30,6 +30,7 @@ pub fn record(
         IsTraceOf code.now inputs.now (record { function = function; args = args.now }) l →
         IsRecordOf code.now inputs.now (record { function = function; args = args.now }) l r) }
 {
+    // for the proof: a trace with other numbers of its core blocks replays the same call
     renaming_law();
     renamed_items_law();
     let forest = Numbers::new(alloc, items)?.forest(items)?;

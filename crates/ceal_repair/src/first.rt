@@ -31,6 +31,7 @@ pub fn first(
     ensures first { IfOk result
         (λ o. IsFirst code.now inputs.now function args.now fuel o) }
 {
+    // for the proof: numbers may be chosen as a repair goes, and what it reads is known
     chosen_law();
     known_law();
     let stack = Stack::call(alloc, code, function, args)?;

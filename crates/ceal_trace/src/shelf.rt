@@ -67,6 +67,7 @@ impl Shelf {
     {
         let held = node.split(&mut self.apart);
         let key = self.held.insert_reserved(held);
+        // for the proof: the key is below the capacity, which is within the range of lengths
         let _room = self.held.capacity();
         key
     }

@@ -52,6 +52,7 @@ impl<'a> Repair<'a> {
             f args o read.0 (running_of self.old))
             → TurnRuns (code_of self.old) (inputs_of self.old) f args o found.before self.new) }
     {
+        // for the proof: a stale read is listed, its words and stack are known, and so are the blocks of its turn
         listed_law();
         ready_law();
         turn_known_law();

@@ -1,7 +1,7 @@
 use Rattle.std.proofs.Common.{◌≡◌, ◌+◌, ◌++◌, ◌∷◌, [], length, reverse, refl, ap, sym, ◌∙◌, arith, rules}
 use Rattle.ceal_norm.specs.Body.{whole_body}
 use Rattle.ceal_norm.specs.Units.{tree}
-use Rattle.ceal_norm.proofs.BodySteps.{finished-none, finished-length, reverse-push}
+use Rattle.ceal_norm.proofs.Equations.BodySteps.{finished-none, finished-length, reverse-push}
 use Rattle.ceal_norm.proofs.body.body_of.Goals as goal
 
 pub loop-next-init : goal.loop-next-init

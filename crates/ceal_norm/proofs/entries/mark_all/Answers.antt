@@ -1,5 +1,5 @@
 use Rattle.std.proofs.Common.{◌<◌, length, get_or, refl, arith, ◌∙◌}
-use Rattle.ceal_norm.proofs.EntrySteps.{in-marked}
+use Rattle.ceal_norm.proofs.Equations.EntrySteps.{in-marked}
 use Rattle.ceal_norm.proofs.entries.mark_all.Goals as goal
 
 pub loop-b-preserved : goal.loop-b-preserved

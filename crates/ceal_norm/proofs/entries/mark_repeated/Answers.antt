@@ -1,7 +1,7 @@
 use Rattle.std.proofs.Common.{◌<◌, length, get_or, refl, ap, ◌∙◌, arith}
 use Rattle.std.proofs.lemmas.List.{length-replicate}
 use Rattle.ceal_norm.specs.Table.{is_marked}
-use Rattle.ceal_norm.proofs.EntrySteps.{marked-none, count-none, once-marked, twice-marked}
+use Rattle.ceal_norm.proofs.Equations.EntrySteps.{marked-none, count-none, once-marked, twice-marked}
 use Rattle.ceal_norm.proofs.entries.mark_repeated.Goals as goal
 
 pub loop-b-init : goal.loop-b-init

@@ -1,6 +1,6 @@
 use Rattle.std.proofs.Common.{◌∷◌, [], ◌++◌, map, take, ap, sym, ◌∙◌}
 use Rattle.ceal_norm.specs.Units.{function_code}
-use Rattle.ceal_norm.proofs.UnitSteps.{map-more}
+use Rattle.ceal_norm.proofs.Equations.UnitSteps.{map-more}
 use Rattle.ceal_norm.proofs.functions.functions_of.Goals as goal
 
 pub loop-f-preserved : goal.loop-f-preserved

@@ -1,5 +1,5 @@
 use Rattle.std.proofs.Common.{◌<◌, length, arith}
-use Rattle.ceal_norm.proofs.InitSteps.{all-take}
+use Rattle.ceal_norm.proofs.Equations.InitialiserSteps.{all-take}
 use Rattle.ceal_norm.proofs.initialiser.+init.Goals as goal
 
 pub inits_of-loop-s-preserved : goal.inits_of-loop-s-preserved

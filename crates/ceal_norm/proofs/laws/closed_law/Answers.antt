@@ -1,4 +1,4 @@
-use Rattle.ceal_norm.proofs.Closed.{graph-closed}
+use Rattle.ceal_norm.proofs.Jumps.JumpsLeadToBlocks.{graph-closed}
 use Rattle.ceal_norm.proofs.laws.closed_law.Goals as goal
 
 pub returns : goal.returns

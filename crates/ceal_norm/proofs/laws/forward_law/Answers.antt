@@ -1,4 +1,4 @@
-use Rattle.ceal_norm.proofs.Forward.{graph-forward}
+use Rattle.ceal_norm.proofs.Jumps.ForwardJumps.{graph-forward}
 use Rattle.ceal_norm.proofs.laws.forward_law.Goals as goal
 
 pub returns : goal.returns

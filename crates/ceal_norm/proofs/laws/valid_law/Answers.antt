@@ -1,5 +1,5 @@
-use Rattle.ceal_norm.proofs.Forward.{graph-forward}
-use Rattle.ceal_norm.proofs.FunctionFacts.{code-valid}
+use Rattle.ceal_norm.proofs.Jumps.ForwardJumps.{graph-forward}
+use Rattle.ceal_norm.proofs.Validity.ValidCode.{code-valid}
 use Rattle.ceal_norm.proofs.laws.valid_law.Goals as goal
 
 pub returns : goal.returns

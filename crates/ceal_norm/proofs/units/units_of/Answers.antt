@@ -1,4 +1,4 @@
-use Rattle.ceal_norm.proofs.UnitSteps.{units-step, ends-step}
+use Rattle.ceal_norm.proofs.Equations.UnitSteps.{units-step, ends-step}
 use Rattle.ceal_norm.proofs.units.units_of.Goals as goal
 
 pub loop-i-preserved : goal.loop-i-preserved

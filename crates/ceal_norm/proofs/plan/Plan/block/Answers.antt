@@ -1,6 +1,6 @@
 use Rattle.std.proofs.Common.{◌≡◌, length, slice_get, Some, ap, subst}
 use Rattle.ceal_norm.specs.Table.{JumpsBelow, Planned}
-use Rattle.ceal_norm.proofs.PlanSteps.{jumps-below, tree-of}
+use Rattle.ceal_norm.proofs.Equations.PlanSteps.{jumps-below, tree-of}
 use Rattle.ceal_norm.proofs.plan.Plan.block.Goals as goal
 
 pub returns-clause-jumps : goal.returns-clause-jumps

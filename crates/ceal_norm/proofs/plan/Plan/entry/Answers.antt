@@ -1,6 +1,6 @@
 use Rattle.std.proofs.Common.{◌≡◌, ◌<◌, length, ap, sym, subst}
 use Rattle.ceal_norm.specs.Table.{entry_at}
-use Rattle.ceal_norm.proofs.PlanSteps.{entry-there, entry-is}
+use Rattle.ceal_norm.proofs.Equations.PlanSteps.{entry-there, entry-is}
 use Rattle.ceal_norm.proofs.plan.Plan.entry.Goals as goal
 
 pub entry_at-requires : goal.entry_at-requires

@@ -1,6 +1,6 @@
 use Rattle.std.proofs.Common.{◌≡◌, length, slice_get, Some, ap, subst}
 use Rattle.ceal_norm.specs.Table.{BeginsBelow}
-use Rattle.ceal_norm.proofs.PlanSteps.{begins-below}
+use Rattle.ceal_norm.proofs.Equations.PlanSteps.{begins-below}
 use Rattle.ceal_norm.proofs.plan.Plan.function.Goals as goal
 
 pub returns-clause-begins : goal.returns-clause-begins

@@ -1,4 +1,4 @@
-use Rattle.ceal_norm.proofs.PlanSteps.{planned}
+use Rattle.ceal_norm.proofs.Equations.PlanSteps.{planned}
 use Rattle.ceal_norm.proofs.plan.Plan.new.Goals as goal
 
 pub invariant_of-result : goal.invariant_of-result

@@ -26,14 +26,14 @@ use Rattle.ceal_flow.proofs.Placing.{made-at, all-at}
 use Rattle.ceal_norm.specs.Expressions.{all_init_code}
 use Rattle.ceal_norm.specs.Laws.{IsForward, source_of}
 use Rattle.ceal_norm.specs.Units.{Source, function_code, kinds_code, code_of}
-use Rattle.ceal_norm.proofs.ExprFacts.{kind-refl}
-use Rattle.ceal_norm.proofs.Facts.{all-below}
-use Rattle.ceal_norm.proofs.Fits.{seen-live, owner-is, unit-is, entry-of, entry-is, numbers-less}
-use Rattle.ceal_norm.proofs.Initialisers.{body-right}
-use Rattle.ceal_norm.proofs.Numbers.{functions-there}
-use Rattle.ceal_norm.proofs.Spots.{Function, function-of, Sort, core, initialiser, sort-of, init-function, init-usage, entry-spot}
-use Rattle.ceal_norm.proofs.UnitFacts.{units-all}
-use Rattle.ceal_norm.proofs.UnitTrees.{unit-right}
+use Rattle.ceal_norm.proofs.Validity.ExpressionTypes.{kind-refl}
+use Rattle.ceal_norm.proofs.Validity.KnownVariables.{all-below}
+use Rattle.ceal_norm.proofs.Validity.RightCommands.{seen-live, owner-is, unit-is, entry-of, entry-is, numbers-less}
+use Rattle.ceal_norm.proofs.Validity.RightInitialisers.{body-right}
+use Rattle.ceal_norm.proofs.Jumps.FunctionOfBlock.{functions-there}
+use Rattle.ceal_norm.proofs.Validity.StatementsAtEntries.{Function, function-of, Sort, core, initialiser, sort-of, init-function, init-usage, entry-spot}
+use Rattle.ceal_norm.proofs.Validity.UnitsOfEntries.{units-all}
+use Rattle.ceal_norm.proofs.Validity.RightTrees.{unit-right}
 
 -- rows are whole
 field-same : (k : FieldKind) → same_field k k ≡ true

@@ -15,10 +15,10 @@ use Rattle.ceal_flow.specs.Sets.{is_in, is_that, set_at}
 use Rattle.ceal_flow.specs.declared.block.GraphBlock.{GraphBlock}
 use Rattle.ceal_flow.specs.declared.block.GraphBlock.TheVariants.{Done, Test, Act}
 use Rattle.ceal_flow.proofs.ListFacts.{get-within}
-use Rattle.ceal_norm.proofs.Counts.{contains-none, contains-one, contains-cases}
-use Rattle.ceal_norm.proofs.ExprFacts.{Seen, form-seen, exprs-seen}
-use Rattle.ceal_norm.proofs.Facts.{in-either}
-use Rattle.ceal_norm.proofs.Standing.{Within, Stands, View, over, tests, acts, view}
+use Rattle.ceal_norm.proofs.Jumps.JumpCounts.{contains-none, contains-one, contains-cases}
+use Rattle.ceal_norm.proofs.Validity.ExpressionTypes.{Seen, form-seen, exprs-seen}
+use Rattle.ceal_norm.proofs.Validity.KnownVariables.{in-either}
+use Rattle.ceal_norm.proofs.Validity.StatementsAtBlocks.{Within, Stands, View, over, tests, acts, view}
 
 -- what is in an option that has to be there
 pub record Match {X : Type 0} (o : Option X) (P : X → Type 0) : Type 0 where

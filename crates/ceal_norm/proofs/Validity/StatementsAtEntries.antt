@@ -14,10 +14,10 @@ use Rattle.ceal_flow.specs.declared.function.GraphFunction.TheVariants.{Core, In
 use Rattle.ceal_flow.proofs.BlockSteps.{all-length}
 use Rattle.ceal_flow.proofs.Placing.{placed-head, placed-left, placed-right, made-at, all-at}
 use Rattle.ceal_norm.specs.Entries.{is_entry}
-use Rattle.ceal_norm.proofs.Lives.{onward}
-use Rattle.ceal_norm.proofs.Numbers.{Home, home, functions-there, begins}
-use Rattle.ceal_norm.proofs.Standing.{Stands, ends, goes, View, view, all-in-loop}
-use Rattle.ceal_norm.proofs.UnitFacts.{entry-reached}
+use Rattle.ceal_norm.proofs.Validity.LiveVariablesInScope.{onward}
+use Rattle.ceal_norm.proofs.Jumps.FunctionOfBlock.{Home, home, functions-there, begins}
+use Rattle.ceal_norm.proofs.Validity.StatementsAtBlocks.{Stands, ends, goes, View, view, all-in-loop}
+use Rattle.ceal_norm.proofs.Validity.UnitsOfEntries.{entry-reached}
 
 abbrev BodyUsage : List TypedFunction → List TypedStmt → Option ℕ → Type 0
 BodyUsage fs body None = All (CoreUsage fs false) body

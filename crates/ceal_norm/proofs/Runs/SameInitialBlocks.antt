@@ -24,8 +24,8 @@ use Rattle.ceal_code.specs.declared.function.InitStmt.TheViews as init
 use Rattle.ceal_mean.specs.Init.{set_by, set_by_row, set_by_all}
 use Rattle.ceal_mean.specs.Value.{variable_of}
 use Rattle.ceal_norm.specs.Expressions.{expr_code, init_code, row_init_code, all_init_code}
-use Rattle.ceal_norm.proofs.Lives.{match}
-use Rattle.ceal_norm.proofs.RunValues.{expr-same}
+use Rattle.ceal_norm.proofs.Validity.LiveVariablesInScope.{match}
+use Rattle.ceal_norm.proofs.Runs.SameValues.{expr-same}
 
 module _ (structs : List StructInfo) (x : Plain) (env : Variables) (s : ℕ) where
   abbrev after_all : List Word → List InitStmt → List Word

@@ -19,7 +19,7 @@ use Rattle.ceal_flow.proofs.Placing.{Placed, placed-head, placed-left, placed-ri
 use Rattle.ceal_flow.proofs.Reach.{parted}
 use Rattle.ceal_norm.specs.Entries.{is_entry}
 use Rattle.ceal_norm.specs.Laws.{IsForward}
-use Rattle.ceal_norm.proofs.Counts.{contains-none, contains-one, contains-cases, first-entry, jumps-entry}
+use Rattle.ceal_norm.proofs.Jumps.JumpCounts.{contains-none, contains-one, contains-cases, first-entry, jumps-entry}
 use Rattle.ceal_flow.proofs.Owners.{owner-of}
 
 module _ (g : Graph) where

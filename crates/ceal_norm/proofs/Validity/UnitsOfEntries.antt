@@ -21,9 +21,9 @@ use Rattle.ceal_flow.specs.declared.function.GraphFunction.TheVariants.{Core, In
 use Rattle.ceal_flow.proofs.ListFacts.{get-left, get-right}
 use Rattle.ceal_norm.specs.Entries.{has_closure, behind, all_behind, all_jumps, count, is_entry, entries_before}
 use Rattle.ceal_norm.specs.Units.{Source, unit_code, units_before}
-use Rattle.ceal_norm.proofs.Closed.{jump-reached}
-use Rattle.ceal_norm.proofs.Counts.{first-entry}
-use Rattle.ceal_norm.proofs.Facts.{in-first, in-cases, in-left, in-right, in-either}
+use Rattle.ceal_norm.proofs.Jumps.JumpsLeadToBlocks.{jump-reached}
+use Rattle.ceal_norm.proofs.Jumps.JumpCounts.{first-entry}
+use Rattle.ceal_norm.proofs.Validity.KnownVariables.{in-first, in-cases, in-left, in-right, in-either}
 
 module _ (s : Source) where
   length-if : (b : Bool) (us : List Unit) (u : Unit) (n : ℕ) → length us ≡ n → length (if b then us ++ u ∷ [] else us) ≡ (if b then n + 1 else n)

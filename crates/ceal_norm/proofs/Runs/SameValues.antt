@@ -29,7 +29,7 @@ use Rattle.ceal_flow.specs.Sets.{is_in}
 use Rattle.ceal_mean.specs.Value.{variable_of, form_value, operand_value, value_of, values_of}
 use Rattle.ceal_norm.specs.Expressions.{variable, form_code, operand_code, expr_code}
 use Rattle.ceal_norm.specs.Units.{arg_at}
-use Rattle.ceal_norm.proofs.Facts.{in-first, in-left, in-right}
+use Rattle.ceal_norm.proofs.Validity.KnownVariables.{in-first, in-left, in-right}
 
 -- the value of an expression, at each form
 module _ (structs : List StructInfo) (x : Plain) (env : Variables) where

@@ -27,13 +27,13 @@ use Rattle.ceal_norm.specs.Entries.{is_entry, entries_before}
 use Rattle.ceal_norm.specs.Expressions.{variable, expr_code}
 use Rattle.ceal_norm.specs.Laws.{source_of}
 use Rattle.ceal_norm.specs.Units.{Source, own_args, args_of, without, closure_args, arg_at, call_args, entry_set, owner, unit_code, function_code, kinds_code, code_of}
-use Rattle.ceal_norm.proofs.Counts.{contains-none, contains-cases}
-use Rattle.ceal_norm.proofs.ExprFacts.{type_for, Seen, Has, kind-refl, suits-fits, form-seen, form-without, form-type, args-fit, exprs-seen}
-use Rattle.ceal_norm.proofs.Facts.{get-map, there, in-first, in-later, in-left, in-right, Knows}
-use Rattle.ceal_norm.proofs.Lives.{Match, stands-there, live-seen}
-use Rattle.ceal_norm.proofs.Spots.{Function, StandsIn, function-of, context, init-function}
-use Rattle.ceal_norm.proofs.Standing.{within-blocks}
-use Rattle.ceal_norm.proofs.UnitFacts.{unit-at, function-entry}
+use Rattle.ceal_norm.proofs.Jumps.JumpCounts.{contains-none, contains-cases}
+use Rattle.ceal_norm.proofs.Validity.ExpressionTypes.{type_for, Seen, Has, kind-refl, suits-fits, form-seen, form-without, form-type, args-fit, exprs-seen}
+use Rattle.ceal_norm.proofs.Validity.KnownVariables.{get-map, there, in-first, in-later, in-left, in-right, Knows}
+use Rattle.ceal_norm.proofs.Validity.LiveVariablesInScope.{Match, stands-there, live-seen}
+use Rattle.ceal_norm.proofs.Validity.StatementsAtEntries.{Function, StandsIn, function-of, context, init-function}
+use Rattle.ceal_norm.proofs.Validity.StatementsAtBlocks.{within-blocks}
+use Rattle.ceal_norm.proofs.Validity.UnitsOfEntries.{unit-at, function-entry}
 
 module _ (structs : List StructInfo) (kinds : List Kind) (known : List Bool) where
   pub own-in : (v : ℕ) → v < length kinds → Knows known v → fits_maybe (slice_get kinds v) (type_of structs kinds known (Var (variable v))) ≡ true

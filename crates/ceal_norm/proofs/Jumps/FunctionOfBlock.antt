@@ -17,7 +17,7 @@ use Rattle.ceal_flow.proofs.FunctionSteps.{blocks_in-length}
 use Rattle.ceal_flow.proofs.ListFacts.{get-append_left, get-append_right}
 use Rattle.ceal_flow.proofs.Placing.{Placed}
 use Rattle.ceal_norm.specs.Units.{ends_before, core_numbers}
-use Rattle.ceal_norm.proofs.Counts.{contains-none, contains-cases}
+use Rattle.ceal_norm.proofs.Jumps.JumpCounts.{contains-none, contains-cases}
 
 -- none of the blocks is a function's end
 abbrev pub NoEnd : List GraphBlock → Type 0

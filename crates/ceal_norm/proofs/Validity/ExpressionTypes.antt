@@ -25,7 +25,7 @@ use Rattle.ceal_code.specs.declared.typing.ExprType.TheVariants.{Of, AnyPointer}
 use Rattle.ceal_flow.specs.Live.{form_mentions, operand_mentions, mentions, all_mentions}
 use Rattle.ceal_flow.specs.Sets.{is_in}
 use Rattle.ceal_norm.specs.Expressions.{variable, form_code, operand_code, expr_code}
-use Rattle.ceal_norm.proofs.Facts.{some-within, in-first, in-left, in-right, in-cases, in-either}
+use Rattle.ceal_norm.proofs.Validity.KnownVariables.{some-within, in-first, in-left, in-right, in-cases, in-either}
 
 -- the type in trace code of an expression of this kind
 abbrev pub type_for : Option Kind → ExprType

@@ -25,13 +25,13 @@ use Rattle.ceal_norm.specs.Entries.{is_entry, entries_before}
 use Rattle.ceal_norm.specs.Expressions.{variable}
 use Rattle.ceal_norm.specs.Laws.{IsClosed, IsForward, source_of}
 use Rattle.ceal_norm.specs.Units.{Source, Placed, unit_of, args_of, jump_code, value_code, stmt_code, block_code, tree, owner, unit_code, function_code, kinds_code, code_of}
-use Rattle.ceal_norm.proofs.Facts.{get-map}
-use Rattle.ceal_norm.proofs.Lives.{stands-there}
-use Rattle.ceal_norm.proofs.RunWords.{bound-map, values-own, start-word, start-long}
-use Rattle.ceal_norm.proofs.Spots.{Function, Spot, context}
-use Rattle.ceal_norm.proofs.Standing.{within-blocks}
-use Rattle.ceal_norm.proofs.Trees.{tree-block}
-use Rattle.ceal_norm.proofs.UnitFacts.{unit-at, function-entry}
+use Rattle.ceal_norm.proofs.Validity.KnownVariables.{get-map}
+use Rattle.ceal_norm.proofs.Validity.LiveVariablesInScope.{stands-there}
+use Rattle.ceal_norm.proofs.Runs.WordsOfVariables.{bound-map, values-own, start-word, start-long}
+use Rattle.ceal_norm.proofs.Validity.StatementsAtEntries.{Function, Spot, context}
+use Rattle.ceal_norm.proofs.Validity.StatementsAtBlocks.{within-blocks}
+use Rattle.ceal_norm.proofs.Jumps.TreesUnfold.{tree-block}
+use Rattle.ceal_norm.proofs.Validity.UnitsOfEntries.{unit-at, function-entry}
 
 -- a command that takes a step
 abbrev pub Steps : Cmd → Type 0

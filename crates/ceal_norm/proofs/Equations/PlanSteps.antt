@@ -13,9 +13,9 @@ use Rattle.ceal_norm.specs.Laws.{IsClosed, IsGraph}
 use Rattle.ceal_norm.specs.Table.{entry_at, table, JumpsBelow, BeginsBelow, Planned}
 use Rattle.ceal_norm.specs.Units.{Source, block_code, tree}
 use Rattle.ceal_norm.specs.declared.entries.Entry.{Entry}
-use Rattle.ceal_norm.proofs.Closed.{graph-closed, first-there}
-use Rattle.ceal_norm.proofs.Forward.{graph-forward}
-use Rattle.ceal_norm.proofs.Trees.{tree-block}
+use Rattle.ceal_norm.proofs.Jumps.JumpsLeadToBlocks.{graph-closed, first-there}
+use Rattle.ceal_norm.proofs.Jumps.ForwardJumps.{graph-forward}
+use Rattle.ceal_norm.proofs.Jumps.TreesUnfold.{tree-block}
 
 table-length : (g : Graph) (n : ℕ) → length (table g n) ≡ n
 unfolding table

@@ -30,14 +30,14 @@ use Rattle.ceal_norm.specs.Entries.{is_read, has_closure, is_entry}
 use Rattle.ceal_norm.specs.Expressions.{variable, expr_code}
 use Rattle.ceal_norm.specs.Laws.{IsForward, source_of}
 use Rattle.ceal_norm.specs.Units.{Source, code_of, Placed, unit_of, params_of, args_of, closure_args, jump_code, value_code, stmt_code, block_code, tree, unit_code, function_code}
-use Rattle.ceal_norm.proofs.ExprFacts.{type_for}
-use Rattle.ceal_norm.proofs.Bodies.{Good, leaf, line, fork, good-paths, good-forward, good-tree}
-use Rattle.ceal_norm.proofs.Facts.{Knows, knows-set, knows-still, some-within, in-left, in-right, get-map, params-know, params-length, all-below}
-use Rattle.ceal_norm.proofs.Fits.{Covers, kinds-are, seen-live, there-is, owner-is, unit-fits, read-fits, expr-is, slot-fits, place-fits, write-fits, alloc-fits, call-fits}
-use Rattle.ceal_norm.proofs.Lives.{match, used-live, jump-live}
-use Rattle.ceal_norm.proofs.Spots.{Function, StandsIn, ViewIn, view-in, context}
-use Rattle.ceal_norm.proofs.Standing.{over, tests, acts}
-use Rattle.ceal_norm.proofs.UnitFacts.{behind-entry}
+use Rattle.ceal_norm.proofs.Validity.ExpressionTypes.{type_for}
+use Rattle.ceal_norm.proofs.Validity.RightBodies.{Good, leaf, line, fork, good-paths, good-forward, good-tree}
+use Rattle.ceal_norm.proofs.Validity.KnownVariables.{Knows, knows-set, knows-still, some-within, in-left, in-right, get-map, params-know, params-length, all-below}
+use Rattle.ceal_norm.proofs.Validity.RightCommands.{Covers, kinds-are, seen-live, there-is, owner-is, unit-fits, read-fits, expr-is, slot-fits, place-fits, write-fits, alloc-fits, call-fits}
+use Rattle.ceal_norm.proofs.Validity.LiveVariablesInScope.{match, used-live, jump-live}
+use Rattle.ceal_norm.proofs.Validity.StatementsAtEntries.{Function, StandsIn, ViewIn, view-in, context}
+use Rattle.ceal_norm.proofs.Validity.StatementsAtBlocks.{over, tests, acts}
+use Rattle.ceal_norm.proofs.Validity.UnitsOfEntries.{behind-entry}
 
 -- a test that is not met
 pub not-same : (n v : ℕ) → (n ≡ v → ⊥) → not (n == v) ≡ true

@@ -10,7 +10,7 @@ use Rattle.ceal_flow.specs.Sets.{is_in}
 use Rattle.ceal_flow.specs.declared.block.GraphBlock.{GraphBlock}
 use Rattle.ceal_norm.specs.Entries.{behind, all_behind, all_jumps, count, is_entry, entries_before}
 use Rattle.ceal_norm.specs.Table.{is_marked, table}
-use Rattle.ceal_norm.proofs.Counts.{count-append}
+use Rattle.ceal_norm.proofs.Jumps.JumpCounts.{count-append}
 
 pub behind-none : all_behind [] ≡ []
 unfolding all_behind

@@ -12,8 +12,8 @@ use Rattle.ceal_flow.specs.Sets.{is_in}
 use Rattle.ceal_mean.specs.Value.{variable_of}
 use Rattle.ceal_norm.specs.Expressions.{variable}
 use Rattle.ceal_norm.specs.Units.{own_args, without}
-use Rattle.ceal_norm.proofs.Facts.{in-cases}
-use Rattle.ceal_norm.proofs.RunValues.{value-var}
+use Rattle.ceal_norm.proofs.Validity.KnownVariables.{in-cases}
+use Rattle.ceal_norm.proofs.Runs.SameValues.{value-var}
 
 -- each parameter has its own word
 pub bound-map : (vs : List ℕ) (word : ℕ → Word) (w : ℕ) → is_in w vs ≡ true → bound (map variable vs) (map word vs) w ≡ word w

@@ -9,7 +9,7 @@ use Rattle.ceal_flow.specs.declared.block.GraphBlock.TheVariants.{Done, Test, Ac
 use Rattle.ceal_flow.proofs.Reach.{lead-on, jump}
 use Rattle.ceal_flow.proofs.Reached.{reached-kept, kept-reached}
 use Rattle.ceal_norm.specs.Laws.{IsClosed}
-use Rattle.ceal_norm.proofs.Counts.{contains-none}
+use Rattle.ceal_norm.proofs.Jumps.JumpCounts.{contains-none}
 
 -- a block that is kept is there
 pub kept-there : (blocks : List GraphBlock) (b : ℕ) → IsKept (slice_get blocks b) → b < length blocks

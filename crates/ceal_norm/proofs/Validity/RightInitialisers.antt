@@ -20,10 +20,10 @@ use Rattle.ceal_code.specs.Valid.{Typing, type_of, fits, set_ok, stmt_ok, stmts_
 use Rattle.ceal_code.specs.Value.{field_kind}
 use Rattle.ceal_code.specs.declared.function.InitStmt.{InitStmt}
 use Rattle.ceal_norm.specs.Expressions.{expr_code, init_code, row_init_code, all_init_code}
-use Rattle.ceal_norm.proofs.ExprFacts.{type_for, Has, form-seen, form-type, suits-fits}
-use Rattle.ceal_norm.proofs.Facts.{there, Knows}
-use Rattle.ceal_norm.proofs.Fits.{numbers-less, get-take}
-use Rattle.ceal_norm.proofs.Lives.{match}
+use Rattle.ceal_norm.proofs.Validity.ExpressionTypes.{type_for, Has, form-seen, form-type, suits-fits}
+use Rattle.ceal_norm.proofs.Validity.KnownVariables.{there, Knows}
+use Rattle.ceal_norm.proofs.Validity.RightCommands.{numbers-less, get-take}
+use Rattle.ceal_norm.proofs.Validity.LiveVariablesInScope.{match}
 
 knows-all : (n v : ℕ) → v < n → Knows (replicate n true) v
 knows-all zero v l = absurd (omega (arith, l))

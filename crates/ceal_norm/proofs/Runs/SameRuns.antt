@@ -16,11 +16,11 @@ use Rattle.ceal_flow.specs.Sets.{set_at}
 use Rattle.ceal_mean.specs.Value.{variable_of}
 use Rattle.ceal_norm.specs.Laws.{IsClosed, IsForward, RunsAs, RunLaw, source_of}
 use Rattle.ceal_norm.specs.Units.{code_of}
-use Rattle.ceal_norm.proofs.Closed.{graph-closed}
-use Rattle.ceal_norm.proofs.Forward.{graph-forward}
-use Rattle.ceal_norm.proofs.RunFrames.{AllAlong, Running, settle, params-are, spot-there, first-spot, first-is_entry, entry-unit, called_point, call-along}
-use Rattle.ceal_norm.proofs.RunSteps.{core-function, step-along}
-use Rattle.ceal_norm.proofs.RunWords.{chosen-map}
+use Rattle.ceal_norm.proofs.Jumps.JumpsLeadToBlocks.{graph-closed}
+use Rattle.ceal_norm.proofs.Jumps.ForwardJumps.{graph-forward}
+use Rattle.ceal_norm.proofs.Runs.SameFrames.{AllAlong, Running, settle, params-are, spot-there, first-spot, first-is_entry, entry-unit, called_point, call-along}
+use Rattle.ceal_norm.proofs.Runs.SameSteps.{core-function, step-along}
+use Rattle.ceal_norm.proofs.Runs.WordsOfVariables.{chosen-map}
 
 module _ (p : Typed) (sets : List (List ℕ)) (typed : WellTyped p) (kept : KeepsUsage p) (live : AreLiveSets (graph_of p).blocks sets)
     (closed : IsClosed (graph_of p)) (forward : IsForward (graph_of p)) where

@@ -48,15 +48,15 @@ use Rattle.ceal_norm.specs.Entries.{is_entry, has_closure, is_read}
 use Rattle.ceal_norm.specs.Expressions.{variable, expr_code}
 use Rattle.ceal_norm.specs.Laws.{IsClosed, IsForward, source_of}
 use Rattle.ceal_norm.specs.Units.{Source, Placed, block_code, code_of, unit_of, args_of, without, closure_args, arg_at, call_args, entry_set, value_code, stmt_code, function_code}
-use Rattle.ceal_norm.proofs.Facts.{get-map, in-left, in-right}
-use Rattle.ceal_norm.proofs.Lives.{match, used-live, jump-live}
-use Rattle.ceal_norm.proofs.RunFrames.{PartAt, command-is, part-behind, part-left, part-right, code as code_for, T, J, over, entry_unit, T-is, params-are, spot-there, unit-kinds, Along, AllAlong, enter-along, called_point, call-along}
-use Rattle.ceal_norm.proofs.RunInit.{all-init}
-use Rattle.ceal_norm.proofs.RunValues.{expr-same, exprs-same, arg-same}
-use Rattle.ceal_norm.proofs.RunWords.{instead, woven-map, values-map, values-own, set-word, set-long}
-use Rattle.ceal_norm.proofs.Spots.{Function, StandsIn, ViewIn, view-in, Spot, context, function-of, init-usage, init-function}
-use Rattle.ceal_norm.proofs.Standing.{over as is_end, tests, acts}
-use Rattle.ceal_norm.proofs.UnitFacts.{behind-entry}
+use Rattle.ceal_norm.proofs.Validity.KnownVariables.{get-map, in-left, in-right}
+use Rattle.ceal_norm.proofs.Validity.LiveVariablesInScope.{match, used-live, jump-live}
+use Rattle.ceal_norm.proofs.Runs.SameFrames.{PartAt, command-is, part-behind, part-left, part-right, code as code_for, T, J, over, entry_unit, T-is, params-are, spot-there, unit-kinds, Along, AllAlong, enter-along, called_point, call-along}
+use Rattle.ceal_norm.proofs.Runs.SameInitialBlocks.{all-init}
+use Rattle.ceal_norm.proofs.Runs.SameValues.{expr-same, exprs-same, arg-same}
+use Rattle.ceal_norm.proofs.Runs.WordsOfVariables.{instead, woven-map, values-map, values-own, set-word, set-long}
+use Rattle.ceal_norm.proofs.Validity.StatementsAtEntries.{Function, StandsIn, ViewIn, view-in, Spot, context, function-of, init-usage, init-function}
+use Rattle.ceal_norm.proofs.Validity.StatementsAtBlocks.{over as is_end, tests, acts}
+use Rattle.ceal_norm.proofs.Validity.UnitsOfEntries.{behind-entry}
 
 -- the function of which it holds
 pub record Found (o : Option TypedFunction) (P : TypedFunction → Type 0) : Type 0 where
