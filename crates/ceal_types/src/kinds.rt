@@ -2,12 +2,13 @@
 
 ghost use Rattle.std.specs.Prelude.{◌≡◌};
 ghost use Rattle.ceal_base.specs.WellTyped.{kind_held};
+ghost use Rattle.ceal_base.specs.Kinds as base;
 ghost use Rattle.ceal_types.specs.Kinds as spec;
 
 use ceal_base::kind::Kind;
 
 pub fn same_kind(a: Kind, b: Kind) -> bool
-    ensures value { result ≡ spec.same_kind a b }
+    ensures value { result ≡ base.same_kind a b }
 {
     match (a, b) {
         (Kind::Int, Kind::Int) => true,
@@ -19,7 +20,7 @@ pub fn same_kind(a: Kind, b: Kind) -> bool
 }
 
 fn is_pointer(kind: Kind) -> bool
-    ensures { result ≡ spec.is_pointer kind }
+    ensures { result ≡ base.is_pointer kind }
 {
     match kind {
         Kind::Int => false,
