@@ -1,6 +1,6 @@
 use Rattle.std.proofs.Common.{◌∙◌, sym}
 use Rattle.ceal_code.specs.Tables.{plain_in}
-use Rattle.ceal_adjust.proofs.Knowing.{words-more, words-end}
+use Rattle.ceal_theory.proofs.Store.WordsOneByOne.{words-more, words-end}
 use Rattle.ceal_adjust.proofs.known.plain_words.Goals as goal
 
 pub returns-in-None : goal.returns-in-None

@@ -1,6 +1,6 @@
 use Rattle.std.proofs.Common.{◌∙◌, sym}
 use Rattle.ceal_code.specs.Tables.{memory_in}
-use Rattle.ceal_record.proofs.Words.{words-more, words-end}
+use Rattle.ceal_theory.proofs.Store.WordsOneByOne.{words-more, words-end}
 use Rattle.ceal_record.proofs.memory.words_after.Goals as goal
 
 pub returns-in-None : goal.returns-in-None

@@ -1,5 +1,5 @@
 use Rattle.ceal_code.specs.Tables.{memory_in}
-use Rattle.ceal_record.proofs.Words.{UpTo}
+use Rattle.ceal_theory.proofs.Store.WordsOneByOne.{UpTo}
 use Rattle.ceal_record.proofs.memory.words_after.Given as goal
 
 abbrev pub invariant-loop-field : goal.invariant-loop-field
