@@ -87,6 +87,7 @@ fn run<K: Sink>(
     ensures writes { Writes result (K.written sink.old) (K.written sink.new)
         (K.faults sink.old) (K.faults sink.new) (IsOutput (Mode.Run fuel) input.entry.bytes.now) }
 {
+    // for the proof: a session keeps to its situation, in which each line has a reply
     kept_line();
     some_reply();
     let lines = ScriptLines::new(script(input.bytes, &input.part));

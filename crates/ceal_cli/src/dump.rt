@@ -46,6 +46,7 @@ fn text_of(alloc: Global, kept: &Record) -> Result<Text, NoMemory>
 fn dump_of(alloc: Global, session: &Session) -> Result<Text, NoMemory>
     ensures { IfOk result (λ text. IsDumpFrom (situation session.now) text) }
 {
+    // for the proof: a trace whose core blocks are renamed replays the same call
     renaming_law();
     match session.recorded()? {
         None => Text::from_slice(alloc, b"no finished run\n"),
@@ -86,6 +87,7 @@ pub fn dump<K: Sink>(
     ensures writes { Writes result (K.written sink.old) (K.written sink.new)
         (K.faults sink.old) (K.faults sink.new) (IsOutput (Dump fuel) input.entry.bytes.now) }
 {
+    // for the proof: a session keeps to its situation, each line has a reply, and a renamed trace has the same record
     kept_line();
     some_reply();
     renamed_law();

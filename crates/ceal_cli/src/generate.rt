@@ -35,6 +35,7 @@ fn run<K: Sink>(
     ensures writes { Writes result (K.written sink.old) (K.written sink.new)
         (K.faults sink.old) (K.faults sink.new) (IsOutputFromRun input.entry.bytes.now) }
 {
+    // for the proof: a session keeps to its situation, in which each line has a reply
     kept_line();
     some_reply();
     let lines = ScriptLines::new(script(input.bytes, &input.part));
@@ -69,6 +70,7 @@ pub fn generate<K: Sink>(
     ensures writes { Writes result (K.written sink.old) (K.written sink.new)
         (K.faults sink.old) (K.faults sink.new) (IsGenerated kind seed size) }
 {
+    // for the proof: a workload is an accepted input, and shorter than the limit
     accepted_law();
     short_law();
     let text = workload(alloc, kind, seed, size)?;

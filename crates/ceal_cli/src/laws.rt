@@ -1,4 +1,5 @@
-// The laws of outputs and of the generated workloads, each the contract of a function that does nothing.
+// The laws of outputs and of the generated workloads, each the contract of a function that does nothing but call the
+// laws on which it rests.
 
 ghost use Rattle.ceal_many.specs.Laws.{IsDetermined, OwnRepliesLaw, RefusedLaw as Others_refused_law, AloneLaw};
 ghost use Rattle.ceal_session.specs.Replies.{Replies};

@@ -45,6 +45,7 @@ fn reply_all<K: Sink>(
         (K.faults sink.old) (K.faults sink.new)
         (AreTold (first_situation many.old.maker) [] lines.entry) }
 {
+    // for the proof: each line of many sessions has exactly one reply
     one_reply();
     some_reply();
     some_replies::<Member>();
@@ -68,6 +69,7 @@ pub fn many<K: Sink>(
     ensures writes { Writes result (K.written sink.old) (K.written sink.new)
         (K.faults sink.old) (K.faults sink.new) (IsOutput (ManyMode fuel) input.entry.bytes.now) }
 {
+    // for the proof: in a situation each line has a reply
     some_reply();
     let lines = ScriptLines::new(script(input.bytes, &input.part));
     let mut many = Many::new(alloc, Members::new(alloc, input, program, fuel))?;

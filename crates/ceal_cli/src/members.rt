@@ -54,6 +54,7 @@ impl Answerer for Member {
     ghost leaves = { IsLeft };
 
     fn command(&mut self, line: &[u8]) -> Result<Text, NoMemory> {
+        // for the proof: a session keeps to its situation, in which each line has a reply
         kept_line();
         some_reply();
         self.session.command(line)
@@ -113,6 +114,7 @@ impl<'a> Maker for Members<'a> {
     ghost beginning = { λ m. m };
 
     fn make(&self) -> Result<Member, NoMemory> {
+        // for the proof: an input has one program, and that has one code, with which a session begins in a situation
         one_answer();
         one_code();
         some_reply();

@@ -45,6 +45,7 @@ fn save_before(alloc: Global, bytes: &[u8], part: &Split) -> Result<Saved, SaveE
     requires split { IsSplit bytes.now part.now }
     ensures read { IsSaveRead bytes.now part.now result }
 {
+    // for the proof: bytes have one split
     one_split();
     if !part.marked {
         return Err(SaveError::Unreadable);
@@ -99,6 +100,7 @@ pub fn resume<K: Sink>(
     ensures writes { Writes result (K.written sink.old) (K.written sink.new)
         (K.faults sink.old) (K.faults sink.new) (IsOutput Resume input.entry.bytes.now) }
 {
+    // for the proof: an input has one program and one save; a session keeps to its situation, where each line has a reply
     kept_line();
     some_reply();
     one_answer();

@@ -51,6 +51,7 @@ fn text_of(alloc: Global, source: &[u8], saved: &Saved) -> Result<Text, NoMemory
 fn save_of(alloc: Global, source: &[u8], session: &Session) -> Result<Text, NoMemory>
     ensures { IfOk result (λ text. IsSaveFrom source.now (situation session.now) text) }
 {
+    // for the proof: a trace whose core blocks are renamed replays the same call
     renaming_law();
     match session.saved()? {
         None => Text::from_slice(alloc, b"no finished run\n"),
@@ -92,6 +93,7 @@ pub fn save<K: Sink>(
     ensures writes { Writes result (K.written sink.old) (K.written sink.new)
         (K.faults sink.old) (K.faults sink.new) (IsOutput (Save fuel) input.entry.bytes.now) }
 {
+    // for the proof: a session keeps to its situation, each line has a reply, and the save is that of the situation
     kept_line();
     some_reply();
     renamed_law();

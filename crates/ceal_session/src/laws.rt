@@ -1,4 +1,4 @@
-// The laws of replies, each the contract of a function that does nothing.
+// The laws of replies, each the contract of a function that does nothing but call the laws on which it rests.
 
 ghost use Rattle.ceal_session.specs.Laws.{OneCommandLaw, OneAnswerLaw, OneReplyLaw, OneStateLaw, OneScriptLaw, JoinedLaw, BegunLaw, SomeReplyLaw, SomeScriptLaw, DroppedLaw, KeptLaw};
 ghost use Rattle.ceal_session.specs.Entries.{EntriesLaw, OneTextLaw};

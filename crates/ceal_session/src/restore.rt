@@ -89,6 +89,7 @@ fn is_accepted(alloc: Global, code: &Code, kept: &Record) -> Result<bool, NoMemo
     requires valid { valid code.now ≡ true }
     ensures { IfOk result (λ told. IsTrue told ↔ Means code.now kept.now Yes) }
 {
+    // for the proof: a record has one verdict
     one_verdict_law();
     let verdict = check_trace(alloc, code, kept)?;
     Ok(is_yes(verdict))

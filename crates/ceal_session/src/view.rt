@@ -35,6 +35,7 @@ fn block_shape(engine: &Engine, block: BlockId) -> Shape
     requires { IsSome (seen engine.now block) }
     ensures { shape_at (seen engine.now) block ≡ Some result }
 {
+    // for the proof: the memory of a run fits its types
     progress_law();
     // for the proof: it is an engine, by the clause `whole`
     let _phase = engine.phase();
@@ -63,6 +64,7 @@ fn field_word(engine: &Engine, block: BlockId, field: u32) -> Word
     requires { IsSome (word_at (seen engine.now) block field) }
     ensures { word_at (seen engine.now) block field ≡ Some result }
 {
+    // for the proof: the memory of a run fits its types, so each of its blocks is whole
     progress_law();
     fitting_is_whole();
     // for the proof: it is an engine, by the clause `whole`

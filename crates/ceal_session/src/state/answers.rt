@@ -111,6 +111,7 @@ impl State {
             (λ text. TellsOf self.now.state (numbers_in (situation self.now)) (Show input)
             (present_run self.now.state) text) }
     {
+        // for the proof: a run keeps its memory whole, and the text says nothing of the numbers of core blocks
         progress_law();
         fitting_is_whole();
         same_text();

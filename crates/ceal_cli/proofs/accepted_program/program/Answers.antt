@@ -1,4 +1,4 @@
-use Rattle.ceal_cli.proofs.OutputLaws.{not_accepted}
+use Rattle.ceal_cli.proofs.Outputs.OutputByMode.{not_accepted}
 use Rattle.ceal_cli.proofs.accepted_program.program.Goals as goal
 
 -- the program's text is accepted, so it has no first fault

@@ -1,5 +1,5 @@
-use Rattle.ceal_cli.proofs.Growing.{writes_text}
-use Rattle.ceal_cli.proofs.OutputLaws.{accepted}
+use Rattle.ceal_cli.proofs.Sessions.GrowingReplies.{writes_text}
+use Rattle.ceal_cli.proofs.Outputs.OutputByMode.{accepted}
 use Rattle.ceal_cli.proofs.answer.accept.Goals as goal
 
 pub returns : goal.returns

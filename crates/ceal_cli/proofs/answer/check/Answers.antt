@@ -1,4 +1,4 @@
-use Rattle.ceal_cli.proofs.OutputLaws.{not_accepted}
+use Rattle.ceal_cli.proofs.Outputs.OutputByMode.{not_accepted}
 use Rattle.ceal_cli.proofs.answer.check.Goals as goal
 
 pub returns-in_ok-refuse-in-Err-Fault-clause-taken : goal.returns-in_ok-refuse-in-Err-Fault-clause-taken

@@ -1,5 +1,5 @@
-use Rattle.ceal_cli.proofs.OutputLaws.{not_accepted}
-use Rattle.ceal_cli.proofs.Sides.{taken-accepted}
+use Rattle.ceal_cli.proofs.Outputs.OutputByMode.{not_accepted}
+use Rattle.ceal_cli.proofs.Inputs.AnswerOrRefusal.{taken-accepted}
 use Rattle.ceal_cli.proofs.answer.compiled.Goals as goal
 
 pub returns-in_ok-refuse-in-Err-Fault-clause-taken : goal.returns-in_ok-refuse-in-Err-Fault-clause-taken

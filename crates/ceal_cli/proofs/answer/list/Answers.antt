@@ -1,6 +1,6 @@
 use Rattle.std.proofs.Common.{◌∙◌}
-use Rattle.ceal_cli.proofs.Growing.{writes_text}
-use Rattle.ceal_cli.proofs.OutputLaws.{listed}
+use Rattle.ceal_cli.proofs.Sessions.GrowingReplies.{writes_text}
+use Rattle.ceal_cli.proofs.Outputs.OutputByMode.{listed}
 use Rattle.ceal_cli.proofs.answer.list.Goals as goal
 
 pub returns : goal.returns

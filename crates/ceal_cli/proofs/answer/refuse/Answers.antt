@@ -1,6 +1,6 @@
 use Rattle.std.proofs.Common.{◌∙◌}
-use Rattle.ceal_cli.proofs.Growing.{writes_text}
-use Rattle.ceal_cli.proofs.OutputLaws.{refused}
+use Rattle.ceal_cli.proofs.Sessions.GrowingReplies.{writes_text}
+use Rattle.ceal_cli.proofs.Outputs.OutputByMode.{refused}
 use Rattle.ceal_cli.proofs.answer.refuse.Goals as goal
 
 pub returns : goal.returns

@@ -1,4 +1,4 @@
-use Rattle.ceal_cli.proofs.OutputLaws.{replied}
+use Rattle.ceal_cli.proofs.Outputs.OutputByMode.{replied}
 use Rattle.ceal_cli.proofs.answer.run.Goals as goal
 
 pub returns : goal.returns

@@ -1,4 +1,4 @@
-use Rattle.ceal_cli.proofs.Carrying.{one-carried, all-carried}
+use Rattle.ceal_cli.proofs.Sessions.CarriedLines.{one-carried, all-carried}
 use Rattle.ceal_cli.proofs.carry.carry_out_all.Goals as goal
 
 pub loop-line-preserved : goal.loop-line-preserved

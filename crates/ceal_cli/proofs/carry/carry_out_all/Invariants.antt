@@ -1,6 +1,6 @@
 use Rattle.std.proofs.Common.{length}
 use Rattle.ceal_session.specs.Keeping.{situation}
-use Rattle.ceal_cli.proofs.Carrying.{CarriedSoFar}
+use Rattle.ceal_cli.proofs.Sessions.CarriedLines.{CarriedSoFar}
 use Rattle.ceal_cli.proofs.carry.carry_out_all.Given as goal
 
 -- the lines before what is left were carried out

@@ -1,5 +1,5 @@
-use Rattle.ceal_cli.proofs.Growing.{writes_as}
-use Rattle.ceal_cli.proofs.OutputLaws.{dumped}
+use Rattle.ceal_cli.proofs.Sessions.GrowingReplies.{writes_as}
+use Rattle.ceal_cli.proofs.Outputs.OutputByMode.{dumped}
 use Rattle.ceal_cli.proofs.dump.dump.Goals as goal
 
 pub returns : goal.returns

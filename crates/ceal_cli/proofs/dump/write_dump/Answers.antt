@@ -1,5 +1,5 @@
 use Rattle.ceal_session.specs.Keeping.{situation}
-use Rattle.ceal_cli.proofs.Growing.{writes_text}
+use Rattle.ceal_cli.proofs.Sessions.GrowingReplies.{writes_text}
 use Rattle.ceal_cli.specs.Serving.{IsDumpBehind}
 use Rattle.ceal_cli.specs.Lines.{script_lines}
 use Rattle.ceal_cli.proofs.dump.write_dump.Goals as goal

@@ -1,4 +1,4 @@
-use Rattle.ceal_cli.proofs.FromRun.{run_line}
+use Rattle.ceal_cli.proofs.Sessions.RepliesFromFirstRun.{run_line}
 use Rattle.ceal_cli.proofs.from_run.is_run_line.Goals as goal
 
 pub returns : goal.returns

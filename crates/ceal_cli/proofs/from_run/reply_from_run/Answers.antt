@@ -1,5 +1,5 @@
 use Rattle.std.proofs.Common.{rules, ap}
-use Rattle.ceal_cli.proofs.FromRun.{one_before, from_here, begun_here, none_begun, no_run, no_run_begun}
+use Rattle.ceal_cli.proofs.Sessions.RepliesFromFirstRun.{one_before, from_here, begun_here, none_begun, no_run, no_run_begun}
 use Rattle.ceal_cli.proofs.from_run.reply_from_run.Goals as goal
 
 pub returns-in_default : goal.returns-in_default

@@ -1,6 +1,6 @@
 use Rattle.std.proofs.Common.{◌≡◌, length}
 use Rattle.ceal_session.specs.Keeping.{situation}
-use Rattle.ceal_cli.proofs.FromRun.{Before}
+use Rattle.ceal_cli.proofs.Sessions.RepliesFromFirstRun.{Before}
 use Rattle.ceal_cli.proofs.from_run.reply_from_run.Given as goal
 
 -- the lines before what is left were answered, none of them is a run, and nothing was written

@@ -1,4 +1,4 @@
-use Rattle.ceal_cli.proofs.OutputLaws.{from_run}
+use Rattle.ceal_cli.proofs.Outputs.OutputByMode.{from_run}
 use Rattle.ceal_cli.proofs.generate.run.Goals as goal
 
 pub returns : goal.returns

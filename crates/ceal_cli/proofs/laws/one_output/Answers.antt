@@ -1,5 +1,5 @@
-use Rattle.ceal_cli.proofs.OneOutput.{one-output}
-use Rattle.ceal_cli.proofs.OneRecord.{Once}
+use Rattle.ceal_cli.proofs.Outputs.OneOutput.{one-output}
+use Rattle.ceal_cli.proofs.Outputs.OneRecord.{Once}
 use Rattle.ceal_cli.proofs.laws.one_output.Goals as goal
 
 pub returns : goal.returns

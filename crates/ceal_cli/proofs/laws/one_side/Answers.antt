@@ -1,4 +1,4 @@
-use Rattle.ceal_cli.proofs.Sides.{answered, untaken}
+use Rattle.ceal_cli.proofs.Inputs.AnswerOrRefusal.{answered, untaken}
 use Rattle.ceal_cli.proofs.laws.one_side.Goals as goal
 
 pub returns : goal.returns

@@ -1,4 +1,4 @@
-use Rattle.ceal_cli.proofs.OneRecord.{determined}
+use Rattle.ceal_cli.proofs.Outputs.OneRecord.{determined}
 use Rattle.ceal_cli.proofs.laws.own_replies.Goals as goal
 
 pub returns : goal.returns

@@ -1,4 +1,4 @@
-use Rattle.ceal_cli.proofs.Joined.{Known, resumable, resumed-output}
+use Rattle.ceal_cli.proofs.Outputs.CutScript.{Known, resumable, resumed-output}
 use Rattle.ceal_cli.proofs.laws.resumed_output.Goals as goal
 
 pub returns : goal.returns

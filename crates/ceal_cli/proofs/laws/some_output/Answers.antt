@@ -1,4 +1,4 @@
-use Rattle.ceal_cli.proofs.SomeOutput.{checked, listed, refused, replied, dumped, saved, told, judged, taken, generated}
+use Rattle.ceal_cli.proofs.Outputs.OutputExists.{checked, listed, refused, replied, dumped, saved, told, judged, taken, generated}
 use Rattle.ceal_cli.proofs.laws.some_output.Goals as goal
 
 pub returns : goal.returns

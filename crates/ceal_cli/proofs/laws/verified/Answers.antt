@@ -1,4 +1,4 @@
-use Rattle.ceal_cli.proofs.Verified.{verified-law}
+use Rattle.ceal_cli.proofs.Outputs.VerifiedRun.{verified-law}
 use Rattle.ceal_cli.proofs.laws.verified.Goals as goal
 
 pub returns : goal.returns

@@ -1,6 +1,6 @@
 use Rattle.std.proofs.Common.{eqb, sym, ◌∙◌}
 use Rattle.std.proofs.lemmas.List.{take_rest}
-use Rattle.ceal_cli.proofs.LineEnds.{cut_some, cut_none, whole_text}
+use Rattle.ceal_cli.proofs.Inputs.FirstLineFeed.{cut_some, cut_none, whole_text}
 use Rattle.ceal_cli.proofs.lines.cut_line.Goals as goal
 
 pub returns-in-Some : goal.returns-in-Some

@@ -1,8 +1,8 @@
 use Rattle.std.proofs.Common.{◌∙◌, inl, refl, rules, sym, ap, subst}
 use Rattle.ceal_session.specs.Standing.{Stands}
 use Rattle.ceal_cli.specs.Members.{first_situation}
-use Rattle.ceal_cli.proofs.Growing.{nothing, writes_as}
-use Rattle.ceal_cli.proofs.OutputLaws.{many_told}
+use Rattle.ceal_cli.proofs.Sessions.GrowingReplies.{nothing, writes_as}
+use Rattle.ceal_cli.proofs.Outputs.OutputByMode.{many_told}
 use Rattle.ceal_cli.proofs.many.many.Goals as goal
 
 pub returns : goal.returns

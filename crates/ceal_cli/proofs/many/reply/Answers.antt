@@ -1,4 +1,4 @@
-use Rattle.ceal_cli.proofs.Growing.{writes_text}
+use Rattle.ceal_cli.proofs.Sessions.GrowingReplies.{writes_text}
 use Rattle.ceal_cli.specs.Members.{first_situation, Answered}
 use Rattle.ceal_cli.proofs.many.reply.Goals as goal
 

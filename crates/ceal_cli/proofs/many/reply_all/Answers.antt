@@ -1,6 +1,6 @@
 use Rattle.std.proofs.Common.{◌∙◌, rules, refl, arith}
 use Rattle.ceal_cli.specs.Members.{first_situation}
-use Rattle.ceal_cli.proofs.ManyReplies.{none-told, one-told, part-told, all-told, all-begun}
+use Rattle.ceal_cli.proofs.Sessions.ManyReplies.{none-told, one-told, part-told, all-told, all-begun}
 use Rattle.ceal_cli.proofs.many.reply_all.Goals as goal
 
 pub loop-line-init : goal.loop-line-init

@@ -1,6 +1,6 @@
 use Rattle.std.proofs.Common.{◌≡◌, ◌≤◌, length}
 use Rattle.ceal_cli.specs.Members.{first_situation}
-use Rattle.ceal_cli.proofs.ManyReplies.{ToldSoFar}
+use Rattle.ceal_cli.proofs.Sessions.ManyReplies.{ToldSoFar}
 use Rattle.ceal_cli.proofs.many.reply_all.Given as goal
 
 -- the replies so far, and those to what is left, are those to all

@@ -1,5 +1,5 @@
 use Rattle.ceal_session.specs.Keeping.{situation}
-use Rattle.ceal_cli.proofs.Growing.{puts_reply}
+use Rattle.ceal_cli.proofs.Sessions.GrowingReplies.{puts_reply}
 use Rattle.ceal_cli.proofs.replies.reply.Goals as goal
 
 pub returns : goal.returns

@@ -1,6 +1,6 @@
 use Rattle.std.proofs.Common.{rules, arith}
 use Rattle.ceal_session.specs.Keeping.{situation}
-use Rattle.ceal_cli.proofs.Growing.{one_more, some_of_it, all_written, all_begun}
+use Rattle.ceal_cli.proofs.Sessions.GrowingReplies.{one_more, some_of_it, all_written, all_begun}
 use Rattle.ceal_cli.proofs.replies.reply_all.Goals as goal
 
 pub loop-line-preserved : goal.loop-line-preserved

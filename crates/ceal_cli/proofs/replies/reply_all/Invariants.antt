@@ -1,6 +1,6 @@
 use Rattle.std.proofs.Common.{◌≤◌, length}
 use Rattle.ceal_session.specs.Keeping.{situation}
-use Rattle.ceal_cli.proofs.Growing.{SoFar}
+use Rattle.ceal_cli.proofs.Sessions.GrowingReplies.{SoFar}
 use Rattle.ceal_cli.proofs.replies.reply_all.Given as goal
 
 -- the replies so far, and those to what is left, are those to all

@@ -3,9 +3,9 @@ use Rattle.ceal_session.specs.Keeping.{situation}
 use Rattle.ceal_cli.specs.Output.{IsOutput}
 use Rattle.ceal_cli.specs.Resumed.{unreadable_save, not_holding}
 use Rattle.ceal_cli.specs.declared.words.Mode.TheVariants.{Resume}
-use Rattle.ceal_cli.proofs.Growing.{writes_text}
-use Rattle.ceal_cli.proofs.Resuming.{is-unreadable, is-unsound, replied, taken}
-use Rattle.ceal_cli.proofs.Sides.{not-refused}
+use Rattle.ceal_cli.proofs.Sessions.GrowingReplies.{writes_text}
+use Rattle.ceal_cli.proofs.Outputs.ResumedOutput.{is-unreadable, is-unsound, replied, taken}
+use Rattle.ceal_cli.proofs.Inputs.AnswerOrRefusal.{not-refused}
 use Rattle.ceal_cli.proofs.resume.resume.Goals as goal
 
 pub returns-in_err-told-in-Ok-clause-writes : goal.returns-in_err-told-in-Ok-clause-writes

@@ -1,5 +1,5 @@
 use Rattle.std.proofs.Common.{refl}
-use Rattle.ceal_cli.proofs.Resuming.{unsound}
+use Rattle.ceal_cli.proofs.Outputs.ResumedOutput.{unsound}
 use Rattle.ceal_cli.proofs.resume.resumed.Goals as goal
 
 pub returns-in-Err-Unsound-clause-unsound : goal.returns-in-Err-Unsound-clause-unsound

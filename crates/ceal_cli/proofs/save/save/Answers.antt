@@ -1,5 +1,5 @@
-use Rattle.ceal_cli.proofs.Growing.{writes_as}
-use Rattle.ceal_cli.proofs.OutputLaws.{saved}
+use Rattle.ceal_cli.proofs.Sessions.GrowingReplies.{writes_as}
+use Rattle.ceal_cli.proofs.Outputs.OutputByMode.{saved}
 use Rattle.ceal_cli.proofs.save.save.Goals as goal
 
 pub returns : goal.returns

@@ -1,5 +1,5 @@
 use Rattle.ceal_session.specs.Keeping.{situation}
-use Rattle.ceal_cli.proofs.Dumping.{recorded-core, recorded-closed}
+use Rattle.ceal_cli.proofs.Outputs.DumpExists.{recorded-core, recorded-closed}
 use Rattle.ceal_cli.proofs.save.save_of.Goals as goal
 
 pub text_of-text-requires-clause-core : goal.text_of-text-requires-clause-core

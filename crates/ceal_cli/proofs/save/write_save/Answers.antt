@@ -1,5 +1,5 @@
 use Rattle.ceal_session.specs.Keeping.{situation}
-use Rattle.ceal_cli.proofs.Growing.{writes_text}
+use Rattle.ceal_cli.proofs.Sessions.GrowingReplies.{writes_text}
 use Rattle.ceal_cli.specs.Serving.{IsSaveBehind}
 use Rattle.ceal_cli.specs.Lines.{script_lines}
 use Rattle.ceal_cli.proofs.save.write_save.Goals as goal

@@ -2,8 +2,8 @@ use Rattle.std.proofs.Common.{sym, subst}
 use Rattle.ceal_cli.specs.Answers.{IsWhole}
 use Rattle.ceal_cli.specs.Growth.{WritesGenerated, WritesGeneratedPrefix}
 use Rattle.ceal_cli.specs.declared.words.Mode.TheVariants.{Gen}
-use Rattle.ceal_cli.proofs.ModeLaws.{one_mode, one_workload, not_both, keeps_limits, small_size}
-use Rattle.ceal_cli.proofs.TopLaws.{any_answer, any_output, any_prefix, loses_none, no_refusal}
+use Rattle.ceal_cli.proofs.Options.OneMode.{one_mode, one_workload, not_both, keeps_limits, small_size}
+use Rattle.ceal_cli.proofs.Outputs.OutputOfBytes.{any_answer, any_output, any_prefix, loses_none, no_refusal}
 use Rattle.ceal_cli.proofs.top.ceal_main.Goals as goal
 
 pub returns-in-Ok-Some-Gen-clause-headline : goal.returns-in-Ok-Some-Gen-clause-headline

@@ -1,5 +1,5 @@
-use Rattle.ceal_cli.proofs.Growing.{writes_text}
-use Rattle.ceal_cli.proofs.OutputLaws.{checked}
+use Rattle.ceal_cli.proofs.Sessions.GrowingReplies.{writes_text}
+use Rattle.ceal_cli.proofs.Outputs.OutputByMode.{checked}
 use Rattle.ceal_cli.proofs.verify.verify.Goals as goal
 
 pub returns : goal.returns

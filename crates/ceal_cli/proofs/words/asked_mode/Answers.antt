@@ -5,9 +5,9 @@ use Rattle.clap.proofs.WalkLemmas.{first_value-rows, raw_values-rows}
 use Rattle.clap.specs.Walk.{all_of, first_of}
 use Rattle.ceal_cli.specs.Modes.{Text, texts}
 use Rattle.ceal_cli.specs.CommandLine.{ceal_command}
-use Rattle.ceal_cli.proofs.Asked.{all_words, mode_of}
-use Rattle.ceal_cli.proofs.Taken.{free, simple, taken}
-use Rattle.ceal_cli.proofs.Turns.{FUEL, WORDS}
+use Rattle.ceal_cli.proofs.Options.AskedMode.{all_words, mode_of}
+use Rattle.ceal_cli.proofs.Options.ParserTakes.{free, simple, taken}
+use Rattle.ceal_cli.proofs.Options.OneWord.{FUEL, WORDS}
 use Rattle.ceal_cli.proofs.words.asked_mode.Goals as goal
 
 pub returns-in-Ok : goal.returns-in-Ok

@@ -1,7 +1,7 @@
 use Rattle.std.proofs.Common.{◌∙◌, subst}
 use Rattle.std.specs.Prelude.{IfSome}
 use Rattle.ceal_code.specs.Fitting.{Fits}
-use Rattle.ceal_session.proofs.Bringing.{brought-on, some-reads}
+use Rattle.ceal_session.proofs.Engine.EngineKeepsPast.{brought-on, some-reads}
 use Rattle.ceal_session.proofs.advance.continued.Goals as goal
 
 pub returns : goal.returns

@@ -2,7 +2,7 @@ use Rattle.std.proofs.Common.{◌∙◌, Some, ap, sym, subst}
 use Rattle.std.specs.Prelude.{List}
 use Rattle.ceal_base.specs.declared.word.Word.{Word}
 use Rattle.ceal_engine.specs.Engine.{has_run}
-use Rattle.ceal_session.proofs.Bringing.{brought-anew}
+use Rattle.ceal_session.proofs.Engine.EngineKeepsPast.{brought-anew}
 use Rattle.ceal_session.specs.Advancing.{Outcome, Brings}
 use Rattle.ceal_session.proofs.advance.first_advanced.Goals as goal
 

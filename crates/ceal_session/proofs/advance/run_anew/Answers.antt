@@ -4,7 +4,7 @@ use Rattle.ceal_code.specs.Fitting.{Fits}
 use Rattle.std.specs.Option.{IsSomeAnd}
 use Rattle.ceal_engine.specs.Engine.{has_run, trace}
 use Rattle.ceal_engine.specs.Repaired.{IsFirst}
-use Rattle.ceal_session.proofs.Bringing.{brought-anew, from-dropped}
+use Rattle.ceal_session.proofs.Engine.EngineKeepsPast.{brought-anew, from-dropped}
 use Rattle.ceal_session.specs.Advancing.{Outcome, Brings}
 use Rattle.ceal_session.proofs.advance.run_anew.Goals as goal
 

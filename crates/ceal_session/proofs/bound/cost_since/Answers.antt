@@ -1,7 +1,7 @@
 use Rattle.std.proofs.Common.{◌≡◌, IfOk, refl, sym, subst}
 use Rattle.std.specs.Prelude.{IfSome}
-use Rattle.ceal_session.proofs.Costing.{cost-is, few-items}
-use Rattle.ceal_session.proofs.ReplySteps.{if-ok}
+use Rattle.ceal_session.proofs.Engine.CostOfFirstTraces.{cost-is, few-items}
+use Rattle.ceal_session.proofs.Replies.TextOfReply.{if-ok}
 use Rattle.ceal_session.specs.Keeping.{IsRunOn, call_cost}
 use Rattle.ceal_session.specs.Undoing.{undone}
 use Rattle.ceal_theory.specs.Computed.{first_of}

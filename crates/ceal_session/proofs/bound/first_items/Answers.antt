@@ -1,4 +1,4 @@
-use Rattle.ceal_session.proofs.Costing.{has-items, no-items}
+use Rattle.ceal_session.proofs.Engine.CostOfFirstTraces.{has-items, no-items}
 use Rattle.ceal_session.proofs.bound.first_items.Goals as goal
 
 pub returns-in-Done : goal.returns-in-Done

@@ -1,4 +1,4 @@
-use Rattle.ceal_session.proofs.Answering.{cell-sense}
+use Rattle.ceal_session.proofs.Replies.QuestionsAnswered.{cell-sense}
 use Rattle.ceal_session.proofs.commands.reply_to.Goals as goal
 
 pub set-requires : goal.set-requires

@@ -1,6 +1,6 @@
 use Rattle.std.proofs.Common.{arith}
-use Rattle.ceal_session.proofs.Answered.{not-quiet}
-use Rattle.ceal_session.proofs.ReplySteps.{if-ok}
+use Rattle.ceal_session.proofs.Replies.ReplyAfterRun.{not-quiet}
+use Rattle.ceal_session.proofs.Replies.TextOfReply.{if-ok}
 use Rattle.ceal_session.specs.Keeping.{situation}
 use Rattle.ceal_theory.specs.Pasts.{goes}
 use Rattle.ceal_session.proofs.commands.start_part.Goals as goal

@@ -1,6 +1,6 @@
 use Rattle.std.proofs.Common.{sym, ap, ◌∙◌}
 use Rattle.ceal_session.specs.Undoing.{undone}
-use Rattle.ceal_session.proofs.Undoing.{undone-more}
+use Rattle.ceal_session.proofs.Inputs.UndoneEdits.{undone-more}
 use Rattle.ceal_session.proofs.journal.undo.Goals as goal
 
 pub loop-edit-preserved : goal.loop-edit-preserved

@@ -1,4 +1,4 @@
-use Rattle.ceal_session.proofs.Alike.{alike, call-law, follows-law}
+use Rattle.ceal_session.proofs.Situations.AlikeReplies.{alike, call-law, follows-law}
 use Rattle.ceal_session.proofs.laws.alike_law.Goals as goal
 
 pub returns : goal.returns

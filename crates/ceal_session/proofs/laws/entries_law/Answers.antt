@@ -1,5 +1,5 @@
-use Rattle.ceal_session.proofs.Entries.{entries, one-text}
-use Rattle.ceal_session.proofs.SomeReply.{line-facts}
+use Rattle.ceal_session.proofs.Replies.RepliesByEntries.{entries, one-text}
+use Rattle.ceal_session.proofs.Replies.ReplyExists.{line-facts}
 use Rattle.ceal_session.proofs.laws.entries_law.Goals as goal
 
 pub returns : goal.returns

@@ -1,5 +1,5 @@
-use Rattle.ceal_session.proofs.KeptLine.{kept-law}
-use Rattle.ceal_session.proofs.SomeReply.{line-facts}
+use Rattle.ceal_session.proofs.Replies.LineKeepsSituation.{kept-law}
+use Rattle.ceal_session.proofs.Replies.ReplyExists.{line-facts}
 use Rattle.ceal_session.proofs.laws.kept_line.Goals as goal
 
 pub returns : goal.returns

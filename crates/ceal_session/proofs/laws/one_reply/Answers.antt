@@ -1,4 +1,4 @@
-use Rattle.ceal_session.proofs.OneReply.{same-command, one-answer, one-state, one-reply}
+use Rattle.ceal_session.proofs.Replies.OneReply.{same-command, one-answer, one-state, one-reply}
 use Rattle.ceal_session.proofs.laws.one_reply.Goals as goal
 
 pub returns : goal.returns

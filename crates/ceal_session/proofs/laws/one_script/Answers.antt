@@ -1,4 +1,4 @@
-use Rattle.ceal_session.proofs.OneReply.{one-script, joined}
+use Rattle.ceal_session.proofs.Replies.OneReply.{one-script, joined}
 use Rattle.ceal_session.proofs.laws.one_script.Goals as goal
 
 pub returns : goal.returns

@@ -1,4 +1,4 @@
-use Rattle.ceal_session.proofs.Resumed.{resumed-law}
+use Rattle.ceal_session.proofs.Saves.ResumedReplies.{resumed-law}
 use Rattle.ceal_session.proofs.laws.resumed_law.Goals as goal
 
 pub returns : goal.returns

@@ -1,4 +1,4 @@
-use Rattle.ceal_session.proofs.Saved.{saved-law, one-saved}
+use Rattle.ceal_session.proofs.Saves.SaveOfSession.{saved-law, one-saved}
 use Rattle.ceal_session.proofs.laws.saved_law.Goals as goal
 
 pub returns : goal.returns

@@ -1,5 +1,5 @@
-use Rattle.ceal_session.proofs.Scripts.{some-script}
-use Rattle.ceal_session.proofs.SomeReply.{begun-stands, dropped-law, some-reply}
+use Rattle.ceal_session.proofs.Replies.ScriptReplies.{some-script}
+use Rattle.ceal_session.proofs.Replies.ReplyExists.{begun-stands, dropped-law, some-reply}
 use Rattle.ceal_session.proofs.laws.some_reply.Goals as goal
 
 pub returns : goal.returns

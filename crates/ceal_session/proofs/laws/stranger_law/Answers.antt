@@ -1,6 +1,6 @@
-use Rattle.ceal_session.proofs.Alike.{call-law}
-use Rattle.ceal_session.proofs.SomeReply.{line-facts}
-use Rattle.ceal_session.proofs.Strangers.{stranger}
+use Rattle.ceal_session.proofs.Situations.AlikeReplies.{call-law}
+use Rattle.ceal_session.proofs.Replies.ReplyExists.{line-facts}
+use Rattle.ceal_session.proofs.Situations.StrangerReplies.{stranger}
 use Rattle.ceal_session.proofs.laws.stranger_law.Goals as goal
 
 pub returns : goal.returns

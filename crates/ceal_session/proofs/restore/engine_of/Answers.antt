@@ -1,6 +1,6 @@
 use Rattle.std.proofs.Common.{subst, sym}
 use Rattle.ceal_engine.specs.Repaired.{IsRestorable}
-use Rattle.ceal_session.proofs.Restored.{restorable}
+use Rattle.ceal_session.proofs.Saves.SaveThatHolds.{restorable}
 use Rattle.ceal_snap.specs.SaveText.{Save}
 use Rattle.ceal_session.proofs.restore.engine_of.Goals as goal
 

@@ -1,5 +1,5 @@
 use Rattle.std.proofs.Common.{false, subst, sym}
-use Rattle.ceal_session.proofs.Restored.{restored-holds, restored-is}
+use Rattle.ceal_session.proofs.Saves.SaveThatHolds.{restored-holds, restored-is}
 use Rattle.ceal_session.specs.Journal.{settled_at}
 use Rattle.ceal_session.specs.Keeping.{Holds, situation_of}
 use Rattle.ceal_session.specs.Saving.{IsResumed}

@@ -1,5 +1,5 @@
 use Rattle.std.proofs.Common.{◌∙◌, sym}
-use Rattle.ceal_session.proofs.Tables.{found-twice, once-more, one-more}
+use Rattle.ceal_session.proofs.Inputs.NamesInTable.{found-twice, once-more, one-more}
 use Rattle.ceal_session.proofs.restore.table_of.Goals as goal
 
 pub returns-then-has : goal.returns-then-has

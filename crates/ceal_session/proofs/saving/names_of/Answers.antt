@@ -1,5 +1,5 @@
 use Rattle.std.proofs.Common.{◌++◌, ◌∷◌, [], ◌∙◌, ap₂, sym}
-use Rattle.ceal_session.proofs.Tables.{take-next}
+use Rattle.ceal_session.proofs.Inputs.NamesInTable.{take-next}
 use Rattle.ceal_session.proofs.saving.names_of.Goals as goal
 
 pub loop-number-preserved : goal.loop-number-preserved

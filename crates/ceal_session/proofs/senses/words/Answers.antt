@@ -1,6 +1,6 @@
 use Rattle.std.proofs.Common.{refl}
 use Rattle.ceal_session.specs.declared.sense.Sense.TheVariants.{Unknown, Plain}
-use Rattle.ceal_session.proofs.SenseSteps.{stopped, went, over}
+use Rattle.ceal_session.proofs.Replies.WordsOfSenses.{stopped, went, over}
 use Rattle.ceal_session.proofs.senses.words.Goals as goal
 
 pub returns-in-Unknown : goal.returns-in-Unknown

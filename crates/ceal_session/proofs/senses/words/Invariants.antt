@@ -1,6 +1,6 @@
 use Rattle.std.proofs.Common.{◌≡◌, drop}
 use Rattle.ceal_session.specs.Senses.{words_of}
-use Rattle.ceal_session.proofs.SenseSteps.{behind}
+use Rattle.ceal_session.proofs.Replies.WordsOfSenses.{behind}
 use Rattle.ceal_session.proofs.senses.words.Given as goal
 
 -- the words so far, and then those of what is left

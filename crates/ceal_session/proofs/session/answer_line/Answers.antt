@@ -1,4 +1,4 @@
-use Rattle.ceal_session.proofs.ReplySteps.{answers, long-quiet, if-ok, on-ok}
+use Rattle.ceal_session.proofs.Replies.TextOfReply.{answers, long-quiet, if-ok, on-ok}
 use Rattle.ceal_session.specs.Keeping.{situation}
 use Rattle.ceal_session.specs.State.{numbers_in}
 use Rattle.ceal_theory.specs.Pasts.{goes}

@@ -1,8 +1,8 @@
 use Rattle.std.proofs.Common.{inl, inr, None, Some, Err, ap, refl}
-use Rattle.ceal_session.proofs.Answering.{has-reads}
-use Rattle.ceal_session.proofs.Bounded.{line-bounded}
-use Rattle.ceal_session.proofs.ReplySteps.{told, if-ok, on-ok-of, on-err}
-use Rattle.ceal_session.proofs.Shaped.{makes-named}
+use Rattle.ceal_session.proofs.Replies.QuestionsAnswered.{has-reads}
+use Rattle.ceal_session.proofs.Engine.WorkWithinBound.{line-bounded}
+use Rattle.ceal_session.proofs.Replies.TextOfReply.{told, if-ok, on-ok-of, on-err}
+use Rattle.ceal_session.proofs.Inputs.ShapesOfInputs.{makes-named}
 use Rattle.ceal_session.specs.Keeping.{situation}
 use Rattle.ceal_session.specs.Steps.{Step}
 use Rattle.ceal_theory.specs.Pasts.{goes}

@@ -1,8 +1,8 @@
 use Rattle.std.proofs.Common.{◌∙◌, ap}
 use Rattle.std.specs.Prelude.{List, ℕ, ◌++◌, codes}
 use Rattle.std.specs.Fmt.{decimal}
-use Rattle.ceal_session.proofs.ReplySteps.{if-ok}
-use Rattle.ceal_session.proofs.Telling.{told-number, told-bound}
+use Rattle.ceal_session.proofs.Replies.TextOfReply.{if-ok}
+use Rattle.ceal_session.proofs.Memory.EngineTellsRun.{told-number, told-bound}
 use Rattle.ceal_session.specs.Keeping.{situation}
 use Rattle.ceal_session.specs.Runs.{present_run}
 use Rattle.ceal_session.specs.State.{numbers_in}

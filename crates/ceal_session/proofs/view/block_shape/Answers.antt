@@ -1,6 +1,6 @@
 use Rattle.std.proofs.Common.{◌∙◌, Some, sym, ap, is_some}
 use Rattle.std.specs.Option.{option_map}
-use Rattle.ceal_session.proofs.Seen.{seen-block, seen-finished, shows-finished}
+use Rattle.ceal_session.proofs.Memory.SeenBlocks.{seen-block, seen-finished, shows-finished}
 use Rattle.ceal_show.specs.Shown.{shape_in}
 use Rattle.ceal_session.proofs.view.block_shape.Goals as goal
 

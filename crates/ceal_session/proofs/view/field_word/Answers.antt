@@ -1,8 +1,8 @@
 use Rattle.std.proofs.Common.{◌≡◌, ◌∙◌, true, false, Some, sym, ap, is_some}
 use Rattle.ceal_base.specs.Fitting.{kind_in}
 use Rattle.ceal_engine.specs.Engine.{block_in, is_plain}
-use Rattle.ceal_session.proofs.Seen.{seen-block, seen-finished, shows-finished, word-seen, word-stored, word-plain, kind-there, kind-by}
-use Rattle.ceal_session.proofs.Telling.{whole-engine}
+use Rattle.ceal_session.proofs.Memory.SeenBlocks.{seen-block, seen-finished, shows-finished, word-seen, word-stored, word-plain, kind-there, kind-by}
+use Rattle.ceal_session.proofs.Memory.EngineTellsRun.{whole-engine}
 use Rattle.ceal_session.proofs.view.field_word.Goals as goal
 
 pub shape-shape-requires-clause-shows : goal.shape-shape-requires-clause-shows

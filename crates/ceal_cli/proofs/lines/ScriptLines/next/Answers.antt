@@ -1,7 +1,7 @@
 use Rattle.std.proofs.Common.{◌∙◌, sym, ap}
 use Rattle.std.specs.Option.{option_copied}
 use Rattle.ceal_cli.specs.Lines.{lines_left}
-use Rattle.ceal_cli.proofs.ScriptLines.{lines_cut, copied_some}
+use Rattle.ceal_cli.proofs.Inputs.ScriptLines.{lines_cut, copied_some}
 use Rattle.ceal_cli.proofs.lines.ScriptLines.next.Goals as goal
 
 pub returns : goal.returns

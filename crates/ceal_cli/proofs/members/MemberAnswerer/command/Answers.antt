@@ -1,5 +1,5 @@
 use Rattle.ceal_session.specs.Keeping.{situation}
-use Rattle.ceal_cli.proofs.Situated.{answered-in, lost-in}
+use Rattle.ceal_cli.proofs.Sessions.SessionInSituation.{answered-in, lost-in}
 use Rattle.ceal_cli.proofs.members.MemberAnswerer.command.Goals as goal
 
 pub returns-clause-reply : goal.returns-clause-reply

@@ -2,7 +2,7 @@ use Rattle.std.proofs.Common.{◌≡◌, Ok, subst}
 use Rattle.ceal_compile.specs.Compiled.{IsCodeOf}
 use Rattle.ceal_session.specs.Keeping.{situation}
 use Rattle.ceal_session.specs.Standing.{IsIn}
-use Rattle.ceal_cli.proofs.Situated.{in-again}
+use Rattle.ceal_cli.proofs.Sessions.SessionInSituation.{in-again}
 use Rattle.ceal_cli.specs.Members.{first_situation}
 use Rattle.ceal_cli.proofs.members.MembersMaker.make.Goals as goal
 

@@ -1,6 +1,6 @@
 use Rattle.std.proofs.Common.{◌≡◌, true, sym, subst}
 use Rattle.ceal_base.specs.Fitting.{block_fits}
-use Rattle.ceal_session.proofs.Edited.{longer-state, longer-keeps, longer-holds}
+use Rattle.ceal_session.proofs.Moves.StateAfterEdit.{longer-state, longer-keeps, longer-holds}
 use Rattle.ceal_session.specs.Following.{Keeps}
 use Rattle.ceal_session.specs.Keeping.{state_of, situation, situation_of}
 use Rattle.ceal_session.specs.Runs.{memory_of}

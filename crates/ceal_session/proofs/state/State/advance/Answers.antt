@@ -1,5 +1,5 @@
 use Rattle.std.proofs.Common.{◌≡◌, true, Some, is_some, ap, ◌∙◌, sym, subst}
-use Rattle.ceal_session.proofs.Advanced.{advanced, holds-behind, not-new, the-call, fits-of}
+use Rattle.ceal_session.proofs.Moves.StateAfterRun.{advanced, holds-behind, not-new, the-call, fits-of}
 use Rattle.ceal_session.specs.Advancing.{phase_behind, IsAdvanced}
 use Rattle.ceal_session.specs.Keeping.{situation, situation_of}
 use Rattle.ceal_session.proofs.state.State.advance.Goals as goal

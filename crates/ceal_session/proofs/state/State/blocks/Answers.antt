@@ -1,5 +1,5 @@
 use Rattle.std.proofs.Common.{◌≡◌, Some, sym, subst}
-use Rattle.ceal_session.proofs.Telling.{told-blocks}
+use Rattle.ceal_session.proofs.Memory.EngineTellsRun.{told-blocks}
 use Rattle.ceal_session.specs.Asking.{IsReady, blocks_in}
 use Rattle.ceal_session.specs.Runs.{present_run}
 use Rattle.ceal_session.proofs.state.State.blocks.Goals as goal

@@ -1,6 +1,6 @@
 use Rattle.std.proofs.Common.{◌≡◌, IfOk, true, is_some, sym, subst}
-use Rattle.ceal_session.proofs.ReplySteps.{if-ok}
-use Rattle.ceal_session.proofs.Telling.{told-run, told-cost, now-measured}
+use Rattle.ceal_session.proofs.Replies.TextOfReply.{if-ok}
+use Rattle.ceal_session.proofs.Memory.EngineTellsRun.{told-run, told-cost, now-measured}
 use Rattle.ceal_session.specs.Asking.{IsReady}
 use Rattle.ceal_session.specs.Keeping.{situation}
 use Rattle.ceal_session.specs.Runs.{present_run}

@@ -1,5 +1,5 @@
 use Rattle.std.proofs.Common.{◌≡◌, Some, sym, subst}
-use Rattle.ceal_session.proofs.Telling.{told-content}
+use Rattle.ceal_session.proofs.Memory.EngineTellsRun.{told-content}
 use Rattle.ceal_session.specs.Asking.{IsReady, IsCellOf, content_text}
 use Rattle.ceal_session.specs.Runs.{present_run}
 use Rattle.ceal_session.specs.Texts.{value_text}

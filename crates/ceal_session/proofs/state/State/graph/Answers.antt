@@ -1,6 +1,6 @@
 use Rattle.std.proofs.Common.{◌<◌, IfOk, length, sym, subst}
-use Rattle.ceal_session.proofs.ReplySteps.{if-ok}
-use Rattle.ceal_session.proofs.Telling.{whole-seen, root-seen, told-graph}
+use Rattle.ceal_session.proofs.Replies.TextOfReply.{if-ok}
+use Rattle.ceal_session.proofs.Memory.EngineTellsRun.{whole-seen, root-seen, told-graph}
 use Rattle.ceal_session.specs.Asking.{IsReady}
 use Rattle.ceal_session.specs.Keeping.{situation, situation_of}
 use Rattle.ceal_session.specs.Runs.{present_run}

@@ -1,4 +1,4 @@
-use Rattle.ceal_session.proofs.Begun.{begun-holds, begun-is}
+use Rattle.ceal_session.proofs.Moves.FirstState.{begun-holds, begun-is}
 use Rattle.ceal_session.proofs.state.State.new.Goals as goal
 
 pub invariant_of-result : goal.invariant_of-result

@@ -1,4 +1,4 @@
-use Rattle.ceal_session.proofs.Answered.{again-ok, again-goes, again-left}
+use Rattle.ceal_session.proofs.Replies.ReplyAfterRun.{again-ok, again-goes, again-left}
 use Rattle.ceal_session.specs.Keeping.{situation}
 use Rattle.ceal_session.proofs.state.State.propagate.Goals as goal
 

@@ -1,4 +1,4 @@
-use Rattle.ceal_session.proofs.Answered.{part-again-ok, part-again-goes, part-again-left}
+use Rattle.ceal_session.proofs.Replies.ReplyAfterRun.{part-again-ok, part-again-goes, part-again-left}
 use Rattle.ceal_session.specs.Keeping.{situation}
 use Rattle.ceal_session.proofs.state.State.propagate_part.Goals as goal
 

@@ -1,5 +1,5 @@
 use Rattle.std.proofs.Common.{◌∙◌, sym, subst}
-use Rattle.ceal_session.proofs.Recording.{record-is}
+use Rattle.ceal_session.proofs.Engine.RecordOfTrace.{record-is}
 use Rattle.ceal_session.specs.Asking.{IsReady}
 use Rattle.ceal_session.specs.Keeping.{situation}
 use Rattle.ceal_session.specs.Recording.{IsRecorded}

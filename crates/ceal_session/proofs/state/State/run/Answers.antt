@@ -1,4 +1,4 @@
-use Rattle.ceal_session.proofs.Answered.{whole-ok, whole-goes, whole-left}
+use Rattle.ceal_session.proofs.Replies.ReplyAfterRun.{whole-ok, whole-goes, whole-left}
 use Rattle.ceal_session.specs.Keeping.{situation}
 use Rattle.ceal_session.proofs.state.State.run.Goals as goal
 

@@ -1,5 +1,5 @@
 use Rattle.std.proofs.Common.{◌≡◌, true, ap, ◌∙◌, sym, subst}
-use Rattle.ceal_session.proofs.Edited.{edited-state, edited-keeps, edited-holds}
+use Rattle.ceal_session.proofs.Moves.StateAfterEdit.{edited-state, edited-keeps, edited-holds}
 use Rattle.ceal_session.specs.Asking.{IsCellOf}
 use Rattle.ceal_session.specs.Following.{Keeps}
 use Rattle.ceal_session.specs.Journal.{with_edit}

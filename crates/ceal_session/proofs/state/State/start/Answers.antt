@@ -1,6 +1,6 @@
 use Rattle.std.proofs.Common.{◌≡◌, None, refl, ap, ◌∙◌, sym, subst}
-use Rattle.ceal_session.proofs.Advanced.{advanced, holds-behind}
-use Rattle.ceal_session.proofs.Compiled.{call-fits}
+use Rattle.ceal_session.proofs.Moves.StateAfterRun.{advanced, holds-behind}
+use Rattle.ceal_session.proofs.Engine.ProgramAndCode.{call-fits}
 use Rattle.ceal_session.specs.Advancing.{phase_behind, IsAdvanced}
 use Rattle.ceal_session.specs.Keeping.{state_of, situation, situation_of}
 use Rattle.ceal_session.specs.Steps.{IsCall}

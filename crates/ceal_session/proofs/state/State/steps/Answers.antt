@@ -1,5 +1,5 @@
 use Rattle.std.proofs.Common.{◌≡◌, Some, sym, subst}
-use Rattle.ceal_session.proofs.Telling.{told-steps}
+use Rattle.ceal_session.proofs.Memory.EngineTellsRun.{told-steps}
 use Rattle.ceal_session.specs.Asking.{IsReady, steps_in}
 use Rattle.ceal_session.specs.Runs.{present_run}
 use Rattle.ceal_session.proofs.state.State.steps.Goals as goal

@@ -1,5 +1,5 @@
 use Rattle.std.proofs.Common.{subst}
-use Rattle.ceal_session.proofs.Held.{has-trace}
+use Rattle.ceal_session.proofs.Moves.SessionTrace.{has-trace}
 use Rattle.ceal_session.specs.Keeping.{situation}
 use Rattle.ceal_session.specs.Standing.{HasTrace}
 use Rattle.ceal_session.proofs.state.State.traced.Goals as goal

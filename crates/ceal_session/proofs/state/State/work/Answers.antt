@@ -1,5 +1,5 @@
 use Rattle.std.proofs.Common.{◌≡◌, true, is_some, sym, subst}
-use Rattle.ceal_session.proofs.Telling.{told-run, told-work}
+use Rattle.ceal_session.proofs.Memory.EngineTellsRun.{told-run, told-work}
 use Rattle.ceal_session.specs.Asking.{IsReady}
 use Rattle.ceal_session.specs.Keeping.{situation}
 use Rattle.ceal_session.specs.Runs.{present_run}

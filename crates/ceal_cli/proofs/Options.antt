@@ -1,0 +1,10 @@
+-- The words of the command line: what the parser takes each for, and what they ask for.
+pub mod AskedMode
+pub mod FoundWords
+pub mod OneMode
+pub mod OptionText
+pub mod PlainWords
+pub mod ParseRows
+pub mod ModeOfWords
+pub mod ParserTakes
+pub mod OneWord

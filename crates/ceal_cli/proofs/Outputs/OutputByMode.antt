@@ -1,0 +1,119 @@
+-- What is written for an input.
+use Rattle.std.proofs.Common.{◌≡◌, inl, inr, ℕ, List, [], Option, Result, Ok, Err, refl}
+use Rattle.ceal_base.specs.declared.fault.Fault.{Fault}
+use Rattle.ceal_base.specs.declared.typed.Typed.{Typed}
+use Rattle.ceal_code.specs.Listing.{listing_text}
+use Rattle.ceal_code.specs.Program.{Code}
+use Rattle.ceal_compile.specs.Compiled.{IsCodeOf, IsCompiled}
+use Rattle.ceal_compile.specs.declared.program.Program.{Program}
+use Rattle.ceal_compile.specs.FaultLine.{fault_line}
+use Rattle.ceal_compile.specs.Source.{Comes, IsAccepted, IsProgram, IsFirstFault}
+use Rattle.ceal_io.specs.declared.streams.Stopped.{Stopped}
+use Rattle.ceal_lex.specs.Parts.{IsSplit, source_of}
+use Rattle.ceal_lex.specs.declared.parts.Split.{Split}
+use Rattle.ceal_record.specs.Laws.{RenamedLaw}
+use Rattle.ceal_session.specs.Following.{opened}
+use Rattle.ceal_session.specs.Laws.{BegunLaw, KeptLaw, SomeReplyLaw, SomeScriptLaw}
+use Rattle.ceal_session.specs.Saves.{SavedLaw}
+use Rattle.ceal_cli.specs.ManySessions.{AreTold}
+use Rattle.ceal_cli.specs.Fuel.{DEFAULT_FUEL}
+use Rattle.ceal_cli.specs.Growth.{Puts, Writes}
+use Rattle.ceal_cli.specs.Members.{Opens}
+use Rattle.ceal_cli.specs.Serving.{AreServed, BeginServed, AreServedFromRun, BeginServedFromRun, IsDumpBehind, IsSaveBehind}
+use Rattle.ceal_cli.specs.Lines.{script_of, script_lines}
+use Rattle.ceal_cli.specs.Modes.{ReadsInput}
+use Rattle.ceal_cli.specs.Output.{IsOutput, Programmed, accepted_text, Begins, IsOutputFromRun}
+use Rattle.ceal_cli.specs.Verdicts.{IsVerdictLine}
+use Rattle.ceal_cli.specs.declared.words.Mode.{Mode}
+use Rattle.ceal_cli.specs.declared.words.Mode.TheVariants.{Check, List as Listing, Run, Dump, Verify, Many, Save}
+use Rattle.ceal_cli.proofs.Sessions.GrowingReplies.{puts_as}
+use Rattle.ceal_cli.proofs.Sessions.SessionLeads.{served, served-from-run, carried}
+use Rattle.ceal_cli.proofs.Sessions.ReplyPrefixes.{begun, begun-from-run}
+use Rattle.ceal_cli.proofs.Sessions.SessionInSituation.{dump-in, save-in}
+
+module _ (input : List ℕ) where
+  -- the word `accepted`
+  pub accepted : (program : Typed) → IsProgram input program → IsOutput Check input accepted_text
+  accepted program is = inl ((program, is), refl)
+
+  -- the text of trace code
+  pub listed : (program : Typed) → IsProgram input program → (code : Code) → IsCodeOf program code → (text : List ℕ) → text ≡ listing_text code
+      → IsOutput Listing input text
+  listed program reads code is text same = inl (record { program = program; reads = reads; code = code; is_code = is; text = same })
+
+  -- the line of the first fault
+  pub refused : (mode : Mode) → ReadsInput mode → (fault : Fault) → IsFirstFault input fault → (text : List ℕ) → text ≡ fault_line input fault
+      → IsOutput mode input text
+  refused mode reads fault is text same = inr (reads, inl (fault, is, same))
+
+  module _ (part : Split) (split : IsSplit input part) (p : Program) where
+    programmed : IsProgram input p.typed → IsCompiled p → Programmed input
+    programmed reads compiled = record { part = part; split = split; program = p.typed; reads = reads; code = p.code; is_code = compiled.code }
+
+    abbrev lines : List (List ℕ)
+    lines = script_lines (script_of input part)
+
+    -- what the checker says of the dump behind the mark
+    pub checked : IsProgram input p.typed → IsCompiled p → (text : List ℕ) → IsVerdictLine p.code (script_of input part) text → IsOutput Verify input text
+    unfolding programmed
+    checked reads compiled text is = inl (programmed reads compiled, is)
+
+    module _ (fuel : ℕ) (opens : Opens input p fuel) where
+      -- the replies of many sessions
+      pub many_told : (text : List ℕ) → AreTold (opened p fuel) [] lines text → IsOutput (Many fuel) input text
+      unfolding programmed
+      many_told text told = inl (programmed opens.reads opens.compiled, told)
+
+      module _ (begins : BegunLaw) (kept : KeptLaw) where
+        -- the replies
+        pub replied : (r : Result (Unit {0}) Stopped) (a b : Option (List ℕ)) (m n : ℕ) → SomeScriptLaw
+            → Puts r a b m n (AreServed (opened p fuel) lines) (BeginServed (opened p fuel) lines) → Writes r a b m n (IsOutput (Run fuel) input)
+        unfolding programmed
+        replied r a b m n script h =
+            puts_as r a b m n _ _ (IsOutput (Run fuel) input) (Begins (IsOutput (Run fuel) input))
+            (λ out serves.
+            let w = served kept (opened p fuel) (opened p fuel) lines out (begins p fuel opens.compiled) serves in
+            inl (programmed opens.reads opens.compiled, record { end = w.0; leads = w.1 }))
+            (λ out part.
+            let w = begun kept script (opened p fuel) (opened p fuel) lines out (begins p fuel opens.compiled) part in
+            inr (w.text, inl (programmed opens.reads opens.compiled, record { end = w.end; leads = w.leads }), w.prefix)) h
+
+        -- the dump behind the script
+        pub dumped : RenamedLaw → (text : List ℕ) → IsDumpBehind (opened p fuel) lines text → IsOutput (Dump fuel) input text
+        unfolding programmed
+        dumped renamed text behind =
+            let there = carried kept (opened p fuel) behind.end (opened p fuel) lines (begins p fuel opens.compiled) behind.carries in
+            inl (
+              programmed opens.reads opens.compiled,
+              record { replies = there.0; end = there.1; leads = there.2; dump = dump-in renamed behind.end there.1 there.3 text behind.is },
+            )
+
+        -- the save behind the script
+        pub saved : RenamedLaw → SavedLaw → (text : List ℕ) → IsSaveBehind (source_of input part) (opened p fuel) lines text → IsOutput (Save fuel) input text
+        unfolding programmed
+        saved renamed saves text behind =
+            let there = carried kept (opened p fuel) behind.end (opened p fuel) lines (begins p fuel opens.compiled) behind.carries in
+            inl (
+              programmed opens.reads opens.compiled,
+              record { replies = there.0; end = there.1; leads = there.2; save = save-in renamed saves (source_of input part) behind.end there.1 there.3 text behind.is },
+            )
+
+    -- the replies from that of the first run on
+    module _ (reads : IsProgram input p.typed) (compiled : IsCompiled p) (begins : BegunLaw) (kept : KeptLaw) where
+      pub from_run : (r : Result (Unit {0}) Stopped) (a b : Option (List ℕ)) (m n : ℕ) → SomeReplyLaw → SomeScriptLaw
+          → Puts r a b m n (AreServedFromRun (opened p DEFAULT_FUEL) lines) (BeginServedFromRun (opened p DEFAULT_FUEL) lines)
+          → Writes r a b m n (IsOutputFromRun input)
+      unfolding programmed
+      from_run r a b m n reply script h =
+          puts_as r a b m n _ _ (IsOutputFromRun input) (Begins (IsOutputFromRun input))
+          (λ out serves.
+          let w = served-from-run kept (opened p DEFAULT_FUEL) (opened p DEFAULT_FUEL) lines out (begins p DEFAULT_FUEL compiled) serves in
+          (programmed reads compiled, record { end = w.0; leads = w.1 }))
+          (λ out part.
+          let w = begun-from-run kept script reply (opened p DEFAULT_FUEL) (opened p DEFAULT_FUEL) lines out (begins p DEFAULT_FUEL compiled) part in
+          inr (w.text, (programmed reads compiled, record { end = w.end; leads = w.leads }), w.prefix)) h
+
+-- a refused input is not accepted
+pub not_accepted : (input : List ℕ) (fault : Fault) → ((a b : Result Typed Fault) → Comes input a → Comes input b → a ≡ b)
+    → IsFirstFault input fault → IsAccepted input → ⊥
+not_accepted input fault once is (program, reads) = absurd (cc (once (Ok program) (Err fault) reads is))

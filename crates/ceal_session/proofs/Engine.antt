@@ -1,0 +1,10 @@
+-- What the engine of a session has: the source's run, a past of the definition, and its trace with its cost.
+-- what crates above cite
+pub mod ProgramAndCode
+-- what this crate alone cites
+pub mod EngineRunIsSource
+pub mod EngineKeepsPast
+pub mod RunLeavesPast
+pub mod WorkWithinBound
+pub mod CostOfFirstTraces
+pub mod RecordOfTrace

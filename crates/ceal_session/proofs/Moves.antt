@@ -1,0 +1,5 @@
+-- What a session is at its beginning, after a run, and after an edit.
+pub mod StateAfterRun
+pub mod StateAfterEdit
+pub mod SessionTrace
+pub mod FirstState

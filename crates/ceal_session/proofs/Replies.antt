@@ -1,0 +1,11 @@
+-- Replies and their texts: a line has one, and a session gives it.
+pub mod WordsOfSenses
+pub mod TextOfReply
+pub mod QuestionsAnswered
+pub mod OneReply
+pub mod ReplyExists
+pub mod ReplyUpToNumbers
+pub mod ScriptReplies
+pub mod LineKeepsSituation
+pub mod RepliesByEntries
+pub mod ReplyAfterRun

@@ -1,0 +1,4 @@
+-- Situations beside each other, and beside a session.
+pub mod SituationFollowsSession
+pub mod AlikeReplies
+pub mod StrangerReplies
