@@ -1,6 +1,6 @@
 // The words of variables, and those with which units begin.
 
-ghost use Rattle.std.specs.Prelude.{◌≡◌, ◌++◌, ◌-◌, ◌+◌, ◌<◌, ◌≤◌, ◌==◌, length, replicate, min, slice_get, unwrap_or, Some, if◌then◌else◌, IfOk, OnOk};
+ghost use Rattle.std.specs.Prelude.{◌≡◌, ◌+◌, ◌<◌, ◌≤◌, ◌==◌, length, min, slice_get, unwrap_or, Some, if◌then◌else◌, IfOk, OnOk};
 ghost use Rattle.ceal_base.specs.declared.word.Word.{Word};
 ghost use Rattle.ceal_code.specs.Init.{arguments};
 ghost use Rattle.ceal_code.specs.Step.{bound, chosen, woven};
@@ -14,24 +14,16 @@ use ceal_base::no_memory::NoMemory;
 use ceal_base::word::Word;
 use std::alloc::Global;
 
-/// Adds nulls up to this length.
-fn fill(env: &mut Vec<Word>, count: usize) -> Result<(), NoMemory>
-    ensures { OnOk result
-        (env.new.items ≡ env.old.items ++ replicate (count - length env.old.items) Word.Null) }
-{
-    if env.len() < count {
-        env.resize(count, Word::Null)?;
-    }
-    Ok(())
-}
-
-/// Adds nulls, up to the word of this variable.
+/// Adds nulls, up to the word of this variable. They are few, and put one by one.
 #[inline(never)]
 fn lengthen(env: &mut Vec<Word>, v: u32) -> Result<(), NoMemory>
     ensures there { OnOk result (v < length env.new.items) }
     ensures same { OnOk result (arguments env.new.items ≡ arguments env.old.items) }
 {
-    fill(env, v as usize + 1)?;
+    let count = v as usize + 1;
+    while env.len() < count {
+        env.push(Word::Null)?;
+    }
     Ok(())
 }
 

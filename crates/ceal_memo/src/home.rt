@@ -5,6 +5,7 @@ ghost use Rattle.ceal_memo.specs.declared.home.Home.TheVariants.{Nowhere, In};
 ghost use Rattle.ceal_memo.specs.Homes.{home_in, home_of, HomeChange};
 
 use ceal_base::no_memory::NoMemory;
+use ceal_order::room::make_room;
 use ceal_order::stamp::Stamp;
 use std::alloc::Global;
 use std::marker::Model;
@@ -65,7 +66,10 @@ impl Homes {
         ensures room { OnOk result (count ≤ length self.new) }
         ensures same { (t : ℕ) → home_of self.new t ≡ home_of self.old t }
     {
-        self.lists.resize(count + HOMES_BEYOND, NO_LIST)?;
+        let homes = count + HOMES_BEYOND;
+        let more = homes.saturating_sub(self.lists.len());
+        make_room(&mut self.lists, more)?;
+        self.lists.resize(homes, NO_LIST)?;
         Ok(())
     }
 

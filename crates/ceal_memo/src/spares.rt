@@ -3,6 +3,7 @@
 ghost use Rattle.std.specs.Prelude.{◌≡◌, ◌⊎◌, ◌∷◌, ◌++◌, [], length, IfSome, IfNone};
 
 use ceal_base::no_memory::NoMemory;
+use ceal_order::room::make_room;
 use std::alloc::Global;
 use std::marker::Model;
 
@@ -57,8 +58,10 @@ impl Spares {
         ensures same { self.new ≡ self.old }
     {
         let lists = count.saturating_add(LISTS_BEYOND);
-        self.numbers
-            .reserve(lists.saturating_sub(self.numbers.len()))?;
+        let more = lists.saturating_sub(self.numbers.len());
+        make_room(&mut self.numbers, more)?;
+        let more = lists.saturating_sub(self.noted.len());
+        make_room(&mut self.noted, more)?;
         self.noted.resize(lists, false)?;
         Ok(())
     }

@@ -20,6 +20,7 @@ use crate::slots::NO_SLOT;
 use ceal_base::no_memory::NoMemory;
 use ceal_base::word::{Place, Word};
 use ceal_order::order::Order;
+use ceal_order::room::make_room;
 use ceal_order::stamp::Stamp;
 use std::alloc::Global;
 use std::marker::Model;
@@ -80,6 +81,25 @@ impl Mods {
         }
         enter_base(&mut self.cells, &mut self.index, place, value)?;
         Ok(())
+    }
+
+    /// Sets what a place that was never touched holds before any write. A place that was touched is left as it is, and it answers
+    /// false.
+    pub fn begin(&mut self, place: Place, value: Word) -> Result<bool, NoMemory>
+        ensures untouched { IfOk result
+            (λ begun. IsTrue begun → cell_of self.old place ≡ untouched) }
+        ensures begun { IfOk result (λ begun. IsTrue begun
+            → Changes self.old self.new place (with_base value (cell_of self.old place))) }
+        ensures left { IfOk result (λ begun. begun ≡ false → self.new ≡ self.old) }
+        ensures err { OnErr result (self.new ≡ self.old) }
+        ensures follows { (order : List ℕ) → Follows order self.old → Follows order self.new }
+    {
+        let slot = self.index.find(place);
+        if slot != NO_SLOT {
+            return Ok(false);
+        }
+        enter_base(&mut self.cells, &mut self.index, place, value)?;
+        Ok(true)
     }
 
     /// Puts in a write of a place at a stamp where the place has none.
@@ -287,7 +307,7 @@ fn make_slot(
     if slot >= NO_SLOT as usize {
         return Err(NoMemory);
     }
-    cells.reserve(1)?;
+    make_room(cells, 1)?;
     index.put(place, slot as u32)?;
     Ok(())
 }

@@ -11,7 +11,8 @@
 //! What is kept by time is kept in lists of stamps that rise along the order: each stands before those that follow it.
 //! `rising` is such a list, searched by halves; it stands in a `short_list`, which takes no memory for one stamp alone, and
 //! for more a `sequence`, which keeps chunks of them in a balanced `tree`; `chunks` puts items into such a tree and takes them
-//! out, and `search` finds a place in it. `laws` says along which other orders stamps still rise.
+//! out, and `search` finds a place in it. `laws` says along which other orders stamps still rise. `room` makes room in lists
+//! that grow.
 #![tactic(auto)]
 
 mod chunks;
@@ -20,6 +21,7 @@ pub mod laws;
 mod link;
 pub mod order;
 pub mod rising;
+pub mod room;
 mod run;
 mod search;
 mod sequence;

@@ -3,6 +3,7 @@
 ghost use Rattle.std.specs.Prelude.{◌≡◌, ◌≢◌, ◌⊎◌, ◌+◌, ◌^◌, ◌<◌, length, IfOk, OnErr};
 ghost use Rattle.ceal_order.specs.Links.{next_of, prev_of, label_of, no_link, Spliced, Unlinked, Grown};
 
+use crate::room::make_room;
 use ceal_base::no_memory::NoMemory;
 
 /// The index that stands for no link.
@@ -117,7 +118,7 @@ pub fn add_spares(links: &mut Vec<Link>, free: u32, more: usize) -> Result<u32, 
     ensures ok { IfOk result (λ first. Grown links.old.items links.new.items free first more) }
     ensures err { OnErr result (links.new.items ≡ links.old.items) }
 {
-    links.reserve(more)?;
+    make_room(links, more)?;
     let mut first = free;
     for added in 0..more {
         let at = links.len();

@@ -10,6 +10,7 @@ use crate::new_node::NewNode;
 use crate::node::{Node, Seen};
 use ceal_base::no_memory::NoMemory;
 use ceal_base::word::Word;
+use ceal_order::room::ample;
 use ceal_order::stamp::Stamp;
 use slab::Slab;
 use std::alloc::Global;
@@ -50,10 +51,14 @@ impl Shelf {
         ensures held { OnOk result (count ≤ self.new.held.capacity) }
         ensures apart { OnOk result (count ≤ self.new.apart.capacity) }
     {
-        let more = count.saturating_sub(self.held.len());
-        self.held.reserve(more)?;
-        let more = count.saturating_sub(self.apart.len());
-        self.apart.reserve(more)?;
+        if count > self.held.capacity() {
+            let more = count.saturating_sub(self.held.len());
+            self.held.reserve(ample(self.held.len(), more))?;
+        }
+        if count > self.apart.capacity() {
+            let more = count.saturating_sub(self.apart.len());
+            self.apart.reserve(ample(self.held.len(), more))?;
+        }
         Ok(())
     }
 

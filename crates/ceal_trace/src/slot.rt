@@ -5,6 +5,7 @@ ghost use Rattle.ceal_trace.specs.Slots.{slot_of, SlotSet, KeyTaken, StepsPut, E
 
 use crate::shelf::NO_KEY;
 use ceal_base::no_memory::NoMemory;
+use ceal_order::room::make_room;
 
 /// Stands for no stamp: no order has a stamp of this number.
 pub const NO_STAMP: u32 = u32::MAX;
@@ -73,7 +74,7 @@ pub fn lengthen(slots: &mut Vec<Slot>, count: usize) -> Result<(), NoMemory>
     ensures most { length slots.new.items ≤ max (length slots.old.items) count }
 {
     let more = count.saturating_sub(slots.len());
-    slots.reserve(more)?;
+    make_room(slots, more)?;
     for added in 0..more {
         slots.push_reserved(Slot {
             key: NO_KEY,

@@ -1,7 +1,7 @@
 -- The words with which units begin.
 use Rattle.std.proofs.Common.{◌≡◌, ℕ, zero, suc, ◌+◌, ◌-◌, ◌<◌, ◌≤◌, ◌==◌, Some, ◌⊎◌, inl, inr, Bool, true, false, if◌then◌else◌, List, [], ◌∷◌, ◌++◌, length, replicate, drop, get_or, set as put_at, drop-cons, append-nil, append_assoc, refl, sym, ap, ◌∙◌, slice_get, unwrap_or, arith, min}
 use Rattle.std.proofs.Math.Path.{fun_ext}
-use Rattle.std.proofs.lemmas.List.{get_or-set_same, get_or-set_other, length-append, length-replicate}
+use Rattle.std.proofs.lemmas.List.{get_or-set_same, get_or-set_other}
 use Rattle.std.proofs.lemmas.Option.{unwrap_or-slice_get, slice_get_within, get_or_from_slice_get}
 use Rattle.ceal_base.specs.declared.word.Word.{Word}
 use Rattle.ceal_base.specs.declared.word.Word.TheVariants.{Null}
@@ -104,9 +104,6 @@ woven-more p ps v value args = go (p.0 == v)
         ≡ (if b then value else first_word args) ∷ woven ps v value (if b then args else later_words args)
     go true = refl
     go false = refl
-
-pub padded-length : (words : List Word) (v : ℕ) (more : List Word) → more ≡ words ++ replicate (v + 1 - length words) Null → v < length more
-padded-length words v more e = rw (e, length-append words (replicate (v + 1 - length words) Null), length-replicate (v + 1 - length words) Null) (omega arith)
 
 -- in code, word by word
 pub choose-next : (out next : List Word) (params more : List VarId) (p : VarId) (args all : List Word) (w : Word) → next ≡ out ++ w ∷ [] → w ≡ unwrap_or (slice_get args p.0) Null

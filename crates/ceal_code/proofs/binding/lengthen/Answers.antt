@@ -1,9 +1,6 @@
-use Rattle.std.proofs.Common.{◌+◌, ◌-◌, length}
-use Rattle.ceal_code.proofs.Equations.StackSteps.{arguments-padded, padded-length}
+use Rattle.std.proofs.Common.{◌∙◌}
+use Rattle.ceal_code.proofs.Equations.StackSteps.{arguments-padded}
 use Rattle.ceal_code.proofs.binding.lengthen.Goals as goal
 
-pub returns-clause-there : goal.returns-clause-there
-returns-clause-there c = padded-length c.args.env.now.items c.args.v c.fill.new.env.items c.in_ok-fill.ensures
-
-pub returns-clause-same : goal.returns-clause-same
-returns-clause-same c = arguments-padded c.args.env.now.items c.fill.new.env.items (c.args.v + 1 - length c.args.env.now.items) c.in_ok-fill.ensures
+pub loop-env-preserved : goal.loop-env-preserved
+loop-env-preserved c = arguments-padded c.loop-env.env.items c.push.new.self.items 1 c.in_ok-push.ensures.items ∙ c.loop-env.invariant

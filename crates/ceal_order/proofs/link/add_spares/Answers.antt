@@ -4,8 +4,8 @@ use Rattle.ceal_order.proofs.link.add_spares.Goals as goal
 
 pub loop-added-init : goal.loop-added-init
 loop-added-init c = record {
-  grown = rw c.in_ok-reserve.ensures.items (grown_none c.args.links.now.items c.args.free);
-  room = omega (arith, c.in_ok-reserve.ensures.ok);
+  grown = rw c.in_ok-make_room.ensures.same (grown_none c.args.links.now.items c.args.free);
+  room = omega (arith, c.in_ok-make_room.ensures.room);
 }
 
 pub loop-added-preserved : goal.loop-added-preserved

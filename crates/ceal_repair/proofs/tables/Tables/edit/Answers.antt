@@ -1,14 +1,21 @@
-use Rattle.ceal_trace.specs.Nodes.{stamps_in}
-use Rattle.ceal_repair.proofs.TableCalls.CutKeepsTables.{as-tables}
+use Rattle.std.proofs.Common.{◌≡◌, true, false, sym, ap, ◌∙◌}
+use Rattle.ceal_mods.specs.declared.cell.Cell.{Cell}
+use Rattle.ceal_order.specs.Stamps.{is_in}
 use Rattle.ceal_repair.proofs.TableCalls.BaseEdit.{edit-base, edit-kept}
+use Rattle.ceal_trace.specs.Nodes.{stamps_in}
 use Rattle.ceal_repair.proofs.tables.Tables.edit.Goals as goal
 
-pub returns-clause-base : goal.returns-clause-base
-returns-clause-base c = λ p. rw c.wake.ensures.mods (edit-base c.args.self.now c.requires.kept c.args.place c.args.value c.set_base.new.self c.in_ok-set_base.ensures.ok p)
+pub returns-then-begun-clause-base : goal.returns-then-begun-clause-base
+returns-then-begun-clause-base c = edit-base c.args.self.now c.requires.kept c.args.place c.args.value c.begin-begun.new.self (c.in_ok-begin-begun.ensures.begun c.if-begun.true)
 
-pub returns-clause-kept : goal.returns-clause-kept
-returns-clause-kept c =
-    as-tables c.wake.new.self c.args.self.now.trace c.set_base.new.self c.args.self.now.memo c.wake.ensures.trace c.wake.ensures.mods c.wake.ensures.memo
-    (edit-kept c.args.self.now c.requires.kept c.args.place c.args.value c.set_base.new.self c.in_ok-set_base.ensures.ok c.root-root.result.0 c.root-root.ensures.first c.root-root.ensures.node c.wake.new.self.stale
-    (λ t i. c.wake.ensures.more t (rw c.reserve.ensures.stamps i)) (λ t i. c.wake.ensures.only t (rw c.reserve.ensures.stamps i)) c.wake.ensures.woken
-    (c.set_base.ensures.follows (stamps_in c.args.self.now.trace.nodes) c.requires.kept.step.mods) (rw c.wake.ensures.trace at c.wake.ensures.stale))
+pub returns-then-begun-clause-kept : goal.returns-then-begun-clause-kept
+returns-then-begun-clause-kept c =
+    let old = c.args.self.now in
+    let change = c.in_ok-begin-begun.ensures.begun c.if-begun.true in
+    edit-kept old c.requires.kept c.args.place c.args.value c.begin-begun.new.self change c.root-_root.result.0 c.root-_root.ensures.first c.root-_root.ensures.node old.stale
+    (λ t i. i) (λ t n i. absurd (let no : true ≡ false = sym i ∙ n in cc))
+    (λ r sees least.
+    let none = ap (λ (cell : Cell). is_in r cell.reads) (c.in_ok-begin-begun.ensures.untouched c.if-begun.true) in
+    let here = ap (λ (cell : Cell). is_in r cell.reads) change.here in
+    absurd (let no : true ≡ false = sym sees.there ∙ (here ∙ none) in cc))
+    (c.begin-begun.ensures.follows (stamps_in old.trace.nodes) c.requires.kept.step.mods) c.requires.kept.step.stale

@@ -1,0 +1,21 @@
+use Rattle.std.proofs.Common.{◌≡◌, sym, ◌∙◌}
+use Rattle.ceal_mods.proofs.ModsLemmas.{rise_same, cell_none, added, follow_added}
+use Rattle.ceal_mods.proofs.mods.Mods.begin.Goals as goal
+
+pub returns-in_err-enter_base-clause-follows : goal.returns-in_err-enter_base-clause-follows
+returns-in_err-enter_base-clause-follows c = λ order follows.
+    let rise = rw (← c.self.view_is) at follows in
+    rise_same order c.self.inside.cells.items c.enter_base.new.cells.items rise c.in_err-enter_base.ensures.err
+
+pub returns-clause-untouched : goal.returns-clause-untouched
+returns-clause-untouched c = λ _.
+    rw (← c.self.view_is) (cell_none c.self.inside.index c.self.inside.cells.items c.args.place c.find-slot.result c.self.invariant c.find-slot.ensures c.if-slot.false)
+
+pub returns-clause-begun : goal.returns-clause-begun
+returns-clause-begun c = λ _.
+    rw (← c.self.view_is, cell_none c.self.inside.index c.self.inside.cells.items c.args.place c.find-slot.result c.self.invariant c.find-slot.ensures c.if-slot.false) (added c.self.inside.index c.self.inside.cells.items c.args.place c.find-slot.result c.self.invariant c.find-slot.ensures c.if-slot.false c.self.inside.looked _ _ c.in_ok-enter_base.ensures.ok)
+
+pub returns-clause-follows : goal.returns-clause-follows
+returns-clause-follows c = λ order follows.
+    let rise = rw (← c.self.view_is) at follows in
+    follow_added c.self.inside.index c.self.inside.cells.items c.args.place c.find-slot.result c.self.invariant c.find-slot.ensures c.if-slot.false order _ _ rise c.in_ok-enter_base.ensures.ok (record { writes = tt; reads = tt })
