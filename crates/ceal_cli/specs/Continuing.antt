@@ -9,7 +9,7 @@ use Rattle.ceal_cli.specs.Output.{Programmed, IsAnswer, IsTaken, lines_behind}
 use Rattle.ceal_cli.specs.Saves.{mark_line, with_source}
 use Rattle.ceal_cli.specs.declared.words.Mode.TheVariants.{Run, Save as SaveMode, Resume}
 
--- What `save` wrote of an input, a line `%%` and more lines behind it are an input for `resume`, and one
+-- What `save` wrote of an input, a line `%%` and more lines after it are an input for `resume`, and one
 -- for `run` has the same source part, and the lines of both scripts.
 pub record Resumes (fuel : ℕ) (input written more again long : List ℕ) : Type 0 where
   pub first : Programmed input
@@ -23,7 +23,7 @@ pub record Resumes (fuel : ℕ) (input written more again long : List ℕ) : Typ
   pub whole : Programmed long
   pub marked : (first.part.marked ≡ true) × (whole.part.marked ≡ true)
   pub source : source_of input first.part ≡ source_of long whole.part
-  -- a last empty line, behind the last line feed, may be left out
+  -- a last empty line, after the last line feed, may be left out
   pub front : List (List ℕ)
   pub lines : (lines_behind first ≡ front) ⊎ (lines_behind first ≡ front ++ [] ∷ [])
   pub both : lines_behind whole ≡ front ++ script_lines more

@@ -1,4 +1,4 @@
--- What is written of the situation behind a script: the dump of its run's record.
+-- What is written of the situation after a script: the dump of its run's record.
 use Rattle.std.specs.Prelude.{◌≡◌, ℕ, Option, Some, List, codes}
 use Rattle.ceal_base.specs.declared.call.Call.{Call}
 use Rattle.ceal_base.specs.declared.recorded.Record.{Record}
@@ -35,7 +35,7 @@ IsWrittenOf m write out = IsWrittenBy (asked m.state Steps) m write out
 abbrev pub IsDumpOf : Situation → List ℕ → Type 0
 IsDumpOf m out = IsWrittenOf m dump_text out
 
--- So it is behind the lines, from a state where nothing was run.
+-- So it is after the lines, from a state where nothing was run.
 pub record IsDumped (code : Code) (s : State) (lines : List (List ℕ)) (out : List ℕ) : Type 0 where
   pub replies : List ℕ
   pub end : Situation

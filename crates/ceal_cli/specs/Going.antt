@@ -1,4 +1,4 @@
--- What is found behind the first mark of an input that is resumed.
+-- What is found after the first mark of an input that is resumed.
 use Rattle.std.specs.Prelude.{◌≡◌, ℕ, true, List, Result, Ok, Err}
 use Rattle.ceal_code.specs.Program.{Code}
 use Rattle.ceal_compile.specs.declared.program.Program.{Program}

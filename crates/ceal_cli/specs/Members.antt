@@ -16,7 +16,7 @@ use Rattle.ceal_session.specs.State.{Situation}
 use Rattle.ceal_cli.specs.declared.members.Member.{Member}
 use Rattle.ceal_cli.specs.declared.members.Start.{Start}
 
--- The input is accepted, this is its program, and a run may take so many steps.
+-- The input is accepted, this is its program, and a run may take that many steps.
 pub record Opens (input : List ℕ) (program : Program) (fuel : ℕ) : Type 0 where
   pub small : length input < 2 ^ 32
   pub reads : IsProgram input program.typed

@@ -14,7 +14,7 @@ Text = List ℕ
 abbrev pub texts : Vec (String Global) Global → List Text
 texts words = map string_bytes words.items
 
--- These words, and one word `--` before, between or behind them, or none.
+-- These words, and one word `--` before, between or after them, or none.
 abbrev pub AreMarked : List Text → List Text → Type 0
 AreMarked plain words =
     (words ≡ plain)
@@ -27,7 +27,7 @@ IsOption fuel option =
     (text : Text) × SpellsFuel text fuel
     × ((option ≡ codes "--fuel" ∷ text ∷ []) ⊎ (option ≡ (codes "--fuel=" ++ text) ∷ []))
 
--- The option stands before the word, or behind it; what is behind a `--` is no option.
+-- The option stands before the word, or after it; what is after a `--` is no option.
 abbrev pub HaveOption : ℕ → Text → List Text → Type 0
 HaveOption fuel word words =
     (option : List Text) × (rest : List Text) × IsOption fuel option

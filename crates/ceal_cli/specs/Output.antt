@@ -48,7 +48,7 @@ pub record IsRepliedFromRun (code : Code) (s : State) (lines : List (List ℕ)) 
   pub end : Situation
   pub leads : LeadsFromRun (opening code s) lines out end
 
--- An accepted program, its trace code, and the script behind it.
+-- An accepted program, its trace code, and the script after it.
 pub record Programmed (input : List ℕ) : Type 0 where
   pub part : Split
   pub split : IsSplit input part
@@ -64,7 +64,7 @@ first_state p fuel = begun p.program fuel
 abbrev pub lines_behind : {input : List ℕ} → Programmed input → List (List ℕ)
 lines_behind {input} p = script_lines (script_of input p.part)
 
--- what is behind the mark, whatever it is
+-- what is after the mark, whatever it is
 abbrev pub bytes_behind : {input : List ℕ} → Programmed input → List ℕ
 bytes_behind {input} p = script_of input p.part
 
@@ -96,9 +96,9 @@ abbrev pub IsGenerated : Workload → ℕ → ℕ → List ℕ → Type 0
 IsGenerated kind seed size out = IsOutputFromRun (workload_text kind seed size) out
 
 -- What is written for an accepted input: `accepted`, the text of its trace code, or, from a state
--- without inputs, the replies to the lines of its script, the dump or the save behind them, or the replies
--- of many sessions; or what the checker says of the dump behind the mark, or the replies to the script
--- behind the save there. For a workload the input is of no account.
+-- without inputs, the replies to the lines of its script, the dump or the save after them, or the replies
+-- of many sessions; or what the checker says of the dump after the mark, or the replies to the script
+-- after the save there. For a workload the input is of no account.
 abbrev pub IsAnswer : Mode → List ℕ → List ℕ → Type 0
 IsAnswer Check input out = IsAccepted input × (out ≡ accepted_text)
 IsAnswer Listing input out = IsListing input out
@@ -116,7 +116,7 @@ IsAnswer Resume input out =
     (p : Programmed input) × IsRepliedAfter p.program p.code (bytes_behind p) out
 IsAnswer (Gen kind seed size) input out = IsGenerated kind seed size out
 
--- The input is taken: it is accepted and, for `resume`, there is a save behind the mark, which holds.
+-- The input is taken: it is accepted and, for `resume`, there is a save after the mark, which holds.
 abbrev pub IsTaken : Mode → List ℕ → Type 0
 IsTaken Resume input = (p : Programmed input) × IsResumable p.code (bytes_behind p)
 IsTaken _ input = IsAccepted input

@@ -1,4 +1,4 @@
--- A session that is resumed: what stands behind the first mark, and what is written.
+-- A session that is resumed: what stands after the first mark, and what is written.
 use Rattle.std.specs.Prelude.{◌≡◌, ◌⊎◌, ℕ, true, List, codes}
 use Rattle.ceal_base.specs.Trace.{Trace, flat}
 use Rattle.ceal_base.specs.declared.typed.Typed.{Typed}
@@ -11,7 +11,7 @@ use Rattle.ceal_session.specs.State.{Situation}
 use Rattle.ceal_snap.specs.SaveText.{Save, IsSave}
 use Rattle.ceal_cli.specs.Lines.{script_of, script_lines}
 
--- The bytes behind the first mark are a save, a second line `%%`, and a script.
+-- The bytes after the first mark are a save, a second line `%%`, and a script.
 pub record Resumption (bytes : List ℕ) : Type 0 where
   pub part : Split
   pub split : IsSplit bytes part
@@ -29,7 +29,7 @@ unreadable_save = codes "refused V1: unreadable save\n"
 abbrev pub not_holding : List ℕ
 not_holding = codes "refused V2: save does not hold\n"
 
--- There is a save behind the mark, and it holds.
+-- There is a save after the mark, and it holds.
 abbrev pub IsResumable : Code → List ℕ → Type 0
 IsResumable code bytes = (r : Resumption bytes) × Holding code r.saved
 

@@ -100,13 +100,13 @@ IsDumpFrom m out =
     ((¬ IsReady m.state) × (out ≡ no_run_text))
     ⊎ ((r : Record) × IsRecorded m r × (out ≡ dump_text r))
 
--- The text is that of the session's save, behind the source part, or says that there is none.
+-- The text is that of the session's save, after the source part, or says that there is none.
 abbrev pub IsSaveFrom : List ℕ → Situation → List ℕ → Type 0
 IsSaveFrom source m out =
     ((¬ IsReady m.state) × (out ≡ no_run_text))
     ⊎ ((s : Save) × IsSaved m s × (out ≡ with_source source s))
 
--- A text of this sort is written of the session behind the lines.
+-- A text of this sort is written of the session after the lines.
 pub record IsBehind
     (P : Situation → List ℕ → Type 0) (m : Situation) (lines : List (List ℕ)) (out : List ℕ) : Type 0 where
   pub end : Situation

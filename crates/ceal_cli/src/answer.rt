@@ -74,7 +74,7 @@ fn list<K: Sink>(
     write_all(sink, text.items())
 }
 
-// Writes the replies to the script behind the mark.
+// Writes the replies to the script after the mark.
 fn run<K: Sink>(
     alloc: Global,
     fuel: u32,
@@ -93,7 +93,7 @@ fn run<K: Sink>(
     let lines = ScriptLines::new(script(input.bytes, &input.part));
     let mut session = Session::seeded(alloc, program, fuel, Seed::of_text(input.bytes))?;
     let told = reply_all(&mut session, lines, sink);
-    // The program ends behind this: its memory goes back with the process, and not piece by piece.
+    // The program ends after this: its memory goes back with the process, and not piece by piece.
     forget(session);
     told
 }
@@ -164,7 +164,7 @@ fn check<K: Sink>(alloc: Global, input: Input<'_>, sink: &mut K) -> Result<bool,
     match check_part(alloc, input.bytes, &input.part) {
         Ok(program) => {
             let told = accept(input.bytes, &program, sink);
-            // The program ends behind this: its memory goes back with the process, and not piece by piece.
+            // The program ends after this: its memory goes back with the process, and not piece by piece.
             forget(program);
             told?;
             Ok(true)

@@ -1,4 +1,4 @@
-// The command line, as its parser is told of it.
+// The command line, as it is described to its parser.
 
 ghost use Rattle.std.specs.Prelude.{◌≡◌, IfOk};
 ghost use Rattle.clap.specs.Words.{app_of};

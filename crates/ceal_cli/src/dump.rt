@@ -1,4 +1,4 @@
-// What is written of the run behind a script.
+// What is written of the run after a script.
 
 ghost use Rattle.std.specs.Prelude.{◌≡◌, true, IfOk};
 ghost use Rattle.ceal_dump.specs.DumpText as dumped;
@@ -29,7 +29,7 @@ use ceal_theory::names::renaming_law;
 use ceal_types::seed::Seed;
 use std::alloc::Global;
 
-// The dump of a record. Where one of its counts has no room in 32 bits, there is no memory for so many.
+// The dump of a record. Where one of its counts has no room in 32 bits, there is no memory for that many.
 fn text_of(alloc: Global, kept: &Record) -> Result<Text, NoMemory>
     requires core { all_core kept.now.forest ≡ true }
     requires ends { closed 0 kept.now.forest ≡ true }
@@ -58,7 +58,7 @@ fn dump_of(alloc: Global, session: &Session) -> Result<Text, NoMemory>
     }
 }
 
-// Carries out a script, and writes the dump behind it.
+// Carries out a script, and writes the dump after it.
 fn write_dump<K: Sink>(
     alloc: Global,
     session: &mut Session,
@@ -74,7 +74,7 @@ fn write_dump<K: Sink>(
     write_all(sink, text.items())
 }
 
-/// Writes the dump of the run behind the script.
+/// Writes the dump of the run after the script.
 pub fn dump<K: Sink>(
     alloc: Global,
     fuel: u32,

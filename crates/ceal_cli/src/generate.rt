@@ -22,7 +22,7 @@ use ceal_session::session::Session;
 use std::alloc::Global;
 use std::mem::forget;
 
-// Writes the replies to the script behind the mark from that of the first run on.
+// Writes the replies to the script after the mark from that of the first run on.
 fn run<K: Sink>(
     alloc: Global,
     input: Input<'_>,
@@ -41,7 +41,7 @@ fn run<K: Sink>(
     let lines = ScriptLines::new(script(input.bytes, &input.part));
     let mut session = Session::new(alloc, program, DEFAULT_FUEL)?;
     let told = reply_from_run(&mut session, lines, sink);
-    // The program ends behind this: its memory goes back with the process, and not piece by piece.
+    // The program ends after this: its memory goes back with the process, and not piece by piece.
     forget(session);
     told
 }

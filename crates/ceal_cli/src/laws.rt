@@ -48,7 +48,7 @@ pub fn one_side()
 }
 
 /// An input has an output in each mode that reads: the line of its fault where it is not accepted, and else what is asked
-/// for, also where the bytes behind the mark are the dump of no record; for `resume` it has one where a save that holds
+/// for, also where the bytes after the mark are the dump of no record; for `resume` it has one where a save that holds
 /// stands there. And a workload has its text. The lexer counts bytes in 32 bits, so a text of `2 ^ 32` bytes or more is no
 /// input.
 pub fn some_output()
@@ -89,7 +89,7 @@ pub fn verified()
     ceal_traceck::laws::sound_law();
 }
 
-/// What `save` wrote of an input, a line `%%` and more lines behind it are taken by `resume`, and it writes what `run` writes
+/// What `save` wrote of an input, a line `%%` and more lines after it are taken by `resume`, and it writes what `run` writes
 /// for the lines of both scripts, from those of the second one on: a session that is saved and resumed answers as one that
 /// goes on.
 pub fn resumed_output()
@@ -108,8 +108,8 @@ pub fn resumed_output()
     ceal_session::laws::resumed_law();
 }
 
-/// With `many`, the replies to the lines for one of the first 64 names are those that its session alone gives to them, so
-/// they depend on these lines alone. The lines for any other name are refused.
+/// With `many`, the replies to the lines for one of the first 64 names are those that its session gives to them by itself, so
+/// they depend only on these lines. The lines for any other name are refused.
 pub fn own_replies()
     ensures own { OwnRepliesLaw Replies }
     ensures refused { Others_refused_law Replies }

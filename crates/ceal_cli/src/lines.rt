@@ -39,7 +39,7 @@ fn line_end(text: &[u8]) -> Option<usize>
     text.iter().position(|b| *b == b'\n')
 }
 
-/// The text before the first line feed, and the text behind it, where there is a line feed.
+/// The text before the first line feed, and the text after it, where there is a line feed.
 fn cut_line(text: &[u8]) -> (&[u8], Option<&[u8]>)
     ensures lines { pieces_of text.now ≡ result.0.now ∷ pieces_left (option_copied result.1) }
     ensures whole { IfSome result.1 (λ rest. text.now ≡ result.0.now ++ 10 ∷ rest.now) }

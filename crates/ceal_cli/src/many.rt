@@ -56,7 +56,7 @@ fn reply_all<K: Sink>(
     Ok(())
 }
 
-/// Writes the replies to the script behind the mark, each by the session that its line names.
+/// Writes the replies to the script after the mark, each by the session that its line names.
 pub fn many<K: Sink>(
     alloc: Global,
     fuel: u32,

@@ -18,7 +18,7 @@ use ceal_types::seed::Seed;
 use std::alloc::Global;
 use std::marker::Model;
 
-/// What sessions begin with: the program, and how many steps a run may take. Contracts alone speak of it.
+/// What sessions begin with: the program, and how many steps a run may take. Only contracts speak of it.
 #[derive(Drop)]
 pub struct Start {
     pub program: Program,

@@ -84,7 +84,7 @@ fn resumed(
     }
 }
 
-/// Writes the replies to the script behind the second mark, from the save before it on, and says whether there is one that
+/// Writes the replies to the script after the second mark, from the save before it on, and says whether there is one that
 /// holds. Where there is none, the line that says why is written.
 pub fn resume<K: Sink>(
     alloc: Global,
@@ -113,7 +113,7 @@ pub fn resume<K: Sink>(
         Ok(session) => {
             let mut session = session;
             let told = reply_all(&mut session, ScriptLines::new(script(bytes, &part)), sink);
-            // The program ends behind this: its memory goes back with the process, and not piece by piece.
+            // The program ends after this: its memory goes back with the process, and not piece by piece.
             forget(session);
             told?;
             Ok(true)

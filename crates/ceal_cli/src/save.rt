@@ -30,7 +30,7 @@ use ceal_theory::names::renaming_law;
 use ceal_types::seed::Seed;
 use std::alloc::Global;
 
-// The source part, a line `%%`, and the save. Where one of its counts has no room in 32 bits, there is no memory for so many.
+// The source part, a line `%%`, and the save. Where one of its counts has no room in 32 bits, there is no memory for that many.
 fn text_of(alloc: Global, source: &[u8], saved: &Saved) -> Result<Text, NoMemory>
     requires names { AreSpelled saved.now.names }
     requires core { all_core saved.now.kept.forest ≡ true }
@@ -47,7 +47,7 @@ fn text_of(alloc: Global, source: &[u8], saved: &Saved) -> Result<Text, NoMemory
     Ok(text)
 }
 
-// The save of the session behind its source part, or the line that there is no run to save.
+// The save of the session after its source part, or the line that there is no run to save.
 fn save_of(alloc: Global, source: &[u8], session: &Session) -> Result<Text, NoMemory>
     ensures { IfOk result (λ text. IsSaveFrom source.now (situation session.now) text) }
 {
@@ -63,7 +63,7 @@ fn save_of(alloc: Global, source: &[u8], session: &Session) -> Result<Text, NoMe
     }
 }
 
-// Carries out a script, and writes the save behind it.
+// Carries out a script, and writes the save after it.
 fn write_save<K: Sink>(
     alloc: Global,
     session: &mut Session,
@@ -80,7 +80,7 @@ fn write_save<K: Sink>(
     write_all(sink, text.items())
 }
 
-/// Writes the source part, a line `%%`, and the save of the session behind the script.
+/// Writes the source part, a line `%%`, and the save of the session after the script.
 pub fn save<K: Sink>(
     alloc: Global,
     fuel: u32,

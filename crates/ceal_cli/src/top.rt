@@ -185,7 +185,7 @@ pub fn ceal_main<S: Source, K: Sink>(
     ensures write_fault { result ≡ Status.WriteFault
         → Rose (K.faults sink.old) (K.faults sink.new) }
 
-    // Where the words ask for nothing, that is the answer, but for want of memory, and nothing is written.
+    // Where the words ask for nothing, that is the answer, unless memory runs out, and nothing is written.
     ensures undefined { ¬ AreDefined (texts words.now) → (result ≡ Status.Usage)
         ⊎ (result ≡ Status.Memory) }
     ensures untouched { ¬ AreDefined (texts words.now)
@@ -214,7 +214,7 @@ pub fn ceal_main<S: Source, K: Sink>(
     }
 }
 
-/// What is told of a status on standard error.
+/// What is said of a status on standard error.
 pub fn status_line(status: Status) -> &'static str
     ensures { result.now ≡ status_text status }
 {

@@ -50,7 +50,7 @@ fn checked(alloc: Global, code: &Code, bytes: &[u8]) -> Result<&'static str, NoM
     }
 }
 
-/// Writes what the checker says of the dump behind the mark.
+/// Writes what the checker says of the dump after the mark.
 pub fn verify<K: Sink>(
     alloc: Global,
     input: Input<'_>,

@@ -20,7 +20,7 @@ pub enum Mode {
     Check,
     /// the trace code of the source part, and else its first fault
     List,
-    /// the replies to the script, where a run may take so many steps
+    /// the replies to the script, where a run may take that many steps
     Run(u32),
     /// the replies of a workload, which no input is read for
     Gen {
@@ -28,15 +28,15 @@ pub enum Mode {
         seed: u32,
         size: u32,
     },
-    /// the dump of the run's record behind the script, where a run may take so many steps
+    /// the dump of the run's record after the script, where a run may take that many steps
     Dump(u32),
-    /// what the checker says of the dump behind the mark
+    /// what the checker says of the dump after the mark
     Verify,
-    /// the replies to a script of many sessions, where a run may take so many steps
+    /// the replies to a script of many sessions, where a run may take that many steps
     Many(u32),
-    /// the source part and the save of the session behind the script, where a run may take so many steps
+    /// the source part and the save of the session after the script, where a run may take that many steps
     Save(u32),
-    /// the replies to the script behind the save behind the mark
+    /// the replies to the script after the save after the mark
     Resume,
 }
 
@@ -56,7 +56,7 @@ fn kind(word: &str) -> Option<Workload>
     }
 }
 
-// The mode of the words behind `gen`.
+// The mode of the words after `gen`.
 fn workload(word: &str, seed: &str, size: &str) -> Option<Mode>
     ensures { MatchOption result
         (ChoosesNone (codes "gen" ∷ word.now ∷ seed.now ∷ size.now ∷ []) None)

@@ -4,7 +4,7 @@ pub mod TypeSteps
 pub mod TreeSteps
 pub mod StmtSteps
 pub mod TableSteps
--- what this crate alone cites
+-- what only this crate cites
 pub mod CheckSteps
 pub mod PathSteps
 pub mod ListSteps

@@ -7,6 +7,6 @@ pub mod ReplayedCall
 pub mod AfterLaws
 pub mod RunEnds
 pub mod Increment
--- what this crate alone cites
+-- what only this crate cites
 pub mod StackOver
 pub mod Samples

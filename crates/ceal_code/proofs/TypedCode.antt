@@ -5,7 +5,7 @@ pub mod TypedRun
 pub mod ShapesKept
 pub mod FittingWords
 pub mod FittingInputs
--- what this crate alone cites
+-- what only this crate cites
 pub mod TypedExpressions
 pub mod TypedStack
 pub mod TypedActs

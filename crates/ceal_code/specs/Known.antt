@@ -10,7 +10,7 @@ use Rattle.ceal_code.specs.Value.{Plain, Variables}
 abbrev pub Subset : List ℕ → List ℕ → Type 0
 Subset bs cs = (b : ℕ) → In b bs → In b cs
 
--- the block's plain words are there, and mention known blocks alone
+-- the block's plain words are there, and mention only known blocks
 pub record Held (inputs : ℕ) (bs : List ℕ) (x : Plain) (b : BlockId) : Type 0 where
   pub block : Block
   pub there : x b ≡ Some block

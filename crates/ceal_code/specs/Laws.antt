@@ -21,13 +21,13 @@ use Rattle.ceal_code.specs.Valid.{command_ok, valid}
 use Rattle.ceal_code.specs.Value.{Plain}
 use Rattle.ceal_code.specs.declared.command.Cmd.{Cmd}
 
--- where a stack names known blocks alone, and these name known blocks alone, the next step names no other, and is
+-- where a stack names only known blocks, and these name only known blocks, the next step names no other, and is
 -- the same over any plain words that agree on the known blocks
 abbrev pub StepLaw : Type 0
 StepLaw = (code : Code) (inputs : ℕ) (bs : List ℕ) (x y : Plain) → Holds inputs bs x → Agree inputs bs x y
     → (st : Stack) → KnownStack inputs bs st → KnownAct inputs bs (next code x st) × (next code x st ≡ next code y st)
 
--- so is what a new block holds, where its key names known blocks alone
+-- so is what a new block holds, where its key names only known blocks
 abbrev pub BlockLaw : Type 0
 BlockLaw = (code : Code) (inputs : ℕ) (bs : List ℕ) (x y : Plain) → Holds inputs bs x → Agree inputs bs x y
     → (key : Key) → KnownKey inputs bs key
@@ -73,7 +73,7 @@ pub record Ended (code : Code) (inputs : List Block) (f : ℕ) (args : List Word
   pub reaches : Reaches code (record { inputs = inputs; made = [] }) (started code f args) r.memory stack
   pub over : next code (block_at r.memory) stack ≡ Over
 
--- a run is at a state that it came to by so many steps, and goes on from there
+-- a run is at a state that it came to by that many steps, and goes on from there
 pub record GoesFurther (code : Code) (inputs : List Block) (f : ℕ) (args : List Word) (steps : ℕ) : Type 0 where
   pub memory : Blocks
   pub stack : Stack

@@ -6,7 +6,7 @@ abbrev pub on : Stack → Stack → Stack
 on Empty below = below
 on (Run u i env st) below = Run u i env (on st below)
 
--- the same step over another stack, whose own step comes where nothing is left
+-- the same step over another stack, whose own step comes when nothing is left
 abbrev pub act_on : Act → Stack → Act → Act
 act_on Over below later = later
 act_on (Quiet after) below later = Quiet (on after below)

@@ -41,7 +41,7 @@ pub fn do_all_fit(
     args.is_empty()
 }
 
-/// What the types of arguments go by: structs, the kinds of a function's variables, and which of these are known.
+/// What the types of arguments depend on: structs, the kinds of a function's variables, and which of these are known.
 #[derive(Drop)]
 struct Typing<'a> {
     structs: &'a [StructInfo],

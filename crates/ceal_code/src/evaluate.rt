@@ -99,7 +99,7 @@ fn remainder_of(x: i64, y: i64) -> i64
     if y == 0 { x } else { x.wrapping_rem(y) }
 }
 
-/// Whether the operator looks at the numbers of its words alone, and gives a number.
+/// Whether the operator looks only at the numbers of its words, and gives a number.
 #[tactic(auto, using(crate::proofs::Equations::ValueSteps::arithmetic_steps))]
 fn is_arithmetic(op: Binary) -> bool
     ensures { result ≡ true → IsArithmetic op }
@@ -288,7 +288,7 @@ impl<'a, P: PlainWords> Scope<'a, P> {
         }
     }
 
-    /// The same, from the numbers of its parts where it goes by them alone.
+    /// The same, from the numbers of its parts where it looks at nothing else.
     #[cycle(value)]
     #[inline(never)]
     fn whole_number(&self, e: &CodeExpr) -> i64

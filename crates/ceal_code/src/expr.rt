@@ -4,7 +4,7 @@ use ceal_base::boxed::Boxed;
 use ceal_base::items::Items;
 use ceal_base::operators::{Binary, Unary};
 
-/// The number of a variable in its function, parameters first; in an initialiser the parameters alone have one,
+/// The number of a variable in its function, parameters first; in an initialiser only the parameters have one,
 /// and `self` has none.
 #[derive(Clone, Copy, PartialEq, Eq, Debug)]
 pub struct VarId(pub u32);

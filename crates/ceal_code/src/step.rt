@@ -271,7 +271,7 @@ fn perform<'c, P: PlainWords>(
 
 impl Stack {
     /// The next step of the stack, which is that after it; a block that is made and a read are to be taken from it. After
-    /// want of memory it is of no further use.
+    /// running out of memory it is of no further use.
     #[tactic(auto, unfolding(crate::specs::Step::next))]
     pub fn step<'c, P: PlainWords>(
         &mut self,
@@ -345,7 +345,7 @@ impl Stack {
     }
 }
 
-/// The next step of the stack. After want of memory the stack is of no further use.
+/// The next step of the stack. After running out of memory the stack is of no further use.
 pub fn advance<P: PlainWords>(code: &Code, plain: &P, stack: &mut Stack) -> Result<Act, NoMemory>
     ensures act { IfOk result (λ a. next code.now (P.plain plain.now) (stack_in stack.old)
         ≡ act_in a (stack_in stack.new)) }

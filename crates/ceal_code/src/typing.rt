@@ -15,7 +15,7 @@ use ceal_base::typed::StructInfo;
 /// The type of an expression.
 #[derive(Clone, Copy)]
 pub enum ExprType {
-    /// this one alone
+    /// only this one
     Of(Kind),
     /// every pointer type: that of null
     AnyPointer,

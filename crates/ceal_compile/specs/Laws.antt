@@ -29,7 +29,7 @@ abbrev pub call_fits : List StructInfo → Blocks → Option TypedFunction → L
 call_fits structs m None words = false
 call_fits structs m (Some f) words = is_none f.initialiser && words_fit structs m (take f.params f.kinds) words
 
--- The arguments of a call fit the code's function exactly where they fit the program's.
+-- The arguments of a call fit the code's function exactly when they fit the program's.
 abbrev pub CallsLaw : Type 0
 CallsLaw =
     (p : Typed) (code : Code) → IsCodeOf p code → (structs : List StructInfo) (m : Blocks) (f : ℕ) (args : List Word)

@@ -6,7 +6,7 @@ ghost use Rattle.ceal_base.specs.declared.typed.Typed.{Typed as TypedRecord};
 ghost use Rattle.ceal_compile.specs.Laws.{CallsLaw, CompiledLaw, OneCodeLaw, SomeCodeLaw, SomeCompiledLaw, StructsLaw};
 ghost use Rattle.ceal_compile.specs.Source.{Comes};
 
-/// A law: an input comes to a program or to a first fault, where it is no longer than a place in it can be told.
+/// A law: an input comes to a program or to a first fault, if it is shorter than 2^32 bytes.
 pub fn some_answer()
     ensures law { (input : List ℕ) → length input < 2 ^ 32
         → (r : ResultOf TypedRecord FaultRecord) × Comes input r }
@@ -35,7 +35,7 @@ pub fn structs_law()
     ensures law { StructsLaw }
 {}
 
-/// A law: a call fits the code exactly where it fits the program.
+/// A law: a call fits the code exactly when it fits the program.
 pub fn calls_law()
     ensures law { CallsLaw }
 {}

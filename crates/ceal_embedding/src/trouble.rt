@@ -6,7 +6,7 @@ use ceal_engine::run_error::RunError;
 use std::io;
 use thiserror::Error;
 
-/// Why an example is given up. Of all these only want of memory, and a failing output, can come in these two.
+/// Why an example is given up. Of all these only running out of memory, and a failing output, can come in these two.
 #[derive(Clone, Copy, Debug, PartialEq, Eq, Error)]
 pub enum Trouble {
     #[error("out of memory")]

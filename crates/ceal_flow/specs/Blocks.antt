@@ -50,7 +50,7 @@ all_go_on (s ∷ rest) = goes_on s && all_go_on rest
 abbrev pub no_loop : ℕ → Exits
 no_loop done = record { done = done; behind = done; test = done }
 
--- and in the body of a loop that stands among these exits: its test is block `test`, and block `behind` comes after it
+-- and in the body of a loop that stands among these exits: its test is block `test`, and block `after` comes after it
 abbrev pub in_loop : Exits → ℕ → ℕ → Exits
 in_loop exits test behind = record { done = exits.done; behind = behind; test = test }
 

@@ -2,7 +2,7 @@
 
 ghost use Rattle.ceal_flow.specs.Laws.{ActLaw, KeptLaw, OneLaw, RunLaw, SomeLaw};
 
-/// A block is left out exactly where no path leads to it from the first block of a function.
+/// A block is left out exactly when no path leads to it from the first block of a function.
 pub fn kept_law()
     ensures law { KeptLaw }
 {}

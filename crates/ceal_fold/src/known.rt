@@ -41,7 +41,7 @@ impl Model for Known {
     ghost view = { λ k. unwrap_or k.shared [] };
 }
 
-/// One assignment alone.
+/// Only one assignment.
 fn begun(alloc: Global, v: VarId, last: Assigned) -> Result<Shared, NoMemory>
     ensures value { IfOk result (λ shared. (u : ℕ) → lookup (is_at (nat_cmp u)) shared
         ≡ (if is_at (nat_cmp v.0) u then Some last else lookup (is_at (nat_cmp u)) [])) }

@@ -52,7 +52,7 @@ impl Heap {
     }
 
     /// Makes a block of at most 255 words. It gets the number of a released block, or else the next number. `NoMemory`
-    /// also comes where 2^32 - 1 numbers were given out and none is free.
+    /// also comes when 2^32 - 1 numbers were given out and none is free.
     pub fn make(&mut self, shape: Shape, words: &[Word]) -> Result<NewBlock, NoMemory>
         requires few { length words.now ≤ 255 }
         ensures new { IfOk result (λ made. block_of self.old made.block ≡ None) }

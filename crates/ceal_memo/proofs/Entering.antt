@@ -47,7 +47,7 @@ module _ {K : Type 0} (eq : K → K → Bool) (laws : IsEquivalence eq) (old new
   }
 
   module _ (stamps : List ℕ) (absent : lookup (eq key) old ≡ None) (unique : IsDistinct eq (keys_of new)) where
-    -- a key that has none gets one behind the others
+    -- a key that has none gets one after the others
     pub entered_last : new ≡ old ++ (key, stamps) ∷ [] → IsEntered eq old new key (length old) stamps
     entered_last is = record {
       stored = key;

@@ -34,7 +34,7 @@ in_those test (s ∷ ss) t there passes = elim (eqb_tells s t) [
     by true p q rest = rw (p, q) rest
     by false p q rest = rw p rest
 
--- those behind the first stamp and up to the one that was passed last do not pass the test
+-- those after the first stamp and up to the one that was passed last do not pass the test
 pub record Passed (order stamps : List ℕ) (test : ℕ → Bool) (after last : ℕ) : Type 0 where
   pub here : is_in last order ≡ true
   pub behind : place after order ≤ place last order
@@ -45,7 +45,7 @@ module _ (order stamps : List ℕ) (test : ℕ → Bool) (after : ℕ) where
   passed_none here = record { here = here; behind = omega arith; others = λ t there passes later. later }
 
   module _ (last : ℕ) (passed : Passed order stamps test after last) where
-    -- nothing stands behind it
+    -- nothing stands after it
     pub passed_all : NoneAfter order stamps last → (until : ℕ) → NoneBetween order (those test stamps) after until
     passed_all none until t there later =
         let both = of_those test stamps t there in
@@ -79,7 +79,7 @@ module _ (order stamps : List ℕ) (test : ℕ → Bool) (after : ℕ) where
             omega (arith, nearest, apart);
       }
 
-      -- fewer stand behind the one that is passed next
+      -- fewer stand after the one that is passed next
       pub fewer_left : IsRising order stamps → length order - place next order < length order - place last order
       fewer_left rising =
           let later = first.behind in

@@ -9,11 +9,11 @@ use Rattle.ceal_base.specs.contracts.word.WordHash.TheImpl as word
 use Rattle.ceal_memo.specs.Keys.{ReadKey}
 use Rattle.ceal_memo.specs.Mixing.{number_of}
 
--- a digest with what has been fed behind it
+-- a digest with what has been fed after it
 abbrev pub behind : ℕ → List (List ℕ) → ℕ
 behind digest writes = fold (λ state bytes. mixed state (number_of bytes)) digest writes
 
--- a digest with words behind it
+-- a digest with words after it
 unfoldable pub words_behind : ℕ → List Word → ℕ
 words_behind digest [] = digest
 words_behind digest (w ∷ ws) = words_behind (behind digest (word.ghosts.hash_input w)) ws

@@ -8,7 +8,7 @@ use Rattle.ceal_order.specs.Rising.{count_before}
 abbrev pub stamps_at : {K : Type 0} → (K → K → Bool) → List (K × List ℕ) → K → List ℕ
 stamps_at eq entries key = unwrap_or (lookup (eq key) entries) []
 
--- with one more stamp, which stands behind those before it in the order
+-- with one more stamp, which stands after those before it in the order
 abbrev pub with_stamp : List ℕ → ℕ → List ℕ → List ℕ
 with_stamp order s stamps = insert stamps (count_before order s stamps) s
 

@@ -41,7 +41,7 @@ pub fn hash_of_alloc(key: &Key) -> u64
     }
 }
 
-// A digest with words behind it.
+// A digest with words after it.
 fn words_behind(digest: u64, words: &[Word]) -> u64
     ensures { result ≡ words_behind digest words.now }
 {

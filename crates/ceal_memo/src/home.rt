@@ -23,7 +23,7 @@ pub enum Home {
     In(u32),
 }
 
-/// The homes of the stamps, by their numbers: of each the number of its list. A stamp behind the end has none.
+/// The homes of the stamps, by their numbers: of each the number of its list. A stamp after the end has none.
 #[derive(Drop)]
 pub struct Homes {
     lists: Vec<u32>,
@@ -58,7 +58,7 @@ impl Homes {
         Ok(())
     }
 
-    // Adds homes behind the end. It is called seldom, and stands apart, so that the common way is short.
+    // Adds homes after the end. It is called seldom, and is a function of its own, so that the common way is short.
     #[inline(never)]
     fn widen(&mut self, count: usize) -> Result<(), NoMemory>
         requires less { length self.old < count }

@@ -1,7 +1,7 @@
 //! The memo table: the recorded reads and allocations by the hashes of their keys, among which change propagation finds
 //! what it can take again.
 //!
-//! Keys stand in the trace alone. Contracts see, for each hash, the list of the stamps of its entries, and who looks for a
+//! Keys are only in the trace. Contracts see, for each hash, the list of the stamps of its entries, and who looks for a
 //! key tells at which stamps it stands. The order of the stamps belongs to the caller: each call that compares stamps is
 //! handed it, and what is kept follows it.
 //!

@@ -156,7 +156,7 @@ fn put_at<K: Eq + Hash>(
     }
 }
 
-// Enters a list under a key that has none, behind the others. Where the key has one, nothing has changed: it gives the number of
+// Enters a list under a key that has none, after the others. Where the key has one, nothing has changed: it gives the number of
 // that list. A key is hashed once.
 fn enter<K: Eq + Hash + Drop>(
     lists: &mut IndexMap<K, Rising, BuildHasherDefault<Plain>>,
@@ -203,7 +203,7 @@ fn settle<K: Eq + Hash + Drop>(
     into_empty(lists, spares)
 }
 
-// The same, where lists are known that have become empty. It stands apart, so that the common way is short.
+// The same, where lists are known that have become empty. It is a function of its own, so that the common way is short.
 #[inline(never)]
 fn into_empty<K: Eq + Hash + Drop>(
     lists: &mut IndexMap<K, Rising, BuildHasherDefault<Plain>>,

@@ -42,7 +42,7 @@ impl Spares {
         self.numbers.len()
     }
 
-    /// Makes room for the numbers of so many lists, and of some beyond, so that none is lost later for want of memory.
+    /// Makes room for the numbers of that many lists, and of some beyond, so that none is lost later when there is no memory.
     pub fn make_room(&mut self, count: usize) -> Result<(), NoMemory>
         ensures same { self.new ≡ self.old }
     {
@@ -52,7 +52,7 @@ impl Spares {
         self.widen(count)
     }
 
-    // Makes room where there is none. It is called seldom, and stands apart, so that the common way is short.
+    // Makes room where there is none. It is called seldom, and is a function of its own, so that the common way is short.
     #[inline(never)]
     fn widen(&mut self, count: usize) -> Result<(), NoMemory>
         ensures same { self.new ≡ self.old }
@@ -66,7 +66,7 @@ impl Spares {
         Ok(())
     }
 
-    /// Notes a list that is empty, once: it goes behind the others, or nothing changes.
+    /// Notes a list that is empty, once: it goes after the others, or nothing changes.
     pub fn note(&mut self, number: u32)
         ensures noted { (self.new ≡ self.old) ⊎ (self.new ≡ self.old ++ number ∷ []) }
     {

@@ -44,7 +44,7 @@ pub record Rises (order : List ℕ) (cell : Cell) : Type 0 where
   pub writes : IsRising order (stamps_of cell.writes)
   pub reads : IsRising order cell.reads
 
--- a read behind a stamp, with no write between the two
+-- a read after a stamp, with no write between the two
 pub record Sees (order : List ℕ) (cell : Cell) (after read : ℕ) : Type 0 where
   pub there : is_in read cell.reads ≡ true
   pub behind : place after order < place read order

@@ -36,7 +36,7 @@ those_before order s [] = []
 those_before order s (w ∷ ws) =
     if nat_lt (place w.stamp order) (place s order) then w ∷ those_before order s ws else those_before order s ws
 
--- with one more, behind those that stand before it
+-- with one more, after those that stand before it
 abbrev pub with_one : List ℕ → ℕ → Word → List Write → List Write
 with_one order s value ws = insert ws (count_before order s (stamps_of ws)) (record { stamp = s; value = value })
 

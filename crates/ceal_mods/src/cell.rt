@@ -21,7 +21,7 @@ pub struct Cell {
 }
 
 impl Cell {
-    /// A modifiable with a base alone.
+    /// A modifiable with only a base.
     pub fn new(alloc: Global, base: Word) -> Cell
         ensures { result ≡ record { base = base; writes = []; reads = [] } }
     {
@@ -67,7 +67,7 @@ impl Cell {
         })
     }
 
-    /// The earliest read behind a stamp that no write parts from it.
+    /// The earliest read after a stamp that no write parts from it.
     pub fn affected(&self, order: &Order, after: Stamp) -> Option<Stamp>
         requires here { IsTrue (is_in after.0 order.now.stamps) }
         requires rises { Rises order.now.stamps self.now }

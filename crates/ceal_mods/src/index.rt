@@ -49,7 +49,7 @@ impl Index {
         self.far(place)
     }
 
-    // The slot of a place that is found by hashing. It stands apart, so that the others are found without it at little cost.
+    // The slot of a place that is found by hashing. It is a function of its own, so that the others are found without it at little cost.
     #[inline(never)]
     fn far(&self, place: Place) -> u32
         ensures { result ≡ far_of self.now place }

@@ -27,7 +27,7 @@ use std::marker::Model;
 
 /// The modifiables, each with its base, its writes and its reads; a place that was never touched has the base 0. Each
 /// call that is handed an order needs that they follow it, and leaves them so. A place is found by its numbers and a stamp
-/// by halves; a write or a read behind all others of its place goes in without a search. Removals and look-ups take no
+/// by halves; a write or a read after all others of its place goes in without a search. Removals and look-ups take no
 /// memory.
 #[derive(Drop)]
 pub struct Mods {
@@ -213,7 +213,7 @@ impl Mods {
         }
     }
 
-    /// The earliest read of a place behind a stamp that no write of the place parts from it.
+    /// The earliest read of a place after a stamp that no write of the place parts from it.
     pub fn affected(&self, order: &Order, place: Place, after: Stamp) -> Option<Stamp>
         requires here { IsTrue (is_in after.0 order.now.stamps) }
         requires follows { Follows order.now.stamps self.now }

@@ -10,7 +10,7 @@ use std::marker::Model;
 /// Stands for no slot.
 pub const NO_SLOT: u32 = u32::MAX;
 
-/// A row of slots by number. Behind its end there are none.
+/// A row of slots by number. After its end there are none.
 #[derive(Drop)]
 pub struct Row {
     slots: Vec<u32>,
@@ -61,7 +61,7 @@ impl Row {
     }
 }
 
-/// Rows of slots by number. Behind the last one there are no slots.
+/// Rows of slots by number. After the last one there are no slots.
 #[derive(Drop)]
 pub struct Sheet {
     rows: Vec<Row>,
@@ -105,7 +105,7 @@ impl Sheet {
     }
 }
 
-// Adds empty rows until there are so many.
+// Adds empty rows until there are that many.
 fn lengthen(rows: &mut Vec<Row>, count: usize) -> Result<(), NoMemory>
     ensures same { SameSlots rows.old.items rows.new.items }
     ensures enough { OnOk result (count ≤ length rows.new.items) }

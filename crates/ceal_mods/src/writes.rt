@@ -69,7 +69,7 @@ impl Writes {
         }
     }
 
-    /// The nearest write behind a stamp.
+    /// The nearest write after a stamp.
     pub fn first_after(&self, order: &Order, stamp: Stamp) -> Option<Stamp>
         requires here { IsTrue (is_in stamp.0 order.now.stamps) }
         requires rising { IsRising order.now.stamps (stamps_of self.now) }

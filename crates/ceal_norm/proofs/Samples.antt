@@ -45,7 +45,7 @@ inc = record {
   live = (0 ∷ 1 ∷ []) ∷ (1 ∷ 2 ∷ []) ∷ [] ∷ [];
 }
 
--- a unit begins with the function, and one behind the read, of what is live there
+-- a unit begins with the function, and one after the read, of what is live there
 inc_units : (code_of inc).units
     ≡ record { function = 0; params = var 0 ∷ var 1 ∷ []; body = ReadCmd (var 2) (VarCode (var 0)) (record { 0 = 1 }) (VarCode (var 1) ∷ []) ∷ [] }
     ∷ record { function = 0; params = var 1 ∷ var 2 ∷ []; body = WriteCmd (VarCode (var 1)) (BinaryCode Add (VarCode (var 2)) (NumCode (pos 1))) ∷ DoneCmd ∷ [] }

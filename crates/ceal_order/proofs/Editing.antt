@@ -30,7 +30,7 @@ numbers-insert ss i s = rw (numbers-append (take i ss) (s ∷ drop i ss), number
 pub numbers-remove : (ss : List Stamp) (i : ℕ) → numbers (remove ss i) ≡ remove (numbers ss) i
 numbers-remove ss i = rw (numbers-append (take i ss) (drop (suc i) ss), numbers-take i ss, numbers-drop (suc i) ss) refl
 
--- there are no numbers exactly where there are no stamps
+-- there are no numbers exactly when there are no stamps
 pub empty_tells : (ss : List Stamp) → ((length ss == 0) ≡ true) ↔ (numbers ss ≡ [])
 empty_tells [] = (λ h. refl, λ h. refl)
 empty_tells (s ∷ ss) = (λ h. absurd (let e : suc (length ss) ≡ 0 = eqb-true (suc (length ss)) 0 h in omega arith), λ h. absurd (cc))

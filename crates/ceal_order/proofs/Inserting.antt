@@ -1,4 +1,4 @@
--- A new link behind another.
+-- A new link after another.
 use Rattle.std.proofs.Common.{◌≡◌, ◌≢◌, ℕ, suc, inl, inr, ◌⊎◌, ◌-◌, ◌<◌, ◌^◌, true, false, List, [], ◌∷◌, ◌++◌, length, sym, ap, subst, ◌∙◌, arith}
 use Rattle.std.proofs.lemmas.Bool.Decides.{eqb_tells}
 use Rattle.ceal_order.specs.Stamps.{NotIn, Distinct, AllBelow, is_in, with_after}
@@ -157,7 +157,7 @@ module _ (old new : List Link) (s f l : ℕ) (S F : List ℕ) where
         room = let one = sound.room in omega (arith, one);
       }
 
--- labels given anew change nothing else
+-- labels given again change nothing else
 pub relabelled : (old mid : List Link) (free spare : ℕ) (S F : List ℕ) → Sound old free spare S F → SameLinks old mid → Rising (prev_of mid) (label_of mid) S → Sound mid free spare S F
 relabelled old mid free spare S F sound same rising =
     let long = sym same.long in
@@ -172,7 +172,7 @@ relabelled old mid free spare S F sound same rising =
       room = sound.room;
     }
 
--- what a new link behind s needs
+-- what a new link after s needs
 pub record Ready (links : List Link) (free s : ℕ) (S : List ℕ) : Type 0 where
   pub at_in : s < length links
   pub next_in : (next_of links s ≡ no_link) ⊎ (next_of links s < length links)

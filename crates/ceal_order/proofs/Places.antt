@@ -168,7 +168,7 @@ module _ (s n : ℕ) where
     ]
   ]
 
-  -- behind s they rise by one
+  -- after s they rise by one
   pub place_behind : (a : ℕ) (xs : List ℕ) → is_in a xs ≡ true → is_in n xs ≡ false → place s xs < place a xs → place a (with_after s n xs) ≡ place a xs + 1
   place_behind a [] found fresh low = absurd (cc)
   place_behind a (x ∷ xs) found fresh low = elim (eqb_tells x a) [
@@ -189,7 +189,7 @@ module _ (s n : ℕ) where
     ]
   ]
 
-  -- the new one stands directly behind s
+  -- the new one stands directly after s
   pub place_new : (xs : List ℕ) → is_in s xs ≡ true → is_in n xs ≡ false → place n (with_after s n xs) ≡ place s (with_after s n xs) + 1
   place_new [] found fresh = absurd (cc)
   place_new (x ∷ xs) found fresh = elim (eqb_tells x n) [
@@ -268,7 +268,7 @@ module _ (s : ℕ) where
     ]
   ]
 
-  -- behind s they fall by one
+  -- after s they fall by one
   pub place_beyond : (a : ℕ) (xs : List ℕ) → is_in a xs ≡ true → place s xs < place a xs → place a xs ≡ place a (without s xs) + 1
   place_beyond a [] found low = absurd (cc)
   place_beyond a (x ∷ xs) found low = elim (eqb_tells x a) [

@@ -8,7 +8,7 @@ use Rattle.ceal_order.proofs.Places.{apart, below_of, in_tail, length-without}
 use Rattle.ceal_order.proofs.Chains.{is_link, Distinct-front, AllBelow-front, prev_where, next_where, prev_next, stamps_are, seen}
 use Rattle.ceal_order.proofs.Inserting.{Chained-same, Rising-same, Distinct-apart}
 
--- ---- a list of distinct numbers, one of which moves behind it
+-- ---- a list of distinct numbers, one of which moves after it
 
 NotIn-in : (x f : ℕ) (xs ys : List ℕ) → x ≢ f → NotIn x (xs ++ ys) → NotIn x (xs ++ f ∷ ys)
 NotIn-in x f [] ys differ h = (differ, h)

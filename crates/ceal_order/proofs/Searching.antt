@@ -112,7 +112,7 @@ module _ (order : List ℕ) where
         | inr more ↦ rw (le-ltb (place x order) (place s order) more) (omega arith)
       ]
 
-  -- ---- the nearest one behind a stamp
+  -- ---- the nearest one after a stamp
 
   pub next_at : (s : ℕ) (xs : List ℕ) (n : ℕ) → IsRising order xs → n < length xs → place s order < place (get_or xs n 0) order
       → ((i : ℕ) → i < n → place (get_or xs i 0) order ≤ place s order) → IsFirstAfter order xs s (get_or xs n 0)
@@ -172,7 +172,7 @@ module _ (order : List ℕ) where
   rising_back [] ys rising = rising
   rising_back (x ∷ xs) ys rising = rising_back xs ys rising.2
 
-  -- where one of those behind stands before a stamp, all of those in front do
+  -- where one of those after stands before a stamp, all of those in front do
   pub count_all : (s : ℕ) (xs ys : List ℕ) → IsRising order (xs ++ ys) → 0 < count_before order s ys → count_before order s xs ≡ length xs
   count_all s [] ys rising some = refl
   count_all s (x ∷ xs) ys rising some = elim (cases_lt (place x order) (place s order)) [
@@ -180,7 +180,7 @@ module _ (order : List ℕ) where
     | inr le ↦ absurd (let none = count_none s x (xs ++ ys) le rising.1 in omega (arith, none, some, count_append s xs ys))
   ]
 
-  -- where one of those in front does not, none of those behind does
+  -- where one of those in front does not, none of those after does
   pub count_no_more : (s : ℕ) (xs ys : List ℕ) → IsRising order (xs ++ ys) → count_before order s xs < length xs → count_before order s ys ≡ 0
   count_no_more s xs ys rising less = elim (cases_lt 0 (count_before order s ys)) [
     | inl some ↦ absurd (let all = count_all s xs ys rising some in omega (arith, all, less))
@@ -224,7 +224,7 @@ module _ (order : List ℕ) where
   pub count_within : (s : ℕ) (ss : List Stamp) → count_before order s (numbers ss) ≤ length ss
   count_within s ss = omega (arith, count_le s (numbers ss), length-numbers ss)
 
-  -- where the one at the count does not stand behind, it is the stamp itself
+  -- where the one at the count does not stand after, it is the stamp itself
   pub parted_at_count : (s : ℕ) (xs : List ℕ) → IsRising order xs → (count_before order s xs < length xs → place s order < place (get_or xs (count_before order s xs) 0) order)
       → IsParted order xs s (count_before order s xs)
   parted_at_count s xs rising behind = record {

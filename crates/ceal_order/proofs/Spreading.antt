@@ -1,4 +1,4 @@
--- Labels given anew to links one after another.
+-- Labels given again to links one after another.
 use Rattle.std.proofs.Common.{◌≡◌, ◌≢◌, ℕ, suc, inl, inr, ◌+◌, ◌-◌, ◌*◌, ◌<◌, ◌≤◌, ◌^◌, true, List, [], ◌∷◌, ap, ◌∙◌, arith}
 use Rattle.std.proofs.Math.Nat.{mul-le-mul_right}
 use Rattle.std.proofs.lemmas.Bool.{cases_lt}
@@ -143,7 +143,7 @@ module _ (old new : List Link) (first count low gap size at last : ℕ) (line : 
   pub new_rising : Rising (prev_of new) (label_of new) (stamps_of old)
   new_rising = rising_by_places (prev_of old) (label_of old) (prev_of new) (label_of new) (stamps_of old) line.distinct line.rising spread.same.prev new_low new_step
 
-  -- room behind a link of the run
+  -- room after a link of the run
   pub new_room : label_of new at + gap ≤ 2 ^ 62
   new_room =
       let S = stamps_of old in

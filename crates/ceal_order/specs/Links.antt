@@ -79,7 +79,7 @@ pub record SameLinks (old new : List Link) : Type 0 where
   pub next : (k : ℕ) → next_of new k ≡ next_of old k
   pub prev : (k : ℕ) → prev_of new k ≡ prev_of old k
 
--- a new link was put behind another
+-- a new link was put after another
 pub record Spliced (old new : List Link) (at fresh label : ℕ) : Type 0 where
   pub long : length new ≡ length old
   pub next_at : next_of new at ≡ fresh
@@ -101,7 +101,7 @@ pub record Unlinked (old new : List Link) (at free : ℕ) : Type 0 where
   pub prev_other : (k : ℕ) → k ≢ next_of old at → prev_of new k ≡ prev_of old k
   pub label_other : (k : ℕ) → label_of new k ≡ label_of old k
 
--- so many spare links were added, and the first of them leads to those from free on
+-- that many spare links were added, and the first of them leads to those from free on
 pub record Grown (old new : List Link) (free first more : ℕ) : Type 0 where
   pub long : length new ≡ length old + more
   pub stamps : (spare : ℕ) → Sound old free spare (stamps_of old) (spares_of old free) → stamps_of new ≡ stamps_of old

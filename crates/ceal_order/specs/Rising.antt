@@ -24,17 +24,17 @@ count_before order s [] = 0
 count_before order s (t ∷ ts) =
     if nat_lt (place t order) (place s order) then suc (count_before order s ts) else count_before order s ts
 
--- of these stamps the nearest one behind a stamp
+-- of these stamps the nearest one after a stamp
 pub record IsFirstAfter (order stamps : List ℕ) (s next : ℕ) : Type 0 where
   pub there : is_in next stamps ≡ true
   pub behind : place s order < place next order
   pub nearest : (t : ℕ) → is_in t stamps ≡ true → place s order < place t order → place next order ≤ place t order
 
--- none of these stands behind a stamp
+-- none of these stands after a stamp
 abbrev pub NoneAfter : List ℕ → List ℕ → ℕ → Type 0
 NoneAfter order stamps s = (t : ℕ) → is_in t stamps ≡ true → place t order ≤ place s order
 
--- the first n of these do not stand behind a stamp, and the next one does
+-- the first n of these do not stand after a stamp, and the next one does
 pub record IsParted (order stamps : List ℕ) (s n : ℕ) : Type 0 where
   pub within : n ≤ length stamps
   pub front : (i : ℕ) → i < n → place (slice_index stamps i) order ≤ place s order

@@ -11,7 +11,7 @@ use std::mem;
 // A chunk has no more items than this in a tree.
 pub const CHUNK_ITEMS: usize = 64;
 
-// A full chunk keeps so many where it is halved.
+// A full chunk keeps that many where it is halved.
 const HALF_CHUNK: usize = 32;
 
 // A chunk that has fewer items takes those of the next one, where both fit.

@@ -14,7 +14,7 @@ const LABELS: u64 = 1 << 62;
 /// Into how many shares the room between two links is parted. Only the first one is before the new link.
 const SHARES: u64 = 16;
 
-/// A label that is free directly after a link; where there is none, labels are given anew round it first.
+/// A label that is free directly after a link; where there is none, labels are given again round it first.
 pub fn fresh_label(links: &mut Vec<Link>, at: u32) -> u64
     requires line { IsLine links.old.items (stamps_of links.old.items) }
     requires here { IsTrue (is_in at (stamps_of links.old.items)) }
@@ -40,8 +40,8 @@ fn fresh_label_in(links: &mut [Link], at: u32) -> u64
     }
 }
 
-// A label that is free directly after a link, where there is one: between two links a small share of the room behind the
-// first one, since what is put in next mostly comes directly behind it. Behind the last link, and between the first and the
+// A label that is free directly after a link, where there is one: between two links a small share of the room after the
+// first one, since what is put in next mostly comes directly after it. After the last link, and between the first and the
 // second, the room is shared among all links, so that many can follow there.
 fn free_label(links: &[Link], at: u32) -> Option<u64>
     requires line { IsLine links.now (stamps_of links.now) }
@@ -76,7 +76,7 @@ fn free_step(room: u64, shares: u64) -> Option<u64>
     Some((room / shares).min(room - 1).max(1))
 }
 
-// Gives labels anew round a link, and a label that is then free directly after it. It is called seldom, and stands apart, so that
+// Gives labels again round a link, and a label that is then free directly after it. It is called seldom, and is a function of its own, so that
 // the common way is short.
 #[inline(never)]
 fn relabel(links: &mut [Link], at: u32) -> u64
@@ -101,7 +101,7 @@ fn share_of(room: u64) -> u64
     (room / SHARES).max(1)
 }
 
-// How far apart so many labels may lie in a range of 2^bits.
+// How far apart that many labels may lie in a range of 2^bits.
 fn gap_in(count: u32, bits: u32) -> u64
     requires some { 0 < count }
     requires fewest { 3 ≤ bits }

@@ -41,7 +41,7 @@ pub fn prev_at(links: &[Link], at: u32) -> u32
     links[at as usize].prev
 }
 
-// Puts a new link behind another.
+// Puts a new link after another.
 fn splice_slice(links: &mut [Link], at: u32, new: u32, label: u64)
     requires at { at < length links.old }
     requires new { new < length links.old }
@@ -64,7 +64,7 @@ fn splice_slice(links: &mut [Link], at: u32, new: u32, label: u64)
     };
 }
 
-// Takes a link out that stands behind another, and puts it before a spare one.
+// Takes a link out that stands after another, and puts it before a spare one.
 fn unlink_slice(links: &mut [Link], at: u32, free: u32)
     requires at { at < length links.old }
     requires prev { prev_of links.old at < length links.old }
@@ -85,7 +85,7 @@ fn unlink_slice(links: &mut [Link], at: u32, free: u32)
     gone.next = free;
 }
 
-/// Puts a new link with this label behind another.
+/// Puts a new link with this label after another.
 pub fn splice(links: &mut Vec<Link>, at: u32, new: u32, label: u64)
     requires at { at < length links.old.items }
     requires new { new < length links.old.items }
@@ -98,7 +98,7 @@ pub fn splice(links: &mut Vec<Link>, at: u32, new: u32, label: u64)
     splice_slice(links, at, new, label);
 }
 
-/// Takes a link out that stands behind another, and puts it before a spare one.
+/// Takes a link out that stands after another, and puts it before a spare one.
 pub fn unlink(links: &mut Vec<Link>, at: u32, free: u32)
     requires at { at < length links.old.items }
     requires prev { prev_of links.old.items at < length links.old.items }
@@ -111,7 +111,7 @@ pub fn unlink(links: &mut Vec<Link>, at: u32, free: u32)
     unlink_slice(links, at, free);
 }
 
-/// Adds so many spare links, and gives the first of them, which leads to those that were there from `free` on. Where
+/// Adds that many spare links, and gives the first of them, which leads to those that were there from `free` on. Where
 /// there is no memory for all of them, none is added.
 pub fn add_spares(links: &mut Vec<Link>, free: u32, more: usize) -> Result<u32, NoMemory>
     requires { length links.old.items + more < 2 ^ 32 }

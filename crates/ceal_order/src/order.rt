@@ -73,7 +73,7 @@ impl Order {
         n <= self.spare
     }
 
-    /// Makes room for `n` insertions without taking memory, and for some more. `NoMemory` also comes where there would
+    /// Makes room for `n` insertions without taking memory, and for some more. `NoMemory` also comes when there would
     /// be 2^32 - 1 stamps or more, the spare ones counted.
     ///
     /// How many more is not told, but for a bound. Were it told, the numbers of the next stamps would follow, since each

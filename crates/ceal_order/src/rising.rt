@@ -63,7 +63,7 @@ impl Rising {
         searched(order, &self.stamps, stamp)
     }
 
-    /// The nearest one behind a stamp, None where none stands behind it.
+    /// The nearest one after a stamp, None where none stands after it.
     pub fn first_after(&self, order: &Order, stamp: Stamp) -> Option<Stamp>
         requires here { IsTrue (is_in stamp.0 order.now.stamps) }
         requires rising { IsRising order.now.stamps self.now }
@@ -75,7 +75,7 @@ impl Rising {
         next_of(order, &self.stamps, stamp)
     }
 
-    /// Puts a stamp in that is not there, behind those that stand before it, and says how many those are.
+    /// Puts a stamp in that is not there, after those that stand before it, and says how many those are.
     pub fn insert(&mut self, order: &Order, stamp: Stamp) -> Result<usize, NoMemory>
         requires here { IsTrue (is_in stamp.0 order.now.stamps) }
         requires rising { IsRising order.now.stamps self.old }
@@ -142,7 +142,7 @@ fn searched(order: &Order, stamps: &ShortList<Stamp>, stamp: Stamp) -> usize
     stamps.count_before(order, stamp)
 }
 
-// The nearest one behind a stamp.
+// The nearest one after a stamp.
 fn next_of(order: &Order, stamps: &ShortList<Stamp>, stamp: Stamp) -> Option<Stamp>
     requires here { IsTrue (is_in stamp.0 order.now.stamps) }
     requires rising { IsRising order.now.stamps (numbers stamps.now) }
@@ -159,7 +159,7 @@ fn next_of(order: &Order, stamps: &ShortList<Stamp>, stamp: Stamp) -> Option<Sta
     }
 }
 
-// How many do not stand behind a stamp.
+// How many do not stand after a stamp.
 fn past(order: &Order, stamps: &ShortList<Stamp>, stamp: Stamp) -> usize
     requires here { IsTrue (is_in stamp.0 order.now.stamps) }
     requires rising { IsRising order.now.stamps (numbers stamps.now) }

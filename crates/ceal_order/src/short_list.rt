@@ -129,7 +129,7 @@ impl ShortList<Stamp> {
     }
 }
 
-// An item, and another one before it or behind it.
+// An item, and another one before it or after it.
 fn pair<T: Copy>(
     alloc: Global,
     first: T,

@@ -14,7 +14,7 @@ use ceal_gen::programs;
 use std::alloc::Global;
 use std::test::Fail;
 
-/// Writes the number behind that of the first modifiable into the second.
+/// Writes the number after that of the first modifiable into the second.
 pub const INC: &[u8] = b"
 ceal inc(mod int *a, mod int *b) {
   int x = read(a);

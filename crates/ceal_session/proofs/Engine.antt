@@ -1,7 +1,7 @@
 -- What the engine of a session has: the source's run, a past of the definition, and its trace with its cost.
 -- what crates above cite
 pub mod ProgramAndCode
--- what this crate alone cites
+-- what only this crate cites
 pub mod EngineRunIsSource
 pub mod EngineKeepsPast
 pub mod RunLeavesPast

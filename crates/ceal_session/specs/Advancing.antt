@@ -40,7 +40,7 @@ phase_behind (Ok Done) = Finished
 phase_behind (Ok Anew) = Finished
 phase_behind (Err e) = Dropped
 
--- the journal behind it, where the run has these steps
+-- the journal after it, where the run has these steps
 abbrev pub journal_behind : ℕ → JournalState → Outcome → JournalState
 journal_behind steps j (Ok More) = j
 journal_behind steps j (Ok Done) = completed j
@@ -76,7 +76,7 @@ Completes (Ok Anew) e = IsPresent e
 Completes (Err OutOfFuel) e = fresh_of e ≡ None
 Completes (Err Memory) e = ⊤
 
--- a repair is one of a run of the call, and goes on only where so many reads were to be run anew
+-- a repair is one of a run of the call, and goes on only where that many reads were to be re-executed
 abbrev pub Began : Outcome → EngineState → Call → Option ℕ → Type 0
 Began (Ok More) e call reads = (has_run e.phase ≡ true) × (is_some reads ≡ true) × (e.call ≡ Some call)
 Began (Ok Done) e call reads = (has_run e.phase ≡ true) × (e.call ≡ Some call)

@@ -50,7 +50,7 @@ CanTell s PartDone = Unit {0}
 CanTell s (Refused r) = Unit {0}
 CanTell s (Told q) = IsReady s × IsFor s q
 
--- a part of a repair runs one stale read anew at least
+-- a part of a repair re-executes at least one stale read
 abbrev pub HasReads : Command → Type 0
 HasReads (Slice reads) = 1 ≤ reads
 HasReads _ = Unit {0}

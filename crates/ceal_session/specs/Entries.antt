@@ -17,7 +17,7 @@ pub data Entry : Type 0 where
   More : Entry
   Out : Entry
 
--- the entry of a line behind which this is left of runs, with its bound
+-- the entry of a line after which this is left of runs, with its bound
 abbrev pub entry_of : Past → ℕ → Entry
 entry_of NoTrace bound = Out
 entry_of (Traced l) bound = Counted (record { work = l.work; bound = bound })
@@ -31,21 +31,21 @@ entries_by (Ok call) entry = entry ∷ []
 abbrev pub entries_in : Situation → Option Command → List Entry
 entries_in m command = entries_by (call_in m.state command) (entry_of (past_in m command) (bound_in m command))
 
--- The entries are read off the situations behind the lines, one line after another.
+-- The entries are read off the situations after the lines, one line after another.
 unfoldable pub AreEntries : Situation → List (List ℕ) → List Entry → Type 0
 AreEntries m [] entries = entries ≡ []
 AreEntries m (line ∷ lines) entries =
     (command : Option Command) × (later : List Entry) × Reads line command
     × AreEntries (behind m command) lines later × (entries ≡ entries_in m command ++ later)
 
--- whether a repair goes on behind the line of the first entry
+-- whether a repair goes on after the line of the first entry
 abbrev pub goes_on : List Entry → Bool
 goes_on (More ∷ later) = true
 goes_on (Counted numbers ∷ later) = false
 goes_on (Out ∷ later) = false
 goes_on [] = false
 
--- the latest numbers, and the entries that are still to come, behind a line
+-- the latest numbers, and the entries that are still to come, after a line
 pub record Told : Type 0 where
   pub latest : Numbers
   pub coming : List Entry

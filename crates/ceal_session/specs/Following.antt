@@ -1,4 +1,4 @@
--- What a session has behind a line.
+-- What a session has after a line.
 use Rattle.std.specs.Prelude.{◌≡◌, ◌⊎◌, ℕ, ◌≤◌, true, Option, Some, None, IfSome, Result, Ok, Err, List}
 use Rattle.ceal_base.specs.Trace.{steps_of}
 use Rattle.ceal_base.specs.declared.call.Call.{Call}
@@ -44,7 +44,7 @@ abbrev pub Goes : Situation → Result Call Refusal → Option ℕ → Situation
 Goes m (Err r) reads n = Keeps m n
 Goes m (Ok call) reads n = Retraces m call reads n
 
--- So it is behind the line.
+-- So it is after the line.
 pub record Repairs (m : Situation) (line : List ℕ) (n : Situation) : Type 0 where
   pub command : Option Command
   pub reads : Reads line command

@@ -15,19 +15,19 @@ use Rattle.ceal_session.specs.Steps.{call_of}
 abbrev pub OneCommandLaw : Type 0
 OneCommandLaw = (line : List ℕ) (c d : Option Command) → Reads line c → Reads line d → c ≡ d
 
--- A line has one reply, by the state, the numbers and whether a repair goes on behind it.
+-- A line has one reply, by the state, the numbers and whether a repair goes on after it.
 abbrev pub OneAnswerLaw : Type 0
 OneAnswerLaw =
     (s : State) (numbers : Numbers) (more : Bool) (line a b : List ℕ) (m n : State)
     → Answers s numbers more line a m → Answers s numbers more line b n → a ≡ b
 
--- The state behind it says nothing of the numbers.
+-- The state after it says nothing of the numbers.
 abbrev pub OneStateLaw : Type 0
 OneStateLaw =
     (s : State) (v w : Numbers) (more : Bool) (line a b : List ℕ) (m n : State) → Answers s v more line a m
     → Answers s w more line b n → m ≡ n
 
--- So a line has one reply in a situation, and one situation behind it, and so have lines one after another.
+-- So a line has one reply in a situation, and one situation after it, and so have lines one after another.
 abbrev pub OneReplyLaw : Type 0
 OneReplyLaw =
     (m : Situation) (line a b : List ℕ) (n o : Situation) → Replies m line a n → Replies m line b o → (a ≡ b) × (n ≡ o)
@@ -37,7 +37,7 @@ OneScriptLaw =
     (m : Situation) (lines : List (List ℕ)) (a b : List ℕ) (n o : Situation) → Leads m lines a n
     → Leads m lines b o → (a ≡ b) × (n ≡ o)
 
--- Lines behind others go on from the situation behind those.
+-- Lines after others go on from the situation after those.
 abbrev pub JoinedLaw : Type 0
 JoinedLaw =
     (m n o : Situation) (front back : List (List ℕ)) (a b : List ℕ) → Leads m front a n → Leads n back b o
@@ -47,7 +47,7 @@ JoinedLaw =
 abbrev pub BegunLaw : Type 0
 BegunLaw = (p : Program) (fuel : ℕ) → IsCompiled p → IsIn (opened p fuel) (opened p fuel)
 
--- In a situation that a session comes to each line has a reply, and the one behind it is such a one.
+-- In a situation that a session comes to each line has a reply, and the one after it is such a one.
 pub record Replied (m : Situation) (line : List ℕ) : Type 0 where
   pub text : List ℕ
   pub next : Situation
@@ -67,7 +67,7 @@ pub record Led (m : Situation) (lines : List (List ℕ)) : Type 0 where
 abbrev pub SomeScriptLaw : Type 0
 SomeScriptLaw = (m : Situation) (lines : List (List ℕ)) → Stands m → Led m lines
 
--- The line is answered in the situation as the session answered it, and the session is in the situation behind it.
+-- The line is answered in the situation as the session answered it, and the session is in the situation after it.
 pub record AnswersIn (m : Situation) (line text : List ℕ) (session : Situation) : Type 0 where
   pub next : Situation
   pub replies : Replies m line text next

@@ -1,9 +1,9 @@
--- The replies to the lines of a script. The situations between the lines are the definition's: behind each
--- line, the state that the plain meaning of the source gives, run anew from the edited inputs, and what
+-- The replies to the lines of a script. The situations between the lines are the definition's: after each
+-- line, the state that the plain meaning of the source gives, run again on the edited inputs, and what
 -- change propagation over the program's code has left. A line is answered by the state alone, but for `work`
 -- and `bound`, which tell the numbers of the situation, and for `propagate READS`, which is answered `more`
--- where a repair goes on behind it. Whatever is written of a script speaks of these two relations, `Replies`
--- and `Leads`: its replies, the dump and the save behind it, the replies of one of many sessions, and those
+-- where a repair goes on after it. Whatever is written of a script speaks of these two relations, `Replies`
+-- and `Leads`: its replies, the dump and the save after it, the replies of one of many sessions, and those
 -- of a session that is resumed.
 use Rattle.std.specs.Prelude.{◌≡◌, ℕ, Bool, Option, Some, None, List, [], ◌∷◌, ◌++◌}
 use Rattle.ceal_code.specs.Program.{Code}
@@ -21,7 +21,7 @@ Reads line (Some command) = IsLineOf command line
 Reads line None = (command : Command) → IsLineOf command line → ⊥
 
 -- The line is answered by the text, where these are the latest numbers, and `more` says whether a repair goes
--- on behind the line; the state after it is `next`.
+-- on after the line; the state after it is `next`.
 pub record Answers (s : State) (numbers : Numbers) (more : Bool) (line text : List ℕ) (next : State) : Type 0 where
   pub command : Option Command
   pub reads : Reads line command
@@ -32,7 +32,7 @@ pub record Answers (s : State) (numbers : Numbers) (more : Bool) (line text : Li
 abbrev pub opening : Code → State → Situation
 opening code s = record { state = s; code = code; past = NoTrace; bound = 0 }
 
--- the situation behind a line of this command, or of none
+-- the situation after a line of this command, or of none
 abbrev pub behind : Situation → Option Command → Situation
 behind m command = record {
   state = (answered_line m.state (goes (past_in m command)) command).state;
@@ -41,14 +41,14 @@ behind m command = record {
   bound = bound_in m command;
 }
 
--- The line is answered by the text, and the situation behind it is the other one.
+-- The line is answered by the text, and the situation after it is the other one.
 pub record Replies (m : Situation) (line text : List ℕ) (n : Situation) : Type 0 where
   pub command : Option Command
   pub reads : Reads line command
   pub reply : IsText m.state (numbers_in m) (answered_line m.state (goes (past_in m command)) command).reply text
   pub next : n ≡ behind m command
 
--- The lines are answered, one after another, by these bytes, and the situation behind them is the other one.
+-- The lines are answered, one after another, by these bytes, and the situation after them is the other one.
 unfoldable pub Leads : Situation → List (List ℕ) → List ℕ → Situation → Type 0
 Leads m [] out n = (out ≡ []) × (n ≡ m)
 Leads m (line ∷ lines) out n =

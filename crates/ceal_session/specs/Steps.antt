@@ -30,7 +30,7 @@ pub record Step : Type 0 where
   pub reply : Reply
   pub state : State
 
--- a reply that no change stands behind
+-- a reply that no change stands after
 abbrev pub IsQuiet : Reply → Type 0
 IsQuiet Done = ⊥
 IsQuiet OutOfFuel = ⊥
@@ -156,7 +156,7 @@ has_no_run s = s.out_of_fuel || is_none s.call
 abbrev pub asked : State → Query → Reply
 asked s q = if has_no_run s then Refused C7 else if s.pending then Refused C8 else Told q
 
--- `get`: a modifiable alone has a content
+-- `get`: only a modifiable has a content
 abbrev pub got : State → Sense → Reply
 got s (IsWord (At p)) = asked s (GetOf p)
 got s sense = if is_unknown sense then Refused C2 else Refused C4
@@ -172,12 +172,12 @@ call_of s Propagate = called_again s.call
 call_of s (Slice reads) = called_again s.call
 call_of s _ = Err C1
 
--- how many stale reads a line runs anew at most, where it says so
+-- how many stale reads a line re-executes at most, where it says so
 abbrev pub reads_of : Command → Option ℕ
 reads_of (Slice reads) = Some reads
 reads_of _ = None
 
--- what a command is answered; `more` says whether a repair goes on behind it, which a part of a repair alone looks at
+-- what a command is answered; `more` says whether a repair goes on after it, which a part of a repair alone looks at
 abbrev pub answered : State → Bool → Command → Step
 answered s more Blank = stays s Nothing
 answered s more (Mod name kind value) = made_of s name (mod_shape s kind) (value_sense s value ∷ [])

@@ -31,7 +31,7 @@ AsksNumbers (Some Work) = Unit {0}
 AsksNumbers (Some Bound) = Unit {0}
 AsksNumbers _ = ⊥
 
--- the line runs the call, and no repair goes on behind it
+-- the line runs the call, and no repair goes on after it
 pub record Completes (m : Situation) (line : List ℕ) (n : Situation) : Type 0 where
   pub command : Option Command
   pub reads : Reads line command
@@ -39,7 +39,7 @@ pub record Completes (m : Situation) (line : List ℕ) (n : Situation) : Type 0 
   pub runs : call_in m.state command ≡ Ok call
   pub ends : goes n.past ≡ false
 
--- The line has the same reply in both, unless it asks for numbers; and behind a completed run both have the same ones.
+-- The line has the same reply in both, unless it asks for numbers; and after a completed run both have the same ones.
 pub record LineAlike (m n : Situation) (line text other : List ℕ) (o p : Situation) : Type 0 where
   pub reply : ((command : Option Command) → Reads line command → AsksNumbers command → ⊥) → text ≡ other
   pub numbers : Completes m line o → numbers_in o ≡ numbers_in p

@@ -19,7 +19,7 @@ abbrev pub call_in : State → Option Command → Result Call Refusal
 call_in s None = Err C1
 call_in s (Some command) = call_of s command
 
--- how many stale reads the line runs anew at most, where it says so
+-- how many stale reads the line re-executes at most, where it says so
 abbrev pub reads_in : Option Command → Option ℕ
 reads_in None = None
 reads_in (Some command) = reads_of command
@@ -30,7 +30,7 @@ first_trace code s call = first_of code s.inputs s.fuel call.function call.args
 
 -- What the line leaves: what there was before it, where it runs no call. Else a slice of the repair that is
 -- pending, or of a new one of the trace, which goes on or is done; where there is no trace, or the steps that
--- were run anew are more than the fuel, the first trace; and nothing where the run from scratch is out of
+-- were re-executed are more than the fuel, the first trace; and nothing where the run from scratch is out of
 -- fuel.
 abbrev pub past_left : Code → State → Result Call Refusal → Option ℕ → Past → Past
 past_left code s (Err r) reads past = past
@@ -50,7 +50,7 @@ bound_by code s call None (Some r) bound = if is_done code s.inputs r then 0 els
 bound_by code s call (Some a) (Some r) bound =
     if is_done code s.inputs r then first_cost code s.fuel s.settled s.inputs call.function call.args else bound
 
--- the bound behind a line that begins with this past
+-- the bound after a line that begins with this past
 abbrev pub bound_left : Code → State → Result Call Refusal → Option ℕ → Past → ℕ → ℕ
 bound_left code s (Err r) reads past bound = bound
 bound_left code s (Ok call) reads past bound =

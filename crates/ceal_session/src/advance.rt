@@ -36,7 +36,7 @@ pub fn first_advanced(engine: &mut Engine, call: &Call) -> Result<Came, RunError
     came_anew(outcome)
 }
 
-/// A run that is dropped is run anew.
+/// A run that is dropped is run again.
 fn run_anew(engine: &mut Engine) -> Result<Came, RunError>
     requires dropped { engine.old.phase ≡ Dropped }
     ensures brings { (reads : Option ℕ) → Brought engine.old reads result engine.new }
@@ -48,7 +48,7 @@ fn run_anew(engine: &mut Engine) -> Result<Came, RunError>
     came_anew(outcome)
 }
 
-/// What is left of a repair, or so many stale reads of it.
+/// What is left of a repair, or that many stale reads of it.
 fn continued(engine: &mut Engine, reads: Option<u32>) -> Result<Came, RunError>
     requires run { has_run engine.old.phase ≡ true }
     requires some { reads ≢ Some 0 }
@@ -61,7 +61,7 @@ fn continued(engine: &mut Engine, reads: Option<u32>) -> Result<Came, RunError>
     came
 }
 
-/// The accepted call on the present inputs: a repair runs so many stale reads anew, or all of them.
+/// The accepted call on the present inputs: a repair re-executes that many stale reads, or all of them.
 pub fn advanced(engine: &mut Engine, reads: Option<u32>) -> Result<Came, RunError>
     requires called { engine.old.phase ≡ New → ⊥ }
     requires some { reads ≢ Some 0 }

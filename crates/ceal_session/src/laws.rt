@@ -6,7 +6,7 @@ ghost use Rattle.ceal_session.specs.Saves.{AlikeLaw, HeldLaw, OneSavedLaw, Resum
 ghost use Rattle.ceal_session.specs.Strangers.{StrangerLaw};
 
 /// A law: a line is one command's at most, and has one reply by a state and its numbers; so it has one in a situation, and one
-/// situation behind it.
+/// situation after it.
 pub fn one_reply()
     ensures command { OneCommandLaw }
     ensures answer { OneAnswerLaw }
@@ -17,7 +17,7 @@ pub fn one_reply()
     ceal_show::laws::one_text();
 }
 
-/// A law: lines have one text of replies in a situation, and one situation behind them, from which more lines go on.
+/// A law: lines have one text of replies in a situation, and one situation after them, from which more lines go on.
 pub fn one_script()
     ensures law { OneScriptLaw }
     ensures joined { JoinedLaw }
@@ -26,7 +26,7 @@ pub fn one_script()
 }
 
 /// A law: in a situation that a session comes to each line has a reply, and so have lines one after another; the situations
-/// behind them are such ones. So is a session that was left by want of memory.
+/// after them are such ones. So is a session that was left when memory ran out.
 pub fn some_reply()
     ensures begun { BegunLaw }
     ensures reply { SomeReplyLaw }
@@ -39,7 +39,7 @@ pub fn some_reply()
     ceal_show::laws::some_text();
 }
 
-/// A law: a session that is in a situation answers each line as is said there, and is in the situation behind it.
+/// A law: a session that is in a situation answers each line as is said there, and is in the situation after it.
 pub fn kept_line()
     ensures law { KeptLaw }
 {

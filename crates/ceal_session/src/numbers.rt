@@ -7,7 +7,7 @@ use ceal_base::no_memory::NoMemory;
 use ceal_base::text::Text;
 use ceal_base::typed::FieldInfo;
 
-/// A place in a list as a number of the program. Places past the numbers are want of memory.
+/// A place in a list as a number of the program. Places past the numbers are out of memory.
 fn number(place: Option<usize>) -> Result<Option<u32>, NoMemory>
     ensures { IfOk result (λ number. number ≡ place) }
 {

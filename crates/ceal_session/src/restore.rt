@@ -35,7 +35,7 @@ use ceal_types::numbers::Numbered;
 use ceal_types::seed::Seed;
 use std::alloc::Global;
 
-/// Whether a run of a session may be allowed so many steps.
+/// Whether a run of a session may be allowed that many steps.
 fn is_allowed(fuel: u32) -> bool
     ensures { IsTrue result ↔ IsAllowed fuel }
 {

@@ -26,7 +26,7 @@ fn modifiable(input: u32, field: u32) -> Sense
     }))
 }
 
-/// A name alone.
+/// A name by itself.
 fn whole_sense(input: u32, shape: Option<Shape>) -> Sense
     ensures { result ≡ block_sense input shape }
 {

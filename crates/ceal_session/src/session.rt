@@ -70,7 +70,7 @@ impl Model for Session {
 /// How many bytes an answer has at most after which the session is another one.
 const LONGEST_CHANGE: usize = 12;
 
-/// The memory of an answer after which the session is another one, which is taken before that.
+/// Reserves the memory of a reply before the state changes.
 fn prepare(alloc: Global) -> Result<Vec<u8>, NoMemory>
     ensures ready { IfOk result (λ bytes. length bytes.items ≡ 12) }
 {
@@ -182,7 +182,7 @@ impl Session {
     }
 
     /// The answer to a line, which has no line end: the reply with its line feed, and nothing for a blank line. After
-    /// want of memory the session is as before, or, where the line was an accepted `run` or `propagate`, as after out
+    /// running out of memory the session is as before, or, where the line was an accepted `run` or `propagate`, as after out
     /// of fuel. An answer of more than 12 bytes leaves the session as it was.
     pub fn answer(&mut self, line: &[u8]) -> Result<Answer, NoMemory>
         ensures reply { IfOk result
@@ -217,7 +217,7 @@ impl Session {
     }
 
     /// The record of the run of the accepted call on the inputs of this moment: its trace, whose blocks have the numbers 0,
-    /// 1 and so on in the order of their allocations, and the memory after it. There is none exactly where a line `steps`
+    /// 1 and so on in the order of their allocations, and the memory after it. There is none exactly when a line `steps`
     /// would be refused.
     pub fn recorded(&self) -> Result<Option<Record>, NoMemory>
         ensures { IfOk result
@@ -227,7 +227,7 @@ impl Session {
         self.state.recorded(self.alloc)
     }
 
-    /// The fuel, the replies to `work` and `bound`, the names of the inputs, and the record. There is none exactly where
+    /// The fuel, the replies to `work` and `bound`, the names of the inputs, and the record. There is none exactly when
     /// a line `steps` would be refused.
     pub fn saved(&self) -> Result<Option<Saved>, NoMemory>
         ensures saved { IfOk result
@@ -239,7 +239,7 @@ impl Session {
     }
 
     /// A session that goes on from a save, if it holds. The save may be any, from any maker: the checker goes over its
-    /// record, and the call is run anew, so nothing but the numbers of `work` and `bound` is taken from it on trust. Both
+    /// record, and the call is run again, so nothing but the numbers of `work` and `bound` is taken from it on trust. Both
     /// arguments are consumed on every path.
     pub fn restore(alloc: Global, program: Program, saved: Saved) -> Result<Session, RestoreError>
         requires compiled { IsCompiled program }

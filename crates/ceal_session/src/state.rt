@@ -268,7 +268,7 @@ impl State {
         came
     }
 
-    /// The accepted call on the present inputs, whose repair runs so many stale reads anew, or all of them; and how it
+    /// The accepted call on the present inputs, whose repair re-executes that many stale reads, or all of them; and how it
     /// came out.
     fn advance(&mut self, reads: Option<u32>) -> Result<Came, RunError>
         requires called { is_some self.old.state.call ≡ true }
@@ -317,7 +317,7 @@ impl State {
         whole_reply(&came)
     }
 
-    /// A part of it: so many stale reads at most are run anew, each with all that is inside it.
+    /// A part of it: at most that many stale reads are re-executed, each with all that is inside it.
     pub fn propagate_part(&mut self, reads: u32) -> Result<Reply, NoMemory>
         requires called { is_some self.old.state.call ≡ true }
         requires some { 1 ≤ reads }

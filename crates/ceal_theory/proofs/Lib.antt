@@ -7,6 +7,6 @@ pub mod Renaming
 pub mod SlicedRepair
 pub mod Nodes
 pub mod Work
--- what this crate alone cites
+-- what only this crate cites
 pub mod QueueCover
 pub mod SampleBox

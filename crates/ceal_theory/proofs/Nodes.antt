@@ -2,5 +2,5 @@
 -- what crates above cite
 pub mod EngineMoves
 pub mod TurnCourse
--- what this crate alone cites
+-- what only this crate cites
 pub mod Layers

@@ -1,5 +1,5 @@
 -- The reads that are not honest, covered by the queue.
--- what this crate alone cites
+-- what only this crate cites
 pub mod Cover
 pub mod TurnKeepsCover
 pub mod NodeChangesKeepCover

@@ -1,7 +1,7 @@
 -- The numbers of core blocks, renamed one to one.
 -- what crates above cite
 pub mod GivenNumbers
--- what this crate alone cites
+-- what only this crate cites
 pub mod NamedBeginning
 pub mod FlippedPairs
 pub mod RenamedTrace

@@ -8,7 +8,7 @@ pub mod FunctionOfRules
 pub mod FromScratch
 pub mod EndAsFromScratch
 pub mod DistinctBlocks
--- what this crate alone cites
+-- what only this crate cites
 pub mod RepairYields
 pub mod YieldsByStep
 pub mod Existence

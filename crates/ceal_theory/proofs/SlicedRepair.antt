@@ -4,7 +4,7 @@ pub mod SliceLaws
 pub mod CarriedLaws
 pub mod Soundness
 pub mod DoneReplays
--- what this crate alone cites
+-- what only this crate cites
 pub mod PastLaws
 pub mod SliceFunction
 pub mod PartYields

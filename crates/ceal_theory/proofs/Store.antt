@@ -10,6 +10,6 @@ pub mod FittingInputs
 pub mod MoreInputs
 pub mod WritesByPlace
 pub mod WordsOneByOne
--- what this crate alone cites
+-- what only this crate cites
 pub mod EqualContents
 pub mod Mentions

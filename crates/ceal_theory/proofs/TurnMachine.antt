@@ -3,6 +3,6 @@
 pub mod MachineLaws
 pub mod TurnKeepsEnd
 pub mod ChosenNumbers
--- what this crate alone cites
+-- what only this crate cites
 pub mod FlatMachine
 pub mod Segments

@@ -31,7 +31,7 @@ pub record AdjustsAs
 abbrev pub Adjusts : Code → List Block → ℕ → Trace → Trace → ℕ → Type 0
 Adjusts code inputs = AdjustsAs code inputs own
 
--- the first trace of a call: it is run anew with nothing left over; its blocks have the names of the numbers from 0 on
+-- the first trace of a call: it is run with nothing left over; its blocks have the names of the numbers from 0 on
 pub record FirstsAs
     (code : Code) (inputs : List Block) (names : ℕ → ℕ) (f : ℕ) (args : List Word) (new : Trace)
     (work : ℕ) : Type 0 where

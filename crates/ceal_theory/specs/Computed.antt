@@ -1,4 +1,4 @@
--- The repair of a trace as a function: the rules, with a bound on how deep steps that are run anew nest.
+-- The repair of a trace as a function: the rules, with a bound on how deep steps that are re-executed nest.
 use Rattle.std.specs.Prelude.{ℕ, zero, suc, ◌+◌, nat_le, Bool, true, false, Option, Some, None, List, if◌then◌else◌}
 use Rattle.ceal_base.specs.Block.{Block}
 use Rattle.ceal_base.specs.Operators.{same_word}
@@ -27,7 +27,7 @@ pub record Ran : Type 0 where
   pub items : Trace
   pub left : Trace
 
--- how a stack is run anew, one level deeper
+-- how a stack is re-executed, one level deeper
 abbrev pub Runner : Type 0
 Runner = State → Stack → Trace → Option Ran
 
@@ -113,7 +113,7 @@ perform code names again s old (Writes p value after) =
 perform code names again s old (Reads p u v args below) =
     read_by code again s old p u v args below (take_read p u v args old)
 
--- a stack is run anew with a leftover, at most so deep
+-- a stack is re-executed with a leftover, at most so deep
 unfoldable pub anew : Code → (ℕ → ℕ) → ℕ → Runner
 anew code names zero s st old = None
 anew code names (suc depth) s st old = perform code names (anew code names depth) s old (next code s.plain st)

@@ -105,7 +105,7 @@ pub record Moves (code : Code) (names : ℕ → ℕ) : Type 0 where
       → next code s.plain st ≡ Over
       → Leads code names (running_at s st (Fixes ∷ ws) (items_in (knots g ++ knot e End m ∷ rest)))
       (fixing_at s ws (ticks m ++ items_in rest)) (End ∷ [])
-  -- a taken read that ran anew is over: what is left over is revoked, and what is left over after its end is
+  -- a taken read that was re-executed is over: what is left over is revoked, and what is left over after its end is
   -- used from here on
   pub retaken : (s : State) (st below : Stack) (ws : List Wait) (g : Grove) (e m : ℕ) (rest : List Knot)
       → next code s.plain st ≡ Over

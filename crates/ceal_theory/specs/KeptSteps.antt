@@ -8,7 +8,7 @@ use Rattle.ceal_code.specs.Program.{Code}
 use Rattle.ceal_code.specs.Step.{Stack}
 use Rattle.ceal_theory.specs.Repair.{State, Fix, Mend, Anew}
 
--- how many steps are gone through and stay, which are those that are not run anew
+-- how many steps are gone through and stay, which are those that are not re-executed
 abbrev mutual
   pub kept_fix : {code : Code} {names : ℕ → ℕ} {s s' : State} {old new : Trace} → Fix code names s old s' new → ℕ
   kept_fix Fix.end = 0
@@ -24,7 +24,7 @@ abbrev mutual
   kept_mend (Mend.kept e f) = kept_fix f
   kept_mend (Mend.stale e a) = kept_anew a
 
-  -- the steps that are kept in what runs anew
+  -- the steps that are kept in what is re-executed
   pub kept_anew : {code : Code} {names : ℕ → ℕ} {s s' : State} {st : Stack} {old new left : Trace}
       → Anew code names s st old s' new left → ℕ
   kept_anew (Anew.over e) = 0

@@ -41,7 +41,7 @@ abbrev pub written_after : Place → Word → List Item → Word
 written_after p now [] = now
 written_after p now (i ∷ is) = written_after p (written_item p now i) is
 
--- of items that mention known blocks alone and allocate each at most once
+-- of items that mention only known blocks and allocate each at most once
 pub record KnownContents (code : Code) (is : List Item) (bs : List ℕ) : Type 0 where
   pub allocated : (b : ℕ) → In b bs → (key : Key) × Allocates b key is
   pub input : (p : Place) (i : ℕ) → p.block ≡ Input i → (w : Word) → content_after code p w is ≡ written_after p w is

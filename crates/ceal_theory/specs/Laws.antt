@@ -70,7 +70,7 @@ pub data RenamedRepair : Option Repaired → Option Repaired → Type 0 where
   some : {a b : Repaired} (ps : Pairs) → OneToOne ps → TraceAlike ps a.items b.items → a.work ≡ b.work
       → RenamedRepair (Some a) (Some b)
 
--- the repair of a renamed trace is there exactly where that of the trace is, and is that one renamed; the next numbers
+-- the repair of a renamed trace is there exactly when that of the trace is, and is that one renamed; the next numbers
 -- may be any above the blocks
 abbrev pub RenamedRepairLaw : Type 0
 RenamedRepairLaw = (code : Code) (old new : List Block) (f : ℕ) (args : List Word) (l : Trace) (number : ℕ)

@@ -14,7 +14,7 @@ use Rattle.ceal_theory.specs.KnownContent.{allocs, written_after}
 use Rattle.ceal_theory.specs.Slices.{Repair, starting, Sound}
 use Rattle.ceal_theory.specs.Walk.{store_after, AgreesAll}
 
--- It mentions known blocks alone and allocates each once, and at each place of
+-- It mentions only known blocks and allocates each once, and at each place of
 -- a block that is known after it the store is the last write of the place in it, or else what it was at the beginning.
 pub record Listed (code : Code) (inputs : List Block) (r : Repair) (front : List Item) : Type 0 where
   pub items : KnownItems (length inputs) [] front (known_after [] front)

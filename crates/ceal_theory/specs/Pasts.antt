@@ -40,7 +40,7 @@ abbrev pub done_past : Option Repaired → Repair → Past
 done_past None r = NoTrace
 done_past (Some first) r = Traced (record { items = r.items; work = r.spent })
 
--- what a slice leaves: a repair that goes on or is done; where there is none the call is run anew
+-- what a slice leaves: a repair that goes on or is done; where there is none the call is run again
 abbrev pub left_by : Code → List Block → Option Repaired → Option Repair → Past
 left_by code inputs first None = first_past first
 left_by code inputs first (Some r) = if is_done code inputs r then done_past first r else Going r
@@ -50,7 +50,7 @@ abbrev pub slice_of : Code → List Block → ℕ → Option ℕ → Option Repa
 slice_of code inputs fuel k None = None
 slice_of code inputs fuel k (Some r) = sliced code own inputs k fuel r
 
--- What is behind a `propagate`, or a `propagate K`, of a call whose first trace on the present inputs is
+-- What is after a `propagate`, or a `propagate K`, of a call whose first trace on the present inputs is
 -- this, if the run ends.
 abbrev pub past_behind : Code → List Block → ℕ → Option Repaired → Option ℕ → Past → Past
 past_behind code inputs fuel first k past =
@@ -75,7 +75,7 @@ IsPastOf code inputs f args NoTrace = ⊤
 IsPastOf code inputs f args (Traced l) = Replays code inputs f args l.items
 IsPastOf code inputs f args (Going r) = Sound code own inputs f args r
 
--- so it is behind each line that repairs
+-- so it is after each line that repairs
 abbrev pub PastLaw : Type 0
 PastLaw =
     (code : Code) (inputs : List Block) (f : ℕ) (args : List Word) → Fits code inputs f args

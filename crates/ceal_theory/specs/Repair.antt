@@ -34,7 +34,7 @@ clears code s b key = record s { store = cleared code s.store b key }
 abbrev pub puts : State → Place → Word → State
 puts s p value = record s { store = stored s.store p value }
 
--- one step that is run anew
+-- one step that is re-executed
 abbrev pub works : State → State
 works s = record s { work = s.work + 1 }
 
@@ -78,7 +78,7 @@ mutual
         → Fix code names s (WasRead p value u v args inside rest) s' (WasRead p (s.store p) u v args inside' rest')
 
   -- One read with this key, its old value and its old items gets these new items. Its new value is the store's; where
-  -- that is another one the read is stale, and its unit is run anew with the old items as leftover, whose
+  -- that is another one the read is stale, and its unit is re-executed with the old items as leftover, whose
   -- rest is revoked.
   pub data Mend (code : Code) (names : ℕ → ℕ) : State → Place → UnitId → ℕ → List Word → Word → Trace → State
       → Trace → Type 0 where
@@ -90,7 +90,7 @@ mutual
         → Anew code names s (resumed code u v args (s.store p)) inside t inside' left
         → Mend code names s p u v args value inside t inside'
 
-  -- the stack is run anew with a leftover; it comes to a state, makes items, and leaves a rest of the leftover
+  -- the stack is re-executed with a leftover; it comes to a state, makes items, and leaves a rest of the leftover
   pub data Anew (code : Code) (names : ℕ → ℕ) : State → Stack → Trace → State → Trace → Trace → Type 0 where
     over : {s : State} {st : Stack} {old : Trace} → next code s.plain st ≡ Over → Anew code names s st old s Nothing old
     quiet : {s s' : State} {st after : Stack} {old new left : Trace}

@@ -80,7 +80,7 @@ SliceLaw =
     → (k : Option ℕ) (r' : Repair) → Slices code names inputs k r r' → Sliced code names inputs f args r r'
 
 -- a repair whose items are honest has a trace of the call, which determines the run from scratch: its memory,
--- and that it ends exactly where as many steps are allowed as the items have
+-- and that it ends exactly when as many steps are allowed as the items have
 pub record Ended
     (code : Code) (inputs : List Block) (f : ℕ) (args : List Word) (l : Trace)
     (h : IsHonest code inputs l) : Type 0 where
@@ -146,7 +146,7 @@ BegunAdjustedLaw =
     → Edited code old new f args l number
     → (n : ℕ) → SameRepair (adjusted code new number n l) (sliced code own new None n (beginning code new l number))
 
--- A slice of a renamed repair is there exactly where that of the repair is, and is that one renamed, each
+-- A slice of a renamed repair is there exactly when that of the repair is, and is that one renamed, each
 -- with its own names for the numbers of new blocks. So a slice with the numbers that a heap gives is the
 -- slice, renamed.
 abbrev pub RenamedSliceLaw : Type 0
@@ -345,7 +345,7 @@ MadeIn code x (Wrote p value rest) = MadeIn code x rest
 MadeIn code x (WasRead p value u v args inside rest) = MadeIn code x inside × MadeIn code x rest
 
 -- A repair that is another one renamed holds where that does, if its blocks have what their keys give, and if
--- its known blocks are those that stand for known ones of the other and name known blocks alone.
+-- its known blocks are those that stand for known ones of the other and name only known blocks.
 pub record StandsFor
     (code : Code) (names : ℕ → ℕ) (inputs : List Block) (ps : Pairs) (blocks : List ℕ) (q : Repair) : Type 0 where
   pub others : List ℕ

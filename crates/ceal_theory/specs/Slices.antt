@@ -21,7 +21,7 @@ use Rattle.ceal_theory.specs.Computed.{Runner, Ran, Fixed, fix_by, anew}
 use Rattle.ceal_theory.specs.Repair.{Single, State, clears, puts, resumed, Fix, Anew}
 
 -- A repair that goes on: the items as they are, the plain words of the core blocks that were known since it began, the
--- number of the next new block, and the steps that were run anew.
+-- number of the next new block, and the steps that were re-executed.
 pub record Repair : Type 0 where
   pub items : Trace
   pub known : Plain
@@ -56,7 +56,7 @@ goes_on code inputs r = record {
   work = r.spent;
 }
 
--- A part of the repair of items, by rules: from the number of reads that may still be run anew before it to
+-- A part of the repair of items, by rules: from the number of reads that may still be re-executed before it to
 -- the number after it. Where none may, all later items stay as they are.
 pub data Part (code : Code) (names : ℕ → ℕ) : ℕ → State → Trace → ℕ → State → Trace → Type 0 where
   stays : {s : State} {l : Trace} → Part code names zero s l zero s l
@@ -117,7 +117,7 @@ abbrev pub and_cut : Option Cut → (Cut → Option Cut) → Option Cut
 and_cut None f = None
 and_cut (Some c) f = f c
 
--- a stale read's unit was run anew; what it leaves over is revoked
+-- a stale read's unit was re-executed; what it leaves over is revoked
 abbrev pub cut_off : ℕ → Option Ran → Option Cut
 cut_off k None = None
 cut_off k (Some r) = Some (record { left = k; state = r.state; items = r.items })

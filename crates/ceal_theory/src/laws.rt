@@ -19,7 +19,7 @@ pub fn renamed_law()
     ensures law { RenamedLaw }
 {}
 
-/// The repair of a renamed trace is there exactly where that of the trace is there, and is that one renamed, with the
+/// The repair of a renamed trace is there exactly when that of the trace is there, and is that one renamed, with the
 /// same work.
 pub fn renamed_repair_law()
     ensures law { RenamedRepairLaw }

@@ -68,7 +68,7 @@ pub fn bases_law()
     ensures law { BasesLaw }
 {}
 
-/// One turn: the first stale read runs anew by itself, and all else stays.
+/// One turn: the first stale read is re-executed by itself, and all else stays.
 pub fn turn_law()
     ensures law { TurnLaw }
 {}

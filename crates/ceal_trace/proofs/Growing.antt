@@ -40,7 +40,7 @@ module _ (order order' : Listing) (t : Table) (s f : ℕ) (node : Node)
   after_all : place f (stamps_in all) ≡ place s (stamps_in all) + 1
   after_all = subst (λ (l : List ℕ). place f l ≡ place s l + 1) (sym stamps_all) after
 
--- what a call says that put a node without steps directly behind s
+-- what a call says that put a node without steps directly after s
 pub record Grew (order order' : Listing) (t t' : Table) (s f steps : ℕ) (node : Node) : Type 0 where
   pub sound : Sound order' t' steps
   pub nodes : (timeline order' t').nodes ≡ with_entry_after s (new_entry f node) (timeline order t).nodes

@@ -14,7 +14,7 @@ use Rattle.ceal_trace.specs.declared.node.Node.TheVariants.{Root, Alloc, Write, 
 use Rattle.ceal_trace.specs.Nodes.{Entry, steps_sum}
 use Rattle.ceal_trace.specs.Items.{ticks, forest_of, unclosed, unclosed_after, Nests}
 
--- so many steps, and then a trace
+-- that many steps, and then a trace
 abbrev ticked : ℕ → Trace → Trace
 ticked zero t = t
 ticked (suc n) t = Stepped (ticked n t)
@@ -44,7 +44,7 @@ sum-ticked : (n : ℕ) (t : Trace) (ts : List Trace) → sum_of (ticked n t) ts 
 sum-ticked n t [] = steps-ticked n t
 sum-ticked n t (u ∷ us) = let own = steps-ticked n t in omega arith
 
--- the traces that nodes stand for where so many reads before them are not closed
+-- the traces that nodes stand for where that many reads before them are not closed
 record Levels (open_reads : ℕ) (es : List Entry) : Type 0 where
   inner : Trace
   outer : List Trace
@@ -79,7 +79,7 @@ module _ (place : Place) (value : Word) (unit : UnitId) (var : ℕ) (args : List
   sum-read t u [] = refl
   sum-read t u (w ∷ ws) = omega arith
 
--- the traces behind a node's steps
+-- the traces after a node's steps
 module _ (k n : ℕ) (es : List Entry) where
   front_items : (l : Levels k es) → joined (ticked n l.inner) l.outer ≡ ticks n ++ forest_of es
   front_items l = joined-ticked n l.inner l.outer ∙ ap (λ (xs : List Item). ticks n ++ xs) l.items

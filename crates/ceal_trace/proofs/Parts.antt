@@ -1,4 +1,4 @@
--- Nodes before and behind one of them.
+-- Nodes before and after one of them.
 use Rattle.std.proofs.Common.{◌≡◌, ◌≢◌, ℕ, inl, inr, ◌+◌, true, false, List, [], ◌∷◌, ◌++◌, length, append_assoc, refl, sym, ap, ◌∙◌, subst, arith, Some}
 use Rattle.std.proofs.lemmas.Bool.Decides.{eqb_tells}
 use Rattle.std.proofs.lemmas.Bool.{eq-eqb}
@@ -44,7 +44,7 @@ NotIn-mid : (s : ℕ) (front : List Entry) (e : Entry) (back : List Entry) → N
 NotIn-mid s [] e back none = none.0
 NotIn-mid s (x ∷ xs) e back none = NotIn-mid s xs e back none.1
 
--- a node's stamp is that of no node before it, and of none behind it
+-- a node's stamp is that of no node before it, and of none after it
 pub not_before : (front : List Entry) (e : Entry) (back : List Entry) → Distinct (stamps_in (front ++ e ∷ back)) → has_node e.stamp front ≡ false
 not_before [] e back distinct = refl
 not_before (x ∷ xs) e back distinct = elim (eqb_tells x.stamp e.stamp) [

@@ -6,7 +6,7 @@ use Rattle.ceal_trace.specs.declared.node.Node.{Node}
 use Rattle.ceal_trace.specs.declared.node.Node.TheVariants.{Root, Alloc, Write, Read, End}
 use Rattle.ceal_trace.specs.Nodes.{Entry, ends}
 
--- so many steps
+-- that many steps
 abbrev pub ticks : ℕ → List Item
 ticks zero = []
 ticks (suc n) = item.Step ∷ ticks n
@@ -41,7 +41,7 @@ unclosed (Some reads) (e ∷ es) = unclosed (unclosed_after e.stamp e.node reads
 abbrev pub Nests : List Entry → Type 0
 Nests es = unclosed (Some []) es ≡ Some []
 
--- nodes around a read that is closed: those before it, those inside, and those behind its end
+-- nodes around a read that is closed: those before it, those inside, and those after its end
 pub record Parted (read : ℕ) (nodes : List Entry) : Type 0 where
   pub before : List Entry
   pub begins : Entry

@@ -93,7 +93,7 @@ pub record ValueSet (s : ℕ) (value : Word) (old new : Table) : Type 0 where
   pub long : length new.rows ≡ length old.rows
   pub count : new.count ≡ old.count
 
--- the node at a stamp has so many steps
+-- the node at a stamp has that many steps
 pub record StepsSet (s n : ℕ) (old new : Table) : Type 0 where
   pub nodes : (u : ℕ) → node_of new u ≡ node_of old u
   pub held : (u : ℕ) → held_at new u ≡ held_at old u

@@ -132,7 +132,7 @@ steps_set n e = record e { steps = n }
 abbrev pub with_value : ℕ → Word → List Entry → List Entry
 with_value s value es = changed_at s (value_set value) es
 
--- with so many steps on the node at s
+-- with that many steps on the node at s
 abbrev pub with_steps : ℕ → ℕ → List Entry → List Entry
 with_steps s n es = changed_at s (steps_set n) es
 
@@ -141,7 +141,7 @@ abbrev pub new_entry : ℕ → Node → Entry
 new_entry s node = record { stamp = s; node = node; steps = 0 }
 
 -- what is true of every trace: its stamps are those of an order; the first node is the root, and no other; the end of
--- a read is one node, which stands behind the read where the read is still there
+-- a read is one node, which stands after the read where the read is still there
 pub record IsTrace (t : Timeline) : Type 0 where
   pub order : IsOrder (order_of t)
   pub first_root : (s : ℕ) → head_of (stamps_in t.nodes) ≡ Some s → node_at s t.nodes ≡ Some Root

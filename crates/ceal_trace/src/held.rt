@@ -11,7 +11,7 @@ use ceal_base::words::Words;
 use ceal_order::stamp::Stamp;
 use slab::Slab;
 
-/// A node but for its key or its closure, which stands apart under a key of a slab.
+/// A node but for its key or its closure, the second part, which has a key in a slab of its own.
 #[derive(Drop)]
 pub enum Held {
     Root,
@@ -21,7 +21,7 @@ pub enum Held {
     End { read: Stamp },
 }
 
-/// What stands apart: the key of an allocation, or the closure of a read.
+/// The second part: the key of an allocation, or the closure of a read.
 #[derive(Drop)]
 pub enum Apart {
     Key(Key),
@@ -33,7 +33,7 @@ pub enum Apart {
     },
 }
 
-/// Joins a node, and takes out what stands apart.
+/// Joins a node, and takes its second part out.
 pub fn join(apart: &mut Slab<Apart>, held: Held) -> Node
     requires { IsSome (whole apart.old held) }
     ensures { Joined apart.old apart.new held result }
@@ -64,7 +64,7 @@ pub fn join(apart: &mut Slab<Apart>, held: Held) -> Node
     }
 }
 
-/// Lets what stands apart of a node go where it stands, and tells the read that the node ends.
+/// Drops the second part of a node in place, and returns the read that the node ends.
 #[inline]
 pub fn release(apart: &mut Slab<Apart>, held: Held) -> Option<Stamp>
     requires { IsSome (whole apart.old held) }

@@ -26,7 +26,7 @@ pub fn parts_follow()
 {}
 
 /// Laws of nodes that nest. A read of a trace that nests has an end, and parts the nodes into those before it, those
-/// inside, which nest, and those behind its end. What nests may be put in and taken out anywhere: a node that is no
+/// inside, which nest, and those after its end. What nests may be put in and taken out anywhere: a node that is no
 /// read and no end, and a read with its end around nodes that nest.
 pub fn nodes_nest()
     ensures parted { (t : Timeline) → IsTrace t → Nests t.nodes → (read : ℕ)
@@ -52,7 +52,7 @@ pub fn a_stamp_parts()
         → Distinct (stamps_in (front ++ e ∷ back)) → has_node e.stamp back ≡ false }
 {}
 
-/// Laws: what is looked up or done at a stamp is done between the nodes before it and those behind it.
+/// Laws: what is looked up or done at a stamp is done between the nodes before it and those after it.
 pub fn done_between()
     ensures entry { (e : Entry) (back front : List Entry) → has_node e.stamp front ≡ false
         → entry_at e.stamp (front ++ e ∷ back) ≡ Some e }

@@ -6,7 +6,7 @@
 //!
 //! `node` is what a node holds, `trace` the list and its calls, `laws` what that list has to do with the forest.
 //! Inside, `table` finds the node of a stamp by its number, and `slot` is what it keeps of a stamp. The nodes stand in
-//! `shelf`, which is two slabs: of small parts, and of what stands apart (`held`); `new_node` is what is put in.
+//! `shelf`, which is two slabs: of small parts, and of second parts (`held`); `new_node` is what is put in.
 #![tactic(auto)]
 
 mod held;

@@ -18,7 +18,7 @@ use std::alloc::Global;
 /// Stands for no key.
 pub const NO_KEY: usize = usize::MAX;
 
-/// Nodes under keys that are given out when they are put in: their small parts in a slab, and what stands apart of them in
+/// Nodes under keys that are given out when they are put in: their small parts in a slab, and their second parts in
 /// another one. The two fit together (`IsFit`), which `Table` keeps.
 #[derive(Drop)]
 pub struct Shelf {
@@ -45,7 +45,7 @@ impl Shelf {
         self.held.len()
     }
 
-    /// Makes room for so many nodes in all.
+    /// Makes room for that many nodes in all.
     pub fn reserve(&mut self, count: usize) -> Result<(), NoMemory>
         ensures same { SameShelf self.old self.new }
         ensures held { OnOk result (count ≤ self.new.held.capacity) }

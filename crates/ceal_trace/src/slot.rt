@@ -66,7 +66,7 @@ pub fn set_end(slots: &mut Vec<Slot>, at: u32, end: u32)
     slot.end = end;
 }
 
-/// Adds slots until there are so many. It is called seldom, and stands apart, so that the common way is short.
+/// Adds slots until there are that many. It is called seldom, and is a function of its own, so that the common way is short.
 #[inline(never)]
 pub fn lengthen(slots: &mut Vec<Slot>, count: usize) -> Result<(), NoMemory>
     ensures longer { Longer slots.old.items slots.new.items }

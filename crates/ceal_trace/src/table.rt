@@ -46,14 +46,14 @@ impl Table {
         }
     }
 
-    // Whether there is room for so many more nodes.
+    // Whether there is room for that many more nodes.
     fn has_room(&self, more: u32) -> bool
         ensures { IsTrue result → self.now.count + more ≤ length self.now.rows }
     {
         more as usize <= self.slots.len() - self.shelf.len()
     }
 
-    /// Makes room for so many more nodes.
+    /// Makes room for that many more nodes.
     pub fn reserve(&mut self, more: u32) -> Result<(), NoMemory>
         ensures rows { OnOk result (self.new.count + more ≤ length self.new.rows) }
         ensures kept { Wider self.old self.new }

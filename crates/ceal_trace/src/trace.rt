@@ -27,7 +27,7 @@ use std::marker::Model;
 /// The nodes of a run in the order of time, and room for more. Contracts see `nodes`, the list of the nodes with their
 /// stamps and steps, and `spare`, how many may be inserted without taking memory.
 ///
-/// Each stamp that is handed in must be a node's. A read and its end go together: where a finished read is removed
+/// Each stamp that is given must be a node's. A read and its end go together: where a finished read is removed
 /// before its end, no other finished read is removed and nothing is inserted until the end is removed too. Its stamp is
 /// asked by `end_of` beforehand.
 #[derive(Drop)]
@@ -50,7 +50,7 @@ impl Model for Trace {
 }
 
 impl Trace {
-    /// A trace of the root alone.
+    /// A trace of only the root.
     pub fn new(alloc: Global) -> Result<Trace, NoMemory>
         ensures nodes { IfOk result (λ trace. trace.nodes ≡ new_entry 0 Root ∷ []) }
         ensures spare { IfOk result (λ trace. trace.spare ≡ 0) }
@@ -87,11 +87,11 @@ impl Trace {
         &self.order
     }
 
-    /// Makes room for so many insertions without taking memory. `NoMemory` also comes where there would be 2^32 - 1
+    /// Makes room for that many insertions without taking memory. `NoMemory` also comes when there would be 2^32 - 1
     /// nodes or more, the spare ones counted.
     ///
     /// How many insertions there is room for beyond those is not told, as the order does not tell it: else a trace that
-    /// is thrown away and built anew would provably have the stamps of the one before, as if it had been kept.
+    /// is thrown away and built again would provably have the stamps of the one before, as if it had been kept.
     #[inline]
     pub fn reserve(&mut self, nodes: u32) -> Result<(), NoMemory>
         ensures nodes { self.new.nodes ≡ self.old.nodes }
@@ -106,7 +106,7 @@ impl Trace {
         self.widen(nodes)
     }
 
-    // Makes room where there is none. It is called seldom, and stands apart, so that the common way is short.
+    // Makes room where there is none. It is called seldom, and is a function of its own, so that the common way is short.
     #[inline(never)]
     fn widen(&mut self, nodes: u32) -> Result<(), NoMemory>
         ensures nodes { self.new.nodes ≡ self.old.nodes }

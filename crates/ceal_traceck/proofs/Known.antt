@@ -1,4 +1,4 @@
--- What blocks are known along items that mention known blocks alone and allocate each block once.
+-- What blocks are known along items that mention only known blocks and allocate each block once.
 use Rattle.std.proofs.Common.{◌≡◌, ℕ, zero, suc, ◌+◌, ◌≤◌, ◌<◌, ◌==◌, ◌&&◌, Bool, true, false, not, if◌then◌else◌, Option, Some, None, List, [], ◌∷◌, ◌++◌, ◌⊎◌, inl, inr, length, slice_get, is_some, refl, sym, ap, ◌∙◌, subst, append_assoc, arith}
 use Rattle.std.specs.Option.{option_map}
 use Rattle.std.proofs.lemmas.Bool.{false≢true}
@@ -64,7 +64,7 @@ count-in b (c ∷ bs) h = go (c == b) refl (λ k. count-in b bs k)
         few t e h = let k = rw e at h in omega (arith, k)
 
 module _ (n : ℕ) (code : Code) where
-  -- the plain words have the known blocks, which mention known blocks alone, and no others
+  -- the plain words have the known blocks, which mention only known blocks, and no others
   pub record Knows (bs : List ℕ) (x : Plain) : Type 0 where
     pub holds : Holds n bs x
     pub only : (b : BlockId) → is_some (x b) ≡ true → KnownBlock n bs b

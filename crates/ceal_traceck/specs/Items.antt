@@ -38,7 +38,7 @@ abbrev pub is_new : Plain → BlockId → Bool
 is_new x (Core b) = not (is_some (x (Core b)))
 is_new x (Input i) = false
 
--- the item mentions known blocks alone, and allocates a new one, if any
+-- the item mentions only known blocks, and allocates a new one, if any
 abbrev pub names_known : Plain → Item → Bool
 names_known x Step = true
 names_known x (Alloc b key) = key_known x key && is_new x b

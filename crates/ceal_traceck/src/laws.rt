@@ -8,7 +8,7 @@ pub fn sound_law()
     ensures law { SoundLaw }
 {}
 
-/// Of a record one verdict is right at most, so that each comes exactly where it is the first thing that is wrong.
+/// Of a record one verdict is right at most, so that each comes exactly when it is the first thing that is wrong.
 pub fn one_verdict_law()
     ensures law { OneVerdictLaw }
 {}

@@ -1,4 +1,4 @@
-// Whether items mention known blocks alone, and allocate each block once.
+// Whether items mention only known blocks, and allocate each block once.
 
 ghost use Rattle.std.specs.Prelude.{◌≡◌, true, is_some, IfOk, OnOk};
 ghost use Rattle.ceal_code.specs.Tables.{code_in, plain_in, store_in, plain_flat};
@@ -61,7 +61,7 @@ fn is_new(memory: &TraceMemory<'_>, block: BlockId) -> bool
     }
 }
 
-/// Whether the item mentions known blocks alone, and allocates a new one, if any.
+/// Whether the item mentions only known blocks, and allocates a new one, if any.
 fn names_known(memory: &TraceMemory<'_>, item: &Item) -> bool
     ensures { result ≡ items.names_known (plain_in memory.now) item.now }
 {

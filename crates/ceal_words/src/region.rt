@@ -11,7 +11,7 @@ use ceal_base::no_memory::NoMemory;
 use std::alloc::Global;
 use std::marker::Model;
 
-/// Memory for slots of 1 to 65,536 words. Its own; dropping it frees it, with the words of all slots.
+/// Memory for slots of 1 to 65,536 words. It owns its memory; dropping the region frees all slots.
 ///
 /// Segregated free lists by powers of two, as in Knuth, "The Art of Computer Programming", volume 1, section 2.5.
 #[derive(Drop)]

@@ -1,4 +1,4 @@
--- The first line `%%` stands behind a source that has no two `%` behind each other and ends with its line.
+-- The first line `%%` stands after a source that has no two `%` after each other and ends with its line.
 use Rattle.std.proofs.Common.{◌≡◌, ℕ, ◌+◌, ◌≤◌, ◌<◌, ◌^◌, Bool, true, ◌&&◌, not, List, [], ◌∷◌, ◌++◌, length, refl, sym, ap, ◌∙◌, arith, inl, inr}
 use Rattle.std.specs.Prelude.{codes, nat_eq}
 use Rattle.std.proofs.lemmas.Bool.{and_parts, false≢true, not-true}
@@ -21,7 +21,7 @@ begins : (bs rest more : List ℕ) → bs ++ rest ≡ PERCENT ∷ more → begin
 begins [] rest more h = refl
 begins (b ∷ bs) rest more h = let e : b ≡ PERCENT = cc h in rw e refl
 
--- two `%` stand behind bytes that are clear
+-- two `%` stand after bytes that are clear
 behind : (bytes rest b more : List ℕ) → is_clear bytes ≡ true → bytes ++ rest ≡ b ++ PERCENT ∷ PERCENT ∷ more → length bytes ≤ length b
 unfolding is_clear
 behind [] rest b more clear h = omega arith

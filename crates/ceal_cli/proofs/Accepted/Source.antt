@@ -28,12 +28,12 @@ abbrev pub is_ok : {A : Type 0} → Result A Fault → Bool
 is_ok (Ok x) = true
 is_ok (Err f) = false
 
--- what the phases behind the grammar make of a verdict of the grammar
+-- what the phases after the grammar make of a verdict of the grammar
 abbrev pub comes : Result Tree Fault → Result Typed Fault
 comes (Ok tree) = settled tree
 comes (Err f) = Err f
 
--- The reading was right, no two `%` stand behind each other, the last line has its end, and all comes to a program.
+-- The reading was right, no two `%` stand after each other, the last line has its end, and all comes to a program.
 -- Each is one evaluation.
 pub record IsFine (source : List ℕ) : Type 0 where
   pub spelled : spelled (pieces source) [] ≡ source

@@ -86,7 +86,7 @@ short_sign : (s : Sign) → length (sign_text s) ≤ 2
 short_sign signs.Arrow = omega arith
 short_sign _ = omega arith
 
--- the byte behind `text` in a longer beginning
+-- the byte after `text` in a longer beginning
 next_in_word : (text a r rest : List ℕ) (c : ℕ) → text ++ c ∷ rest ≡ a ++ r → AllByRecursion InWord a → length text < length a → InWord c
 next_in_word text [] r rest c h p l = absurd (omega (arith, l))
 next_in_word [] (x ∷ a) r rest c h p l = let e : x ≡ c = cc h in subst InWord e p.0

@@ -1,4 +1,4 @@
--- A line `%%` that is put behind bytes without a mark is the first one.
+-- A line `%%` that is put after bytes without a mark is the first one.
 use Rattle.std.proofs.Common.{◌≡◌, ℕ, zero, suc, ◌+◌, ◌<◌, ◌≤◌, ◌^◌, ◌==◌, ◌&&◌, inl, inr, Bool, true, false, not, Some, List, [], ◌∷◌, ◌++◌, length, slice_get, refl, sym, ap, ◌∙◌, subst, arith, append_assoc, length-append}
 use Rattle.std.proofs.Math.Seq.{take-append_seam, drop-append-add}
 use Rattle.std.proofs.lemmas.Bool.{cases_lt}
@@ -23,7 +23,7 @@ unfolding Begins
 line-begins text line after b (inl e) = (b.0 ++ (10 ∷ []), e ∙ ap (λ t. t ++ (10 ∷ [])) b.1)
 line-begins text line after b (inr e) = (b.0, e.0 ∙ b.1)
 
--- where the sign stands that a text has behind others
+-- where the sign stands that a text has after others
 percent-at : (before : List ℕ) (line after : List ℕ) → Begins line → slice_get (before ++ (line ++ after)) (length before) ≡ Some 37
 unfolding Begins
 percent-at [] line after b = ap (λ l. slice_get (l ++ after) 0) b.1
@@ -53,7 +53,7 @@ not-less m n f = grind (arith, f)
 the-mark : (before rest : List ℕ) → IsBeforeLine before → HasMark (before ++ (mark_line ++ rest)) before rest
 the-mark before rest starts = record { text = 37 ∷ (37 ∷ []); line = mark_line; mark = inl refl; is_line = inl refl; starts = starts; whole = refl }
 
--- behind bytes without a percent sign
+-- after bytes without a percent sign
 pub put-mark : (front more : List ℕ) → are_plain front ≡ true → IsBeforeLine front → HasFirstMark (front ++ (mark_line ++ more)) front more
 unfolding the-mark
 put-mark front more plain before = record { mark = the-mark front more before; first = λ b a m. go b a m }
@@ -139,7 +139,7 @@ unfolding Ends
 ends-before b before k (inl e) = let size = ap length e in absurd (omega (arith, k, size))
 ends-before b before k (inr e) = e
 
--- in the place of the first mark of an input, with other bytes behind it
+-- in the place of the first mark of an input, with other bytes after it
 module _ (input before after rest : List ℕ) (h : HasFirstMark input before after) where
   earlier : (b a : List ℕ) (m : HasMark (before ++ (mark_line ++ rest)) b a) → length b < length before → IsLine m.text m.line a → length before ≤ length b
   earlier b a m k (inl is) =

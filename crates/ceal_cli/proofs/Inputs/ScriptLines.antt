@@ -19,7 +19,7 @@ unfolding lines_of
 followed piece lines b =
     subst (λ (l : List (List ℕ)). lines_of (piece ∷ l) ≡ without_return piece ∷ lines_of l) (sym b.same) refl
 
--- the first line of what is left, and those behind it
+-- the first line of what is left, and those after it
 line_next : (piece : List ℕ) (after : Option (List ℕ))
     → lines_of (piece ∷ pieces_left after) ≡ (if is_some after then without_return piece else piece) ∷ lines_of (pieces_left after)
 unfolding lines_of

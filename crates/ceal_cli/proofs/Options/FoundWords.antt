@@ -127,7 +127,7 @@ Ends w words = (walk_fault S [] w words ≡ []) × (settle_fault C false (fold (
 abbrev Finds : List Text → List Text → Walk → List Text → Type 0
 Finds values plain w words = Rows values plain (settled C (fold (walked C []) w words).held).rows
 
--- behind `--`
+-- after `--`
 trailing_end : (words : List Text) (values plain : List Text) (p : Pending) (r : List Row) (q : Waiting) → Holds values plain p r
     → Ends (at r p q true) words → Finds values (plain ++ words) (at r p q true) words
 unfolding walk_fault walked
@@ -177,9 +177,9 @@ at_end values plain p r q h e = record {
       (subst (λ (l : List Text). Rows values l (settled_rows C p r)) (sym (append-nil plain)) (rows_of values plain p r h e.1));
 }
 
--- ---- one word and those behind it
+-- ---- one word and those after it
 
--- the word has been read, and those behind it are taken
+-- the word has been read, and those after it are taken
 abbrev Behind : Bool → List Text → List Text → Walk → List Text → Type 0
 Behind waits values plain w words = Stands waits values plain w → Ends w words → Answer waits values plain w words
 

@@ -67,7 +67,7 @@ option_alone (x ∷ words) plain values text none one (inr (inr (inl (t, rest, j
 option_alone (x ∷ []) plain values text none one (inr (inr (inr (is, reads)))) = absurd reads
 option_alone (x ∷ t ∷ words) plain values text none one (inr (inr (inr (is, (rest, same, reads))))) = leads_apart x t text words plain rest is (one ∙ same) reads
 
--- with one, the option stands before it or behind it
+-- with one, the option stands before it or after it
 abbrev Has : Text → Text → List Text → Type 0
 Has text word words =
     Leads text (word ∷ []) words

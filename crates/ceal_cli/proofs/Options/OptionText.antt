@@ -15,7 +15,7 @@ drop_more n x xs =
     let e : 1 + n + 1 ≡ suc (n + 1) = omega arith in
     ap (λ (k : ℕ). drop k (x ∷ xs)) e
 
--- the text before the first `=`, that, and the text behind it
+-- the text before the first `=`, that, and the text after it
 with_sign : (xs : List ℕ) → has_byte 61 xs ≡ true → xs ≡ before_first (λ x. eqb x 61) xs ++ 61 ∷ after_first (λ x. eqb x 61) xs
 with_sign [] h = absurd (true≢false (sym h))
 with_sign (x ∷ xs) h = go (eqb x 61) refl (λ e. with_sign xs e) h
@@ -34,7 +34,7 @@ without_sign (x ∷ xs) h = go (eqb x 61) refl (λ e. without_sign xs e) h
     go true e next h = absurd (true≢false h)
     go false e next h = rw e (ap (λ (ys : List ℕ). x ∷ ys) (next h) ∙ sym (take_more _ x xs))
 
--- what stands behind the hyphens of an option
+-- what stands after the hyphens of an option
 abbrev pub option_text : List ℕ → Option (List ℕ) → List ℕ
 option_text name None = name
 option_text name (Some value) = name ++ 61 ∷ value
@@ -61,7 +61,7 @@ second (x ∷ xs) p e = go (eqb x 45) refl e
     go true h e = ap₂ (λ (y : ℕ) (ys : List ℕ). y ∷ ys) (eqb-true x 45 h) (behind_hyphens xs p e)
     go false h e = absurd (cc e)
 
--- a long option is two hyphens, its name and, behind a `=`, its value
+-- a long option is two hyphens, its name and, after a `=`, its value
 pub long_word_is : (word : List ℕ) (p : List ℕ × Option (List ℕ)) → long_of word ≡ Some p → word ≡ 45 ∷ 45 ∷ option_text p.0 p.1
 long_word_is [] p e = absurd (cc e)
 long_word_is (x ∷ xs) p e = go (eqb x 45) refl e

@@ -24,7 +24,7 @@ without_none id (r ∷ rs) h = go (bytes_eq r.id id) (λ e. without_none id rs e
     go true next h = absurd (true≢false h)
     go false next h = ap (λ (xs : List Row). r ∷ xs) (next h)
 
--- the values of a use come behind those that were there
+-- the values of a use come after those that were there
 pub more_of : (id : Text) (how : Reading) (s : ValueSource) (values : List Text) (rows : List Row) → bytes_eq id id ≡ true
     → all_of id (with_values id how s values rows) ≡ Some (unwrap_or (all_of id rows) [] ++ values)
 more_of id how s values [] same = rw same refl

@@ -87,7 +87,7 @@ module _ (w : ℕ) (ws : List ℕ) (other : eqb w 45 ≡ false) where
   unfolding clap_on_literals
   alone = takes_plain WORD [] refl refl refl (no_option w ws other, tt)
 
-  -- the option with its value, before the word and behind it
+  -- the option with its value, before the word and after it
   joined_before : (text : Text) (rest : List Text) → AreMarked (WORD ∷ []) rest → Takes (WORD ∷ []) (Some text) ((JOINED ++ text) ∷ rest)
   unfolding clap_on_literals
   joined_before text = one_word (λ rest. Takes (WORD ∷ []) (Some text) ((JOINED ++ text) ∷ rest)) WORD

@@ -32,7 +32,7 @@ in_front : (front back : List Text) → AreNoOptions (front ++ back) → AreNoOp
 in_front [] back h = tt
 in_front (x ∷ front) back h = (h.0, in_front front back h.1)
 
--- where the parser stands that has gathered these words, behind `--` or not
+-- where the parser stands that has gathered these words, after `--` or not
 abbrev gathered : List Text → Bool → Walk
 gathered words is_trailing = at [] (Some (WORDS, words)) positional is_trailing
 
@@ -57,7 +57,7 @@ no_more : (g : List Text) (b : Bool) → Passes (gathered g b) [] (g ++ [])
 unfolding walk_fault
 no_more g b = record { passed = refl; is_trailing = b; end = ap (λ (l : List Text). gathered l b) (sym (append-nil g)) }
 
--- behind `--` each word is gathered
+-- after `--` each word is gathered
 behind : (words g : List Text) → Passes (gathered g true) words (g ++ words)
 unfolding walked
 behind [] g = no_more g true
@@ -103,7 +103,7 @@ passes x rest words all (inr (y ∷ front, back, is, same)) =
     (subst (Passes (start false) (y ∷ (front ++ DASHES ∷ back))) (sym is)
     (begins y (front ++ DASHES ∷ back) _ others.0 (marked front back (y ∷ []) (in_front front back others.1))))
 
--- what comes behind the last word
+-- what comes after the last word
 abbrev pub end_fault : Held → Kinds
 end_fault h = or_else (settle_fault C false h) (or_else (defaults_fault (settled C h).rows C) (check_fault S (finished C h) false))
 

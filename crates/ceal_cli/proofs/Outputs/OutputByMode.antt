@@ -53,7 +53,7 @@ module _ (input : List ℕ) where
     abbrev lines : List (List ℕ)
     lines = script_lines (script_of input part)
 
-    -- what the checker says of the dump behind the mark
+    -- what the checker says of the dump after the mark
     pub checked : IsProgram input p.typed → IsCompiled p → (text : List ℕ) → IsVerdictLine p.code (script_of input part) text → IsOutput Verify input text
     unfolding programmed
     checked reads compiled text is = inl (programmed reads compiled, is)
@@ -78,7 +78,7 @@ module _ (input : List ℕ) where
             let w = begun kept script (opened p fuel) (opened p fuel) lines out (begins p fuel opens.compiled) part in
             inr (w.text, inl (programmed opens.reads opens.compiled, record { end = w.end; leads = w.leads }), w.prefix)) h
 
-        -- the dump behind the script
+        -- the dump after the script
         pub dumped : RenamedLaw → (text : List ℕ) → IsDumpBehind (opened p fuel) lines text → IsOutput (Dump fuel) input text
         unfolding programmed
         dumped renamed text behind =
@@ -88,7 +88,7 @@ module _ (input : List ℕ) where
               record { replies = there.0; end = there.1; leads = there.2; dump = dump-in renamed behind.end there.1 there.3 text behind.is },
             )
 
-        -- the save behind the script
+        -- the save after the script
         pub saved : RenamedLaw → SavedLaw → (text : List ℕ) → IsSaveBehind (source_of input part) (opened p fuel) lines text → IsOutput (Save fuel) input text
         unfolding programmed
         saved renamed saves text behind =

@@ -76,7 +76,7 @@ empty-line one m text n h =
       h.next ∙ ap (behind m) is,
     )
 
--- so it may be left out behind others
+-- so it may be left out after others
 pub without-empty : OneCommandLaw → (front : List (List ℕ)) (m : Situation) (out : List ℕ) (n : Situation) → Leads m (front ++ ([] ∷ [])) out n → Leads m front out n
 unfolding Leads
 without-empty one [] m out n (text, mid, rest, replies, (none, same), e) =
@@ -84,7 +84,7 @@ without-empty one [] m out n (text, mid, rest, replies, (none, same), e) =
     (e ∙ (ap (λ t. t ++ rest) blank.0 ∙ none), same ∙ blank.1)
 without-empty one (line ∷ front) m out n (text, mid, rest, replies, more, e) = (text, mid, rest, replies, without-empty one front mid rest n more, e)
 
--- The bytes come to the same behind another input.
+-- The bytes come to the same after another input.
 module _ (input other : List ℕ) (part there : Split) (source : source_of input part ≡ source_of other there) (marked : part.marked ≡ there.marked) where
   pub comes-again : (r : Result Typed Fault) → PartComes input part r → PartComes other there r
   comes-again r (inl h) = inl (record { fault = h.fault; stands = subst (λ b. IsFirstFault b h.fault) source h.stands; same = h.same })

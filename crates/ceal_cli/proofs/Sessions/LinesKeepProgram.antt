@@ -85,7 +85,7 @@ answer-keeps s more (Some Steps) = (refl, refl)
 answer-keeps s more (Some Work) = (refl, refl)
 answer-keeps s more (Some Bound) = (refl, refl)
 
--- So it is behind a line, and behind lines one after another.
+-- So it is after a line, and after lines one after another.
 pub record KeptBehind (m n : Situation) : Type 0 where
   pub code : n.code ≡ m.code
   pub program : n.state.program ≡ m.state.program

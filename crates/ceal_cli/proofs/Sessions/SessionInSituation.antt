@@ -33,7 +33,7 @@ use Rattle.ceal_cli.specs.Dumps.{IsRecordIn, IsWrittenBy, IsWrittenOf, IsDumpOf,
 use Rattle.ceal_cli.specs.Saves.{save_of, with_source, IsSaveOf}
 use Rattle.ceal_cli.specs.Serving.{IsDumpFrom, IsSaveFrom}
 
--- each line has a reply, and the situation behind it is one that a session comes to
+-- each line has a reply, and the situation after it is one that a session comes to
 pub goes-on : SomeReplyLaw → (s : Situation) (line : List ℕ) → Stands s → (text : List ℕ) × (n : Situation) × Replies s line text n × Stands n
 goes-on law s line h = let a = law s line h in (a.text, a.next, a.replies, a.stands)
 

@@ -135,7 +135,7 @@ module _ (code : Code) (m : Blocks) (p : Place) (c : CellThere code.structs m p)
       rw (e', written-here m p.block p.field w c.block c.there, c.there) (field-if (f == p.field) f refl)
   at-if false b f e = rw (written-other m p.block b p.field w c.block c.there e)
 
-  -- a write changes the content of its place alone
+  -- a write changes only the content of its place
   pub written-contents : (q : Place) → contents code (written_at m p.block p.field w) q ≡ stored (contents code m) p w q
   unfolding contents stored
   written-contents q = at-if (same_block q.block p.block) q.block q.field refl

@@ -38,7 +38,7 @@ input-after code (Yields.makes {key = key} {b = b} e g r) x i = input-after code
 input-after code (Yields.writes e r) x i = input-after code r x i
 input-after code (Yields.reads {inside = inside} e r1 r2) x i = input-after code r2 (plain_after code x inside) i ∙ input-after code r1 x i
 
--- what a stack yields allocates core blocks alone
+-- what a stack yields allocates only core blocks
 pub all-core : {code : Code} {y : Plain} {st : Stack} {l : Trace} → Yields code y st l → length (core_numbers (blocks_of l)) ≡ length (blocks_of l)
 all-core (Yields.over e) = refl
 all-core (Yields.quiet e r) = all-core r

@@ -21,7 +21,7 @@ module _ (code : Code) (m0 : Blocks) (st0 : Stack) where
   abbrev AtEnd : Finished → Type 0
   AtEnd r = (stack : Stack) × Takes code m0 st0 r.steps r.memory stack × (next code (block_at r.memory) stack ≡ Over)
 
-  -- after so many steps, and not at the end
+  -- after that many steps, and not at the end
   abbrev Before : ℕ → Type 0
   Before k = (m : Blocks) × (stack : Stack) × Takes code m0 st0 k m stack × (next code (block_at m) stack ≡ Over → ⊥)
 

@@ -26,7 +26,7 @@ use Rattle.ceal_code.specs.Value.{is_cell}
 use Rattle.ceal_code.specs.declared.function.FunctionCode.{FunctionCode}
 use Rattle.ceal_code.specs.declared.function.FunctionCode.TheVariants.{Core as CoreFunction, Init as InitFunction}
 
--- words that name inputs alone are like themselves
+-- words that name only inputs are like themselves
 module _ (n : ℕ) (ps : Pairs) where
   pub id-self : (b : BlockId) → KnownBlock n [] b → IdAlike ps b b
   id-self (Input i) h = IdAlike.input

@@ -1,4 +1,4 @@
--- What a run, or a part of a repair, leaves: the definition's past behind it is one of the call.
+-- What a run, or a part of a repair, leaves: the definition's past after it is one of the call.
 use Rattle.std.proofs.Common.{◌≡◌, inl, inr, ℕ, ◌+◌, ◌≤◌, ◌==◌, Bool, true, false, if◌then◌else◌, Option, Some, None, List, [], ◌∷◌, is_some, refl, sym, ap, ◌∙◌, subst, arith}
 use Rattle.std.proofs.lemmas.Bool.Decides.{leb_tells}
 use Rattle.ceal_base.specs.Block.{Block}
@@ -80,7 +80,7 @@ module _ (code : Code) (inputs : List Block) (f : ℕ) (args : List Word) (fits 
       (begin-law code own inputs inputs f args l.items (above l.items) (above l.items) (edited-so code inputs f args fits l.items h (above l.items) (is-above l.items)) own-single (λ j i. is-above l.items j i))
   next-sound (Going q) h r e = subst (Sound code own inputs f args) (some-same q r e) h
 
-  -- what the past behind a run is, by the run from scratch: none where that is out of fuel, a trace that is honest, or a repair that goes on,
+  -- what the past after a run is, by the run from scratch: none where that is out of fuel, a trace that is honest, or a repair that goes on,
   -- which is in a part alone
   pub data Ran (reads : Option ℕ) (o : Option Finished) : Past → Type 0 where
     out : o ≡ None → Ran reads o NoTrace
@@ -94,7 +94,7 @@ module _ (code : Code) (inputs : List Block) (f : ℕ) (args : List Word) (fits 
     abbrev run : Option Finished
     run = fresh code f args inputs fuel
 
-    -- the call is run anew
+    -- the call is run again
     ran-first : (o : Option Finished) → run ≡ o → Ran reads run (first_past first)
     ran-first None e = subst (λ x. Ran reads run (first_past x)) (sym (no-first e)) (Ran.out e)
     ran-first (Some r) e =

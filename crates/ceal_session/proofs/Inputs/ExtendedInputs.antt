@@ -83,7 +83,7 @@ module _ (code : Code) (old new : List Block) (h : Extended code old new) (count
       let p = h i old-there.0 old-there.1 in
       (old-there.0, old-there.1, ap (λ b. b.shape) (some-same (plain_block code.structs old-there.0) (plain_block code.structs block) (sym p ∙ ap (option_map (plain_block code.structs)) e)))
 
-  -- one input more behind both
+  -- one input more after both
   pub extended-both : (b : Block) → Extended code (old ++ b ∷ []) (new ++ b ∷ [])
   extended-both b i block e = elim (leb_tells (suc i) (length old)) [
     | inl p ↦ front (omega (arith, p.1))

@@ -1,4 +1,4 @@
--- A line of a session that is in a situation is answered as there, and the session is in the situation behind the line.
+-- A line of a session that is in a situation is answered as there, and the session is in the situation after the line.
 use Rattle.std.proofs.Common.{◌≡◌, ℕ, Option, Result, Ok, Err, List, refl, sym, ap, ◌∙◌, subst}
 use Rattle.ceal_base.specs.Block.{Block}
 use Rattle.ceal_base.specs.declared.call.Call.{Call}
@@ -18,7 +18,7 @@ use Rattle.ceal_session.specs.declared.refusal.Refusal.{Refusal}
 abbrev pub FactsLaw : Type 0
 FactsLaw = (m : Situation) (line : List ℕ) (command : Option Command) → Reads line command → Stands m → LineFacts m command
 
--- what both have behind the line, by its call
+-- what both have after the line, by its call
 abbrev pub SameBehind : Situation → Option Command → Result Call Refusal → Situation → Type 0
 SameBehind m command called new =
     (new.code ≡ m.code)

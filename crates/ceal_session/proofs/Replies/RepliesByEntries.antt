@@ -66,7 +66,7 @@ can-tell-line : (s : State) (more : Bool) (m : Situation) → Stands m → s ≡
 can-tell-line s more m st e None = tt
 can-tell-line s more m st e (Some command) = can-tell m.state more st.named command
 
--- the entry of a line says whether a repair goes on behind it
+-- the entry of a line says whether a repair goes on after it
 entry-goes : (p : Past) (bound : ℕ) (later : List Entry) → goes_on (entry_of p bound ∷ later) ≡ goes p
 entry-goes NoTrace bound later = refl
 entry-goes (Traced l) bound later = refl
@@ -80,13 +80,13 @@ entry-latest latest NoTrace bound later l e = absurd (grind (arith, e))
 entry-latest latest (Traced k) bound later l e = ap (λ (x : Repaired). record { work = x.work; bound = bound }) (same-run k l e)
 entry-latest latest (Going r) bound later l e = absurd (grind (arith, e))
 
--- the latest numbers behind it, with the entries to come
+-- the latest numbers after it, with the entries to come
 told-on : (latest : Numbers) (p : Past) (bound : ℕ) (later : List Entry) → record { latest = (taken latest (entry_of p bound ∷ [])).latest; coming = later } ≡ taken latest (entry_of p bound ∷ later)
 told-on latest NoTrace bound later = refl
 told-on latest (Traced l) bound later = refl
 told-on latest (Going r) bound later = refl
 
--- the situation behind each line stands
+-- the situation after each line stands
 abbrev pub BehindLaw : Type 0
 BehindLaw = (m : Situation) (line : List ℕ) (command : Option Command) → Reads line command → Stands m → Stands (behind m command)
 

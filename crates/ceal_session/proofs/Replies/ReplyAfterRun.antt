@@ -123,7 +123,7 @@ module _ (m n : Situation) (outcome : Outcome) (some : is_some m.state.call ≡ 
         go None i s = absurd (grind (arith, s))
         go (Some call) i s = part-left m n call reads outcome (h call i) r e
 
--- behind a part of a repair a change stands
+-- after a part of a repair a change stands
 part-changes : (s : State) (more : Bool) (call : Call) → IsQuiet (runs_part s more (Ok call)).reply → ⊥
 part-changes s true call h = h
 part-changes s false call h = go (run_of s call) h

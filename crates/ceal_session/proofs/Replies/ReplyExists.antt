@@ -1,4 +1,4 @@
--- In a situation that a session comes to each line has a reply, and the situation behind it is such a one.
+-- In a situation that a session comes to each line has a reply, and the situation after it is such a one.
 use Rattle.std.proofs.Common.{◌≡◌, ◌⊎◌, inl, inr, ℕ, ◌<◌, ◌||◌, Bool, true, false, Option, Some, None, Result, Ok, Err, List, [], ◌∷◌, ◌++◌, length, map, is_none, is_some, if◌then◌else◌, refl, sym, ap, ◌∙◌, subst, slice_get, take, length-append, arith}
 use Rattle.std.specs.List.{list_any, IsDistinct}
 use Rattle.std.proofs.lemmas.Map.Keys.{IsDistinct-push}
@@ -135,7 +135,7 @@ pub record Moves (s t : State) (calls : Result Call Refusal) : Type 0 where
   pub inputs : (call : Call) → calls ≡ Ok call → t.inputs ≡ s.inputs
   pub same_call : (r : Refusal) → calls ≡ Err r → t.call ≡ s.call
 
--- there is a text of the step's reply, and the situation behind it stands
+-- there is a text of the step's reply, and the situation after it stands
 pub record Good (m : Situation) (called : Result Call Refusal) (step : Step) (past : Past) : Type 0 where
   pub text : List ℕ
   pub is : IsText m.state (numbers_in m) step.reply text
@@ -354,7 +354,7 @@ module _ (progress : ProgressLaw) (line_law : LineLaw) (whole_law : WholeLaw) (t
         subst (λ o. Ran code s.inputs call.function call.args (fits-call call a.is) s.fuel reads o (past_left code s (Ok call) reads m.past)) (code-run call a.is)
         (ran code s.inputs call.function call.args (fits-call call a.is) s.fuel reads m.past (past-before call a))
 
-    -- the situation behind a run
+    -- the situation after a run
     pub with-call : (call : Call) (out : Bool) (past : Past) → IsCall s call → IsPastIn code (with_run s call out) (Some call) past
         → Stands (record { state = with_run s call out; code = code; past = past; bound = m.bound })
     with-call call out past h t = record {

@@ -57,7 +57,7 @@ past-of code s call NoTrace h = tt
 past-of code s call (Traced l) h = h.replays
 past-of code s call (Going r) h = h.sound
 
--- behind a line that runs, both have the same past again, and one bound
+-- after a line that runs, both have the same past again, and one bound
 pub ran-past : (m session n : Situation) (call : Call) (reads : Option ℕ) → session.code ≡ m.code → session.state ≡ m.state → session.bound ≡ m.bound
     → IsPastOf m.code m.state.inputs call.function call.args m.past → SamePast m.code m.state.inputs call.function call.args m.past session.past
     → Retraces session call reads n
@@ -87,8 +87,8 @@ kept-reply m session n line text s b same a more =
       next = refl;
     }
 
--- What is known of each line of a situation that a session comes to: the situation behind it stands, the call of a line that runs is the one
--- that was accepted before or the first one, and it fits; the inputs behind a line that runs none extend those before it.
+-- What is known of each line of a situation that a session comes to: the situation after it stands, the call of a line that runs is the one
+-- that was accepted before or the first one, and it fits; the inputs after a line that runs none extend those before it.
 pub record LineFacts (m : Situation) (command : Option Command) : Type 0 where
   pub stands : Stands (behind m command)
   pub called : (call : Call) → call_in m.state command ≡ Ok call → (behind m command).state.call ≡ Some call
@@ -99,7 +99,7 @@ pub record LineFacts (m : Situation) (command : Option Command) : Type 0 where
   pub fit : inputs_fit m.code.structs (behind m command).state.inputs ≡ true
   pub extended : Extended m.code m.state.inputs (behind m command).state.inputs
 
--- behind a line that runs nothing both have the same past on the inputs there
+-- after a line that runs nothing both have the same past on the inputs there
 pub more-same : (code : Code) (old new : List Block) (o : Option Call) → IfSome o (λ call. Fits code old call.function call.args)
     → inputs_fit code.structs new ≡ true → Extended code old new → (p q : Past) → IsSamePast code old o p q → IsSamePast code new o p q
 more-same code old new None fits fit ext p q h = h

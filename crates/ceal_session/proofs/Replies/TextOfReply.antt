@@ -14,7 +14,7 @@ use Rattle.ceal_session.specs.declared.reply.Reply.TheVariants.{Nothing, Ok as D
 use Rattle.ceal_session.specs.Keeping.{Held, situation}
 use Rattle.ceal_session.specs.State.{State, Numbers, numbers_in}
 
--- a reply that no change stands behind is that of the session before
+-- a reply that no change stands after is that of the session before
 pub text-back : (m n : Held) (reply : Reply) (text : List ℕ) → (IsQuiet reply → n ≡ m) → IsText n.state (numbers_in (situation n)) reply text
     → IsText m.state (numbers_in (situation m)) reply text
 text-back m n Nothing text same h = h
@@ -25,7 +25,7 @@ text-back m n Finished text same h = h
 text-back m n (Refused r) text same h = h
 text-back m n (Told q) text same h = rw (← same tt) h
 
--- and can be told behind it where it could before
+-- and can be told after it where it could before
 tell-after : (m n : Held) (reply : Reply) → (IsQuiet reply → n ≡ m) → CanTell m.state reply → CanTell n.state reply
 tell-after m n Nothing same h = tt
 tell-after m n Done same h = tt
@@ -56,7 +56,7 @@ answers m n more line reply text same h t = record {
 not-so-long : (text : List ℕ) (n : ℕ) → length text ≡ n → n < 13 → 12 < length text → ⊥
 not-so-long text n e k l = omega (arith, e, k, l)
 
--- no change stands behind a long answer
+-- no change stands after a long answer
 pub long-quiet : (s : State) (numbers : Numbers) (reply : Reply) (text : List ℕ) → IsText s numbers reply text → 12 < length text → IsQuiet reply
 long-quiet s numbers Nothing text h l = tt
 long-quiet s numbers Done text h l = not-so-long text 3 (ap length h) (omega arith) l

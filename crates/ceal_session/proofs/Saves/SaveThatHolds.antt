@@ -1,4 +1,4 @@
--- A save that holds: its trace, its situation, and a session whose engine has run its call anew.
+-- A save that holds: its trace, its situation, and a session whose engine has run its call again.
 use Rattle.std.proofs.Common.{◌≡◌, ℕ, ◌≤◌, true, false, Option, Some, None, List, [], length, refl, sym, ap, ◌∙◌, subst, arith}
 use Rattle.std.specs.Option.{IsSomeAnd}
 use Rattle.std.specs.Prelude.{IfSome}

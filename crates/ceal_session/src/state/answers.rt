@@ -66,7 +66,7 @@ impl State {
         self.engine.work()
     }
 
-    /// A bound of that work, which is made of first traces alone.
+    /// A bound of that work, which is made only of first traces.
     pub fn bound(&self, alloc: Global) -> Result<u32, NoMemory>
         requires { IsReady self.now.state }
         ensures bound { IfOk result (λ n. n ≡ (situation self.now).bound) }

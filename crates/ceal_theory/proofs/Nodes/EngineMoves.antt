@@ -107,7 +107,7 @@ module _ (code : Code) (names : ℕ → ℕ) where
   passes {vs = vs} (Nested.end {ws = ws} {is = is} n) s h rest =
       and-on (fixing_at s (Fixes ∷ ws) (End ∷ (is ++ rest))) (fixing_at s ws (is ++ rest)) (fixing_at (with_store s (store_after code s.store is)) vs rest) End is refl (passes n s h.1 rest)
 
-  -- a stale read in what is kept is run anew: its steps are dropped
+  -- a stale read in what is kept is re-executed: its steps are dropped
   pub repairs : (s : State) (ws : List Wait) (p : Place) (value : Word) (u : UnitId) (v : ℕ) (args : List Word) (stamp n : ℕ) (back : List Knot)
       → same_word (s.store p) value ≡ false
       → Comes (fixing_at s ws (items_in (knot stamp (Read p value u v args) n ∷ back))) (Read p (s.store p) u v args ∷ []) (running_at s (resumed code u v args (s.store p)) (Fixes ∷ ws) (items_in back))
@@ -124,7 +124,7 @@ module _ (code : Code) (names : ℕ → ℕ) where
       rw (around-knots g (knot e End m ∷ rest)) (one-turn (record { state = s; mode = Running st (first (levels (items_in (knots g ++ knot e End m ∷ rest)))); frames = frames_at (Fixes ∷ ws) (levels (ticks m ++ items_in rest)) })
       (fixing_at s ws (ticks m ++ items_in rest)) (End ∷ []) (rw h refl))
 
-  -- a taken read that was run anew is over: what was left over after it is used from here on
+  -- a taken read that was re-executed is over: what was left over after it is used from here on
   pub retaken : (s : State) (st below : Stack) (ws : List Wait) (g : Grove) (e m : ℕ) (rest : List Knot) → next code s.plain st ≡ Over
       → Comes (running_at s st (Takes below ∷ ws) (items_in (knots g ++ knot e End m ∷ rest))) (End ∷ []) (running_at s below ws (items_in rest))
   unfolding turn

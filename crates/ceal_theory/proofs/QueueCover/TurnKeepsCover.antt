@@ -122,7 +122,7 @@ module _ {names : ℕ → ℕ} (code : Code) (inputs : List Block) (f : ℕ) (ws
       go (Input i) k = refl
       go (Core c) k = core c k
 
--- the unit of a located read ran anew: its new items are honest from the new start, too
+-- the unit of a located read was re-executed: its new items are honest from the new start, too
 module _ {names : ℕ → ℕ} (code : Code) (inputs : List Block) (f : ℕ) (ws : List Word) (fits : Fits code inputs f ws) (r : Repair) (h : Sound code names inputs f ws r) {front back : List Item} {w : Store} {p : Place} {value : Word} {u : UnitId} {v : ℕ} {args : List Word} {inside : Trace}
     (at : At code (starting code inputs r.known) r.items front w p value u v args inside back) (t : State) (new left : Trace) (a : Anew code names (with_store (goes_on code inputs r) w) (resumed code u v args (w p)) inside t new left) where
   ready : Ready names h.single code (length inputs) (with_inputs code inputs r.known) (known_after [] front) (with_store (goes_on code inputs r) w) p value u v args inside

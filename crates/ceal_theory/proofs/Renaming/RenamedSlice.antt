@@ -253,6 +253,6 @@ module _ (code : Code) (inputs : List Block) (fit : inputs_fit code.structs inpu
         let t = there-too names names' single single' ps r q h k n a e in
         subst (λ o. RenamedSlices code names names' inputs ps r q (Some a) o) (sym t.1 ∙ e') t.2
 
-    -- a slice of the renamed repair is there exactly where that of the repair is, and is that one renamed
+    -- a slice of the renamed repair is there exactly when that of the repair is, and is that one renamed
     pub slice-renamed : RenamedSlices code names names' inputs ps r q (sliced code names inputs k n r) (sliced code names' inputs k n q)
     slice-renamed = by-cases (sliced code names inputs k n r) (sliced code names' inputs k n q) refl refl

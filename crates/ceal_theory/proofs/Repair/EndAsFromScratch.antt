@@ -1,4 +1,4 @@
--- A repair is found exactly where the run from scratch ends, and the first trace is that of the run.
+-- A repair is found exactly when the run from scratch ends, and the first trace is that of the run.
 use Rattle.std.proofs.Common.{◌≡◌, ℕ, zero, suc, ◌+◌, ◌≤◌, true, Option, Some, None, List, [], ◌∷◌, ◌++◌, length, refl, sym, ap, ◌∙◌, subst, arith}
 use Rattle.ceal_base.specs.Block.{Block}
 use Rattle.ceal_base.specs.Finished.{Finished}
@@ -36,7 +36,7 @@ use Rattle.ceal_theory.specs.Computed.{Repaired, adjusted, first_of}
 use Rattle.ceal_theory.specs.Laws.{numbers, FirstTrace, FirstOutcome}
 use Rattle.ceal_theory.specs.Repair.{own, Single, State, begins, works, Anew}
 
--- where nothing is left over, each step is made anew
+-- where nothing is left over, each step is made again
 first-work : {code : Code} {s s' : State} {st : Stack} {old new left : Trace} → Anew code own s st old s' new left → old ≡ Nothing → (left ≡ Nothing) × (s'.work ≡ s.work + steps_of new)
 first-work (Anew.over e) o = (o, omega arith)
 first-work (Anew.quiet e a) o = let q = first-work a o in (q.0, omega (arith, q.1))
@@ -159,7 +159,7 @@ module _ (code : Code) (inputs : List Block) (f : ℕ) (args : List Word) (fits 
   first-by (Some a) (Some r) e g =
       let s = first-sound code inputs n f args a e in FirstOutcome.some (first-trace code inputs f args fits a.items a.work s.0 n s.1 r g)
 
-  -- the first trace is there exactly where the run from scratch ends
+  -- the first trace is there exactly when the run from scratch ends
   pub first-law : FirstOutcome code inputs f args (first_of code inputs n f args) (fresh code f args inputs n)
   first-law = first-by (first_of code inputs n f args) (fresh code f args inputs n) refl refl
 

@@ -39,7 +39,7 @@ module _ {names : ℕ → ℕ} (code : Code) where
       walked-read s a b n j p w u v args i i' l l' e (walk-part h1 s j g) f (λ f. walk-part h2 s j f)
   walk-part (Honest.read e h1 h2) s j (Part.stale apart' n f) = absurd (apart' e)
 
-  -- more reads may be run anew
+  -- more reads may be re-executed
   pub part-plus : {k j : ℕ} {s s' : State} {l m : Trace} → Part code names k s l (suc j) s' m → (n : ℕ) → Part code names (beyond k n) s l (beyond (suc j) n) s' m
   part-plus Part.end n = Part.end
   part-plus (Part.step f) n = Part.step (part-plus f n)

@@ -30,7 +30,7 @@ module _ (code : Code) (names : ℕ → ℕ) where
     pub items : m ≡ m'
     pub lefts : left ≡ left'
 
-  -- a unit that is run anew comes to one end
+  -- a unit that is re-executed comes to one end
   pub anew-one : {s t t' : State} {st : Stack} {old m m' left left' : Trace} → Anew code names s st old t m left → Anew code names s st old t' m' left' → SameRun t t' m m' left left'
   anew-one {s} {t} {t'} {st} {old} {m} {m'} {left} {left'} a b =
       let d = suc (t.work + t'.work) in

@@ -36,7 +36,7 @@ module _ (code : Code) (n : ℕ) (y : Plain) where
   knows : (bs : List ℕ) → Holds n bs y → (st : Stack) (a : Act) → KnownStack n bs st → next code y st ≡ a → KnownAct n bs a
   knows bs h st a k e = subst (KnownAct n bs) e (next-known n bs y h y (λ b i. refl) code st k)
 
-  -- what is yielded and honest, from a store that names known blocks alone, mentions in order
+  -- what is yielded and honest, from a store that names only known blocks, mentions in order
   pub ordered : {st : Stack} {l : Trace} {s t : Store} → Yields code y st l → Honest code s l t → (bs : List ℕ) → Holds n bs y → ((p : Place) → KnownWord n bs (s p)) → KnownStack n bs st → Ordered bs l t
   ordered (Yields.over e) Honest.end bs h g k = record { known = bs; mentions = Mentions.end; holds = h; store = g }
   ordered {st} (Yields.quiet {after = after} e r) (Honest.step w) bs h g k =

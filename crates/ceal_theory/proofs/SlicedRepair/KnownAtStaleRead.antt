@@ -79,7 +79,7 @@ module _ (names : ℕ → ℕ) (single : Single names) (code : Code) (n : ℕ) (
         let g2 = walk-good r2 w2 (with_store s m) is refl (known_after bs (flat o)) g1 (stack-more n bs (known_after bs (flat o)) (allocs-more bs (flat o)) below c.2) h.2 in
         subst (λ bs. Good names n bs (with_store s t)) (sym (allocs-both bs (flat o) (End ∷ flat l))) g2
 
-  -- what is known where the unit runs anew, bs being the blocks that the items before the read allocate
+  -- what is known where the unit is re-executed, bs being the blocks that the items before the read allocate
   pub record Ready (bs : List ℕ) (s : State) (p : Place) (value : Word) (u : UnitId) (v : ℕ) (args : List Word) (inside : Trace) : Type 0 where
     pub good : Good names n bs s
     pub place : KnownBlock n bs p.block

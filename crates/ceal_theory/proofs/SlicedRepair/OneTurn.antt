@@ -1,4 +1,4 @@
--- One read repaired: the first that is not honest runs anew, and all other items stay.
+-- One read repaired: the first that is not honest is re-executed, and all other items stay.
 use Rattle.std.proofs.Common.{◌≡◌, ℕ, zero, suc, ◌≤◌, Bool, true, false, List, [], ◌∷◌, ◌++◌, refl, sym, ap, ◌∙◌, subst, arith}
 use Rattle.ceal_base.specs.Operators.{same_word}
 use Rattle.ceal_base.specs.Trace.{Trace, Nothing, Stepped, Allocated, Wrote, WasRead, flat}
@@ -196,7 +196,7 @@ module _ (code : Code) (names : ℕ → ℕ) where
       let z : Part code names (suc k) (with_store s a) (WasRead p value u v args i l) (suc k) (with_store s b) (WasRead p (a p) u v args i l) = Part.kept e (honest-part h1 s k) (honest-part h2 s k) in
       subst (λ w. Part code names (suc k) (with_store s a) (WasRead p value u v args i l) (suc k) (with_store s b) (WasRead p w u v args i l)) e z
 
-  -- the trace once the unit of the read ran anew
+  -- the trace once the unit of the read was re-executed
   pub record Repaired (s : State) (l : Trace) (front : List Item) (p : Place) (w : Word) (u : UnitId) (v : ℕ) (args : List Word) (back : List Item) (t : State) (inside' : Trace) : Type 0 where
     pub items : Trace
     pub part : Part code names (suc zero) s l zero t items
@@ -226,7 +226,7 @@ module _ (code : Code) (names : ℕ → ℕ) where
             ∙ ap (λ is. Read x y c k ws ∷ is) (ap (λ is. flat within ++ End ∷ is) z.flat_items ∙ sym (parts code (flat within) front _ End));
       }
 
-  -- a part of which one read at least may run anew ran this unit anew, with no more work than its own
+  -- a part of which one read at least may be re-executed has re-executed this unit, with no more work than its own
   pub record Must (s : State) (w : Store) (p : Place) (u : UnitId) (v : ℕ) (args : List Word) (inside : Trace) (s' : State) : Type 0 where
     pub state : State
     pub new : Trace

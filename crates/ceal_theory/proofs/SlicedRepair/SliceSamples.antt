@@ -50,7 +50,7 @@ box_2 = slice_one box (box_inputs 2) 11 box_1
 abbrev box_3 : Option Repair
 box_3 = slice_one box (box_inputs 2) 11 box_2
 
--- the first `make` runs anew and its block is revoked; then the second makes a block with another number; then `look`
+-- the first `make` is re-executed and its block is revoked; then the second makes a block with another number; then `look`
 boxed-1 : report box (box_inputs 2) box_1 ≡ Some (record { spent = 1; done = false; steps = 9; blocks = [] })
 unfolding first_of sliced is_done with_inputs starting anew next settled chosen bound woven set unset expr_value values bases input_plain plain_of stored cleared learnt made set_by set_by_all arguments take_read take_alloc hidden-the_row-CodeExpr-0 shape-the_row-CodeExpr-0 denote.Hole.Carrier.hidden
 boxed-1 = refl
@@ -97,7 +97,7 @@ two-1 : report two (two_inputs 2 7) two_1 ≡ Some (record { spent = 1; done = f
 unfolding first_of sliced is_done with_inputs starting anew next settled chosen bound woven set unset expr_value values bases input_plain plain_of stored cleared learnt made set_by set_by_all arguments take_read take_alloc hidden-the_row-CodeExpr-0 shape-the_row-CodeExpr-0 denote.Hole.Carrier.hidden
 two-1 = refl
 
--- the first read is run anew again after an edit, and counts again
+-- the first read is re-executed again after an edit, and counts again
 two-2 : report two (two_inputs 3 7) two_2 ≡ Some (record { spent = 2; done = false; steps = 6; blocks = [] })
 unfolding first_of sliced is_done with_inputs starting anew next settled chosen bound woven set unset expr_value values bases input_plain plain_of stored cleared learnt made set_by set_by_all arguments take_read take_alloc hidden-the_row-CodeExpr-0 shape-the_row-CodeExpr-0 denote.Hole.Carrier.hidden
 two-2 = refl

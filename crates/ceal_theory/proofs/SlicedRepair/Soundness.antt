@@ -64,7 +64,7 @@ default-known n bs structs (Some block) field = cell-known n bs (field_kind stru
 word-known : (n : ℕ) (bs : List ℕ) (w : Word) → KnownWord n [] w → KnownWord n bs w
 word-known n bs w h = Rattle.ceal_code.proofs.Words.StepLocality.word-more n [] bs (λ b i. elim i [ ]) w h
 
--- the store at the beginning names inputs alone
+-- the store at the beginning names only inputs
 pub starting-known : (code : Code) (inputs : List Block) → inputs_fit code.structs inputs ≡ true → (x : Plain) (p : Place) → KnownWord (length inputs) [] (starting code inputs x p)
 unfolding starting bases
 starting-known code inputs fit x p = go p.block p.field

@@ -4,7 +4,7 @@ use Rattle.ceal_code.specs.Tables.{memory_in}
 use Rattle.ceal_traceck.specs.Items.{AreMade}
 use Rattle.ceal_traceck.proofs.memory.are_made.Given as goal
 
--- all is right exactly where what is left is right
+-- all is right exactly when what is left is right
 abbrev pub invariant-loop-item : goal.invariant-loop-item
 invariant-loop-item l = AreMade (memory_in l.memory) l.fn.items l.fn.blocks ↔ AreMade (memory_in l.memory) l.items l.blocks
 
