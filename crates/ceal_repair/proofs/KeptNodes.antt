@@ -4,3 +4,4 @@ pub mod PassOne
 pub mod PassAll
 pub mod StaleRead
 pub mod StaleReadEnd
+pub mod GoesOn

@@ -1,9 +1,11 @@
 -- What is left over to a unit, and is taken by it.
 -- what this crate alone cites
 pub mod LeftOver
+pub mod NoNewEnds
 pub mod AllocReuse
 pub mod AllocReuseInCode
 pub mod ReadReuse
 pub mod ReadMatch
 pub mod ReadReuseInCode
+pub mod ReadTaken
 pub mod TakenReadEnd

@@ -2,6 +2,7 @@
 pub mod Lists
 pub mod Covered
 pub mod Kept
+pub mod Woken
 pub mod AsItems
 pub mod Words
 pub mod Entries

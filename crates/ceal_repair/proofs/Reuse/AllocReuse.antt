@@ -2,7 +2,7 @@
 use Rattle.std.proofs.Common.{◌≡◌, ◌≢◌, ℕ, inl, inr, ◌+◌, ◌<◌, ◌≤◌, true, false, Option, Some, None, List, [], ◌∷◌, ◌++◌, length, refl, sym, ap, subst, ◌∙◌, arith, append_assoc, append-nil, length-append}
 use Rattle.std.specs.Prelude.{IsSome, option_map}
 use Rattle.std.proofs.Math.Path.{fun_ext}
-use Rattle.std.proofs.lemmas.Bool.{cases_Bool, eq-eqb}
+use Rattle.std.proofs.lemmas.Bool.{eq-eqb}
 use Rattle.std.proofs.lemmas.Bool.Decides.{eqb_tells}
 use Rattle.ceal_base.specs.Block.{Block}
 use Rattle.ceal_base.specs.declared.forest.Item.{Item}
@@ -21,7 +21,8 @@ use Rattle.ceal_heap.specs.Heap.{Contents, Live, block_of, plain_of, plain_block
 use Rattle.ceal_order.specs.Stamps as order
 use Rattle.ceal_order.specs.Stamps.{is_in, head_of, place}
 use Rattle.ceal_order.specs.declared.stamp.Stamp.{Stamp}
-use Rattle.ceal_repair.proofs.Nodes.NodeItems.{more, in-case, behind-all, entries-joined, distinct-front, distinct-back, contents-put, contents-step, contents-base, opened-put, opened-step, began-put, began-step, known-append, known-allocs, known-items-append, known-items-after, tails-bound}
+use Rattle.ceal_repair.proofs.Nodes.NodeItems.{more, in-case, behind-all, distinct-front, distinct-back, contents-put, contents-step, contents-base, opened-put, opened-step, began-put, began-step, known-append, known-allocs, known-items-append, known-items-after, tails-bound}
+use Rattle.ceal_repair.proofs.Reuse.NoNewEnds.{end-append, append-end, cut-to-end, unfinished-none}
 use Rattle.ceal_repair.proofs.Reuse.LeftOver.{first-left, around-left, knows-bare, MatchAlloc, match-alloc, taken-as, TakenAs}
 use Rattle.ceal_repair.proofs.Runs.NewBlock.{in-count, cleared-own, cleared-other, differs, contents-written, unwritten, node-count}
 use Rattle.ceal_repair.proofs.Runs.UnitSteps.{StepMore, placed-step, blocks-more, blocks-steps, items-next, step-nodes}
@@ -29,21 +30,19 @@ use Rattle.ceal_repair.proofs.Nodes.NodeBlocks.{blocks_at, allocs-nodes, node_bl
 use Rattle.ceal_repair.specs.Around.{Bounds}
 use Rattle.ceal_repair.specs.Blocks.{HasBlocks, Given}
 use Rattle.ceal_repair.specs.Entries.{entry, closing, entries, CutTo, Lies}
-use Rattle.ceal_repair.specs.Moment.{View, Start, Placed, CourseNow, RunningNow, Unfinished, through, state_at, items_before}
+use Rattle.ceal_repair.specs.Moment.{View, Start, Placed, CourseNow, RunningNow, through, state_at, items_before}
 use Rattle.ceal_repair.specs.Repairs.{nodes_to}
-use Rattle.ceal_repair.specs.declared.frame.Frame.{Frame}
-use Rattle.ceal_repair.specs.declared.frame.Frame.TheVariants.{Begun, Taken, Kept as FrameKept}
 use Rattle.ceal_repair.specs.Words.{words_of, default_of}
 use Rattle.ceal_repair.specs.Covered.{contents_after}
 use Rattle.ceal_repair.specs.Kept.{Kept, QueuedBehind, base_in}
 use Rattle.ceal_repair.specs.Lists.{allocates, stamps_where, before, behind, between}
 use Rattle.ceal_repair.specs.declared.tables.Tables.{Tables}
 use Rattle.ceal_theory.specs.Cover.{known_after}
-use Rattle.ceal_theory.specs.Groves.{Grove, Bare, Made, Put, Got, cut, trace_in, bare}
+use Rattle.ceal_theory.specs.Groves.{Grove, Bare, trace_in, bare}
 use Rattle.ceal_trace.proofs.Entries.{has-held, has-read, stamps-changed, ends-changed}
 use Rattle.ceal_trace.proofs.Parts.{not_before, entry-part, position-part, changed-part}
 use Rattle.ceal_trace.specs.Items.{forest_of}
-use Rattle.ceal_trace.specs.Nodes.{Entry, stamps_in, has_node, position, node_at, held_by, end_in, ends, with_steps, steps_set, is_read}
+use Rattle.ceal_trace.specs.Nodes.{Entry, stamps_in, has_node, position, node_at, held_by, end_in, with_steps, steps_set, is_read}
 use Rattle.ceal_trace.specs.declared.node.Node.TheVariants.{Alloc, End}
 use Rattle.ceal_base.specs.declared.typed.StructInfo.{StructInfo}
 use Rattle.ceal_repair.proofs.Revocation.FirstNode.{cursor-at, front-long}
@@ -157,40 +156,6 @@ pub record CutMore (code : Code) (inputs : List Block) (cursor found : ℕ) (fro
   pub mods : new.mods ≡ mid.mods
   pub queue : new.stale ≡ mid.stale
   pub kept : Kept new
-
--- no end comes in where nodes are revoked
-end-append : (r : ℕ) (xs ys : List Entry) → end_in r (xs ++ ys) ≡ None → (end_in r xs ≡ None) × (end_in r ys ≡ None)
-end-append r [] ys h = (refl, h)
-end-append r (x ∷ xs) ys h = elim (cases_Bool (ends r x.node)) [
-  | inl e ↦ absurd (let bad : Some x.stamp ≡ None = rw e at h in cc)
-  | inr e ↦ let k = end-append r xs ys (rw e at h) in (rw e k.0, k.1)
-]
-
-append-end : (r : ℕ) (xs ys : List Entry) → end_in r xs ≡ None → end_in r ys ≡ None → end_in r (xs ++ ys) ≡ None
-append-end r [] ys h k = k
-append-end r (x ∷ xs) ys h k = elim (cases_Bool (ends r x.node)) [
-  | inl e ↦ absurd (let bad : Some x.stamp ≡ None = rw e at h in cc)
-  | inr e ↦ rw e (append-end r xs ys (rw e at h) k)
-]
-
-cut-end : (r : ℕ) (g : Grove) → end_in r (entries g) ≡ None → end_in r (entries (cut g)) ≡ None
-cut-end r Bare h = h
-cut-end r (Made t b k n rest) h = h
-cut-end r (Put t p v n rest) h = h
-cut-end r (Got t p v u x args n inside e m rest) h =
-    let k = end-append r (entries inside) (closing e t m ∷ entries rest) h in
-    let l = end-append r (closing e t m ∷ []) (entries rest) k.1 in
-    subst (λ es. end_in r es ≡ None) (sym (entries-joined inside rest)) (append-end r (entries inside) (entries rest) k.0 l.1)
-
-cut-to-end : (r : ℕ) {s : ℕ} {g h : Grove} → CutTo s g h → end_in r (entries g) ≡ None → end_in r (entries h) ≡ None
-cut-to-end r (CutTo.there f) e = e
-cut-to-end r (CutTo.more {g = g} f c) e = cut-to-end r c (cut-end r g e)
-
-unfinished-none : (fs : List Frame) (old new : List Entry) → ((r : ℕ) → end_in r old ≡ None → end_in r new ≡ None) → Unfinished fs old → Unfinished fs new
-unfinished-none [] old new h u = tt
-unfinished-none (Begun below read ∷ fs) old new h u = (h read.0 u.0, unfinished-none fs old new h u.1)
-unfinished-none (Taken below limit ∷ fs) old new h u = unfinished-none fs old new h u
-unfinished-none (FrameKept until ∷ fs) old new h u = unfinished-none fs old new h u
 
 -- the plain words of blocks that stand as they did
 words-input : (code : Code) (inputs : List Block) (heap heap' : Contents) (i : ℕ) → words_of code inputs heap' (Input i) ≡ words_of code inputs heap (Input i)

@@ -24,7 +24,8 @@ use Rattle.ceal_heap.specs.Heap.{Contents, block_of}
 use Rattle.ceal_order.specs.Stamps as order
 use Rattle.ceal_order.specs.Stamps.{is_in, head_of, place}
 use Rattle.ceal_order.specs.declared.stamp.Stamp.{Stamp}
-use Rattle.ceal_repair.proofs.Nodes.NodeItems.{more, behind-all, entries-joined, distinct-front, distinct-back, contents-append, forest-put, opened-put, opened-step, began-put, began-step, known-append}
+use Rattle.ceal_repair.proofs.Nodes.NodeItems.{more, behind-all, distinct-front, distinct-back, contents-append, forest-put, opened-put, opened-step, began-put, began-step, known-append}
+use Rattle.ceal_repair.proofs.Reuse.NoNewEnds.{end-append, append-end, cut-to-end, unfinished-none}
 use Rattle.ceal_repair.proofs.Reuse.LeftOver.{first-left, around-left}
 use Rattle.ceal_repair.proofs.Runs.UnitSteps.{StepMore, placed-step, blocks-still, blocks-more, blocks-steps, items-next, same-next, step-nodes, knows-act}
 use Rattle.ceal_repair.proofs.Nodes.NodeBlocks.{blocks_at, node_blocks}
@@ -33,9 +34,8 @@ use Rattle.ceal_repair.proofs.Reuse.AllocReuse.{bound-now, words-same, course-ba
 use Rattle.ceal_repair.specs.Around.{Tails, Passes, Inside}
 use Rattle.ceal_repair.specs.Blocks.{HasBlocks, Given}
 use Rattle.ceal_repair.specs.Entries.{stamped, entry, closing, entries, CutTo, Lies}
-use Rattle.ceal_repair.specs.Moment.{View, Start, Placed, RunningNow, PassingNow, Unfinished, through, state_at}
-use Rattle.ceal_repair.specs.declared.frame.Frame.{Frame}
-use Rattle.ceal_repair.specs.declared.frame.Frame.TheVariants.{Begun, Taken, Kept as FrameKept}
+use Rattle.ceal_repair.specs.Moment.{View, Start, Placed, RunningNow, PassingNow, through, state_at}
+use Rattle.ceal_repair.specs.declared.frame.Frame.TheVariants.{Taken}
 use Rattle.ceal_repair.specs.Words.{words_of}
 use Rattle.ceal_repair.specs.Covered.{contents_after}
 use Rattle.ceal_repair.specs.Kept.{Kept, Records, QueuedBehind, base_in, contents_at}
@@ -45,7 +45,7 @@ use Rattle.ceal_theory.proofs.Reuse.StepsBetween.{frames-self}
 use Rattle.ceal_theory.proofs.Reuse.TakenAfterRevocation.{bare-stepped}
 use Rattle.ceal_theory.specs.Course.{Takes, frames_at, running_at, fixing_at, BareMode, BareFrames, BareSame}
 use Rattle.ceal_theory.specs.Cover.{known_after}
-use Rattle.ceal_theory.specs.Groves.{Grove, Bare, Made, Put, Got, cut, trace_in, bare, stepped}
+use Rattle.ceal_theory.specs.Groves.{Grove, trace_in, bare, stepped}
 use Rattle.ceal_theory.specs.Levels.{first, around, levels}
 use Rattle.ceal_theory.specs.Repair.{works, resumed}
 use Rattle.ceal_theory.specs.Take.{take_read}
@@ -68,39 +68,6 @@ before-part e back (x ∷ xs) h = elim (eqb_tells x.stamp e.stamp) [
   | inl p ↦ absurd (let bad : true ≡ false = rw p.0 at h in cc)
   | inr p ↦ rw p.0 (ap (λ es. x ∷ es) (before-part e back xs (rw p.0 at h)))
 ]
-
-pub end-append : (r : ℕ) (xs ys : List Entry) → end_in r (xs ++ ys) ≡ None → (end_in r xs ≡ None) × (end_in r ys ≡ None)
-end-append r [] ys h = (refl, h)
-end-append r (x ∷ xs) ys h = elim (cases_Bool (ends r x.node)) [
-  | inl e ↦ absurd (let bad : Some x.stamp ≡ None = rw e at h in cc)
-  | inr e ↦ let k = end-append r xs ys (rw e at h) in (rw e k.0, k.1)
-]
-
-pub append-end : (r : ℕ) (xs ys : List Entry) → end_in r xs ≡ None → end_in r ys ≡ None → end_in r (xs ++ ys) ≡ None
-append-end r [] ys h k = k
-append-end r (x ∷ xs) ys h k = elim (cases_Bool (ends r x.node)) [
-  | inl e ↦ absurd (let bad : Some x.stamp ≡ None = rw e at h in cc)
-  | inr e ↦ rw e (append-end r xs ys (rw e at h) k)
-]
-
-cut-end : (r : ℕ) (g : Grove) → end_in r (entries g) ≡ None → end_in r (entries (cut g)) ≡ None
-cut-end r Bare h = h
-cut-end r (Made t b k n rest) h = h
-cut-end r (Put t p v n rest) h = h
-cut-end r (Got t p v u x args n inside e m rest) h =
-    let k = end-append r (entries inside) (closing e t m ∷ entries rest) h in
-    let l = end-append r (closing e t m ∷ []) (entries rest) k.1 in
-    subst (λ es. end_in r es ≡ None) (sym (entries-joined inside rest)) (append-end r (entries inside) (entries rest) k.0 l.1)
-
-cut-to-end : (r : ℕ) {s : ℕ} {g h : Grove} → CutTo s g h → end_in r (entries g) ≡ None → end_in r (entries h) ≡ None
-cut-to-end r (CutTo.there f) e = e
-cut-to-end r (CutTo.more {g = g} f c) e = cut-to-end r c (cut-end r g e)
-
-pub unfinished-none : (fs : List Frame) (old new : List Entry) → ((r : ℕ) → end_in r old ≡ None → end_in r new ≡ None) → Unfinished fs old → Unfinished fs new
-unfinished-none [] old new h u = tt
-unfinished-none (Begun below read ∷ fs) old new h u = (h read.0 u.0, unfinished-none fs old new h u.1)
-unfinished-none (Taken below limit ∷ fs) old new h u = unfinished-none fs old new h u
-unfinished-none (FrameKept until ∷ fs) old new h u = unfinished-none fs old new h u
 
 pub given-same : (firsts chosen : List ℕ) (heap heap' : Contents) → ((b : BlockId) → block_of heap' b ≡ block_of heap b) → Given firsts chosen heap → Given firsts chosen heap'
 given-same firsts chosen heap heap' h g = record {

@@ -20,7 +20,8 @@ use Rattle.ceal_order.specs.declared.stamp.Stamp.{Stamp}
 use Rattle.ceal_repair.proofs.Revocation.FirstNode.{cursor-at, front-long}
 use Rattle.ceal_repair.proofs.Nodes.NodeItems.{behind-all, contents-put, contents-base, forest-put, opened-put, began-put, closed-last, known-append}
 use Rattle.ceal_repair.proofs.Runs.UnitSteps.{blocks-steps}
-use Rattle.ceal_repair.proofs.Reuse.ReadReuse.{end-append, append-end, unfinished-none, given-same, levels-behind, first-ticks, around-ticks}
+use Rattle.ceal_repair.proofs.Reuse.NoNewEnds.{end-append, append-end, unfinished-none}
+use Rattle.ceal_repair.proofs.Reuse.ReadReuse.{given-same, levels-behind, first-ticks, around-ticks}
 use Rattle.ceal_repair.proofs.Reuse.AllocReuse.{words-same, course-bare}
 use Rattle.ceal_repair.specs.Around.{Tails}
 use Rattle.ceal_repair.specs.Blocks.{HasBlocks}

@@ -5,10 +5,11 @@ ghost use Rattle.std.specs.Option.{ForSome};
 ghost use Rattle.ceal_base.specs.declared.word.Place.{Place as PlaceOf};
 ghost use Rattle.ceal_base.specs.declared.word.Word.{Word as WordOf};
 ghost use Rattle.ceal_mods.specs.Mods.{cell_of, Follows as Mods_follow};
-ghost use Rattle.ceal_order.specs.Stamps.{is_in, place as rank};
+ghost use Rattle.ceal_order.specs.Stamps.{is_in};
 ghost use Rattle.ceal_queue.specs.Queue.{IsBefore, IsWithout, Follows as Queue_follows};
 ghost use Rattle.ceal_repair.specs.Covered.{and_one};
 ghost use Rattle.ceal_repair.specs.Kept.{InStep, Kept, CoveredBy, QueuedBehind, QueuedFrom, Records, IsStale, IsHonestRecord, IsAwake, contents_at};
+ghost use Rattle.ceal_repair.specs.Woken.{KeepsQueued, QueuesReadsOf, QueuesBehind};
 ghost use Rattle.ceal_trace.specs.Nodes.{stamps_in, has_node, node_at, is_read, with_value};
 ghost use Rattle.ceal_trace.specs.declared.node.Node.TheVariants.{Write};
 
@@ -123,15 +124,9 @@ impl Tables {
         ensures mods { self.new.mods ≡ self.old.mods }
         ensures memo { self.new.memo ≡ self.old.memo }
         ensures stale { Queue_follows (stamps_in self.new.trace.nodes) self.new.stale }
-        ensures more { (s : ℕ) → IsTrue (is_in s self.old.stale.stamps)
-            → IsTrue (is_in s self.new.stale.stamps) }
-        ensures only { (s : ℕ) → is_in s self.old.stale.stamps ≡ false
-            → is_in s self.new.stale.stamps ≡ true
-            → is_in s (cell_of self.old.mods place).reads ≡ true }
-        ensures ahead { (s : ℕ) → is_in s self.old.stale.stamps ≡ false
-            → is_in s self.new.stale.stamps ≡ true
-            → rank after.0 (stamps_in self.old.trace.nodes)
-            < rank s (stamps_in self.old.trace.nodes) }
+        ensures more { KeepsQueued self.old self.new }
+        ensures only { QueuesReadsOf place self.old self.new }
+        ensures ahead { QueuesBehind after.0 self.old self.new }
         ensures woken { IsAwake (stamps_in self.old.trace.nodes)
             (cell_of self.old.mods place) after.0 self.new.stale.stamps }
     {
@@ -169,15 +164,9 @@ impl Tables {
         ensures mods { self.new.mods ≡ self.old.mods }
         ensures memo { self.new.memo ≡ self.old.memo }
         ensures stale { Queue_follows (stamps_in self.new.trace.nodes) self.new.stale }
-        ensures more { (s : ℕ) → IsTrue (is_in s self.old.stale.stamps)
-            → IsTrue (is_in s self.new.stale.stamps) }
-        ensures only { (s : ℕ) → is_in s self.old.stale.stamps ≡ false
-            → is_in s self.new.stale.stamps ≡ true
-            → is_in s (cell_of self.old.mods place).reads ≡ true }
-        ensures ahead { (s : ℕ) → is_in s self.old.stale.stamps ≡ false
-            → is_in s self.new.stale.stamps ≡ true
-            → rank after.0 (stamps_in self.old.trace.nodes)
-            < rank s (stamps_in self.old.trace.nodes) }
+        ensures more { KeepsQueued self.old self.new }
+        ensures only { QueuesReadsOf place self.old self.new }
+        ensures ahead { QueuesBehind after.0 self.old self.new }
         ensures woken { same ≡ false
             → IsAwake (stamps_in self.old.trace.nodes)
             (cell_of self.old.mods place) after.0 self.new.stale.stamps }
@@ -217,9 +206,7 @@ impl Tables {
         ensures gone { is_in read.0 self.new.stale.stamps ≡ false }
         ensures more { (s : ℕ) → s ≢ read.0 → IsTrue (is_in s self.old.stale.stamps)
             → IsTrue (is_in s self.new.stale.stamps) }
-        ensures only { (s : ℕ) → is_in s self.old.stale.stamps ≡ false
-            → is_in s self.new.stale.stamps ≡ true
-            → is_in s (cell_of self.old.mods place).reads ≡ true }
+        ensures only { QueuesReadsOf place self.old self.new }
         ensures ahead { QueuedBehind read.0 self.new }
         ensures woken { IsTrue (is_in read.0 self.old.stale.stamps)
             → IsAwake (stamps_in self.old.trace.nodes)

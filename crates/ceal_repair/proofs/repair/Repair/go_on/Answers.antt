@@ -1,10 +1,9 @@
-use Rattle.std.proofs.Common.{◌≡◌, ℕ, inr, Some, Result, Ok, Err, refl, sym, ap, ◌∙◌}
+use Rattle.std.proofs.Common.{inr, Some, Result, Ok, Err}
 use Rattle.std.specs.Result.{OnOk}
 use Rattle.ceal_base.specs.declared.no_memory.NoMemory.{NoMemory}
 use Rattle.ceal_order.specs.declared.stamp.Stamp.{Stamp}
-use Rattle.ceal_repair.proofs.Reuse.ReadReuseInCode.{passes-as}
-use Rattle.ceal_repair.proofs.KeptNodes.StaleReadEnd.{next-kept, lies-kept, first-kept, now-go-on}
-use Rattle.ceal_repair.specs.Entries.{stamped}
+use Rattle.ceal_repair.proofs.KeptNodes.GoesOn.{end-first, goes-on}
+use Rattle.ceal_repair.proofs.KeptNodes.StaleReadEnd.{lies-kept}
 use Rattle.ceal_repair.specs.Moment.{Start, through}
 use Rattle.ceal_repair.specs.Reads.{EndsKept}
 use Rattle.ceal_repair.specs.Repairs.{code_of, inputs_of, view, Runs, PassesOn}
@@ -15,62 +14,27 @@ pub cut_until-requires-clause-lies : goal.cut_until-requires-clause-lies
 cut_until-requires-clause-lies c =
     let old : Repair = c.args.self.now in
     let start = c.requires.ends.0 in
-    let a = c.requires.ends.1 in
-    let n = next-kept (code_of old) (inputs_of old) start a.stack (view old) c.args.until a.now in
-    let both : Some (stamped n.end) ≡ Some c.in-Some.end = sym n.now_is ∙ c.in-Some.is in
-    let same : stamped n.end ≡ c.in-Some.end = cc in (
+    let a = c.requires.ends.1 in (
       through a.now.placed.done a.now.placed.last,
       a.now.left,
       a.now.tail,
       lies-kept (code_of old) (inputs_of old) start a.stack (view old) c.args.until a.now,
-      inr (first-kept (code_of old) (inputs_of old) start a.stack (view old) c.args.until a.now ∙ ap (λ (s : Stamp). Some s.0) same),
+      inr (end-first old start c.args.until c.in-Some.end a c.in-Some.is),
     )
 
 pub pass-requires : goal.pass-requires
 pass-requires c =
-    let old : Repair = c.args.self.now in
-    let start = c.requires.ends.0 in
-    let a = c.requires.ends.1 in
-    let n = next-kept (code_of old) (inputs_of old) start a.stack (view old) c.args.until a.now in
-    let both : Some (stamped n.end) ≡ Some c.in-Some.end = sym n.now_is ∙ c.in-Some.is in
-    let same : stamped n.end ≡ c.in-Some.end = cc in
     let f = c.in_ok-cut_until.ensures in
-    let run = c.cut_until.new.self in
-    let l = f.all (through a.now.placed.done a.now.placed.last) a.now.left a.now.tail (lies-kept (code_of old) (inputs_of old) start a.stack (view old) c.args.until a.now)
-    (first-kept (code_of old) (inputs_of old) start a.stack (view old) c.args.until a.now ∙ ap (λ (s : Stamp). Some s.0) same) in
-    let now : PassesOn start (record old { running = run; cursor = c.in-Some.end; limit = Some c.args.until }) = (
-      c.args.until,
-      passes-as (code_of old) (inputs_of old) start c.args.until
-          (record { tables = run.tables; heap = run.heap; spent = old.running.spent; cursor = n.end; limit = Some c.args.until; frames = (view old).frames })
-          (record old { running = run; cursor = c.in-Some.end; limit = Some c.args.until })
-          (now-go-on (code_of old) (inputs_of old) start a.stack (view old) c.args.until a.now run.tables run.heap a.over l f.bases f.blocks (f.has (code_of old) (inputs_of old)) f.kept) refl refl
-          (ap (λ (k : ℕ). record { tables = run.tables; heap = run.heap; spent = k; cursor = c.in-Some.end.0; limit = Some c.args.until; frames = (view old).frames }) f.spent
-          ∙ ap (λ (s : Stamp). record { tables = run.tables; heap = run.heap; spent = old.running.spent; cursor = s.0; limit = Some c.args.until; frames = (view old).frames }) (sym same)),
-    ) in
-    record { passes = (start, now) }
+    let start = c.requires.ends.0 in
+    record { passes = (start, goes-on c.args.self.now start c.args.until c.in-Some.end c.requires.ends.1 c.in-Some.is c.cut_until.new.self f.all f.bases f.blocks f.has f.spent f.kept) }
 
 pub returns-clause-runs : goal.returns-clause-runs
 returns-clause-runs c =
-    let old : Repair = c.args.self.now in
-    let all : (start : Start) → (a : EndsKept start c.args.until old) → PassesOn start (record old { running = c.cut_until.new.self; cursor = c.in-Some.end; limit = Some c.args.until }) = λ start a.
-    let n = next-kept (code_of old) (inputs_of old) start a.stack (view old) c.args.until a.now in
-    let both : Some (stamped n.end) ≡ Some c.in-Some.end = sym n.now_is ∙ c.in-Some.is in
-    let same : stamped n.end ≡ c.in-Some.end = cc in
     let f = c.in_ok-cut_until.ensures in
-    let run = c.cut_until.new.self in
-    let l = f.all (through a.now.placed.done a.now.placed.last) a.now.left a.now.tail (lies-kept (code_of old) (inputs_of old) start a.stack (view old) c.args.until a.now)
-    (first-kept (code_of old) (inputs_of old) start a.stack (view old) c.args.until a.now ∙ ap (λ (s : Stamp). Some s.0) same) in
-    let now : PassesOn start (record old { running = run; cursor = c.in-Some.end; limit = Some c.args.until }) = (
-      c.args.until,
-      passes-as (code_of old) (inputs_of old) start c.args.until
-          (record { tables = run.tables; heap = run.heap; spent = old.running.spent; cursor = n.end; limit = Some c.args.until; frames = (view old).frames })
-          (record old { running = run; cursor = c.in-Some.end; limit = Some c.args.until })
-          (now-go-on (code_of old) (inputs_of old) start a.stack (view old) c.args.until a.now run.tables run.heap a.over l f.bases f.blocks (f.has (code_of old) (inputs_of old)) f.kept) refl refl
-          (ap (λ (k : ℕ). record { tables = run.tables; heap = run.heap; spent = k; cursor = c.in-Some.end.0; limit = Some c.args.until; frames = (view old).frames }) f.spent
-          ∙ ap (λ (s : Stamp). record { tables = run.tables; heap = run.heap; spent = old.running.spent; cursor = s.0; limit = Some c.args.until; frames = (view old).frames }) (sym same)),
-    ) in
-    now in
-    go c.pass.result old (record old { running = c.cut_until.new.self; cursor = c.in-Some.end; limit = Some c.args.until }) c.pass.new.self c.args.until c.pass.ensures.runs all
+    let old : Repair = c.args.self.now in
+    let mid : Repair = record old { running = c.cut_until.new.self; cursor = c.in-Some.end; limit = Some c.args.until } in
+    let all : (start : Start) → EndsKept start c.args.until old → PassesOn start mid = λ start a. goes-on old start c.args.until c.in-Some.end a c.in-Some.is c.cut_until.new.self f.all f.bases f.blocks f.has f.spent f.kept in
+    go c.pass.result old mid c.pass.new.self c.args.until c.pass.ensures.runs all
   where
     go : (r : Result (Unit {0}) NoMemory) (old mid new : Repair) (until : Stamp) → OnOk r ((start : Start) → PassesOn start mid → Runs start new)
         → ((start : Start) → EndsKept start until old → PassesOn start mid) → OnOk r ((start : Start) → EndsKept start until old → Runs start new)
